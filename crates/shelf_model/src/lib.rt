@@ -1,13 +1,15 @@
-// A library with one function.
+//! The outside of the program: a folder of numbered files, texts that can be fetched, and what is said.
+//!
+//! `Shelf` and `Station` are the two traits. Their contracts say what each call leaves, at every
+//! moment, and what a stop at that moment may leave of the files.
 #![tactic(auto)]
 
-ghost use Rattle.std.specs.Prelude.{◌≡◌};
-ghost use Rattle.shelf_model.specs.Echo.{echo_of};
+mod fault;
+mod file_no;
+mod shelf;
+mod station;
 
-// The `ensures` clause is the contract: what `echo` returns is `echo_of` of its argument, a definition
-// in `specs/Echo.antt`, which a caller's clause can cite too.
-pub fn echo(x: usize) -> usize
-    ensures { result ≡ echo_of x }
-{
-    x
-}
+pub use fault::{Failed, StreamFault};
+pub use file_no::FileNo;
+pub use shelf::Shelf;
+pub use station::Station;

@@ -1,0 +1,4 @@
+pub mod Numbers
+pub mod Maps
+pub mod Files
+pub mod Runs
