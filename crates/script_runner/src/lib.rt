@@ -1,0 +1,6 @@
+//! Runs a script on a station: reads the words and the script, makes each step's file and says its line.
+#![tactic(auto)]
+
+mod plan;
+
+pub use plan::{LineEnd, Plan};
