@@ -39,6 +39,15 @@ not_equal Greater apart = refl
 pub apart : (f q : FileNo) → q ≢ f → is_eq (file_cmp q f) ≡ false
 apart f q differ = not_equal (file_cmp q f) (λ e. differ (file_cmp_same q f e))
 
+is_equal : (o : Ordering) → is_eq o ≡ true → o ≡ Equal
+is_equal Less tie = cc
+is_equal Equal tie = refl
+is_equal Greater tie = cc
+
+-- numbers that tie are one
+pub from_tie : (a b : FileNo) → is_eq (file_cmp a b) ≡ true → a ≡ b
+from_tie a b tie = file_cmp_same a b (is_equal (file_cmp a b) tie)
+
 -- two numbers are one, or they differ
 pub cases_file : (f g : FileNo) → (f ≡ g) ⊎ (f ≢ g)
 cases_file f g =

@@ -22,6 +22,14 @@ pub record Throughout (old new : World) (P : Moment → Type 0) : Type 0 where
 abbrev pub InEveryImage : (List ℕ → Image → Type 0) → Moment → Type 0
 InEveryImage P m = (image : Image) → IsImage m.folder image → P m.said image
 
+-- the files are as they were then
+abbrev pub Stays : Moment → Moment → Type 0
+Stays old m = m.folder ≡ old.folder
+
+-- each image that a stop may leave was one that it might have left then
+abbrev pub OnlyOldImages : Moment → Moment → Type 0
+OnlyOldImages old m = (image : Image) → IsImage m.folder image → IsImage old.folder image
+
 -- these bytes were said, and P holds
 pub record Quiet (bytes : List ℕ) (P : Moment → Type 0) (m : Moment) : Type 0 where
   pub said_is : m.said ≡ bytes
