@@ -2,5 +2,6 @@
 #![tactic(auto)]
 
 mod plan;
+mod words;
 
 pub use plan::{LineEnd, Plan};
