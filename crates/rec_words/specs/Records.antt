@@ -1,0 +1,14 @@
+-- the records that values are stored as
+use Rattle.std.specs.Prelude.{ℕ, List, [], ◌∷◌}
+use Rattle.rec_words.specs.Words.{IsNodeWord, IsPointer}
+use Rattle.rec_words.specs.declared.node.Node.{Node}
+
+-- a node's three words, and the five that it leaves unused
+abbrev pub node_words : Node → List ℕ
+node_words x = x.uid ∷ x.low ∷ x.high ∷ 0 ∷ 0 ∷ 0 ∷ 0 ∷ 0 ∷ []
+
+-- its words are those of a node and of two pointers
+pub record IsNode (x : Node) : Type 0 where
+  pub uid : IsNodeWord x.uid
+  pub low : IsPointer x.low
+  pub high : IsPointer x.high
