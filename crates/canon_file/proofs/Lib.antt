@@ -1,0 +1,4 @@
+pub mod MemberLaws
+pub mod PieceLaws
+pub mod RowLaws
+pub mod VarDiagram

@@ -1,0 +1,5 @@
+pub mod Members
+pub mod Pieces
+pub mod Rows
+pub mod Canon
+pub mod Variables

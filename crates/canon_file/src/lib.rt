@@ -1,0 +1,7 @@
+//! The canonical form of a diagram: the one node file that stands for a table.
+#![tactic(auto)]
+
+pub mod laws;
+mod var;
+
+pub use var::var_file;
