@@ -2,6 +2,7 @@
 #![tactic(auto)]
 
 mod plan;
+mod script;
 mod words;
 
 pub use plan::{LineEnd, Plan};

@@ -1,0 +1,99 @@
+-- One spelling stands for one script.
+use Rattle.std.proofs.Common.{◌≡◌, ℕ, suc, List, [], ◌∷◌, ◌++◌, drop, Option, Some, None, refl, sym, ap, subst, ◌∙◌, append_assoc, inl, inr}
+use Rattle.std.specs.Prelude.{IsTrue, codes, is_some, option_map}
+use Rattle.std.specs.List.{AllByRecursion, flat_map}
+use Rattle.std.specs.Str.{bytes_eq}
+use Rattle.std.proofs.lemmas.Bool.{cases_Bool}
+use Rattle.std.proofs.lemmas.Slice.Eq.{bytes_eq-Decides}
+use Rattle.script_runner.specs.Script.{Request, Script, IsWord, behind_blank, request_line, first_line, level_of, IsRequest, IsAccepted}
+use Rattle.script_runner.specs.Reading.{word_at, request_at}
+use Rattle.script_runner.proofs.Spelled.{EndsWord, HasWords, some_is, word_again, request_again}
+
+-- the names behind `vars`, with the rest behind their line feed
+abbrev pub names_line : List (List ℕ) → List ℕ → List ℕ
+names_line names rest = flat_map behind_blank names ++ 10 ∷ rest
+
+pub names_line-ends_word : (names : List (List ℕ)) (rest : List ℕ) → EndsWord (names_line names rest)
+names_line-ends_word [] rest = refl
+names_line-ends_word (name ∷ names) rest = refl
+
+-- the first name of a line is the word that is read there
+pub first_name : (name : List ℕ) (names : List (List ℕ)) (rest : List ℕ) → IsWord name → word_at (names_line (name ∷ names) rest) ≡ Some (name, names_line names rest)
+first_name name names rest h =
+    ap word_at (append_assoc (behind_blank name) (flat_map behind_blank names) (10 ∷ rest))
+    ∙ word_again name (names_line names rest) h (names_line-ends_word names rest)
+
+-- where the names end no word is read
+pub no_name : (rest : List ℕ) → word_at (10 ∷ rest) ≡ None
+unfolding word_at
+no_name rest = refl
+
+pub same_names : (xs ys : List (List ℕ)) (a b : List ℕ) → AllByRecursion IsWord xs → AllByRecursion IsWord ys → names_line xs a ≡ names_line ys b → (xs ≡ ys) × (a ≡ b)
+same_names [] [] a b h k e = (refl, cc)
+same_names [] (y ∷ ys) a b h k e =
+    let read = sym (no_name a) ∙ ap word_at e ∙ first_name y ys b k.0 in absurd cc
+same_names (x ∷ xs) [] a b h k e =
+    let read = sym (no_name b) ∙ ap word_at (sym e) ∙ first_name x xs a h.0 in absurd cc
+same_names (x ∷ xs) (y ∷ ys) a b h k e =
+    let read = some_is _ _ (sym (first_name x xs a h.0) ∙ ap word_at e ∙ first_name y ys b k.0) in
+    let rest = same_names xs ys a b h.1 k.1 (ap (λ (p : List ℕ × List ℕ). p.1) read) in
+    let head : x ≡ y = ap (λ (p : List ℕ × List ℕ). p.0) read in
+    (rw (head, rest.0) refl, rest.1)
+
+-- the first line, with the rest behind it
+pub first_line-append : (names : List (List ℕ)) (rest : List ℕ) → first_line names ++ rest ≡ codes "vars" ++ names_line names rest
+first_line-append names rest = simp append_assoc
+
+pub same_first_line : (xs ys : List (List ℕ)) (a b : List ℕ) → AllByRecursion IsWord xs → AllByRecursion IsWord ys → first_line xs ++ a ≡ first_line ys ++ b → (xs ≡ ys) × (a ≡ b)
+same_first_line xs ys a b h k e =
+    let behind : names_line xs a ≡ names_line ys b = ap (drop 4) (sym (first_line-append xs a) ∙ e ∙ first_line-append ys b) in
+    same_names xs ys a b h k behind
+
+-- the first request of the lines is the one that is read there
+pub first_request : (r : Request) (rs : List Request) → HasWords r → request_at (flat_map request_line (r ∷ rs)) ≡ Some (r, flat_map request_line rs)
+first_request r rs h = request_again r (flat_map request_line rs) h
+
+pub same_requests : (rs ts : List Request) → AllByRecursion HasWords rs → AllByRecursion HasWords ts → flat_map request_line rs ≡ flat_map request_line ts → rs ≡ ts
+same_requests [] [] h k e = refl
+same_requests [] (t ∷ ts) h k e = absurd cc
+same_requests (r ∷ rs) [] h k e = absurd cc
+same_requests (r ∷ rs) (t ∷ ts) h k e =
+    let read = some_is _ _ (sym (first_request r rs h.0) ∙ ap request_at e ∙ first_request t ts k.0) in
+    let rest : rs ≡ ts = same_requests rs ts h.1 k.1 (ap (λ (p : Request × List ℕ). p.1) read) in
+    let head : r ≡ t = ap (λ (p : Request × List ℕ). p.0) read in
+    rw (head, rest) refl
+
+pub is_some-map : (o : Option ℕ) → is_some (option_map suc o) ≡ is_some o
+is_some-map None = refl
+is_some-map (Some level) = refl
+
+-- a variable of the first line is a word
+pub known_is_word : (variables : List (List ℕ)) (variable : List ℕ) → AllByRecursion IsWord variables → IsTrue (is_some (level_of variables variable)) → IsWord variable
+known_is_word [] variable h known = absurd cc
+known_is_word (name ∷ names) variable h known =
+    elim (cases_Bool (bytes_eq variable name)) [
+      | inl same ↦ subst IsWord (sym ((bytes_eq-Decides variable name).0 same)) h.0
+      | inr other ↦ known_is_word names variable h.1 (sym (is_some-map (level_of names variable)) ∙ (rw other at known))
+    ]
+
+-- the words of requests that are accepted
+pub requests_have_words : (variables : List (List ℕ)) (requests : List Request) → AllByRecursion IsWord variables → AllByRecursion (IsRequest variables) requests → AllByRecursion HasWords requests
+requests_have_words variables [] h k = tt
+requests_have_words variables (r ∷ rs) h k =
+    ((k.0.name_is, known_is_word variables r.variable h k.0.known), requests_have_words variables rs h k.1)
+
+pub same_script : (s t : Script) → s.variables ≡ t.variables → s.requests ≡ t.requests → s ≡ t
+same_script s t variables requests =
+    let with_variables : List (List ℕ) → Script = λ v. record { variables = v; requests = s.requests } in
+    let with_requests : List Request → Script = λ r. record { variables = t.variables; requests = r } in
+    ap with_variables variables ∙ ap with_requests requests
+
+-- one spelling stands for one script
+pub one_script : (bytes : List ℕ) (s t : Script) → IsAccepted bytes s → IsAccepted bytes t → s ≡ t
+one_script bytes s t a b =
+    let lines = same_first_line s.variables t.variables (flat_map request_line s.requests) (flat_map request_line t.requests)
+    a.script_is.variables_are b.script_is.variables_are (sym a.spelled ∙ b.spelled) in
+    let requests : s.requests ≡ t.requests = same_requests s.requests t.requests
+    (requests_have_words s.variables s.requests a.script_is.variables_are a.script_is.requests_are)
+    (requests_have_words t.variables t.requests b.script_is.variables_are b.script_is.requests_are) lines.1 in
+    same_script s t lines.0 requests

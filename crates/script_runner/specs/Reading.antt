@@ -1,0 +1,48 @@
+-- The word and the request at the front of a text, each with the bytes behind it.
+use Rattle.std.specs.Prelude.{ℕ, suc, ◌==◌, List, [], ◌∷◌, length, map, take, drop, codes, Option, Some, None, if◌then◌else◌}
+use Rattle.std.specs.Str.{bytes_eq}
+use denote.Ref.{Bor}
+use Rattle.script_runner.specs.declared.script.reading.RequestLine.{RequestLine}
+use Rattle.script_runner.specs.Script.{Request, is_word_byte}
+
+-- what follows where there is something, and nothing else
+infixl 10 ◌>>=◌
+abbrev pub ◌>>=◌ : {A B : Type 0} → Option A → (A → Option B) → Option B
+None >>= f = None
+(Some x) >>= f = f x
+
+-- the bytes behind those with which the text begins
+abbrev pub rest_behind : List ℕ → List ℕ → Option (List ℕ)
+rest_behind front bytes =
+    if bytes_eq (take (length front) bytes) front then Some (drop (length front) bytes) else None
+
+-- the number of bytes before the first that is no byte of a word
+abbrev pub word_len : List ℕ → ℕ
+word_len [] = 0
+word_len (byte ∷ bytes) = if is_word_byte byte then suc (word_len bytes) else 0
+
+-- a blank, a word as long as can be, and the rest
+unfoldable pub word_at : List ℕ → Option (List ℕ × List ℕ)
+word_at bytes = do
+  rest ← rest_behind (32 ∷ []) bytes
+  if word_len rest == 0 then None else Some (take (word_len rest) rest, drop (word_len rest) rest)
+
+-- the line of a request, and the rest
+unfoldable pub request_at : List ℕ → Option (Request × List ℕ)
+request_at bytes = do
+  rest ← rest_behind (codes "var") bytes
+  name ← word_at rest
+  variable ← word_at name.1
+  more ← rest_behind (10 ∷ []) variable.1
+  Some (record { name = name.0; variable = variable.0 }, more)
+
+-- the bytes of each of the slices
+abbrev pub texts : List (Bor (List ℕ)) → List (List ℕ)
+texts slices = map (λ (s : Bor (List ℕ)). s.now) slices
+
+-- the request that a line makes, apart from where it stands
+abbrev pub request_of : RequestLine → Request
+request_of line = record { name = line.name.now; variable = line.variable.now }
+
+abbrev pub requests_of : List RequestLine → List Request
+requests_of lines = map request_of lines
