@@ -2,3 +2,8 @@ pub mod MemberLaws
 pub mod PieceLaws
 pub mod RowLaws
 pub mod VarDiagram
+pub mod PartLaws
+pub mod ByteLaws
+pub mod WalkLaws
+pub mod StandLaws
+mod Worked

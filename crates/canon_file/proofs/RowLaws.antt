@@ -5,7 +5,9 @@ use Rattle.std.proofs.lemmas.Bool.Decides.{nat_tests}
 use Rattle.bool_tables.specs.Tables.{low_half}
 use Rattle.canon_file.specs.Members.{Has, SameMembers, IsStrictOrder, ascending}
 use Rattle.canon_file.specs.Pieces.{splits, halves}
-use Rattle.canon_file.specs.Rows.{Row, row_before, row_word, place_of, row_of, rows_with, pointer, levels}
+use Rattle.canon_file.specs.declared.row.Row.{Row}
+use Rattle.canon_file.specs.Rows.{row_before, row_word, place_of, row_of, rows_with, pointer, levels}
+use Rattle.canon_file.specs.Laws.{AreRows}
 use Rattle.canon_file.proofs.MemberLaws.{has_map, map_has, has_filter, filter_has, ascending_ascends, has_ascending, ascending_keeps, same_ascending}
 use Rattle.canon_file.proofs.PieceLaws.{halves_same}
 
@@ -86,3 +88,10 @@ levels_same (suc h) i ps qs m =
     (λ j. rows_with (below j) h ps) ∙ rows_same (pointer h (suc i) (halves h qs)) h ps qs m in
     let deeper : levels h (suc i) (halves h ps) ≡ levels h (suc i) (halves h qs) = levels_same h (suc i) (halves h ps) (halves h qs) (halves_same h ps qs m) in
     λ j. rows j ∷ deeper j
+
+-- the rows of a level are the ascending pairs of the pieces that split
+pub are_rows : (f : List Bool → ℕ) (h : ℕ) (ps : List (List Bool)) → AreRows f h ps
+are_rows f h ps = record {
+  ascend = ascending_ascends row_before row_order (map (row_of f h) (filter (splits h) ps));
+  pairs = λ r. (row_has f h r ps, λ (p, member, split, e). subst (λ s. Has s (rows_with f h ps)) e (has_row f h p ps member split));
+}

@@ -12,7 +12,8 @@ use Rattle.bool_tables.proofs.Halves.{low_half-var, high_half-var, low_half-firs
 use Rattle.rec_words.specs.Words.{terminal}
 use Rattle.canon_file.specs.Members.{SameMembers}
 use Rattle.canon_file.specs.Pieces.{splits, halves}
-use Rattle.canon_file.specs.Rows.{Row, row_word, place_of, row_of, rows_with, pointer, levels}
+use Rattle.canon_file.specs.declared.row.Row.{Row}
+use Rattle.canon_file.specs.Rows.{row_word, place_of, row_of, rows_with, pointer, levels}
 use Rattle.canon_file.specs.Canon.{numbered, nodes_of, canon_nodes, canon_root, node_bytes, trailer_bytes, canon_bytes}
 use Rattle.canon_file.specs.Variables.{var_node, var_bytes, IsOneNode}
 use Rattle.canon_file.proofs.PieceLaws.{unsplit_same, split_differ}

@@ -2,7 +2,8 @@
 use Rattle.std.specs.Prelude.{ℕ, suc, Bool, List, [], ◌∷◌, ◌++◌, length}
 use Rattle.std.specs.Int.{w64, to_be_bytes}
 use Rattle.rec_words.specs.declared.node.Node.{Node}
-use Rattle.canon_file.specs.Rows.{Row, row_word, pointer, levels}
+use Rattle.canon_file.specs.declared.row.Row.{Row}
+use Rattle.canon_file.specs.Rows.{row_word, pointer, levels}
 
 -- the nodes of the rows of level i, the first of which is at place k
 abbrev pub numbered : ℕ → ℕ → List Row → List Node

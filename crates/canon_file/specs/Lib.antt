@@ -3,3 +3,5 @@ pub mod Pieces
 pub mod Rows
 pub mod Canon
 pub mod Variables
+pub mod Walks
+pub mod Laws

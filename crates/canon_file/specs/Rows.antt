@@ -2,13 +2,9 @@
 use Rattle.std.specs.Prelude.{ℕ, zero, suc, ◌-◌, ◌^◌, ◌==◌, ◌≤◌, nat_lt, Bool, false, cond, ◌&&◌, ◌||◌, List, [], ◌∷◌, length, get_or, map, filter}
 use Rattle.bool_tables.specs.Tables.{low_half, high_half}
 use Rattle.rec_words.specs.Words.{terminal, node_word}
+use Rattle.canon_file.specs.declared.row.Row.{Row}
 use Rattle.canon_file.specs.Members.{ascending}
 use Rattle.canon_file.specs.Pieces.{splits, halves}
-
--- a row: the words of a low and of a high pointer
-pub record Row : Type 0 where
-  pub low : ℕ
-  pub high : ℕ
 
 -- rows ascend by the low word, and then by the high word
 abbrev pub row_before : Row → Row → Bool

@@ -2,6 +2,8 @@
 #![tactic(auto)]
 
 pub mod laws;
+mod row;
 mod var;
 
+pub use row::Row;
 pub use var::var_file;
