@@ -1,3 +1,9 @@
+pub mod Tests
+pub mod LineOrder
 pub mod Spelled
 pub mod OneScript
 pub mod Planned
+pub mod Saying
+pub mod Variables
+pub mod RunSteps
+pub mod StepByStep

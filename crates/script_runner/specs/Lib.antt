@@ -2,3 +2,10 @@ pub mod Words
 pub mod Script
 pub mod Plans
 pub mod Reading
+pub mod Text
+pub mod Lines
+pub mod Built
+pub mod OneFile
+pub mod Running
+pub mod Causes
+pub mod Fetching

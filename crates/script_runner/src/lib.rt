@@ -1,8 +1,16 @@
 //! Runs a script on a station: reads the words and the script, makes each step's file and says its line.
 #![tactic(auto)]
 
+mod fetch;
+mod finish;
+mod line;
+mod make;
 mod plan;
+mod run;
+mod say;
 mod script;
 mod words;
 
+pub use finish::Finish;
 pub use plan::{LineEnd, Plan};
+pub use run::run_steps;

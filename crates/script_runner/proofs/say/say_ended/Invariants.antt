@@ -1,0 +1,19 @@
+use Rattle.std.proofs.Common.{take, drop}
+use Rattle.std.specs.Prelude.{IsTrue, Result, Ok}
+use Rattle.std.specs.List.{flat_map}
+use Rattle.shelf_model.specs.declared.fault.Failed.{Failed}
+use Rattle.shelf_model.specs.Calls.{Told}
+use Rattle.shelf_model.specs.Faults.{OnlySay}
+use Rattle.script_runner.specs.Lines.{rise_from}
+use Rattle.script_runner.specs.Text.{one_node_line}
+use Rattle.script_runner.proofs.Saying.{SoFar}
+use Rattle.script_runner.proofs.say.say_ended.Given as goal
+
+-- the lines so far were said, and those that remain don't end before the step
+abbrev pub invariant-loop-count : goal.invariant-loop-count
+invariant-loop-count g l = record {
+  said : Told g.W.Shelf.tells l.fn.station l.station
+      (SoFar (flat_map one_node_line l.lines) (flat_map one_node_line (take l.count l.lines)) (g.W.Shelf.world l.fn.station) (g.W.Shelf.world l.station));
+  rest : IsTrue (rise_from l.step (drop l.count l.lines));
+  faults : OnlySay (g.W.Shelf.faults l.fn.station) (g.W.Shelf.faults l.station) (let r : Result Unit Failed = Ok tt in r);
+}
