@@ -7,3 +7,4 @@ pub mod Saying
 pub mod Variables
 pub mod RunSteps
 pub mod StepByStep
+pub mod FetchRuns

@@ -1,0 +1,94 @@
+-- Reading a text in pieces.
+use Rattle.std.proofs.Common.{◌≡◌, ◌∙◌, ℕ, ◌+◌, ◌-◌, ◌<◌, ◌≤◌, min, Bool, List, [], ◌++◌, length, take, drop, refl, sym, ap, subst, arith, length-append}
+use Rattle.std.specs.Prelude.{IsTrue, Option, Some, is_some, Result, Ok, Err}
+use Rattle.std.proofs.lemmas.List.{take-append-drop, take_at, take_all, take-take, drop-take, length-take-le, length-drop}
+use Rattle.shelf_model.specs.World.{Moment, World, now}
+use Rattle.shelf_model.specs.declared.fault.Failed.{Failed}
+use Rattle.shelf_model.specs.Calls.{Told, Copied, Elsewhere, Fetched}
+use Rattle.shelf_model.proofs.Runs.{goes_on, at_end, told_then}
+use Rattle.script_runner.specs.Fetching.{OnlyFetched, IsText}
+
+-- the bytes are the front of the text at the path, which is there where any were read
+pub record IsFront (path bytes : List ℕ) (w : World) : Type 0 where
+  pub there : 0 < length bytes → IsTrue (is_some (w.texts path))
+  pub same : (text : List ℕ) → w.texts path ≡ Some text → bytes ≡ take (length bytes) text
+
+-- the first of two parts of a list, and the second
+take_both : (m n : ℕ) (xs : List ℕ) → take (m + n) xs ≡ take m xs ++ take n (drop m xs)
+take_both m n xs =
+    sym (take-append-drop m (take (m + n) xs))
+    ∙ (λ i. take-take m (m + n) xs (more m n) i ++ drop-take m n xs i)
+  where
+    more : (a b : ℕ) → a ≤ a + b
+    more a b = omega arith
+
+-- what stands at a moment stands still over a fetch
+same_moment : (path : List ℕ) (at : ℕ) (before after : List ℕ) (result : Result ℕ Failed) (old new : World) → Fetched path at before after result old new → now new ≡ now old
+same_moment path at before after result old new did = λ i. record { folder = did.elsewhere.folder_is i; said = did.said_is i }
+
+fetched_then : (path : List ℕ) (at : ℕ) (before after : List ℕ) (result : Result ℕ Failed) (old mid new : World) → OnlyFetched old mid → Fetched path at before after result mid new → OnlyFetched old new
+fetched_then path at before after result old mid new run did = record {
+    moments = goes_on old mid new (λ m. m ≡ now old) run.moments did.elsewhere.ticks
+      (same_moment path at before after result mid new did ∙ at_end old mid (λ m. m ≡ now old) run.moments);
+    texts_are = did.elsewhere.texts_are ∙ run.texts_are;
+    home_is = did.elsewhere.home_is ∙ run.home_is;
+    inside_is = did.elsewhere.inside_is ∙ run.inside_is;
+    strays_are = did.elsewhere.strays_are ∙ run.strays_are
+  }
+
+-- where nothing was read any more, the text is read
+read_all : (path bytes before after : List ℕ) (most count : ℕ) (old mid new : World) → mid.texts ≡ old.texts → IsFront path bytes old
+    → Fetched path (length bytes) before after (Ok count) mid new → count ≡ 0 → 0 < length before → length bytes ≤ most + 1 → IsText path most bytes old
+read_all path bytes before after most count old mid new texts front did none some within =
+    let text : List ℕ = did.ok.0 in
+    let there : old.texts path ≡ Some text = ap (λ t. t path) (sym texts) ∙ did.ok.1 in
+    let counted : count ≡ min (length before) (length text - length bytes) = did.ok.2.count in
+    let short : length text ≤ length bytes = omega arith in
+    let same : bytes ≡ text = front.same text there ∙ take_all (length bytes) text short in
+    let fits : length text ≤ most + 1 = omega (arith, ap length same) in
+    record { text = text; there = there; bytes_are = same ∙ sym (take_all (most + 1) text fits) }
+
+-- what was read goes on the front
+read_more : (path bytes before after : List ℕ) (count : ℕ) (old mid new : World) → mid.texts ≡ old.texts → IsFront path bytes old
+    → Fetched path (length bytes) before after (Ok count) mid new → IsFront path (bytes ++ take count after) old
+read_more path bytes before after count old mid new texts front did =
+    let text : List ℕ = did.ok.0 in
+    let there : old.texts path ≡ Some text = ap (λ t. t path) (sym texts) ∙ did.ok.1 in
+    let counted : count ≡ min (length before) (length text - length bytes) = did.ok.2.count in
+    let filled : after ≡ take count (drop (length bytes) text) ++ drop count before = did.ok.2.bytes_are in
+    record {
+      there = λ _. ap is_some there;
+      same = λ other other_there.
+        let one : text ≡ other = cc in
+        let long : count ≤ length (drop (length bytes) text) = simp length-drop (omega arith) in
+        let piece_long : length (take count (drop (length bytes) text)) ≡ count = length-take-le count (drop (length bytes) text) long in
+        let piece : take count after ≡ take count (drop (length bytes) text) =
+            ap (take count) filled ∙ take_at (take count (drop (length bytes) text)) (drop count before) count piece_long in
+        let both : bytes ++ take count after ≡ take (length bytes + count) text =
+            (λ i. front.same text there i ++ piece i) ∙ sym (take_both (length bytes) count text) in
+        let total : length (bytes ++ take count after) ≡ length bytes + count =
+            length-append bytes (take count after) ∙ ap (λ k. length bytes + k) (ap length piece ∙ piece_long) in
+        both ∙ ap (λ k. take k text) (sym total) ∙ ap (take (length (bytes ++ take count after))) one
+    }
+
+module _ {S : Type 0} (tells : S → Bool) (world : S → World) where
+  pub fetched_on : (path : List ℕ) (at : ℕ) (before after : List ℕ) (result : Result ℕ Failed) (old s t : S)
+      → Told tells old s (OnlyFetched (world old) (world s)) → Told tells s t (Fetched path at before after result (world s) (world t))
+      → Told tells old t (OnlyFetched (world old) (world t))
+  fetched_on path at before after result old s t so_far call =
+      told_then tells old s t _ _ _ so_far call (λ _ run did. fetched_then path at before after result (world old) (world s) (world t) run did)
+
+  pub all_is_read : (path bytes before after : List ℕ) (at most count : ℕ) (old s t : S) → at ≡ length bytes
+      → Told tells old s (OnlyFetched (world old) (world s)) → Told tells s t (Fetched path at before after (Ok count) (world s) (world t))
+      → (IsTrue (tells s) → IsFront path bytes (world old)) → count ≡ 0 → 0 < length before → length bytes ≤ most + 1
+      → IsTrue (tells t) → IsText path most bytes (world old)
+  all_is_read path bytes before after at most count old s t at_is so_far call front none some within tells_t =
+      read_all path bytes before after most count (world old) (world s) (world t) (so_far.did (call.before tells_t)).texts_are
+        (front (call.before tells_t)) (subst (λ k. Fetched path k before after (Ok count) (world s) (world t)) at_is (call.did tells_t)) none some within
+
+  pub more_is_read : (path bytes before after : List ℕ) (at count : ℕ) (old s t : S) → at ≡ length bytes
+      → Told tells old s (OnlyFetched (world old) (world s)) → Told tells s t (Fetched path at before after (Ok count) (world s) (world t))
+      → (IsTrue (tells s) → IsFront path bytes (world old)) → IsTrue (tells t) → IsFront path (bytes ++ take count after) (world old)
+  more_is_read path bytes before after at count old s t at_is so_far call front tells_t =
+      read_more path bytes before after count (world old) (world s) (world t) (so_far.did (call.before tells_t)).texts_are
+        (front (call.before tells_t)) (subst (λ k. Fetched path k before after (Ok count) (world s) (world t)) at_is (call.did tells_t))
