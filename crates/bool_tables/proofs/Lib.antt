@@ -1,2 +1,4 @@
 pub mod Halves
+mod PlanSteps
+mod Powers
 mod Worked

@@ -1,6 +1,7 @@
 -- the table that a step makes, place by place
 use Rattle.std.specs.Prelude.{ℕ, Bool, true, false, cond, ◌&&◌, ◌||◌, ◌==◌, List, [], ◌∷◌, ◌++◌, get_or, take, drop, map}
 use Rattle.bool_tables.specs.Tables.{value_at, table_with, digit, with_digit, place_of_bits}
+use Rattle.bool_tables.specs.Plans.{makes_diagram}
 use Rattle.bool_tables.specs.declared.steps.Bin.{Bin}
 use Rattle.bool_tables.specs.declared.steps.Quant.{Quant}
 use Rattle.bool_tables.specs.declared.steps.Quant.TheVariants.{Exists, Forall}
@@ -21,25 +22,28 @@ quant_value Forall low high = low && high
 abbrev pub table_of_step : List (List Bool) → ℕ → List Bool
 table_of_step tables step = get_or tables step []
 
--- the table that a step makes, from the tables of the steps before it; a step that makes no diagram gives the empty table
-abbrev pub step_table : ℕ → List (List Bool) → Step → List Bool
-step_table n tables (Const value) = table_with n (λ _. value)
-step_table n tables (Var level) = table_with n (digit n level)
-step_table n tables (Pair op left right) =
-    table_with n (λ p. op_value op (value_at (table_of_step tables left) p) (value_at (table_of_step tables right) p))
-step_table n tables (Ite test if_one if_zero) =
-    table_with n (λ p. cond (value_at (table_of_step tables test) p) (value_at (table_of_step tables if_one) p) (value_at (table_of_step tables if_zero) p))
-step_table n tables (Quantify kind operand level) =
-    table_with n (λ p. quant_value kind
+-- the value at a place of the table that a step makes, from the tables of the steps before it
+abbrev pub step_value : ℕ → List (List Bool) → Step → ℕ → Bool
+step_value n tables (Const value) p = value
+step_value n tables (Var level) p = digit n level p
+step_value n tables (Pair op left right) p =
+    op_value op (value_at (table_of_step tables left) p) (value_at (table_of_step tables right) p)
+step_value n tables (Ite test if_one if_zero) p =
+    cond (value_at (table_of_step tables test) p) (value_at (table_of_step tables if_one) p) (value_at (table_of_step tables if_zero) p)
+step_value n tables (Quantify kind operand level) p =
+    quant_value kind
     (value_at (table_of_step tables operand) (with_digit n level false p))
-    (value_at (table_of_step tables operand) (with_digit n level true p)))
-step_table n tables (Restrict operand level value) =
-    table_with n (λ p. value_at (table_of_step tables operand) (with_digit n level value p))
-step_table n tables (Drop gone) = []
-step_table n tables (Same left right) = []
-step_table n tables (Leq left right) = []
-step_table n tables (Eval operand at) = []
-step_table n tables (Size operand) = []
+    (value_at (table_of_step tables operand) (with_digit n level true p))
+step_value n tables (Restrict operand level value) p = value_at (table_of_step tables operand) (with_digit n level value p)
+step_value n tables (Drop gone) p = false
+step_value n tables (Same left right) p = false
+step_value n tables (Leq left right) p = false
+step_value n tables (Eval operand at) p = false
+step_value n tables (Size operand) p = false
+
+-- the table that a step makes; a step that makes no diagram gives the empty table
+abbrev pub step_table : ℕ → List (List Bool) → Step → List Bool
+step_table n tables step = cond (makes_diagram step) (table_with n (step_value n tables step)) []
 
 -- the tables of all steps, where done are those of the steps before
 abbrev pub tables_after : ℕ → List (List Bool) → List Planned → List (List Bool)
