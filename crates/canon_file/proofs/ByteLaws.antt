@@ -86,6 +86,7 @@ nodes_are (suc h) i ps x l m =
     ]
 
 length-bytes : (n : ℕ) (t : List Bool) → length (canon_bytes n t) ≡ 24 * length (canon_nodes n t) + 24
+unfolding canon_bytes
 length-bytes n t =
     length-append (node_bytes (canon_nodes n t)) (trailer_bytes (canon_root n t) (length (canon_nodes n t)) n)
     ∙ ap (λ k. k + 24) (length-node_bytes (canon_nodes n t))
@@ -93,6 +94,7 @@ length-bytes n t =
 -- equal canonical bytes are those of equal nodes and of equal roots, so of equal tables
 pub bytes_unique : (n : ℕ) (t u : List Bool) → n ≤ 65535 → length t ≡ 2 ^ n → length u ≡ 2 ^ n
     → Fits (levels n 0 (t ∷ [])) → Fits (levels n 0 (u ∷ [])) → canon_bytes n t ≡ canon_bytes n u → t ≡ u
+unfolding canon_nodes canon_root canon_bytes
 bytes_unique n t u few long-t long-u fits-t fits-u e =
     let count : length (canon_nodes n t) ≡ length (canon_nodes n u) = omega (arith, length-bytes n t, length-bytes n u, ap length e) in
     let apart = nodes_apart (canon_nodes n t) (canon_nodes n u) (trailer_bytes (canon_root n t) (length (canon_nodes n t)) n) (trailer_bytes (canon_root n u) (length (canon_nodes n u)) n)

@@ -2,6 +2,9 @@ pub mod MemberLaws
 pub mod PieceLaws
 pub mod RowLaws
 pub mod VarDiagram
+pub mod CanonLaws
+mod LevelLaws
+mod SearchLaws
 pub mod PartLaws
 pub mod ByteLaws
 pub mod WalkLaws

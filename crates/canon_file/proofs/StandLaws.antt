@@ -130,6 +130,7 @@ agrees i (rs ∷ deeper) ys f =
 -- the canonical nodes, walked from the root, stand for the table
 pub nodes_stand : (n : ℕ) (t : List Bool) → n ≤ 65535 → length t ≡ 2 ^ n → Fits (levels n 0 (t ∷ []))
     → table_of (row_at (canon_nodes n t)) n 0 (canon_root n t) ≡ t
+unfolding canon_nodes canon_root
 nodes_stand n t few long fits =
     let agree = subst (λ ns. Agrees (row_at ns) 0 (levels n 0 (t ∷ []))) (append-nil (canon_nodes n t)) (agrees 0 (levels n 0 (t ∷ [])) [] fits) in
     pointer_stands (row_at (canon_nodes n t)) n 0 (t ∷ []) t (omega arith) agree fits (inl refl) long

@@ -127,12 +127,15 @@ pointer-var (suc h) i (suc level) b =
 
 -- the diagram of one variable is one node
 pub canon_nodes-var : (n level : ℕ) → level < n → canon_nodes n (step_table n [] (Var level)) ≡ var_node level ∷ []
+unfolding canon_nodes
 canon_nodes-var n level b = let here : 0 + level ≡ level = omega arith in nodes_of-var n 0 level b ∙ (λ j. var_node (here j) ∷ [])
 
 pub canon_root-var : (n level : ℕ) → level < n → canon_root n (step_table n [] (Var level)) ≡ row_word level 0
+unfolding canon_root
 canon_root-var n level b = let here : 0 + level ≡ level = omega arith in pointer-var n 0 level b ∙ (λ j. row_word (here j) 0)
 
 pub canon_bytes-var : (n level : ℕ) → level < n → canon_bytes n (step_table n [] (Var level)) ≡ var_bytes n level
+unfolding canon_bytes
 canon_bytes-var n level b =
     λ j. node_bytes (canon_nodes-var n level b j) ++ trailer_bytes (canon_root-var n level b j) (length (canon_nodes-var n level b j)) n
 

@@ -93,6 +93,7 @@ pointer_walks arcs (suc h) i ps p (b ∷ bits) l a f m n k =
 -- a walk through the canonical nodes ends at the table's value
 pub nodes_walk : (n : ℕ) (t bits : List Bool) → n ≤ 65535 → length t ≡ 2 ^ n → Fits (levels n 0 (t ∷ [])) → length bits ≡ n
     → walk (row_at (canon_nodes n t)) 0 bits (canon_root n t) ≡ terminal (value_at t (place_of_bits bits))
+unfolding canon_nodes canon_root
 nodes_walk n t bits few long fits digits =
     let agree : Agrees (row_at (canon_nodes n t)) 0 (levels n 0 (t ∷ [])) =
     subst (λ ns. Agrees (row_at ns) 0 (levels n 0 (t ∷ []))) (append-nil (canon_nodes n t)) (agrees 0 (levels n 0 (t ∷ [])) [] fits) in

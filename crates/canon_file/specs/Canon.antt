@@ -16,11 +16,11 @@ nodes_of i [] = []
 nodes_of i (rs ∷ deeper) = nodes_of (suc i) deeper ++ numbered i 0 rs
 
 -- the nodes of the diagram of a table of n variables
-abbrev pub canon_nodes : ℕ → List Bool → List Node
+unfoldable pub canon_nodes : ℕ → List Bool → List Node
 canon_nodes n t = nodes_of 0 (levels n 0 (t ∷ []))
 
 -- the pointer of the diagram's root
-abbrev pub canon_root : ℕ → List Bool → ℕ
+unfoldable pub canon_root : ℕ → List Bool → ℕ
 canon_root n t = pointer n 0 (t ∷ []) t
 
 -- the bytes of nodes: of each its identifier, its low and its high pointer, each in eight bytes, the highest first
@@ -33,5 +33,5 @@ abbrev pub trailer_bytes : ℕ → ℕ → ℕ → List ℕ
 trailer_bytes root count n = to_be_bytes w64 root ++ (to_be_bytes w64 count ++ to_be_bytes w64 n)
 
 -- the canonical bytes of a table of n variables
-abbrev pub canon_bytes : ℕ → List Bool → List ℕ
+unfoldable pub canon_bytes : ℕ → List Bool → List ℕ
 canon_bytes n t = node_bytes (canon_nodes n t) ++ trailer_bytes (canon_root n t) (length (canon_nodes n t)) n

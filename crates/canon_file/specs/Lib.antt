@@ -5,3 +5,4 @@ pub mod Canon
 pub mod Variables
 pub mod Walks
 pub mod Laws
+pub mod Pairs

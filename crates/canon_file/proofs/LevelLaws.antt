@@ -1,0 +1,173 @@
+-- the pointers, rows and nodes of a level, from the pointers of the next one
+use Rattle.std.specs.Prelude.{◌≡◌, ℕ, zero, suc, ◌+◌, ◌*◌, ◌^◌, ◌≤◌, ◌==◌, Bool, true, false, not, cond, List, [], ◌∷◌, ◌++◌, length, get_or, drop, map, filter}
+use Rattle.std.specs.Int.{w64, to_be_bytes}
+use Rattle.std.proofs.Common.{refl, sym, ◌∙◌, ap, inl, inr, true≢false, arith}
+use Rattle.std.proofs.lemmas.Bool.Decides.{nat_tests}
+use Rattle.std.proofs.Math.Nat.{le-mul_of_pos_right}
+use Rattle.std.proofs.lemmas.Nat.{pow_pos}
+use Rattle.std.proofs.lemmas.List.{length-map, drop_more, drop_all, get_or-take, get_or-drop}
+use Rattle.bool_tables.specs.Tables.{low_half, high_half}
+use Rattle.bool_tables.proofs.Halves.{twice}
+use Rattle.rec_words.specs.declared.node.Node.{Node}
+use Rattle.rec_words.specs.Words.{terminal}
+use Rattle.canon_file.specs.declared.row.Row.{Row}
+use Rattle.canon_file.specs.Members.{Has, put, ascending}
+use Rattle.canon_file.specs.Pieces.{splits, halves, pieces, part_at, parts}
+use Rattle.canon_file.specs.Rows.{row_before, row_word, place_of, row_of, rows_with, pointer, levels, Fits}
+use Rattle.canon_file.specs.Canon.{nodes_of, node_bytes}
+use Rattle.canon_file.specs.Pairs.{pairs, differs, distinct_rows, word_in, words_above}
+use Rattle.canon_file.proofs.PieceLaws.{half_has, has_low, has_high, length-low, length-high, unsplit_same, split_differ}
+use Rattle.canon_file.proofs.StandLaws.{injective}
+use Rattle.canon_file.proofs.PartLaws.{pieces-parts}
+
+-- a piece splits exactly where its pair differs, if different halves have different pointers
+split_differs : (f : List Bool → ℕ) (h : ℕ) (p : List Bool) → (f (low_half h p) ≡ f (high_half h p) → low_half h p ≡ high_half h p)
+    → differs (row_of f h p) ≡ splits h p
+split_differs f h p apart = by (f (low_half h p) == f (high_half h p)) refl
+  where
+    by : (b : Bool) → (f (low_half h p) == f (high_half h p)) ≡ b → not b ≡ splits h p
+    by true e = sym (unsplit_same h p (apart (grind (arith, nat_tests))))
+    by false e = sym (split_differ h p (λ same. true≢false (sym (other (ap f same)) ∙ e)))
+      where
+        other : f (low_half h p) ≡ f (high_half h p) → (f (low_half h p) == f (high_half h p)) ≡ true
+        other k = grind (arith, nat_tests)
+
+-- the pairs of the halves' pointers are the rows of the pieces
+pairs-halves : (f : List Bool → ℕ) (h : ℕ) (ps : List (List Bool)) → pairs (map f (halves h ps)) ≡ map (row_of f h) ps
+pairs-halves f h [] = refl
+pairs-halves f h (p ∷ ps) = ap (λ rs. row_of f h p ∷ rs) (pairs-halves f h ps)
+
+filter-pairs : (f : List Bool → ℕ) (h : ℕ) (ps : List (List Bool)) → ((p : List Bool) → Has p ps → differs (row_of f h p) ≡ splits h p)
+    → filter differs (map (row_of f h) ps) ≡ map (row_of f h) (filter (splits h) ps)
+filter-pairs f h [] alike = refl
+filter-pairs f h (p ∷ ps) alike =
+    let rest : filter differs (map (row_of f h) ps) ≡ map (row_of f h) (filter (splits h) ps) = filter-pairs f h ps (λ q m. alike q (inr m)) in
+    (λ j. cond (alike p (inl refl) j) (row_of f h p ∷ rest j) (rest j)) ∙ by (splits h p)
+  where
+    by : (b : Bool) → cond b (row_of f h p ∷ map (row_of f h) (filter (splits h) ps)) (map (row_of f h) (filter (splits h) ps))
+        ≡ map (row_of f h) (cond b (p ∷ filter (splits h) ps) (filter (splits h) ps))
+    by true = refl
+    by false = refl
+
+module _ (h i : ℕ) (ps : List (List Bool)) (few : i + suc h ≤ 65535)
+    (fits : Fits (levels h (suc i) (halves h ps))) (long : (p : List Bool) → Has p ps → length p ≡ 2 ^ suc h) where
+  below : List Bool → ℕ
+  below = pointer h (suc i) (halves h ps)
+
+  alike : (p : List Bool) → Has p ps → differs (row_of (pointer h (suc i) (halves h ps)) h p) ≡ splits h p
+  alike p m = split_differs (pointer h (suc i) (halves h ps)) h p (injective h (suc i) (halves h ps) (low_half h p) (high_half h p) (omega arith) fits
+      (has_low h p ps m) (has_high h p ps m) (length-low h p (long p m)) (length-high h p (long p m)))
+
+  -- the rows of the level
+  pub rows_are : distinct_rows (map (pointer h (suc i) (halves h ps)) (halves h ps)) ≡ rows_with (pointer h (suc i) (halves h ps)) h ps
+  rows_are = ap (λ rs. ascending row_before (filter differs rs)) (pairs-halves (pointer h (suc i) (halves h ps)) h ps)
+      ∙ ap (ascending row_before) (filter-pairs (pointer h (suc i) (halves h ps)) h ps alike)
+
+  -- the pointers of some of its pieces
+  words_of : (qs : List (List Bool)) → ((q : List Bool) → Has q qs → Has q ps)
+      → map (word_in i (rows_with (pointer h (suc i) (halves h ps)) h ps)) (map (row_of (pointer h (suc i) (halves h ps)) h) qs) ≡ map (pointer (suc h) i ps) qs
+  words_of [] sub = refl
+  words_of (q ∷ qs) sub =
+      let f : List Bool → ℕ = pointer h (suc i) (halves h ps) in
+      let rest = words_of qs (λ r m. sub r (inr m)) in
+      λ j. cond (alike q (sub q (inl refl)) j) (row_word i (place_of (row_of f h q) (rows_with f h ps))) (f (low_half h q)) ∷ rest j
+
+  pub words_are : words_above i (map (pointer h (suc i) (halves h ps)) (halves h ps)) ≡ map (pointer (suc h) i ps) ps
+  words_are =
+      (λ j. map (word_in i (rows_are j)) (pairs-halves (pointer h (suc i) (halves h ps)) h ps j)) ∙ words_of ps (λ q m. m)
+
+length-put : (r : Row) (rs : List Row) → length (put row_before r rs) ≤ suc (length rs)
+length-put r [] = omega arith
+length-put r (s ∷ rs) = by (row_before r s) (row_before s r) (length-put r rs)
+  where
+    by : (b c : Bool) → length (put row_before r rs) ≤ suc (length rs)
+        → length (cond b (r ∷ s ∷ rs) (cond c (s ∷ put row_before r rs) (s ∷ rs))) ≤ suc (suc (length rs))
+    by true c l = omega arith
+    by false true l = omega arith
+    by false false l = omega arith
+
+length-ascending : (rs : List Row) → length (ascending row_before rs) ≤ length rs
+length-ascending [] = omega arith
+length-ascending (r ∷ rs) = omega (arith, length-put r (ascending row_before rs), length-ascending rs)
+
+length-filter : {X : Type 0} (p : X → Bool) (xs : List X) → length (filter p xs) ≤ length xs
+length-filter p [] = omega arith
+length-filter p (x ∷ xs) = by (p x) (length-filter p xs)
+  where
+    by : (b : Bool) → length (filter p xs) ≤ length xs → length (cond b (x ∷ filter p xs) (filter p xs)) ≤ suc (length xs)
+    by true l = omega arith
+    by false l = omega arith
+
+-- a level has no more rows than pieces
+pub length-rows : (f : List Bool → ℕ) (h : ℕ) (ps : List (List Bool)) → length (rows_with f h ps) ≤ length ps
+length-rows f h ps =
+    omega (arith, length-ascending (map (row_of f h) (filter (splits h) ps)), length-map (filter (splits h) ps) (row_of f h), length-filter (splits h) ps)
+
+length-pairs : (words : List ℕ) → length (pairs words) ≤ length words
+length-pairs [] = omega arith
+length-pairs (x ∷ []) = omega arith
+length-pairs (x ∷ y ∷ words) = omega (arith, length-pairs words)
+
+pub length-distinct : (words : List ℕ) → length (distinct_rows words) ≤ length words
+length-distinct words = omega (arith, length-ascending (filter differs (pairs words)), length-filter differs (pairs words), length-pairs words)
+
+length-halves : (h : ℕ) (ps : List (List Bool)) → length (halves h ps) ≡ length ps + length ps
+length-halves h [] = refl
+length-halves h (p ∷ ps) = omega (arith, length-halves h ps)
+
+pub length-pieces : (i h : ℕ) (t : List Bool) → length (pieces i h t) ≡ 2 ^ i
+length-pieces zero h t = refl
+length-pieces (suc i) h t = omega (arith, length-halves h (pieces i (suc h) t), length-pieces i (suc h) t, twice i)
+
+doubled : (k h : ℕ) → (k + k) * 2 ^ h ≡ k * 2 ^ suc h
+doubled k h = grind (arith, twice h)
+
+-- few pieces have few rows, on each level
+pub fits_few : (h i : ℕ) (ps : List (List Bool)) → length ps * 2 ^ h ≤ 2 ^ 47 → Fits (levels h i ps)
+fits_few zero i ps few = tt
+fits_few (suc h) i ps few =
+    let f : List Bool → ℕ = pointer h (suc i) (halves h ps) in
+    let twice_as_many : length (halves h ps) * 2 ^ h ≡ length ps * 2 ^ suc h = ap (λ k. k * 2 ^ h) (length-halves h ps) ∙ doubled (length ps) h in
+    let pieces_few : length ps ≤ length ps * 2 ^ suc h = le-mul_of_pos_right (length ps) (pow_pos (suc h)) in
+    (omega (arith, length-rows f h ps), fits_few h (suc i) (halves h ps) (omega arith))
+
+-- each piece has its part of the values
+pub piece_long : (i h : ℕ) (t p : List Bool) → length t ≡ 2 ^ (i + h) → Has p (pieces i h t) → length p ≡ 2 ^ h
+piece_long zero h t p n (inl e) = ap length (sym e) ∙ n ∙ ap (λ k. 2 ^ k) (omega arith)
+piece_long zero h t p n (inr m) = absurd m
+piece_long (suc i) h t p n m =
+    let longer : length t ≡ 2 ^ (i + suc h) = n ∙ ap (λ k. 2 ^ k) (omega arith) in
+    let (q, k, e) = half_has h p (pieces i (suc h) t) m in
+    let whole : length q ≡ 2 ^ suc h = piece_long i (suc h) t q longer k in
+    elim e [ inl low ↦ ap length (sym low) ∙ length-low h q whole | inr high ↦ ap length (sym high) ∙ length-high h q whole ]
+
+-- single values have their words
+base_words : (t : List Bool) (k m : ℕ) → k + m ≡ length t → map (λ p. terminal (get_or p 0 false)) (parts 0 t k m) ≡ map terminal (drop k t)
+base_words t k zero n = ap (map terminal) (sym (drop_all k t (omega arith)))
+base_words t k (suc m) n =
+    let start : k * 1 ≡ k = omega arith in
+    let next : k + 1 ≡ suc k = omega arith in
+    let first : get_or (part_at 0 t k) 0 false ≡ get_or t k false =
+    get_or-take 1 (drop (k * 1) t) 0 false (omega arith) ∙ get_or-drop (k * 1) t 0 false ∙ ap (λ j. get_or t j false) (omega arith) in
+    (λ j. terminal (first j) ∷ base_words t (suc k) m (omega arith) j)
+    ∙ (λ j. terminal (get_or t k false) ∷ map terminal (drop (sym next j) t))
+    ∙ ap (map terminal) (sym (drop_more t k false (omega arith)))
+
+-- the pointers of the pieces of the level at which h levels follow
+abbrev pub level_words : ℕ → List Bool → ℕ → ℕ → List ℕ
+level_words n t i h = map (pointer h i (pieces i h t)) (pieces i h t)
+
+-- the bytes of the nodes of that level and of each deeper one
+abbrev pub level_bytes : ℕ → List Bool → ℕ → ℕ → List ℕ
+level_bytes n t i h = node_bytes (nodes_of i (levels h i (pieces i h t)))
+
+pub words_begin : (n : ℕ) (t : List Bool) → length t ≡ 2 ^ n → map terminal t ≡ level_words n t n 0
+words_begin n t long =
+    let same : 2 ^ (n + 0) ≡ 2 ^ n = ap (λ k. 2 ^ k) (omega arith) in
+    let whole : 0 + 2 ^ n ≡ length t = omega arith in
+    sym (base_words t 0 (2 ^ n) whole) ∙ ap (map (λ p. terminal (get_or p 0 false))) (sym (pieces-parts n 0 t (long ∙ sym same)))
+
+pub node_bytes-append : (xs ys : List Node) → node_bytes (xs ++ ys) ≡ node_bytes xs ++ node_bytes ys
+node_bytes-append [] ys = refl
+node_bytes-append (x ∷ xs) ys =
+    ap (λ bytes. to_be_bytes w64 x.uid ++ (to_be_bytes w64 x.low ++ (to_be_bytes w64 x.high ++ bytes))) (node_bytes-append xs ys)
