@@ -8,3 +8,4 @@ pub mod Variables
 pub mod RunSteps
 pub mod StepByStep
 pub mod FetchRuns
+pub mod Front

@@ -6,8 +6,8 @@ use Rattle.std.specs.Str.{bytes_eq}
 use Rattle.std.proofs.lemmas.Bool.{cases_Bool}
 use Rattle.std.proofs.lemmas.Slice.Eq.{bytes_eq-Decides}
 use Rattle.script_runner.specs.Script.{Request, Script, IsWord, behind_blank, request_line, first_line, level_of, IsRequest, IsAccepted}
-use Rattle.script_runner.specs.Reading.{word_at, request_at}
-use Rattle.script_runner.proofs.Spelled.{EndsWord, HasWords, some_is, word_again, request_again}
+use Rattle.script_runner.specs.Reading.{word_at, request_at, HasWords}
+use Rattle.script_runner.proofs.Spelled.{EndsWord, some_is, word_again, request_again}
 
 -- the names behind `vars`, with the rest behind their line feed
 abbrev pub names_line : List (List ℕ) → List ℕ → List ℕ
@@ -52,6 +52,11 @@ same_first_line xs ys a b h k e =
 -- the first request of the lines is the one that is read there
 pub first_request : (r : Request) (rs : List Request) → HasWords r → request_at (flat_map request_line (r ∷ rs)) ≡ Some (r, flat_map request_line rs)
 first_request r rs h = request_again r (flat_map request_line rs) h
+
+-- in no bytes no request is read
+pub no_request : request_at [] ≡ None
+unfolding request_at
+no_request = refl
 
 pub same_requests : (rs ts : List Request) → AllByRecursion HasWords rs → AllByRecursion HasWords ts → flat_map request_line rs ≡ flat_map request_line ts → rs ≡ ts
 same_requests [] [] h k e = refl

@@ -10,10 +10,8 @@ use Rattle.bool_tables.specs.declared.steps.Planned.{Planned}
 use Rattle.bool_tables.specs.declared.steps.Step.TheVariants.{Var}
 use Rattle.script_runner.specs.Script.{Request, Script, request_line, first_line, level_of, IsRequest, IsAccepted}
 use Rattle.script_runner.specs.Plans.{steps_from, lines_from, plan_of}
+use Rattle.script_runner.proofs.Spelled.{length-request_line}
 use Rattle.script_runner.proofs.OneScript.{is_some-map}
-
-pub length-request_line : (r : Request) → length (request_line r) ≡ length r.name + length r.variable + 6
-length-request_line r = simp length-append (omega arith)
 
 -- the level of a name of the list is a place in it
 pub level_below : (names : List (List ℕ)) (name : List ℕ) → IsTrue (is_some (level_of names name)) → unwrap_or (level_of names name) 0 < length names

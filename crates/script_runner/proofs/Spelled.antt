@@ -1,13 +1,13 @@
 -- What is read at the front of a text is spelled there, and what is spelled there is read.
-use Rattle.std.proofs.Common.{◌≡◌, ℕ, ◌≤◌, Bool, true, false, cond, eqb, List, [], ◌∷◌, ◌++◌, length, take, drop, Option, Some, None, refl, sym, ap, subst, ◌∙◌, arith, append_assoc, inl, inr}
+use Rattle.std.proofs.Common.{◌≡◌, ℕ, ◌+◌, ◌≤◌, Bool, true, false, cond, eqb, List, [], ◌∷◌, ◌++◌, length, take, drop, Option, Some, None, refl, sym, ap, subst, ◌∙◌, arith, append_assoc, inl, inr}
 use Rattle.std.specs.Prelude.{IsTrue, codes}
 use Rattle.std.specs.List.{list_all}
 use Rattle.std.specs.Str.{bytes_eq}
 use Rattle.std.proofs.lemmas.Bool.{and_parts, cases_Bool, eqb-false, ne_eqb}
-use Rattle.std.proofs.lemmas.List.{take_at, drop_at, take-append-drop, length-take}
+use Rattle.std.proofs.lemmas.List.{take_at, drop_at, take-append-drop, length-append, length-take}
 use Rattle.std.proofs.lemmas.Slice.Eq.{bytes_eq-Decides}
 use Rattle.script_runner.specs.Script.{Request, is_word_byte, IsWord, behind_blank, request_line}
-use Rattle.script_runner.specs.Reading.{◌>>=◌, rest_behind, word_len, word_at, request_at}
+use Rattle.script_runner.specs.Reading.{◌>>=◌, rest_behind, word_len, word_at, request_at, HasWords}
 
 -- a word goes no further where these bytes follow
 abbrev pub EndsWord : List ℕ → Type 0
@@ -107,10 +107,6 @@ word_takes bytes word rest e =
     then_some (rest_behind (32 ∷ []) bytes) _ (word, rest) e (λ r read found.
     subst (λ t. IsRead t word rest) (sym (behind_takes (32 ∷ []) bytes r read)) (word_in_front r word rest found))
 
--- a request whose words are words
-abbrev pub HasWords : Request → Type 0
-HasWords request = IsWord request.name × IsWord request.variable
-
 -- a request's line, with the rest behind it
 pub request_line-append : (request : Request) (rest : List ℕ) → request_line request ++ rest ≡ codes "var" ++ (behind_blank request.name ++ (behind_blank request.variable ++ 10 ∷ rest))
 request_line-append request rest = simp append_assoc
@@ -142,3 +138,6 @@ request_takes bytes request rest e =
       words_are = (n.word_is, v.word_is);
       parts = behind_takes (codes "var") bytes a read ∙ rw (n.parts, v.parts, behind_takes (10 ∷ []) variable.1 more end, rest-is) (sym (request_line-append _ rest));
     })))))
+
+pub length-request_line : (r : Request) → length (request_line r) ≡ length r.name + length r.variable + 6
+length-request_line r = simp length-append (omega arith)

@@ -3,7 +3,7 @@ use Rattle.std.specs.Prelude.{ℕ, suc, ◌==◌, List, [], ◌∷◌, length, m
 use Rattle.std.specs.Str.{bytes_eq}
 use denote.Ref.{Bor}
 use Rattle.script_runner.specs.declared.script.reading.RequestLine.{RequestLine}
-use Rattle.script_runner.specs.Script.{Request, is_word_byte}
+use Rattle.script_runner.specs.Script.{Request, is_word_byte, IsWord}
 
 -- what follows where there is something, and nothing else
 infixl 10 ◌>>=◌
@@ -35,6 +35,10 @@ request_at bytes = do
   variable ← word_at name.1
   more ← rest_behind (10 ∷ []) variable.1
   Some (record { name = name.0; variable = variable.0 }, more)
+
+-- a request whose words are words
+abbrev pub HasWords : Request → Type 0
+HasWords request = IsWord request.name × IsWord request.variable
 
 -- the bytes of each of the slices
 abbrev pub texts : List (Bor (List ℕ)) → List (List ℕ)
