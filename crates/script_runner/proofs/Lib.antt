@@ -9,3 +9,4 @@ pub mod RunSteps
 pub mod StepByStep
 pub mod FetchRuns
 pub mod Front
+pub mod Levels

@@ -1,9 +1,13 @@
 -- The word and the request at the front of a text, each with the bytes behind it.
 use Rattle.std.specs.Prelude.{ℕ, suc, ◌==◌, List, [], ◌∷◌, length, map, take, drop, codes, Option, Some, None, if◌then◌else◌}
+use Rattle.std.specs.List.{AllByRecursion, IsDistinct}
 use Rattle.std.specs.Str.{bytes_eq}
+use Rattle.std.specs.Ordering.{nat_cmp}
+use Rattle.std.specs.Cmp.Lexicographic.{slice_cmp}
+use Rattle.std.specs.BTreeMap.{BTreeMap, get_by}
 use denote.Ref.{Bor}
 use Rattle.script_runner.specs.declared.script.reading.RequestLine.{RequestLine}
-use Rattle.script_runner.specs.Script.{Request, is_word_byte, IsWord}
+use Rattle.script_runner.specs.Script.{Request, is_word_byte, IsWord, IsRequest}
 
 -- what follows where there is something, and nothing else
 infixl 10 ◌>>=◌
@@ -50,3 +54,12 @@ request_of line = record { name = line.name.now; variable = line.variable.now }
 
 abbrev pub requests_of : List RequestLine → List Request
 requests_of lines = map request_of lines
+
+-- the level that a map has for a name
+abbrev pub level_in : BTreeMap (Bor (List ℕ)) ℕ → List ℕ → Option ℕ
+level_in levels name = get_by (λ (k : Bor (List ℕ)). slice_cmp nat_cmp name k.now) levels
+
+-- the variables differ, and each request has a name and one of them
+pub record Fits (variables : List (List ℕ)) (requests : List Request) : Type 0 where
+  pub variables_differ : IsDistinct bytes_eq variables
+  pub requests_are : AllByRecursion (IsRequest variables) requests

@@ -4,6 +4,7 @@ ghost use Rattle.script_runner.specs.declared.script.ScriptRefusal.TheVariants.{
 use std::alloc::{AllocError, AllocFailed};
 use thiserror::Error;
 
+mod planning;
 mod reading;
 
 /// Why a script gives no plan.
