@@ -19,15 +19,18 @@ abbrev or_last : Option ℕ → Bool → ℕ → Option ℕ
 or_last (Some level) same last = Some level
 or_last None same last = cond same (Some last) None
 
+-- the same of levels that are one more
 or_last-map : (o : Option ℕ) (same : Bool) (last : ℕ) → option_map suc (or_last o same last) ≡ or_last (option_map suc o) same (suc last)
 or_last-map (Some level) same last = refl
 or_last-map None true last = refl
 or_last-map None false last = refl
 
+-- where the last name is another, the level stays
 or_last-other : (o : Option ℕ) (last : ℕ) → o ≡ or_last o false last
 or_last-other (Some level) last = refl
 or_last-other None last = refl
 
+-- the level of a name in a list with one name more
 level_of-push : (names : List (List ℕ)) (last name : List ℕ) → level_of (names ++ last ∷ []) name ≡ or_last (level_of names name) (bytes_eq name last) (length names)
 level_of-push [] last name = refl
 level_of-push (first ∷ names) last name =
@@ -57,15 +60,18 @@ level_of_more names last before after old new put name =
       | inr other ↦ rw other (or_last-other (level_of names name) (length names))
     ] ∙ sym (level_of-push names last name))
 
+-- no names differ
 pub differ_none : IsDistinct bytes_eq []
 unfolding IsDistinct
 differ_none = tt
 
+-- names that differ, and one that is none of them
 pub differ_more : (names : List (List ℕ)) (last : List ℕ) → IsDistinct bytes_eq names → level_of names last ≡ None → IsDistinct bytes_eq (names ++ last ∷ [])
 differ_more names last differ new =
     IsDistinct-push nat_list_eq_equiv names last differ (sym (is_some-level_of names last) ∙ ap is_some new)
 
-all_at : {A : Type 0} (P : A → Type 0) (xs : List A) (y : A) (ys : List A) → AllByRecursion P (xs ++ y ∷ ys) → P y
+-- a fact of all elements holds of one between others
+pub all_at : {A : Type 0} (P : A → Type 0) (xs : List A) (y : A) (ys : List A) → AllByRecursion P (xs ++ y ∷ ys) → P y
 all_at P [] y ys h = h.0
 all_at P (x ∷ xs) y ys h = all_at P xs y ys h.1
 

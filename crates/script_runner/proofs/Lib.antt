@@ -10,3 +10,5 @@ pub mod StepByStep
 pub mod FetchRuns
 pub mod Front
 pub mod Levels
+pub mod Steps
+pub mod Accepted

@@ -7,12 +7,14 @@ use Rattle.std.proofs.lemmas.Bool.{cases_Bool}
 use Rattle.std.proofs.lemmas.Slice.Eq.{bytes_eq-Decides}
 use Rattle.script_runner.specs.Script.{Request, Script, IsWord, behind_blank, request_line, first_line, level_of, IsRequest, IsAccepted}
 use Rattle.script_runner.specs.Reading.{word_at, request_at, HasWords}
-use Rattle.script_runner.proofs.Spelled.{EndsWord, some_is, word_again, request_again}
+use Rattle.std.proofs.lemmas.Option.{same_Some}
+use Rattle.script_runner.proofs.Spelled.{EndsWord, word_again, request_again}
 
 -- the names behind `vars`, with the rest behind their line feed
 abbrev pub names_line : List (List ℕ) → List ℕ → List ℕ
 names_line names rest = flat_map behind_blank names ++ 10 ∷ rest
 
+-- where a line of names follows, a word ends
 pub names_line-ends_word : (names : List (List ℕ)) (rest : List ℕ) → EndsWord (names_line names rest)
 names_line-ends_word [] rest = refl
 names_line-ends_word (name ∷ names) rest = refl
@@ -28,6 +30,7 @@ pub no_name : (rest : List ℕ) → word_at (10 ∷ rest) ≡ None
 unfolding word_at
 no_name rest = refl
 
+-- one line of names has one list of names, and one rest
 pub same_names : (xs ys : List (List ℕ)) (a b : List ℕ) → AllByRecursion IsWord xs → AllByRecursion IsWord ys → names_line xs a ≡ names_line ys b → (xs ≡ ys) × (a ≡ b)
 same_names [] [] a b h k e = (refl, cc)
 same_names [] (y ∷ ys) a b h k e =
@@ -35,7 +38,7 @@ same_names [] (y ∷ ys) a b h k e =
 same_names (x ∷ xs) [] a b h k e =
     let read = sym (no_name b) ∙ ap word_at (sym e) ∙ first_name x xs a h.0 in absurd cc
 same_names (x ∷ xs) (y ∷ ys) a b h k e =
-    let read = some_is _ _ (sym (first_name x xs a h.0) ∙ ap word_at e ∙ first_name y ys b k.0) in
+    let read = same_Some _ _ (sym (first_name x xs a h.0) ∙ ap word_at e ∙ first_name y ys b k.0) in
     let rest = same_names xs ys a b h.1 k.1 (ap (λ (p : List ℕ × List ℕ). p.1) read) in
     let head : x ≡ y = ap (λ (p : List ℕ × List ℕ). p.0) read in
     (rw (head, rest.0) refl, rest.1)
@@ -44,6 +47,7 @@ same_names (x ∷ xs) (y ∷ ys) a b h k e =
 pub first_line-append : (names : List (List ℕ)) (rest : List ℕ) → first_line names ++ rest ≡ codes "vars" ++ names_line names rest
 first_line-append names rest = simp append_assoc
 
+-- the same of a first line
 pub same_first_line : (xs ys : List (List ℕ)) (a b : List ℕ) → AllByRecursion IsWord xs → AllByRecursion IsWord ys → first_line xs ++ a ≡ first_line ys ++ b → (xs ≡ ys) × (a ≡ b)
 same_first_line xs ys a b h k e =
     let behind : names_line xs a ≡ names_line ys b = ap (drop 4) (sym (first_line-append xs a) ∙ e ∙ first_line-append ys b) in
@@ -58,16 +62,18 @@ pub no_request : request_at [] ≡ None
 unfolding request_at
 no_request = refl
 
+-- one text has one list of requests
 pub same_requests : (rs ts : List Request) → AllByRecursion HasWords rs → AllByRecursion HasWords ts → flat_map request_line rs ≡ flat_map request_line ts → rs ≡ ts
 same_requests [] [] h k e = refl
 same_requests [] (t ∷ ts) h k e = absurd cc
 same_requests (r ∷ rs) [] h k e = absurd cc
 same_requests (r ∷ rs) (t ∷ ts) h k e =
-    let read = some_is _ _ (sym (first_request r rs h.0) ∙ ap request_at e ∙ first_request t ts k.0) in
+    let read = same_Some _ _ (sym (first_request r rs h.0) ∙ ap request_at e ∙ first_request t ts k.0) in
     let rest : rs ≡ ts = same_requests rs ts h.1 k.1 (ap (λ (p : Request × List ℕ). p.1) read) in
     let head : r ≡ t = ap (λ (p : Request × List ℕ). p.0) read in
     rw (head, rest) refl
 
+-- a level that is one more is a level where it was one
 pub is_some-map : (o : Option ℕ) → is_some (option_map suc o) ≡ is_some o
 is_some-map None = refl
 is_some-map (Some level) = refl
@@ -87,6 +93,7 @@ requests_have_words variables [] h k = tt
 requests_have_words variables (r ∷ rs) h k =
     ((k.0.name_is, known_is_word variables r.variable h k.0.known), requests_have_words variables rs h k.1)
 
+-- scripts with the same variables and requests are one
 pub same_script : (s t : Script) → s.variables ≡ t.variables → s.requests ≡ t.requests → s ≡ t
 same_script s t variables requests =
     let with_variables : List (List ℕ) → Script = λ v. record { variables = v; requests = s.requests } in

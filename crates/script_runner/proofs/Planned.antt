@@ -30,15 +30,18 @@ level_below (first ∷ names) name known =
 abbrev pub IsVariableStep : ℕ → Planned → Type 0
 IsVariableStep n s = (level : ℕ) × (s.step ≡ Var level) × (level < n)
 
+-- each step of requests that are accepted is a variable
 pub steps_are_variables : (variables : List (List ℕ)) (at : ℕ) (requests : List Request) → AllByRecursion (IsRequest variables) requests → AllByRecursion (IsVariableStep (length variables)) (steps_from variables at requests)
 steps_are_variables variables at [] h = tt
 steps_are_variables variables at (r ∷ rs) h =
     ((unwrap_or (level_of variables r.variable) 0, refl, level_below variables r.variable h.0.known), steps_are_variables variables (at + length (request_line r)) rs h.1)
 
+-- each request is one step
 pub length-steps_from : (variables : List (List ℕ)) (at : ℕ) (requests : List Request) → length (steps_from variables at requests) ≡ length requests
 length-steps_from variables at [] = refl
 length-steps_from variables at (r ∷ rs) = ap suc (length-steps_from variables (at + length (request_line r)) rs)
 
+-- each step is one line
 pub length-lines_from : (step count : ℕ) → length (lines_from step count) ≡ count
 length-lines_from step zero = refl
 length-lines_from step (suc count) = ap suc (length-lines_from (step + 1) count)
@@ -48,6 +51,7 @@ pub few_requests : (requests : List Request) → length requests ≤ length (fla
 few_requests [] = omega arith
 few_requests (r ∷ rs) = omega (arith, few_requests rs, length-append (request_line r) (flat_map request_line rs), length-request_line r)
 
+-- each of the steps may follow those before it
 pub steps_follow : (variables : List (List ℕ)) (text : List ℕ) (at : ℕ) (requests : List Request) (before : List Planned) → AllByRecursion (IsRequest variables) requests → at + length (flat_map request_line requests) ≤ length text → all_may_follow (length variables) text before (steps_from variables at requests) ≡ true
 steps_follow variables text at [] before h room = refl
 steps_follow variables text at (r ∷ rs) before h room =
@@ -68,6 +72,7 @@ pub record IsPlanned (bytes : List ℕ) (script : Script) : Type 0 where
   pub line_for_each : length (plan_of script).lines ≡ length script.requests
   pub some_variable : 1 ≤ (plan_of script).n
 
+-- a list with names has one and more
 length_some : (names : List (List ℕ)) → names ≢ [] → 1 ≤ length names
 length_some [] h = absurd (h refl)
 length_some (name ∷ names) h = omega arith

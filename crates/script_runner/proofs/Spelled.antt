@@ -4,6 +4,7 @@ use Rattle.std.specs.Prelude.{IsTrue, codes}
 use Rattle.std.specs.List.{list_all}
 use Rattle.std.specs.Str.{bytes_eq}
 use Rattle.std.proofs.lemmas.Bool.{and_parts, cases_Bool, eqb-false, ne_eqb}
+use Rattle.std.proofs.lemmas.Option.{cond_some, same_Some}
 use Rattle.std.proofs.lemmas.List.{take_at, drop_at, take-append-drop, length-append, length-take}
 use Rattle.std.proofs.lemmas.Slice.Eq.{bytes_eq-Decides}
 use Rattle.script_runner.specs.Script.{Request, is_word_byte, IsWord, behind_blank, request_line}
@@ -19,30 +20,25 @@ pub then_some : {A B P : Type 0} (o : Option A) (f : A → Option B) (y : B) →
 then_some None f y e next = absurd cc
 then_some (Some x) f y e next = next x refl e
 
-pub some_is : {A : Type 0} (x y : A) → Some x ≡ Some y → x ≡ y
-some_is x y e = cc
-
--- a test that let something through
-pub some_where_true : {A : Type 0} (b : Bool) (x y : A) → cond b (Some x) None ≡ Some y → (b ≡ true) × (x ≡ y)
-some_where_true true x y e = (refl, cc)
-some_where_true false x y e = absurd cc
-
--- and one that kept something back
+-- a test that kept nothing back
 pub some_where_false : {A : Type 0} (b : Bool) (x y : A) → cond b None (Some x) ≡ Some y → (b ≡ false) × (x ≡ y)
 some_where_false true x y e = absurd cc
 some_where_false false x y e = (refl, cc)
 
+-- what stands in front is found there
 pub behind_again : (front rest : List ℕ) → rest_behind front (front ++ rest) ≡ Some rest
 behind_again front rest =
     rw (take_at front rest (length front) refl, (bytes_eq-Decides front front).1 refl, drop_at front rest (length front) refl) refl
 
+-- what is found in front stands there
 pub behind_takes : (front bytes rest : List ℕ) → rest_behind front bytes ≡ Some rest → bytes ≡ front ++ rest
 behind_takes front bytes rest e =
-    let p = some_where_true (bytes_eq (take (length front) bytes) front) (drop (length front) bytes) rest e in
+    let p = cond_some (bytes_eq (take (length front) bytes) front) (drop (length front) bytes) rest e in
     sym (take-append-drop (length front) bytes)
     ∙ ap (λ (t : List ℕ). t ++ drop (length front) bytes) ((bytes_eq-Decides (take (length front) bytes) front).0 p.0)
     ∙ ap (λ (t : List ℕ). front ++ t) p.1
 
+-- a word is as long as it is, where these bytes end it
 pub word_len_again : (word rest : List ℕ) → IsTrue (list_all is_word_byte word) → EndsWord rest → word_len (word ++ rest) ≡ length word
 word_len_again [] [] h e = refl
 word_len_again [] (byte ∷ rest) h e = rw e refl
@@ -59,6 +55,7 @@ all_of_word (byte ∷ bytes) =
       | inr isn't ↦ rw isn't (refl, isn't)
     ]
 
+-- no more bytes are read than there are
 pub word_len_within : (bytes : List ℕ) → word_len bytes ≤ length bytes
 word_len_within [] = omega arith
 word_len_within (byte ∷ bytes) =
@@ -67,6 +64,7 @@ word_len_within (byte ∷ bytes) =
       | inr isn't ↦ rw isn't (omega arith)
     ]
 
+-- a word behind a blank is read again
 pub word_again : (word rest : List ℕ) → IsWord word → EndsWord rest → word_at (behind_blank word ++ rest) ≡ Some (word, rest)
 unfolding word_at
 word_again [] rest h e = absurd (h.0 refl)
@@ -80,6 +78,7 @@ pub record IsRead (bytes word rest : List ℕ) : Type 0 where
   pub parts : bytes ≡ behind_blank word ++ rest
   pub ends : EndsWord rest
 
+-- the bytes of the word in front, and the rest
 abbrev word_and_rest : List ℕ → List ℕ × List ℕ
 word_and_rest bytes = (take (word_len bytes) bytes, drop (word_len bytes) bytes)
 
@@ -101,6 +100,7 @@ word_in_front bytes word rest e =
       ends = subst EndsWord rest-is (all_of_word bytes).1;
     }
 
+-- what is read as a word stands there
 pub word_takes : (bytes word rest : List ℕ) → word_at bytes ≡ Some (word, rest) → IsRead bytes word rest
 unfolding word_at
 word_takes bytes word rest e =
@@ -111,6 +111,7 @@ word_takes bytes word rest e =
 pub request_line-append : (request : Request) (rest : List ℕ) → request_line request ++ rest ≡ codes "var" ++ (behind_blank request.name ++ (behind_blank request.variable ++ 10 ∷ rest))
 request_line-append request rest = simp append_assoc
 
+-- a request's line is read again
 pub request_again : (request : Request) (rest : List ℕ) → HasWords request → request_at (request_line request ++ rest) ≡ Some (request, rest)
 unfolding request_at
 request_again request rest h =
@@ -122,6 +123,7 @@ pub record IsLine (bytes : List ℕ) (request : Request) (rest : List ℕ) : Typ
   pub words_are : HasWords request
   pub parts : bytes ≡ request_line request ++ rest
 
+-- what is read as a request's line stands there
 pub request_takes : (bytes : List ℕ) (request : Request) (rest : List ℕ) → request_at bytes ≡ Some (request, rest) → IsLine bytes request rest
 unfolding request_at
 request_takes bytes request rest e =
@@ -131,13 +133,14 @@ request_takes bytes request rest e =
     then_some (rest_behind (10 ∷ []) variable.1) _ (request, rest) closed (λ more end found.
     let n = word_takes a name.0 name.1 name-read in
     let v = word_takes name.1 variable.0 variable.1 variable-read in
-    let request-is : record { name = name.0; variable = variable.0 } ≡ request = ap (λ (p : Request × List ℕ). p.0) (some_is _ _ found) in
-    let rest-is : more ≡ rest = ap (λ (p : Request × List ℕ). p.1) (some_is _ _ found) in
+    let request-is : record { name = name.0; variable = variable.0 } ≡ request = ap (λ (p : Request × List ℕ). p.0) (same_Some _ _ found) in
+    let rest-is : more ≡ rest = ap (λ (p : Request × List ℕ). p.1) (same_Some _ _ found) in
     subst (λ r. IsLine bytes r rest) request-is
     (record {
       words_are = (n.word_is, v.word_is);
       parts = behind_takes (codes "var") bytes a read ∙ rw (n.parts, v.parts, behind_takes (10 ∷ []) variable.1 more end, rest-is) (sym (request_line-append _ rest));
     })))))
 
+-- the length of a request's line
 pub length-request_line : (r : Request) → length (request_line r) ≡ length r.name + length r.variable + 6
 length-request_line r = simp length-append (omega arith)

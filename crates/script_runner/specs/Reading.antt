@@ -1,13 +1,15 @@
 -- The word and the request at the front of a text, each with the bytes behind it.
-use Rattle.std.specs.Prelude.{ℕ, suc, ◌==◌, List, [], ◌∷◌, length, map, take, drop, codes, Option, Some, None, if◌then◌else◌}
+use Rattle.std.specs.Prelude.{ℕ, suc, ◌+◌, ◌==◌, nat_le, List, [], ◌∷◌, length, map, take, drop, codes, Option, Some, None, if◌then◌else◌}
 use Rattle.std.specs.List.{AllByRecursion, IsDistinct}
 use Rattle.std.specs.Str.{bytes_eq}
 use Rattle.std.specs.Ordering.{nat_cmp}
 use Rattle.std.specs.Cmp.Lexicographic.{slice_cmp}
 use Rattle.std.specs.BTreeMap.{BTreeMap, get_by}
 use denote.Ref.{Bor}
+use Rattle.bool_tables.specs.declared.steps.Planned.{Planned}
+use Rattle.bool_tables.specs.declared.steps.Step.TheVariants.{Var}
 use Rattle.script_runner.specs.declared.script.reading.RequestLine.{RequestLine}
-use Rattle.script_runner.specs.Script.{Request, is_word_byte, IsWord, IsRequest}
+use Rattle.script_runner.specs.Script.{Request, Script, is_word_byte, IsWord, IsRequest}
 
 -- what follows where there is something, and nothing else
 infixl 10 ◌>>=◌
@@ -55,6 +57,10 @@ request_of line = record { name = line.name.now; variable = line.variable.now }
 abbrev pub requests_of : List RequestLine → List Request
 requests_of lines = map request_of lines
 
+-- the script with these names and lines
+abbrev pub script_of : List (Bor (List ℕ)) → List RequestLine → Script
+script_of names lines = record { variables = texts names; requests = requests_of lines }
+
 -- the level that a map has for a name
 abbrev pub level_in : BTreeMap (Bor (List ℕ)) ℕ → List ℕ → Option ℕ
 level_in levels name = get_by (λ (k : Bor (List ℕ)). slice_cmp nat_cmp name k.now) levels
@@ -63,3 +69,10 @@ level_in levels name = get_by (λ (k : Bor (List ℕ)). slice_cmp nat_cmp name k
 pub record Fits (variables : List (List ℕ)) (requests : List Request) : Type 0 where
   pub variables_differ : IsDistinct bytes_eq variables
   pub requests_are : AllByRecursion (IsRequest variables) requests
+
+-- the step of a request whose variable has that level, where its line stands from a byte on
+abbrev pub step_at : Option ℕ → ℕ → Request → Option Planned
+step_at None at request = None
+step_at (Some level) at request =
+    if nat_le (length request.name) 63
+    then Some (record { step = Var level; name_at = at + 4; name_len = length request.name }) else None

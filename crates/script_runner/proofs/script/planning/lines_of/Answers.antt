@@ -1,5 +1,4 @@
-use Rattle.std.proofs.Common.{◌≡◌, ◌+◌, ◌-◌, suc, [], ◌∷◌, ◌++◌, append_assoc, arith, ◌∙◌}
-use Rattle.script_runner.specs.Plans.{lines_from}
+use Rattle.std.proofs.Common.{◌≡◌, ◌+◌, ◌-◌, suc, append_assoc, arith}
 use Rattle.script_runner.proofs.script.planning.lines_of.Goals as goal
 
 pub loop-step-preserved : goal.loop-step-preserved
