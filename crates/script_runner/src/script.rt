@@ -57,3 +57,6 @@ pub(crate) fn read_script(alloc: Global, bytes: &[u8]) -> Result<Plan, ScriptRef
         bytes.len() - rest.len(),
     )
 }
+
+#[cfg(test)]
+mod tests;

@@ -27,9 +27,11 @@ fn levels_of<'a>(
     names: &[&'a [u8]],
 ) -> Result<BTreeMap<&'a [u8], u32>, ScriptRefusal>
     requires { length names.now ≤ 1048576 }
-    ensures levels { IfOk result (λ levels. (name : List ℕ) → level_in levels name ≡ level_of (texts names.now) name) }
+    ensures levels { IfOk result (λ levels. (name : List ℕ)
+        → level_in levels name ≡ level_of (texts names.now) name) }
     ensures differ { OnOk result (IsDistinct bytes_eq (texts names.now)) }
-    ensures refused { IsErrOf result ScriptRefusal.Word → ¬ (IsDistinct bytes_eq (texts names.now)) }
+    ensures refused { IsErrOf result ScriptRefusal.Word
+        → ¬ (IsDistinct bytes_eq (texts names.now)) }
 {
     let mut levels = BTreeMap::new(alloc);
     for (level, name) in names.iter().enumerate() {
@@ -42,7 +44,8 @@ fn levels_of<'a>(
 
 fn step_of(levels: &BTreeMap<&[u8], u32>, request: &RequestLine<'_>, at: usize) -> Option<Planned>
     requires { at ≤ 1048576 }
-    ensures { result ≡ step_at (level_in levels.now request.now.variable.now) at (request_of request.now) }
+    ensures { result
+        ≡ step_at (level_in levels.now request.now.variable.now) at (request_of request.now) }
 {
     let level = levels.get(request.variable).copied()?;
     if request.name.len() > MOST_NAME_BYTES {
@@ -72,9 +75,11 @@ fn steps_of<'a>(
     requires few { length names.now ≤ 1048576 }
     requires words { AllByRecursion HasWords (requests_of requests.now) }
     requires room { at + length (flat_map request_line (requests_of requests.now)) ≤ 1048576 }
-    ensures steps { IfOk result (λ steps. steps.items ≡ steps_from (texts names.now) at (requests_of requests.now)) }
+    ensures steps { IfOk result (λ steps. steps.items
+        ≡ steps_from (texts names.now) at (requests_of requests.now)) }
     ensures fits { OnOk result (Fits (texts names.now) (requests_of requests.now)) }
-    ensures refused { IsErrOf result ScriptRefusal.Word → ¬ Fits (texts names.now) (requests_of requests.now) }
+    ensures refused { IsErrOf result ScriptRefusal.Word
+        → ¬ Fits (texts names.now) (requests_of requests.now) }
 {
     let levels = levels_of(alloc, names)?;
     let mut steps = Vec::new(alloc);
@@ -97,8 +102,8 @@ fn names_of<'a>(alloc: Global, requests: &[RequestLine<'a>]) -> Result<Vec<&'a [
 fn check_names(alloc: Global, requests: &[RequestLine<'_>]) -> Result<(), ScriptRefusal>
     requires { length requests.now ≤ 1048576 }
     ensures ok { OnOk result (IsDistinct bytes_eq (map (λ r. r.name) (requests_of requests.now))) }
-    ensures refused { IsErrOf result ScriptRefusal.Word →
-        ¬ (IsDistinct bytes_eq (map (λ r. r.name) (requests_of requests.now))) }
+    ensures refused { IsErrOf result ScriptRefusal.Word
+        → ¬ (IsDistinct bytes_eq (map (λ r. r.name) (requests_of requests.now))) }
 {
     let names = names_of(alloc, requests)?;
     let _levels = levels_of(alloc, names.as_slice())?;
@@ -134,7 +139,8 @@ pub(crate) fn plan_for<'a>(
     requires short { length (spelling (script_of names.now requests.now)) ≤ 1048576 }
     ensures script { OnOk result (IsScript (script_of names.now requests.now)) }
     ensures plan { IfOk result (λ plan. plan ≡ plan_of (script_of names.now requests.now)) }
-    ensures refused { IsErrOf result ScriptRefusal.Word → ¬ (IsScript (script_of names.now requests.now)) }
+    ensures refused { IsErrOf result ScriptRefusal.Word
+        → ¬ (IsScript (script_of names.now requests.now)) }
 {
     if names.is_empty() || names.len() > MOST_VARIABLES {
         return Err(ScriptRefusal::Word);

@@ -65,8 +65,8 @@ fn request_line_of(bytes: &[u8]) -> Option<(RequestLine<'_>, &[u8])>
 pub(crate) fn read_names(alloc: Global, bytes: &[u8]) -> Result<(Vec<&[u8]>, &[u8]), ScriptRefusal>
     ensures read { IfOk result (λ r. bytes.now ≡ first_line (texts r.0.items) ++ r.1.now) }
     ensures words { IfOk result (λ r. AllByRecursion IsWord (texts r.0.items)) }
-    ensures refused { IsErrOf result ScriptRefusal.Word → (names : List (List ℕ)) (rest : List ℕ) →
-        AllByRecursion IsWord names → ¬ (bytes.now ≡ first_line names ++ rest) }
+    ensures refused { IsErrOf result ScriptRefusal.Word → (names : List (List ℕ)) (rest : List ℕ)
+        → AllByRecursion IsWord names → ¬ (bytes.now ≡ first_line names ++ rest) }
 {
     let mut rest = behind(b"vars", bytes).ok_or(ScriptRefusal::Word)?;
     let mut names = Vec::new(alloc);
@@ -85,8 +85,8 @@ pub(crate) fn read_requests(
 ) -> Result<Vec<RequestLine<'_>>, ScriptRefusal>
     ensures read { IfOk result (λ r. bytes.now ≡ flat_map request_line (requests_of r.items)) }
     ensures words { IfOk result (λ r. AllByRecursion HasWords (requests_of r.items)) }
-    ensures refused { IsErrOf result ScriptRefusal.Word → (requests : List Request) →
-        AllByRecursion HasWords requests → ¬ (bytes.now ≡ flat_map request_line requests) }
+    ensures refused { IsErrOf result ScriptRefusal.Word → (requests : List Request)
+        → AllByRecursion HasWords requests → ¬ (bytes.now ≡ flat_map request_line requests) }
 {
     let mut rest = bytes;
     let mut requests = Vec::new(alloc);
