@@ -1,0 +1,106 @@
+// The folder and what was said, with all that happened to them.
+ghost use Rattle.std.specs.Prelude.{◌≡◌, ◌≢◌, IfOk, IsOk, OnOk, OnErr, ◌+◌, ◌-◌, ◌^◌, ◌<◌, ◌≤◌, length};
+ghost use Rattle.shelf_memory.specs.Files.{stored_in};
+ghost use Rattle.shelf_memory.specs.Past.{Agrees};
+
+use crate::change::{Change, Stored};
+use crate::event::{Call, Event};
+use crate::files::{bytes_of, change_file};
+use shelf_model::FileNo;
+use std::alloc::{AllocError, Global};
+use std::collections::BTreeMap;
+
+/// The files and what was said, with their past, for as long as the clock counts calls.
+///
+/// At its last value the clock stands, and nothing is known of the past any more: growth was refused,
+/// or there were that many calls.
+#[derive(Drop)]
+pub struct Disk {
+    pub alloc: Global,
+    pub clock: u64,
+    pub files: BTreeMap<FileNo, Stored>,
+    pub said: Vec<u8>,
+    pub events: Vec<Event>,
+    ghost agrees: { clock < 2 ^ 64 - 1 → Agrees clock (stored_in files) said.items events.items },
+}
+
+impl Disk {
+    ghost use Rattle.shelf_model.specs.declared.file_no.FileNo.{FileNo};
+    ghost use Rattle.shelf_model.specs.File.{no_file};
+    ghost use Rattle.shelf_memory.specs.Changes.{changed, FitsIn};
+    ghost use Rattle.shelf_memory.specs.Disks.{Stays, StaysBut, Ticked, SameMoment};
+    ghost use Rattle.std.specs.Prelude.{[], ◌++◌, ◌∷◌, vec_len, vec_capacity};
+    ghost use Rattle.shelf_memory.specs.declared.event.Event.TheVariants.{Called};
+
+    pub fn empty(alloc: Global) -> Disk
+        ensures clock { result.clock ≡ 0 }
+        ensures files { (q : FileNo) → stored_in result.files q ≡ no_file }
+        ensures said { result.said.items ≡ [] }
+    {
+        Disk {
+            alloc,
+            clock: 0,
+            files: BTreeMap::new(alloc),
+            said: Vec::new(alloc),
+            events: Vec::new(alloc),
+        }
+    }
+
+    /// A call that changes nothing.
+    pub fn keep(&mut self) -> Result<(), AllocError>
+        ensures stays { Stays self.old self.new }
+        ensures past { self.new.clock < 2 ^ 64 - 1 → IsOk result × Ticked self.old self.new × SameMoment self.old self.new }
+    {
+        let was = self.clock;
+        self.clock = u64::MAX;
+        self.events.reserve(1)?;
+        self.note(was, Call::Nothing);
+        Ok(())
+    }
+
+    /// A call that changes one file. Want of memory leaves each file as it was.
+    pub fn change(&mut self, f: FileNo, change: Change) -> Result<(), AllocError>
+        requires { FitsIn change (stored_in self.old.files f) }
+        ensures ok { OnOk result (stored_in self.new.files f ≡ changed change (stored_in self.old.files f)) }
+        ensures err { OnErr result (Stays self.old self.new) }
+        ensures others { StaysBut f self.old self.new }
+        ensures past { self.new.clock < 2 ^ 64 - 1 → IsOk result × Ticked self.old self.new }
+    {
+        let was = self.clock;
+        self.clock = u64::MAX;
+        self.events.reserve(1)?;
+        change_file(self.alloc, &mut self.files, f, &change)?;
+        self.note(was, Call::Changed { file: f, change });
+        Ok(())
+    }
+
+    /// A call that says a piece. Want of memory leaves what was said as it was.
+    pub fn say(&mut self, piece: Vec<u8>) -> Result<(), AllocError>
+        ensures ok { OnOk result (self.new.said.items ≡ self.old.said.items ++ piece.items) }
+        ensures err { OnErr result (self.new.said.items ≡ self.old.said.items) }
+        ensures files { (q : FileNo) → stored_in self.new.files q ≡ stored_in self.old.files q }
+        ensures past { self.new.clock < 2 ^ 64 - 1 → IsOk result × Ticked self.old self.new }
+    {
+        let was = self.clock;
+        self.clock = u64::MAX;
+        self.events.reserve(1)?;
+        self.said.extend_from_slice(&piece)?;
+        self.note(was, Call::Said(piece));
+        Ok(())
+    }
+
+    // Makes the call an event, with its clock as it was before the call.
+    fn note(&mut self, was: u64, call: Call)
+        requires reserved { vec_len self.old.events < vec_capacity self.old.events }
+        requires dark { self.old.clock ≡ 2 ^ 64 - 1 }
+        requires agrees { was + 1 < 2 ^ 64 - 1 → Agrees (was + 1) (stored_in self.old.files) self.old.said.items (self.old.events.items ++ Called call ∷ []) }
+        ensures stays { Stays self.old self.new }
+        ensures clock { self.new.clock < 2 ^ 64 - 1 → self.new.clock ≡ was + 1 }
+        ensures events { self.new.clock < 2 ^ 64 - 1 → self.new.events.items ≡ self.old.events.items ++ Called call ∷ [] }
+    {
+        if was < u64::MAX - 1 {
+            self.events.push_reserved(Event::Called(call));
+            self.clock = was + 1;
+        }
+    }
+}
