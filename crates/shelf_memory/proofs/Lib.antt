@@ -1,2 +1,5 @@
 pub mod Lookups
 pub mod Events
+pub mod Paths
+pub mod Endings
+pub mod Reached

@@ -1,5 +1,5 @@
 -- What a call leaves of the folder in memory and its past.
-use Rattle.std.specs.Prelude.{◌≡◌, ◌≢◌, ℕ, ◌+◌, ◌≤◌}
+use Rattle.std.specs.Prelude.{◌≡◌, ◌≢◌, ℕ, ◌+◌, ◌-◌, ◌^◌, ◌≤◌, min, Bool, cond}
 use Rattle.shelf_model.specs.declared.file_no.FileNo.{FileNo}
 use Rattle.shelf_memory.specs.declared.disk.Disk.{Disk}
 use Rattle.shelf_memory.specs.Events.{moment_of}
@@ -23,3 +23,7 @@ pub record Ticked (old new : Disk) : Type 0 where
 -- what stands is what stood
 abbrev pub SameMoment : Disk → Disk → Type 0
 SameMoment old new = moment_of new.events.items new.clock ≡ moment_of old.events.items old.clock
+
+-- the clock after a call: one higher, up to its last value; that is its value where memory was refused
+abbrev pub clock_after : Bool → ℕ → ℕ
+clock_after refused clock = cond refused (2 ^ 64 - 1) (min (clock + 1) (2 ^ 64 - 1))

@@ -4,3 +4,8 @@ pub mod Events
 pub mod Files
 pub mod Past
 pub mod Disks
+pub mod Texts
+pub mod Failures
+pub mod Counts
+pub mod Benches
+pub mod Laws

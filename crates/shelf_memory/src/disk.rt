@@ -1,5 +1,5 @@
 // The folder and what was said, with all that happened to them.
-ghost use Rattle.std.specs.Prelude.{◌≡◌, ◌≢◌, IfOk, IsOk, OnOk, OnErr, ◌+◌, ◌-◌, ◌^◌, ◌<◌, ◌≤◌, length};
+ghost use Rattle.std.specs.Prelude.{◌≡◌, OnOk, OnErr, ◌+◌, ◌-◌, ◌^◌, ◌<◌, ◌≤◌, length, is_err, min};
 ghost use Rattle.shelf_memory.specs.Files.{stored_in};
 ghost use Rattle.shelf_memory.specs.Past.{Agrees};
 
@@ -26,9 +26,10 @@ pub struct Disk {
 
 impl Disk {
     ghost use Rattle.shelf_model.specs.declared.file_no.FileNo.{FileNo};
-    ghost use Rattle.shelf_model.specs.File.{no_file};
+    ghost use Rattle.shelf_model.specs.File.{no_file, appended};
+    ghost use Rattle.shelf_model.specs.Calls.{longest};
     ghost use Rattle.shelf_memory.specs.Changes.{changed, FitsIn};
-    ghost use Rattle.shelf_memory.specs.Disks.{Stays, StaysBut, Ticked, SameMoment};
+    ghost use Rattle.shelf_memory.specs.Disks.{Stays, StaysBut, Ticked, SameMoment, clock_after};
     ghost use Rattle.std.specs.Prelude.{[], ◌++◌, ◌∷◌, vec_len, vec_capacity};
     ghost use Rattle.shelf_memory.specs.declared.event.Event.TheVariants.{Called};
 
@@ -49,7 +50,9 @@ impl Disk {
     /// A call that changes nothing.
     pub fn keep(&mut self) -> Result<(), AllocError>
         ensures stays { Stays self.old self.new }
-        ensures past { self.new.clock < 2 ^ 64 - 1 → IsOk result × Ticked self.old self.new × SameMoment self.old self.new }
+        ensures clock { self.new.clock ≡ clock_after (is_err result) self.old.clock }
+        ensures past { self.new.clock < 2 ^ 64 - 1 → Ticked self.old self.new }
+        ensures same { self.new.clock < 2 ^ 64 - 1 → SameMoment self.old self.new }
     {
         let was = self.clock;
         self.clock = u64::MAX;
@@ -64,7 +67,8 @@ impl Disk {
         ensures ok { OnOk result (stored_in self.new.files f ≡ changed change (stored_in self.old.files f)) }
         ensures err { OnErr result (Stays self.old self.new) }
         ensures others { StaysBut f self.old self.new }
-        ensures past { self.new.clock < 2 ^ 64 - 1 → IsOk result × Ticked self.old self.new }
+        ensures clock { self.new.clock ≡ clock_after (is_err result) self.old.clock }
+        ensures past { self.new.clock < 2 ^ 64 - 1 → Ticked self.old self.new }
     {
         let was = self.clock;
         self.clock = u64::MAX;
@@ -74,18 +78,38 @@ impl Disk {
         Ok(())
     }
 
+    /// A call that puts a piece at the end of a file. Want of memory leaves each file as it was.
+    pub fn append(&mut self, f: FileNo, piece: &[u8]) -> Result<(), AllocError>
+        requires { length (stored_in self.old.files f).bytes + length piece.now ≤ longest }
+        ensures ok { OnOk result (stored_in self.new.files f ≡ appended piece.now (stored_in self.old.files f)) }
+        ensures err { OnErr result (Stays self.old self.new) }
+        ensures others { StaysBut f self.old self.new }
+        ensures clock { self.new.clock ≡ clock_after (is_err result) self.old.clock }
+        ensures past { self.new.clock < 2 ^ 64 - 1 → Ticked self.old self.new }
+    {
+        match Vec::from_slice(self.alloc, piece) {
+            Ok(copy) => self.change(f, Change::Appended(copy)),
+            Err(refused) => {
+                self.clock = u64::MAX;
+                Err(refused)
+            }
+        }
+    }
+
     /// A call that says a piece. Want of memory leaves what was said as it was.
-    pub fn say(&mut self, piece: Vec<u8>) -> Result<(), AllocError>
-        ensures ok { OnOk result (self.new.said.items ≡ self.old.said.items ++ piece.items) }
+    pub fn say(&mut self, piece: &[u8]) -> Result<(), AllocError>
+        ensures ok { OnOk result (self.new.said.items ≡ self.old.said.items ++ piece.now) }
         ensures err { OnErr result (self.new.said.items ≡ self.old.said.items) }
         ensures files { (q : FileNo) → stored_in self.new.files q ≡ stored_in self.old.files q }
-        ensures past { self.new.clock < 2 ^ 64 - 1 → IsOk result × Ticked self.old self.new }
+        ensures clock { self.new.clock ≡ clock_after (is_err result) self.old.clock }
+        ensures past { self.new.clock < 2 ^ 64 - 1 → Ticked self.old self.new }
     {
         let was = self.clock;
         self.clock = u64::MAX;
+        let copy = Vec::from_slice(self.alloc, piece)?;
         self.events.reserve(1)?;
-        self.said.extend_from_slice(&piece)?;
-        self.note(was, Call::Said(piece));
+        self.said.extend_from_slice(piece)?;
+        self.note(was, Call::Said(copy));
         Ok(())
     }
 
@@ -95,7 +119,7 @@ impl Disk {
         requires dark { self.old.clock ≡ 2 ^ 64 - 1 }
         requires agrees { was + 1 < 2 ^ 64 - 1 → Agrees (was + 1) (stored_in self.old.files) self.old.said.items (self.old.events.items ++ Called call ∷ []) }
         ensures stays { Stays self.old self.new }
-        ensures clock { self.new.clock < 2 ^ 64 - 1 → self.new.clock ≡ was + 1 }
+        ensures clock { self.new.clock ≡ min (was + 1) (2 ^ 64 - 1) }
         ensures events { self.new.clock < 2 ^ 64 - 1 → self.new.events.items ≡ self.old.events.items ++ Called call ∷ [] }
     {
         if was < u64::MAX - 1 {

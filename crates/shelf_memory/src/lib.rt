@@ -3,10 +3,13 @@
 //! `Bench` keeps a record of all calls, so that its past is known. Calls can be made to fail.
 #![tactic(auto)]
 
-pub mod change;
-pub mod event;
-pub mod files;
-pub mod disk;
+mod bench;
+mod change;
+mod counts;
+mod disk;
+mod event;
+mod failures;
+mod files;
+mod texts;
 
-
-
+pub use bench::Bench;

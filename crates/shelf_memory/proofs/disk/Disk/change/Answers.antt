@@ -12,8 +12,8 @@ note-requires-clause-agrees c = λ counts. rw c.reserve.ensures.items
 
 pub returns-clause-past : goal.returns-clause-past
 returns-clause-past c = λ counts.
-    let clock : c.note.new.self.clock ≡ c.args.self.now.clock + 1 = c.note.ensures.clock counts in
+    let clock : c.note.new.self.clock ≡ c.args.self.now.clock + 1 = omega (arith, counts, c.note.ensures.clock) in
     let events : c.note.new.self.events.items ≡ c.args.self.now.events.items ++ Called (Changed c.args.f c.args.change) ∷ [] =
         c.note.ensures.events counts ∙ ap (λ es. es ++ Called (Changed c.args.f c.args.change) ∷ []) c.reserve.ensures.items in
     let before = c.args.self.now.agrees (omega (arith, counts, clock)) in
-    (refl, ticked c.args.self.now c.note.new.self (Changed c.args.f c.args.change) before.calls_are clock events)
+    ticked c.args.self.now c.note.new.self (Changed c.args.f c.args.change) before.calls_are clock events

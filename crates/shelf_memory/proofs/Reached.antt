@@ -1,0 +1,75 @@
+-- What a call leaves of the content of a station in memory.
+use Rattle.std.proofs.Common.{◌≡◌, ◌≢◌, ℕ, ◌+◌, ◌-◌, ◌^◌, ◌<◌, ◌≤◌, min, Bool, true, false, not, List, refl, sym, ap, subst, ◌∙◌, arith}
+use Rattle.std.specs.Prelude.{IsTrue, nat_lt, Result, Ok, Err, OnOk, is_err}
+use Rattle.std.specs.declared.alloc.AllocError.{AllocError}
+use Rattle.std.proofs.lemmas.Bool.{ltb-true, lt-ltb}
+use Rattle.shelf_model.specs.declared.file_no.FileNo.{FileNo}
+use Rattle.shelf_model.specs.File.{File}
+use Rattle.shelf_model.specs.World.{World, now, file}
+use Rattle.shelf_model.specs.Calls.{Told, Ticks, SameStation, OnShelf, SameBut}
+use Rattle.shelf_memory.specs.declared.bench.Bench.{Bench}
+use Rattle.shelf_memory.specs.declared.disk.Disk.{Disk}
+use Rattle.shelf_memory.specs.Disks.{Stays, StaysBut, Ticked, SameMoment, clock_after}
+use Rattle.shelf_memory.specs.Texts.{raised}
+use Rattle.shelf_memory.specs.Benches.{tells_of, world_in, world_of, file_at}
+use Rattle.shelf_memory.specs.Files.{stored_in}
+use Rattle.shelf_memory.specs.declared.counts.Counts.{Counts}
+use Rattle.shelf_memory.specs.Laws.{present_file, present_said}
+
+-- where a call is told, memory wasn't refused in it
+pub told_ok : {T : Type 0} (result : Result T AllocError) (clock new : ℕ) (X : Type 0) → new ≡ clock_after (is_err result) clock → OnOk result X → new < 2 ^ 64 - 1 → X
+told_ok (Ok x) clock new X tick holds counts = holds
+told_ok (Err e) clock new X tick holds counts = let dark : new ≡ 2 ^ 64 - 1 = tick in absurd (omega (arith, dark, counts))
+
+inside_stays : (inside : Bool) (old new : ℕ) → new ≡ raised (not inside) old → IsTrue inside → new ≡ old
+inside_stays true old new rise tells = rise
+inside_stays false old new rise tells = let wrong : false ≡ true = tells in cc
+
+outside_strays : (inside : Bool) (old new : ℕ) → new ≡ raised (not inside) old → old < 2 ^ 64 - 1 → ¬ (IsTrue inside) → old < new
+outside_strays true old new rise few away = absurd (away refl)
+outside_strays false old new rise few away = let rises : new ≡ min (old + 1) (2 ^ 64 - 1) = rise in omega (arith, rises, few)
+
+-- a call that reaches for the folder
+pub on_shelf : (old : Bench) (d : Disk) (counts : Counts) → Ticked old.disk d → d.clock < 2 ^ 64 - 1 → d.said.items ≡ old.disk.said.items
+    → counts.inside ≡ old.counts.inside → counts.strays ≡ raised (not old.counts.inside) old.counts.strays → OnShelf (world_of old) (world_in d old.texts counts)
+on_shelf old d counts ticked few said inside strays =
+    let clock : d.clock ≡ old.disk.clock + 1 = ticked.clock_is in
+    let before : old.disk.clock < 2 ^ 64 - 1 = omega (arith, few, clock) in
+    let within : old.counts.strays ≤ old.disk.clock = (old.counts_are before).0 in
+    record {
+      ticks = record { clock_is = ticked.clock_is; past = ticked.past };
+      station = record {
+        said_is = present_said d few ∙ said ∙ sym (present_said old.disk before);
+        texts_are = refl;
+        home_is = refl;
+        inside_is = inside;
+        strays_are = λ tells. inside_stays old.counts.inside old.counts.strays counts.strays strays tells;
+      };
+      astray = λ away. outside_strays old.counts.inside old.counts.strays counts.strays strays (omega (arith, within, before)) away;
+    }
+
+-- where a call is told, the station told before it
+pub told_before : (old : Bench) (d : Disk) → (d.clock < 2 ^ 64 - 1 → Ticked old.disk d) → IsTrue (nat_lt d.clock (2 ^ 64 - 1)) → IsTrue (tells_of old)
+told_before old d ticked tells = lt-ltb _ _ (
+    let few : d.clock < 2 ^ 64 - 1 = ltb-true _ _ tells in
+    let clock : d.clock ≡ old.disk.clock + 1 = (ticked few).clock_is in
+    omega (arith, few, clock))
+
+-- a call that changes one file
+pub reached : (old : Bench) (d : Disk) (counts : Counts) (f : FileNo) (change : File → File) (result : Result Unit AllocError)
+    → d.clock ≡ clock_after (is_err result) old.disk.clock → (d.clock < 2 ^ 64 - 1 → Ticked old.disk d)
+    → OnOk result (stored_in d.files f ≡ change (file_at old f)) → StaysBut f old.disk d
+    → counts.inside ≡ old.counts.inside → counts.strays ≡ raised (not old.counts.inside) old.counts.strays
+    → IsTrue (nat_lt d.clock (2 ^ 64 - 1))
+    → OnShelf (world_of old) (world_in d old.texts counts) × SameBut f (world_of old) (world_in d old.texts counts)
+      × (file (world_in d old.texts counts) f ≡ change (file (world_of old) f))
+reached old d counts f change result tick ticked here others inside strays tells =
+    let few : d.clock < 2 ^ 64 - 1 = ltb-true _ _ tells in
+    let clock : d.clock ≡ old.disk.clock + 1 = (ticked few).clock_is in
+    let before : old.disk.clock < 2 ^ 64 - 1 = omega (arith, few, clock) in
+    (
+      on_shelf old d counts (ticked few) few others.said_is inside strays,
+      (λ q differ. present_file d few q ∙ others.files_are q differ ∙ sym (present_file old.disk before q)),
+      present_file d few f ∙ told_ok result old.disk.clock d.clock (stored_in d.files f ≡ change (file_at old f)) tick here few
+        ∙ ap change (sym (present_file old.disk before f)),
+    )

@@ -1,0 +1,93 @@
+-- What a station in memory tells, and which of its calls fail.
+use Rattle.std.specs.Prelude.{◌≡◌, ℕ, ◌+◌, ◌-◌, ◌^◌, ◌<◌, ◌≤◌, ◌⊎◌, ◌||◌, Bool, IsTrue, nat_lt, min, List, codes, String, Result, OnErr, IsErr}
+use Rattle.shelf_model.specs.declared.file_no.FileNo.{FileNo}
+use Rattle.shelf_model.specs.declared.fault.Failed.{Failed}
+use Rattle.shelf_model.specs.File.{File}
+use Rattle.shelf_model.specs.World.{Moment, World}
+use Rattle.shelf_model.specs.Faults.{Faults, Rose}
+use Rattle.std.specs.Global.{Global}
+use Rattle.std.specs.BTreeMap.{BTreeMap}
+use Rattle.shelf_memory.specs.declared.bench.Bench.{Bench}
+use Rattle.shelf_memory.specs.declared.counts.Counts.{Counts}
+use Rattle.shelf_memory.specs.declared.disk.Disk.{Disk}
+use Rattle.shelf_memory.specs.declared.texts.Text.{Text}
+use Rattle.shelf_memory.specs.Events.{moment_of}
+use Rattle.shelf_memory.specs.Files.{stored_in}
+use Rattle.shelf_memory.specs.Texts.{text_at, count_at}
+use Rattle.shelf_memory.specs.Failures.{is_listed, is_met, seen}
+
+-- the path of the station's folder
+abbrev pub home_path : List ℕ
+home_path = codes "FOLDER"
+
+-- the station tells its content while its clock is below its last value
+abbrev pub tells_of : Bench → Bool
+tells_of b = nat_lt b.disk.clock (2 ^ 64 - 1)
+
+-- the content that a folder, texts and counts make
+abbrev pub world_in : Disk → BTreeMap (String Global) Text → Counts → World
+world_in disk texts counts = record {
+  clock = disk.clock;
+  moment = moment_of disk.events.items;
+  texts = text_at texts;
+  home = home_path;
+  inside = counts.inside;
+  strays = counts.strays;
+}
+
+-- its content, with all moments since it was made
+abbrev pub world_of : Bench → World
+world_of b = world_in b.disk b.texts b.counts
+
+-- the counts of faults, with those of each text
+abbrev pub faults_in : Counts → BTreeMap (String Global) Text → Faults
+faults_in counts texts = record { folder = counts.folder; say = counts.say; text = count_at counts.pathless texts }
+
+-- its counts of faults
+abbrev pub faults_of : Bench → Faults
+faults_of b = faults_in b.counts b.texts
+
+-- the number of its next call
+abbrev pub clock_of : Bench → ℕ
+clock_of b = b.disk.clock
+
+-- how often memory was refused
+abbrev pub starved_of : Bench → ℕ
+starved_of b = b.counts.starved
+
+-- the file of that number, also where nothing is told
+abbrev pub file_at : Bench → FileNo → File
+file_at b f = stored_in b.disk.files f
+
+-- what was said, also where nothing is told
+abbrev pub said_of : Bench → List ℕ
+said_of b = b.disk.said.items
+
+-- the call of that number is to fail by its number
+abbrev pub lists : Bench → ℕ → Bool
+lists b n = is_listed b.failures n
+
+-- all calls are to fail, since the watched file was long enough
+abbrev pub is_spent : Bench → Bool
+is_spent b = is_met b.failures.watch
+
+-- the next call is to fail
+abbrev pub fails_next : Bench → Bool
+fails_next b = lists b (clock_of b) || is_spent b
+
+-- each file has the bytes that it had, and the same was said
+pub record SameBytes (old new : Bench) : Type 0 where
+  pub files_are : (f : FileNo) → (file_at new f).bytes ≡ (file_at old f).bytes
+  pub said_is : said_of new ≡ said_of old
+
+-- a call failed exactly where there is that reason or memory was refused, and then left all bytes as they were
+pub record FailsExactly {T : Type 0} (Reason : Type 0) (result : Result T Failed) (old new : Bench) : Type 0 where
+  pub cause : OnErr result (Reason ⊎ Rose (starved_of old) (starved_of new))
+  pub due : Reason → IsErr result
+  pub starving : starved_of old < starved_of new → IsErr result
+  pub later : starved_of old ≤ starved_of new
+  pub kept : OnErr result (SameBytes old new)
+  pub ticks : starved_of new ≡ starved_of old → clock_of new ≡ min (clock_of old + 1) (2 ^ 64 - 1)
+  pub dark : starved_of old < starved_of new → clock_of new ≡ 2 ^ 64 - 1
+  pub lists_are : (n : ℕ) → lists new n ≡ lists old n
+  pub watch_is : new.failures.watch ≡ seen old.failures.watch (file_at new)

@@ -1,0 +1,84 @@
+use crate::change::{Change};
+use crate::counts::Counts;
+use crate::disk::Disk;
+use crate::failures::Failures;
+use crate::files::bytes_of;
+use crate::texts::Text;
+use shelf_model::{Failed, FileNo};
+use std::alloc::{AllocError, Global};
+use std::collections::BTreeMap;
+
+ghost use Rattle.std.specs.Prelude.{◌≡◌, ◌+◌, ◌-◌, ◌^◌, ◌<◌, ◌≤◌};
+
+/// A station in memory with one folder, whatever path is entered.
+///
+/// It tells its content while its clock is below its last value. Where memory is refused in a call, the
+/// call fails, the clock goes to that value, and it stays there.
+#[derive(Drop)]
+pub struct Bench {
+    alloc: Global,
+    disk: Disk,
+    texts: BTreeMap<String, Text>,
+    failures: Failures,
+    counts: Counts,
+    ghost counts_are: { disk.clock < 2 ^ 64 - 1 → (counts.strays ≤ disk.clock) × (counts.starved ≡ 0) },
+}
+
+impl Bench {
+    ghost use Rattle.std.specs.Prelude.{ℕ, List, [], None, false, IsTrue, ◌≢◌, length, OnOk, OnErr};
+    ghost use Rattle.shelf_model.specs.declared.file_no.FileNo.{FileNo};
+    ghost use Rattle.shelf_model.specs.File.{no_file};
+    ghost use Rattle.shelf_model.specs.World.{now};
+    ghost use Rattle.shelf_model.specs.Calls.{Told, OnShelf, SameBut, longest};
+    ghost use Rattle.shelf_model.specs.File.{appended};
+    ghost use Rattle.shelf_model.specs.World.{file};
+    ghost use Rattle.shelf_model.specs.Faults.{OnlyFolder};
+    ghost use Rattle.shelf_memory.specs.Changes.{changed, FitsIn};
+    ghost use Rattle.shelf_memory.specs.Files.{stored_in};
+    ghost use Rattle.shelf_memory.specs.Benches.{tells_of, world_of, faults_of, clock_of, starved_of, file_at, said_of, lists, is_spent, fails_next, FailsExactly};
+
+    /// Whether the next call is to fail.
+    pub(crate) fn fails_next(&self) -> bool
+        ensures { result ≡ fails_next self.now }
+    {
+        self.failures.names(self.disk.clock)
+    }
+
+    // A call that reaches for the folder and changes nothing.
+    pub(crate) fn look(&mut self, fails: bool) -> Result<(), Failed>
+        ensures content { Told tells_of self.old self.new (OnShelf (world_of self.old) (world_of self.new) × (now (world_of self.new) ≡ now (world_of self.old))) }
+        ensures faults { OnlyFolder (faults_of self.old) (faults_of self.new) result }
+        ensures exactly { FailsExactly (IsTrue fails) result self.old self.new }
+    {
+        let refused = self.disk.keep().is_err();
+        self.failures.observe(&self.disk.files);
+        self.counts.end_folder_call(fails, refused)
+    }
+
+    // A call that changes one file. Where it is to fail, the change leaves the bytes of the file.
+    pub(crate) fn reach(&mut self, f: FileNo, change: Change, fails: bool) -> Result<(), Failed>
+        requires fits { FitsIn change (stored_in self.old.disk.files f) }
+        requires harmless { IsTrue fails → (changed change (file_at self.old f)).bytes ≡ (file_at self.old f).bytes }
+        ensures content { Told tells_of self.old self.new (OnShelf (world_of self.old) (world_of self.new) × SameBut f (world_of self.old) (world_of self.new)
+            × (file (world_of self.new) f ≡ changed change (file (world_of self.old) f))) }
+        ensures faults { OnlyFolder (faults_of self.old) (faults_of self.new) result }
+        ensures exactly { FailsExactly (IsTrue fails) result self.old self.new }
+    {
+        let refused = self.disk.change(f, change).is_err();
+        self.failures.observe(&self.disk.files);
+        self.counts.end_folder_call(fails, refused)
+    }
+
+    // A call that puts a piece at the end of a file.
+    pub(crate) fn put(&mut self, f: FileNo, piece: &[u8]) -> Result<(), Failed>
+        requires { length (file_at self.old f).bytes + length piece.now ≤ longest }
+        ensures content { Told tells_of self.old self.new (OnShelf (world_of self.old) (world_of self.new) × SameBut f (world_of self.old) (world_of self.new)
+            × (file (world_of self.new) f ≡ appended piece.now (file (world_of self.old) f))) }
+        ensures faults { OnlyFolder (faults_of self.old) (faults_of self.new) result }
+        ensures exactly { FailsExactly (IsTrue false) result self.old self.new }
+    {
+        let refused = self.disk.append(f, piece).is_err();
+        self.failures.observe(&self.disk.files);
+        self.counts.end_folder_call(false, refused)
+    }
+}
