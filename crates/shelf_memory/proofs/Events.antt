@@ -85,11 +85,11 @@ agrees_said n stored bytes after_it es piece agrees more = record {
   said_is = ap (λ (m : Moment). m.said) (replayed-more first_moment es (Called (Said piece))) ∙ ap (λ b. b ++ piece.items) agrees.said_is ∙ sym more;
 }
 
--- a call that did nothing
-pub same_moment : (n k : ℕ) (before stored : FileNo → File) (bytes more : List ℕ) (es fs : List Event) → Agrees n before bytes es → Agrees k stored more fs
-    → fs ≡ es ++ Called Nothing ∷ [] → moment_of fs k ≡ moment_of es n
-same_moment n k before stored bytes more es fs was is events =
-    moment_at_end k stored more fs is ∙ ap (replayed first_moment) events ∙ replayed-more first_moment es (Called Nothing) ∙ sym (moment_at_end n before bytes es was)
+-- what stands after one call more is what the call made of what stood
+pub called_moment : (n k : ℕ) (before stored : FileNo → File) (bytes more : List ℕ) (es fs : List Event) (call : Call) → Agrees n before bytes es → Agrees k stored more fs
+    → fs ≡ es ++ Called call ∷ [] → moment_of fs k ≡ after_call call (moment_of es n)
+called_moment n k before stored bytes more es fs call was is events =
+    moment_at_end k stored more fs is ∙ ap (replayed first_moment) events ∙ replayed-more first_moment es (Called call) ∙ ap (after_call call) (sym (moment_at_end n before bytes es was))
 
 pub agrees_empty : (stored : FileNo → File) (bytes : List ℕ) (es : List Event) → ((f : FileNo) → stored f ≡ file_in first_moment.folder f) → bytes ≡ [] → es ≡ [] → Agrees 0 stored bytes es
 unfolding replayed calls_in

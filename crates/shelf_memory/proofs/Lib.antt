@@ -3,3 +3,4 @@ pub mod Events
 pub mod Paths
 pub mod Endings
 pub mod Reached
+pub mod Answered

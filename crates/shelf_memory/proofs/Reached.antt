@@ -1,15 +1,17 @@
 -- What a call leaves of the content of a station in memory.
-use Rattle.std.proofs.Common.{◌≡◌, ◌≢◌, ℕ, ◌+◌, ◌-◌, ◌^◌, ◌<◌, ◌≤◌, min, Bool, true, false, not, List, refl, sym, ap, subst, ◌∙◌, arith}
+use Rattle.std.proofs.Common.{◌++◌, [], append-nil, ◌≡◌, ◌≢◌, ℕ, ◌+◌, ◌-◌, ◌^◌, ◌<◌, ◌≤◌, min, Bool, true, false, not, List, refl, sym, ap, subst, ◌∙◌, arith}
 use Rattle.std.specs.Prelude.{IsTrue, nat_lt, Result, Ok, Err, OnOk, is_err}
 use Rattle.std.specs.declared.alloc.AllocError.{AllocError}
 use Rattle.std.proofs.lemmas.Bool.{ltb-true, lt-ltb}
 use Rattle.shelf_model.specs.declared.file_no.FileNo.{FileNo}
 use Rattle.shelf_model.specs.File.{File}
 use Rattle.shelf_model.specs.World.{World, now, file}
-use Rattle.shelf_model.specs.Calls.{Told, Ticks, SameStation, OnShelf, SameBut}
+use Rattle.shelf_model.specs.Calls.{OnShelf, SameBut, Said}
+use Rattle.shelf_model.specs.declared.fault.Failed.{Failed}
+use Rattle.shelf_memory.proofs.Answered.{on_ok, on_err}
 use Rattle.shelf_memory.specs.declared.bench.Bench.{Bench}
 use Rattle.shelf_memory.specs.declared.disk.Disk.{Disk}
-use Rattle.shelf_memory.specs.Disks.{Stays, StaysBut, Ticked, SameMoment, clock_after}
+use Rattle.shelf_memory.specs.Disks.{StaysBut, Ticked, SameFolder, clock_after}
 use Rattle.shelf_memory.specs.Texts.{raised}
 use Rattle.shelf_memory.specs.Benches.{tells_of, world_in, world_of, file_at}
 use Rattle.shelf_memory.specs.Files.{stored_in}
@@ -73,3 +75,28 @@ reached old d counts f change result tick ticked here others inside strays tells
       present_file d few f ∙ told_ok result old.disk.clock d.clock (stored_in d.files f ≡ change (file_at old f)) tick here few
         ∙ ap change (sym (present_file old.disk before f)),
     )
+
+-- a call that says a piece
+pub said_so : (old : Bench) (d : Disk) (counts : Counts) (piece : List ℕ) (done : Result Unit AllocError) (result : Result Unit Failed)
+    → d.clock ≡ clock_after (is_err done) old.disk.clock → (d.clock < 2 ^ 64 - 1 → Ticked old.disk d) → (d.clock < 2 ^ 64 - 1 → SameFolder old.disk d)
+    → OnOk done (d.said.items ≡ old.disk.said.items ++ piece) → counts.inside ≡ old.counts.inside → counts.strays ≡ old.counts.strays
+    → IsTrue (nat_lt d.clock (2 ^ 64 - 1)) → Said piece result (world_of old) (world_in d old.texts counts)
+said_so old d counts piece done result tick ticked folder more inside strays tells =
+    let few : d.clock < 2 ^ 64 - 1 = ltb-true _ _ tells in
+    let clock : d.clock ≡ old.disk.clock + 1 = (ticked few).clock_is in
+    let before : old.disk.clock < 2 ^ 64 - 1 = omega (arith, few, clock) in
+    let whole : (now (world_in d old.texts counts)).said ≡ (now (world_of old)).said ++ piece =
+        present_said d few ∙ told_ok done old.disk.clock d.clock (d.said.items ≡ old.disk.said.items ++ piece) tick more few
+        ∙ ap (λ bytes. bytes ++ piece) (sym (present_said old.disk before)) in
+    record {
+      elsewhere = record {
+        ticks = record { clock_is = clock; past = (ticked few).past };
+        folder_is = folder few;
+        texts_are = refl;
+        home_is = refl;
+        inside_is = inside;
+        strays_are = strays;
+      };
+      ok = on_ok result _ whole;
+      failed = on_err result _ (piece, [], sym (append-nil piece), whole);
+    }

@@ -24,6 +24,10 @@ pub record Ticked (old new : Disk) : Type 0 where
 abbrev pub SameMoment : Disk → Disk → Type 0
 SameMoment old new = moment_of new.events.items new.clock ≡ moment_of old.events.items old.clock
 
+-- the folder that stands is the one that stood
+abbrev pub SameFolder : Disk → Disk → Type 0
+SameFolder old new = (moment_of new.events.items new.clock).folder ≡ (moment_of old.events.items old.clock).folder
+
 -- the clock after a call: one higher, up to its last value; that is its value where memory was refused
 abbrev pub clock_after : Bool → ℕ → ℕ
 clock_after refused clock = cond refused (2 ^ 64 - 1) (min (clock + 1) (2 ^ 64 - 1))

@@ -17,10 +17,10 @@ ghost use Rattle.std.specs.Prelude.{◌≡◌, ◌+◌, ◌-◌, ◌^◌, ◌<�
 #[derive(Drop)]
 pub struct Bench {
     alloc: Global,
-    disk: Disk,
-    texts: BTreeMap<String, Text>,
-    failures: Failures,
-    counts: Counts,
+    pub(crate) disk: Disk,
+    pub(crate) texts: BTreeMap<String, Text>,
+    pub(crate) failures: Failures,
+    pub(crate) counts: Counts,
     ghost counts_are: { disk.clock < 2 ^ 64 - 1 → (counts.strays ≤ disk.clock) × (counts.starved ≡ 0) },
 }
 

@@ -29,7 +29,7 @@ impl Disk {
     ghost use Rattle.shelf_model.specs.File.{no_file, appended};
     ghost use Rattle.shelf_model.specs.Calls.{longest};
     ghost use Rattle.shelf_memory.specs.Changes.{changed, FitsIn};
-    ghost use Rattle.shelf_memory.specs.Disks.{Stays, StaysBut, Ticked, SameMoment, clock_after};
+    ghost use Rattle.shelf_memory.specs.Disks.{Stays, StaysBut, Ticked, SameMoment, SameFolder, clock_after};
     ghost use Rattle.std.specs.Prelude.{[], ◌++◌, ◌∷◌, vec_len, vec_capacity};
     ghost use Rattle.shelf_memory.specs.declared.event.Event.TheVariants.{Called};
 
@@ -103,6 +103,7 @@ impl Disk {
         ensures files { (q : FileNo) → stored_in self.new.files q ≡ stored_in self.old.files q }
         ensures clock { self.new.clock ≡ clock_after (is_err result) self.old.clock }
         ensures past { self.new.clock < 2 ^ 64 - 1 → Ticked self.old self.new }
+        ensures folder { self.new.clock < 2 ^ 64 - 1 → SameFolder self.old self.new }
     {
         let was = self.clock;
         self.clock = u64::MAX;

@@ -10,6 +10,9 @@ mod disk;
 mod event;
 mod failures;
 mod files;
+mod piece;
+mod shelf;
+mod station;
 mod texts;
 
 pub use bench::Bench;

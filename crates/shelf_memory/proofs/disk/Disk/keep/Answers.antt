@@ -1,5 +1,5 @@
 use Rattle.std.proofs.Common.{◌≡◌, ◌<◌, ◌+◌, ◌++◌, ◌∷◌, [], refl, sym, ap, ◌∙◌, arith}
-use Rattle.shelf_memory.proofs.Events.{agrees_kept, ticked, same_moment}
+use Rattle.shelf_memory.proofs.Events.{agrees_kept, ticked, called_moment}
 use Rattle.shelf_memory.specs.declared.event.Event.TheVariants.{Called}
 use Rattle.shelf_memory.specs.declared.event.Call.TheVariants.{Nothing}
 use Rattle.shelf_memory.proofs.disk.Disk.keep.Goals as goal
@@ -20,4 +20,4 @@ returns-clause-same c = λ counts.
     let clock : c.note.new.self.clock ≡ c.args.self.now.clock + 1 = omega (arith, counts, c.note.ensures.clock) in
     let events : c.note.new.self.events.items ≡ c.args.self.now.events.items ++ Called Nothing ∷ [] =
         c.note.ensures.events counts ∙ ap (λ es. es ++ Called Nothing ∷ []) c.reserve.ensures.items in
-    same_moment _ _ _ _ _ _ _ _ (c.args.self.now.agrees (omega (arith, counts, clock))) (c.note.new.self.agrees counts) events
+    called_moment _ _ _ _ _ _ _ _ Nothing (c.args.self.now.agrees (omega (arith, counts, clock))) (c.note.new.self.agrees counts) events
