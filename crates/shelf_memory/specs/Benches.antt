@@ -1,9 +1,9 @@
 -- What a station in memory tells, and which of its calls fail.
-use Rattle.std.specs.Prelude.{◌≡◌, ℕ, ◌+◌, ◌-◌, ◌^◌, ◌<◌, ◌≤◌, ◌⊎◌, ◌||◌, Bool, IsTrue, nat_lt, min, List, codes, String, Result, OnErr, IsErr}
+use Rattle.std.specs.Prelude.{◌≡◌, ℕ, ◌+◌, ◌-◌, ◌^◌, ◌<◌, ◌≤◌, ◌⊎◌, ◌||◌, Bool, IsTrue, nat_lt, min, false, List, [], codes, String, Result, OnErr, IsErr}
 use Rattle.shelf_model.specs.declared.file_no.FileNo.{FileNo}
 use Rattle.shelf_model.specs.declared.fault.Failed.{Failed}
 use Rattle.shelf_model.specs.File.{File}
-use Rattle.shelf_model.specs.World.{Moment, World}
+use Rattle.shelf_model.specs.World.{World, now}
 use Rattle.shelf_model.specs.Faults.{Faults, Rose}
 use Rattle.std.specs.Global.{Global}
 use Rattle.std.specs.BTreeMap.{BTreeMap}
@@ -91,3 +91,42 @@ pub record FailsExactly {T : Type 0} (Reason : Type 0) (result : Result T Failed
   pub dark : starved_of old < starved_of new → clock_of new ≡ 2 ^ 64 - 1
   pub lists_are : (n : ℕ) → lists new n ≡ lists old n
   pub watch_is : new.failures.watch ≡ seen old.failures.watch (file_at new)
+
+-- a station at its start: nothing was said, no call was made or failed, and none is to fail
+pub record IsFresh (b : Bench) : Type 0 where
+  pub tells : IsTrue (tells_of b)
+  pub clock_is : clock_of b ≡ 0
+  pub said_is : (now (world_of b)).said ≡ []
+  pub kept_is : said_of b ≡ []
+  pub outside : (world_of b).inside ≡ false
+  pub strays_are : (world_of b).strays ≡ 0
+  pub starved_is : starved_of b ≡ 0
+  pub folder_is : (faults_of b).folder ≡ 0
+  pub say_is : (faults_of b).say ≡ 0
+  pub text_is : (path : List ℕ) → (faults_of b).text path ≡ 0
+  pub unlisted : (n : ℕ) → lists b n ≡ false
+  pub unspent : is_spent b ≡ false
+
+-- but for its texts and for what is to fail the station is as it was, its past with it
+pub record StandsStill (old new : Bench) : Type 0 where
+  pub tells_is : tells_of new ≡ tells_of old
+  pub clock_is : clock_of new ≡ clock_of old
+  pub moments_are : (k : ℕ) → (world_of new).moment k ≡ (world_of old).moment k
+  pub now_is : now (world_of new) ≡ now (world_of old)
+  pub inside_is : (world_of new).inside ≡ (world_of old).inside
+  pub strays_are : (world_of new).strays ≡ (world_of old).strays
+  pub files_are : (f : FileNo) → file_at new f ≡ file_at old f
+  pub said_is : said_of new ≡ said_of old
+  pub starved_is : starved_of new ≡ starved_of old
+  pub folder_is : (faults_of new).folder ≡ (faults_of old).folder
+  pub say_is : (faults_of new).say ≡ (faults_of old).say
+  pub text_is : (path : List ℕ) → (faults_of new).text path ≡ (faults_of old).text path
+
+-- the texts are as they were
+abbrev pub SameTexts : Bench → Bench → Type 0
+SameTexts old new = (path : List ℕ) → (world_of new).texts path ≡ (world_of old).texts path
+
+-- the same calls are to fail
+pub record SameFailures (old new : Bench) : Type 0 where
+  pub lists_are : (n : ℕ) → lists new n ≡ lists old n
+  pub watch_is : new.failures.watch ≡ old.failures.watch

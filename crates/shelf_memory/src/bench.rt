@@ -3,7 +3,7 @@ use crate::counts::Counts;
 use crate::disk::Disk;
 use crate::failures::Failures;
 use crate::files::bytes_of;
-use crate::texts::Text;
+use crate::texts::{Text, put_text};
 use shelf_model::{Failed, FileNo};
 use std::alloc::{AllocError, Global};
 use std::collections::BTreeMap;
@@ -25,7 +25,8 @@ pub struct Bench {
 }
 
 impl Bench {
-    ghost use Rattle.std.specs.Prelude.{ℕ, List, [], None, false, IsTrue, ◌≢◌, length, OnOk, OnErr};
+    ghost use Rattle.std.specs.Prelude.{ℕ, List, [], None, Some, false, IsTrue, ◌≢◌, ◌==◌, ◌||◌, length, OnOk, OnErr};
+    ghost use Rattle.std.specs.Bool.{nat_le};
     ghost use Rattle.shelf_model.specs.declared.file_no.FileNo.{FileNo};
     ghost use Rattle.shelf_model.specs.File.{no_file};
     ghost use Rattle.shelf_model.specs.World.{now};
@@ -35,7 +36,85 @@ impl Bench {
     ghost use Rattle.shelf_model.specs.Faults.{OnlyFolder};
     ghost use Rattle.shelf_memory.specs.Changes.{changed, FitsIn};
     ghost use Rattle.shelf_memory.specs.Files.{stored_in};
-    ghost use Rattle.shelf_memory.specs.Benches.{tells_of, world_of, faults_of, clock_of, starved_of, file_at, said_of, lists, is_spent, fails_next, FailsExactly};
+    ghost use Rattle.shelf_memory.specs.Benches.{IsFresh, StandsStill, SameTexts, SameFailures, tells_of, world_of, faults_of, clock_of, starved_of, file_at, said_of, lists, is_spent, fails_next, FailsExactly};
+
+    /// A station with no files, texts or said bytes. It takes no memory.
+    pub fn empty(alloc: Global) -> Bench
+        ensures fresh { IsFresh result }
+        ensures files { (f : FileNo) → file (world_of result) f ≡ no_file }
+        ensures stored { (f : FileNo) → file_at result f ≡ no_file }
+        ensures texts { (path : List ℕ) → (world_of result).texts path ≡ None }
+    {
+        Bench {
+            alloc,
+            disk: Disk::empty(alloc),
+            texts: BTreeMap::new(alloc),
+            failures: Failures::none(alloc),
+            counts: Counts::NONE,
+        }
+    }
+
+    /// Puts a text at a path. Its count of faults is the one that the path had.
+    pub fn put_text(&mut self, path: &str, bytes: &[u8]) -> Result<(), AllocError>
+        ensures ok { OnOk result ((world_of self.new).texts path.now ≡ Some bytes.now) }
+        ensures err { OnErr result (SameTexts self.old self.new) }
+        ensures others { (q : List ℕ) → q ≢ path.now → (world_of self.new).texts q ≡ (world_of self.old).texts q }
+        ensures still { StandsStill self.old self.new }
+        ensures failures { SameFailures self.old self.new }
+    {
+        put_text(self.alloc, &mut self.texts, self.counts.pathless, path, bytes)
+    }
+
+    /// Makes the call of that number fail; the first call has number 0.
+    pub fn fail_at(&mut self, call: u64) -> Result<(), AllocError>
+        ensures ok { OnOk result ((n : ℕ) → lists self.new n ≡ (n == call || lists self.old n)) }
+        ensures err { OnErr result (SameFailures self.old self.new) }
+        ensures watch { self.new.failures.watch ≡ self.old.failures.watch }
+        ensures still { StandsStill self.old self.new }
+        ensures texts { SameTexts self.old self.new }
+    {
+        self.failures.list(call)
+    }
+
+    /// Makes every call fail from that number on.
+    pub fn fail_from(&mut self, call: u64)
+        ensures lists { (n : ℕ) → lists self.new n ≡ (nat_le call n || lists self.old n) }
+        ensures watch { self.new.failures.watch ≡ self.old.failures.watch }
+        ensures still { StandsStill self.old self.new }
+        ensures texts { SameTexts self.old self.new }
+    {
+        self.failures.list_from(call);
+    }
+
+    /// What a read of the whole file gives.
+    pub fn file(&self, f: FileNo) -> &[u8]
+        ensures stored { result.now ≡ (file_at self.now f).bytes }
+        ensures told { IsTrue (tells_of self.now) → result.now ≡ (file (world_of self.now) f).bytes }
+    {
+        bytes_of(&self.disk.files, f)
+    }
+
+    /// All that was said.
+    pub fn said(&self) -> &[u8]
+        ensures kept { result.now ≡ said_of self.now }
+        ensures told { IsTrue (tells_of self.now) → result.now ≡ (now (world_of self.now)).said }
+    {
+        &self.disk.said
+    }
+
+    /// The number of calls that were made, or the last value where nothing is told.
+    pub fn clock(&self) -> u64
+        ensures { result ≡ clock_of self.now }
+    {
+        self.disk.clock
+    }
+
+    /// How often memory was refused in a call.
+    pub fn starved(&self) -> u64
+        ensures { result ≡ starved_of self.now }
+    {
+        self.counts.starved
+    }
 
     /// Whether the next call is to fail.
     pub(crate) fn fails_next(&self) -> bool

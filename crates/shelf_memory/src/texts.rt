@@ -31,6 +31,29 @@ pub fn find_text<'a>(texts: &'a BTreeMap<String, Text>, path: &str) -> Option<&'
     }
 }
 
+/// Puts a text at a path, with the count of faults that the path has.
+pub fn put_text(
+    alloc: Global,
+    texts: &mut BTreeMap<String, Text>,
+    others: u64,
+    path: &str,
+    bytes: &[u8],
+) -> Result<(), AllocError>
+    ensures ok { OnOk result (text_at texts.new path.now ≡ Some bytes.now) }
+    ensures err { OnErr result ((q : List ℕ) → text_at texts.new q ≡ text_at texts.old q) }
+    ensures apart { (q : List ℕ) → q ≢ path.now → text_at texts.new q ≡ text_at texts.old q }
+    ensures counts { (q : List ℕ) → count_at others texts.new q ≡ count_at others texts.old q }
+{
+    let copy = Vec::from_slice(alloc, bytes)?;
+    if let Some(text) = texts.get_mut(path) {
+        text.bytes = copy;
+        return Ok(());
+    }
+    let name = String::from_str(alloc, path)?;
+    texts.insert(name, Text { bytes: copy, faults: others })?;
+    Ok(())
+}
+
 /// Counts a fault at a path: paths without a text share one count.
 pub fn count_fault(texts: &mut BTreeMap<String, Text>, others: &mut u64, path: &str)
     ensures texts { (q : List ℕ) → text_at texts.new q ≡ text_at texts.old q }
