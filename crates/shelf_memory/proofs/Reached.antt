@@ -64,16 +64,15 @@ pub reached : (old : Bench) (d : Disk) (counts : Counts) (f : FileNo) (change : 
     → counts.inside ≡ old.counts.inside → counts.strays ≡ raised (not old.counts.inside) old.counts.strays
     → IsTrue (nat_lt d.clock (2 ^ 64 - 1))
     → OnShelf (world_of old) (world_in d old.texts counts) × SameBut f (world_of old) (world_in d old.texts counts)
-      × (file (world_in d old.texts counts) f ≡ change (file (world_of old) f))
+    × (file (world_in d old.texts counts) f ≡ change (file (world_of old) f))
 reached old d counts f change result tick ticked here others inside strays tells =
     let few : d.clock < 2 ^ 64 - 1 = ltb-true _ _ tells in
     let clock : d.clock ≡ old.disk.clock + 1 = (ticked few).clock_is in
-    let before : old.disk.clock < 2 ^ 64 - 1 = omega (arith, few, clock) in
-    (
+    let before : old.disk.clock < 2 ^ 64 - 1 = omega (arith, few, clock) in (
       on_shelf old d counts (ticked few) few others.said_is inside strays,
       (λ q differ. present_file d few q ∙ others.files_are q differ ∙ sym (present_file old.disk before q)),
       present_file d few f ∙ told_ok result old.disk.clock d.clock (stored_in d.files f ≡ change (file_at old f)) tick here few
-        ∙ ap change (sym (present_file old.disk before f)),
+          ∙ ap change (sym (present_file old.disk before f)),
     )
 
 -- a call that says a piece
@@ -86,8 +85,8 @@ said_so old d counts piece done result tick ticked folder more inside strays tel
     let clock : d.clock ≡ old.disk.clock + 1 = (ticked few).clock_is in
     let before : old.disk.clock < 2 ^ 64 - 1 = omega (arith, few, clock) in
     let whole : (now (world_in d old.texts counts)).said ≡ (now (world_of old)).said ++ piece =
-        present_said d few ∙ told_ok done old.disk.clock d.clock (d.said.items ≡ old.disk.said.items ++ piece) tick more few
-        ∙ ap (λ bytes. bytes ++ piece) (sym (present_said old.disk before)) in
+    present_said d few ∙ told_ok done old.disk.clock d.clock (d.said.items ≡ old.disk.said.items ++ piece) tick more few
+    ∙ ap (λ bytes. bytes ++ piece) (sym (present_said old.disk before)) in
     record {
       elsewhere = record {
         ticks = record { clock_is = clock; past = (ticked few).past };

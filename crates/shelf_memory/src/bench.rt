@@ -1,4 +1,6 @@
-use crate::change::{Change};
+ghost use Rattle.std.specs.Prelude.{◌≡◌, ◌+◌, ◌-◌, ◌^◌, ◌<◌, ◌≤◌};
+
+use crate::change::Change;
 use crate::counts::Counts;
 use crate::disk::Disk;
 use crate::failures::Failures;
@@ -7,8 +9,6 @@ use crate::texts::{Text, put_text};
 use shelf_model::{Failed, FileNo};
 use std::alloc::{AllocError, Global};
 use std::collections::BTreeMap;
-
-ghost use Rattle.std.specs.Prelude.{◌≡◌, ◌+◌, ◌-◌, ◌^◌, ◌<◌, ◌≤◌};
 
 /// A station in memory with one folder, whatever path is entered.
 ///
@@ -62,7 +62,13 @@ impl Bench {
         ensures still { StandsStill self.old self.new }
         ensures failures { SameFailures self.old self.new }
     {
-        put_text(self.alloc, &mut self.texts, self.counts.pathless, path, bytes)
+        put_text(
+            self.alloc,
+            &mut self.texts,
+            self.counts.pathless,
+            path,
+            bytes,
+        )
     }
 
     /// Makes the call of that number fail; the first call has number 0.

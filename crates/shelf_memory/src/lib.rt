@@ -13,6 +13,8 @@ mod files;
 mod piece;
 mod shelf;
 mod station;
+#[cfg(test)]
+mod tests;
 mod texts;
 
 pub use bench::Bench;

@@ -17,7 +17,11 @@ pub fn raise(rises: bool, count: u64) -> u64
     ensures value { result ≡ raised rises count }
     ensures later { count ≤ result }
 {
-    if rises { count.saturating_add(1) } else { count }
+    if rises {
+        count.saturating_add(1)
+    } else {
+        count
+    }
 }
 
 /// The text at a path.
@@ -50,7 +54,13 @@ pub fn put_text(
         return Ok(());
     }
     let name = String::from_str(alloc, path)?;
-    texts.insert(name, Text { bytes: copy, faults: others })?;
+    texts.insert(
+        name,
+        Text {
+            bytes: copy,
+            faults: others,
+        },
+    )?;
     Ok(())
 }
 

@@ -11,24 +11,24 @@ pub returns-in-Some-clause-apart : goal.returns-in-Some-clause-apart
 returns-in-Some-clause-apart c = λ q differ.
     let w : Text = record { bytes = c.in_ok-copy.copy; faults = c.in-Some.text.now.faults } in
     ap (λ o. option_map (λ (t : Text). t.bytes.items) o)
-      (apart_at c.args.texts.now (c.get_mut.follows.lender w) c.args.path.now _ ((c.get_mut.follows.holds w).3 (search rules)) q differ)
+    (apart_at c.args.texts.now (c.get_mut.follows.lender w) c.args.path.now _ ((c.get_mut.follows.holds w).3 (search rules)) q differ)
 
 pub returns-in-Some-clause-counts : goal.returns-in-Some-clause-counts
 returns-in-Some-clause-counts c =
     let w : Text = record { bytes = c.in_ok-copy.copy; faults = c.in-Some.text.now.faults } in
     same_at (λ o. option_map_or (λ (t : Text). t.faults) o c.args.others) c.args.texts.now (c.get_mut.follows.lender w) c.args.path.now _ _
-      ((c.get_mut.follows.holds w).3 (search rules)) (sym c.in-Some.ensures.value) refl
+    ((c.get_mut.follows.holds w).3 (search rules)) (sym c.in-Some.ensures.value) refl
 
 pub returns-clause-apart : goal.returns-clause-apart
 returns-clause-apart c = λ q differ.
     ap (λ o. option_map (λ (t : Text). t.bytes.items) o)
-      (apart_at c.get_mut.follows.lender-at-none c.insert.new.self (string_bytes c.in_ok-name.name) _ c.in_ok-insert.ensures.updates q (λ e. differ (e ∙ c.in_ok-name.ensures.ok)))
+    (apart_at c.get_mut.follows.lender-at-none c.insert.new.self (string_bytes c.in_ok-name.name) _ c.in_ok-insert.ensures.updates q (λ e. differ (e ∙ c.in_ok-name.ensures.ok)))
     ∙ ap (λ m. text_at m q) c.get_mut.follows.holds-at-none
 
 pub returns-clause-counts : goal.returns-clause-counts
 returns-clause-counts c = λ q.
     same_at (λ o. option_map_or (λ (t : Text). t.faults) o c.args.others) c.get_mut.follows.lender-at-none c.insert.new.self (string_bytes c.in_ok-name.name) _ _
-      c.in_ok-insert.ensures.updates
-      (ap (λ m. get_by_text m (string_bytes c.in_ok-name.name)) c.get_mut.follows.holds-at-none ∙ ap (λ bs. get_by_text c.args.texts.now bs) c.in_ok-name.ensures.ok
-        ∙ sym c.in_default.ensures.value) refl q
+    c.in_ok-insert.ensures.updates
+    (ap (λ m. get_by_text m (string_bytes c.in_ok-name.name)) c.get_mut.follows.holds-at-none ∙ ap (λ bs. get_by_text c.args.texts.now bs) c.in_ok-name.ensures.ok
+    ∙ sym c.in_default.ensures.value) refl q
     ∙ ap (λ m. count_at c.args.others m q) c.get_mut.follows.holds-at-none
