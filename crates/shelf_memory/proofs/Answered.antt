@@ -1,11 +1,11 @@
 -- What the calls of a folder in memory owe, from what they did.
-use Rattle.std.proofs.Common.{◌≡◌, ◌≢◌, ◌⊎◌, ℕ, ◌+◌, ◌-◌, ◌^◌, ◌<◌, ◌≤◌, max, Bool, true, false, List, [], ◌++◌, length, refl, sym, ap, subst, ◌∙◌, inl, inr, arith, append-nil}
+use Rattle.std.proofs.Common.{◌≡◌, ◌⊎◌, ℕ, ◌+◌, ◌<◌, ◌≤◌, max, true, false, List, [], length, sym, ap, subst, ◌∙◌, inl, inr, arith, append-nil}
 use Rattle.std.specs.Prelude.{IsTrue, Result, Ok, Err, OnOk, OnErr, IsErr}
 use Rattle.std.proofs.lemmas.Bool.{ltb-true}
 use Rattle.shelf_model.specs.declared.file_no.FileNo.{FileNo}
 use Rattle.shelf_model.specs.declared.fault.Failed.{Failed}
-use Rattle.shelf_model.specs.File.{File, appended, TornAppend}
-use Rattle.shelf_model.specs.World.{World, now, file}
+use Rattle.shelf_model.specs.File.{File, appended}
+use Rattle.shelf_model.specs.World.{now, file}
 use Rattle.shelf_model.specs.Calls.{Told, OnShelf, SameBut, Measured, DidRead, Copied, Appended, longest}
 use Rattle.shelf_model.specs.Faults.{Rose}
 use Rattle.shelf_model.proofs.Files.{same_files}

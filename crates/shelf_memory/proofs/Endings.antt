@@ -1,17 +1,15 @@
 -- How the counts at the end of a call give the causes of its answer.
-use Rattle.std.proofs.Common.{◌≡◌, ◌⊎◌, ℕ, ◌+◌, ◌-◌, ◌^◌, ◌<◌, ◌≤◌, min, Bool, true, false, cond, not, ◌||◌, List, refl, sym, ap, subst, ◌∙◌, inl, inr, arith}
-use Rattle.std.specs.Prelude.{IsTrue, Result, Ok, Err, OnErr, IsErr, is_err, String}
+use Rattle.std.proofs.Common.{◌≡◌, ◌⊎◌, ℕ, ◌+◌, ◌-◌, ◌^◌, ◌<◌, ◌≤◌, min, Bool, true, false, ◌||◌, refl, ap, ◌∙◌, inl, inr, arith}
+use Rattle.std.specs.Prelude.{Result, Ok, Err, OnErr, IsErr, is_err, String}
 use Rattle.std.specs.Global.{Global}
 use Rattle.std.specs.BTreeMap.{BTreeMap}
-use Rattle.shelf_model.specs.File.{File}
 use Rattle.shelf_memory.specs.declared.counts.Counts.{Counts}
 use Rattle.shelf_memory.specs.declared.texts.Text.{Text}
 use Rattle.std.specs.Bool.{Decides}
-use Rattle.std.proofs.lemmas.Bool.{cases_Bool}
 use Rattle.shelf_model.specs.declared.fault.Failed.{Failed}
-use Rattle.shelf_model.specs.Faults.{Faults, Rose, OnlyFolder, OnlySay}
+use Rattle.shelf_model.specs.Faults.{Rose, OnlyFolder}
 use Rattle.shelf_memory.specs.declared.bench.Bench.{Bench}
-use Rattle.shelf_memory.specs.Disks.{clock_after, Stays}
+use Rattle.shelf_memory.specs.Disks.{clock_after}
 use Rattle.shelf_memory.specs.Texts.{raised, count_at}
 use Rattle.shelf_memory.specs.Failures.{seen}
 use Rattle.shelf_memory.specs.Benches.{faults_in, clock_of, starved_of, file_at, lists, SameBytes, FailsExactly}
@@ -75,11 +73,7 @@ only_folder failed result old new texts answer rise more say pathless = record {
   text_is = λ path. ap (λ others. count_at others texts path) pathless;
 }
 
--- what holds after either answer
-pub on_err : {T : Type 0} (result : Result T Failed) (X : Type 0) → X → OnErr result X
-on_err (Ok x) X holds = tt
-on_err (Err e) X holds = holds
-
--- the bytes stay where the files stay, and what was said
-pub same_bytes : (old new : Bench) → Stays old.disk new.disk → SameBytes old new
-same_bytes old new stays = record { files_are = λ f. ap (λ (x : File). x.bytes) (stays.files_are f); said_is = stays.said_is }
+-- what holds where a call failed
+pub on_failure : {T : Type 0} (result : Result T Failed) (X : Type 0) → (IsErr result → X) → OnErr result X
+on_failure (Ok x) X holds = tt
+on_failure (Err e) X holds = holds refl

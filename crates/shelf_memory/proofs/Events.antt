@@ -1,5 +1,5 @@
 -- One event more: the past stays, and what stands follows from what the event did.
-use Rattle.std.proofs.Common.{◌≡◌, ◌≢◌, ℕ, ◌+◌, ◌≤◌, ◌<◌, suc, zero, List, [], ◌∷◌, ◌++◌, refl, sym, ap, subst, ◌∙◌, arith, inl, inr}
+use Rattle.std.proofs.Common.{◌≡◌, ◌≢◌, ℕ, ◌+◌, ◌≤◌, suc, zero, List, [], ◌∷◌, ◌++◌, refl, sym, ap, subst, ◌∙◌, arith, inl, inr}
 use Rattle.shelf_model.specs.declared.file_no.FileNo.{FileNo}
 use Rattle.shelf_model.specs.File.{File}
 use Rattle.shelf_model.specs.Folder.{file_in}
@@ -9,7 +9,7 @@ use Rattle.shelf_model.proofs.Maps.{file_in-insert, file_in-insert_other}
 use Rattle.shelf_memory.specs.Changes.{changed}
 use Rattle.shelf_memory.specs.Events.{with_file, after_call, after, first_moment, replayed, calls_in, first_calls, moment_of}
 use Rattle.shelf_memory.specs.Past.{Agrees, moment_at_end}
-use Rattle.shelf_memory.specs.Disks.{Ticked, SameMoment}
+use Rattle.shelf_memory.specs.Disks.{Ticked}
 use Rattle.shelf_memory.specs.declared.change.Change.{Change}
 use Rattle.shelf_memory.specs.declared.disk.Disk.{Disk}
 use Rattle.shelf_memory.specs.declared.event.Call.{Call}

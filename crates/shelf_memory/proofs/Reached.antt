@@ -1,17 +1,18 @@
 -- What a call leaves of the content of a station in memory.
-use Rattle.std.proofs.Common.{◌++◌, [], append-nil, ◌≡◌, ◌≢◌, ℕ, ◌+◌, ◌-◌, ◌^◌, ◌<◌, ◌≤◌, min, Bool, true, false, not, List, refl, sym, ap, subst, ◌∙◌, arith}
-use Rattle.std.specs.Prelude.{IsTrue, nat_lt, Result, Ok, Err, OnOk, is_err}
+use Rattle.std.proofs.Common.{inl, inr, ◌||◌, ◌++◌, [], append-nil, ◌≡◌, ℕ, ◌+◌, ◌-◌, ◌^◌, ◌<◌, ◌≤◌, min, Bool, true, false, not, List, refl, sym, ap, subst, ◌∙◌, arith}
+use Rattle.std.specs.Prelude.{IsTrue, nat_lt, Result, Ok, Err, OnOk, OnErr, is_err}
 use Rattle.std.specs.declared.alloc.AllocError.{AllocError}
 use Rattle.std.proofs.lemmas.Bool.{ltb-true, lt-ltb}
 use Rattle.shelf_model.specs.declared.file_no.FileNo.{FileNo}
 use Rattle.shelf_model.specs.File.{File}
-use Rattle.shelf_model.specs.World.{World, now, file}
+use Rattle.shelf_model.specs.World.{now, file}
 use Rattle.shelf_model.specs.Calls.{OnShelf, SameBut, Said}
 use Rattle.shelf_model.specs.declared.fault.Failed.{Failed}
 use Rattle.shelf_memory.proofs.Answered.{on_ok, on_err}
 use Rattle.shelf_memory.specs.declared.bench.Bench.{Bench}
 use Rattle.shelf_memory.specs.declared.disk.Disk.{Disk}
-use Rattle.shelf_memory.specs.Disks.{StaysBut, Ticked, SameFolder, clock_after}
+use Rattle.shelf_model.proofs.Numbers.{cases_file}
+use Rattle.shelf_memory.specs.Disks.{Stays, StaysBut, Ticked, SameFolder, clock_after}
 use Rattle.shelf_memory.specs.Texts.{raised}
 use Rattle.shelf_memory.specs.Benches.{tells_of, world_in, world_of, file_at}
 use Rattle.shelf_memory.specs.Files.{stored_in}
@@ -99,3 +100,23 @@ said_so old d counts piece done result tick ticked folder more inside strays tel
       ok = on_ok result _ whole;
       failed = on_err result _ (piece, [], sym (append-nil piece), whole);
     }
+
+-- a change that is to fail leaves the bytes, and so does one for which memory was refused
+pub bytes_kept : (old : Bench) (d : Disk) (f : FileNo) (change : File → File) (fails : Bool) (done : Result Unit AllocError)
+    → (IsTrue fails → (change (file_at old f)).bytes ≡ (file_at old f).bytes) → OnOk done (stored_in d.files f ≡ change (file_at old f)) → OnErr done (Stays old.disk d)
+    → StaysBut f old.disk d → (fails || is_err done) ≡ true → (q : FileNo) → (stored_in d.files q).bytes ≡ (file_at old q).bytes
+bytes_kept old d f change fails (Err e) harmless here refused others failed q = ap (λ (x : File). x.bytes) (refused.files_are q)
+bytes_kept old d f change false (Ok x) harmless here refused others failed q = let wrong : false ≡ true = failed in cc
+bytes_kept old d f change true (Ok x) harmless here refused others failed q = elim (cases_file q f) [
+  | inl same ↦ subst (λ p. (stored_in d.files p).bytes ≡ (file_at old p).bytes) (sym same) (ap (λ (x : File). x.bytes) here ∙ harmless refl)
+  | inr differ ↦ ap (λ (x : File). x.bytes) (others.files_are q differ)
+]
+
+-- and where the content is told, so do those that are told
+pub told_bytes : (old : Bench) (d : Disk) (counts : Counts) → (d.clock < 2 ^ 64 - 1 → Ticked old.disk d) → ((q : FileNo) → (stored_in d.files q).bytes ≡ (file_at old q).bytes)
+    → IsTrue (nat_lt d.clock (2 ^ 64 - 1)) → (q : FileNo) → (file (world_in d old.texts counts) q).bytes ≡ (file (world_of old) q).bytes
+told_bytes old d counts ticked same tells q =
+    let few : d.clock < 2 ^ 64 - 1 = ltb-true _ _ tells in
+    let clock : d.clock ≡ old.disk.clock + 1 = (ticked few).clock_is in
+    let before : old.disk.clock < 2 ^ 64 - 1 = omega (arith, few, clock) in
+    ap (λ (x : File). x.bytes) (present_file d few q) ∙ same q ∙ sym (ap (λ (x : File). x.bytes) (present_file old.disk before q))

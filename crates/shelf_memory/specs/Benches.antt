@@ -3,7 +3,7 @@ use Rattle.std.specs.Prelude.{◌≡◌, ℕ, ◌+◌, ◌-◌, ◌^◌, ◌<◌
 use Rattle.shelf_model.specs.declared.file_no.FileNo.{FileNo}
 use Rattle.shelf_model.specs.declared.fault.Failed.{Failed}
 use Rattle.shelf_model.specs.File.{File}
-use Rattle.shelf_model.specs.World.{World, now}
+use Rattle.shelf_model.specs.World.{World, now, file}
 use Rattle.shelf_model.specs.Faults.{Faults, Rose}
 use Rattle.std.specs.Global.{Global}
 use Rattle.std.specs.BTreeMap.{BTreeMap}
@@ -79,6 +79,7 @@ fails_next b = lists b (clock_of b) || is_spent b
 pub record SameBytes (old new : Bench) : Type 0 where
   pub files_are : (f : FileNo) → (file_at new f).bytes ≡ (file_at old f).bytes
   pub said_is : said_of new ≡ said_of old
+  pub told_are : IsTrue (tells_of new) → (f : FileNo) → (file (world_of new) f).bytes ≡ (file (world_of old) f).bytes
 
 -- a call failed exactly where there is that reason or memory was refused, and then left all bytes as they were
 pub record FailsExactly {T : Type 0} (Reason : Type 0) (result : Result T Failed) (old new : Bench) : Type 0 where

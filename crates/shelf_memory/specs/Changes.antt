@@ -1,5 +1,5 @@
 -- What a change does to a file.
-use Rattle.std.specs.Prelude.{ℕ, ◌+◌, ◌≤◌, min, max, length}
+use Rattle.std.specs.Prelude.{◌+◌, ◌≤◌, min, max, length}
 use Rattle.shelf_model.specs.File.{File, firm_file, appended, cut_to}
 use Rattle.shelf_model.specs.Calls.{longest}
 use Rattle.shelf_memory.specs.declared.change.Change.{Change}

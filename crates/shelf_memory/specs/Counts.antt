@@ -1,5 +1,5 @@
 -- What the end of a call does to the counts.
-use Rattle.std.specs.Prelude.{◌≡◌, ◌≤◌, Bool, true, ◌||◌, ◌&&◌, not, Result, is_err}
+use Rattle.std.specs.Prelude.{◌≡◌, ◌≤◌, Bool, ◌||◌, ◌&&◌, not, Result, is_err}
 use Rattle.shelf_model.specs.declared.fault.Failed.{Failed}
 use Rattle.shelf_memory.specs.declared.counts.Counts.{Counts}
 use Rattle.shelf_memory.specs.Texts.{raised}

@@ -1,9 +1,9 @@
 -- The moments that the events of a station lead through.
-use Rattle.std.specs.Prelude.{ℕ, ◌+◌, suc, zero, List, [], ◌∷◌, ◌++◌}
+use Rattle.std.specs.Prelude.{ℕ, suc, zero, List, [], ◌∷◌, ◌++◌}
 use Rattle.std.specs.FinMap.{insert, empty}
 use Rattle.shelf_model.specs.declared.file_no.FileNo.{FileNo}
 use Rattle.shelf_model.specs.File.{File, firm_file}
-use Rattle.shelf_model.specs.Folder.{Folder, file_in}
+use Rattle.shelf_model.specs.Folder.{file_in}
 use Rattle.shelf_model.specs.World.{Moment}
 use Rattle.shelf_memory.specs.Changes.{changed}
 use Rattle.shelf_memory.specs.declared.event.Call.{Call}

@@ -1,11 +1,11 @@
 -- What holds of the present files of every station in memory that tells its content.
-use Rattle.std.specs.Prelude.{◌≡◌, ℕ, ◌<◌, ◌≤◌, ◌-◌, ◌^◌, IsTrue, length, Option, None, Some}
+use Rattle.std.specs.Prelude.{◌≡◌, ◌<◌, ◌-◌, ◌^◌, IsTrue, Option, None, Some}
 use Rattle.std.proofs.Common.{sym, ap, subst, ◌∙◌, lit≤}
 use Rattle.std.proofs.lemmas.Bool.{ltb-true}
 use Rattle.std.specs.Option.{option_map_or}
 use Rattle.std.specs.BTreeMap.{BTreeMap, get}
 use Rattle.shelf_model.specs.declared.file_no.FileNo.{FileNo}
-use Rattle.shelf_model.specs.File.{File, no_file, IsFile}
+use Rattle.shelf_model.specs.File.{no_file, IsFile}
 use Rattle.shelf_model.specs.Folder.{file_cmp, file_in}
 use Rattle.shelf_model.specs.World.{Moment, file}
 use Rattle.shelf_memory.specs.declared.bench.Bench.{Bench}

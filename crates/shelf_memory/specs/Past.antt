@@ -1,11 +1,10 @@
 -- The present of a station as its events leave it, and the past that they keep.
-use Rattle.std.specs.Prelude.{◌≡◌, ℕ, ◌+◌, ◌<◌, ◌≤◌, suc, zero, List, [], ◌∷◌, ◌++◌, refl}
-use Rattle.std.proofs.Common.{sym, ap, ◌∙◌, arith}
+use Rattle.std.specs.Prelude.{◌≡◌, ℕ, List, [], ◌∷◌, refl}
+use Rattle.std.proofs.Common.{sym, ap, ◌∙◌}
 use Rattle.shelf_model.specs.declared.file_no.FileNo.{FileNo}
 use Rattle.shelf_model.specs.File.{File}
 use Rattle.shelf_model.specs.Folder.{file_in}
-use Rattle.shelf_model.specs.World.{Moment}
-use Rattle.shelf_memory.specs.Events.{after, first_moment, replayed, calls_in, first_calls, moment_of}
+use Rattle.shelf_memory.specs.Events.{first_moment, replayed, calls_in, first_calls, moment_of}
 use Rattle.shelf_memory.specs.declared.event.Event.{Event}
 use Rattle.shelf_memory.specs.declared.event.Event.TheVariants.{Called, Put}
 

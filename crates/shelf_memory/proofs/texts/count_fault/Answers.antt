@@ -1,5 +1,4 @@
-use Rattle.std.proofs.Common.{rules, ap, sym, ◌∙◌, ◌+◌, ◌-◌, ◌^◌, ◌≤◌, ℕ, min, arith, refl, option_map}
-use Rattle.std.specs.Prelude.{Option}
+use Rattle.std.proofs.Common.{rules, ap, sym, refl, option_map}
 use Rattle.std.specs.Option.{option_map_or}
 use Rattle.shelf_memory.specs.declared.texts.Text.{Text}
 use Rattle.shelf_memory.proofs.Paths.{same_at, later_at, apart_at}

@@ -1,5 +1,5 @@
-use Rattle.std.proofs.Common.{rules, refl, sym, ap, ◌∙◌, ◌≡◌, option_map}
-use Rattle.std.specs.Prelude.{Option, string_bytes}
+use Rattle.std.proofs.Common.{rules, refl, sym, ap, ◌∙◌, option_map}
+use Rattle.std.specs.Prelude.{string_bytes}
 use Rattle.std.specs.Option.{option_map_or}
 use Rattle.std.specs.BTreeMap.{get_by_text}
 use Rattle.shelf_memory.specs.declared.texts.Text.{Text}

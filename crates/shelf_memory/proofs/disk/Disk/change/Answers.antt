@@ -1,4 +1,4 @@
-use Rattle.std.proofs.Common.{◌≡◌, ◌<◌, ◌+◌, ◌++◌, ◌∷◌, [], refl, ap, ◌∙◌, arith}
+use Rattle.std.proofs.Common.{◌≡◌, ◌+◌, ◌++◌, ◌∷◌, [], ap, ◌∙◌, arith}
 use Rattle.shelf_memory.proofs.Events.{agrees_changed, ticked}
 use Rattle.shelf_memory.specs.Files.{stored_in}
 use Rattle.shelf_memory.specs.declared.event.Event.TheVariants.{Called}

@@ -1,4 +1,4 @@
-use Rattle.std.proofs.Common.{rules, sym, ◌∙◌}
+use Rattle.std.proofs.Common.{sym, ◌∙◌}
 use Rattle.shelf_model.proofs.Maps.{file_in-empty}
 use Rattle.shelf_memory.proofs.Events.{agrees_empty}
 use Rattle.shelf_memory.proofs.Lookups.{none_stored}

@@ -1,4 +1,4 @@
-use Rattle.std.proofs.Common.{◌≡◌, ◌<◌, ◌+◌, ◌++◌, ◌∷◌, [], refl, sym, ap, ◌∙◌, arith}
+use Rattle.std.proofs.Common.{◌≡◌, ◌+◌, ◌++◌, ◌∷◌, [], ap, ◌∙◌, arith}
 use Rattle.shelf_memory.proofs.Events.{agrees_kept, ticked, called_moment}
 use Rattle.shelf_memory.specs.declared.event.Event.TheVariants.{Called}
 use Rattle.shelf_memory.specs.declared.event.Call.TheVariants.{Nothing}

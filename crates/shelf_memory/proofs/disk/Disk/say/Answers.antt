@@ -1,4 +1,4 @@
-use Rattle.std.proofs.Common.{◌≡◌, ◌<◌, ◌+◌, ◌++◌, ◌∷◌, [], refl, sym, ap, ◌∙◌, arith, rules}
+use Rattle.std.proofs.Common.{◌≡◌, ◌+◌, ◌++◌, ◌∷◌, [], sym, ap, ◌∙◌, arith}
 use Rattle.shelf_model.specs.World.{Moment}
 use Rattle.shelf_memory.proofs.Events.{agrees_said, ticked, called_moment}
 use Rattle.shelf_memory.specs.declared.event.Event.TheVariants.{Called}

@@ -1,5 +1,4 @@
-use Rattle.std.proofs.Common.{◌≡◌, ◌+◌, ◌-◌, ◌<◌, ◌≤◌, max, length, refl, ap, ◌∙◌, inl, inr, arith, false, true}
-use Rattle.shelf_model.specs.Calls.{longest}
+use Rattle.std.proofs.Common.{◌≡◌, length, refl, ap, ◌∙◌, inl, inr, arith, false, true}
 use Rattle.shelf_memory.specs.Benches.{file_at}
 use Rattle.shelf_memory.proofs.Answered.{append_refused, append_torn, append_put, fails_as}
 use Rattle.shelf_memory.proofs.shelf.BenchShelf.append.Goals as goal
