@@ -28,13 +28,13 @@ same_moment path at before after result old new did = λ i. record { folder = di
 
 fetched_then : (path : List ℕ) (at : ℕ) (before after : List ℕ) (result : Result ℕ Failed) (old mid new : World) → OnlyFetched old mid → Fetched path at before after result mid new → OnlyFetched old new
 fetched_then path at before after result old mid new run did = record {
-    moments = goes_on old mid new (λ m. m ≡ now old) run.moments did.elsewhere.ticks
+  moments = goes_on old mid new (λ m. m ≡ now old) run.moments did.elsewhere.ticks
       (same_moment path at before after result mid new did ∙ at_end old mid (λ m. m ≡ now old) run.moments);
-    texts_are = did.elsewhere.texts_are ∙ run.texts_are;
-    home_is = did.elsewhere.home_is ∙ run.home_is;
-    inside_is = did.elsewhere.inside_is ∙ run.inside_is;
-    strays_are = did.elsewhere.strays_are ∙ run.strays_are
-  }
+  texts_are = did.elsewhere.texts_are ∙ run.texts_are;
+  home_is = did.elsewhere.home_is ∙ run.home_is;
+  inside_is = did.elsewhere.inside_is ∙ run.inside_is;
+  strays_are = did.elsewhere.strays_are ∙ run.strays_are;
+}
 
 -- where nothing was read any more, the text is read
 read_all : (path bytes before after : List ℕ) (most count : ℕ) (old mid new : World) → mid.texts ≡ old.texts → IsFront path bytes old
@@ -59,16 +59,16 @@ read_more path bytes before after count old mid new texts front did =
     record {
       there = λ _. ap is_some there;
       same = λ other other_there.
-        let one : text ≡ other = cc in
-        let long : count ≤ length (drop (length bytes) text) = simp length-drop (omega arith) in
-        let piece_long : length (take count (drop (length bytes) text)) ≡ count = length-take-le count (drop (length bytes) text) long in
-        let piece : take count after ≡ take count (drop (length bytes) text) =
-            ap (take count) filled ∙ take_at (take count (drop (length bytes) text)) (drop count before) count piece_long in
-        let both : bytes ++ take count after ≡ take (length bytes + count) text =
-            (λ i. front.same text there i ++ piece i) ∙ sym (take_both (length bytes) count text) in
-        let total : length (bytes ++ take count after) ≡ length bytes + count =
-            length-append bytes (take count after) ∙ ap (λ k. length bytes + k) (ap length piece ∙ piece_long) in
-        both ∙ ap (λ k. take k text) (sym total) ∙ ap (take (length (bytes ++ take count after))) one
+          let one : text ≡ other = cc in
+          let long : count ≤ length (drop (length bytes) text) = simp length-drop (omega arith) in
+          let piece_long : length (take count (drop (length bytes) text)) ≡ count = length-take-le count (drop (length bytes) text) long in
+          let piece : take count after ≡ take count (drop (length bytes) text) =
+          ap (take count) filled ∙ take_at (take count (drop (length bytes) text)) (drop count before) count piece_long in
+          let both : bytes ++ take count after ≡ take (length bytes + count) text =
+          (λ i. front.same text there i ++ piece i) ∙ sym (take_both (length bytes) count text) in
+          let total : length (bytes ++ take count after) ≡ length bytes + count =
+          length-append bytes (take count after) ∙ ap (λ k. length bytes + k) (ap length piece ∙ piece_long) in
+          both ∙ ap (λ k. take k text) (sym total) ∙ ap (take (length (bytes ++ take count after))) one;
     }
 
 module _ {S : Type 0} (tells : S → Bool) (world : S → World) where
@@ -84,11 +84,11 @@ module _ {S : Type 0} (tells : S → Bool) (world : S → World) where
       → IsTrue (tells t) → IsText path most bytes (world old)
   all_is_read path bytes before after at most count old s t at_is so_far call front none some within tells_t =
       read_all path bytes before after most count (world old) (world s) (world t) (so_far.did (call.before tells_t)).texts_are
-        (front (call.before tells_t)) (subst (λ k. Fetched path k before after (Ok count) (world s) (world t)) at_is (call.did tells_t)) none some within
+      (front (call.before tells_t)) (subst (λ k. Fetched path k before after (Ok count) (world s) (world t)) at_is (call.did tells_t)) none some within
 
   pub more_is_read : (path bytes before after : List ℕ) (at count : ℕ) (old s t : S) → at ≡ length bytes
       → Told tells old s (OnlyFetched (world old) (world s)) → Told tells s t (Fetched path at before after (Ok count) (world s) (world t))
       → (IsTrue (tells s) → IsFront path bytes (world old)) → IsTrue (tells t) → IsFront path (bytes ++ take count after) (world old)
   more_is_read path bytes before after at count old s t at_is so_far call front tells_t =
       read_more path bytes before after count (world old) (world s) (world t) (so_far.did (call.before tells_t)).texts_are
-        (front (call.before tells_t)) (subst (λ k. Fetched path k before after (Ok count) (world s) (world t)) at_is (call.did tells_t))
+      (front (call.before tells_t)) (subst (λ k. Fetched path k before after (Ok count) (world s) (world t)) at_is (call.did tells_t))

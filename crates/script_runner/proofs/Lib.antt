@@ -12,3 +12,6 @@ pub mod Front
 pub mod Levels
 pub mod Steps
 pub mod Accepted
+pub mod EnteredRuns
+pub mod Endings
+pub mod PlannedLines

@@ -6,7 +6,6 @@ use Rattle.script_runner.specs.declared.plan.LineEnd.{LineEnd}
 use Rattle.script_runner.specs.Lines.{rise_from}
 use Rattle.script_runner.proofs.Tests.{second_true}
 
-
 -- behind a line of that step the lines still rise from it
 pub rises_behind : (step : ℕ) (lines : List LineEnd) (i : ℕ) (d : LineEnd) → i < length lines → (get_or lines i d).last ≡ step
     → IsTrue (rise_from step (drop i lines)) → IsTrue (rise_from step (drop (i + 1) lines))

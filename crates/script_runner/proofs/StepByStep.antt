@@ -69,19 +69,19 @@ module _ {S : Type 0} (tells : S → Bool) (world : S → World) where
       let parts : whole ≡ piece ++ todo = text_parts n text steps lines plan variables shown ∙ ap (λ p. p ++ todo) (sym piece_is) in
       let remains : (w : World) → Remains whole (piece ++ todo) w w = λ w. ([], record { said_is = sym (append-nil (said w)); text_is = parts }) in
       told tells s t (Said piece result (world s) (world t)) _ call (λ _ did.
-        let ongoing : Ongoing (length steps) whole (world s) (world t) =
-            ongoing_says (length steps) whole piece todo (world s) (world s) (world t) (ongoing_here (length steps) whole (world s)) (remains (world s))
-              (one_piece piece result (world s) (world t) did).0 in
-        (ongoing, at_first result (world s) (world t) ongoing (remains (world s)) (one_piece piece result (world s) (world t) did).1))
+      let ongoing : Ongoing (length steps) whole (world s) (world t) =
+      ongoing_says (length steps) whole piece todo (world s) (world s) (world t) (ongoing_here (length steps) whole (world s)) (remains (world s))
+      (one_piece piece result (world s) (world t) did).0 in
+      (ongoing, at_first result (world s) (world t) ongoing (remains (world s)) (one_piece piece result (world s) (world t) did).1))
     where
       at_first : (r : Result Unit Failed) (old new : World) → Ongoing (length steps) (run_text n steps lines) old new
           → Remains (run_text n steps lines) (piece ++ (flat_map one_node_line lines ++ done_line)) old old
           → OnOk r (said new ≡ said old ++ piece) → OnOk r (AtStep n steps lines 0 lines old new)
       at_first (Ok x) old new ongoing remains saying = record {
-          run = ongoing;
-          remains = remains_less (run_text n steps lines) piece (flat_map one_node_line lines ++ done_line) old old new remains saying;
-          made = λ step none. absurd (omega (arith, none))
-        }
+        run = ongoing;
+        remains = remains_less (run_text n steps lines) piece (flat_map one_node_line lines ++ done_line) old old new remains saying;
+        made = λ step none. absurd (omega (arith, none));
+      }
       at_first (Err e) old new ongoing remains saying = tt
 
   -- a step's file is being made
@@ -91,7 +91,7 @@ module _ {S : Type 0} (tells : S → Bool) (world : S → World) where
       → Told tells old t (Ongoing (length steps) (run_text n steps lines) (world old) (world t))
   making n steps lines rest step old s t within so_far makes =
       told_then tells old s t _ _ _ so_far makes (λ _ at did.
-        ongoing_makes (length steps) step (run_text n steps lines) (flat_map one_node_line rest ++ done_line) (world old) (world s) (world t) within at.run at.remains did)
+      ongoing_makes (length steps) step (run_text n steps lines) (flat_map one_node_line rest ++ done_line) (world old) (world s) (world t) within at.run at.remains did)
 
   -- and is made
   pub made_step : (n : ℕ) (steps : List Planned) (lines rest : List LineEnd) (step : ℕ) (bytes : List ℕ) (old s t : S) → step < length steps
@@ -101,18 +101,18 @@ module _ {S : Type 0} (tells : S → Bool) (world : S → World) where
       → (IsTrue (tells t) → file (world t) (node_file step) ≡ firm_file bytes)
       → Told tells old t (AtStep n steps lines (step + 1) rest (world old) (world t))
   made_step n steps lines rest step bytes old s t within bytes_are so_far makes here = record {
-      before = λ tells_t. so_far.before (makes.before tells_t);
-      did = λ tells_t.
+    before = λ tells_t. so_far.before (makes.before tells_t);
+    did = λ tells_t.
         let at : AtStep n steps lines step rest (world old) (world s) = so_far.did (makes.before tells_t) in
         let run = makes.did tells_t in
         record {
           run = (making n steps lines rest step old s t within so_far makes).did tells_t;
           remains = remains_same (run_text n steps lines) (flat_map one_node_line rest ++ done_line) (world old) (world s) (world t) at.remains run.station.said_is;
           made = made_more n steps step (now (world s)).folder (now (world t)) at.made
-            (ran_end (world s) (world t) (OnlyFile (node_file step) (now (world s)).folder) run)
-            (here tells_t ∙ ap firm_file bytes_are)
-        }
-    }
+              (ran_end (world s) (world t) (OnlyFile (node_file step) (now (world s)).folder) run)
+              (here tells_t ∙ ap firm_file bytes_are);
+        };
+  }
 
   -- lines are being said
   pub saying_lines : (n : ℕ) (steps : List Planned) (lines rest : List LineEnd) (step : ℕ) (old s t : S)
@@ -121,7 +121,7 @@ module _ {S : Type 0} (tells : S → Bool) (world : S → World) where
       → Told tells old t (Ongoing (length steps) (run_text n steps lines) (world old) (world t))
   saying_lines n steps lines rest step old s t so_far says =
       told_then tells old s t _ _ _ so_far says (λ _ at did.
-        ongoing_says (length steps) (run_text n steps lines) (flat_map one_node_line rest) done_line (world old) (world s) (world t) at.run at.remains did)
+      ongoing_says (length steps) (run_text n steps lines) (flat_map one_node_line rest) done_line (world old) (world s) (world t) at.run at.remains did)
 
   -- and some are said
   pub said_lines : (n : ℕ) (steps : List Planned) (lines rest : List LineEnd) (step count : ℕ) (old s t : S)
@@ -130,35 +130,36 @@ module _ {S : Type 0} (tells : S → Bool) (world : S → World) where
       → (IsTrue (tells t) → said (world t) ≡ said (world s) ++ flat_map one_node_line (take count rest))
       → Told tells old t (AtStep n steps lines step (drop count rest) (world old) (world t))
   said_lines n steps lines rest step count old s t so_far says saying = record {
-      before = λ tells_t. so_far.before (says.before tells_t);
-      did = λ tells_t.
+    before = λ tells_t. so_far.before (says.before tells_t);
+    did = λ tells_t.
         let at : AtStep n steps lines step rest (world old) (world s) = so_far.did (says.before tells_t) in
         let did : SaysOnly (flat_map one_node_line rest) (world s) (world t) = says.did tells_t in
         record {
           run = (saying_lines n steps lines rest step old s t so_far says).did tells_t;
           remains = remains_less (run_text n steps lines) (flat_map one_node_line (take count rest)) (flat_map one_node_line (drop count rest) ++ done_line)
-            (world old) (world s) (world t)
-            (subst (λ todo. Remains (run_text n steps lines) todo (world old) (world s)) (lines_parts rest count) at.remains) (saying tells_t);
-          made = made_same n steps step (now (world s)).folder (now (world t)).folder (same_folder (flat_map one_node_line rest) (world s) (world t) did) at.made
-        }
-    }
+              (world old) (world s) (world t)
+              (subst (λ todo. Remains (run_text n steps lines) todo (world old) (world s)) (lines_parts rest count) at.remains) (saying tells_t);
+          made = made_same n steps step (now (world s)).folder (now (world t)).folder (same_folder (flat_map one_node_line rest) (world s) (world t) did) at.made;
+        };
+  }
 
   -- the last line was said, or a front part of it
   pub ended : (n : ℕ) (steps : List Planned) (lines rest : List LineEnd) (piece : List ℕ) (result : Result Unit Failed) (old s t : S) → rest ≡ [] → piece ≡ done_line
       → Told tells old s (AtStep n steps lines (length steps) rest (world old) (world s))
       → Told tells s t (Said piece result (world s) (world t))
       → Told tells old t (Ongoing (length steps) (run_text n steps lines) (world old) (world t)
-          × OnOk result ((said (world t) ≡ said (world old) ++ run_text n steps lines) × AreMade n steps (length steps) (now (world t)).folder))
+      × OnOk result ((said (world t) ≡ said (world old) ++ run_text n steps lines) × AreMade n steps (length steps) (now (world t)).folder))
   ended n steps lines rest piece result old s t none piece_is so_far call =
       told_then tells old s t _ _ _ so_far call (λ _ at did.
-        let todo : flat_map one_node_line rest ++ done_line ≡ piece ++ [] =
-            ap (λ ls. flat_map one_node_line ls ++ done_line) none ∙ sym piece_is ∙ sym (append-nil piece) in
-        let remains : Remains (run_text n steps lines) (piece ++ []) (world old) (world s) =
-            subst (λ rest_text. Remains (run_text n steps lines) rest_text (world old) (world s)) todo at.remains in
-        let says = one_piece piece result (world s) (world t) did in
-        (ongoing_says (length steps) (run_text n steps lines) piece [] (world old) (world s) (world t) at.run remains says.0,
-         at_last result (world old) (world s) (world t) remains says.1
-           (made_same n steps (length steps) (now (world s)).folder (now (world t)).folder (same_folder piece (world s) (world t) says.0) at.made)))
+      let todo : flat_map one_node_line rest ++ done_line ≡ piece ++ [] =
+      ap (λ ls. flat_map one_node_line ls ++ done_line) none ∙ sym piece_is ∙ sym (append-nil piece) in
+      let remains : Remains (run_text n steps lines) (piece ++ []) (world old) (world s) =
+      subst (λ rest_text. Remains (run_text n steps lines) rest_text (world old) (world s)) todo at.remains in
+      let says = one_piece piece result (world s) (world t) did in (
+        ongoing_says (length steps) (run_text n steps lines) piece [] (world old) (world s) (world t) at.run remains says.0,
+        at_last result (world old) (world s) (world t) remains says.1
+            (made_same n steps (length steps) (now (world s)).folder (now (world t)).folder (same_folder piece (world s) (world t) says.0) at.made),
+      ))
     where
       at_last : (r : Result Unit Failed) (first mid new : World) → Remains (run_text n steps lines) (piece ++ []) first mid
           → OnOk r (said new ≡ said mid ++ piece) → AreMade n steps (length steps) (now new).folder
@@ -177,18 +178,18 @@ module _ {S : Type 0} (tells : S → Bool) (world : S → World) where
         moments = ongoing.moments;
         stays = ongoing.stays;
         whole = λ done. absurd (not_done done);
-        made = λ done. absurd (not_done done)
+        made = λ done. absurd (not_done done);
       })
 
   -- a run that did
   pub finished : (n : ℕ) (steps : List Planned) (lines : List LineEnd) (old t : S)
       → Told tells old t (Ongoing (length steps) (run_text n steps lines) (world old) (world t)
-          × ((said (world t) ≡ said (world old) ++ run_text n steps lines) × AreMade n steps (length steps) (now (world t)).folder))
+      × ((said (world t) ≡ said (world old) ++ run_text n steps lines) × AreMade n steps (length steps) (now (world t)).folder))
       → Told tells old t (RunsSteps n steps lines Done (world old) (world t))
   finished n steps lines old t so_far =
       told tells old t _ _ so_far (λ _ both. record {
         moments = both.0.moments;
         stays = both.0.stays;
         whole = λ _. both.1.0;
-        made = λ _. both.1.1
+        made = λ _. both.1.1;
       })

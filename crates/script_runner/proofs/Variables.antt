@@ -20,8 +20,8 @@ use Rattle.script_runner.proofs.Tests.{first_true, second_true, both_true, each_
 variable_follows : (n : ℕ) (text : List ℕ) (before : List Planned) (s : Planned) → IsTrue (is_variable s.step) → IsTrue (may_follow n text before s) → IsTrue (is_variable_of n s.step)
 variable_follows n text before s variable follows =
     elim s.step as (λ step. IsTrue (is_variable step)
-        → IsTrue ((list_all (is_live before) (operands step) && list_all (λ level. nat_lt level n) (levels_of step)) && (has_bits n text step && has_name text s))
-        → IsTrue (is_variable_of n step)) [
+    → IsTrue ((list_all (is_live before) (operands step) && list_all (λ level. nat_lt level n) (levels_of step)) && (has_bits n text step && has_name text s))
+    → IsTrue (is_variable_of n step)) [
       | Const value ↦ λ v f. cc
       | Var level ↦ λ v f. first_true (nat_lt level n) true (second_true true (nat_lt level n && true) (first_true (true && (nat_lt level n && true)) (true && has_name text s) f))
       | Pair op left right ↦ λ v f. cc
@@ -41,10 +41,10 @@ variables_follow : (n : ℕ) (text : List ℕ) (before steps : List Planned) →
 variables_follow n text before [] variables follow = refl
 variables_follow n text before (s ∷ steps) variables follow =
     both_true (is_variable_of n s.step) (list_all (λ (q : Planned). is_variable_of n q.step) steps)
-      (variable_follows n text before s (first_true (is_variable s.step) (are_variables steps) variables)
-        (first_true (may_follow n text before s) (all_may_follow n text (before ++ s ∷ []) steps) follow))
-      (variables_follow n text (before ++ s ∷ []) steps (second_true (is_variable s.step) (are_variables steps) variables)
-        (second_true (may_follow n text before s) (all_may_follow n text (before ++ s ∷ []) steps) follow))
+    (variable_follows n text before s (first_true (is_variable s.step) (are_variables steps) variables)
+    (first_true (may_follow n text before s) (all_may_follow n text (before ++ s ∷ []) steps) follow))
+    (variables_follow n text (before ++ s ∷ []) steps (second_true (is_variable s.step) (are_variables steps) variables)
+    (second_true (may_follow n text before s) (all_may_follow n text (before ++ s ∷ []) steps) follow))
 
 pub variable_at : (n : ℕ) (text : List ℕ) (steps : List Planned) (i : ℕ) (d : Planned) → i < length steps → IsWellFormed n text steps → IsTrue (are_variables steps)
     → IsTrue (is_variable_of n (get_or steps i d).step)
@@ -110,7 +110,7 @@ no_step = record { step = Const false; name_at = 0; name_len = 0 }
 pub one_node : (n : ℕ) (text : List ℕ) (steps : List Planned) (i : ℕ) → i < length steps → IsWellFormed n text steps → IsTrue (are_variables steps) → nodes_in n steps i ≡ 1
 one_node n text steps i within plan variables =
     let found : (level : ℕ) × ((get_or steps i no_step).step ≡ Var level) × (level < n) =
-        level_below n (get_or steps i no_step).step (variable_at n text steps i no_step within plan variables) in
+    level_below n (get_or steps i no_step).step (variable_at n text steps i no_step within plan variables) in
     ap (λ t. length (canon_nodes n t)) (variable_table_in n steps i found.0 no_step within variables found.1)
     ∙ ap length (canon_nodes-var n found.0 found.2)
 
@@ -124,4 +124,4 @@ lines_say_one n text steps (line ∷ lines) plan variables shown =
     let below : IsTrue (nat_lt line.last (length steps)) = second_true (nat_le line.shows line.last) (nat_lt line.last (length steps)) here in
     let within : line.shows < length steps = search (arith, up_to, below) in
     ap₂ (λ a b. a ++ b) (ap (nodes_line line.line) (one_node n text steps line.shows within plan variables))
-      (lines_say_one n text steps lines plan variables (second_true (shows_past (length steps) line) (list_all (shows_past (length steps)) lines) shown))
+    (lines_say_one n text steps lines plan variables (second_true (shows_past (length steps) line) (list_all (shows_past (length steps)) lines) shown))

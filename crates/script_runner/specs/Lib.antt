@@ -9,3 +9,6 @@ pub mod OneFile
 pub mod Running
 pub mod Causes
 pub mod Fetching
+pub mod Status
+pub mod Entered
+pub mod Outcome

@@ -1,11 +1,13 @@
 //! Runs a script on a station: reads the words and the script, makes each step's file and says its line.
 #![tactic(auto)]
 
+mod ending;
 mod fetch;
 mod finish;
 mod line;
 mod make;
 mod plan;
+mod program;
 mod run;
 mod say;
 mod script;
@@ -13,4 +15,5 @@ mod words;
 
 pub use finish::Finish;
 pub use plan::{LineEnd, Plan};
+pub use program::adiar;
 pub use run::run_steps;

@@ -11,25 +11,25 @@ returns-then-count-eq0-clause-text g c =
     let room : 0 < length (take c.min-room.result c.pieces.piece) = grind (arith, common_steps) in
     let within : length c.pieces.bytes.items ≤ c.args.most + 1 = search rules in
     all_is_read g.W.Shelf.tells g.W.Shelf.world c.args.path.now c.pieces.bytes.items _ _ _ c.args.most c.in-Ok.count _ _ _ at
-      c.pieces.invariant.so_far c.in-Ok.ensures.content c.pieces.invariant.front c.if-count-eq0.true room within
+    c.pieces.invariant.so_far c.in-Ok.ensures.content c.pieces.invariant.front c.if-count-eq0.true room within
 
 pub pieces-preserved : goal.pieces-preserved
 pieces-preserved g c =
     let at : c.len-in-pieces-2.result ≡ length c.pieces.bytes.items = search rules in
     let short : c.in-Ok.count ≤ length c.fetch.new.buf = grind (arith, common_steps) in
     let items : c.extend_from_slice.new.self.items ≡ c.pieces.bytes.items ++ take c.in-Ok.count c.fetch.new.buf =
-        c.in_ok-extend_from_slice.ensures.items
-        ∙ ap (λ piece. c.pieces.bytes.items ++ piece) (take-append-le c.in-Ok.count c.fetch.new.buf (drop c.min-room.result c.pieces.piece) short) in
+    c.in_ok-extend_from_slice.ensures.items
+    ∙ ap (λ piece. c.pieces.bytes.items ++ piece) (take-append-le c.in-Ok.count c.fetch.new.buf (drop c.min-room.result c.pieces.piece) short) in
     record {
       so_far = fetched_on g.W.Shelf.tells g.W.Shelf.world c.args.path.now _ _ _ _ _ _ _ c.pieces.invariant.so_far c.in-Ok.ensures.content;
       front = λ tells_now. subst (λ bytes. IsFront c.args.path.now bytes (g.W.Shelf.world c.args.station.now)) (sym items)
           (more_is_read g.W.Shelf.tells g.W.Shelf.world c.args.path.now c.pieces.bytes.items _ _ _ c.in-Ok.count _ _ _ at
-            c.pieces.invariant.so_far c.in-Ok.ensures.content c.pieces.invariant.front tells_now);
+          c.pieces.invariant.so_far c.in-Ok.ensures.content c.pieces.invariant.front tells_now);
       within = grind (arith, common_steps);
       room = grind (arith, common_steps);
       faults = record {
         folder_is = c.in-Ok.ensures.faults.folder_is ∙ c.pieces.invariant.faults.folder_is;
         say_is = c.in-Ok.ensures.faults.say_is ∙ c.pieces.invariant.faults.say_is;
-        text_later = λ path. let before = c.pieces.invariant.faults.text_later path in let after = c.in-Ok.ensures.faults.later path in omega (arith, before, after)
-      }
+        text_later = λ path. let before = c.pieces.invariant.faults.text_later path in let after = c.in-Ok.ensures.faults.later path in omega (arith, before, after);
+      };
     }

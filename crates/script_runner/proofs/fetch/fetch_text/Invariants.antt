@@ -11,7 +11,7 @@ invariant-pieces g l = record {
   front : IsTrue (g.W.Shelf.tells l.station) → IsFront l.path l.bytes.items (g.W.Shelf.world l.fn.station);
   within : vec_len l.bytes ≤ l.most + 1;
   room : length l.piece ≡ 2048;
-  faults : OnlyTexts (g.W.Shelf.faults l.fn.station) (g.W.Shelf.faults l.station)
+  faults : OnlyTexts (g.W.Shelf.faults l.fn.station) (g.W.Shelf.faults l.station);
 }
 
 abbrev pub decreases-pieces : goal.decreases-pieces

@@ -1,0 +1,39 @@
+ghost use Rattle.std.specs.Prelude.{◌≡◌};
+
+/// How a call of the program ended.
+#[derive(Clone, Copy, Debug, PartialEq, Eq)]
+pub(crate) enum Ending {
+    /// All was done.
+    Done,
+    /// The words aren't accepted.
+    Usage,
+    /// The script isn't accepted.
+    Script,
+    /// The script can't be fetched.
+    TextFault,
+    /// A call of the folder failed.
+    FolderFault,
+    /// A line couldn't be said.
+    SayFault,
+    /// There was no memory for the script, the plan or the room.
+    NoMemory,
+}
+
+impl Ending {
+    ghost use Rattle.script_runner.specs.Status.{status_of};
+
+    /// The exit status of the program.
+    pub fn status(self) -> u8
+        ensures { result ≡ status_of self }
+    {
+        match self {
+            Ending::Done => 0,
+            Ending::Usage => 2,
+            Ending::Script => 3,
+            Ending::TextFault => 6,
+            Ending::FolderFault => 7,
+            Ending::SayFault => 8,
+            Ending::NoMemory => 9,
+        }
+    }
+}

@@ -1,0 +1,141 @@
+ghost use Rattle.std.specs.Prelude.{◌≡◌, ◌≢◌, ◌⊎◌, ◌<◌, ◌≤◌, ◌++◌, length, map, string_bytes, IsTrue, IfOk};
+ghost use Rattle.bool_tables.specs.Plans.{IsWellFormed};
+ghost use Rattle.shelf_model.specs.World.{said};
+ghost use Rattle.shelf_model.specs.Calls.{Told};
+ghost use Rattle.script_runner.specs.Lines.{AreLines};
+ghost use Rattle.script_runner.specs.Built.{are_variables};
+ghost use Rattle.script_runner.specs.Running.{SaysOnly};
+ghost use Rattle.script_runner.specs.Status.{status_of};
+ghost use Rattle.script_runner.specs.Outcome.{Ends, ByWords, StatusHasCause};
+ghost use Rattle.script_runner.specs.Entered.{RunsIn, EndsRun, EndingHasCause};
+
+use crate::ending::Ending;
+use crate::fetch::{FetchFault, fetch_text};
+use crate::script::{ScriptRefusal, read_script};
+use crate::words::read_words;
+use crate::{Finish, Plan, run_steps};
+
+/// The most bytes that a script has.
+const MOST_SCRIPT: usize = 1_048_576;
+
+/// The records of a run's room.
+const BUDGET: usize = 262_144;
+
+/// What is said where the words aren't accepted.
+const USAGE: &[u8] = b"usage: adiar ACTION FOLDER [options]\n";
+
+/// What is said where the script isn't accepted.
+const REFUSED: &[u8] = b"script: line 0: Word\n";
+
+use rec_words::Rec;
+use shelf_model::Station;
+use std::alloc::{AllocError, Global};
+
+/// Says a line of refusal, and answers the ending that it stands for, unless it couldn't be said.
+fn say_refusal<W: Station>(line: &[u8], ending: Ending, station: &mut W) -> Ending
+    requires small { (0 < length line.now) × (length line.now ≤ 2048) }
+    requires refusal { (ending ≡ Ending.Usage) ⊎ (ending ≡ Ending.Script) }
+    ensures content { Told W.tells station.old station.new (SaysOnly line.now (W.world station.old) (W.world station.new)) }
+    ensures whole { result ≡ ending → IsTrue (W.tells station.new) → said (W.world station.new) ≡ said (W.world station.old) ++ line.now }
+    ensures which { (result ≡ ending) ⊎ (result ≡ Ending.SayFault) }
+    ensures cause { EndingHasCause (W.faults station.old) (W.faults station.new) result }
+{
+    match station.say(line) {
+        Ok(()) => ending,
+        Err(_) => Ending::SayFault,
+    }
+}
+
+/// Enters the folder and runs the plan there.
+fn run_plan<W: Station>(
+    folder: &str,
+    text: &[u8],
+    plan: &Plan,
+    room: &mut [Rec],
+    station: &mut W,
+) -> Ending
+    requires plan { IsWellFormed plan.now.n text.now plan.now.steps }
+    requires lines { AreLines plan.now.steps plan.now.lines }
+    requires built { IsTrue (are_variables plan.now.steps) }
+    requires room { (16384 ≤ length room.old) × (length room.old ≤ 4194304) }
+    ensures content { Told W.tells station.old station.new
+        (RunsIn folder.now plan.now.n plan.now.steps plan.now.lines result (W.world station.old) (W.world station.new)) }
+    ensures which { EndsRun result }
+    ensures cause { EndingHasCause (W.faults station.old) (W.faults station.new) result }
+{
+    let Ok(()) = station.enter(folder) else {
+        return Ending::FolderFault;
+    };
+    // No job is stored yet.
+    let finish = run_steps(
+        plan.n,
+        text,
+        plan.steps.items(),
+        plan.lines.items(),
+        &[],
+        room,
+        station,
+    );
+    match finish {
+        Finish::Done => Ending::Done,
+        Finish::FolderFault => Ending::FolderFault,
+        Finish::SayFault => Ending::SayFault,
+    }
+}
+
+/// Does what the words ask for.
+fn answer<W: Station>(alloc: Global, words: &[String], station: &mut W) -> Ending
+    ensures content { Told W.tells station.old station.new
+        (Ends (map string_bytes words.now) (status_of result) (W.world station.old) (W.world station.new)) }
+    ensures by_words { ByWords (map string_bytes words.now) (status_of result) }
+    ensures causes { StatusHasCause (map string_bytes words.now) (status_of result) (W.faults station.old) (W.faults station.new) }
+{
+    let Some(named) = read_words(words) else {
+        return say_refusal(USAGE, Ending::Usage, station);
+    };
+    let text = match fetch_text(alloc, named.script, MOST_SCRIPT, station) {
+        Ok(text) => text,
+        Err(FetchFault::Memory) => return Ending::NoMemory,
+        Err(FetchFault::Text) => return Ending::TextFault,
+    };
+    let plan = match read_script(alloc, &text) {
+        Ok(plan) => plan,
+        Err(ScriptRefusal::Memory) => return Ending::NoMemory,
+        Err(ScriptRefusal::Word) => return say_refusal(REFUSED, Ending::Script, station),
+    };
+    let Ok(mut room) = take_room(alloc) else {
+        return Ending::NoMemory;
+    };
+    run_plan(named.folder, &text, &plan, &mut room, station)
+}
+
+/// The room of a run.
+fn take_room(alloc: Global) -> Result<Vec<Rec>, AllocError>
+    ensures { IfOk result (λ room. length room.items ≡ 262144) }
+{
+    vec![in alloc; Rec { w: [0; 8] }; BUDGET]
+}
+
+/// The program: does what the words ask for, the first of which is the program's own name, and answers
+/// its exit status.
+///
+/// `run FOLDER --script FILE` makes the node file of each step of the script in the folder, and says its
+/// line. All memory is taken before the folder is entered.
+///
+/// | status | comes | said at the end |
+/// |---|---|---|
+/// | 0 | all was done | `done` |
+/// | 2 | the words aren't accepted | the usage |
+/// | 3 | the script isn't accepted | `script: line 0: Word` |
+/// | 6 | the script couldn't be fetched | |
+/// | 7 | a call of the folder failed | |
+/// | 8 | a line couldn't be said | |
+/// | 9 | there was no memory | |
+pub fn adiar<W: Station>(alloc: Global, words: &[String], station: &mut W) -> u8
+    ensures content { Told W.tells station.old station.new
+        (Ends (map string_bytes words.now) result (W.world station.old) (W.world station.new)) }
+    ensures by_words { ByWords (map string_bytes words.now) result }
+    ensures causes { StatusHasCause (map string_bytes words.now) result (W.faults station.old) (W.faults station.new) }
+{
+    answer(alloc, words, station).status()
+}
