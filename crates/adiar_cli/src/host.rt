@@ -128,11 +128,12 @@ impl<R: Files + Print + Clone + Drop> Station for HostStation<R> {
 }
 
 impl<R: Files + Print + Clone + Drop> HostStation<R> {
-    ghost use Rattle.std.specs.Prelude.{◌≡◌, min, ◌+◌, ◌-◌, ◌^◌};
+    ghost use Rattle.std.specs.Prelude.{◌≡◌, ◌≤◌, min, ◌+◌, ◌-◌, ◌^◌};
 
     /// Counts a fault of the folder, and lets go of the file, whose handle doesn't tell where it stands.
     fn folder_failed(&mut self, f: FileNo) -> Failed
-        ensures folder { self.new.folder_faults ≡ min (self.old.folder_faults + 1) (2 ^ 64 - 1) }
+        ensures later { self.old.folder_faults ≤ self.new.folder_faults }
+        ensures folder { min (self.old.folder_faults + 1) (2 ^ 64 - 1) ≤ self.new.folder_faults }
         ensures say { self.new.say_faults ≡ self.old.say_faults }
         ensures text { self.new.text_faults ≡ self.old.text_faults }
     {
