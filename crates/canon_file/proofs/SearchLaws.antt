@@ -1,7 +1,8 @@
 -- binary searches among ascending rows
 use Rattle.std.specs.Prelude.{◌≡◌, ◌⊎◌, ℕ, zero, suc, ◌<◌, ◌≤◌, ◌==◌, true, false, cond, ◌&&◌, List, [], ◌∷◌, length, get_or, insert}
-use Rattle.std.specs.List.{AllWithin}
-use Rattle.std.specs.List.Sorted.{IsNonDecreasingBy}
+use Rattle.std.specs.Prelude.{nat_lt, Result, Ok, Err, IsOk}
+use Rattle.std.specs.List.{AllWithin, HoldsAt}
+use Rattle.std.specs.List.Sorted.{IsNonDecreasingBy, IsBinarySearchResult, IsSearchInRange, IsPartitionPoint}
 use Rattle.std.specs.Ordering.{nat_cmp, ordering_then, ordering_index}
 use Rattle.std.specs.declared.cmp.Ordering.{Ordering}
 use Rattle.std.specs.declared.cmp.Ordering.TheVariants.{Less, Equal, Greater}
@@ -12,7 +13,7 @@ use Rattle.canon_file.specs.Members.{Has, IsAscending, put}
 use Rattle.canon_file.specs.Rows.{row_before, place_of}
 use Rattle.canon_file.proofs.MemberLaws.{either_bit, put_ascends, put_keeps, has_put, same_ascending}
 use Rattle.canon_file.proofs.RowLaws.{same_row, row_order}
-use Rattle.canon_file.proofs.StandLaws.{words_same}
+use Rattle.canon_file.proofs.StandLaws.{words_same, placed}
 
 -- how a row compares
 abbrev pub row_cmp : Row → Row → Ordering
@@ -90,3 +91,43 @@ place_at (r ∷ rs) x d (suc k) a l e =
     let before : row_before r x ≡ true = subst (λ y. row_before r y ≡ true) e (a.0 (get_or rs k d) (has_at rs k d (omega arith))) in
     let other : ((x.low == r.low) && (x.high == r.high)) ≡ false = grind (arith, nat_tests) in
     (λ j. cond (other j) 0 (suc (place_of x rs))) ∙ ap suc (place_at rs x d k a.1 (omega arith) e)
+
+-- what a search finds is the row
+pub search_ok : (rs : List Row) (x d : Row) (k : ℕ) → HoldsAt (λ r. row_cmp r x ≡ Equal) rs k → get_or rs k d ≡ x
+search_ok rs x d k h = equal_same (get_or rs k d) x (h d)
+
+itself_equal : (x : Row) → row_cmp x x ≡ Equal
+itself_equal x = grind (arith, nat_tests)
+
+-- a row that is there is found
+pub search_found : (rs : List Row) (x : Row) (r : Result ℕ ℕ) → IsAscending row_before rs → Has x rs → IsBinarySearchResult (λ y. row_cmp y x) rs r → IsOk r
+search_found rs x (Ok k) a h s = refl
+search_found rs x (Err k) a h s =
+    let (below, here) = placed x rs x h in
+    let split = s (rises rs x a) in
+    let same : row_cmp (get_or rs (place_of x rs) x) x ≡ Equal = ap (λ y. row_cmp y x) here ∙ itself_equal x in
+    elim (either_bit (nat_lt (place_of x rs) k)) [
+      | inl e ↦ (let less : row_cmp (get_or rs (place_of x rs) x) x ≡ Less = split.0 (place_of x rs) x (omega arith) (grind (arith, nat_tests)) in cc)
+      | inr e ↦ (let greater : row_cmp (get_or rs (place_of x rs) x) x ≡ Greater = split.1 (place_of x rs) x (grind (arith, nat_tests)) below in cc)
+    ]
+
+-- and its place is given
+pub search_place : (rs : List Row) (x : Row) (r : Result ℕ ℕ) (k : ℕ) → IsAscending row_before rs → r ≡ Ok k
+    → IsSearchInRange r (length rs) → IsBinarySearchResult (λ y. row_cmp y x) rs r → place_of x rs ≡ k
+search_place rs x r k a e bound found =
+    let below : k < length rs = subst (λ q. IsSearchInRange q (length rs)) e bound in
+    let here = subst (IsBinarySearchResult (λ y. row_cmp y x) rs) e found in
+    place_at rs x x k a below (search_ok rs x x k here)
+
+-- where a search finds no row, it says where to put it
+pub put_searched : (seen rs more : List Row) (x : Row) (k : ℕ) → seen ≡ rs → IsAscending row_before rs → k ≤ length seen
+    → IsBinarySearchResult (λ y. row_cmp y x) seen (Err k) → more ≡ insert rs k x → more ≡ put row_before x rs
+put_searched seen rs more x k same a l s put_in =
+    let split = subst (λ l. IsPartitionPoint (λ y. row_cmp y x ≡ Less) (λ y. row_cmp y x ≡ Greater) l k) same (s (rises seen x (subst (IsAscending row_before) (sym same) a))) in
+    put_in ∙ insert_puts rs x k (subst (λ l. k ≤ length l) same l) split.0 split.1
+
+-- a row that it finds is not put again
+pub put_found : (seen rs : List Row) (x : Row) (k : ℕ) → seen ≡ rs → IsAscending row_before rs → k < length seen
+    → HoldsAt (λ y. row_cmp y x ≡ Equal) seen k → rs ≡ put row_before x rs
+put_found seen rs x k same a l h =
+    sym (put_same rs x a (subst (Has x) same (subst (λ y. Has y seen) (search_ok seen x x k h) (has_at seen k x l))))

@@ -6,7 +6,7 @@ ghost use Rattle.canon_file.specs.Variables.{var_table};
 use rec_words::Ptr;
 
 /// The number of the first row of a level.
-const TOP: u64 = (1 << 47) - 1;
+pub const TOP: u64 = (1 << 47) - 1;
 
 /// The canonical file of the variable of a level among `n` variables: its node, and the trailer.
 pub fn var_file(level: u16, n: u32) -> [u8; 48]

@@ -1,0 +1,118 @@
+use crate::{plain_canon, var_file};
+use std::test::Fail;
+
+/// The truth values' pointers.
+const ZERO: u64 = 0x8000_0000_0000_0000;
+
+const ONE: u64 = 0x8000_0000_0000_0001;
+
+/// The first node of each of three levels, and the next one of the second level.
+const LEVEL_0: u64 = 0x0000_7fff_ffff_ffff;
+
+const LEVEL_1: u64 = 0x0000_ffff_ffff_ffff;
+
+const LEVEL_1_NEXT: u64 = 0x0000_ffff_ffff_fffe;
+
+const LEVEL_2: u64 = 0x0001_7fff_ffff_ffff;
+
+fn bytes_of_words(rt: HostRuntime, words: &[u64]) -> Result<Vec<u8>, Fail> {
+    let mut bytes = Vec::new(rt.alloc());
+    for word in words {
+        bytes.extend_from_slice(&word.to_be_bytes())?;
+    }
+    Ok(bytes)
+}
+
+/// A table of three variables from its eight values, the first as the highest bit.
+fn values(bits: u8) -> [bool; 8] {
+    [
+        bits & 128 != 0,
+        bits & 64 != 0,
+        bits & 32 != 0,
+        bits & 16 != 0,
+        bits & 8 != 0,
+        bits & 4 != 0,
+        bits & 2 != 0,
+        bits & 1 != 0,
+    ]
+}
+
+#[test]
+fn makes_the_files_of_two_variables(rt: HostRuntime) -> Result<(), Fail> {
+    let cases: [(&str, [bool; 4], &[u64]); 4] = [
+        ("0", [false, false, false, false], &[ZERO, 0, 2]),
+        (
+            "a and b",
+            [false, false, false, true],
+            &[LEVEL_1, ZERO, ONE, LEVEL_0, ZERO, LEVEL_1, LEVEL_0, 2, 2],
+        ),
+        (
+            "a xor b",
+            [false, true, true, false],
+            &[
+                LEVEL_1,
+                ZERO,
+                ONE,
+                LEVEL_1_NEXT,
+                ONE,
+                ZERO,
+                LEVEL_0,
+                LEVEL_1,
+                LEVEL_1_NEXT,
+                LEVEL_0,
+                3,
+                2,
+            ],
+        ),
+        (
+            "not (a and b)",
+            [true, true, true, false],
+            &[LEVEL_1, ONE, ZERO, LEVEL_0, ONE, LEVEL_1, LEVEL_0, 2, 2],
+        ),
+    ];
+    for (name, table, words) in cases {
+        let bytes = plain_canon(rt.alloc(), 2, &table)?;
+        assert_eq!(rt;
+            bytes.as_slice(),
+            bytes_of_words(rt, words)?.as_slice(),
+            "{name}"
+        );
+    }
+    Ok(())
+}
+
+#[test]
+fn makes_the_files_of_three_variables(rt: HostRuntime) -> Result<(), Fail> {
+    let cases: [(&str, u8, &[u64]); 3] = [
+        ("b", 0b0011_0011, &[LEVEL_1, ZERO, ONE, LEVEL_1, 1, 3]),
+        (
+            "b and c",
+            0b0001_0001,
+            &[LEVEL_2, ZERO, ONE, LEVEL_1, ZERO, LEVEL_2, LEVEL_1, 2, 3],
+        ),
+        (
+            "if a then b and c else c",
+            0b0101_0001,
+            &[
+                LEVEL_2, ZERO, ONE, LEVEL_1, ZERO, LEVEL_2, LEVEL_0, LEVEL_2, LEVEL_1, LEVEL_0, 3,
+                3,
+            ],
+        ),
+    ];
+    for (name, bits, words) in cases {
+        let bytes = plain_canon(rt.alloc(), 3, &values(bits))?;
+        assert_eq!(rt;
+            bytes.as_slice(),
+            bytes_of_words(rt, words)?.as_slice(),
+            "{name}"
+        );
+    }
+    Ok(())
+}
+
+#[test]
+fn makes_the_file_of_a_variable(rt: HostRuntime) -> Result<(), Fail> {
+    let words = bytes_of_words(rt, &[LEVEL_1, ZERO, ONE, LEVEL_1, 1, 3])?;
+    assert_eq!(rt; var_file(1, 3).as_slice(), words.as_slice());
+    Ok(())
+}
