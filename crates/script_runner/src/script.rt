@@ -13,7 +13,7 @@ mod planning;
 mod reading;
 
 /// The most bytes that a script may have.
-const MOST_BYTES: usize = 1_048_576;
+pub(crate) const MOST_BYTES: usize = 1_048_576;
 
 /// Why a script gives no plan.
 #[derive(Clone, Copy, Debug, PartialEq, Eq, Error)]

@@ -5,8 +5,8 @@ ghost use Rattle.script_runner.specs.Script.{IsWord, first_line, request_line, s
 ghost use Rattle.script_runner.specs.Plans.{steps_from, lines_from, plan_of};
 ghost use Rattle.script_runner.specs.Reading.{HasWords, texts, request_of, requests_of, level_in, step_at, script_of, Fits};
 
-use super::ScriptRefusal;
 use super::reading::RequestLine;
+use super::{MOST_BYTES, ScriptRefusal};
 use crate::plan::{LineEnd, Plan};
 use bool_tables::{Items, Planned, Step};
 use std::alloc::{AllocError, Global};
@@ -26,7 +26,7 @@ fn levels_of<'a>(
     alloc: Global,
     names: &[&'a [u8]],
 ) -> Result<BTreeMap<&'a [u8], u32>, ScriptRefusal>
-    requires { length names.now ≤ 1048576 }
+    requires { length names.now ≤ MOST_BYTES }
     ensures levels { IfOk result (λ levels. (name : List ℕ)
         → level_in levels name ≡ level_of (texts names.now) name) }
     ensures differ { OnOk result (IsDistinct bytes_eq (texts names.now)) }
@@ -43,7 +43,7 @@ fn levels_of<'a>(
 }
 
 fn step_of(levels: &BTreeMap<&[u8], u32>, request: &RequestLine<'_>, at: usize) -> Option<Planned>
-    requires { at ≤ 1048576 }
+    requires { at ≤ MOST_BYTES }
     ensures { result
         ≡ step_at (level_in levels.now request.now.variable.now) at (request_of request.now) }
 {
@@ -59,7 +59,7 @@ fn step_of(levels: &BTreeMap<&[u8], u32>, request: &RequestLine<'_>, at: usize) 
 }
 
 fn line_len(request: &RequestLine<'_>) -> usize
-    requires { length (request_line (request_of request.now)) ≤ 1048576 }
+    requires { length (request_line (request_of request.now)) ≤ MOST_BYTES }
     ensures { result ≡ length (request_line (request_of request.now)) }
 {
     request.name.len() + request.variable.len() + LINE_MARKS
@@ -72,9 +72,9 @@ fn steps_of<'a>(
     requests: &[RequestLine<'a>],
     at: usize,
 ) -> Result<Vec<Planned>, ScriptRefusal>
-    requires few { length names.now ≤ 1048576 }
+    requires few { length names.now ≤ MOST_BYTES }
     requires words { AllByRecursion HasWords (requests_of requests.now) }
-    requires room { at + length (flat_map request_line (requests_of requests.now)) ≤ 1048576 }
+    requires room { at + length (flat_map request_line (requests_of requests.now)) ≤ MOST_BYTES }
     ensures steps { IfOk result (λ steps. steps.items
         ≡ steps_from (texts names.now) at (requests_of requests.now)) }
     ensures fits { OnOk result (Fits (texts names.now) (requests_of requests.now)) }
@@ -100,7 +100,7 @@ fn names_of<'a>(alloc: Global, requests: &[RequestLine<'a>]) -> Result<Vec<&'a [
 
 /// Refuses requests two of which have one name.
 fn check_names(alloc: Global, requests: &[RequestLine<'_>]) -> Result<(), ScriptRefusal>
-    requires { length requests.now ≤ 1048576 }
+    requires { length requests.now ≤ MOST_BYTES }
     ensures ok { OnOk result (IsDistinct bytes_eq (map (λ r. r.name) (requests_of requests.now))) }
     ensures refused { IsErrOf result ScriptRefusal.Word
         → ¬ (IsDistinct bytes_eq (map (λ r. r.name) (requests_of requests.now))) }
@@ -112,7 +112,7 @@ fn check_names(alloc: Global, requests: &[RequestLine<'_>]) -> Result<(), Script
 
 /// The said lines of so many steps, one after each.
 fn lines_of(alloc: Global, count: usize) -> Result<Vec<LineEnd>, AllocError>
-    requires { count ≤ 1048576 }
+    requires { count ≤ MOST_BYTES }
     ensures { IfOk result (λ lines. lines.items ≡ lines_from 0 count) }
 {
     let mut lines = Vec::new(alloc);
@@ -136,7 +136,7 @@ pub(crate) fn plan_for<'a>(
     requires variables { AllByRecursion IsWord (texts names.now) }
     requires words { AllByRecursion HasWords (requests_of requests.now) }
     requires first { first_line_len ≡ length (first_line (texts names.now)) }
-    requires short { length (spelling (script_of names.now requests.now)) ≤ 1048576 }
+    requires short { length (spelling (script_of names.now requests.now)) ≤ MOST_BYTES }
     ensures script { OnOk result (IsScript (script_of names.now requests.now)) }
     ensures plan { IfOk result (λ plan. plan ≡ plan_of (script_of names.now requests.now)) }
     ensures refused { IsErrOf result ScriptRefusal.Word
