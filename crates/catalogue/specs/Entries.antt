@@ -1,0 +1,33 @@
+-- The entry of a committed step, and its bytes.
+use Rattle.std.specs.Prelude.{◌≡◌, ℕ, ◌≤◌, ◌<◌, ◌^◌, ◌⊎◌, List, [], ◌∷◌, ◌++◌, length, drop, replicate, All}
+use Rattle.byteorder.specs.Endian.{big_bytes}
+use Rattle.catalogue.specs.declared.entry.Entry.{Entry}
+
+-- the step number, kind, answer, length of the name and a 0; the count, the turns and the next part number; the name; 33 bytes 0
+unfoldable pub entry_bytes : Entry → List ℕ
+entry_bytes e =
+    big_bytes 4 e.number ++ (e.kind ∷ e.answer ∷ e.name_len ∷ 0 ∷ [])
+    ++ big_bytes 8 e.count ++ big_bytes 8 e.turns ++ big_bytes 8 e.parts
+    ++ e.name ++ replicate 33 0
+
+-- each field fits its place
+pub record Fits (e : Entry) : Type 0 where
+  pub number : e.number < 2 ^ 32
+  pub count : e.count < 2 ^ 64
+  pub turns : e.turns < 2 ^ 64
+  pub parts : e.parts < 2 ^ 64
+  pub name : length e.name ≡ 63
+
+-- The kind is one of three. Only an answer can be 1, and it counts nothing. Only a diagram has a name, and bytes 0 stand
+-- behind it. Each step takes a turn.
+pub record KeepsLayout (e : Entry) : Type 0 where
+  pub kind : (1 ≤ e.kind) × (e.kind ≤ 3)
+  pub answer : (e.answer ≡ 0) ⊎ ((e.answer ≡ 1) × (e.kind ≡ 3) × (e.count ≡ 0))
+  pub named : (e.name_len ≡ 0) ⊎ ((e.name_len ≤ 63) × (e.kind ≡ 1))
+  pub padded : All (λ b. b ≡ 0) (drop e.name_len e.name)
+  pub worked : 1 ≤ e.turns
+
+-- an entry whose fields fit their places and keep the layout
+pub record IsEntry (e : Entry) : Type 0 where
+  pub fits : Fits e
+  pub layout : KeepsLayout e

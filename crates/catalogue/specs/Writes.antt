@@ -1,0 +1,32 @@
+-- What holds at each moment while a file is written.
+use Rattle.std.specs.Prelude.{◌≡◌, ◌≢◌, ℕ, ◌+◌, ◌/◌, ◌≤◌, max, List, length}
+use Rattle.shelf_model.specs.declared.file_no.FileNo.{FileNo}
+use Rattle.shelf_model.specs.File.{IsKept}
+use Rattle.shelf_model.specs.Folder.{file_in}
+use Rattle.shelf_model.specs.World.{Moment}
+
+-- how many pieces of at most 2,048 bytes that many bytes make
+abbrev pub pieces : ℕ → ℕ
+pieces n = (n + 2047) / 2048
+
+-- every other file is as it was then
+abbrev pub OthersStay : FileNo → Moment → Moment → Type 0
+OthersStay f old m = (q : FileNo) → q ≢ f → file_in m.folder q ≡ file_in old.folder q
+
+-- while n bytes are put at the end of a file: what it kept it keeps
+pub record Growing (f : FileNo) (n : ℕ) (old m : Moment) : Type 0 where
+  pub others : OthersStay f old m
+  pub kept : (front : List ℕ) → IsKept front (file_in old.folder f) → IsKept front (file_in m.folder f)
+  pub reach : (file_in m.folder f).reach ≤ max (file_in old.folder f).reach (length (file_in old.folder f).bytes + n)
+
+-- while what stands from a place on is replaced by n bytes: what the file kept before the place it keeps
+pub record Replacing (f : FileNo) (at n : ℕ) (old m : Moment) : Type 0 where
+  pub others : OthersStay f old m
+  pub kept : (front : List ℕ) → length front ≤ at → IsKept front (file_in old.folder f) → IsKept front (file_in m.folder f)
+  pub reach : (file_in m.folder f).reach ≤ max (file_in old.folder f).reach (at + n)
+
+-- while a gate of n bytes grows by one: a stop leaves n bytes of it, or one more
+pub record Lengthening (f : FileNo) (n : ℕ) (old m : Moment) : Type 0 where
+  pub others : OthersStay f old m
+  pub firm : n ≤ (file_in m.folder f).firm
+  pub reach : (file_in m.folder f).reach ≤ n + 1
