@@ -28,13 +28,14 @@ pub struct Entry {
 }
 
 impl Entry {
-    ghost use Rattle.std.specs.Prelude.{◌≡◌, ◌↔◌, ◌≤◌, IsTrue, Some, IfSome, All, drop};
+    ghost use Rattle.std.specs.Prelude.{◌≡◌, ◌↔◌, ◌≤◌, IsTrue, Some, IfSome, All, drop, length};
     ghost use Rattle.catalogue.specs.Entries.{entry_bytes, IsEntry, KeepsLayout, Fits};
 
     /// The bytes of the entry.
     #[tactic(auto, unfolding(crate::specs::Entries::entry_bytes))]
     pub(crate) fn to_bytes(&self) -> [u8; 128]
-        ensures { result ≡ entry_bytes self.now }
+        ensures bytes { result ≡ entry_bytes self.now }
+        ensures len { length result ≡ 128 }
     {
         let mut bytes = [0u8; 128];
         BigEndian::write_u32(&mut bytes[0..4], self.number);

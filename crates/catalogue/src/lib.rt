@@ -6,6 +6,10 @@
 #![tactic(auto)]
 
 mod entry;
+mod files;
+mod steps;
 mod writes;
 
 pub use entry::Entry;
+pub use files::{CATALOGUE, JOB, JOB_GATE, STEP_GATE};
+pub use steps::commit;

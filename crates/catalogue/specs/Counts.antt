@@ -1,0 +1,27 @@
+-- What the files say of the job: whether it is stored, how many steps are committed, and their entries. A folder and an
+-- image of it are taken by their reading, which gives the bytes of each file.
+use Rattle.std.specs.Prelude.{◌≡◌, ℕ, ◌*◌, Bool, IsTrue, List, length, take, drop, nat_lt, if◌then◌else◌}
+use Rattle.shelf_model.specs.declared.file_no.FileNo.{FileNo}
+use Rattle.shelf_model.specs.Folder.{Folder, file_in}
+use Rattle.catalogue.specs.Files.{job_gate, catalogue, step_gate}
+
+-- what a read gives of each file of a folder
+abbrev pub present : Folder → FileNo → List ℕ
+present folder f = (file_in folder f).bytes
+
+-- a job is stored exactly where its gate isn't empty
+abbrev pub is_stored : (FileNo → List ℕ) → Bool
+is_stored r = nat_lt 0 (length (r job_gate))
+
+-- the count of committed steps: none where no job is stored, and else the length of their gate
+abbrev pub count_in : (FileNo → List ℕ) → ℕ
+count_in r = if is_stored r then length (r step_gate) else 0
+
+-- the bytes at the place of a step's entry: 128, or fewer where the catalogue ends
+abbrev pub entry_at : ℕ → (FileNo → List ℕ) → List ℕ
+entry_at k r = take 128 (drop (128 * k) (r catalogue))
+
+-- a job is stored, and so many steps are committed
+pub record HasCount (n : ℕ) (r : FileNo → List ℕ) : Type 0 where
+  pub stored : IsTrue (is_stored r)
+  pub count : count_in r ≡ n
