@@ -13,7 +13,7 @@ use Rattle.shelf_model.specs.Moments.{Ran}
 use Rattle.shelf_model.proofs.Files.{only_image, same_image, kept_all}
 use Rattle.shelf_model.proofs.Numbers.{other_part}
 use Rattle.shelf_model.proofs.Runs.{run_on, ran_weakens, ran_end}
-use Rattle.catalogue.specs.declared.entry.Entry.{Entry}
+use Rattle.catalogue.specs.declared.layout.Entry.{Entry}
 use Rattle.catalogue.specs.Entries.{entry_bytes}
 use Rattle.catalogue.specs.Files.{job_gate, catalogue, step_gate}
 use Rattle.catalogue.specs.Counts.{is_stored, count_in, entry_at, HasCount}

@@ -1,7 +1,12 @@
 -- The entry of a committed step, and its bytes.
-use Rattle.std.specs.Prelude.{◌≡◌, ℕ, ◌≤◌, ◌<◌, ◌^◌, ◌⊎◌, List, [], ◌∷◌, ◌++◌, length, drop, replicate, All}
+use Rattle.std.specs.Prelude.{◌≡◌, ℕ, ◌*◌, ◌≤◌, ◌<◌, ◌^◌, ◌⊎◌, List, [], ◌∷◌, ◌++◌, length, drop, replicate, All}
 use Rattle.byteorder.specs.Endian.{big_bytes}
-use Rattle.catalogue.specs.declared.entry.Entry.{Entry}
+use Rattle.shelf_model.specs.declared.file_no.FileNo.{FileNo}
+use Rattle.shelf_model.specs.declared.fault.StreamFault.{StreamFault}
+use Rattle.shelf_model.specs.declared.fault.StreamFault.TheVariants.{Shelf, Damaged}
+use Rattle.catalogue.specs.Files.{catalogue}
+use Rattle.catalogue.specs.Counts.{entry_at}
+use Rattle.catalogue.specs.declared.layout.Entry.{Entry}
 
 -- the step number, kind, answer, length of the name and a 0; the count, the turns and the next part number; the name; 33 bytes 0
 unfoldable pub entry_bytes : Entry → List ℕ
@@ -31,3 +36,14 @@ pub record KeepsLayout (e : Entry) : Type 0 where
 pub record IsEntry (e : Entry) : Type 0 where
   pub fits : Fits e
   pub layout : KeepsLayout e
+
+-- the entry of step k, as it stands at its place
+pub record IsEntryOf (k : ℕ) (r : FileNo → List ℕ) (e : Entry) : Type 0 where
+  pub entry : IsEntry e
+  pub number : e.number ≡ k
+  pub bytes : entry_at k r ≡ entry_bytes e
+
+-- the entry of step k is damaged exactly where no entry of that step stands whole at its place
+abbrev pub IsEntryFault : ℕ → (FileNo → List ℕ) → StreamFault → Type 0
+IsEntryFault k r Shelf = Unit
+IsEntryFault k r (Damaged f at) = (f ≡ catalogue) × (at ≡ 128 * k) × ((e : Entry) → ¬ (IsEntryOf k r e))

@@ -1,5 +1,5 @@
 pub mod Files
-pub mod Entries
 pub mod Counts
+pub mod Entries
 pub mod Writes
 pub mod Commits

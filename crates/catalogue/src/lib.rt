@@ -5,11 +5,11 @@
 //! there whole.
 #![tactic(auto)]
 
-mod entry;
 mod files;
+mod layout;
 mod steps;
 mod writes;
 
-pub use entry::Entry;
 pub use files::{CATALOGUE, JOB, JOB_GATE, STEP_GATE};
-pub use steps::commit;
+pub use layout::Entry;
+pub use steps::{commit, entry};

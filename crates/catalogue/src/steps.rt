@@ -1,15 +1,47 @@
 //! The committed steps: their entries, one behind the other, and the gate that counts them.
-ghost use Rattle.std.specs.Prelude.{◌≡◌, ◌+◌, ◌≤◌, IsTrue, OnOk};
+ghost use Rattle.std.specs.Prelude.{◌≡◌, ◌+◌, ◌<◌, ◌≤◌, IsTrue, OnOk, IfOk, IfErr};
 ghost use Rattle.shelf_model.specs.World.{now};
 ghost use Rattle.shelf_model.specs.Calls.{Told};
-ghost use Rattle.shelf_model.specs.Moments.{Ran};
-ghost use Rattle.shelf_model.specs.Faults.{OnlyFolder};
+ghost use Rattle.shelf_model.specs.Moments.{Ran, Stays};
+ghost use Rattle.shelf_model.specs.Faults.{OnlyFolder, OnlyShelf};
+ghost use Rattle.catalogue.specs.Counts.{count_in, present};
+ghost use Rattle.catalogue.specs.Entries.{IsEntryOf, IsEntryFault};
 ghost use Rattle.catalogue.specs.Commits.{IsReady, DuringCommit, IsCommitted};
 
-use crate::entry::Entry;
+use crate::layout::Entry;
 use crate::files::{CATALOGUE, STEP_GATE};
 use crate::writes::{lengthen, replace_from};
-use shelf_model::{Failed, Shelf};
+use shelf_model::{Failed, Shelf, StreamFault};
+
+/// The entry of step `k`, which has to be committed.
+///
+/// It isn't judged against the plan: whether its kind is that of the step, its caller knows.
+pub fn entry<S: Shelf>(k: u32, shelf: &mut S) -> Result<Entry, StreamFault>
+    requires committed { IsTrue (S.tells shelf.old) → k < count_in (present (now (S.world shelf.old)).folder) }
+    ensures content { Told S.tells shelf.old shelf.new
+        (Ran (Stays (now (S.world shelf.old))) (S.world shelf.old) (S.world shelf.new)) }
+    ensures ok { IfOk result (λ e. IsTrue (S.tells shelf.new)
+        → IsEntryOf k (present (now (S.world shelf.old)).folder) e) }
+    ensures err { IfErr result (λ fault. IsTrue (S.tells shelf.new)
+        → IsEntryFault k (present (now (S.world shelf.old)).folder) fault) }
+    ensures calls { IsTrue (S.tells shelf.new) → (S.world shelf.new).clock ≤ (S.world shelf.old).clock + 1 }
+    ensures faults { OnlyShelf (S.faults shelf.old) (S.faults shelf.new) result }
+{
+    let at = 128 * k as u64;
+    let damaged = StreamFault::Damaged { file: CATALOGUE, at };
+    let mut bytes = [0u8; 128];
+    let got = shelf.read_at(CATALOGUE, at, &mut bytes)?;
+    if got < 128 {
+        return Err(damaged);
+    }
+    let Some(entry) = Entry::from_bytes(&bytes) else {
+        return Err(damaged);
+    };
+    if entry.number != k {
+        return Err(damaged);
+    }
+    Ok(entry)
+}
 
 /// Commits the step that the entry is of: the step after those that are committed.
 ///

@@ -1,7 +1,7 @@
 use Rattle.std.proofs.Common.{◌≡◌, sym, ◌∙◌}
 use Rattle.catalogue.specs.Entries.{entry_bytes, Fits}
 use Rattle.catalogue.proofs.Fields.{ReadsAs, entry_reads, same_fields}
-use Rattle.catalogue.proofs.entry.Entry.fields_of.Goals as goal
+use Rattle.catalogue.proofs.layout.Entry.fields_of.Goals as goal
 
 pub returns-clause-read : goal.returns-clause-read
 returns-clause-read c = λ e fits same.
