@@ -2,3 +2,4 @@ pub mod Fields
 pub mod Written
 pub mod Counted
 pub mod Places
+pub mod Shared

@@ -5,11 +5,14 @@
 //! there whole.
 #![tactic(auto)]
 
+mod compare;
+mod fault;
 mod files;
 mod layout;
 mod steps;
 mod writes;
 
+pub use fault::AttachFault;
 pub use files::{CATALOGUE, JOB, JOB_GATE, STEP_GATE};
 pub use layout::Entry;
 pub use steps::{commit, entry};
