@@ -3,3 +3,4 @@ pub mod Written
 pub mod Counted
 pub mod Places
 pub mod Shared
+pub mod Stored

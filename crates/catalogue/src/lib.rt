@@ -8,11 +8,14 @@
 mod compare;
 mod fault;
 mod files;
+mod job;
 mod layout;
+mod standing;
 mod steps;
 mod writes;
 
 pub use fault::AttachFault;
 pub use files::{CATALOGUE, JOB, JOB_GATE, STEP_GATE};
 pub use layout::Entry;
+pub use standing::Standing;
 pub use steps::{commit, entry};
