@@ -4,3 +4,5 @@ pub mod Counted
 pub mod Places
 pub mod Shared
 pub mod Stored
+pub mod Synced
+pub mod Resumed

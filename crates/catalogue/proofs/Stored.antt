@@ -31,6 +31,9 @@ step_gate_not_job_gate = other_part step_gate job_gate (λ e. omega (arith, e))
 pub job_file_not_job_gate : job_file ≢ job_gate
 job_file_not_job_gate = other_part job_file job_gate (λ e. omega (arith, e))
 
+pub catalogue_not_job_file : catalogue ≢ job_file
+catalogue_not_job_file = other_part catalogue job_file (λ e. omega (arith, e))
+
 -- an empty gate stores nothing
 pub not_stored : (r : FileNo → List ℕ) → length (r job_gate) ≤ 0 → is_stored r ≡ false
 not_stored r short = le-ltb 0 (length (r job_gate)) short

@@ -5,6 +5,7 @@ use Rattle.shelf_model.specs.declared.file_no.FileNo.{FileNo}
 use Rattle.shelf_model.specs.File.{firm_file}
 use Rattle.shelf_model.specs.Folder.{Folder, Image, file_in, bytes_in, IsImage}
 use Rattle.shelf_model.specs.World.{Moment}
+use Rattle.shelf_model.specs.Moments.{OnlyOldImages}
 use Rattle.catalogue.specs.declared.fault.AttachFault.{AttachFault}
 use Rattle.catalogue.specs.declared.fault.AttachFault.TheVariants.{Damaged, OtherJob}
 use Rattle.catalogue.specs.declared.standing.Standing.{Standing}
@@ -42,6 +43,17 @@ pub record IsUnstored (most : ℕ) (r : FileNo → List ℕ) : Type 0 where
 -- every file but those of the job and of the gates is as it was
 abbrev pub OnlyJobFiles : Moment → Moment → Type 0
 OnlyJobFiles old m = (q : FileNo) → q ≢ job_file → q ≢ job_gate → q ≢ step_gate → file_in m.folder q ≡ file_in old.folder q
+
+-- At each moment while the files of the job are only made sure: reads give what they gave, and no image is new.
+pub record DuringSyncs (old m : Moment) : Type 0 where
+  pub others : OnlyJobFiles old m
+  pub reads : (q : FileNo) → (file_in m.folder q).bytes ≡ (file_in old.folder q).bytes
+  pub images : OnlyOldImages old m
+
+-- both gates are sure, as they are read
+pub record AreGatesSure (folder : Folder) : Type 0 where
+  pub job : file_in folder job_gate ≡ firm_file (file_in folder job_gate).bytes
+  pub steps : file_in folder step_gate ≡ firm_file (file_in folder step_gate).bytes
 
 -- At each moment while a new job is stored: no image has a job, or it has this one whole, with no step.
 pub record DuringStore (job : List ℕ) (most : ℕ) (old m : Moment) : Type 0 where
