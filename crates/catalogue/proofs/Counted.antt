@@ -1,23 +1,24 @@
 -- The count of committed steps in the images of a folder, and the entries that it covers.
 use Rattle.std.proofs.Common.{◌≡◌, ◌≢◌, ◌⊎◌, ℕ, ◌+◌, ◌*◌, ◌<◌, ◌≤◌, min, Bool, true, cond, ltb, List, [], ◌∷◌, ◌++◌, length, take, drop, refl, sym, ap, subst, ◌∙◌, inl, inr, arith}
 use Rattle.std.specs.Prelude.{IsTrue, Result, Ok, Err, OnOk}
-use Rattle.std.proofs.lemmas.Bool.{cases_lt, lt-ltb}
+use Rattle.std.proofs.lemmas.Bool.{cases_lt, lt-ltb, ltb-true}
 use Rattle.std.proofs.lemmas.List.{length-take, length-append, take_all, drop_at}
 use Rattle.shelf_model.specs.declared.file_no.FileNo.{FileNo}
 use Rattle.shelf_model.specs.File.{File, firm_file, IsLeft, IsKept}
-use Rattle.shelf_model.specs.Folder.{Folder, Image, file_in, bytes_in, IsImage}
+use Rattle.shelf_model.specs.Folder.{Folder, Image, file_in, bytes_in, IsImage, AreFiles}
 use Rattle.shelf_model.specs.declared.fault.Failed.{Failed}
 use Rattle.shelf_model.specs.World.{Moment, World, now, file}
 use Rattle.shelf_model.specs.Calls.{Told}
 use Rattle.shelf_model.specs.Moments.{Ran}
 use Rattle.shelf_model.proofs.Files.{only_image, same_image, kept_all}
+use Rattle.shelf_model.proofs.Images.{shortest_left, each_left, length_is_all}
 use Rattle.shelf_model.proofs.Numbers.{other_part}
 use Rattle.shelf_model.proofs.Runs.{run_on, ran_weakens, ran_end}
 use Rattle.catalogue.specs.declared.layout.Entry.{Entry}
 use Rattle.catalogue.specs.Entries.{entry_bytes}
 use Rattle.catalogue.specs.Files.{job_gate, catalogue, step_gate}
-use Rattle.catalogue.specs.Counts.{is_stored, count_in, entry_at, HasCount}
-use Rattle.catalogue.specs.Writes.{OthersStay, Replacing, Lengthening}
+use Rattle.catalogue.specs.Counts.{entry_at, HasCount}
+use Rattle.catalogue.specs.Writes.{Replacing, Lengthening}
 use Rattle.catalogue.specs.Commits.{IsReady, IsCounted, DuringCommit, IsCommitted}
 
 pub job_gate_not_catalogue : job_gate ≢ catalogue
@@ -53,7 +54,7 @@ sure_stored f before folder image same stored is_image =
 pub ready_counts : (n : ℕ) (folder : Folder) (image : Image) → IsReady n folder → IsImage folder image → HasCount n (bytes_in image)
 ready_counts n folder image ready is_image =
     has_count n (bytes_in image) (sure_stored job_gate (file_in folder job_gate) folder image refl ready.stored is_image)
-      (ap length (sure_length step_gate (file_in folder step_gate).bytes folder image ready.gate is_image) ∙ ready.count)
+    (ap length (sure_length step_gate (file_in folder step_gate).bytes folder image ready.gate is_image) ∙ ready.count)
 
 -- the entry stands behind the first 128 * n bytes
 pub entry_placed : (n : ℕ) (before entry : List ℕ) (r : FileNo → List ℕ) → 128 * n ≤ length before → length entry ≡ 128 → r catalogue ≡ take (128 * n) before ++ entry → entry_at n r ≡ entry
@@ -83,12 +84,12 @@ counting_image : (e : Entry) (old mid m : Moment) (image : Image) → IsReady e.
     → HasCount e.number (bytes_in image) ⊎ IsCounted e (bytes_in image)
 counting_image e old mid m image ready placed lengthening is_image =
     let stored : 0 < length (bytes_in image job_gate) =
-        sure_stored job_gate (file_in old.folder job_gate) m.folder image
-        (lengthening.others job_gate job_gate_not_step_gate ∙ placed.replacing.others job_gate job_gate_not_catalogue) ready.stored is_image in
+    sure_stored job_gate (file_in old.folder job_gate) m.folder image
+    (lengthening.others job_gate job_gate_not_step_gate ∙ placed.replacing.others job_gate job_gate_not_catalogue) ready.stored is_image in
     let entry : entry_at e.number (bytes_in image) ≡ entry_bytes e =
-        entry_placed e.number (file_in old.folder catalogue).bytes (entry_bytes e) (bytes_in image) ready.covers placed.whole
-        (sure_length catalogue (take (128 * e.number) (file_in old.folder catalogue).bytes ++ entry_bytes e) m.folder image
-        (lengthening.others catalogue catalogue_not_step_gate ∙ placed.catalogue_is) is_image) in
+    entry_placed e.number (file_in old.folder catalogue).bytes (entry_bytes e) (bytes_in image) ready.covers placed.whole
+    (sure_length catalogue (take (128 * e.number) (file_in old.folder catalogue).bytes ++ entry_bytes e) m.folder image
+    (lengthening.others catalogue catalogue_not_step_gate ∙ placed.catalogue_is) is_image) in
     let left : IsLeft (file_in m.folder step_gate) (bytes_in image step_gate) = is_image step_gate in
     let firm : e.number ≤ (file_in m.folder step_gate).firm = lengthening.firm in
     let reach : (file_in m.folder step_gate).reach ≤ e.number + 1 = lengthening.reach in
@@ -117,12 +118,12 @@ committed e old mid m ready placed lengthening gate =
     let before : length (file_in mid.folder step_gate).bytes ≡ e.number = ap (λ (x : File). length x.bytes) first ∙ ready.count in
     let counts : length (file_in m.folder step_gate).bytes ≡ e.number + 1 = omega arith in
     let entries : file_in m.folder catalogue ≡ firm_file (take (128 * e.number) (file_in old.folder catalogue).bytes ++ entry_bytes e) =
-        lengthening.others catalogue catalogue_not_step_gate ∙ placed.catalogue_is in
+    lengthening.others catalogue catalogue_not_step_gate ∙ placed.catalogue_is in
     let front : length (take (128 * e.number) (file_in old.folder catalogue).bytes) ≡ min (128 * e.number) (length (file_in old.folder catalogue).bytes) = length-take (128 * e.number) (file_in old.folder catalogue).bytes in
     let covers : 128 * e.number ≤ length (file_in old.folder catalogue).bytes = ready.covers in
     let whole : length (entry_bytes e) ≡ 128 = placed.whole in
     let size : length (file_in m.folder catalogue).bytes ≡ length (take (128 * e.number) (file_in old.folder catalogue).bytes) + length (entry_bytes e) =
-        ap (λ (x : File). length x.bytes) entries ∙ length-append (take (128 * e.number) (file_in old.folder catalogue).bytes) (entry_bytes e) in
+    ap (λ (x : File). length x.bytes) entries ∙ length-append (take (128 * e.number) (file_in old.folder catalogue).bytes) (entry_bytes e) in
     let job : file_in m.folder job_gate ≡ file_in old.folder job_gate = lengthening.others job_gate job_gate_not_step_gate ∙ placed.replacing.others job_gate job_gate_not_catalogue in
     let now_ready : IsReady (e.number + 1) m.folder = record {
       stored = subst (λ (x : File). 0 < x.firm) (sym job) ready.stored;
@@ -153,13 +154,14 @@ placed_so_far tells world e bytes old s same whole ready put is = record {
   did = λ tells_new.
       let begins : IsReady e.number (now (world old)).folder = ready (put.before tells_new) in
       let run : Ran (Replacing catalogue (128 * e.number) 128 (now (world old))) (world old) (world s) =
-          subst (λ k. Ran (Replacing catalogue (128 * e.number) k (now (world old))) (world old) (world s)) whole (put.did tells_new) in
-      (ran_weakens (world old) (world s) (Replacing catalogue (128 * e.number) 128 (now (world old))) (DuringCommit e (now (world old))) (λ m replacing. placing e (now (world old)) m begins replacing) run,
-      record {
-        whole = sym (ap length same) ∙ whole;
-        replacing = ran_end (world old) (world s) (Replacing catalogue (128 * e.number) 128 (now (world old))) run;
-        catalogue_is = is tells_new ∙ ap (λ xs. firm_file (take (128 * e.number) (file (world old) catalogue).bytes ++ xs)) same;
-      });
+      subst (λ k. Ran (Replacing catalogue (128 * e.number) k (now (world old))) (world old) (world s)) whole (put.did tells_new) in (
+        ran_weakens (world old) (world s) (Replacing catalogue (128 * e.number) 128 (now (world old))) (DuringCommit e (now (world old))) (λ m replacing. placing e (now (world old)) m begins replacing) run,
+        record {
+          whole = sym (ap length same) ∙ whole;
+          replacing = ran_end (world old) (world s) (Replacing catalogue (128 * e.number) 128 (now (world old))) run;
+          catalogue_is = is tells_new ∙ ap (λ xs. firm_file (take (128 * e.number) (file (world old) catalogue).bytes ++ xs)) same;
+        },
+      );
 }
 
 -- and the gate grows
@@ -183,3 +185,16 @@ commit_ok tells world e (Ok x) old s t ready so_far grows gate = λ tells_new.
     committed e (now (world old)) (now (world s)) (now (world t)) (ready (so_far.before tells_mid)) (so_far.did tells_mid).1
     (ran_end (world s) (world t) (Lengthening step_gate e.number (now (world s))) (grows.did tells_new)) (gate tells_new)
 commit_ok tells world e (Err f) old s t ready so_far grows gate = tt
+
+-- a folder that has n committed steps in every image, and room for their entries, is ready for the next
+pub ready_from_images : (n : ℕ) (folder : Folder) → AreFiles folder → ((image : Image) → IsImage folder image → HasCount n (bytes_in image)) → 128 * n ≤ length (file_in folder catalogue).bytes → IsReady n folder
+ready_from_images n folder are_files all covers =
+    let gate = length_is_all folder step_gate n are_files (λ image is_image. gate_length n (bytes_in image) (all image is_image)) in
+    let shortest : IsLeft (file_in folder job_gate) (take (file_in folder job_gate).firm (file_in folder job_gate).bytes) = shortest_left (file_in folder job_gate) (are_files job_gate) in
+    let stored : 0 < length (take (file_in folder job_gate).firm (file_in folder job_gate).bytes) =
+    each_left folder job_gate (λ left. 0 < length left) are_files (λ image is_image. ltb-true 0 (length (bytes_in image job_gate)) (all image is_image).stored) _ shortest in
+    let firm : length (take (file_in folder job_gate).firm (file_in folder job_gate).bytes) ≡ min (file_in folder job_gate).firm (length (file_in folder job_gate).bytes) = length-take (file_in folder job_gate).firm (file_in folder job_gate).bytes in
+    record { stored = omega arith; gate = gate.0; count = gate.1; covers = covers }
+  where
+    gate_length : (n : ℕ) (r : FileNo → List ℕ) → HasCount n r → length (r step_gate) ≡ n
+    gate_length n r has = sym (ap (λ b. cond b (length (r step_gate)) 0) has.stored) ∙ has.count

@@ -1,7 +1,7 @@
 -- What the bytes of an entry read as.
-use Rattle.std.proofs.Common.{◌≡◌, ℕ, ◌+◌, ◌<◌, ◌^◌, List, [], ◌∷◌, ◌++◌, length, take, drop, get_or, replicate, refl, sym, ap, subst, ◌∙◌, arith}
+use Rattle.std.proofs.Common.{◌≡◌, ℕ, ◌<◌, ◌^◌, List, [], take, drop, get_or, replicate, refl, sym, subst, arith}
 use Rattle.std.proofs.lemmas.List.{take_at}
-use Rattle.byteorder.specs.Endian.{big_number, big_bytes}
+use Rattle.byteorder.specs.Endian.{big_number}
 use Rattle.byteorder.specs.Numbers.{big_number-reads_back}
 use Rattle.catalogue.specs.declared.layout.Entry.{Entry}
 use Rattle.catalogue.specs.Entries.{entry_bytes, Fits}
@@ -36,5 +36,12 @@ entry_reads e bytes fits same = subst (ReadsAs e) same (reads_own e fits)
 -- entries of the same fields are one
 pub same_fields : (e f : Entry) → e.number ≡ f.number → e.kind ≡ f.kind → e.answer ≡ f.answer → e.count ≡ f.count → e.turns ≡ f.turns → e.parts ≡ f.parts → e.name_len ≡ f.name_len → e.name ≡ f.name → e ≡ f
 same_fields e f number kind answer count turns parts name_len name = λ i. record {
-  number = number i; kind = kind i; answer = answer i; count = count i; turns = turns i; parts = parts i; name_len = name_len i; name = name i;
+  number = number i;
+  kind = kind i;
+  answer = answer i;
+  count = count i;
+  turns = turns i;
+  parts = parts i;
+  name_len = name_len i;
+  name = name i;
 }

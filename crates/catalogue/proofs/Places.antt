@@ -1,7 +1,7 @@
 -- What a read at an entry's place gives.
 use Rattle.std.proofs.Common.{◌≡◌, ◌≢◌, ℕ, ◌+◌, ◌-◌, ◌*◌, ◌<◌, ◌≤◌, min, List, [], ◌++◌, length, take, drop, replicate, refl, sym, ap, ◌∙◌, arith}
 use Rattle.std.specs.Prelude.{Option, Some, None}
-use Rattle.std.proofs.lemmas.List.{append-nil, length-take, length-drop, length-append, length-replicate, drop_all}
+use Rattle.std.proofs.lemmas.List.{append-nil, length-take, length-drop, length-append, drop_all}
 use Rattle.shelf_model.specs.declared.file_no.FileNo.{FileNo}
 use Rattle.shelf_model.specs.Calls.{Copied}
 use Rattle.catalogue.specs.declared.layout.Entry.{Entry}
@@ -25,7 +25,7 @@ whole_read k got r before after room whole did =
     let all : got ≡ 128 = omega arith in
     let rest : drop got before ≡ [] = drop_all got before (omega arith) in
     sym (did.bytes_are ∙ ap (λ xs. take got (drop (128 * k) (r catalogue)) ++ xs) rest ∙ append-nil (take got (drop (128 * k) (r catalogue)))
-      ∙ ap (λ n. take n (drop (128 * k) (r catalogue))) all)
+    ∙ ap (λ n. take n (drop (128 * k) (r catalogue))) all)
 
 -- where fewer are read there is no entry
 pub no_entry : (k got : ℕ) (r : FileNo → List ℕ) (before after : List ℕ) → length before ≡ 128 → got < 128 → Copied (r catalogue) (128 * k) before after got → (e : Entry) → ¬ (IsEntryOf k r e)

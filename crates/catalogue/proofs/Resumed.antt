@@ -15,14 +15,10 @@ use Rattle.catalogue.specs.declared.fault.AttachFault.TheVariants.{Shelf, Damage
 use Rattle.catalogue.specs.declared.standing.Standing.{Standing}
 use Rattle.catalogue.specs.Files.{job_file, job_gate, catalogue, step_gate}
 use Rattle.catalogue.specs.Counts.{present, is_stored}
-use Rattle.catalogue.specs.Commits.{IsReady}
 use Rattle.catalogue.specs.Standings.{standing_of, counted_standing, AreGatesSure, IsAttached}
 use Rattle.catalogue.proofs.Shared.{same_from_shared, shared_self}
 use Rattle.catalogue.proofs.Synced.{synced_reads}
 use Rattle.catalogue.proofs.Stored.{attached, job_gate_not_job_file, step_gate_not_job_file, catalogue_not_job_file}
-
-
-
 
 -- the answer where a job is stored
 of_stored : (job : List ℕ) (steps : ℕ) (r : FileNo → List ℕ) (same : Bool) → is_stored r ≡ true → bytes_eq (r job_file) job ≡ same

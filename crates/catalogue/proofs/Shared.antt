@@ -1,5 +1,5 @@
 -- How far two lists are the same, piece by piece.
-use Rattle.std.proofs.Common.{◌≡◌, ◌⊎◌, ℕ, zero, suc, ◌+◌, ◌-◌, ◌<◌, ◌≤◌, min, Bool, true, false, cond, eqb, List, [], ◌∷◌, ◌++◌, length, take, drop, refl, sym, ap, ap₂, subst, ◌∙◌, inl, inr, arith}
+use Rattle.std.proofs.Common.{◌≡◌, ◌⊎◌, ℕ, zero, suc, ◌+◌, ◌-◌, ◌<◌, ◌≤◌, min, true, false, cond, eqb, List, [], ◌∷◌, ◌++◌, length, take, drop, refl, sym, ap, ap₂, subst, ◌∙◌, inl, inr, arith}
 use Rattle.std.specs.Prelude.{nat_eq}
 use Rattle.std.specs.List.{common_prefix_len}
 use Rattle.std.proofs.Math.Seq.{take-add}
@@ -85,7 +85,7 @@ read_piece w v job before after rest at want k got s even stays did room within 
     let whole : got ≡ want = omega arith in
     let none : drop got before ≡ [] = drop_all got before (omega arith) in
     let bytes : after ≡ take want (drop at source) =
-        copied.bytes_are ∙ ap (λ xs. take got (drop at source) ++ xs) none ∙ append-nil (take got (drop at source)) ∙ ap (λ k. take k (drop at source)) whole in
+    copied.bytes_are ∙ ap (λ xs. take got (drop at source) ++ xs) none ∙ append-nil (take got (drop at source)) ∙ ap (λ k. take k (drop at source)) whole in
     let long : length (take want (drop at source)) ≡ min want (length (drop at source)) = length-take want (drop at source) in
     let behind : length (drop at source) ≡ length source - at = length-drop at source in
     let first : take got (after ++ rest) ≡ after = take_at after rest got (ap length bytes ∙ long ∙ omega arith) in

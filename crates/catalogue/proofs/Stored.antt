@@ -1,5 +1,5 @@
 -- The images of a folder while a new job is stored in it.
-use Rattle.std.proofs.Common.{◌≡◌, ◌≢◌, ◌⊎◌, ℕ, ◌+◌, ◌<◌, ◌≤◌, max, Bool, true, false, ltb, List, [], ◌∷◌, ◌++◌, length, refl, sym, ap, subst, ◌∙◌, inl, inr, arith}
+use Rattle.std.proofs.Common.{◌≡◌, ◌≢◌, ◌⊎◌, ℕ, ◌+◌, ◌≤◌, max, Bool, false, List, [], ◌∷◌, ◌++◌, length, sym, ap, ◌∙◌, inl, inr, arith}
 use Rattle.std.specs.Prelude.{IsTrue, Result, Ok, Err, OnOk}
 use Rattle.std.proofs.lemmas.Bool.{cases_lt, le-ltb}
 use Rattle.shelf_model.specs.declared.file_no.FileNo.{FileNo}
@@ -9,11 +9,10 @@ use Rattle.shelf_model.specs.Folder.{Folder, Image, file_in, bytes_in, IsImage}
 use Rattle.shelf_model.specs.World.{Moment, World, now, file}
 use Rattle.shelf_model.specs.Calls.{Told}
 use Rattle.shelf_model.specs.Moments.{Ran}
-use Rattle.shelf_model.proofs.Files.{same_image}
 use Rattle.shelf_model.proofs.Numbers.{other_part}
-use Rattle.shelf_model.proofs.Runs.{told, run_on, ran_weakens, ran_end}
+use Rattle.shelf_model.proofs.Runs.{run_on, ran_weakens, ran_end}
 use Rattle.catalogue.specs.Files.{job_file, job_gate, catalogue, step_gate}
-use Rattle.catalogue.specs.Counts.{is_stored, HasCount}
+use Rattle.catalogue.specs.Counts.{is_stored}
 use Rattle.catalogue.specs.Writes.{Replacing, Lengthening}
 use Rattle.catalogue.specs.Commits.{IsReady}
 use Rattle.catalogue.specs.Standings.{IsStored, IsUnstored, OnlyJobFiles, DuringStore, IsAttached}
@@ -124,13 +123,14 @@ cleared_so_far tells world job old s unstored cut is = record {
   did = λ tells_new.
       let none : file (world old) job_gate ≡ firm_file [] = unstored (cut.before tells_new) in
       let run = cut.did tells_new in
-      let end : Replacing step_gate 0 0 (now (world old)) (now (world s)) = ran_end (world old) (world s) (Replacing step_gate 0 0 (now (world old))) run in
-      (ran_weakens (world old) (world s) (Replacing step_gate 0 0 (now (world old))) (DuringStore job (file (world old) step_gate).reach (now (world old))) (λ m replacing. clearing job (now (world old)) m none replacing) run,
-      record {
-        others = λ q not_job not_gate not_steps. end.others q not_steps;
-        gate = end.others job_gate job_gate_not_step_gate ∙ none;
-        steps = is tells_new;
-      });
+      let end : Replacing step_gate 0 0 (now (world old)) (now (world s)) = ran_end (world old) (world s) (Replacing step_gate 0 0 (now (world old))) run in (
+        ran_weakens (world old) (world s) (Replacing step_gate 0 0 (now (world old))) (DuringStore job (file (world old) step_gate).reach (now (world old))) (λ m replacing. clearing job (now (world old)) m none replacing) run,
+        record {
+          others = λ q not_job not_gate not_steps. end.others q not_steps;
+          gate = end.others job_gate job_gate_not_step_gate ∙ none;
+          steps = is tells_new;
+        },
+      );
 }
 
 -- up to the written job, whether it was all written or not

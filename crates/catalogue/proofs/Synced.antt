@@ -1,28 +1,21 @@
 -- What holds while the files of a job are made sure and read.
-use Rattle.std.proofs.Common.{◌≡◌, ◌≢◌, ◌⊎◌, ℕ, ◌*◌, ◌<◌, ◌≤◌, Bool, true, false, cond, ltb, List, [], length, refl, sym, ap, subst, ◌∙◌, inl, inr, arith}
-use Rattle.std.specs.Prelude.{IsTrue, Result, Ok, Err, OnOk, IfOk, nat_eq, bytes_eq}
-use Rattle.std.specs.List.{common_prefix_len}
-use Rattle.std.proofs.lemmas.Bool.{cases_lt, ltb-false, ltb-true, lt-ltb, le-ltb, cases_Bool}
-use Rattle.std.proofs.lemmas.Slice.Eq.{bytes_eq-Decides}
+use Rattle.std.proofs.Common.{◌≡◌, ◌≢◌, ℕ, Bool, true, false, ltb, List, length, refl, sym, ap, subst, ◌∙◌, inl, inr, arith}
+use Rattle.std.specs.Prelude.{IsTrue, Result, Ok, Err}
+use Rattle.std.proofs.lemmas.Bool.{true≢false}
 use Rattle.shelf_model.specs.declared.file_no.FileNo.{FileNo}
 use Rattle.shelf_model.specs.declared.fault.Failed.{Failed}
-use Rattle.shelf_model.specs.File.{File, firm_file}
-use Rattle.shelf_model.specs.Folder.{Folder, Image, file_in, bytes_in, IsImage, AreFiles}
+use Rattle.shelf_model.specs.File.{File}
+use Rattle.shelf_model.specs.Folder.{Image, file_in, bytes_in, IsImage, AreFiles}
 use Rattle.shelf_model.specs.World.{Moment, World, now, file}
-use Rattle.shelf_model.specs.Calls.{Told, OnShelf, Synced, Measured}
+use Rattle.shelf_model.specs.Calls.{Told, Synced, Measured}
 use Rattle.shelf_model.specs.Moments.{Ran, Stays}
-use Rattle.shelf_model.proofs.Images.{sync_images}
+use Rattle.shelf_model.proofs.Images.{chosen, bytes_in-chosen, standing_left, standing_image, sync_images}
 use Rattle.shelf_model.proofs.Numbers.{cases_file}
 use Rattle.shelf_model.proofs.Runs.{told, told_then, ran_call, ran_on, ran_joins, ran_weakens, ran_end}
-use Rattle.catalogue.specs.declared.fault.AttachFault.{AttachFault}
-use Rattle.catalogue.specs.declared.fault.AttachFault.TheVariants.{OtherJob}
-use Rattle.catalogue.specs.declared.standing.Standing.{Standing}
-use Rattle.catalogue.specs.Files.{job_file, job_gate, catalogue, step_gate}
+use Rattle.catalogue.specs.Files.{job_file, job_gate, step_gate}
 use Rattle.catalogue.specs.Counts.{present, is_stored}
-use Rattle.catalogue.specs.Commits.{IsReady}
-use Rattle.catalogue.specs.Standings.{standing_of, counted_standing, OnlyJobFiles, DuringSyncs, DuringStore, DuringAttach, AreGatesSure, IsUnstored, IsStored, IsAttached}
-use Rattle.catalogue.proofs.Shared.{same_from_shared, shared_self}
-use Rattle.catalogue.proofs.Stored.{attached, not_stored}
+use Rattle.catalogue.specs.Standings.{DuringSyncs, DuringStore, DuringAttach, AreGatesSure, IsBeginning}
+use Rattle.catalogue.proofs.Stored.{not_stored}
 
 -- a file of the job or of a gate
 pub record IsJobFile (f : FileNo) : Type 0 where
@@ -71,7 +64,7 @@ pub sync_first : {S : Type 0} (tells : S → Bool) (world : S → World) (f : Fi
 sync_first tells world f result old s job files call =
     told tells old s (Synced f result (world old) (world s)) (Ran (DuringSyncs (now (world old))) (world old) (world s)) call
     (λ tells_old did. ran_call (world old) (world s) (DuringSyncs (now (world old))) did.shelf (syncs_here (now (world old)))
-      (syncs_on f result (world old) (world old) (world s) job (files old tells_old) (syncs_here (now (world old))) did))
+    (syncs_on f result (world old) (world old) (world s) job (files old tells_old) (syncs_here (now (world old))) did))
 
 -- and one more
 pub sync_next : {S : Type 0} (tells : S → Bool) (world : S → World) (f : FileNo) (result : Result Unit Failed) (old s t : S) → IsJobFile f → ((x : S) → IsTrue (tells x) → AreFiles (now (world x)).folder)
@@ -92,7 +85,7 @@ pub len_next : {S : Type 0} (tells : S → Bool) (world : S → World) (f : File
 len_next tells world f result old s t so_far call =
     told_then tells old s t (Ran (DuringSyncs (now (world old))) (world old) (world s)) (Measured f result (world s) (world t)) (Ran (DuringSyncs (now (world old))) (world old) (world t)) so_far call
     (λ tells_old run did. ran_on (world old) (world s) (world t) (DuringSyncs (now (world old))) run did.shelf
-      (syncs_stay (now (world old)) (now (world s)) (now (world t)) (ap (λ (m : Moment). m.folder) did.same) (ran_end (world old) (world s) (DuringSyncs (now (world old))) run)))
+    (syncs_stay (now (world old)) (now (world s)) (now (world t)) (ap (λ (m : Moment). m.folder) did.same) (ran_end (world old) (world s) (DuringSyncs (now (world old))) run)))
 
 -- a run that only reads
 pub reads_next : {S : Type 0} (tells : S → Bool) (world : S → World) (old s t : S)
@@ -100,8 +93,8 @@ pub reads_next : {S : Type 0} (tells : S → Bool) (world : S → World) (old s 
 reads_next tells world old s t so_far reads =
     told_then tells old s t (Ran (DuringSyncs (now (world old))) (world old) (world s)) (Ran (Stays (now (world s))) (world s) (world t)) (Ran (DuringSyncs (now (world old))) (world old) (world t)) so_far reads
     (λ tells_old run did. ran_joins (world old) (world s) (world t) (DuringSyncs (now (world old))) run
-      (ran_weakens (world s) (world t) (Stays (now (world s))) (DuringSyncs (now (world old)))
-        (λ m stays. syncs_stay (now (world old)) (now (world s)) m stays (ran_end (world old) (world s) (DuringSyncs (now (world old))) run)) did))
+    (ran_weakens (world s) (world t) (Stays (now (world s))) (DuringSyncs (now (world old)))
+    (λ m stays. syncs_stay (now (world old)) (now (world s)) m stays (ran_end (world old) (world s) (DuringSyncs (now (world old))) run)) did))
 
 -- making files sure is part of an attach
 attach_syncs : (job : List ℕ) (old m : Moment) → DuringSyncs old m → DuringAttach job old m
@@ -121,7 +114,7 @@ attach_stores job old mid m syncs sure none storing =
     let reach : (file_in mid.folder step_gate).reach ≡ length (present old.folder step_gate) = ap (λ (x : File). x.reach) sure.steps ∙ ap length (syncs.reads step_gate) in
     record {
       others = λ q not_job not_gate not_steps. storing.others q not_job not_gate not_steps ∙ syncs.others q not_job not_gate not_steps;
-      images = λ image is_image. inr (not_stored (present old.folder) (omega arith), subst (λ n. IsUnstored n (bytes_in image) ⊎ IsStored job 0 (bytes_in image)) reach (storing.images image is_image));
+      images = λ image is_image. inr (not_stored (present old.folder) (omega arith), subst (λ n. IsBeginning job n (bytes_in image)) reach (storing.images image is_image));
     }
 
 pub attach_refused : {S : Type 0} (tells : S → Bool) (world : S → World) (job : List ℕ) (old s : S)
@@ -135,10 +128,10 @@ pub attach_resumed : {S : Type 0} (tells : S → Bool) (world : S → World) (jo
 attach_resumed tells world job old s t so_far resumes =
     told_then tells old s t (Ran (DuringSyncs (now (world old))) (world old) (world s)) (Ran (DuringSyncs (now (world s))) (world s) (world t)) (Ran (DuringAttach job (now (world old))) (world old) (world t)) so_far resumes
     (λ tells_old run next.
-      let end : DuringSyncs (now (world old)) (now (world s)) = ran_end (world old) (world s) (DuringSyncs (now (world old))) run in
-      ran_joins (world old) (world s) (world t) (DuringAttach job (now (world old)))
-      (ran_weakens (world old) (world s) (DuringSyncs (now (world old))) (DuringAttach job (now (world old))) (λ m syncs. attach_syncs job (now (world old)) m syncs) run)
-      (ran_weakens (world s) (world t) (DuringSyncs (now (world s))) (DuringAttach job (now (world old))) (λ m syncs. attach_syncs job (now (world old)) m (syncs_joined (now (world old)) (now (world s)) m end syncs)) next))
+    let end : DuringSyncs (now (world old)) (now (world s)) = ran_end (world old) (world s) (DuringSyncs (now (world old))) run in
+    ran_joins (world old) (world s) (world t) (DuringAttach job (now (world old)))
+    (ran_weakens (world old) (world s) (DuringSyncs (now (world old))) (DuringAttach job (now (world old))) (λ m syncs. attach_syncs job (now (world old)) m syncs) run)
+    (ran_weakens (world s) (world t) (DuringSyncs (now (world s))) (DuringAttach job (now (world old))) (λ m syncs. attach_syncs job (now (world old)) m (syncs_joined (now (world old)) (now (world s)) m end syncs)) next))
 
 pub attach_stored : {S : Type 0} (tells : S → Bool) (world : S → World) (job : List ℕ) (n : ℕ) (old s t : S) → n ≡ 0
     → Told tells old s (Ran (DuringSyncs (now (world old))) (world old) (world s)) → (IsTrue (tells s) → (n ≡ length (file (world s) job_gate).bytes) × AreGatesSure (now (world s)).folder)
@@ -153,5 +146,17 @@ attach_stored tells world job n old s t none so_far gates stores = record {
       ran_joins (world old) (world s) (world t) (DuringAttach job (now (world old)))
       (ran_weakens (world old) (world s) (DuringSyncs (now (world old))) (DuringAttach job (now (world old))) (λ m syncs. attach_syncs job (now (world old)) m syncs) run)
       (ran_weakens (world s) (world t) (DuringStore job (file (world s) step_gate).reach (now (world s))) (DuringAttach job (now (world old)))
-        (λ m storing. attach_stores job (now (world old)) (now (world s)) m end sure.1 (sym sure.0 ∙ none) storing) (stores.did tells_new));
+      (λ m storing. attach_stores job (now (world old)) (now (world s)) m end sure.1 (sym sure.0 ∙ none) storing) (stores.did tells_new));
 }
+
+-- where every image at the start has a job, an attach leaves no other image
+pub attach_keeps : (job : List ℕ) (old m : Moment) (image : Image) → AreFiles old.folder → ((first : Image) → IsImage old.folder first → IsTrue (is_stored (bytes_in first))) → DuringAttach job old m → IsImage m.folder image → IsImage old.folder image
+attach_keeps job old m image are_files all during is_image = elim (during.images image is_image) [
+  | inl same ↦ same
+  | inr begins ↦
+      let stood : is_stored (bytes_in (chosen (λ _ x. x.bytes) old.folder)) ≡ true = all (chosen (λ _ x. x.bytes) old.folder) (standing_image old.folder are_files) in
+      let gate : bytes_in (chosen (λ _ x. x.bytes) old.folder) job_gate ≡ present old.folder job_gate = bytes_in-chosen (λ _ x. x.bytes) old.folder job_gate (standing_left (file_in old.folder job_gate) (are_files job_gate)) in
+      let stored : is_stored (present old.folder) ≡ true = sym (ap (λ bytes. ltb 0 (length bytes)) gate) ∙ stood in
+      let not_stored : is_stored (present old.folder) ≡ false = begins.0 in
+      absurd (true≢false (sym stored ∙ not_stored))
+]

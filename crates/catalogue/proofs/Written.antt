@@ -1,18 +1,18 @@
 -- What holds of a file at each moment while it is written.
-use Rattle.std.proofs.Common.{◌≡◌, ◌≢◌, ◌⊎◌, ℕ, ◌+◌, ◌-◌, ◌/◌, ◌<◌, ◌≤◌, min, max, Bool, List, ◌++◌, length, take, drop, refl, sym, ap, subst, ◌∙◌, inl, inr, append_assoc, arith}
+use Rattle.std.proofs.Common.{◌≡◌, ◌≢◌, ℕ, ◌+◌, ◌-◌, ◌≤◌, min, max, Bool, List, ◌++◌, length, take, drop, refl, sym, ap, ◌∙◌, inl, inr, append_assoc, arith}
 use Rattle.std.specs.Prelude.{IsTrue, Result, Ok, Err, OnOk}
 use Rattle.std.proofs.Math.Seq.{take-add}
 use Rattle.std.proofs.lemmas.List.{length-take, length-drop, length-append}
 use Rattle.shelf_model.specs.declared.file_no.FileNo.{FileNo}
 use Rattle.shelf_model.specs.declared.fault.Failed.{Failed}
-use Rattle.shelf_model.specs.File.{File, firm_file, appended, cut_to, IsKept, TornAppend}
+use Rattle.shelf_model.specs.File.{File, IsKept}
 use Rattle.shelf_model.specs.Folder.{file_in}
 use Rattle.shelf_model.specs.World.{Moment, World, now, file}
-use Rattle.shelf_model.specs.Calls.{Told, OnShelf, Appended, WasCut, Synced}
+use Rattle.shelf_model.specs.Calls.{Told, Appended, WasCut, Synced}
 use Rattle.shelf_model.specs.Moments.{Ran}
 use Rattle.shelf_model.proofs.Files.{kept_append, kept_cut, kept_sync, append_failed, same_files}
-use Rattle.shelf_model.proofs.Runs.{told, told_then, told_here, ran_stands, ran_call, ran_on, ran_joins, ran_weakens, ran_end}
-use Rattle.catalogue.specs.Writes.{pieces, OthersStay, Growing, Replacing, Lengthening}
+use Rattle.shelf_model.proofs.Runs.{told_then, ran_call, ran_on, ran_joins, ran_weakens, ran_end}
+use Rattle.catalogue.specs.Writes.{Growing, Replacing}
 
 -- how far an append reaches, whatever the answer
 append_reach : (f : FileNo) (piece : List ℕ) (result : Result Unit Failed) (old new : World) → Appended f piece result old new
@@ -59,16 +59,16 @@ pub grow_on : {S : Type 0} (tells : S → Bool) (world : S → World) (f : FileN
 grow_on {S} tells world f bytes done next result old s t from within so_far call =
     let P : Moment → Type 0 = Growing f (length bytes) (now (world old)) in
     told_then tells old s t (Ran P (world old) (world s) × ((file (world s) f).bytes ≡ (file (world old) f).bytes ++ take done bytes))
-      (Appended f (take (next - done) (drop done bytes)) result (world s) (world t))
-      (Ran P (world old) (world t) × OnOk result ((file (world t) f).bytes ≡ (file (world old) f).bytes ++ take next bytes)) so_far call
+    (Appended f (take (next - done) (drop done bytes)) result (world s) (world t))
+    (Ran P (world old) (world t) × OnOk result ((file (world t) f).bytes ≡ (file (world old) f).bytes ++ take next bytes)) so_far call
     (λ tells_old before did.
-      let stood : length (file (world s) f).bytes ≡ length (file (world old) f).bytes + length (take done bytes) = ap length before.1 ∙ length-append (file (world old) f).bytes (take done bytes) in
-      let first : length (take done bytes) ≡ min done (length bytes) = length-take done bytes in
-      let piece : length (take (next - done) (drop done bytes)) ≡ min (next - done) (length (drop done bytes)) = length-take (next - done) (drop done bytes) in
-      let rest : length (drop done bytes) ≡ length bytes - done = length-drop done bytes in
-      let fits : length (file (world s) f).bytes + length (take (next - done) (drop done bytes)) ≤ length (file (world old) f).bytes + length bytes = omega arith in
-      let here : P (now (world t)) = growing_on f (length bytes) (take (next - done) (drop done bytes)) result (world old) (world s) (world t) fits (ran_end (world old) (world s) P before.0) did in
-      (ran_on (world old) (world s) (world t) P before.0 did.shelf here, put_ok f bytes done next result (world old) (world s) (world t) from before.1 did))
+    let stood : length (file (world s) f).bytes ≡ length (file (world old) f).bytes + length (take done bytes) = ap length before.1 ∙ length-append (file (world old) f).bytes (take done bytes) in
+    let first : length (take done bytes) ≡ min done (length bytes) = length-take done bytes in
+    let piece : length (take (next - done) (drop done bytes)) ≡ min (next - done) (length (drop done bytes)) = length-take (next - done) (drop done bytes) in
+    let rest : length (drop done bytes) ≡ length bytes - done = length-drop done bytes in
+    let fits : length (file (world s) f).bytes + length (take (next - done) (drop done bytes)) ≤ length (file (world old) f).bytes + length bytes = omega arith in
+    let here : P (now (world t)) = growing_on f (length bytes) (take (next - done) (drop done bytes)) result (world old) (world s) (world t) fits (ran_end (world old) (world s) P before.0) did in
+    (ran_on (world old) (world s) (world t) P before.0 did.shelf here, put_ok f bytes done next result (world old) (world s) (world t) from before.1 did))
 
 -- the file was cut at the place
 pub record CutAway (f : FileNo) (at : ℕ) (w v : World) : Type 0 where
@@ -121,12 +121,13 @@ replaced_so_far tells world f at n old s t within cut grown =
     let P : Moment → Type 0 = Replacing f at n (now (world old)) in
     told_then tells old s t (WasCut f at (Ok tt) (world old) (world s)) (Ran (Growing f n (now (world s))) (world s) (world t)) (Ran P (world old) (world t) × CutAway f at (world old) (world s)) cut grown
     (λ tells_old did run.
-      let away : CutAway f at (world old) (world s) = cut_away f at (world old) (world s) did in
-      let grows : (m : Moment) → Growing f n (now (world s)) m → P m = λ m growing. replacing_grows f at n (world old) (world s) m (within tells_old) away growing in
-      (ran_joins (world old) (world s) (world t) P
-        (ran_call (world old) (world s) P did.shelf (replacing_here f at n (now (world old))) (grows (now (world s)) (growing_here f n (now (world s)))))
-        (ran_weakens (world s) (world t) (Growing f n (now (world s))) P grows run),
-        away))
+    let away : CutAway f at (world old) (world s) = cut_away f at (world old) (world s) did in
+    let grows : (m : Moment) → Growing f n (now (world s)) m → P m = λ m growing. replacing_grows f at n (world old) (world s) m (within tells_old) away growing in (
+      ran_joins (world old) (world s) (world t) P
+          (ran_call (world old) (world s) P did.shelf (replacing_here f at n (now (world old))) (grows (now (world s)) (growing_here f n (now (world s)))))
+          (ran_weakens (world s) (world t) (Growing f n (now (world s))) P grows run),
+      away,
+    ))
 
 -- and the file made sure
 pub replaced : {S : Type 0} (tells : S → Bool) (world : S → World) (f : FileNo) (at : ℕ) (bytes : List ℕ) (result : Result Unit Failed) (old s t u : S) → (IsTrue (tells old) → at ≤ length (file (world old) f).bytes)

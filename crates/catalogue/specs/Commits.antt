@@ -9,7 +9,7 @@ use Rattle.catalogue.specs.Entries.{entry_bytes}
 use Rattle.catalogue.specs.Files.{job_gate, catalogue, step_gate}
 use Rattle.catalogue.specs.Counts.{HasCount, entry_at}
 
--- in every image a job is stored and n steps are committed, and the catalogue has room for their entries
+-- in every image a job is stored and n steps are committed, and the catalogue is as long as their entries
 pub record IsReady (n : ℕ) (folder : Folder) : Type 0 where
   pub stored : 0 < (file_in folder job_gate).firm
   pub gate : file_in folder step_gate ≡ firm_file (file_in folder step_gate).bytes
@@ -21,16 +21,20 @@ pub record IsCounted (e : Entry) (r : FileNo → List ℕ) : Type 0 where
   pub counts : HasCount (e.number + 1) r
   pub placed : entry_at e.number r ≡ entry_bytes e
 
--- At each moment of a commit that began at old: in each image the count is the old one, or one more with the entry in its
--- place. All other files stay, and so does what the catalogue keeps of earlier entries.
+-- at each moment of a commit each image has the old count, or one more with the entry; other files and earlier entries stay
 pub record DuringCommit (e : Entry) (old m : Moment) : Type 0 where
-  pub others : (q : FileNo) → q ≢ catalogue → q ≢ step_gate → file_in m.folder q ≡ file_in old.folder q
-  pub images : (image : Image) → IsImage m.folder image → HasCount e.number (bytes_in image) ⊎ IsCounted e (bytes_in image)
-  pub kept : (front : List ℕ) → length front ≤ 128 * e.number → IsKept front (file_in old.folder catalogue) → IsKept front (file_in m.folder catalogue)
+  pub others : (q : FileNo) → q ≢ catalogue → q ≢ step_gate
+      → file_in m.folder q ≡ file_in old.folder q
+  pub images : (image : Image) → IsImage m.folder image
+      → HasCount e.number (bytes_in image) ⊎ IsCounted e (bytes_in image)
+  pub kept : (front : List ℕ) → length front ≤ 128 * e.number
+      → IsKept front (file_in old.folder catalogue) → IsKept front (file_in m.folder catalogue)
 
--- After a commit: in each image the count is one more, with the entry in its place behind the earlier ones.
+-- after a commit each image has one more, with the entry in its place behind the earlier ones
 pub record IsCommitted (e : Entry) (old new : Folder) : Type 0 where
   pub ready : IsReady (e.number + 1) new
   pub images : (image : Image) → IsImage new image → IsCounted e (bytes_in image)
-  pub catalogue_is : file_in new catalogue ≡ firm_file (take (128 * e.number) (file_in old catalogue).bytes ++ entry_bytes e)
-  pub kept : (front : List ℕ) → length front ≡ 128 * e.number → IsKept front (file_in old catalogue) → IsKept (front ++ entry_bytes e) (file_in new catalogue)
+  pub catalogue_is : file_in new catalogue
+      ≡ firm_file (take (128 * e.number) (file_in old catalogue).bytes ++ entry_bytes e)
+  pub kept : (front : List ℕ) → length front ≡ 128 * e.number
+      → IsKept front (file_in old catalogue) → IsKept (front ++ entry_bytes e) (file_in new catalogue)

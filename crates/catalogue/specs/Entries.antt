@@ -8,7 +8,7 @@ use Rattle.catalogue.specs.Files.{catalogue}
 use Rattle.catalogue.specs.Counts.{entry_at}
 use Rattle.catalogue.specs.declared.layout.Entry.{Entry}
 
--- the step number, kind, answer, length of the name and a 0; the count, the turns and the next part number; the name; 33 bytes 0
+-- step number, kind, answer, length of the name, a 0, count, turns, next part number, the name and 33 bytes 0
 unfoldable pub entry_bytes : Entry → List ℕ
 entry_bytes e =
     big_bytes 4 e.number ++ (e.kind ∷ e.answer ∷ e.name_len ∷ 0 ∷ [])
@@ -23,8 +23,7 @@ pub record Fits (e : Entry) : Type 0 where
   pub parts : e.parts < 2 ^ 64
   pub name : length e.name ≡ 63
 
--- The kind is one of three. Only an answer can be 1, and it counts nothing. Only a diagram has a name, and bytes 0 stand
--- behind it. Each step takes a turn.
+-- one of three kinds; only an answer is 1, and then counts nothing; only a diagram has a name, with bytes 0 behind it
 pub record KeepsLayout (e : Entry) : Type 0 where
   pub kind : (1 ≤ e.kind) × (e.kind ≤ 3)
   pub answer : (e.answer ≡ 0) ⊎ ((e.answer ≡ 1) × (e.kind ≡ 3) × (e.count ≡ 0))

@@ -1,5 +1,5 @@
 -- What files say of a job that is to be attached, and what attaching it leaves.
-use Rattle.std.specs.Prelude.{◌≡◌, ◌≢◌, ◌⊎◌, ℕ, ◌*◌, ◌/◌, ◌≤◌, Bool, true, false, List, [], length, nat_eq, nat_lt, bytes_eq, if◌then◌else◌, Result, Ok, Err}
+use Rattle.std.specs.Prelude.{◌≡◌, ◌≢◌, ◌⊎◌, ℕ, ◌*◌, ◌/◌, ◌≤◌, true, false, List, length, nat_eq, nat_lt, bytes_eq, if◌then◌else◌, Result, Ok, Err}
 use Rattle.std.specs.List.{common_prefix_len}
 use Rattle.shelf_model.specs.declared.file_no.FileNo.{FileNo}
 use Rattle.shelf_model.specs.File.{firm_file}
@@ -13,21 +13,19 @@ use Rattle.catalogue.specs.Files.{job_file, job_gate, catalogue, step_gate}
 use Rattle.catalogue.specs.Counts.{present, is_stored, HasCount}
 use Rattle.catalogue.specs.Commits.{IsReady}
 
--- The gate may count no more than the steps of the job. Where the catalogue ends before the entries that it counts, the
--- damaged place is that of the first entry that isn't whole.
+-- the gate counts no more than the job's steps, and the catalogue has the entries that it counts, or its first lack is damage
 abbrev pub counted_standing : ℕ → ℕ → ℕ → Result Standing AttachFault
 counted_standing steps done size =
     if nat_lt steps done then Err (Damaged step_gate steps)
     else (if nat_lt size (128 * done) then Err (Damaged catalogue (128 * (size / 128)))
-      else Ok (record { fresh = false; done = done }))
+    else Ok (record { fresh = false; done = done }))
 
--- Where no job is stored the job is new, and no step of it is committed. Where another one is stored it is refused, at the
--- first byte that differs or the shorter length.
+-- fresh where no job is stored, refused where another one is, at the first byte that differs or the shorter length, else counted
 abbrev pub standing_of : List ℕ → ℕ → (FileNo → List ℕ) → Result Standing AttachFault
 standing_of job steps r =
     if is_stored r then
-      (if bytes_eq (r job_file) job then counted_standing steps (length (r step_gate)) (length (r catalogue))
-        else Err (OtherJob (common_prefix_len nat_eq (r job_file) job)))
+    (if bytes_eq (r job_file) job then counted_standing steps (length (r step_gate)) (length (r catalogue))
+    else Err (OtherJob (common_prefix_len nat_eq (r job_file) job)))
     else Ok (record { fresh = true; done = 0 })
 
 -- the job is stored whole, and so many of its steps are committed
@@ -40,11 +38,16 @@ pub record IsUnstored (most : ℕ) (r : FileNo → List ℕ) : Type 0 where
   pub unstored : is_stored r ≡ false
   pub gate : length (r step_gate) ≤ most
 
+-- the job begins: none is stored yet, or this one is, whole and with no step
+abbrev pub IsBeginning : List ℕ → ℕ → (FileNo → List ℕ) → Type 0
+IsBeginning job most r = IsUnstored most r ⊎ IsStored job 0 r
+
 -- every file but those of the job and of the gates is as it was
 abbrev pub OnlyJobFiles : Moment → Moment → Type 0
-OnlyJobFiles old m = (q : FileNo) → q ≢ job_file → q ≢ job_gate → q ≢ step_gate → file_in m.folder q ≡ file_in old.folder q
+OnlyJobFiles old m =
+    (q : FileNo) → q ≢ job_file → q ≢ job_gate → q ≢ step_gate → file_in m.folder q ≡ file_in old.folder q
 
--- At each moment while the files of the job are only made sure: reads give what they gave, and no image is new.
+-- while the files of the job are only made sure: reads give what they gave, and no image is new
 pub record DuringSyncs (old m : Moment) : Type 0 where
   pub others : OnlyJobFiles old m
   pub reads : (q : FileNo) → (file_in m.folder q).bytes ≡ (file_in old.folder q).bytes
@@ -55,17 +58,18 @@ pub record AreGatesSure (folder : Folder) : Type 0 where
   pub job : file_in folder job_gate ≡ firm_file (file_in folder job_gate).bytes
   pub steps : file_in folder step_gate ≡ firm_file (file_in folder step_gate).bytes
 
--- At each moment while a new job is stored: no image has a job, or it has this one whole, with no step.
+-- while a new job is stored
 pub record DuringStore (job : List ℕ) (most : ℕ) (old m : Moment) : Type 0 where
   pub others : OnlyJobFiles old m
-  pub images : (image : Image) → IsImage m.folder image → IsUnstored most (bytes_in image) ⊎ IsStored job 0 (bytes_in image)
+  pub images : (image : Image) → IsImage m.folder image
+      → IsBeginning job most (bytes_in image)
 
--- At each moment of an attach that began at old: each image is an image of the start; or, where no job was stored, it has
--- none yet, or this one whole with no step.
+-- at each moment of an attach each image is one of the start, or, where no job was stored, one in which this one begins
 pub record DuringAttach (job : List ℕ) (old m : Moment) : Type 0 where
   pub others : OnlyJobFiles old m
   pub images : (image : Image) → IsImage m.folder image → IsImage old.folder image
-    ⊎ ((is_stored (present old.folder) ≡ false) × (IsUnstored (length (present old.folder step_gate)) (bytes_in image) ⊎ IsStored job 0 (bytes_in image)))
+      ⊎ ((is_stored (present old.folder) ≡ false)
+      × IsBeginning job (length (present old.folder step_gate)) (bytes_in image))
 
 -- after an attach: in every image the job is stored whole, and so many of its steps are committed
 pub record IsAttached (job : List ℕ) (n : ℕ) (folder : Folder) : Type 0 where

@@ -16,13 +16,16 @@ OthersStay f old m = (q : FileNo) → q ≢ f → file_in m.folder q ≡ file_in
 -- while n bytes are put at the end of a file: what it kept it keeps
 pub record Growing (f : FileNo) (n : ℕ) (old m : Moment) : Type 0 where
   pub others : OthersStay f old m
-  pub kept : (front : List ℕ) → IsKept front (file_in old.folder f) → IsKept front (file_in m.folder f)
-  pub reach : (file_in m.folder f).reach ≤ max (file_in old.folder f).reach (length (file_in old.folder f).bytes + n)
+  pub kept : (front : List ℕ)
+      → IsKept front (file_in old.folder f) → IsKept front (file_in m.folder f)
+  pub reach : (file_in m.folder f).reach
+      ≤ max (file_in old.folder f).reach (length (file_in old.folder f).bytes + n)
 
 -- while what stands from a place on is replaced by n bytes: what the file kept before the place it keeps
 pub record Replacing (f : FileNo) (at n : ℕ) (old m : Moment) : Type 0 where
   pub others : OthersStay f old m
-  pub kept : (front : List ℕ) → length front ≤ at → IsKept front (file_in old.folder f) → IsKept front (file_in m.folder f)
+  pub kept : (front : List ℕ) → length front ≤ at
+      → IsKept front (file_in old.folder f) → IsKept front (file_in m.folder f)
   pub reach : (file_in m.folder f).reach ≤ max (file_in old.folder f).reach (at + n)
 
 -- while a gate of n bytes grows by one: a stop leaves n bytes of it, or one more

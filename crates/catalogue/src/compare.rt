@@ -26,8 +26,13 @@ fn shared_len(a: &[u8], b: &[u8]) -> usize
 }
 
 /// How many bytes from the front on the stored job, of `size` bytes, shares with this one.
-pub(crate) fn shared_with_stored<S: Shelf>(job: &[u8], size: u64, shelf: &mut S) -> Result<u64, Failed>
-    requires all { IsTrue (S.tells shelf.old) → size ≡ length (file (S.world shelf.old) job_file).bytes }
+pub(crate) fn shared_with_stored<S: Shelf>(
+    job: &[u8],
+    size: u64,
+    shelf: &mut S,
+) -> Result<u64, Failed>
+    requires all { IsTrue (S.tells shelf.old)
+        → size ≡ length (file (S.world shelf.old) job_file).bytes }
     ensures content { Told S.tells shelf.old shelf.new
         (Ran (Stays (now (S.world shelf.old))) (S.world shelf.old) (S.world shelf.new)) }
     ensures ok { IfOk result (λ n. IsTrue (S.tells shelf.new)

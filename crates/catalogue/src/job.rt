@@ -9,7 +9,8 @@ ghost use Rattle.catalogue.specs.Files.{job_gate, catalogue, step_gate};
 ghost use Rattle.catalogue.specs.Counts.{present};
 ghost use Rattle.catalogue.specs.Writes.{pieces};
 ghost use Rattle.catalogue.specs.Faults.{OnlyAttach};
-ghost use Rattle.catalogue.specs.Standings.{standing_of, counted_standing, AreGatesSure, DuringSyncs, DuringStore, DuringAttach, IsAttached};
+ghost use Rattle.catalogue.specs.Standings.{standing_of, counted_standing, AreGatesSure, IsAttached};
+ghost use Rattle.catalogue.specs.Standings.{DuringSyncs, DuringStore, DuringAttach};
 
 use crate::compare::shared_with_stored;
 use crate::fault::AttachFault;
@@ -20,20 +21,25 @@ use shelf_model::{Failed, Shelf};
 
 /// Attaches a job of that many steps to the folder: stores it where none is stored.
 ///
-/// A gate of steps that stands without a job counts nothing, and is emptied before the job is stored.
+/// A gate of steps that stands without a job counts nothing. It is emptied before a job is stored.
 pub fn attach<S: Shelf>(job: &[u8], steps: u32, shelf: &mut S) -> Result<Standing, AttachFault>
     ensures content { Told S.tells shelf.old shelf.new
-        (Ran (DuringAttach job.now (now (S.world shelf.old))) (S.world shelf.old) (S.world shelf.new)) }
+        (Ran (DuringAttach job.now (now (S.world shelf.old)))
+        (S.world shelf.old) (S.world shelf.new)) }
     ensures answer { IsTrue (S.tells shelf.new) → result ≢ Err AttachFault.Shelf
         → result ≡ standing_of job.now steps (present (now (S.world shelf.old)).folder) }
-    ensures ok { IfOk result (λ s. IsTrue (S.tells shelf.new) → IsAttached job.now s.done (now (S.world shelf.new)).folder) }
+    ensures ok { IfOk result (λ s. IsTrue (S.tells shelf.new)
+        → IsAttached job.now s.done (now (S.world shelf.new)).folder) }
     ensures calls { IsTrue (S.tells shelf.new)
         → (S.world shelf.new).clock ≤ (S.world shelf.old).clock + 9 + pieces (length job.now) }
     ensures faults { OnlyAttach (S.faults shelf.old) (S.faults shelf.new) result }
 {
     if make_gates_sure(shelf)? == 0 {
         store(job, shelf)?;
-        return Ok(Standing { fresh: true, done: 0 });
+        return Ok(Standing {
+            fresh: true,
+            done: 0,
+        });
     }
     resume(job, steps, shelf)
 }
@@ -43,8 +49,10 @@ fn make_gates_sure<S: Shelf>(shelf: &mut S) -> Result<u64, Failed>
     ensures content { Told S.tells shelf.old shelf.new
         (Ran (DuringSyncs (now (S.world shelf.old))) (S.world shelf.old) (S.world shelf.new)) }
     ensures ok { IfOk result (λ n. IsTrue (S.tells shelf.new)
-        → (n ≡ length (file (S.world shelf.new) job_gate).bytes) × AreGatesSure (now (S.world shelf.new)).folder) }
-    ensures calls { IsTrue (S.tells shelf.new) → (S.world shelf.new).clock ≤ (S.world shelf.old).clock + 3 }
+        → (n ≡ length (file (S.world shelf.new) job_gate).bytes)
+        × AreGatesSure (now (S.world shelf.new)).folder) }
+    ensures calls { IsTrue (S.tells shelf.new)
+        → (S.world shelf.new).clock ≤ (S.world shelf.old).clock + 3 }
     ensures faults { OnlyFolder (S.faults shelf.old) (S.faults shelf.new) result }
 {
     // Until a gate is made sure, an image may have another length of it than a read gives.
@@ -55,10 +63,13 @@ fn make_gates_sure<S: Shelf>(shelf: &mut S) -> Result<u64, Failed>
 
 // Stores a job in a folder that has none.
 fn store<S: Shelf>(job: &[u8], shelf: &mut S) -> Result<(), Failed>
-    requires unstored { IsTrue (S.tells shelf.old) → file (S.world shelf.old) job_gate ≡ firm_file [] }
+    requires unstored { IsTrue (S.tells shelf.old)
+        → file (S.world shelf.old) job_gate ≡ firm_file [] }
     ensures content { Told S.tells shelf.old shelf.new
-        (Ran (DuringStore job.now (file (S.world shelf.old) step_gate).reach (now (S.world shelf.old))) (S.world shelf.old) (S.world shelf.new)) }
-    ensures ok { OnOk result (IsTrue (S.tells shelf.new) → IsAttached job.now 0 (now (S.world shelf.new)).folder) }
+        (Ran (DuringStore job.now (file (S.world shelf.old) step_gate).reach
+        (now (S.world shelf.old))) (S.world shelf.old) (S.world shelf.new)) }
+    ensures ok { OnOk result (IsTrue (S.tells shelf.new)
+        → IsAttached job.now 0 (now (S.world shelf.new)).folder) }
     ensures calls { IsTrue (S.tells shelf.new)
         → (S.world shelf.new).clock ≤ (S.world shelf.old).clock + 6 + pieces (length job.now) }
     ensures faults { OnlyFolder (S.faults shelf.old) (S.faults shelf.new) result }
@@ -72,12 +83,14 @@ fn store<S: Shelf>(job: &[u8], shelf: &mut S) -> Result<(), Failed>
 // Compares the stored job with this one, and answers how many of its steps are committed.
 fn resume<S: Shelf>(job: &[u8], steps: u32, shelf: &mut S) -> Result<Standing, AttachFault>
     requires sure { IsTrue (S.tells shelf.old) → AreGatesSure (now (S.world shelf.old)).folder }
-    requires stored { IsTrue (S.tells shelf.old) → 0 < length (file (S.world shelf.old) job_gate).bytes }
+    requires stored { IsTrue (S.tells shelf.old)
+        → 0 < length (file (S.world shelf.old) job_gate).bytes }
     ensures content { Told S.tells shelf.old shelf.new
         (Ran (DuringSyncs (now (S.world shelf.old))) (S.world shelf.old) (S.world shelf.new)) }
     ensures answer { IsTrue (S.tells shelf.new) → result ≢ Err AttachFault.Shelf
         → result ≡ standing_of job.now steps (present (now (S.world shelf.old)).folder) }
-    ensures ok { IfOk result (λ s. IsTrue (S.tells shelf.new) → IsAttached job.now s.done (now (S.world shelf.new)).folder) }
+    ensures ok { IfOk result (λ s. IsTrue (S.tells shelf.new)
+        → IsAttached job.now s.done (now (S.world shelf.new)).folder) }
     ensures calls { IsTrue (S.tells shelf.new)
         → (S.world shelf.new).clock ≤ (S.world shelf.old).clock + 4 + pieces (length job.now) }
     ensures faults { OnlyAttach (S.faults shelf.old) (S.faults shelf.new) result }
@@ -96,17 +109,28 @@ fn count_steps<S: Shelf>(steps: u32, shelf: &mut S) -> Result<Standing, AttachFa
     ensures content { Told S.tells shelf.old shelf.new
         (Ran (Stays (now (S.world shelf.old))) (S.world shelf.old) (S.world shelf.new)) }
     ensures answer { IsTrue (S.tells shelf.new) → result ≢ Err AttachFault.Shelf
-        → result ≡ counted_standing steps (length (file (S.world shelf.old) step_gate).bytes) (length (file (S.world shelf.old) catalogue).bytes) }
-    ensures calls { IsTrue (S.tells shelf.new) → (S.world shelf.new).clock ≤ (S.world shelf.old).clock + 2 }
+        → result ≡ counted_standing steps (length (file (S.world shelf.old) step_gate).bytes)
+        (length (file (S.world shelf.old) catalogue).bytes) }
+    ensures calls { IsTrue (S.tells shelf.new)
+        → (S.world shelf.new).clock ≤ (S.world shelf.old).clock + 2 }
     ensures faults { OnlyAttach (S.faults shelf.old) (S.faults shelf.new) result }
 {
     let done = shelf.len(STEP_GATE)?;
     if done > steps as u64 {
-        return Err(AttachFault::Damaged { file: STEP_GATE, at: steps as u64 });
+        return Err(AttachFault::Damaged {
+            file: STEP_GATE,
+            at: steps as u64,
+        });
     }
     let size = shelf.len(CATALOGUE)?;
     if size < 128 * done {
-        return Err(AttachFault::Damaged { file: CATALOGUE, at: 128 * (size / 128) });
+        return Err(AttachFault::Damaged {
+            file: CATALOGUE,
+            at: 128 * (size / 128),
+        });
     }
-    Ok(Standing { fresh: false, done: done as u32 })
+    Ok(Standing {
+        fresh: false,
+        done: done as u32,
+    })
 }

@@ -2,8 +2,8 @@
 //!
 //! An entry has 128 bytes, numbers with the highest byte first: the step number at 0 (4 bytes), the
 //! kind at 4, the answer at 5, the length of the name at 6, a 0 at 7, the count at 8 (8 bytes), the
-//! turns at 16 (8), the next part number at 24 (8), the name at 32 with bytes 0 behind it (63), and 33
-//! bytes 0.
+//! turns at 16 (8), the next part number at 24 (8), the name at 32 with bytes 0 behind it (63), and
+//! 33 bytes 0.
 use byteorder::{BigEndian, ByteOrder};
 
 /// What a committed step left.

@@ -1,8 +1,8 @@
 //! The job that a folder stores, the entries of its committed steps, and the gates that count them.
 //!
-//! A gate is a file that counts by its length alone. It grows by one byte, which is made sure, after
-//! all that it covers was made sure: so in each image that a stop may leave, what a gate counts is
-//! there whole.
+//! A gate is a file that counts by its length alone. It grows by one byte, which is made sure,
+//! after all that it covers was made sure: so in each image that a stop may leave, what a gate
+//! counts is there whole.
 #![tactic(auto)]
 
 mod compare;

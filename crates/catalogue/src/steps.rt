@@ -8,8 +8,8 @@ ghost use Rattle.catalogue.specs.Counts.{count_in, present};
 ghost use Rattle.catalogue.specs.Entries.{IsEntryOf, IsEntryFault};
 ghost use Rattle.catalogue.specs.Commits.{IsReady, DuringCommit, IsCommitted};
 
-use crate::layout::Entry;
 use crate::files::{CATALOGUE, STEP_GATE};
+use crate::layout::Entry;
 use crate::writes::{lengthen, replace_from};
 use shelf_model::{Failed, Shelf, StreamFault};
 
@@ -17,18 +17,23 @@ use shelf_model::{Failed, Shelf, StreamFault};
 ///
 /// It isn't judged against the plan: whether its kind is that of the step, its caller knows.
 pub fn entry<S: Shelf>(k: u32, shelf: &mut S) -> Result<Entry, StreamFault>
-    requires committed { IsTrue (S.tells shelf.old) → k < count_in (present (now (S.world shelf.old)).folder) }
+    requires committed { IsTrue (S.tells shelf.old)
+        → k < count_in (present (now (S.world shelf.old)).folder) }
     ensures content { Told S.tells shelf.old shelf.new
         (Ran (Stays (now (S.world shelf.old))) (S.world shelf.old) (S.world shelf.new)) }
     ensures ok { IfOk result (λ e. IsTrue (S.tells shelf.new)
         → IsEntryOf k (present (now (S.world shelf.old)).folder) e) }
     ensures err { IfErr result (λ fault. IsTrue (S.tells shelf.new)
         → IsEntryFault k (present (now (S.world shelf.old)).folder) fault) }
-    ensures calls { IsTrue (S.tells shelf.new) → (S.world shelf.new).clock ≤ (S.world shelf.old).clock + 1 }
+    ensures calls { IsTrue (S.tells shelf.new)
+        → (S.world shelf.new).clock ≤ (S.world shelf.old).clock + 1 }
     ensures faults { OnlyShelf (S.faults shelf.old) (S.faults shelf.new) result }
 {
     let at = 128 * k as u64;
-    let damaged = StreamFault::Damaged { file: CATALOGUE, at };
+    let damaged = StreamFault::Damaged {
+        file: CATALOGUE,
+        at,
+    };
     let mut bytes = [0u8; 128];
     let got = shelf.read_at(CATALOGUE, at, &mut bytes)?;
     if got < 128 {
@@ -48,12 +53,15 @@ pub fn entry<S: Shelf>(k: u32, shelf: &mut S) -> Result<Entry, StreamFault>
 /// All that the entry speaks of has to be sure before. After `Failed` the step is committed or it
 /// isn't: attach again before the next commit.
 pub fn commit<S: Shelf>(entry: &Entry, shelf: &mut S) -> Result<(), Failed>
-    requires ready { IsTrue (S.tells shelf.old) → IsReady entry.now.number (now (S.world shelf.old)).folder }
+    requires ready { IsTrue (S.tells shelf.old)
+        → IsReady entry.now.number (now (S.world shelf.old)).folder }
     ensures content { Told S.tells shelf.old shelf.new
-        (Ran (DuringCommit entry.now (now (S.world shelf.old))) (S.world shelf.old) (S.world shelf.new)) }
+        (Ran (DuringCommit entry.now (now (S.world shelf.old)))
+        (S.world shelf.old) (S.world shelf.new)) }
     ensures ok { OnOk result (IsTrue (S.tells shelf.new)
         → IsCommitted entry.now (now (S.world shelf.old)).folder (now (S.world shelf.new)).folder) }
-    ensures calls { IsTrue (S.tells shelf.new) → (S.world shelf.new).clock ≤ (S.world shelf.old).clock + 5 }
+    ensures calls { IsTrue (S.tells shelf.new)
+        → (S.world shelf.new).clock ≤ (S.world shelf.old).clock + 5 }
     ensures faults { OnlyFolder (S.faults shelf.old) (S.faults shelf.new) result }
 {
     let number = entry.number as u64;

@@ -17,7 +17,8 @@ fn append_all<S: Shelf>(f: FileNo, at: u64, bytes: &[u8], shelf: &mut S) -> Resu
     requires small { at + length bytes.now < 2 ^ 64 }
     requires at_end { IsTrue (S.tells shelf.old) → at ≡ length (file (S.world shelf.old) f).bytes }
     ensures content { Told S.tells shelf.old shelf.new
-        (Ran (Growing f (length bytes.now) (now (S.world shelf.old))) (S.world shelf.old) (S.world shelf.new)) }
+        (Ran (Growing f (length bytes.now) (now (S.world shelf.old)))
+        (S.world shelf.old) (S.world shelf.new)) }
     ensures ok { OnOk result (IsTrue (S.tells shelf.new)
         → (file (S.world shelf.new) f).bytes ≡ (file (S.world shelf.old) f).bytes ++ bytes.now) }
     ensures calls { IsTrue (S.tells shelf.new)
@@ -34,13 +35,20 @@ fn append_all<S: Shelf>(f: FileNo, at: u64, bytes: &[u8], shelf: &mut S) -> Resu
 }
 
 /// Replaces what stands from byte `at` on by these bytes, and makes the file sure.
-pub(crate) fn replace_from<S: Shelf>(f: FileNo, at: u64, bytes: &[u8], shelf: &mut S) -> Result<(), Failed>
+pub(crate) fn replace_from<S: Shelf>(
+    f: FileNo,
+    at: u64,
+    bytes: &[u8],
+    shelf: &mut S,
+) -> Result<(), Failed>
     requires small { at + length bytes.now < 2 ^ 64 }
     requires within { IsTrue (S.tells shelf.old) → at ≤ length (file (S.world shelf.old) f).bytes }
     ensures content { Told S.tells shelf.old shelf.new
-        (Ran (Replacing f at (length bytes.now) (now (S.world shelf.old))) (S.world shelf.old) (S.world shelf.new)) }
+        (Ran (Replacing f at (length bytes.now) (now (S.world shelf.old)))
+        (S.world shelf.old) (S.world shelf.new)) }
     ensures ok { OnOk result (IsTrue (S.tells shelf.new)
-        → file (S.world shelf.new) f ≡ firm_file (take at (file (S.world shelf.old) f).bytes ++ bytes.now)) }
+        → file (S.world shelf.new) f
+        ≡ firm_file (take at (file (S.world shelf.old) f).bytes ++ bytes.now)) }
     ensures calls { IsTrue (S.tells shelf.new)
         → (S.world shelf.new).clock ≤ (S.world shelf.old).clock + 2 + pieces (length bytes.now) }
     ensures faults { OnlyFolder (S.faults shelf.old) (S.faults shelf.new) result }
@@ -54,12 +62,16 @@ pub(crate) fn replace_from<S: Shelf>(f: FileNo, at: u64, bytes: &[u8], shelf: &m
 pub(crate) fn lengthen<S: Shelf>(gate: FileNo, at: u64, shelf: &mut S) -> Result<(), Failed>
     requires sure { IsTrue (S.tells shelf.old)
         → file (S.world shelf.old) gate ≡ firm_file (file (S.world shelf.old) gate).bytes }
-    requires at_end { IsTrue (S.tells shelf.old) → at ≡ length (file (S.world shelf.old) gate).bytes }
+    requires at_end { IsTrue (S.tells shelf.old)
+        → at ≡ length (file (S.world shelf.old) gate).bytes }
     ensures content { Told S.tells shelf.old shelf.new
-        (Ran (Lengthening gate at (now (S.world shelf.old))) (S.world shelf.old) (S.world shelf.new)) }
+        (Ran (Lengthening gate at (now (S.world shelf.old)))
+        (S.world shelf.old) (S.world shelf.new)) }
     ensures ok { OnOk result (IsTrue (S.tells shelf.new)
-        → file (S.world shelf.new) gate ≡ firm_file ((file (S.world shelf.old) gate).bytes ++ 0 ∷ [])) }
-    ensures calls { IsTrue (S.tells shelf.new) → (S.world shelf.new).clock ≤ (S.world shelf.old).clock + 2 }
+        → file (S.world shelf.new) gate
+        ≡ firm_file ((file (S.world shelf.old) gate).bytes ++ 0 ∷ [])) }
+    ensures calls { IsTrue (S.tells shelf.new)
+        → (S.world shelf.new).clock ≤ (S.world shelf.old).clock + 2 }
     ensures faults { OnlyFolder (S.faults shelf.old) (S.faults shelf.new) result }
 {
     shelf.append(gate, at, &[0])?;

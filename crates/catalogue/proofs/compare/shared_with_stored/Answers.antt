@@ -1,7 +1,6 @@
-use Rattle.std.proofs.Common.{◌≡◌, ◌+◌, ◌-◌, ◌≤◌, min, length, take, drop, refl, sym, ap, ◌∙◌, rules, arith}
-use Rattle.std.specs.Prelude.{IsTrue}
+use Rattle.std.proofs.Common.{◌≡◌, ◌+◌, ◌-◌, ◌≤◌, min, length, take, ap, ◌∙◌, rules, arith}
 use Rattle.shelf_model.specs.World.{now, file}
-use Rattle.shelf_model.specs.Moments.{Ran, Stays}
+use Rattle.shelf_model.specs.Moments.{Stays}
 use Rattle.shelf_model.proofs.Runs.{ran_end, ran_on}
 use Rattle.std.proofs.lemmas.List.{length-take}
 use Rattle.catalogue.specs.Files.{job_file}
@@ -18,7 +17,7 @@ returns-then-same-want-clause-ok g c = λ tells.
     let part : length (take c.min-want.result c.loop-at.piece) ≡ min c.min-want.result (length c.loop-at.piece) = length-take c.min-want.result c.loop-at.piece in
     let room : length (take c.min-want.result c.loop-at.piece) ≡ c.min-want.result = omega arith in
     let read = read_piece (g.S.Shelf.world c.args.shelf.now) (g.S.Shelf.world c.loop-at.shelf) c.args.job.now _ _ _ c.loop-at.at c.min-want.result _ c.in_ok-got.got c.shared_len-same.result
-        (omega arith) stays (c.in_ok-got.ensures.content.did tells).ok room (omega arith) c.shared_len-same.ensures in
+    (omega arith) stays (c.in_ok-got.ensures.content.did tells).ok room (omega arith) c.shared_len-same.ensures in
     ends_within (file (g.S.Shelf.world c.args.shelf.now) job_file).bytes c.args.job.now c.loop-at.at c.min-want.result c.shared_len-same.result (omega arith) (omega arith) both.1 read c.if-same-want.true
 
 pub loop-at-preserved : goal.loop-at-preserved
@@ -36,9 +35,10 @@ loop-at-preserved g c = record {
         let part : length (take c.min-want.result c.loop-at.piece) ≡ min c.min-want.result (length c.loop-at.piece) = length-take c.min-want.result c.loop-at.piece in
         let room : length (take c.min-want.result c.loop-at.piece) ≡ c.min-want.result = omega arith in
         let read = read_piece (g.S.Shelf.world c.args.shelf.now) (g.S.Shelf.world c.loop-at.shelf) c.args.job.now _ _ _ c.loop-at.at c.min-want.result _ c.in_ok-got.got c.shared_len-same.result
-            (omega arith) stays did.ok room (omega arith) c.shared_len-same.ensures in
-        (ran_on (g.S.Shelf.world c.args.shelf.now) (g.S.Shelf.world c.loop-at.shelf) (g.S.Shelf.world c.read_at.new.self) (Stays (now (g.S.Shelf.world c.args.shelf.now))) both.0 did.shelf (ap (λ m. m.folder) did.same ∙ stays),
-          goes_further (file (g.S.Shelf.world c.args.shelf.now) job_file).bytes c.args.job.now c.loop-at.at c.min-want.result c.shared_len-same.result both.1 read c.if-same-want.false);
+        (omega arith) stays did.ok room (omega arith) c.shared_len-same.ensures in (
+          ran_on (g.S.Shelf.world c.args.shelf.now) (g.S.Shelf.world c.loop-at.shelf) (g.S.Shelf.world c.read_at.new.self) (Stays (now (g.S.Shelf.world c.args.shelf.now))) both.0 did.shelf (ap (λ m. m.folder) did.same ∙ stays),
+          goes_further (file (g.S.Shelf.world c.args.shelf.now) job_file).bytes c.args.job.now c.loop-at.at c.min-want.result c.shared_len-same.result both.1 read c.if-same-want.false,
+        );
   };
   calls = λ tells.
       let did = c.in_ok-got.ensures.content.did tells in

@@ -1,4 +1,4 @@
-use Rattle.std.proofs.Common.{◌≡◌, ◌∙◌, ap}
+use Rattle.std.proofs.Common.{◌∙◌, ap}
 use Rattle.std.specs.Prelude.{IsTrue}
 use Rattle.shelf_model.specs.World.{now, file}
 use Rattle.shelf_model.specs.Moments.{Stays}
@@ -18,13 +18,13 @@ pub returns-in_err-same-clause-content : goal.returns-in_err-same-clause-content
 returns-in_err-same-clause-content g c =
     let one = sync_first g.S.Shelf.tells g.S.Shelf.world _ _ _ _ is_job_file g.met.S.Shelf.files_are c.in_ok-sync.ensures.content in
     let two = len_next g.S.Shelf.tells g.S.Shelf.world _ _ _ _ _ one c.in_ok-size.ensures.content in
-    reads_next g.S.Shelf.tells g.S.Shelf.world _ _ _ two c.in_err-same.ensures.content
+    reads_next g.S.Shelf.tells g.S.Shelf.world c.args.shelf.now c.len.new.self c.shared_with_stored.new.shelf two c.in_err-same.ensures.content
 
 pub returns-then-same-size-clause-content : goal.returns-then-same-size-clause-content
 returns-then-same-size-clause-content g c =
     let one = sync_first g.S.Shelf.tells g.S.Shelf.world _ _ _ _ is_job_file g.met.S.Shelf.files_are c.in_ok-sync.ensures.content in
     let two = len_next g.S.Shelf.tells g.S.Shelf.world _ _ _ _ _ one c.in_ok-size.ensures.content in
-    reads_next g.S.Shelf.tells g.S.Shelf.world _ _ _ two c.in_ok-same.ensures.content
+    reads_next g.S.Shelf.tells g.S.Shelf.world c.args.shelf.now c.len.new.self c.shared_with_stored.new.shelf two c.in_ok-same.ensures.content
 
 pub returns-then-same-size-clause-answer : goal.returns-then-same-size-clause-answer
 returns-then-same-size-clause-answer g c = λ tells_read not_shelf.
@@ -46,8 +46,8 @@ pub returns-clause-content : goal.returns-clause-content
 returns-clause-content g c =
     let one = sync_first g.S.Shelf.tells g.S.Shelf.world _ _ _ _ is_job_file g.met.S.Shelf.files_are c.in_ok-sync.ensures.content in
     let two = len_next g.S.Shelf.tells g.S.Shelf.world _ _ _ _ _ one c.in_ok-size.ensures.content in
-    let three = reads_next g.S.Shelf.tells g.S.Shelf.world _ _ _ two c.in_ok-same.ensures.content in
-    reads_next g.S.Shelf.tells g.S.Shelf.world _ _ _ three c.count_steps.ensures.content
+    let three = reads_next g.S.Shelf.tells g.S.Shelf.world c.args.shelf.now c.len.new.self c.shared_with_stored.new.shelf two c.in_ok-same.ensures.content in
+    reads_next g.S.Shelf.tells g.S.Shelf.world c.args.shelf.now c.shared_with_stored.new.shelf c.count_steps.new.shelf three c.count_steps.ensures.content
 
 pub returns-clause-answer : goal.returns-clause-answer
 returns-clause-answer g c = λ tells not_shelf.

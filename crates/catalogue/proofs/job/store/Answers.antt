@@ -1,5 +1,3 @@
-use Rattle.shelf_model.specs.World.{file}
-use Rattle.catalogue.specs.Files.{step_gate}
 use Rattle.shelf_model.proofs.Runs.{told}
 use Rattle.catalogue.proofs.Stored.{cleared_so_far, writing_so_far, stores, store_ok}
 use Rattle.catalogue.proofs.job.store.Goals as goal

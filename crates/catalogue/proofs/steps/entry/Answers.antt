@@ -1,8 +1,6 @@
-use Rattle.std.proofs.Common.{◌≡◌, refl, sym, ap, ◌∙◌, arith}
-use Rattle.std.specs.Prelude.{Option, Some, None}
+use Rattle.std.proofs.Common.{refl, sym, ◌∙◌}
 use Rattle.shelf_model.specs.World.{now}
 use Rattle.catalogue.specs.Counts.{present}
-use Rattle.catalogue.specs.Entries.{IsEntry, IsEntryOf, entry_bytes}
 use Rattle.catalogue.proofs.Places.{whole_read, no_entry, other_entry, none_there}
 use Rattle.catalogue.proofs.steps.entry.Goals as goal
 

@@ -1,9 +1,6 @@
-use Rattle.std.proofs.Common.{◌≡◌, ◌+◌, ◌-◌, ◌≤◌, ◌++◌, length, take, rules, arith}
-use Rattle.std.specs.Prelude.{IsTrue}
-use Rattle.shelf_model.specs.World.{now, file}
-use Rattle.shelf_model.specs.Moments.{Ran}
+use Rattle.std.proofs.Common.{◌≡◌, ◌+◌, ◌-◌, ◌≤◌, length, rules, arith}
 use Rattle.shelf_model.proofs.Runs.{told}
-use Rattle.catalogue.specs.Writes.{pieces, Growing}
+use Rattle.catalogue.specs.Writes.{pieces}
 use Rattle.catalogue.proofs.Written.{grow_on}
 use Rattle.catalogue.proofs.writes.append_all.Goals as goal
 

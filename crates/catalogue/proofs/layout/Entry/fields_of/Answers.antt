@@ -1,6 +1,5 @@
-use Rattle.std.proofs.Common.{◌≡◌, sym, ◌∙◌}
-use Rattle.catalogue.specs.Entries.{entry_bytes, Fits}
-use Rattle.catalogue.proofs.Fields.{ReadsAs, entry_reads, same_fields}
+use Rattle.std.proofs.Common.{sym, ◌∙◌}
+use Rattle.catalogue.proofs.Fields.{entry_reads, same_fields}
 use Rattle.catalogue.proofs.layout.Entry.fields_of.Goals as goal
 
 pub returns-clause-read : goal.returns-clause-read
