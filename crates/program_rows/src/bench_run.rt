@@ -1,0 +1,27 @@
+// A run of the program over a station in memory, with a text at the path that its words name.
+use script_runner::adiar;
+use shelf_memory::Bench;
+use std::alloc::Global;
+use std::test::Fail;
+
+/// The words of a run in the station's own folder.
+pub(crate) const RUN: [&str; 5] = ["adiar", "run", "FOLDER", "--script", "script"];
+
+/// A script of one request.
+pub(crate) const ONE_VARIABLE: &[u8] = b"vars a b c\nvar f b\n";
+
+/// A station with a script at the path that `RUN` names.
+pub(crate) fn bench_with(alloc: Global, script: &[u8]) -> Result<Bench, Fail> {
+    let mut bench = Bench::empty(alloc);
+    bench.put_text("script", script)?;
+    Ok(bench)
+}
+
+/// Runs the program, and answers its status.
+pub(crate) fn run(alloc: Global, words: &[&str], bench: &mut Bench) -> Result<u8, Fail> {
+    let mut owned = Vec::new(alloc);
+    for word in words {
+        owned.push(String::from_str(alloc, word)?)?;
+    }
+    Ok(adiar(alloc, owned.as_slice(), bench))
+}

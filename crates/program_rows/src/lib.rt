@@ -1,0 +1,12 @@
+//! The program on worked examples, over a station in memory: what it says, what it leaves in files, and
+//! its status where a call fails.
+#![tactic(auto)]
+
+#[cfg(test)]
+mod bench_run;
+#[cfg(test)]
+mod failing_calls;
+#[cfg(test)]
+mod node_files;
+#[cfg(test)]
+mod refusals;

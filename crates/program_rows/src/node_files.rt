@@ -1,0 +1,88 @@
+// What accepted scripts say, and the bytes that they leave. Numbers in files have the highest byte first.
+use crate::bench_run::{ONE_VARIABLE, RUN, bench_with, run};
+use shelf_memory::Bench;
+use shelf_model::FileNo;
+use std::test::Fail;
+
+/// The words of a variable's file: its node, the truth values 0 and 1 that it leads to, and the trailer
+/// with the root, the number of nodes and the number of variables.
+type Words = [u64; 6];
+
+const ZERO: u64 = 0x8000_0000_0000_0000;
+
+const ONE: u64 = 0x8000_0000_0000_0001;
+
+/// The highest number of level 0, of level 1 and of level 2.
+const LEVEL_0: u64 = 0x0000_7fff_ffff_ffff;
+
+const LEVEL_1: u64 = 0x0000_ffff_ffff_ffff;
+
+const LEVEL_2: u64 = 0x0001_7fff_ffff_ffff;
+
+#[test]
+fn makes_the_file_of_each_request(rt: HostRuntime) -> Result<(), Fail> {
+    let a = [LEVEL_0, ZERO, ONE, LEVEL_0, 1, 3];
+    let b = [LEVEL_1, ZERO, ONE, LEVEL_1, 1, 3];
+    let c = [LEVEL_2, ZERO, ONE, LEVEL_2, 1, 3];
+    let alone = [LEVEL_0, ZERO, ONE, LEVEL_0, 1, 1];
+    let cases: [(&[u8], &[u8], &[Words]); 5] = [
+        (ONE_VARIABLE, b"start 1\n2: nodes 1\ndone\n", &[b]),
+        (b"vars a\n", b"start 0\ndone\n", &[]),
+        (
+            b"vars a\nvar a a\n",
+            b"start 1\n2: nodes 1\ndone\n",
+            &[alone],
+        ),
+        (
+            b"vars a b c\nvar f a\nvar g b\nvar h c\n",
+            b"start 3\n2: nodes 1\n3: nodes 1\n4: nodes 1\ndone\n",
+            &[a, b, c],
+        ),
+        (
+            b"vars a b c\nvar h c\nvar again c\nvar f a\n",
+            b"start 3\n2: nodes 1\n3: nodes 1\n4: nodes 1\ndone\n",
+            &[c, c, a],
+        ),
+    ];
+    for (script, said, files) in cases {
+        let mut bench = bench_with(rt.alloc(), script)?;
+        assert_eq!(rt; run(rt.alloc(), &RUN, &mut bench)?, 0, "{script:?}");
+        assert_eq!(rt; bench.said(), said, "{script:?}");
+        for (step, words) in files.iter().enumerate() {
+            assert!(rt;
+                holds(&bench, node_file(step as u32), words),
+                "{script:?}, step {step}"
+            );
+        }
+        assert_eq!(rt;
+            bench.file(node_file(files.len() as u32)),
+            b"".as_slice(),
+            "{script:?}"
+        );
+    }
+    Ok(())
+}
+
+#[test]
+fn writes_numbers_with_the_highest_byte_first(rt: HostRuntime) -> Result<(), Fail> {
+    let wanted = b"\x00\x00\xff\xff\xff\xff\xff\xff\x80\x00\x00\x00\x00\x00\x00\x00\
+                   \x80\x00\x00\x00\x00\x00\x00\x01\x00\x00\xff\xff\xff\xff\xff\xff\
+                   \x00\x00\x00\x00\x00\x00\x00\x01\x00\x00\x00\x00\x00\x00\x00\x03";
+    let mut bench = bench_with(rt.alloc(), ONE_VARIABLE)?;
+    assert_eq!(rt; run(rt.alloc(), &RUN, &mut bench)?, 0);
+    assert_eq!(rt; bench.file(node_file(0)), wanted.as_slice());
+    Ok(())
+}
+
+fn node_file(step: u32) -> FileNo {
+    FileNo { step, part: 0 }
+}
+
+/// Whether the file has these words and no other bytes.
+fn holds(bench: &Bench, f: FileNo, words: &Words) -> bool {
+    let mut wanted = [0; 48];
+    for (k, word) in words.iter().enumerate() {
+        wanted[8 * k..8 * k + 8].copy_from_slice(&word.to_be_bytes());
+    }
+    bench.file(f) == wanted.as_slice()
+}
