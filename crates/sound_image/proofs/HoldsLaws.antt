@@ -1,0 +1,148 @@
+-- A folder that holds a job's first steps has only sound images, and the other way round.
+use Rattle.std.proofs.Common.{◌≡◌, ◌∙◌, ℕ, zero, suc, ◌+◌, ◌-◌, ◌*◌, ◌<◌, ◌≤◌, min, List, [], ◌∷◌, length, take, drop, refl, sym, ap, subst, inl, inr, arith}
+use Rattle.std.specs.Prelude.{IsTrue}
+use Rattle.std.proofs.lemmas.List.{take-take, length-take, length-take-le, length-drop, drop-take}
+use Rattle.bool_tables.specs.Plans.{is_live}
+use Rattle.shelf_model.specs.declared.file_no.FileNo.{FileNo}
+use Rattle.shelf_model.specs.File.{File, firm_file, no_file, IsLeft}
+use Rattle.shelf_model.specs.Folder.{Folder, Image, file_in, bytes_in, IsImage, AreFiles}
+use Rattle.shelf_model.proofs.Files.{only_image, same_image, kept_left}
+use Rattle.shelf_model.proofs.Images.{chosen, each_left, length_is_all, shortest_left, standing_left, standing_image}
+use Rattle.catalogue.specs.declared.layout.Entry.{Entry}
+use Rattle.catalogue.specs.Files.{job_file, catalogue}
+use Rattle.catalogue.specs.Counts.{HasCount}
+use Rattle.catalogue.specs.Commits.{IsReady}
+use Rattle.catalogue.specs.Entries.{entry_bytes}
+use Rattle.catalogue.proofs.Counted.{ready_counts}
+use Rattle.catalogue.proofs.Places.{length_entry}
+use Rattle.sound_image.specs.Files.{node_file, checkpoint_gate}
+use Rattle.sound_image.specs.Jobs.{Job, file_of}
+use Rattle.sound_image.specs.Entries.{IsEntryOfStep}
+use Rattle.sound_image.specs.Sound.{ShowsSteps}
+use Rattle.sound_image.specs.Holds.{KeepsEntries, Holds, AreSound, HaveCount}
+
+-- what stands at an entry's place is what its front has there
+pub entry_in_front : (k count : ℕ) (front bytes : List ℕ) → length front ≡ 128 * count → k < count → take (length front) bytes ≡ front
+    → take 128 (drop (128 * k) bytes) ≡ take 128 (drop (128 * k) front)
+entry_in_front k count front bytes size within begins =
+    let room : 128 * k + 128 ≤ length front = omega (arith, size, within) in
+    sym (drop-take (128 * k) 128 bytes) ∙ ap (drop (128 * k)) (sym (take-take (128 * k + 128) (length front) bytes room))
+    ∙ ap (λ xs. drop (128 * k) (take (128 * k + 128) xs)) begins ∙ drop-take (128 * k) 128 front
+
+-- nothing more is left of an empty file than nothing
+pub none_left : (left : List ℕ) → IsLeft no_file left → left ≡ []
+none_left left h = nothing left h.no_longer
+  where
+    nothing : (xs : List ℕ) → length xs ≤ 0 → xs ≡ []
+    nothing [] h = refl
+    nothing (x ∷ xs) h = absurd (omega arith)
+
+-- each image of a folder that holds so many steps has their count
+pub holds_count : (job : Job) (count : ℕ) (folder : Folder) → Holds job count folder → HaveCount count folder
+holds_count job count folder holds image is_image = (ready_counts count folder image holds.ready is_image).count
+
+-- and is sound
+pub holds_sound : (job : Job) (count : ℕ) (folder : Folder) → Holds job count folder → AreSound job folder
+holds_sound job count folder holds image is_image =
+    let r : FileNo → List ℕ = bytes_in image in
+    let counted : HasCount count r = ready_counts count folder image holds.ready is_image in
+    record {
+      shown = inr (record {
+        stored = counted.stored;
+        job_is = only_image job.bytes (r job_file) (same_image folder image job_file (firm_file job.bytes) holds.job_is is_image);
+        few = subst (λ c. c ≤ length job.steps) (sym counted.count) holds.few;
+        entries = λ k within.
+            let below : k < count = subst (λ c. k < c) counted.count within in
+            let found : (e : Entry) × IsEntryOfStep job k e × (take 128 (drop (128 * k) holds.entries.front) ≡ entry_bytes e) = holds.entries.each k below in
+            let begins : take (length holds.entries.front) (r catalogue) ≡ holds.entries.front =
+            kept_left holds.entries.front (file_in folder catalogue) (r catalogue) holds.entries.kept (is_image catalogue) in
+            (found.0, found.1, entry_in_front k count holds.entries.front (r catalogue) holds.entries.size below begins ∙ found.2);
+        files = λ s live.
+            let lives : IsTrue (is_live (take count job.steps) s) = subst (λ c. IsTrue (is_live (take c job.steps) s)) counted.count live in
+            only_image (file_of job s) (r (node_file s)) (same_image folder image (node_file s) (firm_file (file_of job s)) (holds.files s lives) is_image);
+      });
+      resumable = record {
+        no_checkpoint = λ s within. none_left (r (checkpoint_gate s)) (same_image folder image (checkpoint_gate s) no_file (holds.gates s within) is_image);
+      };
+    }
+
+-- the other way: where each image is sound and has one count, and the job is attached, the folder holds so many steps
+module _ (job : Job) (count : ℕ) (folder : Folder) (files : AreFiles folder) (ready : IsReady count folder) (sound : AreSound job folder) where
+  counts : HaveCount count folder
+  counts image is_image = (ready_counts count folder image ready is_image).count
+
+  shows : (image : Image) → IsImage folder image → ShowsSteps job (bytes_in image)
+  shows image is_image = elim (sound image is_image).shown [
+    | inl unstored ↦ absurd (let stored = (ready_counts count folder image ready is_image).stored in let none = unstored.0 in cc)
+    | inr shown ↦ shown
+  ]
+
+  -- the entries that a stop leaves at least
+  front_is : List ℕ
+  front_is = take (128 * count) (file_in folder catalogue).bytes
+
+  entry_there : (bytes : List ℕ) (k : ℕ) → (e : Entry) × IsEntryOfStep job k e × (take 128 (drop (128 * k) bytes) ≡ entry_bytes e) → 128 * (k + 1) ≤ length bytes
+  entry_there bytes k found =
+      let long : length (take 128 (drop (128 * k) bytes)) ≡ 128 = ap length found.2 ∙ length_entry found.0 found.1.entry_is.fits in
+      let counted : length (take 128 (drop (128 * k) bytes)) ≡ min 128 (length bytes - 128 * k) = simp (length-take, length-drop) in
+      omega (arith, long, counted)
+
+  -- what a stop leaves of the catalogue has every entry
+  abbrev EntriesIn : List ℕ → Type 0
+  EntriesIn left = (k : ℕ) → k < count → (e : Entry) × IsEntryOfStep job k e × (take 128 (drop (128 * k) left) ≡ entry_bytes e)
+
+  each_catalogue : (left : List ℕ) → IsLeft (file_in folder catalogue) left → EntriesIn left
+  each_catalogue = each_left folder catalogue EntriesIn files (λ image is_image k within.
+      (shows image is_image).entries k (subst (λ c. k < c) (sym (counts image is_image)) within))
+
+  firm_covers : 128 * count ≤ (file_in folder catalogue).firm
+  firm_covers =
+      let shortest : List ℕ = take (file_in folder catalogue).firm (file_in folder catalogue).bytes in
+      let there : EntriesIn shortest = each_catalogue shortest (shortest_left (file_in folder catalogue) (files catalogue)) in
+      let short : length shortest ≡ (file_in folder catalogue).firm =
+      length-take-le (file_in folder catalogue).firm (file_in folder catalogue).bytes (files catalogue).firm_within in
+      covered count shortest there ((file_in folder catalogue).firm) short
+    where
+      covered : (n : ℕ) (xs : List ℕ) → ((k : ℕ) → k < n → (e : Entry) × IsEntryOfStep job k e × (take 128 (drop (128 * k) xs) ≡ entry_bytes e))
+          → (firm : ℕ) → length xs ≡ firm → 128 * n ≤ firm
+      covered zero xs there firm size = omega arith
+      covered (suc n) xs there firm size = let long : 128 * (n + 1) ≤ length xs = entry_there xs n (there n (omega arith)) in omega (arith, long, size)
+
+  keeps : KeepsEntries job count folder
+  unfolding front_is
+  keeps =
+      let x : File = file_in folder catalogue in
+      let within : 128 * count ≤ length x.bytes = let a = firm_covers in let b = (files catalogue).firm_within in omega (arith, a, b) in
+      let size : length (take (128 * count) x.bytes) ≡ 128 * count = length-take-le (128 * count) x.bytes within in
+      let there : EntriesIn x.bytes = each_catalogue x.bytes (standing_left x (files catalogue)) in
+      record {
+        front = take (128 * count) x.bytes;
+        size = size;
+        kept = record {
+          sure = subst (λ c. c ≤ x.firm) (sym size) firm_covers;
+          same = ap (λ c. take c x.bytes) size;
+        };
+        each = λ k below.
+            let found : (e : Entry) × IsEntryOfStep job k e × (take 128 (drop (128 * k) x.bytes) ≡ entry_bytes e) = there k below in
+            (found.0, found.1, sym (entry_in_front k count (take (128 * count) x.bytes) x.bytes size below (ap (λ c. take c x.bytes) size)) ∙ found.2);
+      }
+
+  -- a file of which every image has the same bytes
+  all_sure : (f : FileNo) (bytes : List ℕ) → ((image : Image) → IsImage folder image → bytes_in image f ≡ bytes) → file_in folder f ≡ firm_file bytes
+  all_sure f bytes same =
+      let all = length_is_all folder f (length bytes) files (λ image is_image. ap length (same image is_image)) in
+      let there : (file_in folder f).bytes ≡ bytes =
+      each_left folder f (λ left. left ≡ bytes) files same (file_in folder f).bytes (standing_left (file_in folder f) (files f)) in
+      all.0 ∙ ap firm_file there
+
+  pub held : file_in folder job_file ≡ firm_file job.bytes → Holds job count folder
+  held job_is = record {
+    job_is = job_is;
+    ready = ready;
+    few = let image : Image = chosen (λ _ x. x.bytes) folder in
+        subst (λ c. c ≤ length job.steps) (counts image (standing_image folder files)) (shows image (standing_image folder files)).few;
+    entries = keeps;
+    files = λ s live. all_sure (node_file s) (file_of job s) (λ image is_image.
+        (shows image is_image).files s (subst (λ c. IsTrue (is_live (take c job.steps) s)) (sym (counts image is_image)) live));
+    gates = λ s within. all_sure (checkpoint_gate s) [] (λ image is_image. (sound image is_image).resumable.no_checkpoint s within);
+  }

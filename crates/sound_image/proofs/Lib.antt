@@ -1,0 +1,5 @@
+pub mod Numbers
+pub mod HoldsLaws
+pub mod Live
+pub mod StepLaws
+pub mod AttachLaws

@@ -1,0 +1,188 @@
+-- What stays sound while a step is made and committed.
+use Rattle.std.proofs.Common.{◌≡◌, ◌≢◌, ◌∙◌, ℕ, ◌+◌, ◌*◌, ◌<◌, ◌≤◌, List, ◌++◌, length, take, drop, refl, sym, ap, subst, inl, inr, arith, length-append}
+use Rattle.std.specs.Prelude.{IsTrue}
+use Rattle.std.proofs.lemmas.List.{take_at, drop_at, take_all}
+use Rattle.std.proofs.lemmas.Bool.{cases_lt}
+use Rattle.bool_tables.specs.Plans.{is_live, makes_diagram}
+use Rattle.shelf_model.specs.declared.file_no.FileNo.{FileNo}
+use Rattle.shelf_model.specs.File.{File, firm_file, no_file, IsKept}
+use Rattle.shelf_model.specs.Folder.{Folder, Image, file_in, bytes_in, IsImage}
+use Rattle.shelf_model.specs.World.{Moment}
+use Rattle.shelf_model.proofs.Files.{only_image, same_image, kept_left}
+use Rattle.catalogue.specs.declared.layout.Entry.{Entry}
+use Rattle.catalogue.specs.Files.{job_file, job_gate, catalogue, step_gate}
+use Rattle.catalogue.specs.Counts.{is_stored, count_in, entry_at}
+use Rattle.catalogue.specs.Commits.{IsReady, DuringCommit, IsCommitted}
+use Rattle.catalogue.specs.Entries.{entry_bytes}
+use Rattle.catalogue.proofs.Places.{length_entry}
+use Rattle.catalogue.proofs.Stored.{catalogue_not_job_file, step_gate_not_job_file}
+use Rattle.sound_image.specs.Files.{node_file, checkpoint_gate}
+use Rattle.sound_image.specs.Jobs.{Job, file_of, step_at, no_step}
+use Rattle.sound_image.specs.Entries.{IsEntryOfStep}
+use Rattle.sound_image.specs.Sound.{IsSound}
+use Rattle.sound_image.specs.Holds.{Holds}
+use Rattle.sound_image.proofs.Numbers.{IsOfStep, node_of_step, gate_of_step, not_job_file, not_job_gate, not_catalogue, not_step_gate, gate_not_node, other_node}
+use Rattle.sound_image.proofs.HoldsLaws.{entry_in_front, none_left}
+use Rattle.sound_image.proofs.Live.{live_below, live_earlier, live_last}
+
+-- few enough steps that their numbers are none of the job's files
+abbrev pub AreFew : Job → Type 0
+AreFew job = length job.steps ≤ 1048576
+
+early : (job : Job) (s : ℕ) → AreFew job → s < length job.steps → s < 4294967295
+early job s few within = omega (arith, few, within)
+
+-- every file but the node file of a step is as it was
+abbrev pub OnlyNodeFile : ℕ → Folder → Folder → Type 0
+OnlyNodeFile step old new = (q : FileNo) → q ≢ node_file step → file_in new q ≡ file_in old q
+
+-- while a step's file is made, the steps before it are held
+pub holds_while_made : (job : Job) (k : ℕ) (old new : Folder) → AreFew job → k < length job.steps → Holds job k old → OnlyNodeFile k old new → Holds job k new
+holds_while_made job k old new few within holds only =
+    let of_step : IsOfStep (node_file k) = node_of_step k (early job k few within) in
+    let job_same : file_in new job_file ≡ file_in old job_file = only job_file (λ e. not_job_file (node_file k) of_step (sym e)) in
+    let gate_same : file_in new job_gate ≡ file_in old job_gate = only job_gate (λ e. not_job_gate (node_file k) of_step (sym e)) in
+    let catalogue_same : file_in new catalogue ≡ file_in old catalogue = only catalogue (λ e. not_catalogue (node_file k) of_step (sym e)) in
+    let steps_same : file_in new step_gate ≡ file_in old step_gate = only step_gate (λ e. not_step_gate (node_file k) of_step (sym e)) in
+    record {
+      job_is = job_same ∙ holds.job_is;
+      ready = record {
+        stored = subst (λ (x : File). 0 < x.firm) (sym gate_same) holds.ready.stored;
+        gate = steps_same ∙ holds.ready.gate ∙ ap (λ (x : File). firm_file x.bytes) (sym steps_same);
+        count = ap (λ (x : File). length x.bytes) steps_same ∙ holds.ready.count;
+        covers = subst (λ (x : File). 128 * k ≤ length x.bytes) (sym catalogue_same) holds.ready.covers;
+      };
+      few = holds.few;
+      entries = record {
+        front = holds.entries.front;
+        size = holds.entries.size;
+        kept = subst (IsKept holds.entries.front) (sym catalogue_same) holds.entries.kept;
+        each = holds.entries.each;
+      };
+      files = λ s live. only (node_file s) (other_node s k (live_below job.steps k s live)) ∙ holds.files s live;
+      gates = λ s inside. only (checkpoint_gate s) (gate_not_node s k) ∙ holds.gates s inside;
+    }
+
+-- the step's own file, where it makes a diagram
+abbrev pub IsMade : Job → ℕ → Folder → Type 0
+IsMade job k folder = IsTrue (makes_diagram (step_at job k).step) → file_in folder (node_file k) ≡ firm_file (file_of job k)
+
+-- a diagram that is live after the step has its file, before and after it
+live_file : (job : Job) (k s : ℕ) (folder : Folder) → k < length job.steps → Holds job k folder → IsMade job k folder
+    → IsTrue (is_live (take (k + 1) job.steps) s) → file_in folder (node_file s) ≡ firm_file (file_of job s)
+live_file job k s folder within holds made live = elim (cases_lt s k) [
+  | inl below ↦ holds.files s (live_earlier job.steps k s no_step within below live)
+  | inr beyond ↦
+      let last : s < k + 1 = live_below job.steps (k + 1) s live in
+      let same : s ≡ k = omega (arith, beyond, last) in
+      subst (λ j. file_in folder (node_file j) ≡ firm_file (file_of job j)) (sym same)
+      (made (live_last job.steps k no_step within (subst (λ j. IsTrue (is_live (take (k + 1) job.steps) j)) same live)))
+]
+
+-- while a step is committed each image is sound, and has no fewer steps
+pub sound_while_committed : (job : Job) (k : ℕ) (e : Entry) (old m : Moment) (image : Image) → AreFew job → k < length job.steps → Holds job k old.folder
+    → IsMade job k old.folder → IsEntryOfStep job k e → DuringCommit e old m → IsImage m.folder image
+    → IsSound job (bytes_in image) × (k ≤ count_in (bytes_in image)) × IsTrue (is_stored (bytes_in image))
+sound_while_committed job k e old m image few within holds made is_entry during is_image =
+    elim (during.images image is_image) [
+      | inl before ↦
+          let count : count_in r ≡ k = before.count ∙ is_entry.number_is in (
+            sound_with k before.stored count holds.few
+                (λ i inside. earlier i inside)
+                (λ s live. others_same (node_file s) (node_of_step s (early job s few (below_all s k holds.few live))) (holds.files s live)),
+            subst (λ c. k ≤ c) (sym count) (omega arith),
+            before.stored,
+          )
+      | inr after ↦
+          let count : count_in r ≡ k + 1 = after.counts.count ∙ ap (λ c. c + 1) is_entry.number_is in (
+            sound_with (k + 1) after.counts.stored count (omega (arith, within))
+                (λ i inside. elim (cases_lt i k) [
+                  | inl below ↦ earlier i below
+                  | inr beyond ↦
+                      let same : i ≡ k = omega (arith, inside, beyond) in
+                      subst (λ j. (x : Entry) × IsEntryOfStep job j x × (entry_at j r ≡ entry_bytes x)) (sym same)
+                      (e, is_entry, ap (λ j. entry_at j r) (sym is_entry.number_is) ∙ after.placed)
+                ])
+                (λ s live. others_same (node_file s) (node_of_step s (early job s few (below_all s (k + 1) (omega (arith, within)) live))) (live_file job k s old.folder within holds made live)),
+            subst (λ c. k ≤ c) (sym count) (omega arith),
+            after.counts.stored,
+          )
+    ]
+  where
+    r : FileNo → List ℕ
+    r = bytes_in image
+
+    others_same : (f : FileNo) → IsOfStep f → {bytes : List ℕ} → file_in old.folder f ≡ firm_file bytes → file_in m.folder f ≡ firm_file bytes
+    others_same f of_step same = during.others f (not_catalogue f of_step) (not_step_gate f of_step) ∙ same
+
+    below_all : (s c : ℕ) → c ≤ length job.steps → IsTrue (is_live (take c job.steps) s) → s < length job.steps
+    below_all s c short live = let below : s < c = live_below job.steps c s live in omega (arith, below, short)
+
+    earlier : (i : ℕ) → i < k → (x : Entry) × IsEntryOfStep job i x × (entry_at i r ≡ entry_bytes x)
+    earlier i inside =
+        let found : (x : Entry) × IsEntryOfStep job i x × (take 128 (drop (128 * i) holds.entries.front) ≡ entry_bytes x) = holds.entries.each i inside in
+        let short : length holds.entries.front ≤ 128 * e.number = omega (arith, holds.entries.size, is_entry.number_is) in
+        let begins : take (length holds.entries.front) (r catalogue) ≡ holds.entries.front =
+        kept_left holds.entries.front (file_in m.folder catalogue) (r catalogue) (during.kept holds.entries.front short holds.entries.kept) (is_image catalogue) in
+        (found.0, found.1, entry_in_front i k holds.entries.front (r catalogue) holds.entries.size inside begins ∙ found.2)
+
+    sound_with : (c : ℕ) → IsTrue (is_stored r) → count_in r ≡ c → c ≤ length job.steps
+        → ((i : ℕ) → i < c → (x : Entry) × IsEntryOfStep job i x × (entry_at i r ≡ entry_bytes x))
+        → ((s : ℕ) → IsTrue (is_live (take c job.steps) s) → file_in m.folder (node_file s) ≡ firm_file (file_of job s))
+        → IsSound job r
+    sound_with c stored count short entries files = record {
+      shown = inr (record {
+        stored = stored;
+        job_is = only_image job.bytes (r job_file) (same_image m.folder image job_file (firm_file job.bytes)
+            (during.others job_file (λ q. catalogue_not_job_file (sym q)) (λ q. step_gate_not_job_file (sym q)) ∙ holds.job_is) is_image);
+        few = subst (λ n. n ≤ length job.steps) (sym count) short;
+        entries = λ i inside. entries i (subst (λ n. i < n) count inside);
+        files = λ s live. only_image (file_of job s) (r (node_file s)) (same_image m.folder image (node_file s) (firm_file (file_of job s))
+            (files s (subst (λ n. IsTrue (is_live (take n job.steps) s)) count live)) is_image);
+      });
+      resumable = record {
+        no_checkpoint = λ s inside. none_left (r (checkpoint_gate s)) (same_image m.folder image (checkpoint_gate s) no_file
+            (during.others (checkpoint_gate s) (not_catalogue (checkpoint_gate s) (gate_of_step s (early job s few inside)))
+            (not_step_gate (checkpoint_gate s) (gate_of_step s (early job s few inside))) ∙ holds.gates s inside) is_image);
+      };
+    }
+
+-- after it the folder holds one step more
+pub holds_after_commit : (job : Job) (k : ℕ) (e : Entry) (old m : Moment) → AreFew job → k < length job.steps → Holds job k old.folder
+    → IsMade job k old.folder → IsEntryOfStep job k e → DuringCommit e old m → IsCommitted e old.folder m.folder → Holds job (k + 1) m.folder
+holds_after_commit job k e old m few within holds made is_entry during committed =
+    let number : e.number ≡ k = is_entry.number_is in
+    let front : List ℕ = holds.entries.front in
+    let entry_size : length (entry_bytes e) ≡ 128 = length_entry e is_entry.entry_is.fits in
+    let front_size : length front ≡ 128 * e.number = holds.entries.size ∙ ap (λ c. 128 * c) (sym number) in
+    record {
+      job_is = during.others job_file (λ q. catalogue_not_job_file (sym q)) (λ q. step_gate_not_job_file (sym q)) ∙ holds.job_is;
+      ready = subst (λ c. IsReady (c + 1) m.folder) number committed.ready;
+      few = omega (arith, within);
+      entries = record {
+        front = front ++ entry_bytes e;
+        size = length-append front (entry_bytes e) ∙ sums (length front) (length (entry_bytes e)) k holds.entries.size entry_size;
+        kept = committed.kept front front_size holds.entries.kept;
+        each = λ i inside. elim (cases_lt i k) [
+          | inl below ↦
+              let found : (x : Entry) × IsEntryOfStep job i x × (take 128 (drop (128 * i) front) ≡ entry_bytes x) = holds.entries.each i below in
+              (found.0, found.1, entry_in_front i k front (front ++ entry_bytes e) holds.entries.size below (take_at front (entry_bytes e) (length front) refl) ∙ found.2)
+          | inr beyond ↦
+              let same : i ≡ k = omega (arith, inside, beyond) in
+              subst (λ j. (x : Entry) × IsEntryOfStep job j x × (take 128 (drop (128 * j) (front ++ entry_bytes e)) ≡ entry_bytes x)) (sym same)
+              (e, is_entry, ap (take 128) (drop_at front (entry_bytes e) (128 * k) holds.entries.size) ∙ take_all 128 (entry_bytes e) (omega (arith, entry_size)))
+        ];
+      };
+      files = λ s live.
+          let of_step : IsOfStep (node_file s) = node_of_step s (early job s few (inside s live)) in
+          during.others (node_file s) (not_catalogue (node_file s) of_step) (not_step_gate (node_file s) of_step) ∙ live_file job k s old.folder within holds made live;
+      gates = λ s inside.
+          let of_step : IsOfStep (checkpoint_gate s) = gate_of_step s (early job s few inside) in
+          during.others (checkpoint_gate s) (not_catalogue (checkpoint_gate s) of_step) (not_step_gate (checkpoint_gate s) of_step) ∙ holds.gates s inside;
+    }
+  where
+    sums : (a b c : ℕ) → a ≡ 128 * c → b ≡ 128 → a + b ≡ 128 * (c + 1)
+    sums a b c x y = omega (arith, x, y)
+
+    inside : (s : ℕ) → IsTrue (is_live (take (k + 1) job.steps) s) → s < length job.steps
+    inside s live = let below : s < k + 1 = live_below job.steps (k + 1) s live in omega (arith, below, within)

@@ -1,0 +1,38 @@
+-- A folder whose every image is sound with a count, said file by file.
+use Rattle.std.specs.Prelude.{◌≡◌, ℕ, ◌*◌, ◌<◌, ◌≤◌, IsTrue, List, length, take, drop}
+use Rattle.bool_tables.specs.Plans.{is_live}
+use Rattle.shelf_model.specs.File.{firm_file, no_file, IsKept}
+use Rattle.shelf_model.specs.Folder.{Folder, Image, file_in, bytes_in, IsImage}
+use Rattle.catalogue.specs.declared.layout.Entry.{Entry}
+use Rattle.catalogue.specs.Files.{job_file, catalogue}
+use Rattle.catalogue.specs.Commits.{IsReady}
+use Rattle.catalogue.specs.Counts.{count_in}
+use Rattle.catalogue.specs.Entries.{entry_bytes}
+use Rattle.sound_image.specs.Files.{node_file, checkpoint_gate}
+use Rattle.sound_image.specs.Jobs.{Job, file_of}
+use Rattle.sound_image.specs.Entries.{IsEntryOfStep}
+use Rattle.sound_image.specs.Sound.{IsSound}
+
+-- the entries of the first steps, one behind the other, that every image's catalogue begins with
+pub record KeepsEntries (job : Job) (count : ℕ) (folder : Folder) : Type 0 where
+  pub front : List ℕ
+  pub size : length front ≡ 128 * count
+  pub kept : IsKept front (file_in folder catalogue)
+  pub each : (k : ℕ) → k < count → (e : Entry) × IsEntryOfStep job k e × (take 128 (drop (128 * k) front) ≡ entry_bytes e)
+
+-- the job is stored, so many of its steps are committed, and nothing of them is pending
+pub record Holds (job : Job) (count : ℕ) (folder : Folder) : Type 0 where
+  pub job_is : file_in folder job_file ≡ firm_file job.bytes
+  pub ready : IsReady count folder
+  pub few : count ≤ length job.steps
+  pub entries : KeepsEntries job count folder
+  pub files : (s : ℕ) → IsTrue (is_live (take count job.steps) s) → file_in folder (node_file s) ≡ firm_file (file_of job s)
+  pub gates : (s : ℕ) → s < length job.steps → file_in folder (checkpoint_gate s) ≡ no_file
+
+-- each image of a folder is sound, with one of two counts
+abbrev pub AreSound : Job → Folder → Type 0
+AreSound job folder = (image : Image) → IsImage folder image → IsSound job (bytes_in image)
+
+-- each image of the folder has that count
+abbrev pub HaveCount : ℕ → Folder → Type 0
+HaveCount count folder = (image : Image) → IsImage folder image → count_in (bytes_in image) ≡ count

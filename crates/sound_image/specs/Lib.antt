@@ -1,0 +1,5 @@
+pub mod Files
+pub mod Jobs
+pub mod Entries
+pub mod Sound
+pub mod Holds

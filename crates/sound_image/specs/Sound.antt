@@ -1,0 +1,31 @@
+-- What an image shows of a job, and which images are sound for it. An image is taken by its reading, the bytes of each file.
+use Rattle.std.specs.Prelude.{◌≡◌, ◌⊎◌, ℕ, ◌<◌, ◌≤◌, false, IsTrue, List, [], length, take}
+use Rattle.bool_tables.specs.Plans.{is_live}
+use Rattle.shelf_model.specs.declared.file_no.FileNo.{FileNo}
+use Rattle.catalogue.specs.declared.layout.Entry.{Entry}
+use Rattle.catalogue.specs.Files.{job_file, step_gate}
+use Rattle.catalogue.specs.Counts.{is_stored, count_in, entry_at}
+use Rattle.catalogue.specs.Entries.{entry_bytes}
+use Rattle.sound_image.specs.Files.{node_file, checkpoint_gate}
+use Rattle.sound_image.specs.Jobs.{Job, file_of}
+use Rattle.sound_image.specs.Entries.{IsEntryOfStep}
+
+-- the job is stored, each committed step has its entry, and each diagram that is live then has its canonical file
+pub record ShowsSteps (job : Job) (r : FileNo → List ℕ) : Type 0 where
+  pub stored : IsTrue (is_stored r)
+  pub job_is : r job_file ≡ job.bytes
+  pub few : count_in r ≤ length job.steps
+  pub entries : (k : ℕ) → k < count_in r → (e : Entry) × IsEntryOfStep job k e × (entry_at k r ≡ entry_bytes e)
+  pub files : (s : ℕ) → IsTrue (is_live (take (count_in r) job.steps) s) → r (node_file s) ≡ file_of job s
+
+-- no job is stored and no step is counted, or the job's committed steps are shown
+abbrev pub IsShown : Job → (FileNo → List ℕ) → Type 0
+IsShown job r = ((is_stored r ≡ false) × (r step_gate ≡ [])) ⊎ ShowsSteps job r
+
+-- a run can go on from here: no step has a checkpoint yet
+pub record IsResumable (job : Job) (r : FileNo → List ℕ) : Type 0 where
+  pub no_checkpoint : (s : ℕ) → s < length job.steps → r (checkpoint_gate s) ≡ []
+
+pub record IsSound (job : Job) (r : FileNo → List ℕ) : Type 0 where
+  pub shown : IsShown job r
+  pub resumable : IsResumable job r
