@@ -1,7 +1,7 @@
 -- One event more: the past stays, and what stands follows from what the event did.
-use Rattle.std.proofs.Common.{◌≡◌, ◌≢◌, ℕ, ◌+◌, ◌≤◌, suc, zero, List, [], ◌∷◌, ◌++◌, refl, sym, ap, subst, ◌∙◌, arith, inl, inr}
+use Rattle.std.proofs.Common.{◌≡◌, ◌≢◌, ℕ, ◌+◌, ◌<◌, ◌≤◌, suc, zero, List, [], ◌∷◌, ◌++◌, refl, sym, ap, subst, ◌∙◌, arith, inl, inr}
 use Rattle.shelf_model.specs.declared.file_no.FileNo.{FileNo}
-use Rattle.shelf_model.specs.File.{File}
+use Rattle.shelf_model.specs.File.{File, firm_file}
 use Rattle.shelf_model.specs.Folder.{file_in}
 use Rattle.shelf_model.specs.World.{Moment}
 use Rattle.shelf_model.proofs.Numbers.{cases_file}
@@ -90,6 +90,38 @@ pub called_moment : (n k : ℕ) (before stored : FileNo → File) (bytes more : 
     → fs ≡ es ++ Called call ∷ [] → moment_of fs k ≡ after_call call (moment_of es n)
 called_moment n k before stored bytes more es fs call was is events =
     moment_at_end k stored more fs is ∙ ap (replayed first_moment) events ∙ replayed-more first_moment es (Called call) ∙ ap (after_call call) (sym (moment_at_end n before bytes es was))
+
+pub calls_in-put : (es : List Event) (f : FileNo) (bytes : Vec ℕ) → calls_in (es ++ Put f bytes ∷ []) ≡ calls_in es
+unfolding calls_in
+calls_in-put [] f bytes = refl
+calls_in-put (Called x ∷ xs) f bytes = ap suc (calls_in-put xs f bytes)
+calls_in-put (Put q more ∷ xs) f bytes = calls_in-put xs f bytes
+
+-- a file that is put changes nothing of what stood before
+pub first_calls-put : (k : ℕ) (es : List Event) (f : FileNo) (bytes : Vec ℕ) → k < calls_in es → first_calls k (es ++ Put f bytes ∷ []) ≡ first_calls k es
+unfolding first_calls calls_in
+first_calls-put k [] f bytes before = absurd (omega (arith, before))
+first_calls-put k (Put q more ∷ xs) f bytes before = ap (λ rest. Put q more ∷ rest) (first_calls-put k xs f bytes before)
+first_calls-put zero (Called x ∷ xs) f bytes before = refl
+first_calls-put (suc k) (Called x ∷ xs) f bytes before = ap (λ rest. Called x ∷ rest) (first_calls-put k xs f bytes (omega (arith, before)))
+
+pub moment_of-put : (k : ℕ) (es : List Event) (f : FileNo) (bytes : Vec ℕ) → k < calls_in es → moment_of (es ++ Put f bytes ∷ []) k ≡ moment_of es k
+unfolding moment_of
+moment_of-put k es f bytes before = ap (replayed first_moment) (first_calls-put k es f bytes before)
+
+pub agrees_put : (n : ℕ) (before stored : FileNo → File) (bytes : List ℕ) (es : List Event) (f : FileNo) (piece : Vec ℕ) → Agrees n before bytes es
+    → stored f ≡ firm_file piece.items → ((q : FileNo) → q ≢ f → stored q ≡ before q) → Agrees n stored bytes (es ++ Put f piece ∷ [])
+agrees_put n before stored bytes es f piece agrees here others =
+    let step : led (es ++ Put f piece ∷ []) ≡ with_file f (firm_file piece.items) (led es) = replayed-more first_moment es (Put f piece) in
+    record {
+      calls_are = calls_in-put es f piece ∙ agrees.calls_are;
+      files_are = λ q. ap (λ (m : Moment). file_in m.folder q) step ∙ (elim (cases_file q f) [
+        | inl same ↦ subst (λ p. file_in (with_file f (firm_file piece.items) (led es)).folder p ≡ stored p) (sym same)
+            (file_in-insert (led es).folder f (firm_file piece.items) ∙ sym here)
+        | inr differ ↦ file_in-insert_other (led es).folder f q (firm_file piece.items) differ ∙ agrees.files_are q ∙ sym (others q differ)
+      ]);
+      said_is = ap (λ (m : Moment). m.said) step ∙ agrees.said_is;
+    }
 
 pub agrees_empty : (stored : FileNo → File) (bytes : List ℕ) (es : List Event) → ((f : FileNo) → stored f ≡ file_in first_moment.folder f) → bytes ≡ [] → es ≡ [] → Agrees 0 stored bytes es
 unfolding replayed calls_in

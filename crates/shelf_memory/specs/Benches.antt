@@ -1,8 +1,10 @@
 -- What a station in memory tells, and which of its calls fail.
-use Rattle.std.specs.Prelude.{◌≡◌, ℕ, ◌+◌, ◌-◌, ◌^◌, ◌<◌, ◌≤◌, ◌⊎◌, ◌||◌, Bool, IsTrue, nat_lt, min, false, List, [], codes, String, Result, OnErr, IsErr}
+use Rattle.std.specs.Prelude.{◌≡◌, ◌≢◌, ℕ, ◌+◌, ◌-◌, ◌^◌, ◌<◌, ◌≤◌, ◌⊎◌, ◌||◌, Bool, IsTrue, nat_lt, min, false, List, [], codes, String, Option, None, Result, OnErr, IsErr}
 use Rattle.shelf_model.specs.declared.file_no.FileNo.{FileNo}
 use Rattle.shelf_model.specs.declared.fault.Failed.{Failed}
-use Rattle.shelf_model.specs.File.{File}
+use Rattle.shelf_model.specs.File.{File, firm_file}
+use Rattle.shelf_model.specs.Calls.{SameBut}
+use Rattle.shelf_memory.specs.declared.failures.Watch.{Watch}
 use Rattle.shelf_model.specs.World.{World, now, file}
 use Rattle.shelf_model.specs.Faults.{Faults, Rose}
 use Rattle.std.specs.Global.{Global}
@@ -67,9 +69,13 @@ said_of b = b.disk.said.items
 abbrev pub lists : Bench → ℕ → Bool
 lists b n = is_listed b.failures n
 
+-- the file that is watched, where there is one
+abbrev pub watch_of : Bench → Option Watch
+watch_of b = b.failures.watch
+
 -- all calls are to fail, since the watched file was long enough
 abbrev pub is_spent : Bench → Bool
-is_spent b = is_met b.failures.watch
+is_spent b = is_met (watch_of b)
 
 -- the next call is to fail
 abbrev pub fails_next : Bench → Bool
@@ -91,7 +97,7 @@ pub record FailsExactly {T : Type 0} (Reason : Type 0) (result : Result T Failed
   pub ticks : starved_of new ≡ starved_of old → clock_of new ≡ min (clock_of old + 1) (2 ^ 64 - 1)
   pub dark : starved_of old < starved_of new → clock_of new ≡ 2 ^ 64 - 1
   pub lists_are : (n : ℕ) → lists new n ≡ lists old n
-  pub watch_is : new.failures.watch ≡ seen old.failures.watch (file_at new)
+  pub watch_is : watch_of new ≡ seen (watch_of old) (file_at new)
 
 -- a station at its start: nothing was said, no call was made or failed, and none is to fail
 pub record IsFresh (b : Bench) : Type 0 where
@@ -106,7 +112,7 @@ pub record IsFresh (b : Bench) : Type 0 where
   pub say_is : (faults_of b).say ≡ 0
   pub text_is : (path : List ℕ) → (faults_of b).text path ≡ 0
   pub unlisted : (n : ℕ) → lists b n ≡ false
-  pub unspent : is_spent b ≡ false
+  pub unwatched : watch_of b ≡ None
 
 -- but for its texts and for what is to fail the station is as it was, its past with it
 pub record StandsStill (old new : Bench) : Type 0 where
@@ -123,6 +129,28 @@ pub record StandsStill (old new : Bench) : Type 0 where
   pub say_is : (faults_of new).say ≡ (faults_of old).say
   pub text_is : (path : List ℕ) → (faults_of new).text path ≡ (faults_of old).text path
 
+-- but for one file, its texts and what is to fail the station is as it was, its past with it
+pub record StandsStillBut (f : FileNo) (old new : Bench) : Type 0 where
+  pub tells_is : tells_of new ≡ tells_of old
+  pub clock_is : clock_of new ≡ clock_of old
+  pub moments_are : IsTrue (tells_of old) → (k : ℕ) → k < clock_of old → (world_of new).moment k ≡ (world_of old).moment k
+  pub told_are : IsTrue (tells_of old) → SameBut f (world_of old) (world_of new)
+  pub told_said : IsTrue (tells_of old) → (now (world_of new)).said ≡ (now (world_of old)).said
+  pub inside_is : (world_of new).inside ≡ (world_of old).inside
+  pub strays_are : (world_of new).strays ≡ (world_of old).strays
+  pub files_are : (q : FileNo) → q ≢ f → file_at new q ≡ file_at old q
+  pub said_is : said_of new ≡ said_of old
+  pub starved_is : starved_of new ≡ starved_of old
+  pub folder_is : (faults_of new).folder ≡ (faults_of old).folder
+  pub say_is : (faults_of new).say ≡ (faults_of old).say
+  pub text_is : (path : List ℕ) → (faults_of new).text path ≡ (faults_of old).text path
+
+-- the file has these bytes, all of them firm, and the watch looked at it
+pub record PutsFile (f : FileNo) (bytes : List ℕ) (old new : Bench) : Type 0 where
+  pub file_is : file_at new f ≡ firm_file bytes
+  pub told_is : IsTrue (tells_of new) → file (world_of new) f ≡ firm_file bytes
+  pub watch_is : watch_of new ≡ seen (watch_of old) (file_at new)
+
 -- the texts are as they were
 abbrev pub SameTexts : Bench → Bench → Type 0
 SameTexts old new = (path : List ℕ) → (world_of new).texts path ≡ (world_of old).texts path
@@ -130,4 +158,4 @@ SameTexts old new = (path : List ℕ) → (world_of new).texts path ≡ (world_o
 -- the same calls are to fail
 pub record SameFailures (old new : Bench) : Type 0 where
   pub lists_are : (n : ℕ) → lists new n ≡ lists old n
-  pub watch_is : new.failures.watch ≡ old.failures.watch
+  pub watch_is : watch_of new ≡ watch_of old

@@ -3,7 +3,7 @@ ghost use Rattle.std.specs.Prelude.{◌≡◌, ◌+◌, ◌-◌, ◌^◌, ◌<�
 use crate::change::Change;
 use crate::counts::Counts;
 use crate::disk::Disk;
-use crate::failures::Failures;
+use crate::failures::{Failures, Watch};
 use crate::files::bytes_of;
 use crate::texts::{Text, put_text};
 use shelf_model::{Failed, FileNo};
@@ -36,7 +36,7 @@ impl Bench {
     ghost use Rattle.shelf_model.specs.Faults.{OnlyFolder};
     ghost use Rattle.shelf_memory.specs.Changes.{changed, FitsIn};
     ghost use Rattle.shelf_memory.specs.Files.{stored_in};
-    ghost use Rattle.shelf_memory.specs.Benches.{IsFresh, StandsStill, SameTexts, SameFailures, tells_of, world_of, faults_of, clock_of, starved_of, file_at, said_of, lists, is_spent, fails_next, FailsExactly};
+    ghost use Rattle.shelf_memory.specs.Benches.{IsFresh, StandsStill, StandsStillBut, PutsFile, watch_of, SameTexts, SameFailures, tells_of, world_of, faults_of, clock_of, starved_of, file_at, said_of, lists, is_spent, fails_next, FailsExactly};
 
     /// A station with no files, texts or said bytes. It takes no memory.
     pub fn empty(alloc: Global) -> Bench
@@ -71,11 +71,25 @@ impl Bench {
         )
     }
 
+    /// Puts a file of these bytes, all of them firm, in the place of the one of its number.
+    pub fn put_file(&mut self, f: FileNo, bytes: &[u8]) -> Result<(), AllocError>
+        requires { length bytes.now ≤ longest }
+        ensures ok { OnOk result (PutsFile f bytes.now self.old self.new) }
+        ensures err { OnErr result (StandsStill self.old self.new × SameFailures self.old self.new) }
+        ensures still { StandsStillBut f self.old self.new }
+        ensures texts { SameTexts self.old self.new }
+        ensures lists { (n : ℕ) → lists self.new n ≡ lists self.old n }
+    {
+        self.disk.put_file(f, bytes)?;
+        self.failures.observe(&self.disk.files);
+        Ok(())
+    }
+
     /// Makes the call of that number fail; the first call has number 0.
     pub fn fail_at(&mut self, call: u64) -> Result<(), AllocError>
         ensures ok { OnOk result ((n : ℕ) → lists self.new n ≡ (n == call || lists self.old n)) }
         ensures err { OnErr result (SameFailures self.old self.new) }
-        ensures watch { self.new.failures.watch ≡ self.old.failures.watch }
+        ensures watch { watch_of self.new ≡ watch_of self.old }
         ensures still { StandsStill self.old self.new }
         ensures texts { SameTexts self.old self.new }
     {
@@ -85,11 +99,28 @@ impl Bench {
     /// Makes every call fail from that number on.
     pub fn fail_from(&mut self, call: u64)
         ensures lists { (n : ℕ) → lists self.new n ≡ (nat_le call n || lists self.old n) }
-        ensures watch { self.new.failures.watch ≡ self.old.failures.watch }
+        ensures watch { watch_of self.new ≡ watch_of self.old }
         ensures still { StandsStill self.old self.new }
         ensures texts { SameTexts self.old self.new }
     {
         self.failures.list_from(call);
+    }
+
+    /// Makes every call fail after the first moment, from now on, at which the file has at least that many bytes.
+    ///
+    /// It takes the place of the file that was watched before. It takes no memory.
+    pub fn fail_when(&mut self, f: FileNo, size: u64)
+        ensures watch { watch_of self.new ≡ Some (record { file = f; size = size; met = nat_le size (length (file_at self.old f).bytes) }) }
+        ensures lists { (n : ℕ) → lists self.new n ≡ lists self.old n }
+        ensures still { StandsStill self.old self.new }
+        ensures texts { SameTexts self.old self.new }
+    {
+        self.failures.watch = Some(Watch {
+            file: f,
+            size,
+            met: false,
+        });
+        self.failures.observe(&self.disk.files);
     }
 
     /// What a read of the whole file gives.

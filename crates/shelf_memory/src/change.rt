@@ -1,5 +1,5 @@
 // One file in memory, and what a call does to it.
-ghost use Rattle.std.specs.Prelude.{◌≡◌, OnOk, OnErr, length};
+ghost use Rattle.std.specs.Prelude.{◌≡◌, OnOk, OnErr, IfOk, length};
 ghost use Rattle.shelf_model.specs.File.{no_file};
 ghost use Rattle.shelf_memory.specs.Stored.{IsStored};
 
@@ -31,7 +31,7 @@ pub struct Stored {
 
 impl Stored {
     ghost use Rattle.std.specs.Prelude.{◌+◌, ◌≤◌};
-    ghost use Rattle.shelf_model.specs.File.{appended};
+    ghost use Rattle.shelf_model.specs.File.{firm_file, appended};
     ghost use Rattle.shelf_model.specs.Calls.{longest};
     ghost use Rattle.shelf_memory.specs.Changes.{file_of, changed, FitsIn};
 
@@ -43,6 +43,19 @@ impl Stored {
             firm: 0,
             reach: 0,
         }
+    }
+
+    /// A file of these bytes, all of them sure.
+    pub fn firm(alloc: Global, bytes: &[u8]) -> Result<Stored, AllocError>
+        requires { length bytes.now ≤ longest }
+        ensures { IfOk result (λ stored. file_of stored ≡ firm_file bytes.now) }
+    {
+        let size = bytes.len() as u64;
+        Ok(Stored {
+            bytes: Vec::from_slice(alloc, bytes)?,
+            firm: size,
+            reach: size,
+        })
     }
 
     /// Want of memory leaves the file as it was.

@@ -5,7 +5,7 @@ ghost use Rattle.shelf_memory.specs.Past.{Agrees};
 
 use crate::change::{Change, Stored};
 use crate::event::{Call, Event};
-use crate::files::{bytes_of, change_file};
+use crate::files::{change_file, put_stored};
 use shelf_model::FileNo;
 use std::alloc::{AllocError, Global};
 use std::collections::BTreeMap;
@@ -26,11 +26,12 @@ pub struct Disk {
 
 impl Disk {
     ghost use Rattle.shelf_model.specs.declared.file_no.FileNo.{FileNo};
-    ghost use Rattle.shelf_model.specs.File.{no_file, appended};
+    ghost use Rattle.shelf_model.specs.File.{no_file, firm_file, appended};
+    ghost use Rattle.shelf_memory.specs.Events.{moment_of};
     ghost use Rattle.shelf_model.specs.Calls.{longest};
     ghost use Rattle.shelf_memory.specs.Changes.{changed, FitsIn};
     ghost use Rattle.shelf_memory.specs.Disks.{Stays, StaysBut, Ticked, SameMoment, SameFolder, clock_after};
-    ghost use Rattle.std.specs.Prelude.{[], ◌++◌, ◌∷◌, vec_len, vec_capacity};
+    ghost use Rattle.std.specs.Prelude.{ℕ, [], ◌++◌, ◌∷◌, vec_len, vec_capacity};
     ghost use Rattle.shelf_memory.specs.declared.event.Event.TheVariants.{Called};
 
     pub fn empty(alloc: Global) -> Disk
@@ -111,6 +112,26 @@ impl Disk {
         self.events.reserve(1)?;
         self.said.extend_from_slice(piece)?;
         self.note(was, Call::Said(copy));
+        Ok(())
+    }
+
+    /// Puts a file between two calls. Want of memory leaves all as it was.
+    pub fn put_file(&mut self, f: FileNo, bytes: &[u8]) -> Result<(), AllocError>
+        requires { length bytes.now ≤ longest }
+        ensures ok { OnOk result (stored_in self.new.files f ≡ firm_file bytes.now) }
+        ensures err { OnErr result (Stays self.old self.new × (self.new.events.items ≡ self.old.events.items)) }
+        ensures others { StaysBut f self.old self.new }
+        ensures clock { self.new.clock ≡ self.old.clock }
+        ensures past { self.old.clock < 2 ^ 64 - 1 → (k : ℕ) → k < self.old.clock → moment_of self.new.events.items k ≡ moment_of self.old.events.items k }
+    {
+        let stored = Stored::firm(self.alloc, bytes)?;
+        let copy = Vec::from_slice(self.alloc, bytes)?;
+        self.events.reserve(1)?;
+        put_stored(&mut self.files, f, stored)?;
+        self.events.push_reserved(Event::Put {
+            file: f,
+            bytes: copy,
+        });
         Ok(())
     }
 

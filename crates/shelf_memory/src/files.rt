@@ -2,7 +2,7 @@
 ghost use Rattle.std.specs.Prelude.{◌≡◌, ◌≢◌, OnOk, OnErr, ◌≤◌, length};
 ghost use Rattle.shelf_model.specs.declared.file_no.FileNo.{FileNo};
 ghost use Rattle.shelf_model.specs.Calls.{longest};
-ghost use Rattle.shelf_memory.specs.Changes.{changed, FitsIn};
+ghost use Rattle.shelf_memory.specs.Changes.{file_of, changed, FitsIn};
 ghost use Rattle.shelf_memory.specs.Files.{stored_in};
 
 use crate::change::{Change, Stored};
@@ -38,6 +38,20 @@ pub fn change_file(
     }
     let mut stored = Stored::empty(alloc);
     stored.apply(change)?;
+    files.insert(f, stored)?;
+    Ok(())
+}
+
+/// Puts a file in the place of the one of its number. Want of memory leaves each file as it was.
+pub fn put_stored(
+    files: &mut BTreeMap<FileNo, Stored>,
+    f: FileNo,
+    stored: Stored,
+) -> Result<(), AllocError>
+    ensures ok { OnOk result (stored_in files.new f ≡ file_of stored) }
+    ensures err { OnErr result (stored_in files.new f ≡ stored_in files.old f) }
+    ensures others { (q : FileNo) → q ≢ f → stored_in files.new q ≡ stored_in files.old q }
+{
     files.insert(f, stored)?;
     Ok(())
 }

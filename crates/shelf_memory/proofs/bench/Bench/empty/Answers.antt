@@ -20,7 +20,7 @@ returns-clause-fresh c =
       say_is = refl;
       text_is = search rules;
       unlisted = c.none.ensures.listed;
-      unspent = ap is_met c.none.ensures.watch;
+      unwatched = c.none.ensures.watch;
     }
 
 pub returns-clause-files : goal.returns-clause-files
