@@ -4,3 +4,4 @@ pub mod Paths
 pub mod Endings
 pub mod Reached
 pub mod Answered
+pub mod Stops

@@ -9,3 +9,4 @@ pub mod Failures
 pub mod Counts
 pub mod Benches
 pub mod Laws
+pub mod Choices

@@ -16,7 +16,7 @@ use std::collections::BTreeMap;
 /// call fails, the clock goes to that value, and it stays there.
 #[derive(Drop)]
 pub struct Bench {
-    alloc: Global,
+    pub(crate) alloc: Global,
     pub(crate) disk: Disk,
     pub(crate) texts: BTreeMap<String, Text>,
     pub(crate) failures: Failures,

@@ -5,6 +5,7 @@
 
 mod bench;
 mod change;
+mod choice;
 mod counts;
 mod disk;
 mod event;
@@ -13,8 +14,10 @@ mod files;
 mod piece;
 mod shelf;
 mod station;
+mod stop;
 #[cfg(test)]
 mod tests;
 mod texts;
 
 pub use bench::Bench;
+pub use choice::Choice;

@@ -1,6 +1,5 @@
-use Rattle.std.proofs.Common.{◌≡◌, ◌<◌, ◌-◌, ◌^◌, refl, ap, ◌∙◌, arith, rules}
+use Rattle.std.proofs.Common.{◌≡◌, ◌<◌, ◌-◌, ◌^◌, refl, ◌∙◌, arith, rules}
 use Rattle.std.proofs.lemmas.Bool.{lt-ltb}
-use Rattle.shelf_memory.specs.Failures.{is_met}
 use Rattle.shelf_memory.specs.Laws.{present_file, present_said}
 use Rattle.shelf_memory.proofs.bench.Bench.empty.Goals as goal
 
