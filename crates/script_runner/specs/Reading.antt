@@ -54,6 +54,7 @@ texts slices = map (λ (s : Bor (List ℕ)). s.now) slices
 abbrev pub request_of : RequestLine → Request
 request_of line = record { name = line.name.now; variable = line.variable.now }
 
+-- the requests of the lines, in order
 abbrev pub requests_of : List RequestLine → List Request
 requests_of lines = map request_of lines
 
