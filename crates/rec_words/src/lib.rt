@@ -10,3 +10,6 @@ pub use node::Node;
 pub use ptr::{Ptr, Uid};
 pub use rec::Rec;
 pub use spill::Spill;
+
+#[cfg(test)]
+mod tests;

@@ -1,7 +1,7 @@
 ghost use Rattle.std.specs.Prelude.{◌≡◌, ℕ, refl};
 ghost use Rattle.std.proofs.Common.{lit≤};
 ghost use Rattle.rec_words.specs.Records.{node_words, IsNode};
-ghost use Rattle.rec_words.specs.RecordLaws.{same_node, node_order};
+ghost use Rattle.rec_words.specs.RecordLaws.{node_fits, same_node, node_order};
 
 use crate::{Ptr, Rec, Spill, Uid};
 
@@ -52,6 +52,8 @@ impl Spill for Node {
     ghost few = { (lit≤ tt, lit≤ tt) };
 
     ghost eight = { λ _ _. refl };
+
+    ghost fits = { node_fits };
 
     ghost unused = { λ _ _. refl };
 

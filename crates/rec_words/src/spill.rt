@@ -1,4 +1,4 @@
-ghost use Rattle.std.specs.Prelude.{◌≡◌, ℕ, ◌-◌, ◌≤◌, ◌≢◌, List, length, drop, replicate, IfSome, IfNone};
+ghost use Rattle.std.specs.Prelude.{◌≡◌, ℕ, ◌-◌, ◌^◌, ◌<◌, ◌≤◌, ◌≢◌, List, All, length, drop, replicate, IfSome, IfNone};
 ghost use Rattle.std.specs.Cmp.Lexicographic.{slice_cmp};
 ghost use Rattle.std.specs.Ordering.{nat_cmp};
 
@@ -29,6 +29,8 @@ pub trait Spill: Copy + Ord {
     ghost few: { (1 ≤ WORDS) × (WORDS ≤ 8) };
 
     ghost eight: { (x : Self) → is_value x → length (words x) ≡ 8 };
+
+    ghost fits: { (x : Self) → is_value x → All (λ word. word < 2 ^ 64) (words x) };
 
     ghost unused: { (x : Self) → is_value x → drop WORDS (words x) ≡ replicate (8 - WORDS) 0 };
 

@@ -1,0 +1,66 @@
+ghost use Rattle.std.specs.Prelude.{◌≡◌, Some};
+
+use crate::{Node, Ptr, Rec, Spill, Uid};
+use std::test::Fail;
+
+const TOP: u64 = (1 << 47) - 1;
+
+/// What is read of a value that was written.
+fn read_back<T: Spill>(x: T) -> Option<T>
+    ensures { result ≡ Some x }
+{
+    T::from_rec(&x.to_rec())
+}
+
+#[test]
+fn writes_the_words_of_nodes(rt: HostRuntime) {
+    let cases: [(u16, u64, u64); 4] = [
+        (0, TOP, 0x0000_7fff_ffff_ffff),
+        (1, TOP, 0x0000_ffff_ffff_ffff),
+        (1, TOP - 1, 0x0000_ffff_ffff_fffe),
+        (2, TOP, 0x0001_7fff_ffff_ffff),
+    ];
+    for (level, number, word) in cases {
+        assert_eq!(rt; Ptr::node(level, number).word(), word);
+        assert_eq!(rt; Ptr::from_word(word).and_then(Ptr::level), Some(level));
+    }
+}
+
+#[test]
+fn accepts_the_words_of_pointers_alone(rt: HostRuntime) {
+    let cases: [(u64, bool); 7] = [
+        (0, true),
+        (0x7fff_7fff_ffff_ffff, true),
+        (0x7fff_8000_0000_0000, false),
+        (0x8000_0000_0000_0000, true),
+        (0x8000_0000_0000_0001, true),
+        (0x8000_0000_0000_0002, false),
+        (0xffff_ffff_ffff_ffff, false),
+    ];
+    for (word, is_pointer) in cases {
+        assert_eq!(rt; Ptr::from_word(word).is_some(), is_pointer, "{word:016x}");
+    }
+}
+
+#[test]
+fn reads_records_back(rt: HostRuntime) -> Result<(), Fail> {
+    let zero = Ptr::terminal(false);
+    let one = Ptr::terminal(true);
+    let uid = Uid::of(Ptr::node(1, TOP)).ok_or("no identifier")?;
+    let node = Node {
+        uid,
+        low: zero,
+        high: one,
+    };
+    assert_eq!(rt; read_back(node), Some(node));
+    assert_eq!(rt;
+        node.to_rec().w,
+        [0x0000_ffff_ffff_ffff, 1 << 63, (1 << 63) + 1, 0, 0, 0, 0, 0]
+    );
+    let mut record = node.to_rec();
+    assert_eq!(rt; read_back(record), Some(record));
+    record.w[3] = 1;
+    assert!(rt; Node::from_rec(&record).is_none());
+    assert_eq!(rt; (one.value(), uid.ptr().value()), (Some(true), None));
+    Ok(())
+}
