@@ -1,5 +1,5 @@
 //! The value of a step's table at one place.
-ghost use Rattle.std.specs.Prelude.{◌≡◌, ℕ, ◌<◌, ◌≤◌, ◌^◌, cond};
+ghost use Rattle.std.specs.Prelude.{◌≡◌, ◌<◌, ◌≤◌, ◌^◌};
 ghost use Rattle.bool_tables.specs.Tables.{value_at, weight, digit, with_digit};
 ghost use Rattle.bool_tables.specs.Steps.{op_value, quant_value, table_of_step, step_value};
 ghost use Rattle.bool_tables.specs.Plans.{makes_diagram};

@@ -16,6 +16,7 @@ use Rattle.canon_file.specs.Pieces.{splits, halves, pieces, part_at, parts}
 use Rattle.canon_file.specs.Rows.{row_before, row_word, place_of, row_of, rows_with, pointer, levels, Fits}
 use Rattle.canon_file.specs.Canon.{numbered, nodes_of, node_bytes, trailer_bytes, canon_nodes, canon_root, canon_bytes}
 use Rattle.canon_file.proofs.ByteLaws.{length-node_bytes}
+use Rattle.canon_file.specs.Laws.{HasForm}
 use Rattle.canon_file.specs.Pairs.{pairs, differs, distinct_rows, word_in, words_above}
 use Rattle.canon_file.proofs.MemberLaws.{ascending_ascends, ascending_keeps, has_filter}
 use Rattle.canon_file.proofs.RowLaws.{row_order}
@@ -306,3 +307,7 @@ canon_done n k t words bytes more root size last end known written read measured
     let count : size / 24 ≡ length (nodes_of 0 (levels n 0 (t ∷ []))) =
     omega (arith, measured, ap length all-bytes, length-node_bytes (nodes_of 0 (levels n 0 (t ∷ [])))) in
     added ∙ (λ j. all-bytes j ++ trailer_bytes (is-root j) (count j) (variables j))
+
+-- a table of at most 47 variables has no level with too many rows
+pub has_form : (n : ℕ) → n ≤ 47 → (t : List Bool) → length t ≡ 2 ^ n → HasForm n t
+has_form n few t whole = record { few = omega arith; whole = whole; fits = fits_pieces 0 n t (omega arith) }

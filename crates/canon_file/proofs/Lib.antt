@@ -2,6 +2,7 @@ pub mod MemberLaws
 pub mod PieceLaws
 pub mod RowLaws
 pub mod VarDiagram
+pub mod FileLaws
 pub mod CanonLaws
 mod LevelLaws
 mod SearchLaws

@@ -7,6 +7,7 @@ use Rattle.canon_file.specs.Members.{Has, IsAscending}
 use Rattle.canon_file.specs.Pieces.{splits, pieces, parts}
 use Rattle.canon_file.specs.Rows.{row_before, row_of, rows_with, levels, Fits}
 use Rattle.canon_file.specs.Canon.{canon_nodes, canon_root, canon_bytes}
+use Rattle.canon_file.specs.NodeFiles.{IsNodeFile}
 use Rattle.canon_file.specs.Walks.{walk, table_of, row_at}
 
 -- the table has n variables, at most 65535, and its canonical form is defined: no level has more rows than numbers
@@ -27,6 +28,10 @@ Stands n = (t : List Bool) → HasForm n t → table_of (row_at (canon_nodes n t
 abbrev pub Walks : ℕ → Type 0
 Walks n = (t bits : List Bool) → HasForm n t → length bits ≡ n
     → walk (row_at (canon_nodes n t)) 0 bits (canon_root n t) ≡ terminal (value_at t (place_of_bits bits))
+
+-- the canonical nodes and root keep the rules of node files
+abbrev pub KeepsRules : ℕ → Type 0
+KeepsRules n = (t : List Bool) → HasForm n t → IsNodeFile n t
 
 -- the pieces of level i of a table of i + h variables are its 2 ^ i equal parts, in order
 abbrev pub PiecesAreParts : ℕ → ℕ → Type 0

@@ -6,3 +6,4 @@ pub mod Variables
 pub mod Walks
 pub mod Laws
 pub mod Pairs
+pub mod NodeFiles

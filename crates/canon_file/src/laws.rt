@@ -1,6 +1,6 @@
 //! The laws of canonical forms. Each function does nothing: what it ensures is the law.
-ghost use Rattle.std.specs.Prelude.{ℕ, ◌<◌, Bool, List};
-ghost use Rattle.canon_file.specs.Laws.{IsUnique, Stands, Walks, PiecesAreParts, AreRows};
+ghost use Rattle.std.specs.Prelude.{◌≡◌, ℕ, ◌^◌, ◌<◌, ◌≤◌, Bool, List, length};
+ghost use Rattle.canon_file.specs.Laws.{HasForm, IsUnique, KeepsRules, Stands, Walks, PiecesAreParts, AreRows};
 ghost use Rattle.canon_file.specs.Variables.{IsOneNode};
 
 /// For one number of variables, canonical bytes are equal exactly where the tables are.
@@ -12,6 +12,16 @@ pub fn bytes_are_unique()
 pub fn nodes_stand_for_the_table()
     ensures table { (n : ℕ) → Stands n }
     ensures walks { (n : ℕ) → Walks n }
+{}
+
+/// The canonical nodes and root keep the rules of node files.
+pub fn nodes_keep_the_rules()
+    ensures { (n : ℕ) → KeepsRules n }
+{}
+
+/// Tables of few variables have a canonical form.
+pub fn small_tables_have_a_form()
+    ensures { (n : ℕ) → n ≤ 47 → (t : List Bool) → length t ≡ 2 ^ n → HasForm n t }
 {}
 
 /// The pieces of a level, which halving gives, are the table's equal parts in order.

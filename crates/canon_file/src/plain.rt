@@ -1,4 +1,4 @@
-ghost use Rattle.std.specs.Prelude.{◌≡◌, ℕ, ◌+◌, ◌-◌, ◌*◌, ◌^◌, ◌<◌, ◌≤◌, ◌++◌, length, map, IfOk, OnOk};
+ghost use Rattle.std.specs.Prelude.{◌≡◌, ◌^◌, ◌≤◌, ◌++◌, length, map, IfOk, OnOk};
 ghost use Rattle.rec_words.specs.Words.{terminal};
 ghost use Rattle.canon_file.specs.Canon.{trailer_bytes, canon_bytes};
 

@@ -1,4 +1,4 @@
-ghost use Rattle.std.specs.Prelude.{◌≡◌, ℕ, refl};
+ghost use Rattle.std.specs.Prelude.{refl};
 ghost use Rattle.std.proofs.Common.{lit≤};
 ghost use Rattle.rec_words.specs.Records.{node_words, IsNode};
 ghost use Rattle.rec_words.specs.RecordLaws.{node_fits, same_node, node_order};

@@ -1,4 +1,4 @@
-ghost use Rattle.std.specs.Prelude.{◌≡◌, ℕ, length, refl};
+ghost use Rattle.std.specs.Prelude.{◌≡◌, refl};
 ghost use Rattle.std.proofs.Common.{lit≤};
 ghost use Rattle.rec_words.specs.Records.{IsRec};
 ghost use Rattle.rec_words.specs.RecordLaws.{same_rec, no_ninth};
