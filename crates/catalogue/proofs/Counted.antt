@@ -1,17 +1,16 @@
 -- The count of committed steps in the images of a folder, and the entries that it covers.
 use Rattle.std.proofs.Common.{◌≡◌, ◌≢◌, ◌⊎◌, ℕ, ◌+◌, ◌*◌, ◌<◌, ◌≤◌, min, Bool, true, cond, ltb, List, [], ◌∷◌, ◌++◌, length, take, drop, refl, sym, ap, subst, ◌∙◌, inl, inr, arith}
 use Rattle.std.specs.Prelude.{IsTrue, Result, Ok, Err, OnOk}
-use Rattle.std.proofs.lemmas.Bool.{cases_lt, lt-ltb, ltb-true}
+use Rattle.std.proofs.lemmas.Bool.{cases_lt, lt-ltb}
 use Rattle.std.proofs.lemmas.List.{length-take, length-append, take_all, drop_at}
 use Rattle.shelf_model.specs.declared.file_no.FileNo.{FileNo}
 use Rattle.shelf_model.specs.File.{File, firm_file, IsLeft, IsKept}
-use Rattle.shelf_model.specs.Folder.{Folder, Image, file_in, bytes_in, IsImage, AreFiles}
+use Rattle.shelf_model.specs.Folder.{Folder, Image, file_in, bytes_in, IsImage}
 use Rattle.shelf_model.specs.declared.fault.Failed.{Failed}
 use Rattle.shelf_model.specs.World.{Moment, World, now, file}
 use Rattle.shelf_model.specs.Calls.{Told}
 use Rattle.shelf_model.specs.Moments.{Ran}
 use Rattle.shelf_model.proofs.Files.{only_image, same_image, kept_all}
-use Rattle.shelf_model.proofs.Images.{shortest_left, each_left, length_is_all}
 use Rattle.shelf_model.proofs.Numbers.{other_part}
 use Rattle.shelf_model.proofs.Runs.{run_on, ran_weakens, ran_end}
 use Rattle.catalogue.specs.declared.layout.Entry.{Entry}
@@ -185,16 +184,3 @@ commit_ok tells world e (Ok x) old s t ready so_far grows gate = λ tells_new.
     committed e (now (world old)) (now (world s)) (now (world t)) (ready (so_far.before tells_mid)) (so_far.did tells_mid).1
     (ran_end (world s) (world t) (Lengthening step_gate e.number (now (world s))) (grows.did tells_new)) (gate tells_new)
 commit_ok tells world e (Err f) old s t ready so_far grows gate = tt
-
--- a folder that has n committed steps in every image, and room for their entries, is ready for the next
-pub ready_from_images : (n : ℕ) (folder : Folder) → AreFiles folder → ((image : Image) → IsImage folder image → HasCount n (bytes_in image)) → 128 * n ≤ length (file_in folder catalogue).bytes → IsReady n folder
-ready_from_images n folder are_files all covers =
-    let gate = length_is_all folder step_gate n are_files (λ image is_image. gate_length n (bytes_in image) (all image is_image)) in
-    let shortest : IsLeft (file_in folder job_gate) (take (file_in folder job_gate).firm (file_in folder job_gate).bytes) = shortest_left (file_in folder job_gate) (are_files job_gate) in
-    let stored : 0 < length (take (file_in folder job_gate).firm (file_in folder job_gate).bytes) =
-    each_left folder job_gate (λ left. 0 < length left) are_files (λ image is_image. ltb-true 0 (length (bytes_in image job_gate)) (all image is_image).stored) _ shortest in
-    let firm : length (take (file_in folder job_gate).firm (file_in folder job_gate).bytes) ≡ min (file_in folder job_gate).firm (length (file_in folder job_gate).bytes) = length-take (file_in folder job_gate).firm (file_in folder job_gate).bytes in
-    record { stored = omega arith; gate = gate.0; count = gate.1; covers = covers }
-  where
-    gate_length : (n : ℕ) (r : FileNo → List ℕ) → HasCount n r → length (r step_gate) ≡ n
-    gate_length n r has = sym (ap (λ b. cond b (length (r step_gate)) 0) has.stored) ∙ has.count

@@ -1,5 +1,5 @@
 -- What the bytes of an entry read as.
-use Rattle.std.proofs.Common.{◌≡◌, ℕ, ◌<◌, ◌^◌, List, [], take, drop, get_or, replicate, refl, sym, subst, arith}
+use Rattle.std.proofs.Common.{◌≡◌, ℕ, ◌<◌, ◌^◌, List, [], take, drop, get_or, replicate, refl, sym, subst, ◌∙◌, arith}
 use Rattle.std.proofs.lemmas.List.{take_at}
 use Rattle.byteorder.specs.Endian.{big_number}
 use Rattle.byteorder.specs.Numbers.{big_number-reads_back}
@@ -45,3 +45,10 @@ same_fields e f number kind answer count turns parts name_len name = λ i. recor
   name_len = name_len i;
   name = name i;
 }
+
+-- entries of the same bytes are one
+pub same_entry : (a b : Entry) → Fits a → Fits b → entry_bytes a ≡ entry_bytes b → a ≡ b
+same_entry a b first second same =
+    let own = reads_own a first in
+    let other = entry_reads b (entry_bytes a) second (sym same) in
+    same_fields a b (own.number ∙ sym other.number) (own.kind ∙ sym other.kind) (own.answer ∙ sym other.answer) (own.count ∙ sym other.count) (own.turns ∙ sym other.turns) (own.parts ∙ sym other.parts) (own.name_len ∙ sym other.name_len) (own.name ∙ sym other.name)

@@ -6,3 +6,4 @@ pub mod Shared
 pub mod Stored
 pub mod Synced
 pub mod Resumed
+pub mod Laws

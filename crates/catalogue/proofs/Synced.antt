@@ -1,19 +1,18 @@
 -- What holds while the files of a job are made sure and read.
-use Rattle.std.proofs.Common.{◌≡◌, ◌≢◌, ℕ, Bool, true, false, ltb, List, length, refl, sym, ap, subst, ◌∙◌, inl, inr, arith}
+use Rattle.std.proofs.Common.{◌≡◌, ◌≢◌, ℕ, Bool, List, length, refl, sym, ap, subst, ◌∙◌, inl, inr, arith}
 use Rattle.std.specs.Prelude.{IsTrue, Result, Ok, Err}
-use Rattle.std.proofs.lemmas.Bool.{true≢false}
 use Rattle.shelf_model.specs.declared.file_no.FileNo.{FileNo}
 use Rattle.shelf_model.specs.declared.fault.Failed.{Failed}
 use Rattle.shelf_model.specs.File.{File}
-use Rattle.shelf_model.specs.Folder.{Image, file_in, bytes_in, IsImage, AreFiles}
+use Rattle.shelf_model.specs.Folder.{file_in, bytes_in, IsImage, AreFiles}
 use Rattle.shelf_model.specs.World.{Moment, World, now, file}
 use Rattle.shelf_model.specs.Calls.{Told, Synced, Measured}
 use Rattle.shelf_model.specs.Moments.{Ran, Stays}
-use Rattle.shelf_model.proofs.Images.{chosen, bytes_in-chosen, standing_left, standing_image, sync_images}
+use Rattle.shelf_model.proofs.Images.{sync_images}
 use Rattle.shelf_model.proofs.Numbers.{cases_file}
 use Rattle.shelf_model.proofs.Runs.{told, told_then, ran_call, ran_on, ran_joins, ran_weakens, ran_end}
 use Rattle.catalogue.specs.Files.{job_file, job_gate, step_gate}
-use Rattle.catalogue.specs.Counts.{present, is_stored}
+use Rattle.catalogue.specs.Counts.{present}
 use Rattle.catalogue.specs.Standings.{DuringSyncs, DuringStore, DuringAttach, AreGatesSure, IsBeginning}
 use Rattle.catalogue.proofs.Stored.{not_stored}
 
@@ -148,15 +147,3 @@ attach_stored tells world job n old s t none so_far gates stores = record {
       (ran_weakens (world s) (world t) (DuringStore job (file (world s) step_gate).reach (now (world s))) (DuringAttach job (now (world old)))
       (λ m storing. attach_stores job (now (world old)) (now (world s)) m end sure.1 (sym sure.0 ∙ none) storing) (stores.did tells_new));
 }
-
--- where every image at the start has a job, an attach leaves no other image
-pub attach_keeps : (job : List ℕ) (old m : Moment) (image : Image) → AreFiles old.folder → ((first : Image) → IsImage old.folder first → IsTrue (is_stored (bytes_in first))) → DuringAttach job old m → IsImage m.folder image → IsImage old.folder image
-attach_keeps job old m image are_files all during is_image = elim (during.images image is_image) [
-  | inl same ↦ same
-  | inr begins ↦
-      let stood : is_stored (bytes_in (chosen (λ _ x. x.bytes) old.folder)) ≡ true = all (chosen (λ _ x. x.bytes) old.folder) (standing_image old.folder are_files) in
-      let gate : bytes_in (chosen (λ _ x. x.bytes) old.folder) job_gate ≡ present old.folder job_gate = bytes_in-chosen (λ _ x. x.bytes) old.folder job_gate (standing_left (file_in old.folder job_gate) (are_files job_gate)) in
-      let stored : is_stored (present old.folder) ≡ true = sym (ap (λ bytes. ltb 0 (length bytes)) gate) ∙ stood in
-      let not_stored : is_stored (present old.folder) ≡ false = begins.0 in
-      absurd (true≢false (sym stored ∙ not_stored))
-]

@@ -11,19 +11,19 @@ use Rattle.catalogue.proofs.job.resume.Goals as goal
 
 pub returns-in_err-size-clause-content : goal.returns-in_err-size-clause-content
 returns-in_err-size-clause-content g c =
-    let one = sync_first g.S.Shelf.tells g.S.Shelf.world _ _ _ _ is_job_file g.met.S.Shelf.files_are c.in_ok-sync.ensures.content in
-    len_next g.S.Shelf.tells g.S.Shelf.world _ _ _ _ _ one c.in_err-size.ensures.content
+    let one = sync_first g.S.Shelf.tells g.S.Shelf.world _ _ c.args.shelf.now c.sync.new.self is_job_file g.met.S.Shelf.files_are c.in_ok-sync.ensures.content in
+    len_next g.S.Shelf.tells g.S.Shelf.world _ _ c.args.shelf.now c.sync.new.self c.len.new.self one c.in_err-size.ensures.content
 
 pub returns-in_err-same-clause-content : goal.returns-in_err-same-clause-content
 returns-in_err-same-clause-content g c =
-    let one = sync_first g.S.Shelf.tells g.S.Shelf.world _ _ _ _ is_job_file g.met.S.Shelf.files_are c.in_ok-sync.ensures.content in
-    let two = len_next g.S.Shelf.tells g.S.Shelf.world _ _ _ _ _ one c.in_ok-size.ensures.content in
+    let one = sync_first g.S.Shelf.tells g.S.Shelf.world _ _ c.args.shelf.now c.sync.new.self is_job_file g.met.S.Shelf.files_are c.in_ok-sync.ensures.content in
+    let two = len_next g.S.Shelf.tells g.S.Shelf.world _ _ c.args.shelf.now c.sync.new.self c.len.new.self one c.in_ok-size.ensures.content in
     reads_next g.S.Shelf.tells g.S.Shelf.world c.args.shelf.now c.len.new.self c.shared_with_stored.new.shelf two c.in_err-same.ensures.content
 
 pub returns-then-same-size-clause-content : goal.returns-then-same-size-clause-content
 returns-then-same-size-clause-content g c =
-    let one = sync_first g.S.Shelf.tells g.S.Shelf.world _ _ _ _ is_job_file g.met.S.Shelf.files_are c.in_ok-sync.ensures.content in
-    let two = len_next g.S.Shelf.tells g.S.Shelf.world _ _ _ _ _ one c.in_ok-size.ensures.content in
+    let one = sync_first g.S.Shelf.tells g.S.Shelf.world _ _ c.args.shelf.now c.sync.new.self is_job_file g.met.S.Shelf.files_are c.in_ok-sync.ensures.content in
+    let two = len_next g.S.Shelf.tells g.S.Shelf.world _ _ c.args.shelf.now c.sync.new.self c.len.new.self one c.in_ok-size.ensures.content in
     reads_next g.S.Shelf.tells g.S.Shelf.world c.args.shelf.now c.len.new.self c.shared_with_stored.new.shelf two c.in_ok-same.ensures.content
 
 pub returns-then-same-size-clause-answer : goal.returns-then-same-size-clause-answer
@@ -44,8 +44,8 @@ returns-then-same-size-clause-answer g c = λ tells_read not_shelf.
 
 pub returns-clause-content : goal.returns-clause-content
 returns-clause-content g c =
-    let one = sync_first g.S.Shelf.tells g.S.Shelf.world _ _ _ _ is_job_file g.met.S.Shelf.files_are c.in_ok-sync.ensures.content in
-    let two = len_next g.S.Shelf.tells g.S.Shelf.world _ _ _ _ _ one c.in_ok-size.ensures.content in
+    let one = sync_first g.S.Shelf.tells g.S.Shelf.world _ _ c.args.shelf.now c.sync.new.self is_job_file g.met.S.Shelf.files_are c.in_ok-sync.ensures.content in
+    let two = len_next g.S.Shelf.tells g.S.Shelf.world _ _ c.args.shelf.now c.sync.new.self c.len.new.self one c.in_ok-size.ensures.content in
     let three = reads_next g.S.Shelf.tells g.S.Shelf.world c.args.shelf.now c.len.new.self c.shared_with_stored.new.shelf two c.in_ok-same.ensures.content in
     reads_next g.S.Shelf.tells g.S.Shelf.world c.args.shelf.now c.shared_with_stored.new.shelf c.count_steps.new.shelf three c.count_steps.ensures.content
 
