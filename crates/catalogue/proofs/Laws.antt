@@ -4,15 +4,16 @@ use Rattle.std.specs.Prelude.{IsTrue}
 use Rattle.std.proofs.lemmas.Bool.{ltb-true, true≢false}
 use Rattle.std.proofs.lemmas.List.{length-take, take-take, drop-take}
 use Rattle.shelf_model.specs.declared.file_no.FileNo.{FileNo}
-use Rattle.shelf_model.specs.File.{File, firm_file, IsLeft, IsKept}
+use Rattle.shelf_model.specs.File.{File, firm_file, IsFile, IsLeft, IsKept}
 use Rattle.shelf_model.specs.Folder.{Folder, Image, file_in, bytes_in, IsImage, AreFiles}
 use Rattle.shelf_model.specs.World.{Moment}
 use Rattle.shelf_model.proofs.Files.{kept_left}
 use Rattle.shelf_model.proofs.Images.{chosen, bytes_in-chosen, standing_left, standing_image, shortest_left, each_left, length_is_all}
 use Rattle.catalogue.specs.Files.{job_gate, catalogue, step_gate}
-use Rattle.catalogue.specs.Counts.{present, is_stored, entry_at, HasCount}
+use Rattle.catalogue.specs.Counts.{count_in, present, is_stored, entry_at, HasCount}
 use Rattle.catalogue.specs.Commits.{IsReady}
 use Rattle.catalogue.specs.Standings.{DuringAttach}
+use Rattle.catalogue.proofs.Counted.{has_count}
 
 -- a folder that has n committed steps in every image, and room for their entries, is ready for the next
 pub ready_from_images : (n : ℕ) (folder : Folder) → AreFiles folder → ((image : Image) → IsImage folder image → HasCount n (bytes_in image)) → 128 * n ≤ length (file_in folder catalogue).bytes → IsReady n folder
@@ -60,3 +61,10 @@ attach_keeps job old m image are_files all during is_image = elim (during.images
       let not_stored : is_stored (present old.folder) ≡ false = begins.0 in
       absurd (true≢false (sym stored ∙ not_stored))
 ]
+
+-- what a read gives of a folder that is ready has that count too
+pub ready_count : (n : ℕ) (folder : Folder) → IsFile (file_in folder job_gate) → IsReady n folder → count_in (present folder) ≡ n
+ready_count n folder is_file ready =
+    let within : (file_in folder job_gate).firm ≤ length (file_in folder job_gate).bytes = is_file.firm_within in
+    let sure : 0 < (file_in folder job_gate).firm = ready.stored in
+    (has_count n (present folder) (omega arith) ready.count).count

@@ -21,7 +21,7 @@ pub record IsCounted (e : Entry) (r : FileNo → List ℕ) : Type 0 where
   pub counts : HasCount (e.number + 1) r
   pub placed : entry_at e.number r ≡ entry_bytes e
 
--- at each moment of a commit each image has the old count, or one more with the entry; other files and earlier entries stay
+-- at each moment each image has the old count, or one more with the entry; other files and earlier entries stay
 pub record DuringCommit (e : Entry) (old m : Moment) : Type 0 where
   pub others : (q : FileNo) → q ≢ catalogue → q ≢ step_gate
       → file_in m.folder q ≡ file_in old.folder q

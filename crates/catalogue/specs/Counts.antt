@@ -1,4 +1,4 @@
--- What the files say of a job and its committed steps. A folder or an image is taken by its reading, the bytes of each file.
+-- What the files say of a job and its committed steps. A folder and an image are taken by the bytes of each file.
 use Rattle.std.specs.Prelude.{◌≡◌, ℕ, ◌*◌, Bool, IsTrue, List, length, take, drop, nat_lt, if◌then◌else◌}
 use Rattle.shelf_model.specs.declared.file_no.FileNo.{FileNo}
 use Rattle.shelf_model.specs.Folder.{Folder, file_in}

@@ -13,14 +13,14 @@ use Rattle.catalogue.specs.Files.{job_file, job_gate, catalogue, step_gate}
 use Rattle.catalogue.specs.Counts.{present, is_stored, HasCount}
 use Rattle.catalogue.specs.Commits.{IsReady}
 
--- the gate counts no more than the job's steps, and the catalogue has the entries that it counts, or its first lack is damage
+-- the gate counts more than the job's steps, or the catalogue ends before an entry that it counts: a damaged place
 abbrev pub counted_standing : ℕ → ℕ → ℕ → Result Standing AttachFault
 counted_standing steps done size =
     if nat_lt steps done then Err (Damaged step_gate steps)
     else (if nat_lt size (128 * done) then Err (Damaged catalogue (128 * (size / 128)))
     else Ok (record { fresh = false; done = done }))
 
--- fresh where no job is stored, refused where another one is, at the first byte that differs or the shorter length, else counted
+-- fresh where no job is stored; another one is refused at the first byte that differs, or the shorter length
 abbrev pub standing_of : List ℕ → ℕ → (FileNo → List ℕ) → Result Standing AttachFault
 standing_of job steps r =
     if is_stored r then
