@@ -1,0 +1,5 @@
+//! Cases of the catalogue over a folder in memory.
+#![tactic(auto)]
+
+#[cfg(test)]
+mod tests;
