@@ -141,3 +141,11 @@ fails_as A B result old new there back fails = record {
   lists_are = fails.lists_are;
   watch_is = fails.watch_is;
 }
+
+-- where the station still tells its content, a call failed only for its reason
+pub told_cause : {T : Type 0} (Reason : Type 0) (result : Result T Failed) (old new : Bench) → FailsExactly Reason result old new → IsTrue (tells_of new) → OnErr result Reason
+told_cause Reason (Ok x) old new fails tells = tt
+told_cause Reason (Err e) old new fails tells = elim fails.cause [
+  | inl reason ↦ reason
+  | inr rose ↦ let none : new.counts.starved ≡ 0 = (new.counts_are (ltb-true _ _ tells)).1 in absurd (omega (arith, none, rose))
+]

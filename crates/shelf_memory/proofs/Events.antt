@@ -8,7 +8,8 @@ use Rattle.shelf_model.proofs.Numbers.{cases_file}
 use Rattle.shelf_model.proofs.Maps.{file_in-insert, file_in-insert_other}
 use Rattle.shelf_memory.specs.Changes.{changed}
 use Rattle.shelf_memory.specs.Events.{with_file, after_call, after, first_moment, replayed, calls_in, first_calls, moment_of}
-use Rattle.shelf_memory.specs.Past.{Agrees, moment_at_end}
+use Rattle.shelf_memory.specs.Past.{Agrees}
+use Rattle.shelf_memory.specs.Laws.{moment_at_end}
 use Rattle.shelf_memory.specs.Disks.{Ticked}
 use Rattle.shelf_memory.specs.declared.change.Change.{Change}
 use Rattle.shelf_memory.specs.declared.disk.Disk.{Disk}

@@ -1,21 +1,37 @@
 -- What holds of the present files of every station in memory that tells its content.
-use Rattle.std.specs.Prelude.{◌≡◌, ◌<◌, ◌-◌, ◌^◌, IsTrue, Option, None, Some}
+use Rattle.std.specs.Prelude.{◌≡◌, ℕ, List, [], ◌∷◌, refl, ◌<◌, ◌-◌, ◌^◌, IsTrue, Option, None, Some}
 use Rattle.std.proofs.Common.{sym, ap, subst, ◌∙◌, lit≤}
 use Rattle.std.proofs.lemmas.Bool.{ltb-true}
 use Rattle.std.specs.Option.{option_map_or}
 use Rattle.std.specs.BTreeMap.{BTreeMap, get}
 use Rattle.shelf_model.specs.declared.file_no.FileNo.{FileNo}
-use Rattle.shelf_model.specs.File.{no_file, IsFile}
+use Rattle.shelf_model.specs.File.{File, no_file, IsFile}
 use Rattle.shelf_model.specs.Folder.{file_cmp, file_in}
 use Rattle.shelf_model.specs.World.{Moment, file}
 use Rattle.shelf_memory.specs.declared.bench.Bench.{Bench}
 use Rattle.shelf_memory.specs.declared.change.Stored.{Stored}
 use Rattle.shelf_memory.specs.declared.disk.Disk.{Disk}
 use Rattle.shelf_memory.specs.Changes.{file_of}
-use Rattle.shelf_memory.specs.Events.{moment_of}
+use Rattle.shelf_memory.specs.Events.{first_moment, replayed, calls_in, first_calls, moment_of}
 use Rattle.shelf_memory.specs.Files.{stored_in}
-use Rattle.shelf_memory.specs.Past.{moment_at_end}
+use Rattle.shelf_memory.specs.Past.{Agrees}
+use Rattle.shelf_memory.specs.declared.event.Event.{Event}
+use Rattle.shelf_memory.specs.declared.event.Event.TheVariants.{Called, Put}
 use Rattle.shelf_memory.specs.Benches.{tells_of, world_of}
+
+-- the first calls are all of them
+pub first_calls-all : (es : List Event) → first_calls (calls_in es) es ≡ es
+unfolding first_calls calls_in
+first_calls-all [] = refl
+first_calls-all (Called call ∷ es) = ap (λ rest. Called call ∷ rest) (first_calls-all es)
+first_calls-all (Put f bytes ∷ es) = ap (λ rest. Put f bytes ∷ rest) (first_calls-all es)
+
+-- what stands after all calls is what the events lead to
+pub moment_at_end : (clock : ℕ) (stored : FileNo → File) (bytes : List ℕ) (es : List Event) → Agrees clock stored bytes es
+    → moment_of es clock ≡ replayed first_moment es
+unfolding moment_of
+moment_at_end clock stored bytes es agrees =
+    ap (λ k. replayed first_moment (first_calls k es)) (sym agrees.calls_are) ∙ ap (replayed first_moment) (first_calls-all es)
 
 -- the files that stand now are those that are stored
 pub present_file : (d : Disk) → d.clock < 2 ^ 64 - 1 → (f : FileNo) → file_in (moment_of d.events.items d.clock).folder f ≡ stored_in d.files f
