@@ -1,0 +1,9 @@
+use Rattle.std.proofs.Common.{refl, arith}
+use Rattle.std.proofs.lemmas.Grind.{common_steps}
+use Rattle.block_stream.proofs.ReadLaws.{loaded_front}
+use Rattle.block_stream.proofs.load.load.Goals as goal
+
+pub returns-clause-loaded : goal.returns-clause-loaded
+returns-clause-loaded g c t =
+    loaded_front c.args.words c.args.place c.byte_place.result c.args.wanted c.in_ok-got.got _ _ _ _ _ _ _
+    c.requires.words.0 c.byte_place.ensures (grind (arith, common_steps)) (c.in_ok-got.ensures.content.did t).ok refl refl c.read_records.ensures
