@@ -1,16 +1,19 @@
 -- Values in the bytes of a file: the first and the last of them, and that a stream gives them.
-use Rattle.std.proofs.Common.{◌≡◌, ℕ, suc, ◌+◌, ◌-◌, ◌*◌, ◌<◌, ◌≤◌, List, [], ◌∷◌, ◌++◌, length, take, drop, get_or, sym, ap, subst, ◌∙◌, arith}
-use Rattle.std.specs.Prelude.{Result, Option, Ok, Err, Some, None}
-use Rattle.std.proofs.lemmas.List.{drop-drop, length-take-le, nil_from_length, take_more, take_all, take-map, get_or-map}
-use Rattle.std.proofs.lemmas.List.Elements.{All-head, All-tail, All-take, All-get_or}
+use Rattle.std.proofs.Common.{◌≡◌, ℕ, zero, suc, ◌+◌, ◌-◌, ◌*◌, ◌<◌, ◌≤◌, List, [], ◌∷◌, ◌++◌, length, take, drop, map, replicate, get_or, refl, sym, ap, subst, ◌∙◌, arith}
+use Rattle.std.specs.Prelude.{◌^◌, slice_index, Result, Option, Ok, Err, Some, None}
+use Rattle.std.specs.List.{flat_map}
+use Rattle.std.specs.Int.{w64, to_be_bytes}
+use Rattle.std.proofs.lemmas.Nat.{from_be_bytes-to_be_bytes_8}
+use Rattle.std.proofs.lemmas.List.{append-nil, drop-drop, drop_at, length-append, length-take-le, length_push, map_push, nil_from_length, take-append-drop, take_more, take_all, take-map, get_or-map}
+use Rattle.std.proofs.lemmas.List.Elements.{All-nil, All-push, All-head, All-tail, All-take, All-get_or}
 use Rattle.rec_words.specs.declared.rec.Rec.{Rec}
 use Rattle.shelf_model.specs.declared.fault.StreamFault.{StreamFault}
 use Rattle.shelf_model.specs.declared.fault.StreamFault.TheVariants.{Shelf, Damaged}
 use Rattle.block_stream.specs.declared.reading.Reading.{Reading}
-use Rattle.block_stream.specs.Records.{record_of, records_of, from_place, record_at}
+use Rattle.block_stream.specs.Records.{words_of, record_of, records_of, record_bytes, from_place, record_at}
 use Rattle.block_stream.specs.Reads.{IsRecordOf, IsAnswer, SameRange, GoesOn, GoesBack, place_of}
-use Rattle.block_stream.specs.Items.{item_record, AreItems, AreAhead, AreBehind, GivesFirst, GivesLast}
-use Rattle.block_stream.proofs.RecordLaws.{take-records_of, nth_record, scaled}
+use Rattle.block_stream.specs.Items.{item_record, item_bytes, AreItems, AreAhead, AreBehind, GivesFirst, GivesLast}
+use Rattle.block_stream.proofs.RecordLaws.{length-word_bytes, records_append, records_more, take-records_of, nth_record, scaled}
 
 -- the bytes one record further
 one_further : (k place : ℕ) (bytes : List ℕ) → drop (8 * k) (from_place k place bytes) ≡ from_place k (place + 1) bytes
@@ -124,3 +127,76 @@ module _ {T : Type 0} (is_value : T → Type 0) (words : T → List ℕ) where
             all = let all : old.bound + suc m ≡ place_of old = behind.all in let back : place_of old ≡ place_of new + 1 = goes.2 in let bound : new.bound ≡ old.bound = same.bound_is in omega arith;
           },
         )
+
+-- words of 64 bits are read back
+words_back : (ws rest : List ℕ) → ((i : ℕ) → slice_index ws i < 2 ^ 64) → words_of (length ws) (flat_map (to_be_bytes w64) ws ++ rest) ≡ ws
+words_back [] rest fits = refl
+words_back (x ∷ ws) rest fits =
+    (λ t. from_be_bytes-to_be_bytes_8 x (fits 0) t ∷ words_of (length ws) (flat_map (to_be_bytes w64) ws ++ rest))
+    ∙ ap (λ more. x ∷ more) (words_back ws rest (λ i. fits (suc i)))
+
+take_fits : (k : ℕ) (ws : List ℕ) → ((i : ℕ) → slice_index ws i < 2 ^ 64) → (i : ℕ) → slice_index (take k ws) i < 2 ^ 64
+take_fits zero ws fits i = omega arith
+take_fits (suc k) [] fits i = omega arith
+take_fits (suc k) (x ∷ ws) fits zero = fits 0
+take_fits (suc k) (x ∷ ws) fits (suc i) = take_fits k ws (λ j. fits (suc j)) i
+
+-- a record's bytes are read back, where the words behind them are 0
+pub record_back : (k : ℕ) (ws rest : List ℕ) → k ≤ length ws → ((i : ℕ) → slice_index ws i < 2 ^ 64) → drop k ws ≡ replicate {A = ℕ} (8 - k) 0
+    → record_of k (flat_map (to_be_bytes w64) (take k ws) ++ rest) ≡ record { w = ws }
+record_back k ws rest long fits unused =
+    let front : words_of k (flat_map (to_be_bytes w64) (take k ws) ++ rest) ≡ take k ws =
+    ap (λ n. words_of n (flat_map (to_be_bytes w64) (take k ws) ++ rest)) (sym (length-take-le k ws long)) ∙ words_back (take k ws) rest (take_fits k ws fits) in
+    ap (λ (vs : List ℕ). let r : Rec = record { w = vs } in r) ((λ t. front t ++ sym unused t) ∙ take-append-drop k ws)
+
+-- a value more stands behind the others
+pub item_more : {T : Type 0} (is_value : T → Type 0) (words : T → List ℕ) (k : ℕ) (bytes : List ℕ) (xs : List T) (x : T) → k ≤ length (words x) → ((i : ℕ) → slice_index (words x) i < 2 ^ 64)
+    → drop k (words x) ≡ replicate {A = ℕ} (8 - k) 0 → is_value x → AreItems is_value words k 0 bytes xs → length bytes ≡ length xs * (8 * k)
+    → AreItems is_value words k 0 (bytes ++ item_bytes words k x) (xs ++ x ∷ []) × (length (bytes ++ item_bytes words k x) ≡ length (xs ++ x ∷ []) * (8 * k))
+item_more is_value words k bytes xs x long fits unused is items all =
+    let n : ℕ = length xs in
+    let piece : List ℕ = item_bytes words k x in
+    let eight : length piece ≡ 8 * k = length-word_bytes (take k (words x)) ∙ ap (λ m. 8 * m) (length-take-le k (words x) long) in
+    let total : length (bytes ++ piece) ≡ length bytes + length piece = length-append bytes piece in
+    let count : length (xs ++ x ∷ []) ≡ n + 1 = length_push xs x in
+    let whole : length (bytes ++ piece) ≡ length (xs ++ x ∷ []) * (8 * k) =
+    total ∙ (λ t. all t + eight t) ∙ (let same : n * (8 * k) + 8 * k ≡ (n + 1) * (8 * k) = omega arith in same) ∙ ap (λ m. m * (8 * k)) (sym count) in
+    let front : from_place k 0 (bytes ++ piece) ≡ bytes ++ piece = none k (bytes ++ piece) in
+    let fits_bytes : n * (8 * k) ≤ length bytes = omega (arith, all) in
+    let earlier : map (item_record words) xs ≡ records_of k n (bytes ++ piece) =
+    items.same ∙ ap (records_of k n) (none k bytes) ∙ sym (records_append k n bytes piece fits_bytes) in
+    let last : item_record words x ≡ record_of k (drop (n * (8 * k)) (bytes ++ piece)) =
+    sym (record_back k (words x) [] long fits unused) ∙ ap (record_of k) (append-nil piece ∙ sym (drop_at bytes piece (n * (8 * k)) all)) in (
+      record {
+        values = All-push is_value xs x items.values is;
+        whole = let zero_place : (0 + length (xs ++ x ∷ [])) * (8 * k) ≡ length (xs ++ x ∷ []) * (8 * k) = omega arith in omega (arith, whole, zero_place);
+        same = map_push (item_record words) xs x ∙ (λ t. earlier t ++ last t ∷ []) ∙ sym (records_more k n (bytes ++ piece))
+            ∙ (λ t. records_of k (sym count t) (sym front t));
+      },
+      whole,
+    )
+  where
+    none : (k : ℕ) (bytes : List ℕ) → from_place k 0 bytes ≡ bytes
+    none k bytes = let z : 0 * (8 * k) ≡ 0 = omega arith in ap (λ m. drop m bytes) z
+
+-- no value stands in no bytes
+pub no_items : {T : Type 0} (is_value : T → Type 0) (words : T → List ℕ) (k : ℕ) (bytes : List ℕ) → AreItems is_value words k 0 bytes []
+no_items is_value words k bytes = record {
+  values = All-nil is_value;
+  whole = let z : (0 + 0) * (8 * k) ≡ 0 = omega arith in omega (arith, z);
+  same = refl;
+}
+
+-- the same of what was put as a record
+pub item_put : {T : Type 0} (is_value : T → Type 0) (words : T → List ℕ) (k j m : ℕ) (before after : List ℕ) (r : Rec) (xs : List T) (x : T) → k ≡ m → j ≡ k → m ≤ 8 → length (words x) ≡ 8
+    → ((i : ℕ) → slice_index (words x) i < 2 ^ 64) → drop m (words x) ≡ replicate {A = ℕ} (8 - m) 0 → is_value x → r.w ≡ words x → after ≡ before ++ record_bytes k r
+    → AreItems is_value words k 0 before xs → length before ≡ length xs * (8 * k)
+    → AreItems is_value words j 0 after (xs ++ x ∷ []) × (length after ≡ length (xs ++ x ∷ []) * (8 * j))
+item_put is_value words k j m before after r xs x width same most eight fits unused is is_words after_is items all =
+    let bytes : after ≡ before ++ item_bytes words k x = after_is ∙ ap (λ w. before ++ flat_map (to_be_bytes w64) (take k w)) is_words in
+    let long : k ≤ length (words x) = omega arith in
+    let rest : drop k (words x) ≡ replicate {A = ℕ} (8 - k) 0 = subst (λ i. drop i (words x) ≡ replicate {A = ℕ} (8 - i) 0) (sym width) unused in
+    let more = item_more is_value words k before xs x long fits rest is items all in (
+      subst (λ b. AreItems is_value words j 0 b (xs ++ x ∷ [])) (sym bytes) (subst (λ i. AreItems is_value words i 0 (before ++ item_bytes words k x) (xs ++ x ∷ [])) (sym same) more.0),
+      ap length bytes ∙ more.1 ∙ ap (λ i. length (xs ++ x ∷ []) * (8 * i)) (sym same),
+    )

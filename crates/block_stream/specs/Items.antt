@@ -1,5 +1,7 @@
 -- Values whose records stand in the bytes of a file, and the list of those that a stream hasn't given.
-use Rattle.std.specs.Prelude.{◌≡◌, ℕ, ◌+◌, ◌*◌, ◌≤◌, List, [], ◌∷◌, ◌++◌, length, map, All, Result, Option, Ok, Err, Some, None}
+use Rattle.std.specs.Prelude.{◌≡◌, ℕ, ◌+◌, ◌*◌, ◌≤◌, List, [], ◌∷◌, ◌++◌, length, take, map, All, Result, Option, Ok, Err, Some, None}
+use Rattle.std.specs.List.{flat_map}
+use Rattle.std.specs.Int.{w64, to_be_bytes}
 use Rattle.rec_words.specs.declared.rec.Rec.{Rec}
 use Rattle.shelf_model.specs.declared.fault.StreamFault.{StreamFault}
 use Rattle.shelf_model.specs.declared.fault.StreamFault.TheVariants.{Shelf, Damaged}
@@ -10,6 +12,10 @@ use Rattle.block_stream.specs.Reads.{place_of}
 -- the record of a value
 abbrev pub item_record : {T : Type 0} → (T → List ℕ) → T → Rec
 item_record words x = record { w = words x }
+
+-- the bytes of a value: its first k words
+abbrev pub item_bytes : {T : Type 0} → (T → List ℕ) → ℕ → T → List ℕ
+item_bytes words k x = flat_map (to_be_bytes w64) (take k (words x))
 
 -- the records from a place on are whole, and are those of these values
 pub record AreItems {T : Type 0} (is_value : T → Type 0) (words : T → List ℕ) (k place : ℕ) (bytes : List ℕ) (xs : List T) : Type 0 where

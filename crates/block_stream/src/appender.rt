@@ -19,14 +19,15 @@ pub struct Appender<'r, T> {
 }
 
 impl<'r, T: Spill> Appender<'r, T> {
-    ghost use Rattle.std.specs.Prelude.{◌≡◌, ◌+◌, ◌*◌, ◌≤◌, ◌++◌, [], IsTrue, OnOk, IfOk, IfErr, take};
+    ghost use Rattle.std.specs.Prelude.{◌≡◌, ◌+◌, ◌*◌, ◌≤◌, ◌++◌, [], IsTrue, ◌∷◌, OnOk, IfOk, IfErr, List, take};
     ghost use Rattle.shelf_model.specs.File.{firm_file};
     ghost use Rattle.shelf_model.specs.World.{file};
     ghost use Rattle.shelf_model.specs.Calls.{Told, longest};
     ghost use Rattle.shelf_model.specs.Faults.{OnlyShelf};
     ghost use Rattle.block_stream.specs.Reads.{IsDamageOf, IsShort};
     ghost use Rattle.block_stream.specs.Writes.{Wrote, Cut, InStep, SameFile, count_of};
-    ghost use Rattle.block_stream.specs.Appenders.{filling_of, room_of, written_of, Holds, item_bytes};
+    ghost use Rattle.block_stream.specs.Appenders.{filling_of, room_of, written_of, Holds, HoldsItems};
+    ghost use Rattle.block_stream.specs.Items.{item_bytes};
 
     /// Begins with an empty file.
     pub fn start<S: Shelf>(
@@ -34,10 +35,12 @@ impl<'r, T: Spill> Appender<'r, T> {
         window: &'r mut [Rec],
         shelf: &mut S,
     ) -> Result<Appender<'r, T>, StreamFault>
-        requires room { 8 ≤ length window.old }
+        requires enough { 8 ≤ length window.old }
         ensures file { IfOk result (λ a. (filling_of a).file ≡ f) }
         ensures words { IfOk result (λ a. (filling_of a).words ≡ T.WORDS) }
         ensures count { IfOk result (λ a. count_of (filling_of a) ≡ 0) }
+        ensures bound { IfOk result (λ a. IsFilling (filling_of a) (room_of a)) }
+        ensures room { IfOk result (λ a. room_of a ≡ length window.entry.now) }
         ensures holds { IfOk result (λ a. IsTrue (S.tells shelf.new) → Holds a (S.world shelf.new) []) }
         ensures cause { IfErr result (λ e. e ≡ StreamFault.Shelf) }
         ensures content { Told S.tells shelf.old shelf.new (Cut 1 f 0 (S.world shelf.old) (S.world shelf.new)) }
@@ -58,10 +61,12 @@ impl<'r, T: Spill> Appender<'r, T> {
         window: &'r mut [Rec],
         shelf: &mut S,
     ) -> Result<Appender<'r, T>, StreamFault>
-        requires room { 8 ≤ length window.old }
+        requires enough { 8 ≤ length window.old }
         ensures file { IfOk result (λ a. (filling_of a).file ≡ f) }
         ensures words { IfOk result (λ a. (filling_of a).words ≡ T.WORDS) }
         ensures count { IfOk result (λ a. count_of (filling_of a) ≡ count) }
+        ensures bound { IfOk result (λ a. IsFilling (filling_of a) (room_of a)) }
+        ensures room { IfOk result (λ a. room_of a ≡ length window.entry.now) }
         ensures holds { IfOk result (λ a. IsTrue (S.tells shelf.new) → Holds a (S.world shelf.new)
             (take (count * (8 * T.WORDS)) (file (S.world shelf.old) f).bytes)) }
         ensures whole { OnOk result (IsTrue (S.tells shelf.new) →
@@ -90,6 +95,9 @@ impl<'r, T: Spill> Appender<'r, T> {
         ensures room { room_of self.new ≡ room_of self.old }
         ensures holds { OnOk result (IsTrue (S.tells shelf.new) → Holds self.new (S.world shelf.new)
             (written_of self.old (S.world shelf.old) ++ item_bytes T.words (filling_of self.old).words item)) }
+        ensures items { OnOk result (IsTrue (S.tells shelf.new) → (filling_of self.old).words ≡ T.WORDS →
+            (xs : List T) → HoldsItems T.is_value T.words self.old (S.world shelf.old) xs →
+            HoldsItems T.is_value T.words self.new (S.world shelf.new) (xs ++ item ∷ [])) }
         ensures cause { IfErr result (λ e. e ≡ StreamFault.Shelf) }
         ensures content { Told S.tells shelf.old shelf.new
             (Wrote 1 (filling_of self.old).file (S.world shelf.old) (S.world shelf.new)) }
