@@ -1,6 +1,6 @@
 -- Values in the bytes of a file: the first and the last of them, and that a stream gives them.
-use Rattle.std.proofs.Common.{◌≡◌, ℕ, zero, suc, ◌+◌, ◌-◌, ◌*◌, ◌<◌, ◌≤◌, List, [], ◌∷◌, ◌++◌, length, take, drop, map, replicate, get_or, refl, sym, ap, subst, ◌∙◌, arith}
-use Rattle.std.specs.Prelude.{◌^◌, slice_index, Result, Option, Ok, Err, Some, None}
+use Rattle.std.proofs.Common.{All, ◌≡◌, ℕ, suc, ◌+◌, ◌-◌, ◌*◌, ◌<◌, ◌≤◌, List, [], ◌∷◌, ◌++◌, length, take, drop, map, replicate, get_or, refl, sym, ap, subst, ◌∙◌, arith}
+use Rattle.std.specs.Prelude.{◌^◌, Result, Option, Ok, Err, Some, None}
 use Rattle.std.specs.List.{flat_map}
 use Rattle.std.specs.Int.{w64, to_be_bytes}
 use Rattle.std.proofs.lemmas.Nat.{from_be_bytes-to_be_bytes_8}
@@ -129,28 +129,23 @@ module _ {T : Type 0} (is_value : T → Type 0) (words : T → List ℕ) where
         )
 
 -- words of 64 bits are read back
-words_back : (ws rest : List ℕ) → ((i : ℕ) → slice_index ws i < 2 ^ 64) → words_of (length ws) (flat_map (to_be_bytes w64) ws ++ rest) ≡ ws
+words_back : (ws rest : List ℕ) → All (λ word. word < 2 ^ 64) ws → words_of (length ws) (flat_map (to_be_bytes w64) ws ++ rest) ≡ ws
 words_back [] rest fits = refl
 words_back (x ∷ ws) rest fits =
-    (λ t. from_be_bytes-to_be_bytes_8 x (fits 0) t ∷ words_of (length ws) (flat_map (to_be_bytes w64) ws ++ rest))
-    ∙ ap (λ more. x ∷ more) (words_back ws rest (λ i. fits (suc i)))
-
-take_fits : (k : ℕ) (ws : List ℕ) → ((i : ℕ) → slice_index ws i < 2 ^ 64) → (i : ℕ) → slice_index (take k ws) i < 2 ^ 64
-take_fits zero ws fits i = omega arith
-take_fits (suc k) [] fits i = omega arith
-take_fits (suc k) (x ∷ ws) fits zero = fits 0
-take_fits (suc k) (x ∷ ws) fits (suc i) = take_fits k ws (λ j. fits (suc j)) i
+    let first : x < 2 ^ 64 = All-head (λ word. word < 2 ^ 64) x ws fits in
+    (λ t. from_be_bytes-to_be_bytes_8 x first t ∷ words_of (length ws) (flat_map (to_be_bytes w64) ws ++ rest))
+    ∙ ap (λ more. x ∷ more) (words_back ws rest (All-tail (λ word. word < 2 ^ 64) x ws fits))
 
 -- a record's bytes are read back, where the words behind them are 0
-pub record_back : (k : ℕ) (ws rest : List ℕ) → k ≤ length ws → ((i : ℕ) → slice_index ws i < 2 ^ 64) → drop k ws ≡ replicate {A = ℕ} (8 - k) 0
+pub record_back : (k : ℕ) (ws rest : List ℕ) → k ≤ length ws → All (λ word. word < 2 ^ 64) ws → drop k ws ≡ replicate {A = ℕ} (8 - k) 0
     → record_of k (flat_map (to_be_bytes w64) (take k ws) ++ rest) ≡ record { w = ws }
 record_back k ws rest long fits unused =
     let front : words_of k (flat_map (to_be_bytes w64) (take k ws) ++ rest) ≡ take k ws =
-    ap (λ n. words_of n (flat_map (to_be_bytes w64) (take k ws) ++ rest)) (sym (length-take-le k ws long)) ∙ words_back (take k ws) rest (take_fits k ws fits) in
+    ap (λ n. words_of n (flat_map (to_be_bytes w64) (take k ws) ++ rest)) (sym (length-take-le k ws long)) ∙ words_back (take k ws) rest (All-take (λ word. word < 2 ^ 64) k ws fits) in
     ap (λ (vs : List ℕ). let r : Rec = record { w = vs } in r) ((λ t. front t ++ sym unused t) ∙ take-append-drop k ws)
 
 -- a value more stands behind the others
-pub item_more : {T : Type 0} (is_value : T → Type 0) (words : T → List ℕ) (k : ℕ) (bytes : List ℕ) (xs : List T) (x : T) → k ≤ length (words x) → ((i : ℕ) → slice_index (words x) i < 2 ^ 64)
+pub item_more : {T : Type 0} (is_value : T → Type 0) (words : T → List ℕ) (k : ℕ) (bytes : List ℕ) (xs : List T) (x : T) → k ≤ length (words x) → All (λ word. word < 2 ^ 64) (words x)
     → drop k (words x) ≡ replicate {A = ℕ} (8 - k) 0 → is_value x → AreItems is_value words k 0 bytes xs → length bytes ≡ length xs * (8 * k)
     → AreItems is_value words k 0 (bytes ++ item_bytes words k x) (xs ++ x ∷ []) × (length (bytes ++ item_bytes words k x) ≡ length (xs ++ x ∷ []) * (8 * k))
 item_more is_value words k bytes xs x long fits unused is items all =
@@ -189,7 +184,7 @@ no_items is_value words k bytes = record {
 
 -- the same of what was put as a record
 pub item_put : {T : Type 0} (is_value : T → Type 0) (words : T → List ℕ) (k j m : ℕ) (before after : List ℕ) (r : Rec) (xs : List T) (x : T) → k ≡ m → j ≡ k → m ≤ 8 → length (words x) ≡ 8
-    → ((i : ℕ) → slice_index (words x) i < 2 ^ 64) → drop m (words x) ≡ replicate {A = ℕ} (8 - m) 0 → is_value x → r.w ≡ words x → after ≡ before ++ record_bytes k r
+    → All (λ word. word < 2 ^ 64) (words x) → drop m (words x) ≡ replicate {A = ℕ} (8 - m) 0 → is_value x → r.w ≡ words x → after ≡ before ++ record_bytes k r
     → AreItems is_value words k 0 before xs → length before ≡ length xs * (8 * k)
     → AreItems is_value words j 0 after (xs ++ x ∷ []) × (length after ≡ length (xs ++ x ∷ []) * (8 * j))
 item_put is_value words k j m before after r xs x width same most eight fits unused is is_words after_is items all =
