@@ -1,0 +1,5 @@
+//! Reads netlists in the Berkeley logic interchange format: which texts are accepted, what they mean, and
+//! the line and the kind of the first fault of each other one.
+#![tactic(auto)]
+
+mod lines;
