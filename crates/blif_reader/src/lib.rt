@@ -2,4 +2,8 @@
 //! the line and the kind of the first fault of each other one.
 #![tactic(auto)]
 
+mod fault;
+mod grammar;
 mod lines;
+
+pub use fault::{BlifFault, BlifKind};

@@ -1,0 +1,142 @@
+//! What kind of line a line is, by its words and by what stands before it.
+
+ghost use Rattle.std.specs.Prelude.{◌≡◌, ◌<◌, List, map, length};
+ghost use Rattle.std.specs.List.{list_all};
+ghost use Rattle.blif_reader.specs.Grammar.{is_dotted, keyword_of, is_cell, digit_of, row_value, row_of, kind_of, after};
+
+use crate::fault::BlifKind;
+
+/// What a line is. A row has its output.
+#[derive(Clone, Copy, Debug, PartialEq, Eq)]
+pub(crate) enum Kind {
+    Model,
+    Inputs,
+    Outputs,
+    Names,
+    Row(bool),
+    End,
+}
+
+/// What stands before a line: nothing, no block that rows could belong to, a block with its number of
+/// inputs and the output of its first row, or the end.
+#[derive(Clone, Copy, Debug, PartialEq, Eq)]
+pub(crate) enum Context {
+    Start,
+    Between,
+    Block(usize, Option<bool>),
+    Ended,
+}
+
+fn dotted(word: &[u8]) -> bool
+    ensures { result ≡ is_dotted word.now }
+{
+    !word.is_empty() && word[0] == b'.'
+}
+
+fn keyword(word: &[u8], count: usize) -> Result<Kind, BlifKind>
+    ensures { result ≡ keyword_of word.now count }
+{
+    if word == b".inputs".as_slice() {
+        Ok(Kind::Inputs)
+    } else if word == b".outputs".as_slice() {
+        Ok(Kind::Outputs)
+    } else if word == b".names".as_slice() {
+        if count == 1 {
+            Err(BlifKind::Row)
+        } else {
+            Ok(Kind::Names)
+        }
+    } else if word == b".end".as_slice() {
+        Ok(Kind::End)
+    } else {
+        Err(BlifKind::Keyword)
+    }
+}
+
+fn all_cells(word: &[u8]) -> bool
+    ensures { result ≡ list_all is_cell word.now }
+{
+    word.iter().all(|b| *b == b'0' || *b == b'1' || *b == b'-')
+}
+
+fn digit(word: &[u8]) -> Option<bool>
+    ensures { result ≡ digit_of word.now }
+{
+    if word == b"0".as_slice() {
+        Some(false)
+    } else if word == b"1".as_slice() {
+        Some(true)
+    } else {
+        None
+    }
+}
+
+fn value_of_row(inputs: usize, words: &[&[u8]]) -> Option<bool>
+    ensures { result ≡ row_value inputs (map (λ w. w.now) words.now) }
+{
+    if inputs == 0 {
+        if words.len() == 1 {
+            return digit(words[0]);
+        }
+        return None;
+    }
+    if words.len() == 2 && words[0].len() == inputs && all_cells(words[0]) {
+        return digit(words[1]);
+    }
+    None
+}
+
+fn row(context: Context, words: &[&[u8]]) -> Result<Kind, BlifKind>
+    ensures { result ≡ row_of context (map (λ w. w.now) words.now) }
+{
+    match context {
+        Context::Block(inputs, first) => match value_of_row(inputs, words) {
+            None => Err(BlifKind::Row),
+            Some(value) => match first {
+                Some(other) if other != value => Err(BlifKind::MixedOutputs),
+                _ => Ok(Kind::Row(value)),
+            },
+        },
+        _ => Err(BlifKind::Row),
+    }
+}
+
+/// What a line with words is, or what is wrong with it.
+pub(crate) fn line_kind(context: Context, words: &[&[u8]]) -> Result<Kind, BlifKind>
+    requires { 0 < length words.now }
+    ensures { result ≡ kind_of context (map (λ w. w.now) words.now) }
+{
+    let first = words[0];
+    match context {
+        Context::Start => {
+            if first == b".model".as_slice() {
+                Ok(Kind::Model)
+            } else {
+                Err(BlifKind::NoModel)
+            }
+        }
+        Context::Ended => Err(BlifKind::Keyword),
+        _ => {
+            if dotted(first) {
+                keyword(first, words.len())
+            } else {
+                row(context, words)
+            }
+        }
+    }
+}
+
+/// What stands before the line behind this one.
+pub(crate) fn context_after(context: Context, kind: Kind, count: usize) -> Context
+    ensures { result ≡ after context kind count }
+{
+    match kind {
+        Kind::Names => Context::Block(count.saturating_sub(2), None),
+        Kind::Row(value) => match context {
+            Context::Block(inputs, _) => Context::Block(inputs, Some(value)),
+            _ => Context::Between,
+        },
+        Kind::End => Context::Ended,
+        _ => Context::Between,
+    }
+}
