@@ -1,3 +1,4 @@
 pub mod Text
 pub mod Cursor
 pub mod Grammar
+pub mod Statements

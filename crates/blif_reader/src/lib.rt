@@ -5,5 +5,6 @@
 mod fault;
 mod grammar;
 mod lines;
+mod statements;
 
 pub use fault::{BlifFault, BlifKind};

@@ -1,0 +1,61 @@
+//! The lines of a netlist as statements, or the first line that is none.
+
+ghost use Rattle.std.specs.Prelude.{◌≡◌, ◌<◌, ◌≤◌, ◌++◌, ◌∷◌, ◌↔◌, [], List, IsTrue, IfOk, IfErr, MatchResult, Ok, Err, map, length};
+ghost use Rattle.blif_reader.specs.Text.{lines_of, has_words};
+ghost use Rattle.blif_reader.specs.Cursor.{line_of};
+ghost use Rattle.blif_reader.specs.Statements.{Gives, Fails, statement_of, statement, after_statement, at_end, statements, parsed};
+
+use crate::fault::{BlifFault, BlifKind, Refusal};
+use crate::grammar::{Context, Kind, context_after, line_kind};
+use crate::lines::{Cursor, Line, next_line};
+use std::alloc::Global;
+
+/// A line with its kind. The words begin with the keyword, where it has one.
+#[derive(Drop)]
+pub(crate) struct Statement<'a> {
+    pub line: u32,
+    pub kind: Kind,
+    pub words: Vec<&'a [u8]>,
+}
+
+/// The line as a statement, behind what stands before it.
+fn read_line<'a>(context: Context, line: Line<'a>) -> Result<Statement<'a>, Refusal>
+    requires { 0 < length line.words.items }
+    ensures { Gives statement_of result (statement context (line_of line.entry)) }
+{
+    match line_kind(context, line.words.as_slice()) {
+        Ok(kind) => Ok(Statement { line: line.number, kind, words: line.words }),
+        Err(kind) => Err(Refusal::Fault(BlifFault { line: line.number, kind })),
+    }
+}
+
+/// The end of the text, which is a fault where no model stands before it.
+fn read_end(context: Context) -> Result<(), Refusal>
+    ensures { Gives (λ _. []) result (at_end context) }
+{
+    match context {
+        Context::Start => Err(Refusal::Fault(BlifFault { line: 0, kind: BlifKind::NoModel })),
+        _ => Ok(()),
+    }
+}
+
+/// All statements of a text.
+pub(crate) fn read_statements<'a>(alloc: Global, bytes: &'a [u8]) -> Result<Vec<Statement<'a>>, Refusal>
+    requires { length bytes.now ≤ 4194304 }
+    ensures { Gives (λ v. map statement_of v.items) result (parsed bytes.entry.now) }
+{
+    let mut found = Vec::new(alloc);
+    let mut cursor = Cursor { rest: Some(bytes), number: 1 };
+    let mut context = Context::Start;
+    'lines: while cursor.rest.is_some() {
+        let line = next_line(alloc, &mut cursor)?;
+        if line.words.is_empty() {
+            continue;
+        }
+        let next = read_line(context, line)?;
+        context = context_after(context, next.kind, next.words.len());
+        found.push(next)?;
+    }
+    read_end(context)?;
+    Ok(found)
+}
