@@ -1,0 +1,5 @@
+//! Walks in graphs, without recursion on the machine's stack: depth first from some nodes, and the search
+//! for the first node that lies on a cycle. A graph is, for each node, the nodes that it leads to.
+#![tactic(auto)]
+
+mod walk;

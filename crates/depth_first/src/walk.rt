@@ -1,0 +1,63 @@
+//! One walk, step by step.
+
+ghost use Rattle.std.specs.Prelude.{◌≡◌, ◌^◌, ℕ, ◌+◌, ◌-◌, ◌<◌, ◌≤◌, ◌++◌, ◌∷◌, [], List, map, length, take, drop, slice_index, slice_set, OnOk, IfOk, MatchOption, Some, None};
+ghost use Rattle.depth_first.specs.Graph.{IsGraph, Reaches, edges_of};
+ghost use Rattle.depth_first.specs.Walk.{IsWalk, node_at, next_at, resumed, work};
+
+use std::alloc::AllocError;
+
+const NEW: u32 = 4294967295;
+const DONE: u32 = 4294967294;
+
+/// A node that was entered, and how many of its edges were followed.
+#[derive(Clone, Copy)]
+pub(crate) struct Frame {
+    pub node: u32,
+    pub next: usize,
+}
+
+/// Where each node stands, the nodes that were left in their order, and the way from the root.
+#[derive(Drop)]
+pub(crate) struct Walk {
+    pub place: Vec<u32>,
+    pub order: Vec<u32>,
+    pub stack: Vec<Frame>,
+}
+
+/// The frame's node is left: it joins the order.
+fn leave(walk: &mut Walk, frame: Frame) -> Result<(), AllocError>
+    requires { frame.node < length walk.old.place.items }
+    ensures place { OnOk result (walk.new.place.items ≡ slice_set walk.old.place.items frame.node 4294967294) }
+    ensures order { OnOk result (walk.new.order.items ≡ walk.old.order.items ++ frame.node ∷ []) }
+    ensures stack { OnOk result (walk.new.stack.items ≡ walk.old.stack.items) }
+{
+    walk.place[frame.node as usize] = DONE;
+    walk.order.push(frame.node)?;
+    Ok(())
+}
+
+/// One more edge of the frame's node was followed.
+fn follow(walk: &mut Walk, frame: Frame) -> Result<(), AllocError>
+    requires { frame.next < 2 ^ 63 }
+    ensures place { OnOk result (walk.new.place.items ≡ walk.old.place.items) }
+    ensures order { OnOk result (walk.new.order.items ≡ walk.old.order.items) }
+    ensures stack { OnOk result (walk.new.stack.items ≡ walk.old.stack.items ++ record { node = frame.node; next = frame.next + 1 } ∷ []) }
+{
+    walk.stack.push(Frame { node: frame.node, next: frame.next + 1 })?;
+    Ok(())
+}
+
+/// The way goes on to a node, behind the frame's.
+fn enter(walk: &mut Walk, frame: Frame, node: u32) -> Result<(), AllocError>
+    requires inside { node < length walk.old.place.items }
+    requires few { length walk.old.stack.items < 4294967294 }
+    ensures place { OnOk result (walk.new.place.items ≡ slice_set walk.old.place.items node (length walk.old.stack.items + 1)) }
+    ensures order { OnOk result (walk.new.order.items ≡ walk.old.order.items) }
+    ensures stack { OnOk result (walk.new.stack.items ≡ (walk.old.stack.items ++ frame ∷ []) ++ record { node = node; next = 0 } ∷ []) }
+{
+    walk.place[node as usize] = walk.stack.len() as u32 + 1;
+    walk.stack.push(frame)?;
+    walk.stack.push(Frame { node, next: 0 })?;
+    Ok(())
+}
+
