@@ -1,2 +1,5 @@
 pub mod Frames
+pub mod Counts
 pub mod Keeps
+pub mod Resumes
+pub mod Steps

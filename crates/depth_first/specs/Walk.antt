@@ -48,3 +48,9 @@ frame_work g f = 1 + (length (edges_of g f.node) - f.next)
 -- the work that a walk may still make
 unfoldable pub work : List (List ℕ) → List ℕ → List Frame → ℕ
 work g place stack = count_by is_new place * (2 + sum_by (λ es. length es) g) + sum_by (frame_work g) stack
+
+-- one step of a walk: it is still one, the order that it leads to stays, and less work is left
+pub record StepsTo (g : List (List ℕ)) (place order : List ℕ) (stack : List Frame) (place2 order2 : List ℕ) (stack2 : List Frame) : Type 0 where
+  pub walk : IsWalk g place2 order2 stack2
+  pub same : resumed (length g) g stack2 order2 ≡ resumed (length g) g stack order
+  pub less : work g place2 stack2 < work g place stack

@@ -2,7 +2,8 @@
 
 ghost use Rattle.std.specs.Prelude.{◌≡◌, ◌^◌, ℕ, ◌+◌, ◌-◌, ◌<◌, ◌≤◌, ◌++◌, ◌∷◌, [], List, map, length, take, drop, slice_index, slice_set, OnOk, IfOk, MatchOption, Some, None};
 ghost use Rattle.depth_first.specs.Graph.{IsGraph, Reaches, edges_of};
-ghost use Rattle.depth_first.specs.Walk.{IsWalk, node_at, next_at, resumed, work};
+ghost use Rattle.depth_first.specs.Walk.{IsWalk, StepsTo};
+ghost use Rattle.depth_first.specs.Views.{graph_of};
 
 use std::alloc::AllocError;
 
@@ -38,7 +39,7 @@ fn leave(walk: &mut Walk, frame: Frame) -> Result<(), AllocError>
 
 /// One more edge of the frame's node was followed.
 fn follow(walk: &mut Walk, frame: Frame) -> Result<(), AllocError>
-    requires { frame.next < 2 ^ 63 }
+    requires { frame.next + 1 < 2 ^ 64 }
     ensures place { OnOk result (walk.new.place.items ≡ walk.old.place.items) }
     ensures order { OnOk result (walk.new.order.items ≡ walk.old.order.items) }
     ensures stack { OnOk result (walk.new.stack.items ≡ walk.old.stack.items ++ record { node = frame.node; next = frame.next + 1 } ∷ []) }
@@ -61,3 +62,27 @@ fn enter(walk: &mut Walk, frame: Frame, node: u32) -> Result<(), AllocError>
     Ok(())
 }
 
+
+/// One step of a walk whose last frame was taken off. The answer is a node that leads to itself.
+pub(crate) fn step(edges: &[Vec<u32>], walk: &mut Walk, frame: Frame) -> Result<Option<u32>, AllocError>
+    requires graph { IsGraph (graph_of edges.now) }
+    requires before { IsWalk (graph_of edges.now) walk.old.place.items walk.old.order.items (walk.old.stack.items ++ frame ∷ []) }
+    ensures { IfOk result (λ found. MatchOption found (StepsTo (graph_of edges.now) walk.old.place.items walk.old.order.items (walk.old.stack.items ++ frame ∷ []) walk.new.place.items walk.new.order.items walk.new.stack.items) (λ t. (t < length edges.now) × Reaches (graph_of edges.now) t t)) }
+{
+    let targets = edges[frame.node as usize].as_slice();
+    if frame.next >= targets.len() {
+        leave(walk, frame)?;
+        return Ok(None);
+    }
+    let target = targets[frame.next];
+    let place = walk.place[target as usize];
+    if place == DONE {
+        follow(walk, frame)?;
+        return Ok(None);
+    }
+    if place == NEW {
+        enter(walk, frame, target)?;
+        return Ok(None);
+    }
+    Ok(Some(target))
+}
