@@ -1,7 +1,7 @@
 -- One step of a walk, over plain lists.
 use Rattle.std.proofs.Common.{◌≡◌, ◌≢◌, ℕ, zero, suc, ◌+◌, ◌<◌, ◌≤◌, Bool, true, false, List, [], ◌∷◌, ◌++◌, length, get_or, set, map, refl, sym, ap, ◌∙◌, subst, arith, Vec, ◌^◌}
 use Rattle.std.specs.List.{count_by}
-use Rattle.std.proofs.lemmas.List.{get_or-map, get_or_default}
+use Rattle.std.proofs.lemmas.List.{get_or-map, get_or_default, length-map}
 use Rattle.std.specs.declared.alloc.Global.{Global}
 use Rattle.depth_first.specs.declared.walk.Frame.{Frame}
 use Rattle.depth_first.specs.Graph.{has, edges_of, IsGraph, Reaches}
@@ -92,3 +92,22 @@ module _ (g : List (List ℕ)) (place order : List ℕ) (fs : List Frame) (f : F
   steps_closes gone new fits =
       let e : get_or place t 0 ≡ here = place_is in
       closes g place order (fs ++ f ∷ []) t w target_inside (omega arith) (leads_on g fs f t more_edges leads)
+
+-- a graph has as many nodes as there are vectors
+pub length_graph : (edges : List (Vec ℕ Global)) → length (graph_of edges) ≡ length edges
+length_graph edges = simp length-map
+
+-- the last node of a way, among the vectors
+pub frame_inside : (edges : List (Vec ℕ Global)) (place order : List ℕ) (fs : List Frame) (f : Frame) → IsWalk (graph_of edges) place order (fs ++ f ∷ []) → f.node < length edges
+frame_inside edges place order fs f w =
+    let inside : f.node < length (graph_of edges) = last_node (graph_of edges) place order fs f w in
+    subst (λ n. f.node < n) (length_graph edges) inside
+
+-- the next node of a way has a place
+pub target_within : (g : List (List ℕ)) (place order : List ℕ) (fs : List Frame) (f : Frame) (targets : List ℕ) → IsGraph g → IsWalk g place order (fs ++ f ∷ []) → edges_of g f.node ≡ targets → f.next < length targets → get_or targets f.next 0 < length place
+target_within g place order fs f targets graph w e more =
+    let size : length place ≡ length g = w.size in
+    let more2 : f.next < length (edges_of g f.node) = rw e more in
+    let h : get_or (edges_of g f.node) f.next 0 < length g = graph f.node f.next (last_node g place order fs f w) more2 in
+    let h2 : get_or targets f.next 0 < length g = subst (λ es. get_or es f.next 0 < length g) e h in
+    omega arith
