@@ -131,6 +131,10 @@ module _ (g : List (List ℕ)) (place order : List ℕ) (fs : List Frame) (f : F
         chain = λ p lt. front_chain p (omega arith);
         links = λ p lt. front_link p (omega arith) ∙ node_front fs (f ∷ []) (p + 1) lt;
         above = topological_push g order f.node w.above (λ i less. last_past i (omega arith));
+        inside = λ k lt. ⊎_elim
+          (λ (b : k < length order). subst (λ s. s < length g) (sym (get_or_append_left order (f.node ∷ []) 0 k b)) (w.inside k b))
+          (λ (e : k ≡ length order). subst (λ s. s < length g) (sym (ap (λ j. get_or (order ++ f.node ∷ []) j 0) e ∙ get_or-append_seam order f.node [] 0)) inside)
+          (before_or_last k (length order) (omega arith));
       }
 
   -- one more edge of the last frame's node was followed, to a node that was left
@@ -178,6 +182,7 @@ module _ (g : List (List ℕ)) (place order : List ℕ) (fs : List Frame) (f : F
           let b : p < length fs = omega arith in
           ap (λ s. get_or (edges_of g s) (next_at (fs ++ h ∷ []) p) 0) (node_front fs (h ∷ []) p b) ∙ ap (λ k. get_or (edges_of g (node_at fs p)) k 0) (next_front fs (h ∷ []) p b) ∙ front_link p b ∙ sym (same (p + 1) (omega arith));
         above = w.above;
+        inside = w.inside;
       } where
     lt' : t < length g
     lt' = lt
@@ -265,6 +270,7 @@ enters g place order stack t w inside fresh leads =
           (cases_lt (p + 1) (length stack)) in
         ap (λ s. get_or (edges_of g s) (next_at (stack ++ h ∷ []) p) 0) (node_front stack (h ∷ []) p b) ∙ ap (λ k. get_or (edges_of g (node_at stack p)) k 0) (next_front stack (h ∷ []) p b) ∙ c;
       above = w.above;
+      inside = w.inside;
     }
 
 -- the last frame's next edge

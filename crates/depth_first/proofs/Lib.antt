@@ -3,3 +3,4 @@ pub mod Counts
 pub mod Keeps
 pub mod Resumes
 pub mod Steps
+pub mod Roots

@@ -2,7 +2,7 @@
 use Rattle.std.specs.Prelude.{◌≡◌, ℕ, zero, suc, ◌+◌, ◌-◌, ◌*◌, ◌<◌, ◌≤◌, ◌==◌, Bool, true, List, [], ◌∷◌, ◌++◌, length, map, drop, fold, sum_by, count_by, slice_index}
 use Rattle.std.specs.List.{slice_index_or}
 use Rattle.depth_first.specs.declared.walk.Frame.{Frame}
-use Rattle.depth_first.specs.Graph.{edges_of, has, visit, IsTopological}
+use Rattle.depth_first.specs.Graph.{edges_of, has, visit, visits, IsTopological}
 
 -- the node of the frame at a place of the way
 abbrev pub node_at : List Frame → ℕ → ℕ
@@ -34,6 +34,7 @@ pub record IsWalk (g : List (List ℕ)) (place order : List ℕ) (stack : List F
   pub chain : (p : ℕ) → p + 1 < length stack → next_at stack p < length (edges_of g (node_at stack p))
   pub links : (p : ℕ) → p + 1 < length stack → slice_index (edges_of g (node_at stack p)) (next_at stack p) ≡ node_at stack (p + 1)
   pub above : IsTopological g order
+  pub inside : (k : ℕ) → k < length order → slice_index order k < length g
 
 -- the order once the frames of the way are finished, the last of them first
 unfoldable pub resumed : ℕ → List (List ℕ) → List Frame → List ℕ → List ℕ
@@ -54,3 +55,15 @@ pub record StepsTo (g : List (List ℕ)) (place order : List ℕ) (stack : List 
   pub walk : IsWalk g place2 order2 stack2
   pub same : resumed (length g) g stack2 order2 ≡ resumed (length g) g stack order
   pub less : work g place2 stack2 < work g place stack
+
+-- a root was visited: the way is empty again, and the order is the one that the visit leaves
+pub record Visited (g : List (List ℕ)) (seen : List ℕ) (root : ℕ) (place2 order2 : List ℕ) (stack2 : List Frame) : Type 0 where
+  pub walk : IsWalk g place2 order2 stack2
+  pub empty : stack2 ≡ []
+  pub order : order2 ≡ visit (length g) g seen root
+
+-- roots were visited from the beginning
+pub record WalkOver (g : List (List ℕ)) (roots : List ℕ) (place2 order2 : List ℕ) (stack2 : List Frame) : Type 0 where
+  pub walk : IsWalk g place2 order2 stack2
+  pub empty : stack2 ≡ []
+  pub order : order2 ≡ visits g roots

@@ -1,11 +1,11 @@
 //! One walk, step by step.
 
-ghost use Rattle.std.specs.Prelude.{◌≡◌, ◌^◌, ℕ, ◌+◌, ◌-◌, ◌<◌, ◌≤◌, ◌++◌, ◌∷◌, [], List, map, length, take, drop, slice_index, slice_set, OnOk, IfOk, MatchOption, Some, None};
+ghost use Rattle.std.specs.Prelude.{◌≡◌, ◌^◌, ℕ, ◌+◌, ◌-◌, ◌<◌, ◌≤◌, ◌++◌, ◌∷◌, [], List, map, length, take, drop, slice_index, slice_set, replicate, OnOk, IfOk, MatchOption, Some, None};
 ghost use Rattle.depth_first.specs.Graph.{IsGraph, Reaches, edges_of};
-ghost use Rattle.depth_first.specs.Walk.{IsWalk, StepsTo};
+ghost use Rattle.depth_first.specs.Walk.{IsWalk, StepsTo, Visited, WalkOver};
 ghost use Rattle.depth_first.specs.Views.{graph_of};
 
-use std::alloc::AllocError;
+use std::alloc::{AllocError, Global};
 
 const NEW: u32 = 4294967295;
 const DONE: u32 = 4294967294;
@@ -85,4 +85,77 @@ pub(crate) fn step(edges: &[Vec<u32>], walk: &mut Walk, frame: Frame) -> Result<
         return Ok(None);
     }
     Ok(Some(target))
+}
+
+/// One step of a walk. The answer is a node that leads to itself.
+fn last_step(edges: &[Vec<u32>], walk: &mut Walk) -> Result<Option<u32>, AllocError>
+    requires graph { IsGraph (graph_of edges.now) }
+    requires before { IsWalk (graph_of edges.now) walk.old.place.items walk.old.order.items walk.old.stack.items }
+    requires left { 0 < length walk.old.stack.items }
+    ensures { IfOk result (λ found. MatchOption found (StepsTo (graph_of edges.now) walk.old.place.items walk.old.order.items walk.old.stack.items walk.new.place.items walk.new.order.items walk.new.stack.items) (λ t. (t < length edges.now) × Reaches (graph_of edges.now) t t)) }
+{
+    match walk.stack.pop() {
+        Some(frame) => step(edges, walk, frame),
+        None => Ok(None),
+    }
+}
+
+/// The way begins at a node.
+fn begin(walk: &mut Walk, node: u32) -> Result<(), AllocError>
+    requires { node < length walk.old.place.items }
+    ensures place { OnOk result (walk.new.place.items ≡ slice_set walk.old.place.items node 0) }
+    ensures order { OnOk result (walk.new.order.items ≡ walk.old.order.items) }
+    ensures stack { OnOk result (walk.new.stack.items ≡ walk.old.stack.items ++ record { node = node; next = 0 } ∷ []) }
+{
+    walk.place[node as usize] = 0;
+    walk.stack.push(Frame { node, next: 0 })?;
+    Ok(())
+}
+
+/// Visits a root. The answer is a node that leads to itself.
+fn visit_root(edges: &[Vec<u32>], walk: &mut Walk, root: u32) -> Result<Option<u32>, AllocError>
+    requires graph { IsGraph (graph_of edges.now) }
+    requires inside { root < length edges.now }
+    requires before { IsWalk (graph_of edges.now) walk.old.place.items walk.old.order.items walk.old.stack.items }
+    requires empty { walk.old.stack.items ≡ [] }
+    ensures { IfOk result (λ found. MatchOption found (Visited (graph_of edges.now) walk.old.order.items root walk.new.place.items walk.new.order.items walk.new.stack.items) (λ t. (t < length edges.now) × Reaches (graph_of edges.now) t t)) }
+{
+    let place = walk.place[root as usize];
+    if place == DONE {
+        return Ok(None);
+    }
+    begin(walk, root)?;
+    'way: while !walk.stack.is_empty() {
+        if let Some(found) = last_step(edges, walk)? {
+            return Ok(Some(found));
+        }
+    }
+    Ok(None)
+}
+
+/// Visits roots in order. The answer is a node that leads to itself.
+pub(crate) fn visit_roots(edges: &[Vec<u32>], walk: &mut Walk, roots: &[u32]) -> Result<Option<u32>, AllocError>
+    requires graph { IsGraph (graph_of edges.now) }
+    requires inside { (i : ℕ) → i < length roots.now → slice_index roots.now i < length edges.now }
+    requires before { IsWalk (graph_of edges.now) walk.old.place.items walk.old.order.items walk.old.stack.items }
+    requires empty { walk.old.stack.items ≡ [] }
+    requires none { walk.old.order.items ≡ [] }
+    ensures { IfOk result (λ found. MatchOption found (WalkOver (graph_of edges.now) roots.now walk.new.place.items walk.new.order.items walk.new.stack.items) (λ t. (t < length edges.now) × Reaches (graph_of edges.now) t t)) }
+{
+    for root in roots {
+        if let Some(found) = visit_root(edges, walk, *root)? {
+            return Ok(Some(found));
+        }
+    }
+    Ok(None)
+}
+
+/// A walk in which every node is new.
+pub(crate) fn new_walk(alloc: Global, nodes: usize) -> Result<Walk, AllocError>
+    requires { nodes < 4294967294 }
+    ensures place { IfOk result (λ w. w.place.items ≡ replicate nodes 4294967295) }
+    ensures order { IfOk result (λ w. w.order.items ≡ []) }
+    ensures stack { IfOk result (λ w. w.stack.items ≡ []) }
+{
+    Ok(Walk { place: vec![in alloc; NEW; nodes]?, order: Vec::new(alloc), stack: Vec::new(alloc) })
 }
