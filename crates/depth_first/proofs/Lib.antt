@@ -4,3 +4,5 @@ pub mod Keeps
 pub mod Resumes
 pub mod Steps
 pub mod Roots
+pub mod Searches
+pub mod Descents

@@ -47,7 +47,7 @@ resumed_leaves d g fs f seen lt full =
     let n : d ≡ length fs + suc e = omega arith in
     let none : drop f.next (edges_of g f.node) ≡ [] = drop_all f.next (edges_of g f.node) full in
     let one : resumed (suc e) g (f ∷ []) seen ≡ seen ++ f.node ∷ [] =
-        resumed_one e g f [] seen ∙ ap (λ ts. fold (λ us t. visit e g us t) (resumed e g [] seen) ts ++ f.node ∷ []) none ∙ ap (λ us. us ++ f.node ∷ []) (resumed_none e g seen) in
+    resumed_one e g f [] seen ∙ ap (λ ts. fold (λ us t. visit e g us t) (resumed e g [] seen) ts ++ f.node ∷ []) none ∙ ap (λ us. us ++ f.node ∷ []) (resumed_none e g seen) in
     ap (λ gs. resumed d g gs (seen ++ f.node ∷ [])) (sym (append-nil fs)) ∙ resumed_front g fs [] (f ∷ []) (seen ++ f.node ∷ []) seen d (suc e) n (resumed_none (suc e) g (seen ++ f.node ∷ []) ∙ sym one)
 
 -- an edge to a node that was visited
@@ -59,10 +59,10 @@ resumed_follows d g fs f seen t lt more leads gone =
     let n : d ≡ length fs + suc e = omega arith in
     let split : drop f.next (edges_of g f.node) ≡ t ∷ drop (f.next + 1) (edges_of g f.node) = next_edge (edges_of g f.node) f.next t more leads in
     let one : resumed (suc e) g (f ∷ []) seen ≡ fold (λ us s. visit e g us s) (visit e g (resumed e g [] seen) t) (drop (f.next + 1) (edges_of g f.node)) ++ f.node ∷ [] =
-        resumed_one e g f [] seen ∙ ap (λ ts. fold (λ us s. visit e g us s) (resumed e g [] seen) ts ++ f.node ∷ []) split in
+    resumed_one e g f [] seen ∙ ap (λ ts. fold (λ us s. visit e g us s) (resumed e g [] seen) ts ++ f.node ∷ []) split in
     let same : visit e g (resumed e g [] seen) t ≡ resumed e g [] seen = visit_seen e g (resumed e g [] seen) t (ap (λ us. has us t) (resumed_none e g seen) ∙ gone) in
     let two : resumed (suc e) g (h ∷ []) seen ≡ resumed (suc e) g (f ∷ []) seen =
-        resumed_one e g h [] seen ∙ sym (one ∙ ap (λ us. fold (λ vs s. visit e g vs s) us (drop (f.next + 1) (edges_of g f.node)) ++ f.node ∷ []) same) in
+    resumed_one e g h [] seen ∙ sym (one ∙ ap (λ us. fold (λ vs s. visit e g vs s) us (drop (f.next + 1) (edges_of g f.node)) ++ f.node ∷ []) same) in
     resumed_front g fs (h ∷ []) (f ∷ []) seen seen d (suc e) n two
 
 -- a new node, from which the way goes on
@@ -83,11 +83,11 @@ resumed_enters d g fs f seen t lt more leads fresh =
     let ends : inner ≡ fold (λ us s. visit e g us s) seen (edges_of g t) ++ t ∷ [] = new ∙ visit_new e g seen t fresh in
     let there : has inner t ≡ true = ap (λ us. has us t) ends ∙ has_last (fold (λ us s. visit e g us s) seen (edges_of g t)) t in
     let left : resumed (suc (suc e)) g (f ∷ h ∷ []) seen ≡ fold (λ us s. visit (suc e) g us s) inner rest ++ f.node ∷ [] =
-        resumed_one (suc e) g f (h ∷ []) seen ∙ ap (λ ts. fold (λ us s. visit (suc e) g us s) inner ts ++ f.node ∷ []) split
-        ∙ ap (λ us. fold (λ vs s. visit (suc e) g vs s) us rest ++ f.node ∷ []) (visit_seen (suc e) g inner t there) in
+    resumed_one (suc e) g f (h ∷ []) seen ∙ ap (λ ts. fold (λ us s. visit (suc e) g us s) inner ts ++ f.node ∷ []) split
+    ∙ ap (λ us. fold (λ vs s. visit (suc e) g vs s) us rest ++ f.node ∷ []) (visit_seen (suc e) g inner t there) in
     let right : resumed (suc (suc e)) g (f ∷ []) seen ≡ fold (λ us s. visit (suc e) g us s) (visit (suc e) g seen t) rest ++ f.node ∷ [] =
-        resumed_one (suc e) g f [] seen ∙ ap (λ ts. fold (λ us s. visit (suc e) g us s) (resumed (suc e) g [] seen) ts ++ f.node ∷ []) split
-        ∙ ap (λ us. fold (λ vs s. visit (suc e) g vs s) (visit (suc e) g us t) rest ++ f.node ∷ []) (resumed_none (suc e) g seen) in
+    resumed_one (suc e) g f [] seen ∙ ap (λ ts. fold (λ us s. visit (suc e) g us s) (resumed (suc e) g [] seen) ts ++ f.node ∷ []) split
+    ∙ ap (λ us. fold (λ vs s. visit (suc e) g vs s) (visit (suc e) g us t) rest ++ f.node ∷ []) (resumed_none (suc e) g seen) in
     let same : resumed (suc (suc e)) g (f ∷ h ∷ []) seen ≡ resumed (suc (suc e)) g (f ∷ []) seen =
-        left ∙ ap (λ us. fold (λ vs s. visit (suc e) g vs s) us rest ++ f.node ∷ []) new ∙ sym right in
+    left ∙ ap (λ us. fold (λ vs s. visit (suc e) g vs s) us rest ++ f.node ∷ []) new ∙ sym right in
     ap (λ gs. resumed d g gs seen) (append_assoc fs (f ∷ []) (h ∷ [])) ∙ resumed_front g fs (f ∷ h ∷ []) (f ∷ []) seen seen d (suc (suc e)) n same

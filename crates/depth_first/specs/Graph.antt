@@ -1,5 +1,5 @@
 -- Graphs: for each node, the nodes that it leads to.
-use Rattle.std.specs.Prelude.{◌≡◌, ℕ, zero, suc, ◌+◌, ◌<◌, ◌==◌, Bool, true, List, [], ◌∷◌, ◌++◌, length, take, map, fold, slice_index, if◌then◌else◌}
+use Rattle.std.specs.Prelude.{◌≡◌, ℕ, zero, suc, ◌+◌, ◌<◌, ◌≤◌, ◌==◌, Bool, true, List, [], ◌∷◌, ◌++◌, length, take, map, fold, slice_index, if◌then◌else◌}
 use Rattle.std.specs.List.{slice_index_or, list_any}
 
 -- a list has a number
@@ -42,3 +42,11 @@ visits g roots = fold (λ us t. visit (length g) g us t) [] roots
 -- each node stands behind those that it leads to
 abbrev pub IsTopological : List (List ℕ) → List ℕ → Type 0
 IsTopological g order = (k i : ℕ) → k < length order → i < length (edges_of g (slice_index order k)) → has (take k order) (slice_index (edges_of g (slice_index order k)) i) ≡ true
+
+-- no edge leads to a node with a larger number
+abbrev pub NeverRises : List (List ℕ) → List ℕ → Type 0
+NeverRises g numbers = (s i : ℕ) → s < length g → i < length (edges_of g s) → slice_index numbers (slice_index (edges_of g s) i) ≤ slice_index numbers s
+
+-- each edge of a node leads to a smaller number
+abbrev pub FallsAt : List (List ℕ) → List ℕ → ℕ → Type 0
+FallsAt g numbers s = (i : ℕ) → i < length (edges_of g s) → slice_index numbers (slice_index (edges_of g s) i) < slice_index numbers s

@@ -1,3 +1,4 @@
 pub mod Graph
 pub mod Walk
+pub mod Search
 pub mod Views

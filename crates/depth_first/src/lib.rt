@@ -2,4 +2,9 @@
 //! for the first node that lies on a cycle. A graph is, for each node, the nodes that it leads to.
 #![tactic(auto)]
 
+mod components;
+mod orders;
+mod search;
 mod walk;
+
+pub use orders::{first_cycle, visit_order};

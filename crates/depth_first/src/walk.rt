@@ -8,6 +8,7 @@ ghost use Rattle.depth_first.specs.Views.{graph_of};
 use std::alloc::{AllocError, Global};
 
 const NEW: u32 = 4294967295;
+
 const DONE: u32 = 4294967294;
 
 /// A node that was entered, and how many of its edges were followed.
@@ -44,7 +45,10 @@ fn follow(walk: &mut Walk, frame: Frame) -> Result<(), AllocError>
     ensures order { OnOk result (walk.new.order.items ≡ walk.old.order.items) }
     ensures stack { OnOk result (walk.new.stack.items ≡ walk.old.stack.items ++ record { node = frame.node; next = frame.next + 1 } ∷ []) }
 {
-    walk.stack.push(Frame { node: frame.node, next: frame.next + 1 })?;
+    walk.stack.push(Frame {
+        node: frame.node,
+        next: frame.next + 1,
+    })?;
     Ok(())
 }
 
@@ -62,9 +66,12 @@ fn enter(walk: &mut Walk, frame: Frame, node: u32) -> Result<(), AllocError>
     Ok(())
 }
 
-
 /// One step of a walk whose last frame was taken off. The answer is a node that leads to itself.
-pub(crate) fn step(edges: &[Vec<u32>], walk: &mut Walk, frame: Frame) -> Result<Option<u32>, AllocError>
+pub(crate) fn step(
+    edges: &[Vec<u32>],
+    walk: &mut Walk,
+    frame: Frame,
+) -> Result<Option<u32>, AllocError>
     requires graph { IsGraph (graph_of edges.now) }
     requires before { IsWalk (graph_of edges.now) walk.old.place.items walk.old.order.items (walk.old.stack.items ++ frame ∷ []) }
     ensures { IfOk result (λ found. MatchOption found (StepsTo (graph_of edges.now) walk.old.place.items walk.old.order.items (walk.old.stack.items ++ frame ∷ []) walk.new.place.items walk.new.order.items walk.new.stack.items) (λ t. (t < length edges.now) × Reaches (graph_of edges.now) t t)) }
@@ -113,7 +120,11 @@ fn begin(walk: &mut Walk, node: u32) -> Result<(), AllocError>
 }
 
 /// Visits a root. The answer is a node that leads to itself.
-fn visit_root(edges: &[Vec<u32>], walk: &mut Walk, root: u32) -> Result<Option<u32>, AllocError>
+pub(crate) fn visit_root(
+    edges: &[Vec<u32>],
+    walk: &mut Walk,
+    root: u32,
+) -> Result<Option<u32>, AllocError>
     requires graph { IsGraph (graph_of edges.now) }
     requires inside { root < length edges.now }
     requires before { IsWalk (graph_of edges.now) walk.old.place.items walk.old.order.items walk.old.stack.items }
@@ -134,7 +145,11 @@ fn visit_root(edges: &[Vec<u32>], walk: &mut Walk, root: u32) -> Result<Option<u
 }
 
 /// Visits roots in order. The answer is a node that leads to itself.
-pub(crate) fn visit_roots(edges: &[Vec<u32>], walk: &mut Walk, roots: &[u32]) -> Result<Option<u32>, AllocError>
+pub(crate) fn visit_roots(
+    edges: &[Vec<u32>],
+    walk: &mut Walk,
+    roots: &[u32],
+) -> Result<Option<u32>, AllocError>
     requires graph { IsGraph (graph_of edges.now) }
     requires inside { (i : ℕ) → i < length roots.now → slice_index roots.now i < length edges.now }
     requires before { IsWalk (graph_of edges.now) walk.old.place.items walk.old.order.items walk.old.stack.items }
@@ -157,5 +172,9 @@ pub(crate) fn new_walk(alloc: Global, nodes: usize) -> Result<Walk, AllocError>
     ensures order { IfOk result (λ w. w.order.items ≡ []) }
     ensures stack { IfOk result (λ w. w.stack.items ≡ []) }
 {
-    Ok(Walk { place: vec![in alloc; NEW; nodes]?, order: Vec::new(alloc), stack: Vec::new(alloc) })
+    Ok(Walk {
+        place: vec![in alloc; NEW; nodes]?,
+        order: Vec::new(alloc),
+        stack: Vec::new(alloc),
+    })
 }

@@ -4,7 +4,7 @@ use Rattle.std.proofs.lemmas.List.{get_or_default}
 use Rattle.depth_first.specs.Walk.{IsWalk, Visited}
 use Rattle.depth_first.specs.Views.{graph_of}
 use Rattle.depth_first.proofs.Steps.{length_graph}
-use Rattle.depth_first.proofs.Roots.{visits_nothing, is_fresh, begins, finishes, no_frames}
+use Rattle.depth_first.proofs.Roots.{visits_nothing, is_fresh, begins, finishes, nil_of_length}
 use Rattle.depth_first.proofs.walk.visit_root.Goals as goal
 
 pub returns-then-place : goal.returns-then-place
@@ -32,5 +32,5 @@ way-init c =
 pub returns : goal.returns
 returns c =
     let none : length c.way.walk.stack.items ≡ 0 = grind (arith, common_steps) in
-    let empty : c.way.walk.stack.items ≡ [] = no_frames c.way.walk.stack.items none in
+    let empty : c.way.walk.stack.items ≡ [] = nil_of_length c.way.walk.stack.items none in
     finishes (graph_of c.args.edges.now) c.args.walk.now.order.items c.args.root _ _ _ _ c.way.invariant.walk c.way.invariant.same empty empty
