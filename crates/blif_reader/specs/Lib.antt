@@ -2,3 +2,5 @@ pub mod Text
 pub mod Cursor
 pub mod Grammar
 pub mod Statements
+pub mod Parts
+pub mod Words

@@ -5,6 +5,7 @@
 mod fault;
 mod grammar;
 mod lines;
+mod parts;
 mod statements;
 
 pub use fault::{BlifFault, BlifKind};
