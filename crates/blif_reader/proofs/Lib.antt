@@ -2,3 +2,4 @@ pub mod Pieces
 pub mod Joins
 pub mod Reading
 pub mod Windows
+pub mod Indexing

@@ -4,3 +4,4 @@ pub mod Grammar
 pub mod Statements
 pub mod Parts
 pub mod Words
+pub mod Index

@@ -4,6 +4,7 @@
 
 mod fault;
 mod grammar;
+mod index;
 mod lines;
 mod parts;
 mod statements;

@@ -1,0 +1,32 @@
+-- Where words stand among the names of signals.
+use Rattle.std.specs.Prelude.{◌≡◌, ℕ, Bool, List, Option, Some, None, is_some, cond, Vec, unwrap_or, if◌then◌else◌}
+use Rattle.std.specs.List.{position_from}
+use Rattle.std.specs.Str.{bytes_eq}
+use Rattle.std.specs.HashMap.{HashMap, get_by}
+use Rattle.std.specs.declared.alloc.Global.{Global}
+use Rattle.std.specs.declared.hash.FoldHasher.{FoldHasher}
+use Rattle.std.specs.declared.hash.BuildHasherDefault.{BuildHasherDefault}
+
+-- an index from words to numbers
+abbrev pub Index : Type 0
+Index = HashMap (Vec ℕ Global) ℕ (BuildHasherDefault FoldHasher)
+
+-- the number of a word
+abbrev pub found_in : Index → List ℕ → Option ℕ
+found_in index word = get_by (λ k. bytes_eq word k.items) index
+
+-- the place of a word among names, counted from 0
+abbrev pub place_of : List (List ℕ) → List ℕ → Option ℕ
+place_of names word = position_from (bytes_eq word) 0 names
+
+-- the signal of a word is its place among the names
+abbrev pub signal_of : List (List ℕ) → List ℕ → ℕ
+signal_of names word = unwrap_or (place_of names word) 0
+
+-- the index after a word has got a number
+abbrev pub Puts : Index → Index → List ℕ → ℕ → Type 0
+Puts old new word n = (q : List ℕ) → found_in new q ≡ cond (bytes_eq word q) (Some n) (found_in old q)
+
+-- the same, unless the word has a number
+abbrev pub PutsNew : Index → Index → List ℕ → ℕ → Type 0
+PutsNew old new word n = (q : List ℕ) → found_in new q ≡ (if is_some (found_in old q) then found_in old q else (if bytes_eq word q then Some n else None))

@@ -1,0 +1,77 @@
+//! An index from words to numbers.
+
+ghost use Rattle.std.specs.Prelude.{◌≡◌, ℕ, ◌<◌, ◌^◌, [], List, None, map, length, is_some, not, option_map, find as prelude_find, IfOk, OnOk};
+ghost use Rattle.blif_reader.specs.Index.{found_in, place_of, Puts, PutsNew};
+ghost use Rattle.blif_reader.specs.Parts.{first_again, is_one};
+ghost use Rattle.blif_reader.specs.Words.{use_of};
+
+use crate::parts::Use;
+use std::alloc::{AllocError, Global};
+use std::collections::HashMap;
+
+pub(crate) type Index = HashMap<Vec<u8>, u32>;
+
+/// The number of a word.
+pub(crate) fn find(index: &Index, word: &[u8]) -> Option<u32>
+    ensures { result ≡ found_in index.now word.now }
+{
+    index.get(word).copied()
+}
+
+/// Gives a word a number.
+fn put(alloc: Global, index: &mut Index, word: &[u8], number: u32) -> Result<(), AllocError>
+    ensures { OnOk result (Puts index.old index.new word.now number) }
+{
+    let key = Vec::from_slice(alloc, word)?;
+    index.insert(key, number)?;
+    Ok(())
+}
+
+/// Gives a word a number, where it has none.
+fn put_new(alloc: Global, index: &mut Index, word: &[u8], number: u32) -> Result<(), AllocError>
+    ensures { OnOk result (PutsNew index.old index.new word.now number) }
+{
+    if find(index, word).is_none() {
+        put(alloc, index, word, number)?;
+    }
+    Ok(())
+}
+
+/// The line of the first use whose word was used before, where there is one. Otherwise the index then has these words.
+pub(crate) fn line_again(alloc: Global, uses: &[Use], index: &mut Index) -> Result<Option<u32>, AllocError>
+    requires { (q : List ℕ) → found_in index.old q ≡ None }
+    ensures line { IfOk result (λ line. line ≡ first_again [] (map use_of uses.now)) }
+    ensures words { IfOk result (λ line. line ≡ None → (q : List ℕ) → is_some (found_in index.new q) ≡ is_one (map (λ u. u.word) (map use_of uses.now)) q) }
+{
+    for one in uses {
+        if find(index, one.word).is_some() {
+            return Ok(Some(one.line));
+        }
+        put(alloc, index, one.word, one.line)?;
+    }
+    Ok(None)
+}
+
+/// The line of the first use whose word isn't in the index.
+pub(crate) fn line_missing(uses: &[Use], index: &Index) -> Option<u32>
+    ensures { result ≡ option_map (λ u. u.line) (prelude_find (λ u. not (is_some (found_in index.now u.word))) (map use_of uses.now)) }
+{
+    for one in uses {
+        if find(index, one.word).is_none() {
+            return Some(one.line);
+        }
+    }
+    None
+}
+
+/// The places of names.
+pub(crate) fn index_of(alloc: Global, names: &[Vec<u8>]) -> Result<Index, AllocError>
+    requires { length names.now < 2 ^ 32 }
+    ensures { IfOk result (λ index. (q : List ℕ) → found_in index q ≡ place_of (map (λ n. n.items) names.now) q) }
+{
+    let mut index = HashMap::new(alloc);
+    for (place, name) in names.iter().enumerate() {
+        put_new(alloc, &mut index, name.as_slice(), place as u32)?;
+    }
+    Ok(index)
+}
