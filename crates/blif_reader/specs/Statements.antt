@@ -8,7 +8,7 @@ use Rattle.blif_reader.specs.declared.fault.Refusal.TheVariants as refusals
 use Rattle.blif_reader.specs.declared.grammar.Kind.{Kind}
 use Rattle.blif_reader.specs.declared.grammar.Context.{Context}
 use Rattle.blif_reader.specs.declared.grammar.Context.TheVariants.{Start, Between, Block, Ended}
-use Rattle.blif_reader.specs.declared.statements.Statement as declared
+use Rattle.blif_reader.specs.declared.statement.Statement as declared
 use Rattle.blif_reader.specs.Text.{Line, lines_of}
 use Rattle.blif_reader.specs.Grammar.{kind_of, after}
 

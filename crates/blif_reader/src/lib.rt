@@ -7,6 +7,7 @@ mod grammar;
 mod index;
 mod lines;
 mod parts;
+mod statement;
 mod statements;
 
 pub use fault::{BlifFault, BlifKind};

@@ -7,7 +7,7 @@ ghost use Rattle.blif_reader.specs.Parts.{input_words, output_words, block_outpu
 ghost use Rattle.blif_reader.specs.Words.{texts, use_of};
 
 use crate::grammar::Kind;
-use crate::statements::Statement;
+use crate::statement::Statement;
 use std::alloc::{AllocError, Global};
 
 /// What words are collected: inputs, outputs, the outputs of blocks, what is driven, what is used.

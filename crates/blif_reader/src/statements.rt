@@ -1,22 +1,15 @@
 //! The lines of a netlist as statements, or the first line that is none.
 
-ghost use Rattle.std.specs.Prelude.{◌≡◌, ◌<◌, ◌≤◌, ◌++◌, ◌∷◌, ◌↔◌, [], List, IsTrue, IfOk, IfErr, MatchResult, Ok, Err, map, length};
+ghost use Rattle.std.specs.Prelude.{◌<◌, ◌≤◌, ◌+◌, [], IfOk, map, length};
 ghost use Rattle.blif_reader.specs.Text.{lines_of, has_words};
 ghost use Rattle.blif_reader.specs.Cursor.{line_of};
 ghost use Rattle.blif_reader.specs.Statements.{Gives, Fails, statement_of, statement, after_statement, at_end, statements, parsed};
 
 use crate::fault::{BlifFault, BlifKind, Refusal};
-use crate::grammar::{Context, Kind, context_after, line_kind};
+use crate::grammar::{Context, context_after, line_kind};
 use crate::lines::{Cursor, Line, next_line};
+use crate::statement::Statement;
 use std::alloc::Global;
-
-/// A line with its kind. The words begin with the keyword, where it has one.
-#[derive(Drop)]
-pub(crate) struct Statement<'a> {
-    pub line: u32,
-    pub kind: Kind,
-    pub words: Vec<&'a [u8]>,
-}
 
 /// The line as a statement, behind what stands before it.
 fn read_line<'a>(context: Context, line: Line<'a>) -> Result<Statement<'a>, Refusal>
@@ -42,7 +35,8 @@ fn read_end(context: Context) -> Result<(), Refusal>
 /// All statements of a text.
 pub(crate) fn read_statements<'a>(alloc: Global, bytes: &'a [u8]) -> Result<Vec<Statement<'a>>, Refusal>
     requires { length bytes.now ≤ 4194304 }
-    ensures { Gives (λ v. map statement_of v.items) result (parsed bytes.entry.now) }
+    ensures read { Gives (λ v. map statement_of v.items) result (parsed bytes.entry.now) }
+    ensures few { IfOk result (λ v. length v.items ≤ length bytes.entry.now + 1) }
 {
     let mut found = Vec::new(alloc);
     let mut cursor = Cursor { rest: Some(bytes), number: 1 };

@@ -8,8 +8,8 @@ use Rattle.blif_reader.specs.Statements.{statement_of, statements, after_stateme
 use Rattle.blif_reader.proofs.Reading.{with_front, reads, stops, ends_well, ends_badly, at_the_end, passes_on}
 use Rattle.blif_reader.proofs.statements.read_statements.Goals as goal
 
-pub returns-in_err-next : goal.returns-in_err-next
-returns-in_err-next c =
+pub returns-in_err-next-clause-read : goal.returns-in_err-next-clause-read
+returns-in_err-next-clause-read c =
     let some : has_words (line_of c.in_ok-line.line) ≡ true = grind (arith, common_steps) in
     passes_on _ _ c.in_err-next.field-0.0 _ c.from_residual-in_err-next.ensures.1
       (stops c.in_err-next.field-0.0 (map statement_of c.lines.found.items) c.lines.context (line_of c.in_ok-line.line) _ _ _ c.in_ok-line.ensures.line some c.in_err-next.ensures c.lines.invariant.same)
@@ -23,17 +23,18 @@ lines-preserved c =
     let behind : c.context_after-context.result ≡ after_statement c.lines.context next = c.context_after-context.ensures ∙ ap (after c.lines.context c.in_ok-next.next.kind) (c.len.ensures ∙ same_len) in
     record {
       same = rw (pushed, behind) (reads (map statement_of c.lines.found.items) c.lines.context (line_of c.in_ok-line.line) _ _ next _ c.in_ok-line.ensures.line some c.in_ok-next.ensures c.lines.invariant.same);
+      count = grind (arith, common_steps);
       few = c.next_line.ensures.few;
     }
 
-pub returns-in_err-read_end : goal.returns-in_err-read_end
-returns-in_err-read_end c =
+pub returns-in_err-read_end-clause-read : goal.returns-in_err-read_end-clause-read
+returns-in_err-read_end-clause-read c =
     let none = at_the_end c.lines.cursor.number c.lines.cursor.rest (sym c.is_some.ensures ∙ c.lines-test.false) in
     let so_far = rw none at c.lines.invariant.same in
     passes_on _ _ c.in_err-read_end.field-0.0 _ c.from_residual-in_err-read_end.ensures.1 (ends_badly c.in_err-read_end.field-0.0 (map statement_of c.lines.found.items) c.lines.context _ c.in_err-read_end.ensures so_far)
 
-pub returns : goal.returns
-returns c =
+pub returns-clause-read : goal.returns-clause-read
+returns-clause-read c =
     let none = at_the_end c.lines.cursor.number c.lines.cursor.rest (sym c.is_some.ensures ∙ c.lines-test.false) in
     let so_far = rw none at c.lines.invariant.same in
     ends_well (map statement_of c.lines.found.items) c.lines.context _ c.in_ok-read_end.ensures so_far
