@@ -2,7 +2,7 @@
 use Rattle.std.proofs.Common.{◌≡◌, ℕ, ◌+◌, ◌-◌, ◌<◌, ◌≤◌, List, [], ◌∷◌, ◌++◌, length, get_or, take, drop, map, refl, sym, ap, ◌∙◌, append_assoc, arith, length-drop, Bor}
 use Rattle.std.proofs.lemmas.List.{take_all, take_more, get_or-drop, get_or-map, map_push, length-map}
 use Rattle.blif_reader.specs.declared.parts.Use as declared
-use Rattle.blif_reader.specs.Parts.{Use, on_each, block_output}
+use Rattle.blif_reader.specs.Parts.{Use, on_each, block_output, block_inputs}
 use Rattle.blif_reader.specs.Words.{texts, use_of}
 
 -- one use more
@@ -29,3 +29,16 @@ pub pushes_last : (line n : ℕ) (words : List (Bor (List ℕ))) (old new : List
 pushes_last line n words old new e pushed =
     let m : length (texts words) ≡ length words = simp length-map in
     pushed ∙ ap (λ ts. old ++ on_each line ts) (take_last (texts words) n (omega arith))
+
+-- the words of uses on one line
+pub words_on_each : (n : ℕ) (ws : List (List ℕ)) → map (λ (u : Use). u.word) (on_each n ws) ≡ ws
+words_on_each n [] = refl
+words_on_each n (w ∷ ws) = ap (λ vs. w ∷ vs) (words_on_each n ws)
+
+-- the numbers of what a block reads
+pub reads_numbers : (number : List ℕ → ℕ) (line n : ℕ) (words : List (Bor (List ℕ))) (uses : List Use) (numbers : List ℕ) → n ≡ length words - 1 - 1 → uses ≡ on_each line (take n (drop 1 (texts words)))
+    → numbers ≡ map number (map (λ (u : Use). u.word) uses) → numbers ≡ map number (block_inputs (texts words))
+reads_numbers number line n words uses numbers e read numbered =
+    let m : length (texts words) ≡ length words = simp length-map in
+    let k : n ≡ length (texts words) - 2 = omega arith in
+    numbered ∙ ap (λ us. map number (map (λ (u : Use). u.word) us)) read ∙ ap (map number) (words_on_each line (take n (drop 1 (texts words))) ∙ ap (λ i. take i (drop 1 (texts words))) k)

@@ -5,3 +5,5 @@ pub mod Statements
 pub mod Parts
 pub mod Words
 pub mod Index
+pub mod Netlist
+pub mod Views

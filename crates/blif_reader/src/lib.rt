@@ -2,6 +2,8 @@
 //! the line and the kind of the first fault of each other one.
 #![tactic(auto)]
 
+mod blocks;
+mod cover;
 mod fault;
 mod grammar;
 mod index;

@@ -28,7 +28,7 @@ pub(crate) struct Use<'a> {
 }
 
 /// Adds so many words of a line, from a place on.
-fn push_uses<'a>(line: u32, words: &[&'a [u8]], from: usize, count: usize, uses: &mut Vec<Use<'a>>) -> Result<(), AllocError>
+pub(crate) fn push_uses<'a>(line: u32, words: &[&'a [u8]], from: usize, count: usize, uses: &mut Vec<Use<'a>>) -> Result<(), AllocError>
     requires { from + count ≤ length words.now }
     ensures { OnOk result (map use_of uses.new.items ≡ map use_of uses.old.items ++ on_each line (take count (drop from (texts words.now)))) }
 {

@@ -1,0 +1,10 @@
+use Rattle.std.proofs.Common.{◌≡◌, ◌++◌, ◌∷◌, [], map, take, drop, replicate}
+use Rattle.blif_reader.specs.Statements.{statement_of}
+use Rattle.blif_reader.specs.Netlist.{rows_behind, covers_of, reads_of}
+use Rattle.blif_reader.specs.Words.{use_of}
+use Rattle.blif_reader.specs.Views.{lists_of, cover_of, number_in}
+use Rattle.blif_reader.proofs.blocks.covers.Given as goal
+
+-- the covers so far and those that are left are all
+abbrev pub invariant-loop-place : goal.invariant-loop-place
+invariant-loop-place l = map cover_of l.covers.items ++ covers_of (map statement_of (drop l.place l.statements)) ≡ covers_of (map statement_of l.statements)
