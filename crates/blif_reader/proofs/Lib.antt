@@ -3,3 +3,5 @@ pub mod Joins
 pub mod Reading
 pub mod Windows
 pub mod Indexing
+pub mod Netlists
+pub mod Lengths

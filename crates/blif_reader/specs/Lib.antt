@@ -7,3 +7,5 @@ pub mod Words
 pub mod Index
 pub mod Netlist
 pub mod Views
+pub mod Tables
+pub mod Answers

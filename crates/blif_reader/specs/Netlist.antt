@@ -1,7 +1,7 @@
 -- What an accepted netlist is: named signals, the inputs first, each block's inputs and cover, and the outputs.
-use Rattle.std.specs.Prelude.{◌≡◌, ℕ, ◌+◌, ◌-◌, ◌<◌, ◌==◌, Bool, true, false, List, [], ◌∷◌, ◌++◌, length, drop, map, replicate, slice_index, nat_lt, not, Option, Some, None, Result, Ok, Err, if◌then◌else◌}
+use Rattle.std.specs.Prelude.{◌≡◌, ℕ, ◌+◌, ◌-◌, ◌<◌, ◌≤◌, ◌^◌, ◌==◌, Bool, true, false, List, [], ◌∷◌, ◌++◌, length, drop, map, replicate, slice_index, nat_lt, not, Option, Some, None, Result, Ok, Err, if◌then◌else◌}
 use Rattle.std.specs.List.{slice_index_or, list_any, filter}
-use Rattle.depth_first.specs.Graph.{IsAcyclic, IsFirstOnCycle}
+use Rattle.depth_first.specs.Graph.{IsGraph, IsAcyclic, IsFirstOnCycle}
 use Rattle.blif_reader.specs.declared.fault.BlifFault.{BlifFault}
 use Rattle.blif_reader.specs.declared.fault.BlifKind.{BlifKind}
 use Rattle.blif_reader.specs.declared.fault.BlifKind.TheVariants as fault
@@ -103,13 +103,18 @@ abbrev pub unless_on : {A : Type 0} → Option ℕ → BlifKind → Result A Bli
 unless_on None kind rest = rest
 unless_on (Some line) kind rest = Err (record { line = line; kind = kind })
 
+-- statements whose words are driven once each
+abbrev pub driven_once : List Statement → Result (List Statement) BlifFault
+driven_once ss =
+    unless_on (first_again [] (uses_in Drivers ss)) fault.DrivenTwice
+      (unless_on (first_missing (words_in Drivers ss) (uses_in Uses ss)) fault.Undriven (Ok ss))
+
 -- statements that have inputs, not too many, and words that are driven once each
 abbrev pub sound : List Statement → Result (List Statement) BlifFault
 sound ss =
     if not (list_any lists_inputs ss) then Err (record { line = 0; kind = fault.NoInputs })
     else if nat_lt 65535 (length (words_in Inputs ss)) then Err (record { line = 0; kind = fault.TooManyVariables })
-    else unless_on (first_again [] (uses_in Drivers ss)) fault.DrivenTwice
-      (unless_on (first_missing (words_in Drivers ss) (uses_in Uses ss)) fault.Undriven (Ok ss))
+    else driven_once ss
 
 -- the netlist that a text spells, or its first fault, but for cycles
 unfoldable pub reading : List ℕ → Result Net BlifFault
@@ -133,3 +138,27 @@ Settles (Ok net) result = IsSettled net result
 -- what reading a text gives: the netlist, or its first fault
 abbrev pub IsReading : List ℕ → Result Net BlifFault → Type 0
 IsReading bytes result = Settles (reading bytes) result
+
+-- what every netlist keeps, but for cycles
+pub record IsTables (net : Net) : Type 0 where
+  pub few : length net.names < 4294967294
+  pub signals : length net.edges ≡ length net.names
+  pub blocks : net.inputs + length net.covers ≡ length net.names
+  pub graph : IsGraph net.edges
+  pub leaves : (s : ℕ) → s < net.inputs → length (slice_index_or net.edges s []) ≡ 0
+  pub outputs : (i : ℕ) → i < length net.outputs → slice_index net.outputs i < length net.names
+  pub rows : (k : ℕ) → k < length net.covers → length (slice_index_or net.covers k (record { line = 0; value = true; rows = [] })).rows < 2 ^ 32
+
+-- a netlist: its signals are numbered, and no block depends on itself
+pub record IsNet (net : Net) : Type 0 where
+  pub tables : IsTables net
+  pub acyclic : IsAcyclic net.edges
+
+-- a signal is the output of a block
+pub record IsBlock (net : Net) (s : ℕ) : Type 0 where
+  pub behind : net.inputs ≤ s
+  pub inside : s < length net.names
+
+-- its cover
+abbrev pub cover_at : Net → ℕ → Cover
+cover_at net s = slice_index_or net.covers (s - net.inputs) (record { line = 0; value = true; rows = [] })

@@ -8,8 +8,11 @@ mod fault;
 mod grammar;
 mod index;
 mod lines;
+mod netlist;
 mod parts;
+mod soundness;
 mod statement;
 mod statements;
+mod tables;
 
 pub use fault::{BlifFault, BlifKind};

@@ -1,0 +1,152 @@
+-- How many signals, blocks and rows statements have.
+use Rattle.std.proofs.Common.{◌≡◌, ◌⊎◌, inl, inr, ⊎_elim, ℕ, zero, suc, ◌+◌, ◌-◌, ◌<◌, ◌≤◌, ◌^◌, Bool, true, false, not, List, [], ◌∷◌, ◌++◌, length, get_or, map, replicate, filter, drop, cond, Option, Some, None, option_map, unwrap_or, Result, Ok, Err, refl, sym, ap, ◌∙◌, subst, arith, length-append, length-drop}
+use Rattle.std.specs.Prelude.{find, nat_lt}
+use Rattle.std.specs.List.{position_from, list_any}
+use Rattle.std.proofs.lemmas.List.{length-map, length-replicate, get_or-replicate, get_or_append_left, get_or-append_right, get_or-map}
+use Rattle.std.proofs.lemmas.Bool.{cases_lt}
+use Rattle.depth_first.specs.Graph.{IsGraph, edges_of}
+use Rattle.blif_reader.specs.declared.fault.BlifFault.{BlifFault}
+use Rattle.blif_reader.specs.declared.fault.BlifKind.{BlifKind}
+use Rattle.blif_reader.specs.declared.grammar.Kind.{Kind}
+use Rattle.blif_reader.specs.declared.grammar.Kind.TheVariants as kind
+use Rattle.blif_reader.specs.declared.parts.Part.TheVariants.{Inputs, Outputs, Blocks, Drivers, Uses}
+use Rattle.blif_reader.specs.declared.statement.Statement as declared
+use Rattle.blif_reader.specs.Statements.{Statement, statement_of}
+use Rattle.blif_reader.specs.Parts.{Use, on_each, input_words, output_words, block_words, read_words, part_of, uses_in, words_in, is_one, first_again, first_missing, block_output, lists_inputs}
+use Rattle.blif_reader.specs.Index.{signal_of}
+use Rattle.blif_reader.specs.Netlist.{Cover, Net, IsTables, names_of, net_of_text, covers_of, cover_before, reads_of, rows_behind, row_before, begins_block, is_names, sound, unless_on}
+
+cases_bool : (b : Bool) → (b ≡ true) ⊎ (b ≡ false)
+cases_bool true = inl refl
+cases_bool false = inr refl
+
+-- a driven word is an input or a block's output
+drivers_count : (ss : List Statement) → length (uses_in Drivers ss) ≡ length (uses_in Inputs ss) + length (uses_in Blocks ss)
+drivers_count [] = refl
+drivers_count (s ∷ ss) =
+    let a = length-append (part_of Drivers s) (uses_in Drivers ss) in
+    let b = length-append (part_of Inputs s) (uses_in Inputs ss) in
+    let c = length-append (part_of Blocks s) (uses_in Blocks ss) in
+    let d : length (part_of Drivers s) ≡ length (input_words s.kind s.words) + length (block_words s.kind s.words) = length-map (input_words s.kind s.words ++ block_words s.kind s.words) _ ∙ length-append (input_words s.kind s.words) (block_words s.kind s.words) in
+    let e : length (part_of Inputs s) ≡ length (input_words s.kind s.words) = length-map (input_words s.kind s.words) _ in
+    let f : length (part_of Blocks s) ≡ length (block_words s.kind s.words) = length-map (block_words s.kind s.words) _ in
+    omega (arith, drivers_count ss)
+
+-- an output is used
+outputs_count : (ss : List Statement) → length (uses_in Outputs ss) ≤ length (uses_in Uses ss)
+outputs_count [] = omega arith
+outputs_count (s ∷ ss) =
+    let a = length-append (part_of Uses s) (uses_in Uses ss) in
+    let b = length-append (part_of Outputs s) (uses_in Outputs ss) in
+    let d : length (part_of Uses s) ≡ length (output_words s.kind s.words) + length (read_words s.kind s.words) = length-map (output_words s.kind s.words ++ read_words s.kind s.words) _ ∙ length-append (output_words s.kind s.words) (read_words s.kind s.words) in
+    let e : length (part_of Outputs s) ≡ length (output_words s.kind s.words) = length-map (output_words s.kind s.words) _ in
+    omega (arith, outputs_count ss)
+
+length_filter : (s : Statement) (ss : List Statement) → length (filter begins_block (s ∷ ss)) ≡ cond (begins_block s) 1 0 + length (filter begins_block ss)
+length_filter s ss = ⊎_elim
+    (λ (e : begins_block s ≡ true). ap (λ b. length (cond b (s ∷ filter begins_block ss) (filter begins_block ss))) e ∙ sym (ap (λ b. cond b 1 0 + length (filter begins_block ss)) e ∙ omega arith))
+    (λ (e : begins_block s ≡ false). ap (λ b. length (cond b (s ∷ filter begins_block ss) (filter begins_block ss))) e ∙ sym (ap (λ b. cond b 1 0 + length (filter begins_block ss)) e ∙ omega arith))
+    (cases_bool (begins_block s))
+
+-- a block drives one word
+one_output : (k : Kind) (words : List (List ℕ)) → 0 < length words → length (block_words k words) ≡ cond (is_names k) 1 0
+one_output kind.Model words some = refl
+one_output kind.Inputs words some = refl
+one_output kind.Outputs words some = refl
+one_output kind.Names words some = length-drop (length words - 1) words ∙ omega arith
+one_output (kind.Row v) words some = refl
+one_output kind.End words some = refl
+
+blocks_count : (ds : List declared.Statement) → length (uses_in Blocks (map statement_of ds)) ≡ length (filter begins_block (map statement_of ds))
+blocks_count [] = refl
+blocks_count (d ∷ ds) =
+    let s : Statement = statement_of d in
+    let ss : List Statement = map statement_of ds in
+    let worded : 0 < length d.words.items = d.worded in
+    let texts : length s.words ≡ length d.words.items = length-map d.words.items _ in
+    let a = length-append (part_of Blocks s) (uses_in Blocks ss) in
+    let b : length (part_of Blocks s) ≡ length (block_words s.kind s.words) = length-map (block_words s.kind s.words) _ in
+    let c : length (block_words s.kind s.words) ≡ cond (begins_block s) 1 0 = one_output s.kind s.words (omega arith) in
+    let f = length_filter s ss in
+    omega (arith, blocks_count ds)
+
+covers_count : (ss : List Statement) → length (covers_of ss) ≡ length (filter begins_block ss)
+covers_count [] = refl
+covers_count (s ∷ ss) =
+    let a = length-append (cover_before s ss) (covers_of ss) in
+    let b : length (cover_before s ss) ≡ cond (begins_block s) 1 0 = ⊎_elim
+          (λ (e : begins_block s ≡ true). ap (λ b. length (cond b (_ ∷ []) [])) e ∙ sym (ap (λ b. cond b 1 0) e))
+          (λ (e : begins_block s ≡ false). ap (λ b. length (cond b (_ ∷ []) [])) e ∙ sym (ap (λ b. cond b 1 0) e))
+          (cases_bool (begins_block s)) in
+    let f = length_filter s ss in
+    omega (arith, covers_count ss)
+
+one_at_most : (b : Bool) → cond b 1 0 ≤ 1
+one_at_most true = omega arith
+one_at_most false = omega arith
+
+filter_short : (ss : List Statement) → length (filter begins_block ss) ≤ length ss
+filter_short [] = omega arith
+filter_short (s ∷ ss) = let f = length_filter s ss in omega (arith, filter_short ss, one_at_most (begins_block s))
+
+row_short : (k : Kind) (words : List (List ℕ)) (rows : List (List ℕ)) → length (row_before k words rows) ≤ 1 + length rows
+row_short kind.Model words rows = omega arith
+row_short kind.Inputs words rows = omega arith
+row_short kind.Outputs words rows = omega arith
+row_short kind.Names words rows = omega arith
+row_short (kind.Row v) words rows = omega arith
+row_short kind.End words rows = omega arith
+
+rows_short : (ss : List Statement) → length (rows_behind ss) ≤ length ss
+rows_short [] = omega arith
+rows_short (s ∷ ss) = omega (arith, row_short s.kind s.words (rows_behind ss), rows_short ss)
+
+-- a cover has no more rows than there are statements
+cover_rows : (ss : List Statement) (k : ℕ) (d : Cover) → k < length (covers_of ss) → length (get_or (covers_of ss) k d).rows ≤ length ss
+cover_rows [] k d lt = absurd (omega arith)
+cover_rows (s ∷ ss) k d lt = ⊎_elim
+    (λ (e : begins_block s ≡ true). first k e lt)
+    (λ (e : begins_block s ≡ false).
+      let same : covers_of (s ∷ ss) ≡ covers_of ss = ap (λ b. cond b (_ ∷ []) [] ++ covers_of ss) e in
+      let lt2 : k < length (covers_of ss) = subst (λ cs. k < length cs) same lt in
+      subst (λ cs. length (get_or cs k d).rows ≤ length (s ∷ ss)) (sym same) (omega (arith, cover_rows ss k d lt2)))
+    (cases_bool (begins_block s))
+  where
+  first : (k : ℕ) → begins_block s ≡ true → k < length (covers_of (s ∷ ss)) → length (get_or (covers_of (s ∷ ss)) k d).rows ≤ length (s ∷ ss)
+  first zero e lt = subst (λ cs. length (get_or cs zero d).rows ≤ length (s ∷ ss)) (sym (ap (λ b. cond b (_ ∷ []) [] ++ covers_of ss) e)) (omega (arith, rows_short ss))
+  first (suc k) e lt =
+      let same : covers_of (s ∷ ss) ≡ _ ∷ covers_of ss = ap (λ b. cond b (_ ∷ []) [] ++ covers_of ss) e in
+      let lt2 : suc k < length (_ ∷ covers_of ss) = subst (λ cs. suc k < length cs) same lt in
+      subst (λ cs. length (get_or cs (suc k) d).rows ≤ length (s ∷ ss)) (sym same) (omega (arith, cover_rows ss k d (omega arith)))
+
+position_inside : (t : List ℕ → Bool) (i : ℕ) (xs : List (List ℕ)) → 0 < length xs → unwrap_or (position_from t i xs) 0 < i + length xs
+position_inside t i [] some = absurd (omega arith)
+position_inside t i (x ∷ []) some = ⊎_elim
+    (λ (e : t x ≡ true). subst (λ b. unwrap_or (cond b (Some i) None) 0 < i + length (x ∷ [])) (sym e) (omega arith))
+    (λ (e : t x ≡ false). subst (λ b. unwrap_or (cond b (Some i) None) 0 < i + length (x ∷ [])) (sym e) (omega arith))
+    (cases_bool (t x))
+position_inside t i (x ∷ y ∷ ys) some = ⊎_elim
+    (λ (e : t x ≡ true). subst (λ b. unwrap_or (cond b (Some i) (position_from t (i + 1) (y ∷ ys))) 0 < i + length (x ∷ y ∷ ys)) (sym e) (omega arith))
+    (λ (e : t x ≡ false). subst (λ b. unwrap_or (cond b (Some i) (position_from t (i + 1) (y ∷ ys))) 0 < i + length (x ∷ y ∷ ys)) (sym e) (let h = position_inside t (i + 1) (y ∷ ys) (omega arith) in omega (arith, h)))
+    (cases_bool (t x))
+
+-- each number of a word is that of a signal, where there is one
+numbers_inside : (names words : List (List ℕ)) (i : ℕ) → 0 < length names → i < length (map (signal_of names) words) → get_or (map (signal_of names) words) i 0 < length names
+numbers_inside names words i some lt =
+    let n : length (map (signal_of names) words) ≡ length words = length-map words _ in
+    subst (λ k. k < length names) (sym (get_or-map (signal_of names) words i [] 0 (omega arith)))
+      (let h = position_inside _ 0 names some in omega (arith, h))
+
+-- where words are used and none is missing, some are driven
+driven_some : (words : List (List ℕ)) (us : List Use) → first_missing words us ≡ None → 0 < length us → 0 < length words
+driven_some (w ∷ ws) us none some = omega arith
+driven_some [] [] none some = absurd (omega arith)
+driven_some [] (u ∷ us) none some = absurd (cc)
+
+-- what sound statements keep
+unpack : (a b : Bool) (f g : BlifFault) (o p : Option ℕ) (k l : BlifKind) (ss ts : List Statement) → cond a (Err f) (cond b (Err g) (unless_on o k (unless_on p l (Ok ss)))) ≡ Ok ts → (b ≡ false) × (p ≡ None)
+unpack true b f g o p k l ss ts e = absurd (cc)
+unpack false true f g o p k l ss ts e = absurd (cc)
+unpack false false f g (Some n) p k l ss ts e = absurd (cc)
+unpack false false f g None (Some n) k l ss ts e = absurd (cc)
+unpack false false f g None None k l ss ts e = (refl, refl)
