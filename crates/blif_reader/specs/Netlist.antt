@@ -71,9 +71,13 @@ is_names kind.End = false
 abbrev pub begins_block : Statement → Bool
 begins_block s = is_names s.kind
 
--- the cover of a block that begins on a line, before those behind it
+-- the cover of the block that a line begins
+abbrev pub block_cover : Statement → List Statement → Cover
+block_cover s ss = record { line = s.line; value = value_behind ss; rows = rows_behind ss }
+
+-- it stands before those of the blocks behind it
 abbrev pub cover_before : Statement → List Statement → List Cover
-cover_before s ss = if begins_block s then record { line = s.line; value = value_behind ss; rows = rows_behind ss } ∷ [] else []
+cover_before s ss = if begins_block s then block_cover s ss ∷ [] else []
 
 -- the covers of the blocks, in the order of the text
 abbrev pub covers_of : List Statement → List Cover

@@ -10,9 +10,12 @@ mod index;
 mod lines;
 mod netlist;
 mod parts;
+mod read;
 mod soundness;
 mod statement;
 mod statements;
 mod tables;
 
 pub use fault::{BlifFault, BlifKind};
+pub use netlist::Netlist;
+pub use read::read_netlist;

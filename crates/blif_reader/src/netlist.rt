@@ -1,16 +1,115 @@
 //! A netlist that was accepted.
 
-ghost use Rattle.std.specs.Prelude.{◌≡◌, ℕ, List};
+ghost use Rattle.std.specs.Prelude.{◌≡◌, ℕ, ◌<◌, ◌≤◌, [], List, length, slice_index, IfOk};
+ghost use Rattle.std.specs.List.{slice_index_or};
+ghost use Rattle.depth_first.specs.Graph.{IsTopological, visits};
 ghost use Rattle.blif_reader.specs.Index.{found_in, place_of};
-ghost use Rattle.blif_reader.specs.Netlist.{IsNet};
+ghost use Rattle.blif_reader.specs.Netlist.{IsNet, IsBlock, cover_at};
+ghost use Rattle.blif_reader.specs.Views.{cover_of};
 ghost use Rattle.blif_reader.specs.Tables.{net_in};
 
+use crate::cover::Cover;
+use crate::index::find;
 use crate::tables::Tables;
+use depth_first::visit_order;
+use std::alloc::{AllocError, Global};
 
-/// A netlist that was accepted. Its signals are numbered: the inputs first, then the blocks' outputs.
+/// A netlist that was accepted. Its signals are numbered: the inputs first, then the blocks' outputs in the
+/// order of the text.
 #[derive(Drop)]
 pub struct Netlist {
     pub(crate) tables: Tables,
     ghost sound: { IsNet (net_in tables) },
     ghost indexed: { (q : List ℕ) → found_in tables.index q ≡ place_of (net_in tables).names q },
+}
+
+impl Netlist {
+    ghost use Rattle.blif_reader.specs.Answers.{net_of};
+
+    /// The number of inputs.
+    pub fn input_count(&self) -> u32
+        ensures { result ≡ (net_of self.now).inputs }
+    {
+        self.tables.inputs
+    }
+
+    /// The number of signals.
+    pub fn signal_count(&self) -> u32
+        ensures count { result ≡ length (net_of self.now).names }
+        ensures sound { IsNet (net_of self.now) }
+    {
+        self.tables.names.len() as u32
+    }
+
+    /// The signal with a name, where there is one.
+    pub fn signal(&self, name: &[u8]) -> Option<u32>
+        ensures { result ≡ place_of (net_of self.now).names name.now }
+    {
+        find(&self.tables.index, name)
+    }
+
+    /// The name of a signal.
+    pub fn name(&self, signal: u32) -> &[u8]
+        requires { signal < length (net_of self.now).names }
+        ensures { result.now ≡ slice_index_or (net_of self.now).names signal [] }
+    {
+        self.tables.names[signal as usize].as_slice()
+    }
+
+    /// The signals that are outputs.
+    pub fn outputs(&self) -> &[u32]
+        ensures { result.now ≡ (net_of self.now).outputs }
+    {
+        self.tables.outputs.as_slice()
+    }
+
+    /// The signals that a block reads, in order.
+    pub fn block_inputs(&self, signal: u32) -> &[u32]
+        requires { IsBlock (net_of self.now) signal }
+        ensures { result.now ≡ slice_index_or (net_of self.now).edges signal [] }
+    {
+        self.tables.edges[signal as usize].as_slice()
+    }
+
+    fn cover(&self, signal: u32) -> &Cover
+        requires { IsBlock (net_of self.now) signal }
+        ensures { cover_of result.now ≡ cover_at (net_of self.now) signal }
+    {
+        &self.tables.covers[(signal - self.tables.inputs) as usize]
+    }
+
+    /// The number of rows of a block.
+    pub fn row_count(&self, signal: u32) -> u32
+        requires { IsBlock (net_of self.now) signal }
+        ensures { result ≡ length (cover_at (net_of self.now) signal).rows }
+    {
+        self.cover(signal).rows.len() as u32
+    }
+
+    /// The characters of a row, one for each input of its block.
+    pub fn row(&self, signal: u32, row: u32) -> &[u8]
+        requires block { IsBlock (net_of self.now) signal }
+        requires inside { row < length (cover_at (net_of self.now) signal).rows }
+        ensures { result.now ≡ slice_index_or (cover_at (net_of self.now) signal).rows row [] }
+    {
+        self.cover(signal).rows[row as usize].as_slice()
+    }
+
+    /// The output of a block's rows, and 1 where it has none.
+    pub fn row_output(&self, signal: u32) -> bool
+        requires { IsBlock (net_of self.now) signal }
+        ensures { result ≡ (cover_at (net_of self.now) signal).value }
+    {
+        self.cover(signal).value
+    }
+
+    /// The signals that are visited depth first from some signals in order: what a block reads before the block.
+    pub fn visits(&self, alloc: Global, wanted: &[u32]) -> Result<Vec<u32>, AllocError>
+        requires { (i : ℕ) → i < length wanted.now → slice_index wanted.now i < length (net_of self.now).names }
+        ensures order { IfOk result (λ v. v.items ≡ visits (net_of self.now).edges wanted.now) }
+        ensures above { IfOk result (λ v. IsTopological (net_of self.now).edges v.items) }
+        ensures signals { IfOk result (λ v. (k : ℕ) → k < length v.items → slice_index v.items k < length (net_of self.now).names) }
+    {
+        visit_order(alloc, self.tables.edges.as_slice(), wanted)
+    }
 }

@@ -1,0 +1,76 @@
+//! Reading a netlist.
+
+ghost use Rattle.std.specs.Prelude.{◌≡◌, ◌≢◌, ℕ, ◌<◌, ◌≤◌, List, map, length, IfOk, IfErr, Ok, Err};
+ghost use Rattle.blif_reader.specs.declared.fault.BlifKind.TheVariants.{Memory};
+ghost use Rattle.blif_reader.specs.Statements.{statement_of, ◌>>=◌};
+ghost use Rattle.blif_reader.specs.Index.{found_in, place_of};
+ghost use Rattle.blif_reader.specs.Netlist.{IsTables, IsSettled, Settles, IsReading, sound, net_of_text};
+ghost use Rattle.blif_reader.specs.Tables.{net_in};
+ghost use Rattle.blif_reader.specs.Answers.{Answers, net_of};
+
+use crate::fault::{BlifFault, BlifKind, Refusal};
+use crate::netlist::Netlist;
+use crate::parts::{Part, collect};
+use crate::soundness::test_soundness;
+use crate::statement::Statement;
+use crate::statements::read_statements;
+use crate::tables::{Tables, make_tables};
+use depth_first::first_cycle;
+use std::alloc::Global;
+
+/// A text has at most so many bytes.
+const MOST_BYTES: usize = 4194304;
+
+/// The tables as a netlist, unless a block depends on itself.
+fn settle(alloc: Global, tables: Tables) -> Result<Netlist, Refusal>
+    requires tables { IsTables (net_in tables) }
+    requires indexed { (q : List ℕ) → found_in tables.index q ≡ place_of (net_in tables).names q }
+    ensures { Answers (IsSettled (net_in tables)) result }
+{
+    match first_cycle(alloc, tables.edges.as_slice())? {
+        None => Ok(Netlist { tables }),
+        Some(signal) => {
+            let place = (signal as usize).saturating_sub(tables.inputs as usize);
+            let line = match tables.covers.get(place) {
+                Some(cover) => cover.line,
+                None => 0,
+            };
+            Err(Refusal::Fault(BlifFault { line, kind: BlifKind::Cycle }))
+        }
+    }
+}
+
+/// The netlist of statements.
+fn build(alloc: Global, statements: &[Statement]) -> Result<Netlist, Refusal>
+    requires { length statements.now ≤ 4194305 }
+    ensures { Answers (Settles (sound (map statement_of statements.now) >>= λ ss. Ok (net_of_text ss))) result }
+{
+    let inputs = collect(alloc, Part::Inputs, statements)?;
+    test_soundness(alloc, inputs.len(), statements)?;
+    let tables = make_tables(alloc, inputs.len() as u32, statements)?;
+    settle(alloc, tables)
+}
+
+fn read(alloc: Global, bytes: &[u8]) -> Result<Netlist, Refusal>
+    ensures { Answers (IsReading bytes.now) result }
+{
+    if bytes.len() > MOST_BYTES {
+        return Err(Refusal::Fault(BlifFault { line: 0, kind: BlifKind::TooLong }));
+    }
+    let statements = read_statements(alloc, bytes)?;
+    build(alloc, statements.as_slice())
+}
+
+/// Reads a netlist. The answer is the netlist, or the first fault of the text; want of memory is a fault on
+/// line 0.
+pub fn read_netlist(alloc: Global, bytes: &[u8]) -> Result<Netlist, BlifFault>
+    ensures ok { IfOk result (λ net. IsReading bytes.now (Ok (net_of net))) }
+    ensures fault { IfErr result (λ f. f.kind ≢ Memory → IsReading bytes.now (Err f)) }
+    ensures memory { IfErr result (λ f. f.kind ≡ Memory → f.line ≡ 0) }
+{
+    match read(alloc, bytes) {
+        Ok(net) => Ok(net),
+        Err(Refusal::Memory) => Err(BlifFault { line: 0, kind: BlifKind::Memory }),
+        Err(Refusal::Fault(fault)) => Err(fault),
+    }
+}
