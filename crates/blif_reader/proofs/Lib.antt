@@ -5,3 +5,4 @@ pub mod Windows
 pub mod Indexing
 pub mod Netlists
 pub mod Lengths
+pub mod Accepting

@@ -120,11 +120,15 @@ sound ss =
     else if nat_lt 65535 (length (words_in Inputs ss)) then Err (record { line = 0; kind = fault.TooManyVariables })
     else driven_once ss
 
+-- the netlist of statements, or their first fault, but for cycles
+abbrev pub netlist_of : List Statement → Result Net BlifFault
+netlist_of ss = sound ss >>= λ ts. Ok (net_of_text ts)
+
 -- the netlist that a text spells, or its first fault, but for cycles
 unfoldable pub reading : List ℕ → Result Net BlifFault
 reading bytes =
     if nat_lt 4194304 (length bytes) then Err (record { line = 0; kind = fault.TooLong })
-    else parsed bytes >>= λ ss. sound ss >>= λ ts. Ok (net_of_text ts)
+    else parsed bytes >>= netlist_of
 
 -- the line of the block that drives a signal
 abbrev pub line_of_signal : Net → ℕ → ℕ

@@ -19,3 +19,6 @@ mod tables;
 pub use fault::{BlifFault, BlifKind};
 pub use netlist::Netlist;
 pub use read::read_netlist;
+
+#[cfg(test)]
+mod tests;

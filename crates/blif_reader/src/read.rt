@@ -1,10 +1,10 @@
 //! Reading a netlist.
 
-ghost use Rattle.std.specs.Prelude.{◌≡◌, ◌≢◌, ℕ, ◌<◌, ◌≤◌, List, map, length, IfOk, IfErr, Ok, Err};
+ghost use Rattle.std.specs.Prelude.{◌≡◌, ◌⊎◌, ℕ, ◌<◌, ◌≤◌, List, map, length, IfOk, IfErr, Ok, Err};
 ghost use Rattle.blif_reader.specs.declared.fault.BlifKind.TheVariants.{Memory};
-ghost use Rattle.blif_reader.specs.Statements.{statement_of, ◌>>=◌};
+ghost use Rattle.blif_reader.specs.Statements.{statement_of};
 ghost use Rattle.blif_reader.specs.Index.{found_in, place_of};
-ghost use Rattle.blif_reader.specs.Netlist.{IsTables, IsSettled, Settles, IsReading, sound, net_of_text};
+ghost use Rattle.blif_reader.specs.Netlist.{IsTables, IsSettled, Settles, IsReading, netlist_of};
 ghost use Rattle.blif_reader.specs.Tables.{net_in};
 ghost use Rattle.blif_reader.specs.Answers.{Answers, net_of};
 
@@ -43,7 +43,7 @@ fn settle(alloc: Global, tables: Tables) -> Result<Netlist, Refusal>
 /// The netlist of statements.
 fn build(alloc: Global, statements: &[Statement]) -> Result<Netlist, Refusal>
     requires { length statements.now ≤ 4194305 }
-    ensures { Answers (Settles (sound (map statement_of statements.now) >>= λ ss. Ok (net_of_text ss))) result }
+    ensures { Answers (Settles (netlist_of (map statement_of statements.now))) result }
 {
     let inputs = collect(alloc, Part::Inputs, statements)?;
     test_soundness(alloc, inputs.len(), statements)?;
@@ -65,8 +65,7 @@ fn read(alloc: Global, bytes: &[u8]) -> Result<Netlist, Refusal>
 /// line 0.
 pub fn read_netlist(alloc: Global, bytes: &[u8]) -> Result<Netlist, BlifFault>
     ensures ok { IfOk result (λ net. IsReading bytes.now (Ok (net_of net))) }
-    ensures fault { IfErr result (λ f. f.kind ≢ Memory → IsReading bytes.now (Err f)) }
-    ensures memory { IfErr result (λ f. f.kind ≡ Memory → f.line ≡ 0) }
+    ensures fault { IfErr result (λ f. IsReading bytes.now (Err f) ⊎ (f ≡ record { line = 0; kind = Memory })) }
 {
     match read(alloc, bytes) {
         Ok(net) => Ok(net),
