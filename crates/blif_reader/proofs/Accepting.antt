@@ -1,15 +1,14 @@
 -- From the steps of the reader to what reading a text gives.
-use Rattle.std.proofs.Common.{◌≡◌, ℕ, ◌<◌, ◌≤◌, Bool, true, false, List, length, cond, Result, Ok, Err, refl, sym, ap, ◌∙◌, subst}
+use Rattle.std.proofs.Common.{◌≡◌, ℕ, ◌<◌, ◌≤◌, List, length, cond, Result, Ok, Err, refl, sym, ap, ◌∙◌, subst}
 use Rattle.std.specs.Result.{IsErrAnd}
 use Rattle.std.proofs.lemmas.Result.{err_from_is_err_and}
 use Rattle.std.proofs.lemmas.Bool.{lt-ltb, le-ltb}
-use Rattle.blif_reader.specs.declared.fault.BlifFault.{BlifFault}
 use Rattle.blif_reader.specs.declared.fault.BlifKind.TheVariants as fault
 use Rattle.blif_reader.specs.declared.fault.Refusal.{Refusal}
 use Rattle.blif_reader.specs.declared.fault.Refusal.TheVariants as refusals
 use Rattle.blif_reader.specs.declared.netlist.Netlist.{Netlist}
 use Rattle.blif_reader.specs.Statements.{◌>>=◌, Fails, Statement, parsed}
-use Rattle.blif_reader.specs.Netlist.{Net, reading, netlist_of, Settles, IsReading}
+use Rattle.blif_reader.specs.Netlist.{reading, netlist_of, Settles, IsReading}
 use Rattle.blif_reader.specs.Answers.{Answers}
 
 -- a text with too many bytes

@@ -1,9 +1,8 @@
 -- Indexes by bytes, and the places of names.
-use Rattle.std.proofs.Common.{◌≡◌, ◌≢◌, ◌⊎◌, inl, inr, ⊎_elim, ℕ, zero, suc, ◌+◌, ◌<◌, ◌≤◌, Bool, true, false, cond, ◌||◌, List, [], ◌∷◌, ◌++◌, length, get_or, take, drop, map, Option, Some, None, is_some, Vec, refl, sym, ap, ◌∙◌, subst, arith, add-zero, zero-add}
-use Rattle.std.specs.List.{position_from, list_any}
+use Rattle.std.proofs.Common.{◌≡◌, ◌⊎◌, inl, inr, ⊎_elim, ℕ, ◌+◌, ◌<◌, Bool, true, false, cond, ◌||◌, List, [], ◌∷◌, ◌++◌, length, get_or, take, map, Option, Some, None, is_some, Vec, refl, sym, ap, ◌∙◌, subst, arith, add-zero, zero-add}
+use Rattle.std.specs.List.{position_from}
 use Rattle.std.specs.Str.{bytes_eq}
 use Rattle.std.specs.HashMap as hash
-use Rattle.std.specs.HashMap.{HashMap}
 use Rattle.std.specs.Map.{lookup, KeepsOthers, IsKeyTest, AreApart}
 use Rattle.std.specs.Cmp.Lexicographic.{bytes_decides, nat_list_eq_equiv}
 use Rattle.std.specs.declared.alloc.Global.{Global}
@@ -27,11 +26,11 @@ apart bs cs ks n y = nat_list_eq_equiv.symm cs ks ∙ sym (nat_list_eq_equiv.con
 pub puts_word : (old new : Index) (key : Vec ℕ Global) (word : List ℕ) (n : ℕ) → key.items ≡ word → hash.UpdatesBy (λ (x y : Vec ℕ Global). bytes_eq x.items y.items) (λ k. bytes_eq key.items k.items) old new (Some n) → Puts old new word n
 puts_word old new key word n e h q = ⊎_elim
     (λ (y : bytes_eq word q ≡ true).
-      let same : key.items ≡ q = e ∙ (bytes_decides word q).0 y in
-      subst (λ l. found_in new l ≡ Some n) same h.1 ∙ sym (ap (λ b. cond b (Some n) (found_in old q)) y))
+    let same : key.items ≡ q = e ∙ (bytes_decides word q).0 y in
+    subst (λ l. found_in new l ≡ Some n) same h.1 ∙ sym (ap (λ b. cond b (Some n) (found_in old q)) y))
     (λ (no : bytes_eq word q ≡ false).
-      let away : bytes_eq key.items q ≡ false = ap (λ l. bytes_eq l q) e ∙ no in
-      other_entries _ _ _ _ h.3 (λ k. bytes_eq q k.items) (λ x y. nat_list_eq_equiv.congr q x.items y.items) (λ k. apart key.items q k.items away) ∙ sym (ap (λ b. cond b (Some n) (found_in old q)) no))
+    let away : bytes_eq key.items q ≡ false = ap (λ l. bytes_eq l q) e ∙ no in
+    other_entries _ _ _ _ h.3 (λ k. bytes_eq q k.items) (λ x y. nat_list_eq_equiv.congr q x.items y.items) (λ k. apart key.items q k.items away) ∙ sym (ap (λ b. cond b (Some n) (found_in old q)) no))
     (cases_bool (bytes_eq word q))
 
 -- the place of a word among names with one more
@@ -40,9 +39,9 @@ position_push t i [] x = ap (λ n. cond (t x) (Some n) None) (sym (add-zero i))
 position_push t i (y ∷ ys) x = ⊎_elim
     (λ (e : t y ≡ true). ap (λ b. cond b (Some i) (position_from t (i + 1) (ys ++ x ∷ []))) e ∙ sym (ap (λ b. cond (is_some (cond b (Some i) (position_from t (i + 1) ys))) (cond b (Some i) (position_from t (i + 1) ys)) (cond (t x) (Some (i + length (y ∷ ys))) None)) e))
     (λ (e : t y ≡ false).
-      let n : i + 1 + length ys ≡ i + length (y ∷ ys) = omega arith in
-      ap (λ b. cond b (Some i) (position_from t (i + 1) (ys ++ x ∷ []))) e ∙ position_push t (i + 1) ys x ∙ ap (λ m. cond (is_some (position_from t (i + 1) ys)) (position_from t (i + 1) ys) (cond (t x) (Some m) None)) n
-      ∙ sym (ap (λ b. cond (is_some (cond b (Some i) (position_from t (i + 1) ys))) (cond b (Some i) (position_from t (i + 1) ys)) (cond (t x) (Some (i + length (y ∷ ys))) None)) e))
+    let n : i + 1 + length ys ≡ i + length (y ∷ ys) = omega arith in
+    ap (λ b. cond b (Some i) (position_from t (i + 1) (ys ++ x ∷ []))) e ∙ position_push t (i + 1) ys x ∙ ap (λ m. cond (is_some (position_from t (i + 1) ys)) (position_from t (i + 1) ys) (cond (t x) (Some m) None)) n
+    ∙ sym (ap (λ b. cond (is_some (cond b (Some i) (position_from t (i + 1) ys))) (cond b (Some i) (position_from t (i + 1) ys)) (cond (t x) (Some (i + length (y ∷ ys))) None)) e))
     (cases_bool (t y))
 
 -- one name more in an index
@@ -52,7 +51,7 @@ places_more old new names place d word lt read puts so_far q =
     let ns : List (List ℕ) = map (λ (n : Vec ℕ Global). n.items) (take place names) in
     let count : length ns ≡ place = length-map (take place names) _ ∙ length-take-le place names (omega arith) in
     let split : map (λ (n : Vec ℕ Global). n.items) (take (place + 1) names) ≡ ns ++ word ∷ [] =
-        ap (map (λ (n : Vec ℕ Global). n.items)) (take_more names place d lt) ∙ map_push _ (take place names) (get_or names place d) ∙ ap (λ x. ns ++ x ∷ []) (sym read) in
+    ap (map (λ (n : Vec ℕ Global). n.items)) (take_more names place d lt) ∙ map_push _ (take place names) (get_or names place d) ∙ ap (λ x. ns ++ x ∷ []) (sym read) in
     puts q ∙ ap (λ o. cond (is_some o) o (cond (bytes_eq word q) (Some place) None)) (so_far q)
     ∙ ap (λ b. cond (is_some (place_of ns q)) (place_of ns q) (cond b (Some place) None)) (nat_list_eq_equiv.symm word q)
     ∙ ap (λ m. cond (is_some (place_of ns q)) (place_of ns q) (cond (bytes_eq q word) (Some m) None)) (sym count)
@@ -63,17 +62,18 @@ places_more old new names place d word lt read puts so_far q =
 pub words_more : (old new : Index) (words : List (List ℕ)) (word : List ℕ) (n : ℕ) → Puts old new word n → ((q : List ℕ) → is_some (found_in old q) ≡ is_one words q) → (q : List ℕ) → is_some (found_in new q) ≡ is_one (words ++ word ∷ []) q
 words_more old new words word n puts so_far q =
     ap is_some (puts q) ∙ ⊎_elim
-      (λ (y : bytes_eq word q ≡ true). ap (λ b. is_some (cond b (Some n) (found_in old q))) y ∙ sym (ap (λ b. is_one words q || (b || false)) (nat_list_eq_equiv.symm q word ∙ y) ∙ or-true (is_one words q)))
-      (λ (no : bytes_eq word q ≡ false). ap (λ b. is_some (cond b (Some n) (found_in old q))) no ∙ so_far q ∙ sym (ap (λ b. is_one words q || (b || false)) (nat_list_eq_equiv.symm q word ∙ no) ∙ or-false (is_one words q)))
-      (cases_bool (bytes_eq word q))
+    (λ (y : bytes_eq word q ≡ true). ap (λ b. is_some (cond b (Some n) (found_in old q))) y ∙ sym (ap (λ b. is_one words q || (b || false)) (nat_list_eq_equiv.symm q word ∙ y) ∙ or-true (is_one words q)))
+    (λ (no : bytes_eq word q ≡ false). ap (λ b. is_some (cond b (Some n) (found_in old q))) no ∙ so_far q ∙ sym (ap (λ b. is_one words q || (b || false)) (nat_list_eq_equiv.symm q word ∙ no) ∙ or-false (is_one words q)))
+    (cases_bool (bytes_eq word q))
     ∙ sym (list_any-append (bytes_eq q) words (word ∷ []))
   where
-  or-true : (b : Bool) → (b || true) ≡ true
-  or-true true = refl
-  or-true false = refl
-  or-false : (b : Bool) → (b || false) ≡ b
-  or-false true = refl
-  or-false false = refl
+    or-true : (b : Bool) → (b || true) ≡ true
+    or-true true = refl
+    or-true false = refl
+
+    or-false : (b : Bool) → (b || false) ≡ b
+    or-false true = refl
+    or-false false = refl
 
 -- the first use is of a word that was used before
 pub again_here : (before : List (List ℕ)) (u : Use) (us all : List Use) (total : Option ℕ) → all ≡ u ∷ us → is_one before u.word ≡ true → first_again before all ≡ total → Some u.line ≡ total
@@ -89,4 +89,3 @@ again_later before u us all total split fresh so_far = sym (ap (first_again befo
 pub again_none : (before : List (List ℕ)) (all : List Use) (total : Option ℕ) → all ≡ [] → first_again before all ≡ total → None ≡ total
 unfolding first_again
 again_none before all total none so_far = sym (ap (first_again before) none) ∙ so_far
-

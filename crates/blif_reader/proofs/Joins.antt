@@ -1,8 +1,7 @@
 -- Lines joined one after the other.
-use Rattle.std.proofs.Common.{◌≡◌, ℕ, ◌+◌, ◌<◌, ◌≤◌, Bool, true, false, List, [], ◌∷◌, ◌++◌, length, take, drop, Option, Some, None, refl, sym, ap, ◌∙◌, append_assoc, arith, if◌then◌else◌, cond}
+use Rattle.std.proofs.Common.{◌≡◌, ℕ, ◌+◌, ◌<◌, ◌≤◌, Bool, true, false, List, [], ◌∷◌, ◌++◌, length, Option, Some, refl, sym, ap, ◌∙◌, append_assoc, arith, cond}
 use Rattle.std.proofs.Math.Logic.{⊎_elim}
 use Rattle.std.proofs.lemmas.Bool.{cases_lt}
-use Rattle.std.proofs.lemmas.List.{append-nil}
 use Rattle.std.proofs.lemmas.List.Sums.{prefix_len-le-length}
 use Rattle.std.specs.List.{slice_split, position_or_len}
 use Rattle.blif_reader.specs.Text.{Line, is_feed, goes_on, code_of, text_of, words_of, onto, joined, pieces_of}
@@ -35,9 +34,9 @@ pub begins : (n : ℕ) (bytes : List ℕ) → onto n [] (joined n (slice_split i
 begins n bytes =
     let within : position_or_len is_feed bytes ≤ length bytes = prefix_len-le-length _ bytes in
     ⊎_elim
-      (λ (lt : position_or_len is_feed bytes < length bytes). rw (split_more is_feed bytes (position_or_len is_feed bytes) refl lt) (onto_none n _ _))
-      (λ (le : length bytes ≤ position_or_len is_feed bytes). rw (split_last is_feed bytes (position_or_len is_feed bytes) refl (omega arith)) (onto_none n bytes []))
-      (cases_lt (position_or_len is_feed bytes) (length bytes))
+    (λ (lt : position_or_len is_feed bytes < length bytes). rw (split_more is_feed bytes (position_or_len is_feed bytes) refl lt) (onto_none n _ _))
+    (λ (le : length bytes ≤ position_or_len is_feed bytes). rw (split_last is_feed bytes (position_or_len is_feed bytes) refl (omega arith)) (onto_none n bytes []))
+    (cases_lt (position_or_len is_feed bytes) (length bytes))
 
 -- the words so far, and those of a line that the next is joined to
 pub joins_on : (n m : ℕ) (ws now : List (List ℕ)) (bytes line text : List ℕ) (rest : Option (List ℕ)) (all : List Line) → pieces_of (Some bytes) ≡ line ∷ pieces_of rest → text ≡ text_of (code_of line) → goes_on (code_of line) ≡ true

@@ -1,11 +1,10 @@
 -- How many signals, blocks and rows statements have.
-use Rattle.std.proofs.Common.{◌≡◌, ◌⊎◌, inl, inr, ⊎_elim, ℕ, zero, suc, ◌+◌, ◌-◌, ◌<◌, ◌≤◌, ◌^◌, Bool, true, false, not, List, [], ◌∷◌, ◌++◌, length, get_or, map, replicate, filter, drop, cond, Option, Some, None, option_map, unwrap_or, Result, Ok, Err, refl, sym, ap, ◌∙◌, subst, arith, length-append, length-drop}
-use Rattle.std.specs.Prelude.{find, nat_lt}
+use Rattle.std.proofs.Common.{◌≡◌, ◌⊎◌, inl, inr, ⊎_elim, ℕ, zero, suc, ◌+◌, ◌-◌, ◌<◌, ◌≤◌, Bool, true, false, not, List, [], ◌∷◌, ◌++◌, length, get_or, map, replicate, filter, cond, Option, Some, None, unwrap_or, Ok, Err, refl, sym, ap, ◌∙◌, subst, arith, length-append, length-drop}
+use Rattle.std.specs.Prelude.{nat_lt}
 use Rattle.std.specs.List.{position_from, list_any}
 use Rattle.std.proofs.lemmas.List.{length-map, length-replicate, get_or-replicate, get_or_append_left, get_or-append_right, get_or-map}
 use Rattle.std.proofs.lemmas.Bool.{cases_lt, ltb-false}
 use Rattle.std.specs.Str.{bytes_eq}
-use Rattle.depth_first.specs.Graph.{IsGraph, edges_of}
 use Rattle.blif_reader.specs.declared.fault.BlifFault.{BlifFault}
 use Rattle.blif_reader.specs.declared.fault.BlifKind.{BlifKind}
 use Rattle.blif_reader.specs.declared.grammar.Kind.{Kind}
@@ -13,9 +12,9 @@ use Rattle.blif_reader.specs.declared.grammar.Kind.TheVariants as kind
 use Rattle.blif_reader.specs.declared.parts.Part.TheVariants.{Inputs, Outputs, Blocks, Drivers, Uses}
 use Rattle.blif_reader.specs.declared.statement.Statement as declared
 use Rattle.blif_reader.specs.Statements.{Statement, statement_of}
-use Rattle.blif_reader.specs.Parts.{Use, on_each, input_words, output_words, block_words, read_words, part_of, uses_in, words_in, is_one, first_again, first_missing, block_output, lists_inputs}
+use Rattle.blif_reader.specs.Parts.{Use, input_words, output_words, block_words, read_words, part_of, uses_in, words_in, first_again, first_missing, lists_inputs}
 use Rattle.blif_reader.specs.Index.{signal_of}
-use Rattle.blif_reader.specs.Netlist.{Cover, Net, IsTables, names_of, net_of_text, covers_of, block_cover, cover_before, reads_of, rows_behind, row_before, begins_block, is_names, sound, unless_on}
+use Rattle.blif_reader.specs.Netlist.{Cover, IsTables, names_of, net_of_text, covers_of, block_cover, cover_before, reads_of, rows_behind, row_before, begins_block, is_names, sound, unless_on}
 
 cases_bool : (b : Bool) → (b ≡ true) ⊎ (b ≡ false)
 cases_bool true = inl refl
@@ -76,9 +75,9 @@ covers_count [] = refl
 covers_count (s ∷ ss) =
     let a = length-append (cover_before s ss) (covers_of ss) in
     let b : length (cover_before s ss) ≡ cond (begins_block s) 1 0 = ⊎_elim
-          (λ (e : begins_block s ≡ true). ap (λ b. length (cond b (block_cover s ss ∷ []) [])) e ∙ sym (ap (λ b. cond b 1 0) e))
-          (λ (e : begins_block s ≡ false). ap (λ b. length (cond b (block_cover s ss ∷ []) [])) e ∙ sym (ap (λ b. cond b 1 0) e))
-          (cases_bool (begins_block s)) in
+    (λ (e : begins_block s ≡ true). ap (λ b. length (cond b (block_cover s ss ∷ []) [])) e ∙ sym (ap (λ b. cond b 1 0) e))
+    (λ (e : begins_block s ≡ false). ap (λ b. length (cond b (block_cover s ss ∷ []) [])) e ∙ sym (ap (λ b. cond b 1 0) e))
+    (cases_bool (begins_block s)) in
     let f = length_filter s ss in
     omega (arith, covers_count ss)
 
@@ -108,17 +107,17 @@ cover_rows [] k d lt = absurd (omega arith)
 cover_rows (s ∷ ss) k d lt = ⊎_elim
     (λ (e : begins_block s ≡ true). first k (λ j l. cover_rows ss j d l) e lt)
     (λ (e : begins_block s ≡ false).
-      let same : covers_of (s ∷ ss) ≡ covers_of ss = ap (λ b. cond b (block_cover s ss ∷ []) [] ++ covers_of ss) e in
-      let lt2 : k < length (covers_of ss) = subst (λ cs. k < length cs) same lt in
-      subst (λ cs. length (get_or cs k d).rows ≤ length (s ∷ ss)) (sym same) (omega (arith, cover_rows ss k d lt2)))
+    let same : covers_of (s ∷ ss) ≡ covers_of ss = ap (λ b. cond b (block_cover s ss ∷ []) [] ++ covers_of ss) e in
+    let lt2 : k < length (covers_of ss) = subst (λ cs. k < length cs) same lt in
+    subst (λ cs. length (get_or cs k d).rows ≤ length (s ∷ ss)) (sym same) (omega (arith, cover_rows ss k d lt2)))
     (cases_bool (begins_block s))
   where
-  first : (k : ℕ) → ((j : ℕ) → j < length (covers_of ss) → length (get_or (covers_of ss) j d).rows ≤ length ss) → begins_block s ≡ true → k < length (covers_of (s ∷ ss)) → length (get_or (covers_of (s ∷ ss)) k d).rows ≤ length (s ∷ ss)
-  first zero others e lt = subst (λ cs. length (get_or cs zero d).rows ≤ length (s ∷ ss)) (sym (ap (λ b. cond b (block_cover s ss ∷ []) [] ++ covers_of ss) e)) (omega (arith, rows_short ss))
-  first (suc k) others e lt =
-      let same : covers_of (s ∷ ss) ≡ block_cover s ss ∷ covers_of ss = ap (λ b. cond b (block_cover s ss ∷ []) [] ++ covers_of ss) e in
-      let lt2 : suc k < length (block_cover s ss ∷ covers_of ss) = subst (λ cs. suc k < length cs) same lt in
-      subst (λ cs. length (get_or cs (suc k) d).rows ≤ length (s ∷ ss)) (sym same) (omega (arith, others k (omega arith)))
+    first : (k : ℕ) → ((j : ℕ) → j < length (covers_of ss) → length (get_or (covers_of ss) j d).rows ≤ length ss) → begins_block s ≡ true → k < length (covers_of (s ∷ ss)) → length (get_or (covers_of (s ∷ ss)) k d).rows ≤ length (s ∷ ss)
+    first zero others e lt = subst (λ cs. length (get_or cs zero d).rows ≤ length (s ∷ ss)) (sym (ap (λ b. cond b (block_cover s ss ∷ []) [] ++ covers_of ss) e)) (omega (arith, rows_short ss))
+    first (suc k) others e lt =
+        let same : covers_of (s ∷ ss) ≡ block_cover s ss ∷ covers_of ss = ap (λ b. cond b (block_cover s ss ∷ []) [] ++ covers_of ss) e in
+        let lt2 : suc k < length (block_cover s ss ∷ covers_of ss) = subst (λ cs. suc k < length cs) same lt in
+        subst (λ cs. length (get_or cs (suc k) d).rows ≤ length (s ∷ ss)) (sym same) (omega (arith, others k (omega arith)))
 
 position_inside : (t : List ℕ → Bool) (i : ℕ) (xs : List (List ℕ)) → 0 < length xs → unwrap_or (position_from t i xs) 0 < i + length xs
 position_inside t i [] some = absurd (omega arith)
@@ -136,7 +135,7 @@ numbers_inside : (names words : List (List ℕ)) (i : ℕ) → 0 < length names 
 numbers_inside names words i some lt =
     let n : length (map (signal_of names) words) ≡ length words = length-map words _ in
     subst (λ k. k < length names) (sym (get_or-map (signal_of names) words i [] 0 (omega arith)))
-      (let h = position_inside (bytes_eq (get_or words i [])) 0 names some in omega (arith, h))
+    (let h = position_inside (bytes_eq (get_or words i [])) 0 names some in omega (arith, h))
 
 -- where words are used and none is missing, some are driven
 driven_some : (words : List (List ℕ)) (us : List Use) → first_missing words us ≡ None → 0 < length us → 0 < length words
@@ -184,23 +183,23 @@ tables_sound ds few e =
       signals = omega arith;
       blocks = omega arith;
       graph = λ s i lt less. ⊎_elim
-        (λ (l : s < n). let none : length (get_or (outer ++ inner) s []) ≡ 0 = ap length (low s l) in absurd (omega arith))
-        (λ (l : n ≤ s).
+          (λ (l : s < n). let none : length (get_or (outer ++ inner) s []) ≡ 0 = ap length (low s l) in absurd (omega arith))
+          (λ (l : n ≤ s).
           let k : ℕ = s - n in
           let here : get_or (outer ++ inner) s [] ≡ map (signal_of ns) (get_or (reads_of ss) k []) =
-              get_or-append_right outer inner n s [] outer_len l ∙ get_or-map (λ ws. map (signal_of ns) ws) (reads_of ss) k [] [] (omega arith) in
+          get_or-append_right outer inner n s [] outer_len l ∙ get_or-map (λ ws. map (signal_of ns) ws) (reads_of ss) k [] [] (omega arith) in
           let less2 : i < length (map (signal_of ns) (get_or (reads_of ss) k [])) = subst (λ es. i < length es) here less in
           subst (λ es. get_or es i 0 < length (outer ++ inner)) (sym here)
-            (let h = numbers_inside ns (get_or (reads_of ss) k []) i (omega arith) less2 in omega (arith, h)))
-        (cases_lt s n);
+          (let h = numbers_inside ns (get_or (reads_of ss) k []) i (omega arith) less2 in omega (arith, h)))
+          (cases_lt s n);
       leaves = λ s lt. ap length (low s lt);
       outputs = λ i lt.
-        let o : length (words_in Outputs ss) ≡ length (uses_in Outputs ss) = length-map (uses_in Outputs ss) _ in
-        let p : length (map (signal_of ns) (words_in Outputs ss)) ≡ length (words_in Outputs ss) = length-map (words_in Outputs ss) _ in
-        let q : length (words_in Drivers ss) ≡ length (uses_in Drivers ss) = length-map (uses_in Drivers ss) _ in
-        let used : length (uses_in Outputs ss) ≤ length (uses_in Uses ss) = outputs_count ss in
-        let some : 0 < length (words_in Drivers ss) = driven_some (words_in Drivers ss) (uses_in Uses ss) ok.1 (omega arith) in
-        let driven : length (uses_in Drivers ss) ≡ length (uses_in Inputs ss) + length (uses_in Blocks ss) = drivers_count ss in
-        numbers_inside ns (words_in Outputs ss) i (omega arith) lt;
+          let o : length (words_in Outputs ss) ≡ length (uses_in Outputs ss) = length-map (uses_in Outputs ss) _ in
+          let p : length (map (signal_of ns) (words_in Outputs ss)) ≡ length (words_in Outputs ss) = length-map (words_in Outputs ss) _ in
+          let q : length (words_in Drivers ss) ≡ length (uses_in Drivers ss) = length-map (uses_in Drivers ss) _ in
+          let used : length (uses_in Outputs ss) ≤ length (uses_in Uses ss) = outputs_count ss in
+          let some : 0 < length (words_in Drivers ss) = driven_some (words_in Drivers ss) (uses_in Uses ss) ok.1 (omega arith) in
+          let driven : length (uses_in Drivers ss) ≡ length (uses_in Inputs ss) + length (uses_in Blocks ss) = drivers_count ss in
+          numbers_inside ns (words_in Outputs ss) i (omega arith) lt;
       rows = λ k lt. let h = cover_rows ss k (record { line = 0; value = true; rows = [] }) lt in omega (arith, h);
     }

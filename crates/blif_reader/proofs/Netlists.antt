@@ -1,12 +1,12 @@
 -- Netlists made from statements.
-use Rattle.std.proofs.Common.{◌≡◌, ℕ, ◌+◌, ◌<◌, Bool, true, false, not, List, [], ◌∷◌, ◌++◌, length, map, replicate, cond, Option, Some, None, is_some, option_map, unwrap_or, Result, Ok, Err, refl, sym, ap, ap₂, ◌∙◌, arith}
+use Rattle.std.proofs.Common.{◌≡◌, ℕ, Bool, not, List, [], ◌∷◌, ◌++◌, length, map, replicate, cond, Option, Some, None, is_some, option_map, unwrap_or, Ok, Err, refl, sym, ap, ap₂, ◌∙◌}
 use Rattle.std.specs.Prelude.{find}
 use Rattle.blif_reader.specs.declared.fault.BlifKind.TheVariants as fault
-use Rattle.blif_reader.specs.declared.parts.Part.TheVariants.{Inputs, Outputs, Blocks, Drivers, Uses}
+use Rattle.blif_reader.specs.declared.parts.Part.TheVariants.{Inputs, Outputs, Drivers, Uses}
 use Rattle.blif_reader.specs.Statements.{Statement}
 use Rattle.blif_reader.specs.Parts.{Use, is_one, uses_in, words_in, first_again, first_missing}
 use Rattle.blif_reader.specs.Index.{Index, found_in, place_of, signal_of}
-use Rattle.blif_reader.specs.Netlist.{Cover, Net, names_of, net_of_text, covers_of, reads_of, driven_once, unless_on}
+use Rattle.blif_reader.specs.Netlist.{Cover, names_of, net_of_text, covers_of, reads_of, driven_once, unless_on}
 use Rattle.blif_reader.specs.Views.{number_in}
 
 -- tests that agree find the same
@@ -30,7 +30,7 @@ pub drives_on : (ss : List Statement) (drivers uses : List Use) (index : Index) 
     → line ≡ option_map (λ (u : Use). u.line) (find (λ u. not (is_some (found_in index u.word))) uses) → driven_once ss ≡ unless_on line fault.Undriven (Ok ss)
 drives_on ss drivers uses index line d u once has found =
     let same : first_missing (words_in Drivers ss) (uses_in Uses ss) ≡ line =
-        sym (ap₂ first_missing (ap (map (λ (v : Use). v.word)) d) u) ∙ missing_same index _ uses has ∙ sym found in
+    sym (ap₂ first_missing (ap (map (λ (v : Use). v.word)) d) u) ∙ missing_same index _ uses has ∙ sym found in
     ap (λ o. unless_on o fault.DrivenTwice (unless_on (first_missing (words_in Drivers ss) (uses_in Uses ss)) fault.Undriven (Ok ss))) (ap (first_again []) (sym d) ∙ sym once)
     ∙ ap (λ o. unless_on o fault.Undriven (Ok ss)) same
 
@@ -49,6 +49,6 @@ pub makes_tables : (ss : List Statement) (inputs : ℕ) (names : List (List ℕ)
     → record { inputs = inputs; names = names; edges = edges; covers = covers; outputs = outputs } ≡ net_of_text ss
 makes_tables ss inputs names index edges covers outputs i n has e c o =
     let edges_same : edges ≡ replicate (length (words_in Inputs ss)) [] ++ map (λ ws. map (signal_of (names_of ss)) ws) (reads_of ss) =
-        e ∙ ap₂ (λ k es. replicate k [] ++ es) i (numbers_all index names (reads_of ss) has ∙ ap (λ ns. map (λ ws. map (signal_of ns) ws) (reads_of ss)) n) in
+    e ∙ ap₂ (λ k es. replicate k [] ++ es) i (numbers_all index names (reads_of ss) has ∙ ap (λ ns. map (λ ws. map (signal_of ns) ws) (reads_of ss)) n) in
     let outputs_same : outputs ≡ map (signal_of (names_of ss)) (words_in Outputs ss) = o ∙ numbers_same index names (words_in Outputs ss) has ∙ ap (λ ns. map (signal_of ns) (words_in Outputs ss)) n in
     rw (i, n, edges_same, c, outputs_same) refl

@@ -1,5 +1,5 @@
 -- Statements read one after the other.
-use Rattle.std.proofs.Common.{◌≡◌, ℕ, Bool, true, false, List, [], ◌∷◌, ◌++◌, length, filter, cond, Result, Ok, Err, Option, Some, None, option_map, is_some, Bor, refl, sym, ap, ◌∙◌, append_assoc}
+use Rattle.std.proofs.Common.{◌≡◌, ℕ, true, false, List, [], ◌∷◌, ◌++◌, filter, cond, Result, Ok, Err, Option, Some, None, option_map, is_some, Bor, refl, sym, ap, ◌∙◌, append_assoc}
 use Rattle.std.specs.Result.{IsErrAnd}
 use Rattle.std.proofs.lemmas.Result.{err_from_is_err_and}
 use Rattle.std.proofs.lemmas.List.{append-nil}
@@ -39,8 +39,8 @@ unfolding statements
 reads front context l ls all s total split some e so_far =
     let rest = statements (after_statement context s) (filter has_words ls) in
     sym (ap (λ us. with_front front (statements context us)) (taken context l ls all split some)
-      ∙ ap (λ r. with_front front (r >>= λ t. statements (after_statement context t) (filter has_words ls) >>= λ ss. Ok (t ∷ ss))) e
-      ∙ regroup front s rest) ∙ so_far
+    ∙ ap (λ r. with_front front (r >>= λ t. statements (after_statement context t) (filter has_words ls) >>= λ ss. Ok (t ∷ ss))) e
+    ∙ regroup front s rest) ∙ so_far
 
 -- a line that is no statement ends the reading
 pub stops : (e : Refusal) (front : List Statement) (context : Context) (l : Line) (ls all : List Line) (total : Result (List Statement) BlifFault) → all ≡ l ∷ ls → has_words l ≡ true → Fails e (statement context l)

@@ -1,5 +1,5 @@
 -- Words of a line from a place on.
-use Rattle.std.proofs.Common.{◌≡◌, ℕ, ◌+◌, ◌-◌, ◌<◌, ◌≤◌, List, [], ◌∷◌, ◌++◌, length, get_or, take, drop, map, refl, sym, ap, ◌∙◌, append_assoc, arith, length-drop, Bor}
+use Rattle.std.proofs.Common.{◌≡◌, ℕ, ◌+◌, ◌-◌, ◌<◌, List, [], ◌∷◌, ◌++◌, length, get_or, take, drop, map, refl, sym, ap, ◌∙◌, append_assoc, arith, length-drop, Bor}
 use Rattle.std.proofs.lemmas.List.{take_all, take_more, get_or-drop, get_or-map, map_push, length-map}
 use Rattle.blif_reader.specs.declared.parts.Use as declared
 use Rattle.blif_reader.specs.Parts.{Use, on_each, block_output, block_inputs}

@@ -1,5 +1,5 @@
 -- What an accepted netlist is: named signals, the inputs first, each block's inputs and cover, and the outputs.
-use Rattle.std.specs.Prelude.{◌≡◌, ℕ, ◌+◌, ◌-◌, ◌<◌, ◌≤◌, ◌^◌, ◌==◌, Bool, true, false, List, [], ◌∷◌, ◌++◌, length, drop, map, replicate, slice_index, nat_lt, not, Option, Some, None, Result, Ok, Err, if◌then◌else◌}
+use Rattle.std.specs.Prelude.{◌≡◌, ℕ, ◌+◌, ◌-◌, ◌<◌, ◌≤◌, ◌^◌, ◌==◌, Bool, true, false, List, [], ◌∷◌, ◌++◌, length, map, replicate, slice_index, nat_lt, not, Option, Some, None, Result, Ok, Err, if◌then◌else◌}
 use Rattle.std.specs.List.{slice_index_or, list_any, filter}
 use Rattle.depth_first.specs.Graph.{IsGraph, IsAcyclic, IsFirstOnCycle}
 use Rattle.blif_reader.specs.declared.fault.BlifFault.{BlifFault}
@@ -111,7 +111,7 @@ unless_on (Some line) kind rest = Err (record { line = line; kind = kind })
 abbrev pub driven_once : List Statement → Result (List Statement) BlifFault
 driven_once ss =
     unless_on (first_again [] (uses_in Drivers ss)) fault.DrivenTwice
-      (unless_on (first_missing (words_in Drivers ss) (uses_in Uses ss)) fault.Undriven (Ok ss))
+    (unless_on (first_missing (words_in Drivers ss) (uses_in Uses ss)) fault.Undriven (Ok ss))
 
 -- statements that have inputs, not too many, and words that are driven once each
 abbrev pub sound : List Statement → Result (List Statement) BlifFault

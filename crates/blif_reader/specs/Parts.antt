@@ -1,12 +1,11 @@
 -- What the statements of a netlist say together: who drives and who uses which words, and the blocks.
-use Rattle.std.specs.Prelude.{ℕ, ◌-◌, ◌==◌, Bool, true, false, not, List, [], ◌∷◌, ◌++◌, length, take, drop, map, Option, Some, None, option_map, find, if◌then◌else◌}
+use Rattle.std.specs.Prelude.{ℕ, ◌-◌, Bool, true, false, not, List, [], ◌∷◌, ◌++◌, length, take, drop, map, Option, Some, None, option_map, find, if◌then◌else◌}
 use Rattle.std.specs.List.{list_any, flat_map}
 use Rattle.std.specs.Str.{bytes_eq}
 use Rattle.blif_reader.specs.declared.grammar.Kind.{Kind}
 use Rattle.blif_reader.specs.declared.grammar.Kind.TheVariants as kind
 use Rattle.blif_reader.specs.declared.parts.Part.{Part}
 use Rattle.blif_reader.specs.declared.parts.Part.TheVariants.{Inputs, Outputs, Blocks, Drivers, Uses}
-use Rattle.blif_reader.specs.Grammar.{word_at}
 use Rattle.blif_reader.specs.Statements.{Statement}
 
 -- a word, and the line that it stands on

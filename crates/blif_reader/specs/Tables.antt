@@ -1,5 +1,5 @@
 -- The netlist that tables in memory stand for.
-use Rattle.std.specs.Prelude.{ℕ, List, map}
+use Rattle.std.specs.Prelude.{map}
 use Rattle.depth_first.specs.Views.{graph_of}
 use Rattle.blif_reader.specs.declared.tables.Tables.{Tables}
 use Rattle.blif_reader.specs.Netlist.{Net}

@@ -1,7 +1,6 @@
 -- What the parts of a netlist in memory stand for.
 use Rattle.std.specs.Prelude.{ℕ, List, map, Vec, unwrap_or}
 use Rattle.std.specs.declared.alloc.Global.{Global}
-use Rattle.depth_first.specs.Views.{graph_of}
 use Rattle.blif_reader.specs.declared.cover.Cover as declared
 use Rattle.blif_reader.specs.Netlist.{Cover}
 use Rattle.blif_reader.specs.Index.{Index, found_in}

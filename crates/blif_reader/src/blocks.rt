@@ -60,12 +60,21 @@ fn names_block(kind: Kind) -> bool
 }
 
 /// Adds the cover of a block, where a line begins one.
-fn push_cover(alloc: Global, statement: &Statement, behind: &[Statement], covers: &mut Vec<Cover>) -> Result<(), AllocError>
+fn push_cover(
+    alloc: Global,
+    statement: &Statement,
+    behind: &[Statement],
+    covers: &mut Vec<Cover>,
+) -> Result<(), AllocError>
     ensures { OnOk result (map cover_of covers.new.items ≡ map cover_of covers.old.items ++ cover_before (statement_of statement.now) (map statement_of behind.now)) }
 {
     if names_block(statement.kind) {
         let rows = rows(alloc, behind)?;
-        covers.push(Cover { line: statement.line, value: value(behind), rows })?;
+        covers.push(Cover {
+            line: statement.line,
+            value: value(behind),
+            rows,
+        })?;
     }
     Ok(())
 }
@@ -100,12 +109,23 @@ fn read_numbers(alloc: Global, index: &Index, statement: &Statement) -> Result<V
 {
     let words = statement.words.as_slice();
     let mut uses = Vec::new(alloc);
-    push_uses(statement.line, words, 1, (words.len() - 1).saturating_sub(1), &mut uses)?;
+    push_uses(
+        statement.line,
+        words,
+        1,
+        (words.len() - 1).saturating_sub(1),
+        &mut uses,
+    )?;
     numbers(alloc, index, uses.as_slice())
 }
 
 /// For each signal the signals that it reads: none for an input, and then those of the blocks.
-pub(crate) fn edges(alloc: Global, index: &Index, inputs: usize, statements: &[Statement]) -> Result<Vec<Vec<u32>>, AllocError>
+pub(crate) fn edges(
+    alloc: Global,
+    index: &Index,
+    inputs: usize,
+    statements: &[Statement],
+) -> Result<Vec<Vec<u32>>, AllocError>
     ensures { IfOk result (λ v. lists_of v.items ≡ replicate inputs [] ++ map (λ words. map (number_in index.now) words) (reads_of (map statement_of statements.now))) }
 {
     let mut edges = Vec::new(alloc);
@@ -121,7 +141,11 @@ pub(crate) fn edges(alloc: Global, index: &Index, inputs: usize, statements: &[S
 }
 
 /// Adds the words of uses as names.
-pub(crate) fn push_names(alloc: Global, uses: &[Use], names: &mut Vec<Vec<u8>>) -> Result<(), AllocError>
+pub(crate) fn push_names(
+    alloc: Global,
+    uses: &[Use],
+    names: &mut Vec<Vec<u8>>,
+) -> Result<(), AllocError>
     ensures { OnOk result (lists_of names.new.items ≡ lists_of names.old.items ++ map (λ u. u.word) (map use_of uses.now)) }
 {
     for one in uses {

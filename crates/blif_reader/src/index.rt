@@ -38,7 +38,11 @@ fn put_new(alloc: Global, index: &mut Index, word: &[u8], number: u32) -> Result
 }
 
 /// The line of the first use whose word was used before, where there is one. Otherwise the index then has these words.
-pub(crate) fn line_again(alloc: Global, uses: &[Use], index: &mut Index) -> Result<Option<u32>, AllocError>
+pub(crate) fn line_again(
+    alloc: Global,
+    uses: &[Use],
+    index: &mut Index,
+) -> Result<Option<u32>, AllocError>
     requires { (q : List ℕ) → found_in index.old q ≡ None }
     ensures line { IfOk result (λ line. line ≡ first_again [] (map use_of uses.now)) }
     ensures words { IfOk result (λ line. line ≡ None → (q : List ℕ) → is_some (found_in index.new q) ≡ is_one (map (λ u. u.word) (map use_of uses.now)) q) }

@@ -28,7 +28,13 @@ pub(crate) struct Use<'a> {
 }
 
 /// Adds so many words of a line, from a place on.
-pub(crate) fn push_uses<'a>(line: u32, words: &[&'a [u8]], from: usize, count: usize, uses: &mut Vec<Use<'a>>) -> Result<(), AllocError>
+pub(crate) fn push_uses<'a>(
+    line: u32,
+    words: &[&'a [u8]],
+    from: usize,
+    count: usize,
+    uses: &mut Vec<Use<'a>>,
+) -> Result<(), AllocError>
     requires { from + count ≤ length words.now }
     ensures { OnOk result (map use_of uses.new.items ≡ map use_of uses.old.items ++ on_each line (take count (drop from (texts words.now)))) }
 {
@@ -50,7 +56,11 @@ fn push_last<'a>(line: u32, words: &[&'a [u8]], uses: &mut Vec<Use<'a>>) -> Resu
 }
 
 /// Adds what a line says of one part.
-fn push_part<'a>(part: Part, statement: &Statement<'a>, uses: &mut Vec<Use<'a>>) -> Result<(), AllocError>
+fn push_part<'a>(
+    part: Part,
+    statement: &Statement<'a>,
+    uses: &mut Vec<Use<'a>>,
+) -> Result<(), AllocError>
     ensures { OnOk result (map use_of uses.new.items ≡ map use_of uses.old.items ++ part_of part (statement_of statement.now)) }
 {
     let words = statement.words.as_slice();
@@ -60,9 +70,8 @@ fn push_part<'a>(part: Part, statement: &Statement<'a>, uses: &mut Vec<Use<'a>>)
     }
     let last = words.len() - 1;
     match (part, statement.kind) {
-        (Part::Inputs | Part::Drivers, Kind::Inputs) | (Part::Outputs | Part::Uses, Kind::Outputs) => {
-            push_uses(line, words, 1, last, uses)
-        }
+        (Part::Inputs | Part::Drivers, Kind::Inputs)
+        | (Part::Outputs | Part::Uses, Kind::Outputs) => { push_uses(line, words, 1, last, uses) }
         (Part::Blocks | Part::Drivers, Kind::Names) => push_last(line, words, uses),
         (Part::Uses, Kind::Names) => push_uses(line, words, 1, last.saturating_sub(1), uses),
         _ => Ok(()),
@@ -70,7 +79,11 @@ fn push_part<'a>(part: Part, statement: &Statement<'a>, uses: &mut Vec<Use<'a>>)
 }
 
 /// One part of all statements.
-pub(crate) fn collect<'a>(alloc: Global, part: Part, statements: &[Statement<'a>]) -> Result<Vec<Use<'a>>, AllocError>
+pub(crate) fn collect<'a>(
+    alloc: Global,
+    part: Part,
+    statements: &[Statement<'a>],
+) -> Result<Vec<Use<'a>>, AllocError>
     ensures { IfOk result (λ v. map use_of v.items ≡ uses_in part (map statement_of statements.now)) }
 {
     let mut uses = Vec::new(alloc);

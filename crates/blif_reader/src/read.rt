@@ -35,7 +35,10 @@ fn settle(alloc: Global, tables: Tables) -> Result<Netlist, Refusal>
                 Some(cover) => cover.line,
                 None => 0,
             };
-            Err(Refusal::Fault(BlifFault { line, kind: BlifKind::Cycle }))
+            Err(Refusal::Fault(BlifFault {
+                line,
+                kind: BlifKind::Cycle,
+            }))
         }
     }
 }
@@ -55,7 +58,10 @@ fn read(alloc: Global, bytes: &[u8]) -> Result<Netlist, Refusal>
     ensures { Answers (IsReading bytes.now) result }
 {
     if bytes.len() > MOST_BYTES {
-        return Err(Refusal::Fault(BlifFault { line: 0, kind: BlifKind::TooLong }));
+        return Err(Refusal::Fault(BlifFault {
+            line: 0,
+            kind: BlifKind::TooLong,
+        }));
     }
     let statements = read_statements(alloc, bytes)?;
     build(alloc, statements.as_slice())
@@ -69,7 +75,10 @@ pub fn read_netlist(alloc: Global, bytes: &[u8]) -> Result<Netlist, BlifFault>
 {
     match read(alloc, bytes) {
         Ok(net) => Ok(net),
-        Err(Refusal::Memory) => Err(BlifFault { line: 0, kind: BlifKind::Memory }),
+        Err(Refusal::Memory) => Err(BlifFault {
+            line: 0,
+            kind: BlifKind::Memory,
+        }),
         Err(Refusal::Fault(fault)) => Err(fault),
     }
 }

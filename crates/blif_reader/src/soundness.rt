@@ -38,25 +38,41 @@ fn drive(alloc: Global, statements: &[Statement]) -> Result<(), Refusal>
     let drivers = collect(alloc, Part::Drivers, statements)?;
     let mut driven = HashMap::new(alloc);
     if let Some(line) = line_again(alloc, drivers.as_slice(), &mut driven)? {
-        return Err(Refusal::Fault(BlifFault { line, kind: BlifKind::DrivenTwice }));
+        return Err(Refusal::Fault(BlifFault {
+            line,
+            kind: BlifKind::DrivenTwice,
+        }));
     }
     let uses = collect(alloc, Part::Uses, statements)?;
     if let Some(line) = line_missing(uses.as_slice(), &driven) {
-        return Err(Refusal::Fault(BlifFault { line, kind: BlifKind::Undriven }));
+        return Err(Refusal::Fault(BlifFault {
+            line,
+            kind: BlifKind::Undriven,
+        }));
     }
     Ok(())
 }
 
 /// There are inputs, not too many, and words that are driven once each.
-pub(crate) fn test_soundness(alloc: Global, inputs: usize, statements: &[Statement]) -> Result<(), Refusal>
+pub(crate) fn test_soundness(
+    alloc: Global,
+    inputs: usize,
+    statements: &[Statement],
+) -> Result<(), Refusal>
     requires { inputs ≡ length (words_in Inputs (map statement_of statements.now)) }
     ensures { Gives (λ _. map statement_of statements.now) result (sound (map statement_of statements.now)) }
 {
     if !any_inputs(statements) {
-        return Err(Refusal::Fault(BlifFault { line: 0, kind: BlifKind::NoInputs }));
+        return Err(Refusal::Fault(BlifFault {
+            line: 0,
+            kind: BlifKind::NoInputs,
+        }));
     }
     if inputs > MOST_INPUTS {
-        return Err(Refusal::Fault(BlifFault { line: 0, kind: BlifKind::TooManyVariables }));
+        return Err(Refusal::Fault(BlifFault {
+            line: 0,
+            kind: BlifKind::TooManyVariables,
+        }));
     }
     drive(alloc, statements)
 }

@@ -17,8 +17,15 @@ fn read_line<'a>(context: Context, line: Line<'a>) -> Result<Statement<'a>, Refu
     ensures { Gives statement_of result (statement context (line_of line.entry)) }
 {
     match line_kind(context, line.words.as_slice()) {
-        Ok(kind) => Ok(Statement { line: line.number, kind, words: line.words }),
-        Err(kind) => Err(Refusal::Fault(BlifFault { line: line.number, kind })),
+        Ok(kind) => Ok(Statement {
+            line: line.number,
+            kind,
+            words: line.words,
+        }),
+        Err(kind) => Err(Refusal::Fault(BlifFault {
+            line: line.number,
+            kind,
+        })),
     }
 }
 
@@ -27,19 +34,28 @@ fn read_end(context: Context) -> Result<(), Refusal>
     ensures { Gives (λ _. []) result (at_end context) }
 {
     match context {
-        Context::Start => Err(Refusal::Fault(BlifFault { line: 0, kind: BlifKind::NoModel })),
+        Context::Start => Err(Refusal::Fault(BlifFault {
+            line: 0,
+            kind: BlifKind::NoModel,
+        })),
         _ => Ok(()),
     }
 }
 
 /// All statements of a text.
-pub(crate) fn read_statements<'a>(alloc: Global, bytes: &'a [u8]) -> Result<Vec<Statement<'a>>, Refusal>
+pub(crate) fn read_statements<'a>(
+    alloc: Global,
+    bytes: &'a [u8],
+) -> Result<Vec<Statement<'a>>, Refusal>
     requires { length bytes.now ≤ 4194304 }
     ensures read { Gives (λ v. map statement_of v.items) result (parsed bytes.entry.now) }
     ensures few { IfOk result (λ v. length v.items ≤ length bytes.entry.now + 1) }
 {
     let mut found = Vec::new(alloc);
-    let mut cursor = Cursor { rest: Some(bytes), number: 1 };
+    let mut cursor = Cursor {
+        rest: Some(bytes),
+        number: 1,
+    };
     let mut context = Context::Start;
     'lines: while cursor.rest.is_some() {
         let line = next_line(alloc, &mut cursor)?;

@@ -42,7 +42,11 @@ fn names(alloc: Global, statements: &[Statement]) -> Result<Vec<Vec<u8>>, AllocE
 
 /// The tables of the statements.
 #[tactic(auto, using(crate::proofs::Netlists::makes_tables))]
-pub(crate) fn make_tables(alloc: Global, inputs: u32, statements: &[Statement]) -> Result<Tables, AllocError>
+pub(crate) fn make_tables(
+    alloc: Global,
+    inputs: u32,
+    statements: &[Statement],
+) -> Result<Tables, AllocError>
     requires inputs { inputs ≡ length (words_in Inputs (map statement_of statements.now)) }
     requires few { length (names_of (map statement_of statements.now)) < 2 ^ 32 }
     ensures net { IfOk result (λ t. net_in t ≡ net_of_text (map statement_of statements.now)) }
@@ -54,5 +58,12 @@ pub(crate) fn make_tables(alloc: Global, inputs: u32, statements: &[Statement]) 
     let covers = covers(alloc, statements)?;
     let uses = collect(alloc, Part::Outputs, statements)?;
     let outputs = numbers(alloc, &index, uses.as_slice())?;
-    Ok(Tables { inputs, names, index, edges, covers, outputs })
+    Ok(Tables {
+        inputs,
+        names,
+        index,
+        edges,
+        covers,
+        outputs,
+    })
 }

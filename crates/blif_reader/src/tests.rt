@@ -39,13 +39,29 @@ const REFUSED: [(&str, u32, BlifKind); 62] = [
     (".model m/.inputs a/.names y/1 1/", 4, BlifKind::Row),
     (".model m/.inputs a/.names y/-/", 4, BlifKind::Row),
     (".model m/.inputs a/.names y/01/", 4, BlifKind::Row),
-    (".model m/.inputs a/.names a y/1 1/.outputs y/0 1/", 6, BlifKind::Row),
+    (
+        ".model m/.inputs a/.names a y/1 1/.outputs y/0 1/",
+        6,
+        BlifKind::Row,
+    ),
     (".model m/.inputs a/.names a y/1 1 \\/1/", 4, BlifKind::Row),
     // Outputs of one block.
-    (".model m/.inputs a/.names a y/1 1/0 0/", 5, BlifKind::MixedOutputs),
-    (".model m/.inputs a/.names a y/1 0/0 0/- 1/", 6, BlifKind::MixedOutputs),
+    (
+        ".model m/.inputs a/.names a y/1 1/0 0/",
+        5,
+        BlifKind::MixedOutputs,
+    ),
+    (
+        ".model m/.inputs a/.names a y/1 0/0 0/- 1/",
+        6,
+        BlifKind::MixedOutputs,
+    ),
     (".model m/.names y/1/0/", 4, BlifKind::MixedOutputs),
-    (".model m/.inputs a/.outputs y/.names a y/1 1/0 0/", 6, BlifKind::MixedOutputs),
+    (
+        ".model m/.inputs a/.outputs y/.names a y/1 1/0 0/",
+        6,
+        BlifKind::MixedOutputs,
+    ),
     // The first line with a fault counts, whatever its kind.
     (".model m/x/.latch/", 2, BlifKind::Row),
     (".model m/.latch/x/", 2, BlifKind::Keyword),
@@ -58,24 +74,72 @@ const REFUSED: [(&str, u32, BlifKind); 62] = [
     // Drivers.
     (".model m/.inputs a a/", 2, BlifKind::DrivenTwice),
     (".model m/.inputs a/.inputs b a/", 3, BlifKind::DrivenTwice),
-    (".model m/.inputs a/.outputs a/.names a/", 4, BlifKind::DrivenTwice),
+    (
+        ".model m/.inputs a/.outputs a/.names a/",
+        4,
+        BlifKind::DrivenTwice,
+    ),
     (".model m/.names a/.inputs b a/", 3, BlifKind::DrivenTwice),
-    (".model m/.inputs a/.names y/.names y/", 4, BlifKind::DrivenTwice),
-    (".model m/.inputs a/.names y/.names z/.names z/.names y/", 5, BlifKind::DrivenTwice),
-    (".model m/.inputs a/.names q y/.names y/", 4, BlifKind::DrivenTwice),
+    (
+        ".model m/.inputs a/.names y/.names y/",
+        4,
+        BlifKind::DrivenTwice,
+    ),
+    (
+        ".model m/.inputs a/.names y/.names z/.names z/.names y/",
+        5,
+        BlifKind::DrivenTwice,
+    ),
+    (
+        ".model m/.inputs a/.names q y/.names y/",
+        4,
+        BlifKind::DrivenTwice,
+    ),
     (".model m/.inputs a b \\/a/", 2, BlifKind::DrivenTwice),
     // Uses.
-    (".model m/.inputs a/.outputs y/.names a b y/11 1/", 4, BlifKind::Undriven),
+    (
+        ".model m/.inputs a/.outputs y/.names a b y/11 1/",
+        4,
+        BlifKind::Undriven,
+    ),
     (".model m/.inputs a/.outputs y/", 3, BlifKind::Undriven),
-    (".model m/.outputs y/.inputs a/.names q z/1 1/", 2, BlifKind::Undriven),
-    (".model m/.inputs a/.names q y/.names y y/", 4, BlifKind::DrivenTwice),
-    (".model m/.inputs a/.names q y/.names z z/", 3, BlifKind::Undriven),
+    (
+        ".model m/.outputs y/.inputs a/.names q z/1 1/",
+        2,
+        BlifKind::Undriven,
+    ),
+    (
+        ".model m/.inputs a/.names q y/.names y y/",
+        4,
+        BlifKind::DrivenTwice,
+    ),
+    (
+        ".model m/.inputs a/.names q y/.names z z/",
+        3,
+        BlifKind::Undriven,
+    ),
     (".model m/.inputs a/.outputs a \\/y/", 3, BlifKind::Undriven),
     // Cycles.
-    (".model m/.inputs a/.outputs y/.names x y/1 1/.names y x/1 1/", 4, BlifKind::Cycle),
-    (".model m/.inputs a/.outputs y/.names y y/1 1/", 4, BlifKind::Cycle),
-    (".model m/.inputs a/.names x y/.names x z/.names w x/.names x w/", 5, BlifKind::Cycle),
-    (".model m/.inputs a/.names p y/.names q p/.names x q/.names x x/.names a r/", 6, BlifKind::Cycle),
+    (
+        ".model m/.inputs a/.outputs y/.names x y/1 1/.names y x/1 1/",
+        4,
+        BlifKind::Cycle,
+    ),
+    (
+        ".model m/.inputs a/.outputs y/.names y y/1 1/",
+        4,
+        BlifKind::Cycle,
+    ),
+    (
+        ".model m/.inputs a/.names x y/.names x z/.names w x/.names x w/",
+        5,
+        BlifKind::Cycle,
+    ),
+    (
+        ".model m/.inputs a/.names p y/.names q p/.names x q/.names x x/.names a r/",
+        6,
+        BlifKind::Cycle,
+    ),
 ];
 
 /// Accepted texts, with the number of their signals.
@@ -84,10 +148,16 @@ const ACCEPTED: [(&str, u32); 22] = [
     (".model m with words/.inputs/.end of it/", 0),
     ("# first/.model m/.inputs a b/", 2),
     ("\r/\t.model\tm\r/ .inputs\ta \r/", 1),
-    (".model m/.inputs a/.inputs b c/.outputs a/.outputs b a a/", 3),
+    (
+        ".model m/.inputs a/.inputs b c/.outputs a/.outputs b a a/",
+        3,
+    ),
     (".model m/.inputs a\\/b/.outputs b/", 2),
     (".model m/.inputs a\\ \t\r/b\\", 2),
-    (".model m/.inputs a \\ # more/b/.outputs y/.names a b y/11 1/", 3),
+    (
+        ".model m/.inputs a \\ # more/b/.outputs y/.names a b y/11 1/",
+        3,
+    ),
     (".model m/.inputs a # no more \\/.outputs a/", 1),
     (".model m/.inputs a \\\\/b/", 3),
     (".model m/.inputs a \\/# nothing/.outputs a/", 1),
@@ -95,9 +165,15 @@ const ACCEPTED: [(&str, u32); 22] = [
     (".model m/.inputs a/.end", 1),
     (".model m/.inputs a/.end/ # nothing/", 1),
     (".model m/.outputs y/.names a y/1 1/.inputs a/", 2),
-    (".model m/.inputs a/.names z y/1 1/.names a z/0 0/.outputs y/", 3),
+    (
+        ".model m/.inputs a/.names z y/1 1/.names a z/0 0/.outputs y/",
+        3,
+    ),
     (".model m/.inputs a/.names a a a y/1-0 1/", 2),
-    (".model m/.inputs/.names $false/.names $true/1/.names $undef/", 3),
+    (
+        ".model m/.inputs/.names $false/.names $true/1/.names $undef/",
+        3,
+    ),
     (".model m/.inputs/.names o/ 1/.names z/ 0/", 2),
     (".model m/.inputs a/.names a y/.names a z/- 1/- 1/", 3),
     (".model m/.inputs a/.names a y/# between//1 1/", 2),
@@ -145,7 +221,13 @@ fn refuses_what_is_too_large(rt: HostRuntime) -> Result<(), AllocError> {
     let mut bytes = text(&rt, ".model m/.inputs")?;
     for number in 0..65536u32 {
         bytes.push(b' ')?;
-        for digit in [number / 10000, number / 1000 % 10, number / 100 % 10, number / 10 % 10, number % 10] {
+        for digit in [
+            number / 10000,
+            number / 1000 % 10,
+            number / 100 % 10,
+            number / 10 % 10,
+            number % 10,
+        ] {
             bytes.push(b'0' + (digit % 10) as u8)?;
         }
     }

@@ -8,3 +8,6 @@ mod search;
 mod walk;
 
 pub use orders::{first_cycle, visit_order};
+
+#[cfg(test)]
+mod tests;

@@ -1,8 +1,7 @@
-use Rattle.std.proofs.Common.{◌≡◌, ◌++◌, ◌∷◌, [], map, take, drop, replicate}
+use Rattle.std.proofs.Common.{◌≡◌, ◌++◌, map, drop}
 use Rattle.blif_reader.specs.Statements.{statement_of}
-use Rattle.blif_reader.specs.Netlist.{rows_behind, covers_of, reads_of}
-use Rattle.blif_reader.specs.Words.{use_of}
-use Rattle.blif_reader.specs.Views.{lists_of, cover_of, number_in}
+use Rattle.blif_reader.specs.Netlist.{covers_of}
+use Rattle.blif_reader.specs.Views.{cover_of}
 use Rattle.blif_reader.proofs.blocks.covers.Given as goal
 
 -- the covers so far and those that are left are all

@@ -1,8 +1,7 @@
-use Rattle.std.proofs.Common.{◌≡◌, ◌++◌, ◌∷◌, [], map, take, drop, replicate}
+use Rattle.std.proofs.Common.{◌≡◌, ◌++◌, [], map, take, replicate}
 use Rattle.blif_reader.specs.Statements.{statement_of}
-use Rattle.blif_reader.specs.Netlist.{rows_behind, covers_of, reads_of}
-use Rattle.blif_reader.specs.Words.{use_of}
-use Rattle.blif_reader.specs.Views.{lists_of, cover_of, number_in}
+use Rattle.blif_reader.specs.Netlist.{reads_of}
+use Rattle.blif_reader.specs.Views.{lists_of, number_in}
 use Rattle.blif_reader.proofs.blocks.edges.Given as goal
 
 -- so many inputs read nothing

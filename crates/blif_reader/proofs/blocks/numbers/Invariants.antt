@@ -1,8 +1,6 @@
-use Rattle.std.proofs.Common.{◌≡◌, ◌++◌, ◌∷◌, [], map, take, drop, replicate}
-use Rattle.blif_reader.specs.Statements.{statement_of}
-use Rattle.blif_reader.specs.Netlist.{rows_behind, covers_of, reads_of}
+use Rattle.std.proofs.Common.{◌≡◌, map, take}
 use Rattle.blif_reader.specs.Words.{use_of}
-use Rattle.blif_reader.specs.Views.{lists_of, cover_of, number_in}
+use Rattle.blif_reader.specs.Views.{number_in}
 use Rattle.blif_reader.proofs.blocks.numbers.Given as goal
 
 -- the words so far have their numbers

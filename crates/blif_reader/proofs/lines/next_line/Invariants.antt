@@ -1,4 +1,4 @@
-use Rattle.std.proofs.Common.{◌≡◌, ◌+◌, ◌<◌, ◌≤◌, ◌^◌, map, length}
+use Rattle.std.proofs.Common.{◌≡◌, ◌+◌, ◌<◌, ◌≤◌, ◌^◌, map}
 use Rattle.blif_reader.specs.Text.{onto, joined, pieces_of}
 use Rattle.blif_reader.specs.Cursor.{left_of, rest_len}
 use Rattle.blif_reader.proofs.lines.next_line.Given as goal

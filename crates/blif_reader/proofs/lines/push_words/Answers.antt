@@ -1,4 +1,4 @@
-use Rattle.std.proofs.Common.{arith, ◌∙◌, ◌+◌, ◌++◌, ap, sym, map}
+use Rattle.std.proofs.Common.{arith, ◌∙◌, ◌++◌, ap, map}
 use Rattle.blif_reader.specs.Text.{words_of}
 use Rattle.blif_reader.proofs.Pieces.{words_last, words_more}
 use Rattle.blif_reader.proofs.lines.push_words.Goals as goal

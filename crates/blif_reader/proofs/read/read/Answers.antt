@@ -1,4 +1,4 @@
-use Rattle.std.proofs.Common.{map, ap, subst}
+use Rattle.std.proofs.Common.{map, subst}
 use Rattle.blif_reader.specs.Statements.{statement_of}
 use Rattle.blif_reader.specs.Netlist.{Settles, netlist_of}
 use Rattle.blif_reader.specs.Answers.{Answers}
@@ -14,4 +14,4 @@ returns-in_err-statements c = parses_badly c.args.bytes.now c.from_residual.resu
 pub returns : goal.returns
 returns c =
     parses_well c.args.bytes.now (map statement_of c.in_ok-statements.statements.items) c.build.result c.if-bytes-gt-MOST_BYTES.false c.in_ok-statements.ensures.read
-      (subst (λ ss. Answers (Settles (netlist_of (map statement_of ss))) c.build.result) c.as_slice.ensures.value c.build.ensures)
+    (subst (λ ss. Answers (Settles (netlist_of (map statement_of ss))) c.build.result) c.as_slice.ensures.value c.build.ensures)

@@ -1,18 +1,18 @@
-use Rattle.std.proofs.Common.{◌≡◌, true, false, ◌∙◌, ◌++◌, ◌∷◌, [], sym, map, filter, ap, arith, length, vec_len}
+use Rattle.std.proofs.Common.{◌≡◌, true, ◌∙◌, ◌++◌, ◌∷◌, [], sym, map, ap, arith, length, vec_len}
 use Rattle.std.proofs.lemmas.Grind.{common_steps}
 use Rattle.std.proofs.lemmas.List.{map_push}
-use Rattle.blif_reader.specs.Text.{has_words, joined, pieces_of}
-use Rattle.blif_reader.specs.Cursor.{line_of, left_of}
+use Rattle.blif_reader.specs.Text.{has_words}
+use Rattle.blif_reader.specs.Cursor.{line_of}
 use Rattle.blif_reader.specs.Grammar.{after}
-use Rattle.blif_reader.specs.Statements.{statement_of, statements, after_statement}
-use Rattle.blif_reader.proofs.Reading.{with_front, reads, stops, ends_well, ends_badly, at_the_end, passes_on}
+use Rattle.blif_reader.specs.Statements.{statement_of, after_statement}
+use Rattle.blif_reader.proofs.Reading.{reads, stops, ends_well, ends_badly, at_the_end, passes_on}
 use Rattle.blif_reader.proofs.statements.read_statements.Goals as goal
 
 pub returns-in_err-next-clause-read : goal.returns-in_err-next-clause-read
 returns-in_err-next-clause-read c =
     let some : has_words (line_of c.in_ok-line.line) ≡ true = grind (arith, common_steps) in
     passes_on _ _ c.in_err-next.field-0.0 _ c.from_residual-in_err-next.ensures.1
-      (stops c.in_err-next.field-0.0 (map statement_of c.lines.found.items) c.lines.context (line_of c.in_ok-line.line) _ _ _ c.in_ok-line.ensures.line some c.in_err-next.ensures c.lines.invariant.same)
+    (stops c.in_err-next.field-0.0 (map statement_of c.lines.found.items) c.lines.context (line_of c.in_ok-line.line) _ _ _ c.in_ok-line.ensures.line some c.in_err-next.ensures c.lines.invariant.same)
 
 pub lines-preserved : goal.lines-preserved
 lines-preserved c =
