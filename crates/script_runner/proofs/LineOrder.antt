@@ -1,15 +1,131 @@
 -- The order of said lines.
-use Rattle.std.proofs.Common.{◌≡◌, ℕ, ◌+◌, ◌<◌, Bool, true, false, ◌&&◌, nat_le, List, ◌∷◌, length, get_or, drop, subst}
-use Rattle.std.specs.Prelude.{IsTrue}
-use Rattle.std.proofs.lemmas.List.{drop_more}
+use Rattle.std.proofs.Common.{◌≡◌, ◌∙◌, ◌⊎◌, ℕ, zero, suc, ◌+◌, ◌<◌, ◌≤◌, Bool, true, false, ◌&&◌, nat_le, nat_lt, List, [], ◌∷◌, ◌++◌, length, get_or, take, drop, refl, sym, ap, ap₂, subst, inl, inr, arith}
+use Rattle.std.specs.Prelude.{IsTrue, cond, filter, count_by}
+use Rattle.std.specs.List.{list_all}
+use Rattle.std.proofs.lemmas.List.{drop_more, take_more, take-append-drop, length-take-le}
+use Rattle.std.proofs.lemmas.List.Sums.{sum_by-cons, sum_by-append}
+use Rattle.std.proofs.lemmas.List.Folds.{list_all-append}
 use Rattle.script_runner.specs.declared.plan.LineEnd.{LineEnd}
-use Rattle.script_runner.specs.Lines.{rise_from}
-use Rattle.script_runner.proofs.Tests.{second_true}
+use Rattle.script_runner.specs.Lines.{rise_from, shows_past}
+use Rattle.script_runner.specs.Text.{ended_before, lines_from_step}
+use Rattle.script_runner.proofs.Tests.{first_true, second_true, both_true}
 
--- behind a line of that step the lines still rise from it
-pub rises_behind : (step : ℕ) (lines : List LineEnd) (i : ℕ) (d : LineEnd) → i < length lines → (get_or lines i d).last ≡ step
-    → IsTrue (rise_from step (drop i lines)) → IsTrue (rise_from step (drop (i + 1) lines))
-rises_behind step lines i d within last rise =
-    let front : IsTrue (rise_from step (get_or lines i d ∷ drop (i + 1) lines)) = subst (λ ys. IsTrue (rise_from step ys)) (drop_more lines i d within) rise in
-    subst (λ k. IsTrue (rise_from k (drop (i + 1) lines))) last
-    (second_true (nat_le step (get_or lines i d).last) (rise_from (get_or lines i d).last (drop (i + 1) lines)) front)
+-- what a test of an order says, and the other way round
+pub from_le : (a b : ℕ) → IsTrue (nat_le a b) → a ≤ b
+from_le a b h = search (arith, h)
+
+pub from_lt : (a b : ℕ) → IsTrue (nat_lt a b) → a < b
+from_lt a b h = search (arith, h)
+
+pub to_le : (a b : ℕ) → a ≤ b → IsTrue (nat_le a b)
+to_le a b h = search (arith, h)
+
+pub to_lt : (a b : ℕ) → a < b → IsTrue (nat_lt a b)
+to_lt a b h = search (arith, h)
+
+pub no_lt : (a b : ℕ) → b ≤ a → nat_lt a b ≡ false
+no_lt a b h = search (arith, h)
+
+pub no_le : (a b : ℕ) → b < a → nat_le a b ≡ false
+no_le a b h = search (arith, h)
+
+-- lines that rise from a step rise from an earlier one
+pub rises_earlier : (from step : ℕ) (lines : List LineEnd) → from ≤ step → IsTrue (rise_from step lines) → IsTrue (rise_from from lines)
+rises_earlier from step [] earlier rise = refl
+rises_earlier from step (line ∷ lines) earlier rise =
+    let up : step ≤ line.last = from_le step line.last (first_true (nat_le step line.last) (rise_from line.last lines) rise) in
+    both_true (nat_le from line.last) (rise_from line.last lines) (to_le from line.last (omega (arith, earlier, up)))
+    (second_true (nat_le step line.last) (rise_from line.last lines) rise)
+
+-- the lines behind the first ones rise too
+pub rises_behind : (from : ℕ) (lines : List LineEnd) (i : ℕ) → IsTrue (rise_from from lines) → IsTrue (rise_from from (drop i lines))
+rises_behind from lines zero rise = rise
+rises_behind from [] (suc i) rise = rise
+rises_behind from (line ∷ lines) (suc i) rise =
+    rises_behind from lines i (rises_earlier from line.last lines (from_le from line.last (first_true (nat_le from line.last) (rise_from line.last lines) rise))
+    (second_true (nat_le from line.last) (rise_from line.last lines) rise))
+
+-- they rise from a later step where the first of them does
+pub rises_later : (from step : ℕ) (lines : List LineEnd) (i : ℕ) (d : LineEnd) → i < length lines → step ≤ (get_or lines i d).last
+    → IsTrue (rise_from from (drop i lines)) → IsTrue (rise_from step (drop i lines))
+rises_later from step lines i d within later rise =
+    let front : IsTrue (rise_from from (get_or lines i d ∷ drop (i + 1) lines)) = subst (λ ys. IsTrue (rise_from from ys)) (drop_more lines i d within) rise in
+    subst (λ ys. IsTrue (rise_from step ys)) (sym (drop_more lines i d within))
+    (both_true (nat_le step (get_or lines i d).last) (rise_from (get_or lines i d).last (drop (i + 1) lines)) (to_le step (get_or lines i d).last later)
+    (second_true (nat_le from (get_or lines i d).last) (rise_from (get_or lines i d).last (drop (i + 1) lines)) front))
+
+-- one line more that comes before a step
+pub front_more : (step : ℕ) (lines : List LineEnd) (i : ℕ) (d : LineEnd) → i < length lines → (get_or lines i d).last < step
+    → IsTrue (list_all (λ (l : LineEnd). nat_lt l.last step) (take i lines)) → IsTrue (list_all (λ (l : LineEnd). nat_lt l.last step) (take (i + 1) lines))
+front_more step lines i d within before front =
+    let test : LineEnd → Bool = λ l. nat_lt l.last step in
+    subst (λ ys. IsTrue (list_all test ys)) (sym (take_more lines i d within))
+    (subst IsTrue (sym (list_all-append test (take i lines) (get_or lines i d ∷ [])))
+    (both_true (list_all test (take i lines)) (test (get_or lines i d) && true) front
+    (both_true (test (get_or lines i d)) true (to_lt (get_or lines i d).last step before) refl)))
+
+-- of lines that rise from a step none comes before it
+none_before : (step : ℕ) (lines : List LineEnd) → IsTrue (rise_from step lines) → (ended_before step lines ≡ 0) × (lines_from_step step lines ≡ lines)
+none_before step [] rise = (refl, refl)
+none_before step (line ∷ lines) rise =
+    let up : step ≤ line.last = from_le step line.last (first_true (nat_le step line.last) (rise_from line.last lines) rise) in
+    let further : (ended_before step lines ≡ 0) × (lines_from_step step lines ≡ lines) =
+    none_before step lines (rises_earlier step line.last lines up (second_true (nat_le step line.last) (rise_from line.last lines) rise)) in (
+      sum_by-cons (λ (l : LineEnd). cond (nat_lt l.last step) 1 0) line lines
+          ∙ ap₂ (λ a b. a + b) (ap (λ b. cond b 1 0) (no_lt line.last step up)) further.0,
+      ap (λ b. cond b (line ∷ lines_from_step step lines) (lines_from_step step lines)) (to_le step line.last up) ∙ ap (λ ls. line ∷ ls) further.1,
+    )
+
+-- and of lines that all come before a step none comes later
+all_before : (step : ℕ) (lines : List LineEnd) → IsTrue (list_all (λ (l : LineEnd). nat_lt l.last step) lines)
+    → (ended_before step lines ≡ length lines) × (lines_from_step step lines ≡ [])
+all_before step [] all = (refl, refl)
+all_before step (line ∷ lines) all =
+    let test : LineEnd → Bool = λ l. nat_lt l.last step in
+    let here : IsTrue (nat_lt line.last step) = first_true (nat_lt line.last step) (list_all test lines) all in
+    let further : (ended_before step lines ≡ length lines) × (lines_from_step step lines ≡ []) =
+    all_before step lines (second_true (nat_lt line.last step) (list_all test lines) all) in (
+      sum_by-cons (λ (l : LineEnd). cond (nat_lt l.last step) 1 0) line lines
+          ∙ ap₂ (λ a b. a + b) (ap (λ b. cond b 1 0) here) further.0 ∙ one_more (length lines),
+      ap (λ b. cond b (line ∷ lines_from_step step lines) (lines_from_step step lines)) (no_le step line.last (from_lt line.last step here)) ∙ further.1,
+    )
+  where
+    one_more : (n : ℕ) → 1 + n ≡ suc n
+    one_more n = omega arith
+
+filter-append : (p : LineEnd → Bool) (xs ys : List LineEnd) → filter p (xs ++ ys) ≡ filter p xs ++ filter p ys
+filter-append p [] ys = refl
+filter-append p (x ∷ xs) ys = by_head (p x) (filter-append p xs ys)
+  where
+    by_head : (b : Bool) → filter p (xs ++ ys) ≡ filter p xs ++ filter p ys
+        → cond b (x ∷ filter p (xs ++ ys)) (filter p (xs ++ ys)) ≡ cond b (x ∷ filter p xs) (filter p xs) ++ filter p ys
+    by_head true e = ap (λ ls. x ∷ ls) e
+    by_head false e = e
+
+-- how many lines come before a step, and which don't, from the first that doesn't
+pub ended_is : (step : ℕ) (lines : List LineEnd) (count : ℕ) → count ≤ length lines → IsTrue (list_all (λ (l : LineEnd). nat_lt l.last step) (take count lines))
+    → IsTrue (rise_from step (drop count lines)) → (ended_before step lines ≡ count) × (lines_from_step step lines ≡ drop count lines)
+ended_is step lines count within front rest =
+    let parts : take count lines ++ drop count lines ≡ lines = take-append-drop count lines in
+    let first : (ended_before step (take count lines) ≡ length (take count lines)) × (lines_from_step step (take count lines) ≡ []) = all_before step (take count lines) front in
+    let second : (ended_before step (drop count lines) ≡ 0) × (lines_from_step step (drop count lines) ≡ drop count lines) = none_before step (drop count lines) rest in
+    let size : length (take count lines) ≡ count = length-take-le count lines within in (
+      ap (ended_before step) (sym parts)
+          ∙ sum_by-append (λ (l : LineEnd). cond (nat_lt l.last step) 1 0) (take count lines) (drop count lines)
+          ∙ sums (ended_before step (take count lines)) (ended_before step (drop count lines)) count (first.0 ∙ size) second.0,
+      ap (lines_from_step step) (sym parts)
+          ∙ filter-append (λ (l : LineEnd). nat_le step l.last) (take count lines) (drop count lines)
+          ∙ ap₂ (λ a b. a ++ b) first.1 second.1,
+    )
+  where
+    sums : (a b c : ℕ) → a ≡ c → b ≡ 0 → a + b ≡ c
+    sums a b c x y = omega (arith, x, y)
+
+-- no line of a plan of so many steps comes behind them
+pub none_left : (count : ℕ) (lines : List LineEnd) → IsTrue (rise_from count lines) → IsTrue (list_all (shows_past count) lines) → lines ≡ []
+none_left count [] rise shown = refl
+none_left count (line ∷ lines) rise shown =
+    let up : count ≤ line.last = from_le count line.last (first_true (nat_le count line.last) (rise_from line.last lines) rise) in
+    let here : IsTrue (shows_past count line) = first_true (shows_past count line) (list_all (shows_past count) lines) shown in
+    let below : line.last < count = from_lt line.last count (second_true (nat_le line.shows line.last) (nat_lt line.last count) here) in
+    absurd (omega (arith, up, below))

@@ -60,6 +60,20 @@ said_piece text done piece more (Err e) old mid new parts so_far did =
     parts ∙ ap (λ p. done ++ (p ++ more)) piece_is ∙ ap (λ q. done ++ q) (append_assoc front rest more) in
     (says_then text old mid new so_far.0 did.elsewhere (says_more (said old) text done front (rest ++ more) (said new) whole saying), tt)
 
+-- one piece by itself
+pub one_piece : (piece : List ℕ) (result : Result Unit Failed) (old new : World) → Said piece result old new → SaysOnly piece old new × OnOk result (said new ≡ said old ++ piece)
+one_piece piece result old new did =
+    said_piece piece [] piece [] result old old new (sym (append-nil piece)) (
+      record {
+        moments = stands old (IsSaying piece (now old)) (record { says = says_nothing (said old) piece; folder_is = refl });
+        texts_are = refl;
+        home_is = refl;
+        inside_is = refl;
+        strays_are = refl;
+      },
+      sym (append-nil (said old)),
+    ) did
+
 module _ {S : Type 0} (tells : S → Bool) (world : S → World) where
   pub saying_at_first : (text : List ℕ) (s : S) → Told tells s s (SoFar text [] (world s) (world s))
   saying_at_first text s = told_here tells s _ (λ _. (

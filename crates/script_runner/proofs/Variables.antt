@@ -13,7 +13,8 @@ use Rattle.canon_file.proofs.VarDiagram.{canon_nodes-var}
 use Rattle.script_runner.specs.declared.plan.LineEnd.{LineEnd}
 use Rattle.script_runner.specs.Built.{is_variable, are_variables, is_variable_of}
 use Rattle.script_runner.specs.Lines.{shows_past}
-use Rattle.script_runner.specs.Text.{table_in, nodes_in, said_line, one_node_line, nodes_line}
+use Rattle.sound_image.specs.Jobs.{Job, no_step, step_at, table_at, nodes_at}
+use Rattle.script_runner.specs.Text.{said_line, one_node_line, nodes_line}
 use Rattle.script_runner.proofs.Tests.{first_true, second_true, both_true, each_passes}
 
 -- a variable's step that may follow names a level below n
@@ -77,13 +78,13 @@ variables_tables n done (s ∷ steps) h =
     ∙ variables_tables n (done ++ step_table n [] s.step ∷ []) steps (second_true (is_variable s.step) (are_variables steps) h)
     ∙ append_assoc done (step_table n [] s.step ∷ []) (map (alone n) steps)
 
--- the table of each step of a plan of variables
-pub variable_table_in : (n : ℕ) (steps : List Planned) (i level : ℕ) (d : Planned) → i < length steps → IsTrue (are_variables steps) → (get_or steps i d).step ≡ Var level
-    → table_in n steps i ≡ step_table n [] (Var level)
+-- the table of each step of a job of variables
+pub variable_table_at : (job : Job) (k level : ℕ) → k < length job.steps → IsTrue (are_variables job.steps) → (step_at job k).step ≡ Var level
+    → table_at job k ≡ step_table job.n [] (Var level)
 unfolding alone
-variable_table_in n steps i level d within variables step =
-    ap (λ tables. get_or tables i []) (variables_tables n [] steps variables)
-    ∙ get_or-map (alone n) steps i d [] within ∙ ap (step_table n []) step
+variable_table_at job k level within variables step =
+    ap (λ tables. get_or tables k []) (variables_tables job.n [] job.steps variables)
+    ∙ get_or-map (alone job.n) job.steps k no_step [] within ∙ ap (step_table job.n []) step
 
 -- the test of a level, read as a fact
 pub level_is_below : (n level : ℕ) → IsTrue (nat_lt level n) → level < n
@@ -103,25 +104,27 @@ level_below n (Leq left right) h = cc
 level_below n (Eval operand at) h = cc
 level_below n (Size operand) h = cc
 
-no_step : Planned
-no_step = record { step = Const false; name_at = 0; name_len = 0 }
+-- a step of a variable's job
+pub variable_step : (job : Job) (k : ℕ) → k < length job.steps → IsWellFormed job.n job.text job.steps → IsTrue (are_variables job.steps)
+    → (level : ℕ) × ((step_at job k).step ≡ Var level) × (level < job.n)
+variable_step job k within plan variables =
+    level_below job.n (step_at job k).step (variable_at job.n job.text job.steps k no_step within plan variables)
 
 -- its diagram has one node
-pub one_node : (n : ℕ) (text : List ℕ) (steps : List Planned) (i : ℕ) → i < length steps → IsWellFormed n text steps → IsTrue (are_variables steps) → nodes_in n steps i ≡ 1
-one_node n text steps i within plan variables =
-    let found : (level : ℕ) × ((get_or steps i no_step).step ≡ Var level) × (level < n) =
-    level_below n (get_or steps i no_step).step (variable_at n text steps i no_step within plan variables) in
-    ap (λ t. length (canon_nodes n t)) (variable_table_in n steps i found.0 no_step within variables found.1)
-    ∙ ap length (canon_nodes-var n found.0 found.2)
+pub one_node : (job : Job) (k : ℕ) → k < length job.steps → IsWellFormed job.n job.text job.steps → IsTrue (are_variables job.steps) → nodes_at job k ≡ 1
+one_node job k within plan variables =
+    let found : (level : ℕ) × ((step_at job k).step ≡ Var level) × (level < job.n) = variable_step job k within plan variables in
+    ap (λ t. length (canon_nodes job.n t)) (variable_table_at job k found.0 within variables found.1)
+    ∙ ap length (canon_nodes-var job.n found.0 found.2)
 
 -- so each line that shows one of them says one node
-pub lines_say_one : (n : ℕ) (text : List ℕ) (steps : List Planned) (lines : List LineEnd) → IsWellFormed n text steps → IsTrue (are_variables steps)
-    → IsTrue (list_all (shows_past (length steps)) lines) → flat_map (said_line n steps) lines ≡ flat_map one_node_line lines
-lines_say_one n text steps [] plan variables shown = refl
-lines_say_one n text steps (line ∷ lines) plan variables shown =
-    let here : IsTrue (shows_past (length steps) line) = first_true (shows_past (length steps) line) (list_all (shows_past (length steps)) lines) shown in
-    let up_to : IsTrue (nat_le line.shows line.last) = first_true (nat_le line.shows line.last) (nat_lt line.last (length steps)) here in
-    let below : IsTrue (nat_lt line.last (length steps)) = second_true (nat_le line.shows line.last) (nat_lt line.last (length steps)) here in
-    let within : line.shows < length steps = search (arith, up_to, below) in
-    ap₂ (λ a b. a ++ b) (ap (nodes_line line.line) (one_node n text steps line.shows within plan variables))
-    (lines_say_one n text steps lines plan variables (second_true (shows_past (length steps) line) (list_all (shows_past (length steps)) lines) shown))
+pub lines_say_one : (job : Job) (lines : List LineEnd) → IsWellFormed job.n job.text job.steps → IsTrue (are_variables job.steps)
+    → IsTrue (list_all (shows_past (length job.steps)) lines) → flat_map (said_line job) lines ≡ flat_map one_node_line lines
+lines_say_one job [] plan variables shown = refl
+lines_say_one job (line ∷ lines) plan variables shown =
+    let here : IsTrue (shows_past (length job.steps) line) = first_true (shows_past (length job.steps) line) (list_all (shows_past (length job.steps)) lines) shown in
+    let up_to : IsTrue (nat_le line.shows line.last) = first_true (nat_le line.shows line.last) (nat_lt line.last (length job.steps)) here in
+    let below : IsTrue (nat_lt line.last (length job.steps)) = second_true (nat_le line.shows line.last) (nat_lt line.last (length job.steps)) here in
+    let within : line.shows < length job.steps = search (arith, up_to, below) in
+    ap₂ (λ a b. a ++ b) (ap (nodes_line line.line) (one_node job line.shows within plan variables))
+    (lines_say_one job lines plan variables (second_true (shows_past (length job.steps) line) (list_all (shows_past (length job.steps)) lines) shown))

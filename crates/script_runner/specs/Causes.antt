@@ -4,7 +4,7 @@ use Rattle.shelf_model.specs.Faults.{Faults, Rose}
 use Rattle.script_runner.specs.declared.finish.Finish.{Finish}
 use Rattle.script_runner.specs.declared.finish.Finish.TheVariants.{FolderFault, SayFault}
 
--- each way to finish has its cause, and no text was fetched
+-- each fault has its count, and no text was fetched
 pub record FinishHasCause (old new : Faults) (finish : Finish) : Type 0 where
   pub folder_later : old.folder ≤ new.folder
   pub say_later : old.say ≤ new.say

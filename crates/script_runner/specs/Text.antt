@@ -1,23 +1,31 @@
 -- What the program says.
-use Rattle.std.specs.Prelude.{ℕ, Bool, List, [], ◌∷◌, ◌++◌, length, codes}
+use Rattle.std.specs.Prelude.{ℕ, Bool, List, [], ◌∷◌, ◌++◌, length, filter, count_by, nat_le, nat_lt, codes, if◌then◌else◌}
 use Rattle.std.specs.List.{flat_map}
 use Rattle.std.specs.Fmt.{decimal}
-use Rattle.bool_tables.specs.declared.steps.Planned.{Planned}
-use Rattle.bool_tables.specs.Steps.{plan_tables, table_of_step}
-use Rattle.canon_file.specs.Canon.{canon_nodes}
+use Rattle.shelf_model.specs.declared.file_no.FileNo.{FileNo}
+use Rattle.catalogue.specs.Counts.{is_stored, count_in}
+use Rattle.sound_image.specs.Jobs.{Job, nodes_at}
 use Rattle.script_runner.specs.declared.plan.LineEnd.{LineEnd}
 
 -- a line ends with a line feed
 abbrev pub line_of : List ℕ → List ℕ
 line_of text = text ++ 10 ∷ []
 
--- how many lines a run will say
+-- a run from nothing, and how many lines it will say
 abbrev pub start_line : ℕ → List ℕ
 start_line count = line_of (codes "start " ++ decimal count)
+
+-- a run that goes on, how many lines were said before, and how many there are
+abbrev pub resume_line : ℕ → ℕ → List ℕ
+resume_line before count = line_of (codes "resume " ++ decimal before ++ codes " of " ++ decimal count)
 
 -- a diagram's answer is its number of nodes
 abbrev pub nodes_line : ℕ → ℕ → List ℕ
 nodes_line line count = line_of (decimal line ++ codes ": nodes " ++ decimal count)
+
+-- a diagram of one node
+abbrev pub one_node_line : LineEnd → List ℕ
+one_node_line line = nodes_line line.line 1
 
 abbrev pub done_line : List ℕ
 done_line = line_of (codes "done")
@@ -30,22 +38,31 @@ usage_line = line_of (codes "usage: adiar ACTION FOLDER [options]")
 abbrev pub refused_line : List ℕ
 refused_line = line_of (codes "script: line 0: Word")
 
--- a diagram of one node
-abbrev pub one_node_line : LineEnd → List ℕ
-one_node_line line = nodes_line line.line 1
+-- another job is stored, which differs at that byte
+abbrev pub other_job_line : ℕ → List ℕ
+other_job_line at = line_of (codes "other job at " ++ decimal at)
 
--- the table of a step of a plan
-abbrev pub table_in : ℕ → List Planned → ℕ → List Bool
-table_in n steps step = table_of_step (plan_tables n steps) step
+-- a file of the folder doesn't hold what it should, from that byte on
+abbrev pub damaged_line : FileNo → ℕ → List ℕ
+damaged_line f at = line_of (codes "damaged " ++ decimal f.step ++ codes " " ++ decimal f.part ++ codes " " ++ decimal at)
 
--- the number of nodes of the diagram of a step
-abbrev pub nodes_in : ℕ → List Planned → ℕ → ℕ
-nodes_in n steps step = length (canon_nodes n (table_in n steps step))
+-- how many of the lines come before a step
+abbrev pub ended_before : ℕ → List LineEnd → ℕ
+ended_before step lines = count_by (λ (line : LineEnd). nat_lt line.last step) lines
+
+-- the lines that don't
+abbrev pub lines_from_step : ℕ → List LineEnd → List LineEnd
+lines_from_step step lines = filter (λ (line : LineEnd). nat_le step line.last) lines
 
 -- the line that shows the answer of a step
-abbrev pub said_line : ℕ → List Planned → LineEnd → List ℕ
-said_line n steps line = nodes_line line.line (nodes_in n steps line.shows)
+abbrev pub said_line : Job → LineEnd → List ℕ
+said_line job line = nodes_line line.line (nodes_at job line.shows)
 
--- all that a run from nothing says: how many lines, the lines in order, and that all was done
-abbrev pub run_text : ℕ → List Planned → List LineEnd → List ℕ
-run_text n steps lines = start_line (length lines) ++ flat_map (said_line n steps) lines ++ done_line
+-- the first line of a run of so many lines that begins where the files show what they show
+abbrev pub banner_line : (FileNo → List ℕ) → List LineEnd → List ℕ
+banner_line r lines =
+    if is_stored r then resume_line (ended_before (count_in r) lines) (length lines) else start_line (length lines)
+
+-- all that a run says: its banner, the lines of the steps that aren't committed yet, and that all was done
+abbrev pub run_text : Job → List LineEnd → (FileNo → List ℕ) → List ℕ
+run_text job lines r = banner_line r lines ++ (flat_map (said_line job) (lines_from_step (count_in r) lines) ++ done_line)

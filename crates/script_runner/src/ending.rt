@@ -9,14 +9,18 @@ pub(crate) enum Ending {
     Usage,
     /// The script isn't accepted.
     Script,
+    /// The folder stores another job.
+    OtherJob,
     /// The script can't be fetched.
     TextFault,
     /// A call of the folder failed.
     FolderFault,
     /// A line couldn't be said.
     SayFault,
-    /// There was no memory for the script, the plan or the room.
+    /// There was no memory for the script, the plan, the job or the room.
     NoMemory,
+    /// A file of the folder doesn't hold what it should.
+    Damaged,
 }
 
 impl Ending {
@@ -30,10 +34,12 @@ impl Ending {
             Ending::Done => 0,
             Ending::Usage => 2,
             Ending::Script => 3,
+            Ending::OtherJob => 5,
             Ending::TextFault => 6,
             Ending::FolderFault => 7,
             Ending::SayFault => 8,
             Ending::NoMemory => 9,
+            Ending::Damaged => 10,
         }
     }
 }

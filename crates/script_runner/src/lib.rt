@@ -1,9 +1,12 @@
 //! Runs a script on a station: reads the words and the script, makes each step's file and says its line.
 #![tactic(auto)]
 
+mod banner;
 mod ending;
+mod entry;
 mod fetch;
 mod finish;
+mod job;
 mod line;
 mod make;
 mod plan;

@@ -11,15 +11,14 @@ ghost use Rattle.script_runner.specs.Entered.{RunsIn, EndsRun, EndingHasCause};
 
 use crate::ending::Ending;
 use crate::fetch::{FetchFault, fetch_text};
+use crate::job::{BUDGET, job_bytes};
+use crate::line::{damaged_line, other_job_line};
 use crate::script::{ScriptRefusal, read_script};
 use crate::words::read_words;
 use crate::{Finish, Plan, run_steps};
 
 /// The most bytes that a script has.
 const MOST_SCRIPT: usize = 1_048_576;
-
-/// The records of a run's room.
-const BUDGET: usize = 262_144;
 
 /// What is said where the words aren't accepted.
 const USAGE: &[u8] = b"usage: adiar ACTION FOLDER [options]\n";
@@ -34,7 +33,7 @@ use std::alloc::{AllocError, Global};
 /// Says a line of refusal, and answers the ending that it stands for, unless it couldn't be said.
 fn say_refusal<W: Station>(line: &[u8], ending: Ending, station: &mut W) -> Ending
     requires small { (0 < length line.now) × (length line.now ≤ 2048) }
-    requires refusal { (ending ≡ Ending.Usage) ⊎ (ending ≡ Ending.Script) }
+    requires refusal { (ending ≢ Ending.FolderFault) × (ending ≢ Ending.SayFault) }
     ensures content { Told W.tells station.old station.new (SaysOnly line.now (W.world station.old) (W.world station.new)) }
     ensures whole { result ≡ ending → IsTrue (W.tells station.new) → said (W.world station.new) ≡ said (W.world station.old) ++ line.now }
     ensures which { (result ≡ ending) ⊎ (result ≡ Ending.SayFault) }
@@ -46,11 +45,12 @@ fn say_refusal<W: Station>(line: &[u8], ending: Ending, station: &mut W) -> Endi
     }
 }
 
-/// Enters the folder and runs the plan there.
+/// Enters the folder and runs the plan's job there.
 fn run_plan<W: Station>(
     folder: &str,
     text: &[u8],
     plan: &Plan,
+    job: &[u8],
     room: &mut [Rec],
     station: &mut W,
 ) -> Ending
@@ -59,27 +59,37 @@ fn run_plan<W: Station>(
     requires built { IsTrue (are_variables plan.now.steps) }
     requires room { (16384 ≤ length room.old) × (length room.old ≤ 4194304) }
     ensures content { Told W.tells station.old station.new
-        (RunsIn folder.now plan.now.n plan.now.steps plan.now.lines result (W.world station.old) (W.world station.new)) }
-    ensures which { EndsRun result }
+        (RunsIn folder.now (record { n = plan.now.n; text = text.now; steps = plan.now.steps; bytes = job.now }) plan.now.lines
+        (status_of result) (W.world station.old) (W.world station.new)) }
+    ensures which { EndsRun (status_of result) }
     ensures cause { EndingHasCause (W.faults station.old) (W.faults station.new) result }
 {
     let Ok(()) = station.enter(folder) else {
         return Ending::FolderFault;
     };
-    // No job is stored yet.
     let finish = run_steps(
         plan.n,
         text,
         plan.steps.items(),
         plan.lines.items(),
-        &[],
+        job,
         room,
         station,
     );
     match finish {
         Finish::Done => Ending::Done,
+        Finish::OtherJob { at } => say_refusal(
+            other_job_line(at).as_str().as_bytes(),
+            Ending::OtherJob,
+            station,
+        ),
         Finish::FolderFault => Ending::FolderFault,
         Finish::SayFault => Ending::SayFault,
+        Finish::Damaged { file, at } => say_refusal(
+            damaged_line(file, at).as_str().as_bytes(),
+            Ending::Damaged,
+            station,
+        ),
     }
 }
 
@@ -103,10 +113,13 @@ fn answer<W: Station>(alloc: Global, words: &[String], station: &mut W) -> Endin
         Err(ScriptRefusal::Memory) => return Ending::NoMemory,
         Err(ScriptRefusal::Word) => return say_refusal(REFUSED, Ending::Script, station),
     };
+    let Ok(job) = job_bytes(alloc, &text) else {
+        return Ending::NoMemory;
+    };
     let Ok(mut room) = take_room(alloc) else {
         return Ending::NoMemory;
     };
-    run_plan(named.folder, &text, &plan, &mut room, station)
+    run_plan(named.folder, &text, &plan, &job, &mut room, station)
 }
 
 /// The room of a run.
@@ -119,18 +132,21 @@ fn take_room(alloc: Global) -> Result<Vec<Rec>, AllocError>
 /// The program: does what the words ask for, the first of which is the program's own name, and answers
 /// its exit status.
 ///
-/// `run FOLDER --script FILE` makes the node file of each step of the script in the folder, and says its
-/// line. All memory is taken before the folder is entered.
+/// `run FOLDER --script FILE` runs the script's job in the folder: it makes the node file of each step
+/// that isn't committed there yet, and says its line once the step is committed. All memory is taken
+/// before the folder is entered. After a stop the same words go on from where the folder stands.
 ///
 /// | status | comes | said at the end |
 /// |---|---|---|
 /// | 0 | all was done | `done` |
 /// | 2 | the words aren't accepted | the usage |
 /// | 3 | the script isn't accepted | `script: line 0: Word` |
+/// | 5 | the folder stores another job, which differs from that byte on | `other job at B` |
 /// | 6 | the script couldn't be fetched | |
 /// | 7 | a call of the folder failed | |
 /// | 8 | a line couldn't be said | |
 /// | 9 | there was no memory | |
+/// | 10 | a file doesn't hold what it should, from that byte on | `damaged S P B` |
 pub fn adiar<W: Station>(alloc: Global, words: &[String], station: &mut W) -> u8
     ensures content { Told W.tells station.old station.new
         (Ends (map string_bytes words.now) result (W.world station.old) (W.world station.new)) }

@@ -6,20 +6,23 @@ ghost use Rattle.script_runner.specs.Built.{are_variables, is_variable_of};
 ghost use Rattle.script_runner.specs.Running.{RunsSteps};
 ghost use Rattle.script_runner.specs.Causes.{FinishHasCause};
 
-use crate::line::start_line;
-use crate::make::make_file;
-use crate::say::say_ended;
-use crate::{Finish, LineEnd};
 use bool_tables::{Planned, Step};
 use canon_file::var_file;
+use catalogue::{AttachFault, attach, commit};
 use rec_words::Rec;
 use shelf_model::{FileNo, Station};
 
-/// Runs the steps of a plan from the first one on: says how many lines there will be, makes the node
-/// file of each step and says the lines that end with it, and then that all was done.
+use crate::banner::banner_line;
+use crate::entry::variable_entry;
+use crate::make::make_file;
+use crate::say::{count_before, say_lines};
+use crate::{Finish, LineEnd};
+
+/// Runs the steps of a job from where the folder stands: attaches the job, says how many lines there
+/// will be, makes and commits each step that isn't committed yet and says the lines that end with it,
+/// and then that all was done.
 ///
-/// It takes no memory. The script's text, the job's bytes and the room are for the steps that work on
-/// diagrams.
+/// It takes no memory. The room is for the steps that work on diagrams.
 pub fn run_steps<W: Station>(
     n: u32,
     text: &[u8],
@@ -34,26 +37,36 @@ pub fn run_steps<W: Station>(
     requires built { IsTrue (are_variables steps.now) }
     requires room { (16384 ≤ length room.old) × (length room.old ≤ 4194304) }
     ensures content { Told W.tells station.old station.new
-        (RunsSteps n steps.now lines.now result (W.world station.old) (W.world station.new)) }
+        (RunsSteps (record { n = n; text = text.now; steps = steps.now; bytes = job.now }) lines.now result
+        (W.world station.old) (W.world station.new)) }
     ensures causes { FinishHasCause (W.faults station.old) (W.faults station.new) result }
 {
-    let Ok(()) = station.say(start_line(lines.len() as u64).as_str().as_bytes()) else {
+    let standing = match attach(job, steps.len() as u32, station) {
+        Ok(standing) => standing,
+        Err(AttachFault::Shelf) => return Finish::FolderFault,
+        Err(AttachFault::Damaged { file, at }) => return Finish::Damaged { file, at },
+        Err(AttachFault::OtherJob { at }) => return Finish::OtherJob { at },
+    };
+    let before = count_before(standing.done, lines);
+    let banner = banner_line(standing.fresh, before as u64, lines.len() as u64);
+    let Ok(()) = station.say(banner.as_str().as_bytes()) else {
         return Finish::SayFault;
     };
-    let mut rest = lines;
-    for (step, planned) in steps.iter().enumerate() {
+    let mut rest = lines.split_at(before).1;
+    for step in standing.done..steps.len() as u32 {
+        let planned = &steps[step as usize];
         let bytes = var_file(level_of(n, planned.step), n);
-        let node_file = FileNo {
-            step: step as u32,
-            part: 0,
-        };
-        let Ok(()) = make_file(node_file, &bytes, station) else {
+        let Ok(()) = make_file(FileNo { step, part: 0 }, &bytes, station) else {
             return Finish::FolderFault;
         };
-        let Ok(count) = say_ended(step as u32, rest, station) else {
+        let Ok(()) = commit(&variable_entry(text, planned, step), station) else {
+            return Finish::FolderFault;
+        };
+        let (ending, later) = rest.split_at(count_before(step + 1, rest));
+        let Ok(()) = say_lines(ending, station) else {
             return Finish::SayFault;
         };
-        rest = rest.split_at(count).1;
+        rest = later;
     }
     let Ok(()) = station.say(b"done\n") else {
         return Finish::SayFault;

@@ -6,12 +6,14 @@ use Rattle.script_runner.specs.declared.plan.Plan.{Plan}
 use Rattle.script_runner.specs.Words.{Reading, reading_of}
 use Rattle.script_runner.specs.Script.{Script, IsAccepted, first_line}
 use Rattle.script_runner.specs.Plans.{plan_of}
+use Rattle.script_runner.specs.Status.{status_of}
 use Rattle.script_runner.specs.Fetching.{IsText}
 use Rattle.script_runner.specs.Lines.{AreLines}
 use Rattle.script_runner.specs.Built.{are_variables}
+use Rattle.script_runner.specs.JobOf.{job_bytes}
 use Rattle.script_runner.proofs.Planned.{is_planned}
 use Rattle.script_runner.proofs.PlannedLines.{are_lines, only_variables}
-use Rattle.script_runner.proofs.Endings.{answers_silent, answers_refused, answers_run}
+use Rattle.script_runner.proofs.Endings.{answers_refused, answers_run}
 use Rattle.script_runner.proofs.program.answer.Goals as goal
 
 pub returns-in-Err-Text-clause-causes : goal.returns-in-Err-Text-clause-causes
@@ -22,16 +24,6 @@ returns-in-Err-Text-clause-causes g c =
       folder_fault = λ seven. absurd (omega (arith, seven));
       say_fault = λ eight. absurd (omega (arith, eight))
     }
-
-pub returns-in-Err-Memory-read_script-clause-content : goal.returns-in-Err-Memory-read_script-clause-content
-returns-in-Err-Memory-read_script-clause-content g c =
-    let reading : Reading = record { folder = c.in-Some.named.folder.now; script = c.in-Some.named.script.now } in
-    answers_silent g.W.Shelf.tells g.W.Shelf.world (map string_bytes c.args.words.now) reading 9 _ _ (sym c.in-Some.ensures) (inr refl) c.in-Ok.ensures.content
-
-pub returns-in_default-take_room-clause-content : goal.returns-in_default-take_room-clause-content
-returns-in_default-take_room-clause-content g c =
-    let reading : Reading = record { folder = c.in-Some.named.folder.now; script = c.in-Some.named.script.now } in
-    answers_silent g.W.Shelf.tells g.W.Shelf.world (map string_bytes c.args.words.now) reading 9 _ _ (sym c.in-Some.ensures) (inr refl) c.in-Ok.ensures.content
 
 pub returns-in-Err-Word-clause-content : goal.returns-in-Err-Word-clause-content
 returns-in-Err-Word-clause-content g c =
@@ -44,8 +36,8 @@ returns-in-Err-Word-clause-content g c =
 pub run_plan-requires-clause-plan : goal.run_plan-requires-clause-plan
 run_plan-requires-clause-plan g c =
     let read : (script : Script) × IsAccepted c.deref.result.now script × (c.in-Ok-read_script.plan ≡ plan_of script) = c.in-Ok-read_script.ensures.read in
-    let same : c.deref.result.now ≡ c.deref-2.result.now = c.deref.ensures.value ∙ sym c.deref-2.ensures.value in
-    subst (λ (p : Plan). IsWellFormed p.n c.deref-2.result.now p.steps) (sym read.2)
+    let same : c.deref.result.now ≡ c.deref-3.result.now = c.deref.ensures.value ∙ sym c.deref-3.ensures.value in
+    subst (λ (p : Plan). IsWellFormed p.n c.deref-3.result.now p.steps) (sym read.2)
       (subst (λ bytes. IsWellFormed (plan_of read.0).n bytes (plan_of read.0).steps) same (is_planned c.deref.result.now read.0 read.1).well_formed)
 
 pub run_plan-requires-clause-lines : goal.run_plan-requires-clause-lines
@@ -61,7 +53,10 @@ run_plan-requires-clause-built g c =
 pub returns-clause-content : goal.returns-clause-content
 returns-clause-content g c =
     let reading : Reading = record { folder = c.in-Some.named.folder.now; script = c.in-Some.named.script.now } in
-    answers_run g.W.Shelf.tells g.W.Shelf.world (map string_bytes c.args.words.now) reading c.deref.result.now c.in-Ok-read_script.plan c.run_plan.result _ _ _
-      (sym c.in-Some.ensures) c.run_plan.ensures.which c.in-Ok-read_script.ensures.read
+    let same : c.deref-3.result.now ≡ c.deref.result.now = c.deref-3.ensures.value ∙ sym c.deref.ensures.value in
+    let again : c.deref-2.result.now ≡ c.deref.result.now = c.deref-2.ensures.value ∙ sym c.deref.ensures.value in
+    let job : c.deref-4.result.now ≡ job_bytes c.deref.result.now = c.deref-4.ensures.value ∙ c.in-Ok-job_bytes.ensures ∙ ap job_bytes again in
+    answers_run g.W.Shelf.tells g.W.Shelf.world (map string_bytes c.args.words.now) reading c.deref.result.now c.deref-3.result.now c.deref-4.result.now c.in-Ok-read_script.plan (status_of c.run_plan.result) _ _ _
+      (sym c.in-Some.ensures) c.in-Ok-read_script.ensures.read same job
       (λ tells_now. subst (λ bytes. IsText reading.script 1048576 bytes (g.W.Shelf.world c.args.station.now)) (sym c.deref.ensures.value) (c.in-Ok.ensures.text tells_now))
       c.in-Ok.ensures.content c.run_plan.ensures.content

@@ -1,19 +1,84 @@
-use Rattle.std.proofs.Common.{◌≡◌, ◌∙◌, List, sym, ap, subst}
+use Rattle.std.proofs.Common.{◌≡◌, ◌∙◌, List, sym, ap, subst, inl, inr, refl}
 use Rattle.shelf_model.specs.Calls.{Told}
 use Rattle.bool_tables.specs.declared.steps.Planned.{Planned}
+use Rattle.sound_image.specs.Jobs.{Job}
 use Rattle.script_runner.specs.declared.plan.LineEnd.{LineEnd}
-use Rattle.script_runner.specs.declared.finish.Finish.TheVariants.{Done}
+use Rattle.script_runner.specs.declared.finish.Finish.{Finish}
+use Rattle.script_runner.specs.declared.finish.Finish.TheVariants.{Done, OtherJob, FolderFault, SayFault, Damaged}
+use Rattle.script_runner.specs.declared.ending.Ending.TheVariants as ending
 use Rattle.script_runner.specs.Running.{RunsSteps}
-use Rattle.script_runner.proofs.EnteredRuns.{runs_in_folder}
+use Rattle.script_runner.proofs.EnteredRuns.{enter_failed, entered_runs, entered_refuses, why_other, why_damaged}
 use Rattle.script_runner.proofs.program.run_plan.Goals as goal
+
+pub returns-in_default-clause-content : goal.returns-in_default-clause-content
+returns-in_default-clause-content g c =
+    let job : Job = record { n = c.args.plan.now.n; text = c.args.text.now; steps = c.args.plan.now.steps; bytes = c.args.job.now } in
+    enter_failed g.W.Shelf.tells g.W.Shelf.world c.args.folder.now job c.args.plan.now.lines _ _ _ c.in_default.ensures.content
 
 pub returns-in-Done-clause-content : goal.returns-in-Done-clause-content
 returns-in-Done-clause-content g c =
+    let job : Job = record { n = c.args.plan.now.n; text = c.args.text.now; steps = c.args.plan.now.steps; bytes = c.args.job.now } in
     let run : Told g.W.Shelf.tells c.enter.new.self c.run_steps-finish.new.station
-    (RunsSteps c.args.plan.now.n c.args.plan.now.steps c.args.plan.now.lines Done (g.W.Shelf.world c.enter.new.self) (g.W.Shelf.world c.run_steps-finish.new.station)) =
+    (RunsSteps job c.args.plan.now.lines Done (g.W.Shelf.world c.enter.new.self) (g.W.Shelf.world c.run_steps-finish.new.station)) =
     subst (λ (ls : List LineEnd). Told g.W.Shelf.tells c.enter.new.self c.run_steps-finish.new.station
-    (RunsSteps c.args.plan.now.n c.args.plan.now.steps ls Done (g.W.Shelf.world c.enter.new.self) (g.W.Shelf.world c.run_steps-finish.new.station))) c.items-2.ensures
+    (RunsSteps job ls Done (g.W.Shelf.world c.enter.new.self) (g.W.Shelf.world c.run_steps-finish.new.station))) c.items-2.ensures
     (subst (λ (ss : List Planned). Told g.W.Shelf.tells c.enter.new.self c.run_steps-finish.new.station
-    (RunsSteps c.args.plan.now.n ss c.items-2.result.now Done (g.W.Shelf.world c.enter.new.self) (g.W.Shelf.world c.run_steps-finish.new.station))) c.items.ensures
+    (RunsSteps (record { n = c.args.plan.now.n; text = c.args.text.now; steps = ss; bytes = c.args.job.now }) c.items-2.result.now Done (g.W.Shelf.world c.enter.new.self) (g.W.Shelf.world c.run_steps-finish.new.station))) c.items.ensures
     c.in-Done.ensures.content) in
-    runs_in_folder g.W.Shelf.tells g.W.Shelf.world c.args.folder.now c.args.plan.now.n c.args.plan.now.steps c.args.plan.now.lines c.in-Ok.field-0 _ _ _ c.in-Ok.ensures.content run
+    entered_runs g.W.Shelf.tells g.W.Shelf.world c.args.folder.now job c.args.plan.now.lines Done 0 c.in-Ok.field-0 _ _ _ (inl (refl, refl)) c.in-Ok.ensures.content run
+
+pub returns-in-FolderFault-clause-content : goal.returns-in-FolderFault-clause-content
+returns-in-FolderFault-clause-content g c =
+    let job : Job = record { n = c.args.plan.now.n; text = c.args.text.now; steps = c.args.plan.now.steps; bytes = c.args.job.now } in
+    let run : Told g.W.Shelf.tells c.enter.new.self c.run_steps-finish.new.station
+    (RunsSteps job c.args.plan.now.lines FolderFault (g.W.Shelf.world c.enter.new.self) (g.W.Shelf.world c.run_steps-finish.new.station)) =
+    subst (λ (ls : List LineEnd). Told g.W.Shelf.tells c.enter.new.self c.run_steps-finish.new.station
+    (RunsSteps job ls FolderFault (g.W.Shelf.world c.enter.new.self) (g.W.Shelf.world c.run_steps-finish.new.station))) c.items-2.ensures
+    (subst (λ (ss : List Planned). Told g.W.Shelf.tells c.enter.new.self c.run_steps-finish.new.station
+    (RunsSteps (record { n = c.args.plan.now.n; text = c.args.text.now; steps = ss; bytes = c.args.job.now }) c.items-2.result.now FolderFault (g.W.Shelf.world c.enter.new.self) (g.W.Shelf.world c.run_steps-finish.new.station))) c.items.ensures
+    c.in-FolderFault.ensures.content) in
+    entered_runs g.W.Shelf.tells g.W.Shelf.world c.args.folder.now job c.args.plan.now.lines FolderFault 7 c.in-Ok.field-0 _ _ _ (inr (inl refl)) c.in-Ok.ensures.content run
+
+pub returns-in-SayFault-clause-content : goal.returns-in-SayFault-clause-content
+returns-in-SayFault-clause-content g c =
+    let job : Job = record { n = c.args.plan.now.n; text = c.args.text.now; steps = c.args.plan.now.steps; bytes = c.args.job.now } in
+    let run : Told g.W.Shelf.tells c.enter.new.self c.run_steps-finish.new.station
+    (RunsSteps job c.args.plan.now.lines SayFault (g.W.Shelf.world c.enter.new.self) (g.W.Shelf.world c.run_steps-finish.new.station)) =
+    subst (λ (ls : List LineEnd). Told g.W.Shelf.tells c.enter.new.self c.run_steps-finish.new.station
+    (RunsSteps job ls SayFault (g.W.Shelf.world c.enter.new.self) (g.W.Shelf.world c.run_steps-finish.new.station))) c.items-2.ensures
+    (subst (λ (ss : List Planned). Told g.W.Shelf.tells c.enter.new.self c.run_steps-finish.new.station
+    (RunsSteps (record { n = c.args.plan.now.n; text = c.args.text.now; steps = ss; bytes = c.args.job.now }) c.items-2.result.now SayFault (g.W.Shelf.world c.enter.new.self) (g.W.Shelf.world c.run_steps-finish.new.station))) c.items.ensures
+    c.in-SayFault.ensures.content) in
+    entered_runs g.W.Shelf.tells g.W.Shelf.world c.args.folder.now job c.args.plan.now.lines SayFault 8 c.in-Ok.field-0 _ _ _ (inr (inr refl)) c.in-Ok.ensures.content run
+
+pub returns-in-OtherJob-clause-content : goal.returns-in-OtherJob-clause-content
+returns-in-OtherJob-clause-content g c =
+    let job : Job = record { n = c.args.plan.now.n; text = c.args.text.now; steps = c.args.plan.now.steps; bytes = c.args.job.now } in
+    let run : Told g.W.Shelf.tells c.enter.new.self c.run_steps-finish.new.station
+    (RunsSteps job c.args.plan.now.lines (OtherJob c.in-OtherJob.at) (g.W.Shelf.world c.enter.new.self) (g.W.Shelf.world c.run_steps-finish.new.station)) =
+    subst (λ (ls : List LineEnd). Told g.W.Shelf.tells c.enter.new.self c.run_steps-finish.new.station
+    (RunsSteps job ls (OtherJob c.in-OtherJob.at) (g.W.Shelf.world c.enter.new.self) (g.W.Shelf.world c.run_steps-finish.new.station))) c.items-2.ensures
+    (subst (λ (ss : List Planned). Told g.W.Shelf.tells c.enter.new.self c.run_steps-finish.new.station
+    (RunsSteps (record { n = c.args.plan.now.n; text = c.args.text.now; steps = ss; bytes = c.args.job.now }) c.items-2.result.now (OtherJob c.in-OtherJob.at) (g.W.Shelf.world c.enter.new.self) (g.W.Shelf.world c.run_steps-finish.new.station))) c.items.ensures
+    c.in-OtherJob.ensures.content) in
+    entered_refuses g.W.Shelf.tells g.W.Shelf.world c.args.folder.now job c.args.plan.now.lines (OtherJob c.in-OtherJob.at) ending.OtherJob c.say_refusal.result c.as_bytes.result.now c.in-Ok.field-0 _ _ _ _
+      (inl refl) tt c.say_refusal.ensures.which
+      (λ r. why_other job c.args.plan.now.lines c.in-OtherJob.at c.as_bytes.result.now (g.W.Shelf.world c.enter.new.self) (g.W.Shelf.world c.run_steps-finish.new.station)
+      (c.as_bytes.ensures.value ∙ c.as_str.ensures.value ∙ c.other_job_line.ensures.text) r)
+      c.in-Ok.ensures.content run c.say_refusal.ensures.content c.say_refusal.ensures.whole
+
+pub returns-in-Damaged-clause-content : goal.returns-in-Damaged-clause-content
+returns-in-Damaged-clause-content g c =
+    let job : Job = record { n = c.args.plan.now.n; text = c.args.text.now; steps = c.args.plan.now.steps; bytes = c.args.job.now } in
+    let run : Told g.W.Shelf.tells c.enter.new.self c.run_steps-finish.new.station
+    (RunsSteps job c.args.plan.now.lines (Damaged c.in-Damaged.file c.in-Damaged.at) (g.W.Shelf.world c.enter.new.self) (g.W.Shelf.world c.run_steps-finish.new.station)) =
+    subst (λ (ls : List LineEnd). Told g.W.Shelf.tells c.enter.new.self c.run_steps-finish.new.station
+    (RunsSteps job ls (Damaged c.in-Damaged.file c.in-Damaged.at) (g.W.Shelf.world c.enter.new.self) (g.W.Shelf.world c.run_steps-finish.new.station))) c.items-2.ensures
+    (subst (λ (ss : List Planned). Told g.W.Shelf.tells c.enter.new.self c.run_steps-finish.new.station
+    (RunsSteps (record { n = c.args.plan.now.n; text = c.args.text.now; steps = ss; bytes = c.args.job.now }) c.items-2.result.now (Damaged c.in-Damaged.file c.in-Damaged.at) (g.W.Shelf.world c.enter.new.self) (g.W.Shelf.world c.run_steps-finish.new.station))) c.items.ensures
+    c.in-Damaged.ensures.content) in
+    entered_refuses g.W.Shelf.tells g.W.Shelf.world c.args.folder.now job c.args.plan.now.lines (Damaged c.in-Damaged.file c.in-Damaged.at) ending.Damaged c.say_refusal-in-Damaged.result c.as_bytes-in-Damaged.result.now c.in-Ok.field-0 _ _ _ _
+      (inr refl) tt c.say_refusal-in-Damaged.ensures.which
+      (λ r. why_damaged job c.args.plan.now.lines c.in-Damaged.file c.in-Damaged.at c.as_bytes-in-Damaged.result.now (g.W.Shelf.world c.enter.new.self) (g.W.Shelf.world c.run_steps-finish.new.station)
+      (c.as_bytes-in-Damaged.ensures.value ∙ c.as_str-in-Damaged.ensures.value ∙ c.damaged_line.ensures.text) r)
+      c.in-Ok.ensures.content run c.say_refusal-in-Damaged.ensures.content c.say_refusal-in-Damaged.ensures.whole

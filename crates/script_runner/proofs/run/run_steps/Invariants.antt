@@ -2,18 +2,19 @@ use Rattle.std.proofs.Common.{◌≡◌, ◌≤◌, ℕ, List, length}
 use Rattle.std.specs.Prelude.{IsTrue}
 use Rattle.std.specs.List.{list_all}
 use Rattle.shelf_model.specs.Calls.{Told}
+use Rattle.sound_image.specs.Jobs.{Job}
 use Rattle.script_runner.specs.Lines.{rise_from, shows_past}
-use Rattle.script_runner.proofs.StepByStep.{AtStep}
+use Rattle.script_runner.proofs.Turns.{Turn}
 use Rattle.script_runner.proofs.run.run_steps.Given as goal
 
--- so many steps are made, and the lines that remain end with no earlier one
+-- so many steps are committed, and the lines that remain end with no earlier one
 abbrev pub invariant-loop-step : goal.invariant-loop-step
 invariant-loop-step g l = record {
   so_far : Told g.W.Shelf.tells l.fn.station l.station
-      (AtStep l.n l.steps l.fn.lines l.step l.rest (g.W.Shelf.world l.fn.station) (g.W.Shelf.world l.station));
+      (Turn (record { n = l.n; text = l.text; steps = l.steps; bytes = l.fn.job }) l.fn.lines l.step l.rest (g.W.Shelf.world l.fn.station) (g.W.Shelf.world l.station));
   rise : IsTrue (rise_from l.step l.rest);
   shown : IsTrue (list_all (shows_past (length l.steps)) l.rest);
   folder_later : (g.W.Shelf.faults l.fn.station).folder ≤ (g.W.Shelf.faults l.station).folder;
   say_later : (g.W.Shelf.faults l.fn.station).say ≤ (g.W.Shelf.faults l.station).say;
-  text_is : (path : List ℕ) → (g.W.Shelf.faults l.station).text path ≡ (g.W.Shelf.faults l.fn.station).text path;
+  text_is : (path : List ℕ) → (g.W.Shelf.faults l.station).text path ≡ (g.W.Shelf.faults l.fn.station).text path
 }

@@ -1,0 +1,104 @@
+-- How many steps stand behind what was said.
+use Rattle.std.proofs.Common.{◌≡◌, ◌≢◌, ◌∙◌, ◌⊎◌, ℕ, zero, suc, ◌+◌, ◌-◌, ◌/◌, ◌%◌, ◌<◌, ◌≤◌, ◌==◌, min, Bool, true, false, cond, List, [], ◌∷◌, ◌++◌, length, get_or, take, drop, refl, sym, ap, ap₂, subst, inl, inr, arith}
+use Rattle.std.specs.Prelude.{IsTrue, count_by, codes, nat_lt}
+use Rattle.std.specs.List.{flat_map}
+use Rattle.std.specs.Fmt.{decimal, digits, digits_onto, digit_glyph}
+use Rattle.std.proofs.lemmas.List.Sums.{sum_by-cons, sum_by-append}
+use Rattle.script_runner.proofs.LineOrder.{to_lt}
+use Rattle.script_runner.specs.declared.plan.LineEnd.{LineEnd}
+use Rattle.script_runner.specs.Text.{line_of, start_line, resume_line, nodes_line, one_node_line, ended_before}
+use Rattle.script_runner.specs.Said.{whole_lines, acknowledged, no_line, said_count}
+
+-- the whole lines of two parts
+pub whole_lines-append : (xs ys : List ℕ) → whole_lines (xs ++ ys) ≡ whole_lines xs + whole_lines ys
+whole_lines-append xs ys = sum_by-append (λ byte. cond (byte == 10) 1 0) xs ys
+
+whole_lines-cons : (x : ℕ) (xs : List ℕ) → whole_lines (x ∷ xs) ≡ cond (x == 10) 1 0 + whole_lines xs
+whole_lines-cons x xs = sum_by-cons (λ byte. cond (byte == 10) 1 0) x xs
+
+-- a front part has no more of them than the whole
+pub whole_lines-front : (xs ys : List ℕ) → whole_lines xs ≤ whole_lines (xs ++ ys)
+whole_lines-front xs ys = omega (arith, whole_lines-append xs ys)
+
+-- no digit ends a line
+no_feed : (d : ℕ) → d < 10 → (digit_glyph false d == 10) ≡ false
+no_feed d small = ap (λ b. cond b (48 + d) (87 + d) == 10) (to_lt d 10 small) ∙ above (48 + d) 10 (omega arith)
+  where
+    above : (a b : ℕ) → b < a → (a == b) ≡ false
+    above a b h = search (arith, h)
+
+digits_have_none : (k n : ℕ) (acc : List ℕ) → whole_lines acc ≡ 0 → whole_lines (digits_onto k 10 false n acc) ≡ 0
+digits_have_none zero n acc none = none
+digits_have_none (suc k) n acc none = by_last (n / 10 == 0) here (digits_have_none k (n / 10) (digit_glyph false (n % 10) ∷ acc) here)
+  where
+    here : whole_lines (digit_glyph false (n % 10) ∷ acc) ≡ 0
+    here = let small : n % 10 < 10 = omega arith in
+        whole_lines-cons (digit_glyph false (n % 10)) acc ∙ ap (λ b. cond b 1 0 + whole_lines acc) (no_feed (n % 10) small) ∙ sum (whole_lines acc) none
+      where
+        sum : (a : ℕ) → a ≡ 0 → 0 + a ≡ 0
+        sum a x = omega (arith, x)
+
+    by_last : (b : Bool) → whole_lines (digit_glyph false (n % 10) ∷ acc) ≡ 0 → whole_lines (digits_onto k 10 false (n / 10) (digit_glyph false (n % 10) ∷ acc)) ≡ 0
+        → whole_lines (cond b (digit_glyph false (n % 10) ∷ acc) (digits_onto k 10 false (n / 10) (digit_glyph false (n % 10) ∷ acc))) ≡ 0
+    by_last true x y = x
+    by_last false x y = y
+
+decimal_has_none : (n : ℕ) → whole_lines (decimal n) ≡ 0
+unfolding digits
+decimal_has_none n = digits_have_none 64 n [] refl
+
+-- a line is one
+line_is_one : (text : List ℕ) → whole_lines text ≡ 0 → whole_lines (line_of text) ≡ 1
+line_is_one text none = whole_lines-append text (10 ∷ []) ∙ ap (λ a. a + 1) none
+
+none_in_both : (xs ys : List ℕ) → whole_lines xs ≡ 0 → whole_lines ys ≡ 0 → whole_lines (xs ++ ys) ≡ 0
+none_in_both xs ys x y = whole_lines-append xs ys ∙ ap₂ (λ a b. a + b) x y
+
+pub start_line_is_one : (count : ℕ) → whole_lines (start_line count) ≡ 1
+start_line_is_one count = line_is_one (codes "start " ++ decimal count) (none_in_both (codes "start ") (decimal count) refl (decimal_has_none count))
+
+pub resume_line_is_one : (before count : ℕ) → whole_lines (resume_line before count) ≡ 1
+resume_line_is_one before count = line_is_one (((codes "resume " ++ decimal before) ++ codes " of ") ++ decimal count)
+    (none_in_both ((codes "resume " ++ decimal before) ++ codes " of ") (decimal count)
+    (none_in_both (codes "resume " ++ decimal before) (codes " of ") (none_in_both (codes "resume ") (decimal before) refl (decimal_has_none before)) refl)
+    (decimal_has_none count))
+
+nodes_line_is_one : (line count : ℕ) → whole_lines (nodes_line line count) ≡ 1
+nodes_line_is_one line count = line_is_one ((decimal line ++ codes ": nodes ") ++ decimal count)
+    (none_in_both (decimal line ++ codes ": nodes ") (decimal count) (none_in_both (decimal line) (codes ": nodes ") (decimal_has_none line) refl) (decimal_has_none count))
+
+-- so many lines are so many
+pub lines_are : (lines : List LineEnd) → whole_lines (flat_map one_node_line lines) ≡ length lines
+lines_are [] = refl
+lines_are (line ∷ lines) =
+    whole_lines-append (one_node_line line) (flat_map one_node_line lines) ∙ ap₂ (λ a b. a + b) (nodes_line_is_one line.line 1) (lines_are lines) ∙ one_more (length lines)
+  where
+    one_more : (n : ℕ) → 1 + n ≡ suc n
+    one_more n = omega arith
+
+-- where no more is acknowledged than lines that end before a step, no more steps stand behind what was said
+pub said_below : (done : ℕ) (lines : List LineEnd) (bytes : List ℕ) (place bound : ℕ) → ended_before done lines ≤ place
+    → (whole_lines bytes ≤ 1 + (place - ended_before done lines)) ⊎ (length lines ≤ place)
+    → ((i : ℕ) → i < place → (get_or lines i no_line).last < bound) → said_count done lines bytes ≤ bound
+said_below done lines bytes place bound begun few earlier = counted (acknowledged done lines bytes) few_acknowledged
+  where
+    few_acknowledged : acknowledged done lines bytes ≤ place
+    few_acknowledged = by_none (whole_lines bytes == 0)
+      where
+        by_none : (b : Bool) → cond b 0 (ended_before done lines + min (whole_lines bytes - 1) (length lines - ended_before done lines)) ≤ place
+        by_none true = omega arith
+        by_none false = elim few [ inl x ↦ omega (arith, x, begun) | inr x ↦ omega (arith, x, begun) ]
+
+    counted : (a : ℕ) → a ≤ place → cond (a == 0) 0 ((get_or lines (a - 1) no_line).last + 1) ≤ bound
+    counted zero h = omega arith
+    counted (suc a) h = let before : (get_or lines a no_line).last < bound = earlier a (omega (arith, h)) in step a before
+      where
+        step : (n : ℕ) → (get_or lines n no_line).last < bound → cond (suc n == 0) 0 ((get_or lines (suc n - 1) no_line).last + 1) ≤ bound
+        step n x = subst (λ b. cond b 0 ((get_or lines (suc n - 1) no_line).last + 1) ≤ bound) (sym (not_none n))
+            (subst (λ m. (get_or lines m no_line).last + 1 ≤ bound) (sym (one_less n)) (omega (arith, x)))
+          where
+            not_none : (m : ℕ) → (suc m == 0) ≡ false
+            not_none m = search arith
+
+            one_less : (m : ℕ) → suc m - 1 ≡ m
+            one_less m = omega arith
