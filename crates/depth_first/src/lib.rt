@@ -8,6 +8,3 @@ mod search;
 mod walk;
 
 pub use orders::{first_cycle, visit_order};
-
-#[cfg(test)]
-mod tests;
