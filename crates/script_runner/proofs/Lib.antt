@@ -19,3 +19,4 @@ pub mod Turns
 pub mod PlannedLines
 pub mod EnteredRuns
 pub mod Endings
+pub mod Lives

@@ -15,3 +15,4 @@ pub mod JobOf
 pub mod Status
 pub mod Entered
 pub mod Outcome
+pub mod Lives

@@ -1,4 +1,5 @@
-//! Runs a script on a station: reads the words and the script, makes each step's file and says its line.
+//! Runs a script on a station: stores its job, makes and commits the steps that are not committed yet, and says
+//! their lines.
 #![tactic(auto)]
 
 mod banner;
