@@ -1,0 +1,25 @@
+use Rattle.std.proofs.Common.{◌≡◌, ◌+◌, ◌<◌, ◌∙◌, ℕ, List, [], ◌∷◌, false, ap, sym, length, get_or, drop, arith}
+use Rattle.std.proofs.lemmas.List.{drop_more}
+use Rattle.bool_tables.specs.declared.steps.Step.TheVariants.{Const}
+use Rattle.blif_reader.specs.Netlist.{cover_at}
+use Rattle.blif_reader.specs.Answers.{net_of}
+use Rattle.net_plan.specs.Covers.{Draft, put, row, rows}
+use Rattle.net_plan.proofs.Growth.{passes_on, rows_begin, rows_below}
+use Rattle.net_plan.proofs.covers.push_rows.Goals as goal
+
+pub returns-in_err-sum : goal.returns-in_err-sum
+returns-in_err-sum c =
+    let rs : List (List ℕ) = (cover_at (net_of c.args.net.now) c.args.signal).rows in
+    let start : Draft = put c.args.first c.args.steps.now.items (Const false) in
+    passes_on c.args.first c.args.steps.now.items c.put_step.new.steps.items _ start (rows c.args.first start rs c.args.signals.now) c.from_residual.result c.in_err-sum.field-0.0 c.from_residual.ensures.1 c.in_err-sum.ensures (rows_begin c.args.first start rs c.args.signals.now)
+
+pub returns-in_err-sum-2 : goal.returns-in_err-sum-2
+returns-in_err-sum-2 c =
+    let d : Draft = record { steps = c.loop-place.steps.items; at = c.loop-place.sum } in
+    let rs : List (List ℕ) = (cover_at (net_of c.args.net.now) c.args.signal).rows in
+    let start : Draft = put c.args.first c.args.steps.now.items (Const false) in
+    let inside : c.loop-place.place < length rs = omega (arith, c.loop-place-test.true, c.row_count-place-end.ensures) in
+    let split : drop c.loop-place.place rs ≡ c.row.result.now ∷ drop (c.loop-place.place + 1) rs = drop_more rs c.loop-place.place [] inside ∙ ap (λ r. r ∷ drop (c.loop-place.place + 1) rs) (sym c.row.ensures) in
+    passes_on c.args.first c.loop-place.steps.items c.push_row.new.steps.items _ (row c.args.first d c.row.result.now c.args.signals.now) (rows c.args.first start rs c.args.signals.now)
+    c.from_residual-in_err-sum-2.result c.in_err-sum-2.field-0.0 c.from_residual-in_err-sum-2.ensures.1 c.in_err-sum-2.ensures
+    (rows_below c.args.first c.row.result.now d _ _ _ c.args.signals.now split c.loop-place.invariant.same)

@@ -1,0 +1,10 @@
+//! The steps that make the diagrams of a netlist's signals.
+#![tactic(auto)]
+
+mod covers;
+mod fault;
+mod plan;
+mod planner;
+
+pub use fault::PlanFault;
+pub use plan::{NetPlan, plan_signals};
