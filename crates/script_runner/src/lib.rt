@@ -8,6 +8,7 @@ mod entry;
 mod fetch;
 mod finish;
 mod job;
+pub mod laws;
 mod line;
 mod make;
 mod plan;

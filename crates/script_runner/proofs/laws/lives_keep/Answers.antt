@@ -1,0 +1,5 @@
+use Rattle.script_runner.proofs.Lives.{lives_keep}
+use Rattle.script_runner.proofs.laws.lives_keep.Goals as goal
+
+pub returns : goal.returns
+returns c = record { keeps = lives_keep }
