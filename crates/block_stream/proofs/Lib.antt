@@ -1,4 +1,4 @@
 pub mod RecordLaws
 pub mod ReadLaws
 pub mod ItemLaws
-mod WriteRuns
+pub mod WriteRuns

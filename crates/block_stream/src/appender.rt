@@ -130,6 +130,6 @@ impl<'r, T: Spill> Appender<'r, T> {
     pub fn count(&self) -> u64
         ensures { result ≡ count_of (filling_of self.now) }
     {
-        self.filling.stored + self.filling.waiting as u64
+        self.filling.count()
     }
 }

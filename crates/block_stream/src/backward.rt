@@ -5,7 +5,7 @@ ghost use Rattle.shelf_model.specs.Calls.{Told, longest};
 ghost use Rattle.shelf_model.specs.Faults.{OnlyShelf};
 ghost use Rattle.block_stream.specs.Reads.{Looked, IsBackward, SameRange, AreLoaded, WaitsBehind, GoesBack, IsAnswer, IsTorn, place_of};
 
-use crate::load::load;
+use crate::read::load;
 use crate::reading::Reading;
 use crate::record::piece_len;
 use rec_words::{Rec, Spill};

@@ -81,6 +81,13 @@ impl Filling {
             waiting: 0,
         })
     }
+    /// How many records were put, with those that the file had at first.
+    pub fn count(&self) -> u64
+        requires fills { (room : ℕ) × IsFilling self.now room }
+        ensures { result ≡ count_of self.now }
+    {
+        self.stored + self.waiting as u64
+    }
 }
 
 // Puts the records that wait at the end of the file.

@@ -5,7 +5,7 @@ ghost use Rattle.shelf_model.specs.Calls.{Told, longest};
 ghost use Rattle.shelf_model.specs.Faults.{OnlyShelf};
 ghost use Rattle.block_stream.specs.Reads.{Looked, HoldsRecords, AreValues, IsNoValueAt, IsDamageAt, IsFillDamage};
 
-use crate::load::load;
+use crate::read::load;
 use crate::reading::byte_place;
 use crate::record::piece_len;
 use rec_words::{Rec, Spill};

@@ -9,7 +9,7 @@ mod backward;
 mod filling;
 mod forward;
 mod front;
-mod load;
+mod read;
 mod reading;
 mod record;
 
@@ -18,4 +18,5 @@ pub use backward::Backward;
 pub use filling::{Filling, put_record, settle_records};
 pub use forward::Forward;
 pub use front::fill;
+pub use read::load;
 pub use reading::Reading;

@@ -1,7 +1,7 @@
 use Rattle.std.proofs.Common.{refl, arith}
 use Rattle.std.proofs.lemmas.Grind.{common_steps}
 use Rattle.block_stream.proofs.ReadLaws.{loaded_front}
-use Rattle.block_stream.proofs.load.load.Goals as goal
+use Rattle.block_stream.proofs.read.load.Goals as goal
 
 pub returns-clause-loaded : goal.returns-clause-loaded
 returns-clause-loaded g c t =

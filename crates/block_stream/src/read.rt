@@ -10,8 +10,9 @@ use crate::record::{PIECE, read_records};
 use rec_words::Rec;
 use shelf_model::{Failed, FileNo, Shelf};
 
-/// Reads records from a place on into the front of the window, and answers how many whole ones there are.
-pub(crate) fn load<S: Shelf>(
+/// Reads records from a place on into the front of the window, with one call, and answers how many whole
+/// ones there are. What they hold isn't looked at.
+pub fn load<S: Shelf>(
     f: FileNo,
     words: usize,
     place: u64,
