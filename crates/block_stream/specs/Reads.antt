@@ -106,13 +106,13 @@ pub record IsBackward (r : Reading) (room : ℕ) : Type 0 where
 abbrev pub GoesOn : {T : Type 0} → (T → Type 0) → Reading → Reading → Result (Option T) StreamFault → Type 0
 GoesOn is_value old new (Ok (Some x)) = is_value x × (place_of old < old.bound) × (place_of new ≡ place_of old + 1)
 GoesOn is_value old new (Ok None) = (place_of old ≡ old.bound) × (place_of new ≡ old.bound)
-GoesOn is_value old new (Err e) = (place_of old < old.bound) × IsDamageAt old.file old.words (place_of old) e
+GoesOn is_value old new (Err e) = (place_of old < old.bound) × IsDamageAt old.file old.words (place_of old) e × (place_of new ≡ place_of old)
 
 -- a value was the last of what is left of the range, and the place goes back by one; None is answered at the range's front alone
 abbrev pub GoesBack : {T : Type 0} → (T → Type 0) → Reading → Reading → Result (Option T) StreamFault → Type 0
 GoesBack is_value old new (Ok (Some x)) = is_value x × (old.bound < place_of old) × (place_of old ≡ place_of new + 1)
 GoesBack is_value old new (Ok None) = (place_of old ≡ old.bound) × (place_of new ≡ old.bound)
-GoesBack is_value old new (Err e) = (old.bound < place_of old) × IsDamageAt old.file old.words (place_of old - 1) e
+GoesBack is_value old new (Err e) = (old.bound < place_of old) × IsDamageAt old.file old.words (place_of old - 1) e × (place_of new ≡ place_of old)
 
 -- a window waits with a record that wasn't given, or none is left between the place and the bound
 abbrev pub Waits : Reading → Reading → Result Bool StreamFault → Type 0

@@ -79,6 +79,13 @@ impl<'r, T: Spill> Backward<'r, T> {
         next_backward(self.window, &mut self.reading, shelf)
     }
 
+    /// The file that is read.
+    pub fn file(&self) -> FileNo
+        ensures { result ≡ (reading_of self.now).file }
+    {
+        self.reading.file
+    }
+
     /// The place that the stream has come back to, in records: those before it are still to be given.
     pub fn place(&self) -> u64
         ensures { result ≡ place_of (reading_of self.now) }

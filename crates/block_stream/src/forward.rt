@@ -79,6 +79,13 @@ impl<'r, T: Spill> Forward<'r, T> {
         next_forward(self.window, &mut self.reading, shelf)
     }
 
+    /// The file that is read.
+    pub fn file(&self) -> FileNo
+        ensures { result ≡ (reading_of self.now).file }
+    {
+        self.reading.file
+    }
+
     /// The next place, in records.
     pub fn place(&self) -> u64
         ensures { result ≡ place_of (reading_of self.now) }

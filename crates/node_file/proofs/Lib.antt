@@ -1,0 +1,2 @@
+mod TrailerLaws
+mod NodeLaws

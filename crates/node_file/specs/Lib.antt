@@ -1,0 +1,3 @@
+pub mod Nodes
+pub mod Readers
+pub mod Writers

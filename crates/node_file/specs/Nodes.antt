@@ -1,0 +1,62 @@
+-- The nodes and the trailer in the bytes of a node file, and what of them is damaged.
+use Rattle.std.specs.Prelude.{◌≡◌, ◌⊎◌, ℕ, ◌-◌, ◌*◌, ◌/◌, ◌<◌, ◌≤◌, ◌==◌, Bool, not, ◌&&◌, nat_lt, List, ◌++◌, length, slice_index}
+use Rattle.rec_words.specs.Words.{level_of, IsTerminal, IsNodeWord}
+use Rattle.rec_words.specs.Records.{node_words}
+use Rattle.rec_words.specs.declared.rec.Rec.{Rec}
+use Rattle.rec_words.specs.declared.node.Node.{Node}
+use Rattle.shelf_model.specs.declared.fault.StreamFault.{StreamFault}
+use Rattle.shelf_model.specs.declared.fault.StreamFault.TheVariants.{Shelf, Damaged}
+use Rattle.canon_file.specs.Members.{Has}
+use Rattle.canon_file.specs.NodeFiles.{IsProper, IsDescending, EndsAt}
+use Rattle.canon_file.specs.Canon.{node_bytes, trailer_bytes}
+use Rattle.block_stream.specs.Records.{record_at}
+use Rattle.block_stream.specs.Reads.{IsRecordOf}
+
+-- the first word of the record at a place
+abbrev pub identifier_at : ℕ → List ℕ → ℕ
+identifier_at place bytes = slice_index (record_at 3 place bytes).w 0
+
+-- the node's level is below n, and its two pointers differ, each a truth value or a node of a deeper level
+abbrev pub is_sound : ℕ → Node → Bool
+is_sound n x = nat_lt (level_of x.uid) n && not (x.low == x.high) && nat_lt (level_of x.uid) (level_of x.low) && nat_lt (level_of x.uid) (level_of x.high)
+
+-- a whole record stands at that place, and it is that of this node, which may stand in a file for n variables
+pub record IsNodeAt (n place : ℕ) (bytes : List ℕ) (x : Node) : Type 0 where
+  pub proper : IsProper n x
+  pub record_is : IsRecordOf node_words 3 place bytes x
+
+-- at that place stands no whole record of such a node, or one whose identifier isn't below that of the record before it
+abbrev pub IsDamagedNode : ℕ → ℕ → List ℕ → Type 0
+IsDamagedNode n place bytes = ((x : Node) → ¬ IsNodeAt n place bytes x) ⊎ ((1 ≤ place) × (identifier_at (place - 1) bytes ≤ identifier_at place bytes))
+
+-- the damage is that of a node, at its place in bytes
+abbrev pub IsNodeDamage : ℕ → List ℕ → StreamFault → Type 0
+IsNodeDamage n bytes Shelf = Unit
+IsNodeDamage n bytes (Damaged f at) = (place : ℕ) × (at ≡ place * 24) × IsDamagedNode n place bytes
+
+-- a trailer is a root, how many nodes there are, and n; the root is the identifier of the last node, or a truth value where there
+-- is none
+pub record IsTrailer (n count root : ℕ) (trailer last : Rec) : Type 0 where
+  pub root_is : slice_index trailer.w 0 ≡ root
+  pub count_is : slice_index trailer.w 1 ≡ count
+  pub variables : slice_index trailer.w 2 ≡ n
+  pub none : count ≡ 0 → IsTerminal root
+  pub some : 0 < count → IsNodeWord root × (slice_index last.w 0 ≡ root)
+
+-- the bytes are whole records, the last of which is a trailer
+pub record HasTrailer (n root : ℕ) (bytes : List ℕ) : Type 0 where
+  pub long : 24 ≤ length bytes
+  pub whole : length bytes / 24 * 24 ≡ length bytes
+  pub trailer : IsTrailer n (length bytes / 24 - 1) root (record_at 3 (length bytes / 24 - 1) bytes) (record_at 3 (length bytes / 24 - 2) bytes)
+
+-- the damage is that of the trailer: at 24 bytes before the end, or at the front of a shorter file
+abbrev pub IsTrailerDamage : ℕ → List ℕ → StreamFault → Type 0
+IsTrailerDamage n bytes Shelf = Unit
+IsTrailerDamage n bytes (Damaged f at) = (at ≡ length bytes - 24) × ((root : ℕ) → ¬ HasTrailer n root bytes)
+
+-- a node file for n variables: its nodes and its trailer
+pub record HasNodes (n root : ℕ) (xs : List Node) (bytes : List ℕ) : Type 0 where
+  pub bytes_are : bytes ≡ node_bytes xs ++ trailer_bytes root (length xs) n
+  pub proper : (x : Node) → Has x xs → IsProper n x
+  pub descend : IsDescending xs
+  pub ends : EndsAt root xs
