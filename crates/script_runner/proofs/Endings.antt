@@ -75,21 +75,25 @@ module _ {S : Type 0} (tells : S → Bool) (world : S → World) where
       → (ending ≡ refusal.Script → IsTrue (tells t) → said (world t) ≡ said (world s) ++ refused_line)
       → Told tells old t (Ends words (status_of ending) (world old) (world t))
   answers_refused words reading bytes ending old s t words_are which refused text looked says whole = record {
-      before = λ tells_t. looked.before (says.before tells_t);
-      did = λ tells_t.
+    before = λ tells_t. looked.before (says.before tells_t);
+    did = λ tells_t.
         let tells_s : IsTrue (tells s) = says.before tells_t in
         let read : IsText reading.script 1048576 bytes (world old) = text tells_s in
         let refuses : Refuses (world old) words = record {
-          reading = reading; words_are = words_are; text = read.text; there = read.there; refused = refused_text read.text bytes read.bytes_are refused
+          reading = reading;
+          words_are = words_are;
+          text = read.text;
+          there = read.there;
+          refused = refused_text read.text bytes read.bytes_are refused;
         } in
         let line : SaysLine refused_line 3 (status_of ending) (world old) (world t) = record {
           status_is = two ending which;
           only = fetched_says refused_line (world old) (world s) (world t) (looked.did tells_s) (says.did tells_t);
           whole = λ three. whole (is_script ending which three) tells_t
-              ∙ ap (λ (m : Moment). m.said ++ refused_line) (still_there (world old) (world s) (looked.did tells_s))
+              ∙ ap (λ (m : Moment). m.said ++ refused_line) (still_there (world old) (world s) (looked.did tells_s));
         } in
-        inr (inr (inl (record { refuses = refuses; says = line })))
-    }
+        inr (inr (inl (record { refuses = refuses; says = line })));
+  }
     where
       two : (e : Ending) → (e ≡ refusal.Script) ⊎ (e ≡ SayFault) → (status_of e ≡ 3) ⊎ (status_of e ≡ 8)
       two e (inl x) = inl (ap status_of x)
@@ -107,23 +111,26 @@ module _ {S : Type 0} (tells : S → Bool) (world : S → World) where
       → Told tells s t (RunsIn reading.folder (record { n = plan.n; text = text; steps = plan.steps; bytes = job }) plan.lines status (world s) (world t))
       → Told tells old t (Ends words status (world old) (world t))
   answers_run words reading bytes text job plan status old s t words_are accepted text_is job_is fetched looked run = record {
-      before = λ tells_t. looked.before (run.before tells_t);
-      did = λ tells_t.
+    before = λ tells_t. looked.before (run.before tells_t);
+    did = λ tells_t.
         let tells_s : IsTrue (tells s) = run.before tells_t in
         let read : IsText reading.script 1048576 bytes (world old) = fetched tells_s in
         let accepts : Accepts (world old) words accepted.0 = record {
-          reading = reading; words_are = words_are; text = bytes;
+          reading = reading;
+          words_are = words_are;
+          text = bytes;
           there = read.there ∙ ap Some (sym (whole_text read.text bytes read.bytes_are accepted.1.short));
-          accepted = accepted.1
+          accepted = accepted.1;
         } in
         let by_plan : RunsIn reading.folder (record { n = (plan_of accepted.0).n; text = text; steps = (plan_of accepted.0).steps; bytes = job }) (plan_of accepted.0).lines status (world s) (world t) =
-          subst (λ (p : Plan). RunsIn reading.folder (record { n = p.n; text = text; steps = p.steps; bytes = job }) p.lines status (world s) (world t)) accepted.2 (run.did tells_t) in
+        subst (λ (p : Plan). RunsIn reading.folder (record { n = p.n; text = text; steps = p.steps; bytes = job }) p.lines status (world s) (world t)) accepted.2 (run.did tells_t) in
         let by_text : RunsIn reading.folder (record { n = (plan_of accepted.0).n; text = bytes; steps = (plan_of accepted.0).steps; bytes = job }) (plan_of accepted.0).lines status (world s) (world t) =
-          subst (λ (x : List ℕ). RunsIn reading.folder (record { n = (plan_of accepted.0).n; text = x; steps = (plan_of accepted.0).steps; bytes = job }) (plan_of accepted.0).lines status (world s) (world t)) text_is by_plan in
+        subst (λ (x : List ℕ). RunsIn reading.folder (record { n = (plan_of accepted.0).n; text = x; steps = (plan_of accepted.0).steps; bytes = job }) (plan_of accepted.0).lines status (world s) (world t)) text_is by_plan in
         let by_job : RunsIn reading.folder (job_of bytes accepted.0) (plan_of accepted.0).lines status (world s) (world t) =
-          subst (λ (x : List ℕ). RunsIn reading.folder (record { n = (plan_of accepted.0).n; text = bytes; steps = (plan_of accepted.0).steps; bytes = x }) (plan_of accepted.0).lines status (world s) (world t)) job_is by_text in
+        subst (λ (x : List ℕ). RunsIn reading.folder (record { n = (plan_of accepted.0).n; text = bytes; steps = (plan_of accepted.0).steps; bytes = x }) (plan_of accepted.0).lines status (world s) (world t)) job_is by_text in
         inr (inr (inr (record {
-          script = accepted.0; accepts = accepts;
-          run = fetched_runs reading.folder (job_of bytes accepted.0) (plan_of accepted.0).lines status (world old) (world s) (world t) (looked.did tells_s) by_job
-        })))
-    }
+          script = accepted.0;
+          accepts = accepts;
+          run = fetched_runs reading.folder (job_of bytes accepted.0) (plan_of accepted.0).lines status (world old) (world s) (world t) (looked.did tells_s) by_job;
+        })));
+  }

@@ -50,8 +50,11 @@ run_status finish status (inr (inr a)) = inr (inr (inr (inl a)))
 -- a run that has only begun
 answering_first : (job : Job) (lines : List LineEnd) (start : Moment) → IsAnswering job lines start start
 answering_first job lines start = record {
-  status = 0; text = run_text job lines (present start.folder); text_is = inl (refl, refl);
-  says = says_nothing start.said (run_text job lines (present start.folder)); others = λ f apart. refl
+  status = 0;
+  text = run_text job lines (present start.folder);
+  text_is = inl (refl, refl);
+  says = says_nothing start.said (run_text job lines (present start.folder));
+  others = λ f apart. refl;
 }
 
 running_first : (job : Job) (lines : List LineEnd) (start : Moment) → IsRunning job lines start start
@@ -65,13 +68,17 @@ running_first job lines start = record {
         sound = sound image is_image;
         has_said = omega (arith, none);
         has_old = λ count reaches. reaches image is_image;
-        stored = λ some. absurd (omega (arith, some, no_lines))
-      }
+        stored = λ some. absurd (omega (arith, some, no_lines));
+      };
 }
 
 is_answering : (job : Job) (lines : List LineEnd) (start m : Moment) → IsRunning job lines start m → IsAnswering job lines start m
 is_answering job lines start m running = record {
-  status = 0; text = run_text job lines (present start.folder); text_is = inl (refl, refl); says = running.says; others = running.others
+  status = 0;
+  text = run_text job lines (present start.folder);
+  text_is = inl (refl, refl);
+  says = running.says;
+  others = running.others;
 }
 
 -- nothing was done before
@@ -135,14 +142,19 @@ refused_from job lines finish good status line old mid new refuses which refused
   moments = joins old mid new (IsAnswering job lines (now old))
       (weakens old mid (IsRunning job lines (now old)) (IsAnswering job lines (now old)) (is_answering job lines (now old)) run.moments)
       (weakens mid new (IsSaying line (now mid)) (IsAnswering job lines (now old)) (λ m saying. record {
-        status = good; text = line; text_is = says_in;
+        status = good;
+        text = line;
+        text_is = says_in;
         says = subst (λ bytes. SaysFront bytes line m.said) (run.refused_says refused) saying.says;
-        others = subst (λ folder. OthersAre (length job.steps) (now old).folder folder) (sym saying.folder_is) (at_end old mid (IsRunning job lines (now old)) run.moments).others
+        others = subst (λ folder. OthersAre (length job.steps) (now old).folder folder) (sym saying.folder_is) (at_end old mid (IsRunning job lines (now old)) run.moments).others;
       }) says.moments);
   running = λ sound. absurd (run.goes_on sound refused);
   goes_on = λ sound. absurd (run.goes_on sound refused);
-  whole = λ ends. (line, subst (λ s. SaysIn job lines (present (now old).folder) s line) (sym (is_good ends)) says_in,
-      whole (is_good ends) ∙ ap (λ bytes. bytes ++ line) (run.refused_says refused));
+  whole = λ ends. (
+    line,
+    subst (λ s. SaysIn job lines (present (now old).folder) s line) (sym (is_good ends)) says_in,
+    whole (is_good ends) ∙ ap (λ bytes. bytes ++ line) (run.refused_says refused),
+  );
   all = λ zero. absurd (not_zero good status refuses which zero);
   kept = λ ends. joins old mid new (OnlyOldImages (now old)) (run.refused_keeps refused)
       (weakens mid new (IsSaying line (now mid)) (OnlyOldImages (now old)) (λ m saying. subst (λ folder. (image : Image) → IsImage folder image → IsImage (now old).folder image)
@@ -211,27 +223,27 @@ module _ {S : Type 0} (tells : S → Bool) (world : S → World) where
       → Told tells old t (RunsIn folder job lines status (world old) (world t))
   entered_runs folder job lines finish status x old s t was entered run =
       told_then tells old s t _ _ _ entered run (λ _ e r. enters_then folder job lines status x (world old) (world s) (world t) (run_status finish status was) e r.stays
-        (ran_from job lines finish status (world s) (world t) was r))
+      (ran_from job lines finish status (world s) (world t) was r))
 
   -- why a folder is refused, with the line that says so
   pub entered_refuses : (folder : List ℕ) (job : Job) (lines : List LineEnd) (finish : Finish) (good end : Ending) (line : List ℕ) (x : Unit) (old s t u : S)
       → Refused (status_of good) → RefusesFolder finish → (end ≡ good) ⊎ (end ≡ ending.SayFault)
       → (RunsSteps job lines finish (world s) (world t) → SaysIn job lines (present (now (world s)).folder) (status_of good) line
-        × (IsTrue (is_stored (present (now (world s)).folder)) → present (now (world s)).folder job_file ≢ job.bytes → status_of good ≡ 5))
+      × (IsTrue (is_stored (present (now (world s)).folder)) → present (now (world s)).folder job_file ≢ job.bytes → status_of good ≡ 5))
       → Told tells old s (Entered folder (Ok x) (world old) (world s)) → Told tells s t (RunsSteps job lines finish (world s) (world t))
       → Told tells t u (SaysOnly line (world t) (world u)) → (end ≡ good → IsTrue (tells u) → said (world u) ≡ said (world t) ++ line)
       → Told tells old u (RunsIn folder job lines (status_of end) (world old) (world u))
   entered_refuses folder job lines finish good end line x old s t u refused refuses which why entered run says whole = record {
-      before = λ tells_u. entered.before (run.before (says.before tells_u));
-      did = λ tells_u.
+    before = λ tells_u. entered.before (run.before (says.before tells_u));
+    did = λ tells_u.
         let tells_t : IsTrue (tells t) = says.before tells_u in
         let tells_s : IsTrue (tells s) = run.before tells_t in
         let r : RunsSteps job lines finish (world s) (world t) = run.did tells_t in
         enters_then folder job lines (status_of end) x (world old) (world s) (world u) (ends good end refused which) (entered.did tells_s)
-          (stays_then line (world s) (world t) (world u) r.stays (says.did tells_u))
-          (refused_from job lines finish (status_of good) (status_of end) line (world s) (world t) (world u) refused (statuses good end which) refuses (why r).0 (why r).1
-          r (says.did tells_u) (λ same. whole (is_it good end refused which same) tells_u))
-    }
+        (stays_then line (world s) (world t) (world u) r.stays (says.did tells_u))
+        (refused_from job lines finish (status_of good) (status_of end) line (world s) (world t) (world u) refused (statuses good end which) refuses (why r).0 (why r).1
+        r (says.did tells_u) (λ same. whole (is_it good end refused which same) tells_u));
+  }
     where
       statuses : (g e : Ending) → (e ≡ g) ⊎ (e ≡ ending.SayFault) → (status_of e ≡ status_of g) ⊎ (status_of e ≡ 8)
       statuses g e (inl a) = inl (ap status_of a)

@@ -24,16 +24,16 @@ lines_show : (step count total : ℕ) → step + count ≤ total → IsTrue (lis
 lines_show step zero total h = refl
 lines_show step (suc count) total h =
     both_true (nat_le step step && nat_lt step total) (list_all (shows_past total) (lines_from (step + 1) count))
-      (both_true (nat_le step step) (nat_lt step total) (test_le step step (omega arith)) (test_lt step total (omega arith)))
-      (lines_show (step + 1) count total (omega arith))
+    (both_true (nat_le step step) (nat_lt step total) (test_le step step (omega arith)) (test_lt step total (omega arith)))
+    (lines_show (step + 1) count total (omega arith))
 
 pub are_lines : (script : Script) → AreLines (plan_of script).steps (plan_of script).lines
 are_lines script = record {
-    in_order = lines_rise 0 0 (length script.requests) (omega arith);
-    show_past = subst (λ count. IsTrue (list_all (shows_past count) (lines_from 0 (length script.requests))))
-        (sym (length-steps_from script.variables (length (first_line script.variables)) script.requests))
-        (lines_show 0 (length script.requests) (length script.requests) (omega arith))
-  }
+  in_order = lines_rise 0 0 (length script.requests) (omega arith);
+  show_past = subst (λ count. IsTrue (list_all (shows_past count) (lines_from 0 (length script.requests))))
+      (sym (length-steps_from script.variables (length (first_line script.variables)) script.requests))
+      (lines_show 0 (length script.requests) (length script.requests) (omega arith));
+}
 
 pub only_variables : (variables : List (List ℕ)) (at : ℕ) (requests : List Request) → IsTrue (are_variables (steps_from variables at requests))
 only_variables variables at [] = refl

@@ -148,7 +148,8 @@ module _ (job : Job) (lines : List LineEnd) (plan : IsPlan job lines) (old : Wor
         within = within;
         rest_is = refl;
         feeds = omega (arith, one);
-        earlier = earlier; upto = is_standing.few;
+        earlier = earlier;
+        upto = is_standing.few;
       }
       at_first (Err e) whole stand says fronts counted one earlier = tt
 
@@ -168,7 +169,8 @@ module _ (job : Job) (lines : List LineEnd) (plan : IsPlan job lines) (old : Wor
     within = at.within;
     rest_is = at.rest_is;
     feeds = at.feeds;
-    earlier = at.earlier; upto = at.upto;
+    earlier = at.earlier;
+    upto = at.upto;
   }
 
   -- the step is committed
@@ -188,7 +190,8 @@ module _ (job : Job) (lines : List LineEnd) (plan : IsPlan job lines) (old : Wor
     within = at.within;
     rest_is = at.rest_is;
     feeds = at.feeds;
-    earlier = λ i inside. let before : (get_or lines i no_line).last < step = at.earlier i inside in omega (arith, before); upto = omega (arith, within);
+    earlier = λ i inside. let before : (get_or lines i no_line).last < step = at.earlier i inside in omega (arith, before);
+    upto = omega (arith, within);
   }
 
   -- the lines that come before a step are said, the first of those that remain
@@ -243,7 +246,8 @@ module _ (job : Job) (lines : List LineEnd) (plan : IsPlan job lines) (old : Wor
       feeds = let both : whole_lines (at.since ++ flat_map one_node_line (take count rest)) ≡ whole_lines at.since + whole_lines (flat_map one_node_line (take count rest)) =
           whole_lines-append at.since (flat_map one_node_line (take count rest)) in
           let f = at.feeds in let b = at.begun in omega (arith, both, size_of, f, b);
-      earlier = all_earlier; upto = at.upto;
+      earlier = all_earlier;
+      upto = at.upto;
     }
 
   -- the last line is said

@@ -6,17 +6,16 @@ ghost use Rattle.script_runner.specs.Built.{are_variables, is_variable_of};
 ghost use Rattle.script_runner.specs.Running.{RunsSteps};
 ghost use Rattle.script_runner.specs.Causes.{FinishHasCause};
 
-use bool_tables::{Planned, Step};
-use canon_file::var_file;
-use catalogue::{AttachFault, attach, commit};
-use rec_words::Rec;
-use shelf_model::{FileNo, Station};
-
 use crate::banner::banner_line;
 use crate::entry::variable_entry;
 use crate::make::make_file;
 use crate::say::{count_before, say_lines};
 use crate::{Finish, LineEnd};
+use bool_tables::{Planned, Step};
+use canon_file::var_file;
+use catalogue::{AttachFault, attach, commit};
+use rec_words::Rec;
+use shelf_model::{FileNo, Station};
 
 /// Runs the steps of a job from where the folder stands: attaches the job, says how many lines there
 /// will be, makes and commits each step that isn't committed yet and says the lines that end with it,

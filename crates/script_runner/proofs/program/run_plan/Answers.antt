@@ -62,10 +62,10 @@ returns-in-OtherJob-clause-content g c =
     (RunsSteps (record { n = c.args.plan.now.n; text = c.args.text.now; steps = ss; bytes = c.args.job.now }) c.items-2.result.now (OtherJob c.in-OtherJob.at) (g.W.Shelf.world c.enter.new.self) (g.W.Shelf.world c.run_steps-finish.new.station))) c.items.ensures
     c.in-OtherJob.ensures.content) in
     entered_refuses g.W.Shelf.tells g.W.Shelf.world c.args.folder.now job c.args.plan.now.lines (OtherJob c.in-OtherJob.at) ending.OtherJob c.say_refusal.result c.as_bytes.result.now c.in-Ok.field-0 _ _ _ _
-      (inl refl) tt c.say_refusal.ensures.which
-      (λ r. why_other job c.args.plan.now.lines c.in-OtherJob.at c.as_bytes.result.now (g.W.Shelf.world c.enter.new.self) (g.W.Shelf.world c.run_steps-finish.new.station)
-      (c.as_bytes.ensures.value ∙ c.as_str.ensures.value ∙ c.other_job_line.ensures.text) r)
-      c.in-Ok.ensures.content run c.say_refusal.ensures.content c.say_refusal.ensures.whole
+    (inl refl) tt c.say_refusal.ensures.which
+    (λ r. why_other job c.args.plan.now.lines c.in-OtherJob.at c.as_bytes.result.now (g.W.Shelf.world c.enter.new.self) (g.W.Shelf.world c.run_steps-finish.new.station)
+    (c.as_bytes.ensures.value ∙ c.as_str.ensures.value ∙ c.other_job_line.ensures.text) r)
+    c.in-Ok.ensures.content run c.say_refusal.ensures.content c.say_refusal.ensures.whole
 
 pub returns-in-Damaged-clause-content : goal.returns-in-Damaged-clause-content
 returns-in-Damaged-clause-content g c =
@@ -78,7 +78,7 @@ returns-in-Damaged-clause-content g c =
     (RunsSteps (record { n = c.args.plan.now.n; text = c.args.text.now; steps = ss; bytes = c.args.job.now }) c.items-2.result.now (Damaged c.in-Damaged.file c.in-Damaged.at) (g.W.Shelf.world c.enter.new.self) (g.W.Shelf.world c.run_steps-finish.new.station))) c.items.ensures
     c.in-Damaged.ensures.content) in
     entered_refuses g.W.Shelf.tells g.W.Shelf.world c.args.folder.now job c.args.plan.now.lines (Damaged c.in-Damaged.file c.in-Damaged.at) ending.Damaged c.say_refusal-in-Damaged.result c.as_bytes-in-Damaged.result.now c.in-Ok.field-0 _ _ _ _
-      (inr refl) tt c.say_refusal-in-Damaged.ensures.which
-      (λ r. why_damaged job c.args.plan.now.lines c.in-Damaged.file c.in-Damaged.at c.as_bytes-in-Damaged.result.now (g.W.Shelf.world c.enter.new.self) (g.W.Shelf.world c.run_steps-finish.new.station)
-      (c.as_bytes-in-Damaged.ensures.value ∙ c.as_str-in-Damaged.ensures.value ∙ c.damaged_line.ensures.text) r)
-      c.in-Ok.ensures.content run c.say_refusal-in-Damaged.ensures.content c.say_refusal-in-Damaged.ensures.whole
+    (inr refl) tt c.say_refusal-in-Damaged.ensures.which
+    (λ r. why_damaged job c.args.plan.now.lines c.in-Damaged.file c.in-Damaged.at c.as_bytes-in-Damaged.result.now (g.W.Shelf.world c.enter.new.self) (g.W.Shelf.world c.run_steps-finish.new.station)
+    (c.as_bytes-in-Damaged.ensures.value ∙ c.as_str-in-Damaged.ensures.value ∙ c.damaged_line.ensures.text) r)
+    c.in-Ok.ensures.content run c.say_refusal-in-Damaged.ensures.content c.say_refusal-in-Damaged.ensures.whole

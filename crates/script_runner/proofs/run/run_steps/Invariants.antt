@@ -16,5 +16,5 @@ invariant-loop-step g l = record {
   shown : IsTrue (list_all (shows_past (length l.steps)) l.rest);
   folder_later : (g.W.Shelf.faults l.fn.station).folder ≤ (g.W.Shelf.faults l.station).folder;
   say_later : (g.W.Shelf.faults l.fn.station).say ≤ (g.W.Shelf.faults l.station).say;
-  text_is : (path : List ℕ) → (g.W.Shelf.faults l.station).text path ≡ (g.W.Shelf.faults l.fn.station).text path
+  text_is : (path : List ℕ) → (g.W.Shelf.faults l.station).text path ≡ (g.W.Shelf.faults l.fn.station).text path;
 }
