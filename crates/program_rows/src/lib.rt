@@ -7,6 +7,8 @@ mod bench_run;
 #[cfg(test)]
 mod failing_calls;
 #[cfg(test)]
+mod files;
+#[cfg(test)]
 mod node_files;
 #[cfg(test)]
 mod refusals;

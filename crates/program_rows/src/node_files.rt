@@ -1,5 +1,6 @@
 // What accepted scripts say, and the bytes that they leave. Numbers in files have the highest byte first.
 use crate::bench_run::{ONE_VARIABLE, RUN, bench_with, run};
+use crate::files::{CATALOGUE, JOB, JOB_GATE, STEP_GATE, entry};
 use shelf_memory::Bench;
 use shelf_model::FileNo;
 use std::test::Fail;
@@ -71,6 +72,46 @@ fn writes_numbers_with_the_highest_byte_first(rt: HostRuntime) -> Result<(), Fai
     let mut bench = bench_with(rt.alloc(), ONE_VARIABLE)?;
     assert_eq!(rt; run(rt.alloc(), &RUN, &mut bench)?, 0);
     assert_eq!(rt; bench.file(node_file(0)), wanted.as_slice());
+    Ok(())
+}
+
+#[test]
+fn keeps_the_job_and_the_gates(rt: HostRuntime) -> Result<(), Fail> {
+    // A room of 262,144 records, the length of the script, no netlist, and the script; the step gate.
+    let cases: [(&[u8], &[u8], &[u8]); 3] = [
+        (
+            b"vars a\n",
+            b"ADIARJ01\x00\x04\x00\x00\x00\x00\x00\x07\xff\xff\xff\xffvars a\n",
+            b"",
+        ),
+        (
+            ONE_VARIABLE,
+            b"ADIARJ01\x00\x04\x00\x00\x00\x00\x00\x13\xff\xff\xff\xffvars a b c\nvar f b\n",
+            b"\x00",
+        ),
+        (
+            b"vars a b c\nvar f a\nvar g b\nvar h c\n",
+            b"ADIARJ01\x00\x04\x00\x00\x00\x00\x00\x23\xff\xff\xff\xff\
+              vars a b c\nvar f a\nvar g b\nvar h c\n",
+            b"\x00\x00\x00",
+        ),
+    ];
+    for (script, job, gate) in cases {
+        let mut bench = bench_with(rt.alloc(), script)?;
+        assert_eq!(rt; run(rt.alloc(), &RUN, &mut bench)?, 0, "{script:?}");
+        assert_eq!(rt; bench.file(JOB), job, "{script:?}");
+        assert_eq!(rt; bench.file(JOB_GATE), b"\x00".as_slice(), "{script:?}");
+        assert_eq!(rt; bench.file(STEP_GATE), gate, "{script:?}");
+    }
+    Ok(())
+}
+
+#[test]
+fn keeps_the_entry_of_a_step(rt: HostRuntime) -> Result<(), Fail> {
+    let wanted = entry(0, b'f');
+    let mut bench = bench_with(rt.alloc(), ONE_VARIABLE)?;
+    assert_eq!(rt; run(rt.alloc(), &RUN, &mut bench)?, 0);
+    assert_eq!(rt; bench.file(CATALOGUE), wanted.as_slice());
     Ok(())
 }
 

@@ -1,0 +1,35 @@
+// The files of a folder, by hand, and the bytes of a job and of an entry. Numbers have the highest byte first.
+use shelf_model::FileNo;
+
+pub(crate) const JOB: FileNo = FileNo {
+    step: 4_294_967_295,
+    part: 0,
+};
+
+pub(crate) const JOB_GATE: FileNo = FileNo {
+    step: 4_294_967_295,
+    part: 1,
+};
+
+pub(crate) const CATALOGUE: FileNo = FileNo {
+    step: 4_294_967_295,
+    part: 2,
+};
+
+pub(crate) const STEP_GATE: FileNo = FileNo {
+    step: 4_294_967_295,
+    part: 3,
+};
+
+/// The entry of a variable's step: its number, kind 1, a name of one letter, one node, one turn, and 3 as its next part.
+pub(crate) fn entry(step: u8, name: u8) -> [u8; 128] {
+    let mut bytes = [0; 128];
+    bytes[3] = step;
+    bytes[4] = 1;
+    bytes[6] = 1;
+    bytes[15] = 1;
+    bytes[23] = 1;
+    bytes[31] = 3;
+    bytes[32] = name;
+    bytes
+}
