@@ -1,2 +1,3 @@
 mod TrailerLaws
 mod NodeLaws
+mod SkipLaws

@@ -27,14 +27,14 @@ pub struct NodeReader<'r> {
 }
 
 impl<'r> NodeReader<'r> {
-    ghost use Rattle.std.specs.Prelude.{◌/◌, List, length, OnOk, IfOk, IfErr, None};
+    ghost use Rattle.std.specs.Prelude.{◌/◌, min, List, length, OnOk, IfOk, IfErr, None};
     ghost use Rattle.shelf_model.specs.World.{file};
     ghost use Rattle.shelf_model.specs.Calls.{Told};
     ghost use Rattle.shelf_model.specs.Faults.{OnlyShelf};
     ghost use Rattle.rec_words.specs.declared.node.Node.{Node};
     ghost use Rattle.block_stream.specs.Reads.{Looked, IsDamageOf};
     ghost use Rattle.block_stream.specs.Items.{GivesLast};
-    ghost use Rattle.node_file.specs.Nodes.{HasTrailer, IsTrailerDamage};
+    ghost use Rattle.node_file.specs.Nodes.{HasTrailer, IsTrailerDamage, IsNodeDamage};
     ghost use Rattle.node_file.specs.Readers.{file_of, trailer_of, left_of, given_of, Reads, AreLeft, GoesUp, IsNodeAnswer};
 
     /// Begins with the root of a file for n variables.
@@ -65,6 +65,59 @@ impl<'r> NodeReader<'r> {
             trailer,
             given: None,
         })
+    }
+
+    /// Begins before the nodes that stand at a place and behind it, as after so many calls of `next`. Where
+    /// the file has fewer nodes it begins with the root.
+    pub fn resume<S: Shelf>(
+        f: FileNo,
+        n: u32,
+        place: u64,
+        window: &'r mut [Rec],
+        shelf: &mut S,
+    ) -> Result<NodeReader<'r>, StreamFault>
+        requires enough { 8 ≤ length window.old }
+        ensures file { IfOk result (λ r. file_of r ≡ f) }
+        ensures variables { IfOk result (λ r. (trailer_of r).n ≡ n) }
+        ensures place { IfOk result (λ r. left_of r ≡ min place (trailer_of r).count) }
+        ensures trailer { IfOk result (λ r. IsTrue (S.tells shelf.new) →
+            let bytes = (file (S.world shelf.old) f).bytes in
+            HasTrailer n (trailer_of r).root bytes × ((trailer_of r).count ≡ length bytes / 24 - 1)) }
+        ensures reads { IfOk result (λ r. IsTrue (S.tells shelf.new) →
+            Reads r (file (S.world shelf.old) f).bytes) }
+        ensures damage { IfErr result (IsDamageOf f) }
+        ensures damaged { IfErr result (λ e. IsTrue (S.tells shelf.new) →
+            let bytes = (file (S.world shelf.old) f).bytes in
+            IsTrailerDamage n bytes e ⊎ IsNodeDamage n bytes e) }
+        ensures content { Told S.tells shelf.old shelf.new
+            (Looked (2 + (length (file (S.world shelf.old) f).bytes / 24 - 1 - place)) (S.world shelf.old) (S.world shelf.new)) }
+        ensures faults { OnlyShelf (S.faults shelf.old) (S.faults shelf.new) result }
+    {
+        let mut reader = NodeReader::start(f, n, window, shelf)?;
+        reader.skip_to(place, shelf)?;
+        Ok(reader)
+    }
+
+    // Passes over the nodes at a place and behind it.
+    fn skip_to<S: Shelf>(&mut self, place: u64, shelf: &mut S) -> Result<(), StreamFault>
+        ensures file { file_of self.new ≡ file_of self.old }
+        ensures trailer { trailer_of self.new ≡ trailer_of self.old }
+        ensures place { OnOk result (left_of self.new ≡ min place (left_of self.old)) }
+        ensures reads { IsTrue (S.tells shelf.new) →
+            let bytes = (file (S.world shelf.old) (file_of self.old)).bytes in
+            Reads self.old bytes → OnOk result (Reads self.new bytes) }
+        ensures damage { IfErr result (IsDamageOf (file_of self.old)) }
+        ensures damaged { IsTrue (S.tells shelf.new) →
+            let bytes = (file (S.world shelf.old) (file_of self.old)).bytes in
+            Reads self.old bytes → IfErr result (IsNodeDamage (trailer_of self.old).n bytes) }
+        ensures content { Told S.tells shelf.old shelf.new
+            (Looked (left_of self.old - place) (S.world shelf.old) (S.world shelf.new)) }
+        ensures faults { OnlyShelf (S.faults shelf.old) (S.faults shelf.new) result }
+    {
+        'skip: while self.nodes.place() > place {
+            self.next(shelf)?;
+        }
+        Ok(())
     }
 
     /// The node before the reader's place: the first one is the root, and identifiers ascend.
