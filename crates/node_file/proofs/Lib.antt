@@ -1,3 +1,4 @@
 mod TrailerLaws
 mod NodeLaws
 mod SkipLaws
+pub mod FileLaws

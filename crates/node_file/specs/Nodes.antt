@@ -1,5 +1,5 @@
 -- The nodes and the trailer in the bytes of a node file, and what of them is damaged.
-use Rattle.std.specs.Prelude.{◌≡◌, ◌⊎◌, ℕ, ◌-◌, ◌*◌, ◌/◌, ◌<◌, ◌≤◌, ◌==◌, Bool, not, ◌&&◌, nat_lt, List, ◌++◌, length, slice_index}
+use Rattle.std.specs.Prelude.{◌≡◌, ◌⊎◌, ℕ, ◌-◌, ◌*◌, ◌/◌, ◌^◌, ◌<◌, ◌≤◌, ◌==◌, Bool, not, ◌&&◌, nat_lt, List, ◌++◌, length, slice_index}
 use Rattle.rec_words.specs.Words.{level_of, IsTerminal, IsNodeWord}
 use Rattle.rec_words.specs.Records.{node_words}
 use Rattle.rec_words.specs.declared.rec.Rec.{Rec}
@@ -57,6 +57,7 @@ IsTrailerDamage n bytes (Damaged f at) = (at ≡ length bytes - 24) × ((root : 
 -- a node file for n variables: its nodes and its trailer
 pub record HasNodes (n root : ℕ) (xs : List Node) (bytes : List ℕ) : Type 0 where
   pub bytes_are : bytes ≡ node_bytes xs ++ trailer_bytes root (length xs) n
+  pub few : length xs < 2 ^ 64
   pub proper : (x : Node) → Has x xs → IsProper n x
   pub descend : IsDescending xs
   pub ends : EndsAt root xs

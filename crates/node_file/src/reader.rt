@@ -34,7 +34,7 @@ impl<'r> NodeReader<'r> {
     ghost use Rattle.rec_words.specs.declared.node.Node.{Node};
     ghost use Rattle.block_stream.specs.Reads.{Looked, IsDamageOf};
     ghost use Rattle.block_stream.specs.Items.{GivesLast};
-    ghost use Rattle.node_file.specs.Nodes.{HasTrailer, IsTrailerDamage, IsNodeDamage};
+    ghost use Rattle.node_file.specs.Nodes.{HasTrailer, HasNodes, IsTrailerDamage, IsNodeDamage};
     ghost use Rattle.node_file.specs.Readers.{file_of, trailer_of, left_of, given_of, Reads, AreLeft, GoesUp, IsNodeAnswer};
 
     /// Begins with the root of a file for n variables.
@@ -53,6 +53,11 @@ impl<'r> NodeReader<'r> {
             let bytes = (file (S.world shelf.old) f).bytes in
             HasTrailer n (trailer_of r).root bytes × ((trailer_of r).count ≡ length bytes / 24 - 1)) }
         ensures reads { IfOk result (λ r. (bytes : List ℕ) → Reads r bytes) }
+        ensures nodes { IfOk result (λ r. IsTrue (S.tells shelf.new) → (root : ℕ) → (xs : List Node) →
+            let bytes = (file (S.world shelf.old) f).bytes in HasNodes n root xs bytes →
+            ((trailer_of r).count ≡ length xs) × AreLeft r bytes xs) }
+        ensures sound { IfErr result (λ e. IsTrue (S.tells shelf.new) → (root : ℕ) → (xs : List Node) →
+            HasNodes n root xs (file (S.world shelf.old) f).bytes → e ≡ StreamFault.Shelf) }
         ensures damage { IfErr result (IsDamageOf f) }
         ensures damaged { IfErr result (λ e. IsTrue (S.tells shelf.new) →
             IsTrailerDamage n (file (S.world shelf.old) f).bytes e) }
