@@ -10,6 +10,12 @@ pub(crate) const RUN: [&str; 5] = ["adiar", "run", "FOLDER", "--script", "script
 /// A script of one request.
 pub(crate) const ONE_VARIABLE: &[u8] = b"vars a b c\nvar f b\n";
 
+/// A script of three requests.
+pub(crate) const THREE_VARIABLES: &[u8] = b"vars a b c\nvar f a\nvar g b\nvar h c\n";
+
+/// What its run says in an empty folder.
+pub(crate) const THREE_TEXT: &[u8] = b"start 3\n2: nodes 1\n3: nodes 1\n4: nodes 1\ndone\n";
+
 /// A station with a script at the path that `RUN` names.
 pub(crate) fn bench_with(alloc: Global, script: &[u8]) -> Result<Bench, Fail> {
     let mut bench = Bench::empty(alloc);

@@ -1,4 +1,5 @@
 // The files of a folder, by hand, and the bytes of a job and of an entry. Numbers have the highest byte first.
+use shelf_memory::Bench;
 use shelf_model::FileNo;
 
 pub(crate) const JOB: FileNo = FileNo {
@@ -32,4 +33,33 @@ pub(crate) fn entry(step: u8, name: u8) -> [u8; 128] {
     bytes[31] = 3;
     bytes[32] = name;
     bytes
+}
+
+/// The files of a folder of three steps but for its gates, and some that stay empty.
+const FILES: [FileNo; 14] = [
+    JOB,
+    CATALOGUE,
+    FileNo { step: 0, part: 0 },
+    FileNo { step: 0, part: 1 },
+    FileNo { step: 0, part: 2 },
+    FileNo { step: 0, part: 3 },
+    FileNo { step: 1, part: 0 },
+    FileNo { step: 1, part: 1 },
+    FileNo { step: 1, part: 2 },
+    FileNo { step: 1, part: 3 },
+    FileNo { step: 2, part: 0 },
+    FileNo { step: 2, part: 1 },
+    FileNo { step: 2, part: 2 },
+    FileNo { step: 3, part: 0 },
+];
+
+/// Whether the files of two folders read alike, and their gates are as long: what the bytes of a gate are means nothing.
+pub(crate) fn same_files(a: &Bench, b: &Bench) -> bool {
+    for f in FILES {
+        if a.file(f) != b.file(f) {
+            return false;
+        }
+    }
+    a.file(JOB_GATE).len() == b.file(JOB_GATE).len()
+        && a.file(STEP_GATE).len() == b.file(STEP_GATE).len()
 }

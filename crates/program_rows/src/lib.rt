@@ -5,6 +5,8 @@
 #[cfg(test)]
 mod bench_run;
 #[cfg(test)]
+mod every_stop;
+#[cfg(test)]
 mod failing_calls;
 #[cfg(test)]
 mod files;
@@ -12,3 +14,5 @@ mod files;
 mod node_files;
 #[cfg(test)]
 mod refusals;
+#[cfg(test)]
+mod restart;

@@ -1,0 +1,125 @@
+// A run of three requests that is stopped at any of its calls, or of which any one call fails, and is then run again.
+use crate::bench_run::{RUN, THREE_TEXT, THREE_VARIABLES, bench_with, run};
+use crate::files::same_files;
+use shelf_memory::{Bench, Choice};
+use std::alloc::{AllocError, Global};
+use std::test::Fail;
+
+/// The calls of a run in an empty folder: three before the folder is read, ten that store the job, one that says how
+/// many lines there are, nine for each of three steps, and one that says that all was done.
+const CALLS: u64 = 42;
+
+const CHOICES: [Choice; 6] = [
+    Choice::Firm,
+    Choice::Present,
+    Choice::Fill(255),
+    Choice::Mixed(0),
+    Choice::Mixed(1),
+    Choice::Mixed(2),
+];
+
+/// What a run may have said before it was stopped, and how many steps' lines are in it.
+const FRONTS: [(usize, &[u8]); 6] = [
+    (0, b""),
+    (0, b"start 3\n"),
+    (1, b"start 3\n2: nodes 1\n"),
+    (2, b"start 3\n2: nodes 1\n3: nodes 1\n"),
+    (3, b"start 3\n2: nodes 1\n3: nodes 1\n4: nodes 1\n"),
+    (3, THREE_TEXT),
+];
+
+/// What the next run may say, and how many lines it counts as said before.
+const RESTS: [(usize, &[u8]); 5] = [
+    (0, THREE_TEXT),
+    (
+        0,
+        b"resume 0 of 3\n2: nodes 1\n3: nodes 1\n4: nodes 1\ndone\n",
+    ),
+    (1, b"resume 1 of 3\n3: nodes 1\n4: nodes 1\ndone\n"),
+    (2, b"resume 2 of 3\n4: nodes 1\ndone\n"),
+    (3, b"resume 3 of 3\ndone\n"),
+];
+
+/// The status of a run that ends with the call of that number: two fetch, five say. No call fails at the number behind the last.
+fn status_at(call: u64) -> u8 {
+    match call {
+        0 | 1 => 6,
+        13 | 22 | 31 | 40 | 41 => 8,
+        42 => 0,
+        _ => 7,
+    }
+}
+
+/// The front part of the text that was said, and how many steps' lines are in it.
+fn front_of(said: &[u8]) -> Option<(usize, &'static [u8])> {
+    for (lines, front) in FRONTS {
+        if said == front {
+            return Some((lines, front));
+        }
+    }
+    None
+}
+
+/// Whether what was said is this front part and then a whole text that counts at least its lines.
+fn goes_on(alloc: Global, said: &[u8], lines: usize, front: &[u8]) -> Result<bool, AllocError> {
+    for (count, rest) in RESTS {
+        let mut whole = Vec::from_slice(alloc, front)?;
+        whole.extend_from_slice(rest)?;
+        if lines <= count && said == whole.as_slice() {
+            return Ok(true);
+        }
+    }
+    Ok(false)
+}
+
+/// A folder in which the script was run with no stop.
+fn unstopped(alloc: Global) -> Result<Bench, Fail> {
+    let mut bench = bench_with(alloc, THREE_VARIABLES)?;
+    run(alloc, &RUN, &mut bench)?;
+    Ok(bench)
+}
+
+#[test]
+fn makes_the_same_files_after_a_stop(rt: HostRuntime) -> Result<(), Fail> {
+    let whole = unstopped(rt.alloc())?;
+    assert_eq!(rt; whole.clock(), CALLS);
+    for call in 0..=CALLS {
+        for choice in CHOICES {
+            let mut first = bench_with(rt.alloc(), THREE_VARIABLES)?;
+            first.fail_from(call);
+            assert_eq!(rt;
+                run(rt.alloc(), &RUN, &mut first)?,
+                status_at(call),
+                "{call}"
+            );
+            let (lines, _) = front_of(first.said()).ok_or("no front part")?;
+            let mut next = first.stop(choice)?;
+            assert_eq!(rt; run(rt.alloc(), &RUN, &mut next)?, 0, "{call}, {choice:?}");
+            assert!(rt;
+                goes_on(rt.alloc(), next.said(), lines, b"")?,
+                "{call}, {choice:?}"
+            );
+            assert!(rt; same_files(&next, &whole), "{call}, {choice:?}");
+        }
+    }
+    Ok(())
+}
+
+#[test]
+fn makes_the_same_files_after_a_call_that_failed(rt: HostRuntime) -> Result<(), Fail> {
+    let whole = unstopped(rt.alloc())?;
+    for call in 0..CALLS {
+        let mut bench = bench_with(rt.alloc(), THREE_VARIABLES)?;
+        bench.fail_at(call)?;
+        assert_eq!(rt;
+            run(rt.alloc(), &RUN, &mut bench)?,
+            status_at(call),
+            "{call}"
+        );
+        let (lines, front) = front_of(bench.said()).ok_or("no front part")?;
+        assert_eq!(rt; run(rt.alloc(), &RUN, &mut bench)?, 0, "{call}");
+        assert!(rt; goes_on(rt.alloc(), bench.said(), lines, front)?, "{call}");
+        assert!(rt; same_files(&bench, &whole), "{call}");
+    }
+    Ok(())
+}
