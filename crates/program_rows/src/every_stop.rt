@@ -9,15 +9,6 @@ use std::test::Fail;
 /// many lines there are, nine for each of three steps, and one that says that all was done.
 const CALLS: u64 = 42;
 
-const CHOICES: [Choice; 6] = [
-    Choice::Firm,
-    Choice::Present,
-    Choice::Fill(255),
-    Choice::Mixed(0),
-    Choice::Mixed(1),
-    Choice::Mixed(2),
-];
-
 /// What a run may have said before it was stopped, and how many steps' lines are in it.
 const FRONTS: [(usize, &[u8]); 6] = [
     (0, b""),
@@ -79,29 +70,58 @@ fn unstopped(alloc: Global) -> Result<Bench, Fail> {
     Ok(bench)
 }
 
-#[test]
-fn makes_the_same_files_after_a_stop(rt: HostRuntime) -> Result<(), Fail> {
-    let whole = unstopped(rt.alloc())?;
-    assert_eq!(rt; whole.clock(), CALLS);
+/// Stops a run at each of its calls, goes on from what the choice leaves, and says at which call the text or the files
+/// aren't those of a run that nobody stopped.
+fn first_loss(alloc: Global, choice: Choice) -> Result<Option<u64>, Fail> {
+    let whole = unstopped(alloc)?;
     for call in 0..=CALLS {
-        for choice in CHOICES {
-            let mut first = bench_with(rt.alloc(), THREE_VARIABLES)?;
-            first.fail_from(call);
-            assert_eq!(rt;
-                run(rt.alloc(), &RUN, &mut first)?,
-                status_at(call),
-                "{call}"
-            );
-            let (lines, _) = front_of(first.said()).ok_or("no front part")?;
-            let mut next = first.stop(choice)?;
-            assert_eq!(rt; run(rt.alloc(), &RUN, &mut next)?, 0, "{call}, {choice:?}");
-            assert!(rt;
-                goes_on(rt.alloc(), next.said(), lines, b"")?,
-                "{call}, {choice:?}"
-            );
-            assert!(rt; same_files(&next, &whole), "{call}, {choice:?}");
+        let mut first = bench_with(alloc, THREE_VARIABLES)?;
+        first.fail_from(call);
+        let status = run(alloc, &RUN, &mut first)?;
+        let (lines, _) = front_of(first.said()).ok_or("no front part")?;
+        let mut next = first.stop(choice)?;
+        let next_status = run(alloc, &RUN, &mut next)?;
+        let kept = goes_on(alloc, next.said(), lines, b"")? && same_files(&next, &whole);
+        if status != status_at(call) || next_status != 0 || !kept {
+            return Ok(Some(call));
         }
     }
+    Ok(None)
+}
+
+#[test]
+fn loses_nothing_with_nothing_pending_left(rt: HostRuntime) -> Result<(), Fail> {
+    assert_eq!(rt; first_loss(rt.alloc(), Choice::Firm)?, None);
+    Ok(())
+}
+
+#[test]
+fn loses_nothing_with_all_that_was_pending(rt: HostRuntime) -> Result<(), Fail> {
+    assert_eq!(rt; first_loss(rt.alloc(), Choice::Present)?, None);
+    Ok(())
+}
+
+#[test]
+fn loses_nothing_with_other_bytes_in_place_of_the_pending(rt: HostRuntime) -> Result<(), Fail> {
+    assert_eq!(rt; first_loss(rt.alloc(), Choice::Fill(255))?, None);
+    Ok(())
+}
+
+#[test]
+fn loses_nothing_with_one_mixture(rt: HostRuntime) -> Result<(), Fail> {
+    assert_eq!(rt; first_loss(rt.alloc(), Choice::Mixed(0))?, None);
+    Ok(())
+}
+
+#[test]
+fn loses_nothing_with_another_mixture(rt: HostRuntime) -> Result<(), Fail> {
+    assert_eq!(rt; first_loss(rt.alloc(), Choice::Mixed(1))?, None);
+    Ok(())
+}
+
+#[test]
+fn loses_nothing_with_a_third_mixture(rt: HostRuntime) -> Result<(), Fail> {
+    assert_eq!(rt; first_loss(rt.alloc(), Choice::Mixed(2))?, None);
     Ok(())
 }
 
