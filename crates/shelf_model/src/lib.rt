@@ -7,9 +7,11 @@
 mod fault;
 mod file_no;
 mod shelf;
+mod sort_fault;
 mod station;
 
 pub use fault::{Failed, StreamFault};
 pub use file_no::FileNo;
 pub use shelf::Shelf;
+pub use sort_fault::SortFault;
 pub use station::Station;
