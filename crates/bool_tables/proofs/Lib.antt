@@ -1,4 +1,5 @@
 pub mod Halves
 mod PlanSteps
 mod Powers
+mod StepHalves
 mod Worked

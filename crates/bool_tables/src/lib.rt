@@ -3,6 +3,7 @@
 
 mod eval;
 mod items;
+pub mod laws;
 mod steps;
 mod values;
 

@@ -1,5 +1,0 @@
-use Rattle.step_halves.proofs.StepHalves.{low_half-pair, high_half-pair}
-use Rattle.step_halves.proofs.laws.pairs_by_halves.Goals as goal
-
-pub returns : goal.returns
-returns c = record { low = low_half-pair; high = high_half-pair }

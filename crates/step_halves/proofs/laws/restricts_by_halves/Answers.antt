@@ -1,5 +1,0 @@
-use Rattle.step_halves.proofs.StepHalves.{low_half-restrict, high_half-restrict}
-use Rattle.step_halves.proofs.laws.restricts_by_halves.Goals as goal
-
-pub returns : goal.returns
-returns c = record { low = low_half-restrict; high = high_half-restrict }
