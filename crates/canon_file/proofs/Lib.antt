@@ -1,6 +1,7 @@
 pub mod MemberLaws
 pub mod PieceLaws
 pub mod RowLaws
+pub mod ConstDiagram
 pub mod VarDiagram
 pub mod FileLaws
 pub mod CanonLaws

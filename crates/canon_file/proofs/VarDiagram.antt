@@ -1,8 +1,6 @@
--- the diagrams of constants and of single variables
-use Rattle.std.specs.Prelude.{◌≡◌, ℕ, zero, suc, ◌+◌, ◌^◌, ◌<◌, Bool, true, false, List, [], ◌∷◌, ◌++◌, length, replicate, get_or}
+-- the diagram of a single variable
+use Rattle.std.specs.Prelude.{◌≡◌, ℕ, zero, suc, ◌+◌, ◌^◌, ◌<◌, Bool, true, false, List, [], ◌∷◌, ◌++◌, length, get_or}
 use Rattle.std.proofs.Common.{refl, sym, ◌∙◌, ap, inl, inr, true≢false, arith}
-use Rattle.std.specs.Prelude.{flat_map}
-use Rattle.std.specs.Int.{w64, to_be_bytes}
 use Rattle.std.proofs.lemmas.Nat.{pow_pos}
 use Rattle.std.proofs.lemmas.List.{get_or-replicate, append-nil}
 use Rattle.bool_tables.specs.Tables.{low_half, high_half}
@@ -18,28 +16,13 @@ use Rattle.canon_file.specs.Canon.{numbered, nodes_of, canon_nodes, canon_root, 
 use Rattle.canon_file.specs.Variables.{var_node, var_bytes, IsOneNode}
 use Rattle.canon_file.proofs.PieceLaws.{unsplit_same, split_differ}
 use Rattle.canon_file.proofs.RowLaws.{pointer-split, pointer-unsplit, pointer_same, levels_same}
-
--- the table of h variables with one value
-abbrev constant : ℕ → Bool → List Bool
-constant h b = replicate (2 ^ h) b
-
-constant_unsplit : (h : ℕ) (b : Bool) → splits h (constant (suc h) b) ≡ false
-constant_unsplit h b = unsplit_same h (constant (suc h) b) (low_half-constant h b ∙ sym (high_half-constant h b))
-
--- a constant piece has the word of its value
-pub pointer-constant : (h i : ℕ) (ps : List (List Bool)) (b : Bool) → pointer h i ps (constant h b) ≡ terminal b
-pointer-constant zero i ps b = refl
-pointer-constant (suc h) i ps b =
-    rw (constant_unsplit h b) (ap (pointer h (suc i) (halves h ps)) (low_half-constant h b) ∙ pointer-constant h (suc i) (halves h ps) b)
+use Rattle.canon_file.proofs.ConstDiagram.{constant, constant_unsplit, pointer-constant, once_same}
 
 twice_same : {X : Type 0} (x y : X) → SameMembers (x ∷ x ∷ y ∷ y ∷ []) (x ∷ y ∷ [])
 twice_same x y = record {
   there = λ z m. elim m [ inl e ↦ inl e | inr k ↦ elim k [ inl e ↦ inl e | inr l ↦ elim l [ inl e ↦ inr (inl e) | inr n ↦ inr n ] ] ];
   back = λ z m. elim m [ inl e ↦ inl e | inr k ↦ inr (inr (inr k)) ];
 }
-
-once_same : {X : Type 0} (x : X) → SameMembers (x ∷ x ∷ []) (x ∷ [])
-once_same x = record { there = λ z m. elim m [ inl e ↦ inl e | inr k ↦ k ]; back = λ z m. inr m }
 
 -- below two constant pieces there is no node
 nodes_of-constants : (h i : ℕ) → nodes_of i (levels h i (constant h false ∷ constant h true ∷ [])) ≡ []
@@ -146,9 +129,3 @@ one_node-var n level b = record {
   bytes = canon_bytes-var n level b;
   size = ap length (canon_bytes-var n level b);
 }
-
--- the six words of a variable's file
-pub var_words : (n level node zero_word one_word : ℕ) → node ≡ row_word level 0 → zero_word ≡ terminal false → one_word ≡ terminal true
-    → flat_map (to_be_bytes w64) (node ∷ zero_word ∷ one_word ∷ node ∷ 1 ∷ n ∷ []) ≡ var_bytes n level
-var_words n level node zero_word one_word root low high =
-    λ j. flat_map (to_be_bytes w64) (root j ∷ low j ∷ high j ∷ root j ∷ 1 ∷ n ∷ [])

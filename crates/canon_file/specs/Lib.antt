@@ -3,6 +3,7 @@ pub mod Pieces
 pub mod Rows
 pub mod Canon
 pub mod Variables
+pub mod Constants
 pub mod Walks
 pub mod Laws
 pub mod Pairs

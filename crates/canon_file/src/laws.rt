@@ -1,6 +1,7 @@
 //! The laws of canonical forms. Each function does nothing: what it ensures is the law.
 ghost use Rattle.std.specs.Prelude.{◌≡◌, ℕ, ◌^◌, ◌<◌, ◌≤◌, Bool, List, length};
 ghost use Rattle.canon_file.specs.Laws.{HasForm, IsUnique, KeepsRules, Stands, Walks, PiecesAreParts, AreRows};
+ghost use Rattle.canon_file.specs.Constants.{HasNoNode};
 ghost use Rattle.canon_file.specs.Variables.{IsOneNode};
 
 /// For one number of variables, canonical bytes are equal exactly where the tables are.
@@ -37,4 +38,9 @@ pub fn rows_are_distinct_pairs()
 /// A variable's diagram is one node, whichever variable it is and of however many.
 pub fn variables_are_one_node()
     ensures { (n level : ℕ) → level < n → IsOneNode n level }
+{}
+
+/// A constant's diagram has no node.
+pub fn constants_have_no_node()
+    ensures { (n : ℕ) (value : Bool) → HasNoNode n value }
 {}

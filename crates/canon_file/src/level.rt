@@ -7,9 +7,11 @@ ghost use Rattle.canon_file.specs.Canon.{numbered, node_bytes};
 ghost use Rattle.canon_file.specs.Pairs.{pairs, differs, distinct_rows, word_in, words_above};
 
 use crate::Row;
-use crate::var::TOP;
 use rec_words::Ptr;
 use std::alloc::{AllocError, Global};
+
+/// The number of the first row of a level.
+const TOP: u64 = (1 << 47) - 1;
 
 /// Adds the nodes of a level to the bytes, and gives the pointers of the level's pieces.
 pub fn add_level(

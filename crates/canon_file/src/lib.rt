@@ -5,11 +5,9 @@ pub mod laws;
 mod level;
 mod plain;
 mod row;
-mod var;
 
 pub use plain::plain_canon;
 pub use row::Row;
-pub use var::var_file;
 
 #[cfg(test)]
 mod tests;

@@ -1,4 +1,4 @@
-use crate::{plain_canon, var_file};
+use crate::plain_canon;
 use std::test::Fail;
 
 /// The truth values' pointers.
@@ -107,12 +107,5 @@ fn makes_the_files_of_three_variables(rt: HostRuntime) -> Result<(), Fail> {
             "{name}"
         );
     }
-    Ok(())
-}
-
-#[test]
-fn makes_the_file_of_a_variable(rt: HostRuntime) -> Result<(), Fail> {
-    let words = bytes_of_words(rt, &[LEVEL_1, ZERO, ONE, LEVEL_1, 1, 3])?;
-    assert_eq!(rt; var_file(1, 3).as_slice(), words.as_slice());
     Ok(())
 }
