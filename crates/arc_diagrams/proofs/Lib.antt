@@ -1,0 +1,8 @@
+pub mod WordLaws
+pub mod TargetLaws
+pub mod TableLaws
+pub mod RowPlaces
+pub mod CanonArcs
+pub mod MetLaws
+pub mod LevelReduction
+pub mod ReduceLaws

@@ -1,0 +1,37 @@
+-- the laws of sets of arcs
+use Rattle.std.specs.Prelude.{◌≡◌, ◌↔◌, ℕ, ◌^◌, ◌≤◌, Bool, List, [], length, replicate}
+use Rattle.rec_words.specs.Words.{terminal}
+use Rattle.canon_file.specs.Laws.{HasForm}
+use Rattle.canon_file.specs.Canon.{canon_nodes, canon_root}
+use Rattle.arc_file.specs.declared.arc.Arc.{Arc}
+use Rattle.arc_diagrams.specs.Arcs.{IsComplete, StandFor, table_of_arcs, arcs_of}
+use Rattle.arc_diagrams.specs.Reduction.{reduced_nodes, reduced_root}
+
+-- a complete set of arcs stands for one table: that of its root
+abbrev pub StandsForOne : ℕ → Type 0
+StandsForOne n = (root : ℕ) (arcs : List Arc) (t : List Bool) → n ≤ 65535 → IsComplete n root arcs
+    → StandFor n root arcs t ↔ (table_of_arcs n root arcs ≡ t)
+
+-- the arcs are complete and stand for the table
+pub record IsDiagramOf (n root : ℕ) (arcs : List Arc) (t : List Bool) : Type 0 where
+  pub complete : IsComplete n root arcs
+  pub stands : StandFor n root arcs t
+
+-- the arcs of the canonical nodes, with the canonical root, are a diagram of the table
+abbrev pub CanonIsDiagram : ℕ → Type 0
+CanonIsDiagram n = (t : List Bool) → HasForm n t → IsDiagramOf n (canon_root n t) (arcs_of (canon_nodes n t)) t
+
+-- a truth value with no arcs is a diagram of the constant table
+abbrev pub ConstantIsDiagram : ℕ → Type 0
+ConstantIsDiagram n = (b : Bool) → n ≤ 65535 → IsDiagramOf n (terminal b) [] (replicate (2 ^ n) b)
+
+-- the table's canonical form is defined, and the reduced diagram is that form
+pub record ReducesTo (n root : ℕ) (arcs : List Arc) (t : List Bool) : Type 0 where
+  pub form : HasForm n t
+  pub nodes : reduced_nodes n arcs ≡ canon_nodes n t
+  pub begins : reduced_root n root arcs ≡ canon_root n t
+
+-- a diagram of at most 2 ^ 47 arcs is reduced to the canonical form of the table that it stands for
+abbrev pub Reduces : ℕ → Type 0
+Reduces n = (root : ℕ) (arcs : List Arc) (t : List Bool) → n ≤ 65535 → length arcs ≤ 2 ^ 47
+    → IsDiagramOf n root arcs t → ReducesTo n root arcs t

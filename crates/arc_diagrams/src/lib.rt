@@ -1,0 +1,4 @@
+//! What a set of arcs stands for, and why reducing it level by level gives the canonical diagram.
+#![tactic(auto)]
+
+pub mod laws;
