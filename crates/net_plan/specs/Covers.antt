@@ -2,7 +2,7 @@
 use Rattle.std.specs.Prelude.{ℕ, ◌+◌, ◌==◌, Bool, true, false, List, [], ◌∷◌, ◌++◌, length, if◌then◌else◌}
 use Rattle.bool_tables.specs.declared.steps.Bin.{Bin}
 use Rattle.bool_tables.specs.declared.steps.Step.{Step}
-use Rattle.bool_tables.specs.declared.steps.Step.TheVariants.{Const, Var, Pair, Drop}
+use Rattle.bool_tables.specs.declared.steps.Step.TheVariants.{Const, Pair, Drop}
 
 -- left and right
 abbrev pub both : Bin

@@ -1,3 +1,4 @@
 pub mod Covers
 pub mod Drafts
 pub mod Plan
+pub mod Values

@@ -1,10 +1,10 @@
 -- The steps of a netlist's signals.
-use Rattle.std.specs.Prelude.{ℕ, ◌+◌, ◌<◌, ◌≤◌, ◌≡◌, Bool, false, List, [], ◌∷◌, ◌++◌, length, map, replicate, slice_index, slice_set, nat_lt, if◌then◌else◌}
+use Rattle.std.specs.Prelude.{ℕ, ◌<◌, ◌≡◌, Bool, false, List, [], ◌∷◌, ◌++◌, length, map, replicate, slice_index, slice_set, nat_lt, if◌then◌else◌}
 use Rattle.std.specs.List.{flat_map, slice_index_or}
 use Rattle.depth_first.specs.Graph.{edges_of, has, visits}
-use Rattle.blif_reader.specs.Netlist.{Net, Cover, cover_at}
+use Rattle.blif_reader.specs.Netlist.{Net, cover_at}
 use Rattle.bool_tables.specs.declared.steps.Step.{Step}
-use Rattle.bool_tables.specs.declared.steps.Step.TheVariants.{Const, Var, Pair, Drop}
+use Rattle.bool_tables.specs.declared.steps.Step.TheVariants.{Var, Drop}
 use Rattle.net_plan.specs.Covers.{Draft, put, block}
 
 -- steps, and for each signal the number of the step that made its diagram

@@ -3,8 +3,10 @@
 
 mod covers;
 mod fault;
+mod laws;
 mod plan;
 mod planner;
 
 pub use fault::PlanFault;
+pub use laws::values_are_unique;
 pub use plan::{NetPlan, plan_signals};

@@ -1,4 +1,4 @@
-use Rattle.std.proofs.Common.{◌≡◌, ◌+◌, ℕ, List, true, ap, sym, get_or, drop}
+use Rattle.std.proofs.Common.{◌≡◌, ℕ, true, ap, get_or, drop}
 use Rattle.std.proofs.lemmas.List.{drop_more, drop_all}
 use Rattle.bool_tables.specs.declared.steps.Step.TheVariants.{Const}
 use Rattle.net_plan.specs.Covers.{Draft, put, column, cube}

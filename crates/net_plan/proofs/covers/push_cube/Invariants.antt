@@ -1,5 +1,5 @@
 use Rattle.std.proofs.Common.{◌≡◌, ◌+◌, ◌≤◌, length, drop}
-use Rattle.net_plan.specs.Covers.{Draft, columns, cube}
+use Rattle.net_plan.specs.Covers.{columns, cube}
 use Rattle.net_plan.proofs.covers.push_cube.Given as goal
 
 -- the columns that are left make the cube of the row

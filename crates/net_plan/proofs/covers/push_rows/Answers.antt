@@ -1,4 +1,4 @@
-use Rattle.std.proofs.Common.{◌≡◌, ◌+◌, ◌<◌, ◌∙◌, ℕ, List, [], ◌∷◌, false, ap, sym, length, get_or, drop, arith}
+use Rattle.std.proofs.Common.{◌≡◌, ◌+◌, ◌<◌, ◌∙◌, ℕ, List, [], ◌∷◌, false, ap, sym, length, drop, arith}
 use Rattle.std.proofs.lemmas.List.{drop_more}
 use Rattle.bool_tables.specs.declared.steps.Step.TheVariants.{Const}
 use Rattle.blif_reader.specs.Netlist.{cover_at}

@@ -2,7 +2,7 @@ use Rattle.std.proofs.Common.{◌≡◌, ◌+◌, ◌≤◌, length, drop, false
 use Rattle.bool_tables.specs.declared.steps.Step.TheVariants.{Const}
 use Rattle.blif_reader.specs.Netlist.{cover_at}
 use Rattle.blif_reader.specs.Answers.{net_of}
-use Rattle.net_plan.specs.Covers.{Draft, put, rows}
+use Rattle.net_plan.specs.Covers.{put, rows}
 use Rattle.net_plan.proofs.covers.push_rows.Given as goal
 
 -- the rows that are left make the sum of all

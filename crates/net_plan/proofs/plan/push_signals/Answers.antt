@@ -1,8 +1,8 @@
-use Rattle.std.proofs.Common.{◌≡◌, ◌∷◌, ℕ, Err, subst, get_or, drop}
+use Rattle.std.proofs.Common.{ℕ, Err, subst, get_or}
 use Rattle.std.proofs.lemmas.List.{drop_more}
 use Rattle.blif_reader.specs.Answers.{net_of}
 use Rattle.net_plan.specs.Drafts.{Drafts}
-use Rattle.net_plan.specs.Plan.{Planning, signal_draft, make_signals}
+use Rattle.net_plan.specs.Plan.{Planning, signal_draft}
 use Rattle.net_plan.proofs.Planning.{passes_plan, makes_below}
 use Rattle.net_plan.proofs.plan.push_signals.Goals as goal
 

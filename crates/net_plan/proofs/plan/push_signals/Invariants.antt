@@ -1,6 +1,6 @@
 use Rattle.std.proofs.Common.{◌≡◌, ◌+◌, ◌≤◌, length, drop}
 use Rattle.blif_reader.specs.Answers.{net_of}
-use Rattle.net_plan.specs.Plan.{Planning, make_signals}
+use Rattle.net_plan.specs.Plan.{make_signals}
 use Rattle.net_plan.proofs.plan.push_signals.Given as goal
 
 -- the signals that are left lead to the same plan
