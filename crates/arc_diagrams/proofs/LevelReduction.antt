@@ -12,7 +12,7 @@ use Rattle.canon_file.specs.Walks.{is_at, table_of}
 use Rattle.canon_file.proofs.MemberLaws.{either_bit, has_map, map_has, has_filter, filter_has}
 use Rattle.canon_file.proofs.PieceLaws.{same_bits-self, same_from_bits, low-append, high-append, unsplit_same}
 use Rattle.canon_file.proofs.RowLaws.{same_row, ascending_same}
-use Rattle.arc_diagrams.specs.Reduction.{pair_of, reduced_rows}
+use Rattle.arc_diagrams.specs.Reduction.{pair_of, rows_of}
 use Rattle.arc_diagrams.proofs.TableLaws.{onward, table_parts, length-table_of}
 use Rattle.arc_diagrams.proofs.MetLaws.{next, next_has}
 
@@ -89,7 +89,7 @@ module _ (targets : ℕ → Row) (h i : ℕ) (ws sources : List ℕ) (f : ℕ �
       (past-halves w e ∙ sym (high-met targets h i w ∙ (λ j. table_of targets h (suc i) (cond (e j) (targets w).high w))))
 
   -- the rows of the level's sources are the rows of the pieces
-  pub rows-at : reduced_rows targets f sources ≡ rows_with g h (map (table_of targets (suc h) i) ws)
+  pub rows-at : rows_of targets f sources ≡ rows_with g h (map (table_of targets (suc h) i) ws)
   rows-at =
       let ps : List (List Bool) = map (table_of targets (suc h) i) ws in
       ascending_same (filter differs (map (pair_of targets f) sources)) (map (row_of g h) (filter (splits h) ps)) (record {
@@ -118,7 +118,7 @@ module _ (targets : ℕ → Row) (h i : ℕ) (ws sources : List ℕ) (f : ℕ �
 
   -- the final pointer of what is met is the pointer of what it stands for
   pub words-at : (w : ℕ) → Has w ws
-      → cond (is_at i w) (word_in i (reduced_rows targets f sources) (pair_of targets f w)) (f w)
+      → cond (is_at i w) (word_in i (rows_of targets f sources) (pair_of targets f w)) (f w)
       ≡ cond (splits h (table_of targets (suc h) i w))
       (row_word i (place_of (row_of g h (table_of targets (suc h) i w)) (rows_with g h (map (table_of targets (suc h) i) ws))))
       (g (low_half h (table_of targets (suc h) i w)))
@@ -127,11 +127,11 @@ module _ (targets : ℕ → Row) (h i : ℕ) (ws sources : List ℕ) (f : ℕ �
       let ps : List (List Bool) = map (table_of targets (suc h) i) ws in
       elim (either_bit (is_at i w)) [
         | inl here ↦
-            ap (λ b. cond b (word_in i (reduced_rows targets f sources) (pair_of targets f w)) (f w)) here
+            ap (λ b. cond b (word_in i (rows_of targets f sources) (pair_of targets f w)) (f w)) here
             ∙ (λ j. word_in i (rows-at j) (sym (pair-at w m here) j))
             ∙ (λ j. cond ((ap differs (pair-at w m here) ∙ sym (splits-at w m here)) j) (row_word i (place_of (row_of g h p) (rows_with g h ps))) (g (low_half h p)))
         | inr past ↦
-            ap (λ b. cond b (word_in i (reduced_rows targets f sources) (pair_of targets f w)) (f w)) past
+            ap (λ b. cond b (word_in i (rows_of targets f sources) (pair_of targets f w)) (f w)) past
             ∙ ap f (λ j. cond (sym past j) (targets w).low w)
             ∙ tells (onward targets i false w) (next_has targets i w false ws m)
             ∙ ap g (sym (low-met targets h i w))

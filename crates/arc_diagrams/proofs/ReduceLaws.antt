@@ -1,5 +1,5 @@
 -- reducing a complete set of arcs gives the canonical form of the table that it stands for
-use Rattle.std.specs.Prelude.{◌≡◌, ℕ, zero, suc, ◌+◌, ◌^◌, ◌≤◌, ◌==◌, Bool, true, false, cond, List, [], ◌∷◌, length, map, filter}
+use Rattle.std.specs.Prelude.{◌≡◌, ℕ, zero, suc, ◌+◌, ◌^◌, ◌≤◌, ◌==◌, Bool, true, false, cond, List, [], ◌∷◌, ◌++◌, length, map, filter}
 use Rattle.std.proofs.Common.{refl, sym, ◌∙◌, ap, subst, inl, arith}
 use Rattle.std.proofs.lemmas.List.{length-map}
 use Rattle.rec_words.specs.Words.{level_of}
@@ -8,17 +8,18 @@ use Rattle.canon_file.specs.Members.{Has, put, ascending}
 use Rattle.canon_file.specs.Pieces.{halves}
 use Rattle.canon_file.specs.Rows.{row_before, rows_with, pointer, levels, Fits}
 use Rattle.canon_file.specs.Pairs.{differs}
-use Rattle.canon_file.specs.Canon.{nodes_of, canon_nodes, canon_root}
+use Rattle.canon_file.specs.Canon.{numbered, nodes_of, canon_nodes, canon_root}
 use Rattle.canon_file.specs.Walks.{table_of}
 use Rattle.canon_file.proofs.MemberLaws.{has_map}
 use Rattle.canon_file.proofs.StandLaws.{injective}
 use Rattle.arc_file.specs.declared.arc.Arc.{Arc}
 use Rattle.arc_diagrams.specs.Arcs.{targets_of, sources_of, IsComplete, table_of_arcs}
-use Rattle.arc_diagrams.specs.Reduction.{pair_of, reduced_rows, final, reduced, reduced_nodes, reduced_root}
+use Rattle.arc_diagrams.specs.Reduction.{pair_of, rows_of, final, final_pointer, final_nodes}
 use Rattle.arc_diagrams.specs.Laws.{ReducesTo, Reduces}
 use Rattle.arc_diagrams.proofs.WordLaws.{terminal-value}
 use Rattle.arc_diagrams.proofs.TableLaws.{length-table_of, table_from_stands}
 use Rattle.arc_diagrams.proofs.MetLaws.{next, Covers, complete_covers}
+use Rattle.arc_diagrams.proofs.FinalLaws.{rows-final}
 use Rattle.arc_diagrams.proofs.LevelReduction.{halves-met, rows-at, words-at}
 
 length-put : (r : Row) (rs : List Row) → length (put row_before r rs) ≤ suc (length rs)
@@ -44,7 +45,7 @@ length-filter p (x ∷ xs) = by (p x) (length-filter p xs)
     by false l = omega arith
 
 -- a level has no more rows than sources, and no more sources than there are arcs
-length-reduced : (targets : ℕ → Row) (f : ℕ → ℕ) (sources : List ℕ) → length (reduced_rows targets f sources) ≤ length sources
+length-reduced : (targets : ℕ → Row) (f : ℕ → ℕ) (sources : List ℕ) → length (rows_of targets f sources) ≤ length sources
 length-reduced targets f sources =
     omega (
       arith,
@@ -56,6 +57,11 @@ length-reduced targets f sources =
 length-sources : (arcs : List Arc) (i : ℕ) → length (sources_of arcs i) ≤ length arcs
 length-sources arcs i =
     omega (arith, length-filter (λ s. level_of s == i) (map (λ (a : Arc). a.source) arcs), length-map arcs (λ (a : Arc). a.source))
+
+-- the rows of level i, and of each of the h - 1 deeper levels
+abbrev pub reduced : (ℕ → Row) → (ℕ → List ℕ) → ℕ → ℕ → List (List Row)
+reduced targets sources zero i = []
+reduced targets sources (suc h) i = rows_of targets (final targets sources h (suc i)) (sources i) ∷ reduced targets sources h (suc i)
 
 -- where h levels follow: the rows fit, they are those of the pieces, and final pointers are the pieces' pointers
 record ReducesFrom (targets : ℕ → Row) (sources : ℕ → List ℕ) (h i : ℕ) (ws : List ℕ) : Type 0 where
@@ -86,22 +92,29 @@ reduces_from targets sources (suc h) i ws top few covers =
     → table_of targets h (suc i) v ≡ table_of targets h (suc i) w =
     λ v w k m. injective h (suc i) (halves h pieces) (table_of targets h (suc i) v) (table_of targets h (suc i) w) (omega arith) fits
     (piece v k) (piece w m) (length-table_of targets h (suc i) v) (length-table_of targets h (suc i) w) in
-    let here : reduced_rows targets f (sources i) ≡ rows_with g h pieces = rows-at targets h i ws (sources i) f g tells apart covers.0 in
+    let here : rows_of targets f (sources i) ≡ rows_with g h pieces = rows-at targets h i ws (sources i) f g tells apart covers.0 in
     record {
       fits = (omega (arith, length-reduced targets f (sources i), few i, ap length here), fits);
       rows = λ j. here j ∷ (below.rows ∙ (λ k. levels h (suc i) (sym met k))) j;
       words = words-at targets h i ws (sources i) f g tells apart covers.0;
     }
 
+-- the nodes of a level and of deeper ones are those of the rows
+nodes-reduced : (n root : ℕ) (arcs : List Arc) (h i : ℕ) → i + h ≡ n → n ≤ 65535 → IsComplete n root arcs
+    → final_nodes n arcs h i ≡ nodes_of i (reduced (targets_of arcs) (sources_of arcs) h i)
+nodes-reduced n root arcs zero i end top c = refl
+nodes-reduced n root arcs (suc h) i end top c =
+    λ j. nodes-reduced n root arcs h (suc i) (omega arith) top c j ++ numbered i 0 (rows-final n root arcs h i (omega arith) top c j)
+
 -- the table of a complete set of few arcs has a form, and the reduced diagram is that form
 reduces_to_table : (n root : ℕ) (arcs : List Arc) → n ≤ 65535 → length arcs ≤ 2 ^ 47 → IsComplete n root arcs
     → ReducesTo n root arcs (table_of_arcs n root arcs)
-unfolding canon_nodes canon_root reduced_nodes reduced_root
+unfolding canon_nodes canon_root final_pointer
 reduces_to_table n root arcs top few c =
     let all = reduces_from (targets_of arcs) (sources_of arcs) n 0 (root ∷ []) (omega arith) (λ j. omega (arith, length-sources arcs j)) (complete_covers n root arcs c) in
     record {
       form = record { few = top; whole = length-table_of (targets_of arcs) n 0 root; fits = all.fits };
-      nodes = ap (nodes_of 0) all.rows;
+      nodes = nodes-reduced n root arcs n 0 (omega arith) top c ∙ ap (nodes_of 0) all.rows;
       begins = all.words root (inl refl);
     }
 

@@ -5,7 +5,7 @@ use Rattle.canon_file.specs.Laws.{HasForm}
 use Rattle.canon_file.specs.Canon.{canon_nodes, canon_root}
 use Rattle.arc_file.specs.declared.arc.Arc.{Arc}
 use Rattle.arc_diagrams.specs.Arcs.{IsComplete, StandFor, table_of_arcs, arcs_of}
-use Rattle.arc_diagrams.specs.Reduction.{reduced_nodes, reduced_root}
+use Rattle.arc_diagrams.specs.Reduction.{final_pointer, final_nodes, AreFinal}
 
 -- a complete set of arcs stands for one table: that of its root
 abbrev pub StandsForOne : ℕ → Type 0
@@ -28,10 +28,14 @@ ConstantIsDiagram n = (b : Bool) → n ≤ 65535 → IsDiagramOf n (terminal b) 
 -- the table's canonical form is defined, and the reduced diagram is that form
 pub record ReducesTo (n root : ℕ) (arcs : List Arc) (t : List Bool) : Type 0 where
   pub form : HasForm n t
-  pub nodes : reduced_nodes n arcs ≡ canon_nodes n t
-  pub begins : reduced_root n root arcs ≡ canon_root n t
+  pub nodes : final_nodes n arcs n 0 ≡ canon_nodes n t
+  pub begins : final_pointer n arcs root ≡ canon_root n t
 
 -- a diagram of at most 2 ^ 47 arcs is reduced to the canonical form of the table that it stands for
 abbrev pub Reduces : ℕ → Type 0
 Reduces n = (root : ℕ) (arcs : List Arc) (t : List Bool) → n ≤ 65535 → length arcs ≤ 2 ^ 47
     → IsDiagramOf n root arcs t → ReducesTo n root arcs t
+
+-- the final pointers of a complete set are found from those of deeper pointers
+abbrev pub FindsFinal : ℕ → Type 0
+FindsFinal n = (root : ℕ) (arcs : List Arc) → n ≤ 65535 → IsComplete n root arcs → AreFinal n arcs

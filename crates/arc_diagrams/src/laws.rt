@@ -1,6 +1,6 @@
 //! The laws of sets of arcs. Each function does nothing: what it ensures is the law.
 ghost use Rattle.std.specs.Prelude.{ℕ};
-ghost use Rattle.arc_diagrams.specs.Laws.{StandsForOne, CanonIsDiagram, ConstantIsDiagram, Reduces};
+ghost use Rattle.arc_diagrams.specs.Laws.{StandsForOne, CanonIsDiagram, ConstantIsDiagram, Reduces, FindsFinal};
 
 /// A complete set of arcs stands for exactly one table: at each place, the sides that the place's
 /// digits name lead from the root to the table's value there.
@@ -19,4 +19,10 @@ pub fn canonical_nodes_are_a_diagram()
 /// for: its nodes in their order, and its root.
 pub fn reducing_gives_the_canonical_form()
     ensures { (n : ℕ) → Reduces n }
+{}
+
+/// The final pointer of a source is found from those of its two targets, which lie deeper: it is the
+/// node of its pair among the rows of its level, or the one pointer that its pair has twice.
+pub fn final_pointers_are_found_level_by_level()
+    ensures { (n : ℕ) → FindsFinal n }
 {}
