@@ -10,3 +10,6 @@ mod planner;
 pub use fault::PlanFault;
 pub use laws::values_are_unique;
 pub use plan::{NetPlan, plan_signals};
+
+#[cfg(test)]
+mod tests;

@@ -1,0 +1,179 @@
+//! Plans of small netlists, and of one that has too many steps.
+
+ghost use Rattle.std.specs.Prelude.{ℕ, ◌<◌, length, slice_index, IfOk};
+ghost use Rattle.blif_reader.specs.Answers.{net_of};
+
+use crate::planner::{BOTH, EITHER, LEFT_ALONE, NOT_BOTH};
+use crate::{NetPlan, PlanFault, plan_signals};
+use blif_reader::{Netlist, read_netlist};
+use bool_tables::{Bin, Step};
+use std::alloc::{AllocError, Global};
+use std::test::Fail;
+
+const HALF_ADDER: &str =
+    ".model half # adder/.inputs a b/.outputs s c/.names t c s/10 1/.names a b c/11 1/.names a b t/1- 1/-1 1/.end/";
+
+const CONSTANTS: &str =
+    ".model k/.inputs a b/.outputs z o y/.names z/.names o/ 1/.names a b y/11 0/";
+
+const JOINED: &str = ".model m/.inputs a \\ # two/b/.outputs y/.names a b y/11 1/";
+
+fn constant(value: bool) -> Step {
+    Step::Const { value }
+}
+
+fn input(level: u32) -> Step {
+    Step::Var { level }
+}
+
+fn pair(op: Bin, left: u32, right: u32) -> Step {
+    Step::Pair { op, left, right }
+}
+
+fn gone(gone: u32) -> Step {
+    Step::Drop { gone }
+}
+
+/// The text with line feeds for slashes.
+fn text(alloc: Global, slashed: &str) -> Result<Vec<u8>, AllocError> {
+    let mut bytes = Vec::new(alloc);
+    for b in slashed.as_bytes() {
+        bytes.push(if *b == b'/' { b'\n' } else { *b })?;
+    }
+    Ok(bytes)
+}
+
+/// The signals with some names, in order.
+fn signals(alloc: Global, net: &Netlist, names: &[&str]) -> Result<Vec<u32>, AllocError>
+    ensures { IfOk result (λ v. (i : ℕ) → i < length v.items → slice_index v.items i < length (net_of net.now).names) }
+{
+    let mut found = Vec::new(alloc);
+    for name in names {
+        if let Some(signal) = net.signal(name.as_bytes()) {
+            if signal < net.signal_count() {
+                found.push(signal)?;
+            }
+        }
+    }
+    Ok(found)
+}
+
+/// The plan of some signals of a netlist, or why there is none.
+fn planned(
+    alloc: Global,
+    bytes: &[u8],
+    levels: &[u32],
+    names: &[&str],
+    first: u32,
+) -> Result<Result<NetPlan, PlanFault>, Fail> {
+    let net = read_netlist(alloc, bytes)?;
+    if levels.len() != net.input_count() as usize || first > 1048576 {
+        return Err(Fail::new("no plan is asked for"));
+    }
+    let wanted = signals(alloc, &net, names)?;
+    Ok(plan_signals(alloc, &net, levels, wanted.as_slice(), first))
+}
+
+#[test]
+fn numbers_the_steps_of_what_is_wanted(rt: HostRuntime) -> Result<(), Fail> {
+    let cases: [(&str, &[&str], u32, usize, &[u32]); 7] = [
+        (HALF_ADDER, &["s", "c"], 0, 36, &[30, 21]),
+        (CONSTANTS, &["z"], 0, 1, &[0]),
+        (CONSTANTS, &["o"], 1, 5, &[3]),
+        (CONSTANTS, &["y"], 6, 15, &[17]),
+        (JOINED, &["y"], 0, 13, &[8]),
+        (JOINED, &["b", "a"], 1048574, 2, &[1048574, 1048575]),
+        (JOINED, &[], 1048576, 0, &[]),
+    ];
+    for (slashed, names, first, count, made) in cases {
+        let bytes = text(rt.alloc(), slashed)?;
+        let plan = planned(rt.alloc(), bytes.as_slice(), &[0, 1], names, first)??;
+        assert_eq!(rt; plan.steps.items().len(), count, "{slashed}");
+        assert_eq!(rt; plan.made.items(), made, "{slashed}");
+    }
+    Ok(())
+}
+
+#[test]
+fn plans_a_complement_step_by_step(rt: HostRuntime) -> Result<(), Fail> {
+    let steps = [
+        // The inputs are steps 6 and 7, and the sum so far is step 8.
+        input(3),
+        input(2),
+        constant(false),
+        // The cube of the row.
+        constant(true),
+        pair(BOTH, 9, 6),
+        gone(9),
+        pair(BOTH, 10, 7),
+        gone(10),
+        // The sum, and its complement.
+        pair(EITHER, 8, 12),
+        gone(8),
+        gone(12),
+        pair(NOT_BOTH, 14, 14),
+        gone(14),
+        // The inputs aren't wanted.
+        gone(6),
+        gone(7),
+    ];
+    let bytes = text(rt.alloc(), CONSTANTS)?;
+    let plan = planned(rt.alloc(), bytes.as_slice(), &[3, 2], &["y"], 6)??;
+    assert_eq!(rt; plan.steps.items(), steps.as_slice());
+    Ok(())
+}
+
+#[test]
+fn plans_each_character_of_a_row(rt: HostRuntime) -> Result<(), Fail> {
+    let steps = [
+        // The block reads `b` first.
+        input(1),
+        input(0),
+        constant(false),
+        constant(true),
+        pair(LEFT_ALONE, 3, 0),
+        gone(3),
+        pair(BOTH, 4, 1),
+        gone(4),
+        pair(EITHER, 2, 6),
+        gone(2),
+        gone(6),
+        gone(0),
+    ];
+    // The second column of the row asks for nothing, and the block reads `a` twice.
+    let bytes = text(
+        rt.alloc(),
+        ".model m/.inputs a b/.names b a a y/0-1 1/.outputs y/",
+    )?;
+    let plan = planned(rt.alloc(), bytes.as_slice(), &[0, 1], &["y", "a"], 0)??;
+    assert_eq!(rt; plan.steps.items(), steps.as_slice());
+    Ok(())
+}
+
+/// A netlist of one block with so many rows that ask for nothing.
+fn wide(alloc: Global, rows: u32) -> Result<Vec<u8>, AllocError> {
+    let mut bytes = text(alloc, ".model m/.inputs a/.outputs y/.names a y/")?;
+    for _row in 0..rows {
+        bytes.extend_from_slice(b"- 1\n")?;
+    }
+    Ok(bytes)
+}
+
+#[test]
+fn refuses_too_many_steps(rt: HostRuntime) -> Result<(), Fail> {
+    let bytes = text(rt.alloc(), JOINED)?;
+    let plan = planned(rt.alloc(), bytes.as_slice(), &[0, 1], &["a"], 1048576)?;
+    assert!(rt; matches!(plan.err(), Some(PlanFault::TooManySteps)));
+
+    // The input, the first sum, four steps for each row, and the input is dropped.
+    let bytes = wide(rt.alloc(), 262143)?;
+    let plan = planned(rt.alloc(), bytes.as_slice(), &[0], &["y"], 1)??;
+    assert_eq!(rt; plan.steps.items().len(), 1048575);
+    let plan = planned(rt.alloc(), bytes.as_slice(), &[0], &["y"], 2)?;
+    assert!(rt; matches!(plan.err(), Some(PlanFault::TooManySteps)));
+
+    let bytes = wide(rt.alloc(), 262144)?;
+    let plan = planned(rt.alloc(), bytes.as_slice(), &[0], &["y"], 0)?;
+    assert!(rt; matches!(plan.err(), Some(PlanFault::TooManySteps)));
+    Ok(())
+}
