@@ -7,4 +7,9 @@ pub mod MetLaws
 pub mod FinalLaws
 pub mod LevelReduction
 pub mod ReduceLaws
+pub mod RowLists
+pub mod Collecting
+pub mod Numbering
+pub mod Forwarding
+pub mod Remaining
 mod Worked

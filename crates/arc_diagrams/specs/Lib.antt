@@ -1,3 +1,4 @@
 pub mod Arcs
 pub mod Reduction
 pub mod Laws
+pub mod Reducing
