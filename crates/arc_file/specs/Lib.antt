@@ -1,2 +1,7 @@
 pub mod Arcs
 pub mod ArcLaws
+pub mod Files
+pub mod Streams
+pub mod Readers
+pub mod Pairs
+pub mod Writers

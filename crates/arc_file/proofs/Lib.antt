@@ -1,0 +1,4 @@
+mod OrderLaws
+mod StreamLaws
+mod PairLaws
+mod WriterLaws
