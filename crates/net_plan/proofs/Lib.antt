@@ -3,5 +3,6 @@ pub mod Planning
 mod Tables
 mod Blocks
 mod Unique
+mod Existence
 mod Visits
 mod Meanings

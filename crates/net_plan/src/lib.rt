@@ -8,7 +8,7 @@ mod plan;
 mod planner;
 
 pub use fault::PlanFault;
-pub use laws::values_are_unique;
+pub use laws::{values_are_unique, values_exist};
 pub use plan::{NetPlan, plan_signals};
 
 #[cfg(test)]
