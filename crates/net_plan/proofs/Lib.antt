@@ -6,3 +6,7 @@ mod Unique
 mod Existence
 mod Visits
 mod Meanings
+mod Follows
+mod Lives
+mod Distinct
+mod GoingOn

@@ -2,3 +2,4 @@ pub mod Covers
 pub mod Drafts
 pub mod Plan
 pub mod Values
+pub mod WellFormed

@@ -9,6 +9,7 @@ ghost use Rattle.net_plan.specs.Covers.{Draft, put, block};
 ghost use Rattle.net_plan.specs.Drafts.{Drafts, Plans};
 ghost use Rattle.net_plan.specs.Plan.{Planning, IsWanted, signal_draft, make_signals, drop_one, plan_steps, plan_made};
 ghost use Rattle.net_plan.specs.Values.{MakeTables};
+ghost use Rattle.net_plan.specs.WellFormed.{StaysWellFormed};
 ghost use Rattle.net_plan.specs.declared.fault.PlanFault.{PlanFault};
 
 use crate::covers::push_block;
@@ -142,6 +143,7 @@ pub fn plan_signals(
     requires wanted { (i : ℕ) → i < length wanted.now → slice_index wanted.now i < length (net_of net.now).names }
     requires first { first ≤ 1048576 }
     ensures tables { IfOk result (λ plan. MakeTables (net_of net.now) levels.now wanted.now first plan.steps plan.made) }
+    ensures goes_on { IfOk result (λ plan. StaysWellFormed levels.now first plan.steps plan.made) }
     ensures steps { IfOk result (λ plan. plan.steps ≡ plan_steps (net_of net.now) levels.now wanted.now first) }
     ensures made { IfOk result (λ plan. plan.made ≡ plan_made (net_of net.now) levels.now wanted.now first) }
     ensures few { IfOk result (λ plan. first + length plan.steps ≤ 1048576) }
