@@ -3,3 +3,4 @@ pub mod HoldsLaws
 pub mod Live
 pub mod StepLaws
 pub mod AttachLaws
+pub mod EntryLaws

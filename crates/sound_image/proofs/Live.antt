@@ -71,3 +71,23 @@ live_last steps k d within h =
     let diagram : IsTrue (is_diagram (take k steps ++ get_or steps k d ∷ []) k) =
     first_holds (is_diagram (take k steps ++ get_or steps k d ∷ []) k) (not (list_any (λ (p : Planned). drops k p.step) (take k steps ++ get_or steps k d ∷ []))) live in
     subst IsTrue (ap (is_diagram (take k steps ++ get_or steps k d ∷ [])) (sym size) ∙ diagram_last (take k steps) (get_or steps k d)) diagram
+
+-- what a list's last step drops isn't live behind it
+pub live_undropped : (steps : List Planned) (k s : ℕ) (d : Planned) → k < length steps → IsTrue (drops s (get_or steps k d).step) → IsTrue (is_live (take (k + 1) steps) s) → ⊥
+live_undropped steps k s d within dropped h =
+    let more : take (k + 1) steps ≡ take k steps ++ get_or steps k d ∷ [] = take_more steps k d within in
+    let live : IsTrue (is_live (take k steps ++ get_or steps k d ∷ []) s) = subst (λ xs. IsTrue (is_live xs s)) more h in
+    none_drops (λ p. drops s p.step) (take k steps) (get_or steps k d) dropped
+    (second_holds (is_diagram (take k steps ++ get_or steps k d ∷ []) s) (not (list_any (λ (p : Planned). drops s p.step) (take k steps ++ get_or steps k d ∷ []))) live)
+  where
+    none_drops : (test : Planned → Bool) (xs : List Planned) (p : Planned) → IsTrue (test p) → IsTrue (not (list_any test (xs ++ p ∷ []))) → ⊥
+    none_drops test [] p one none = by_test (test p) one none
+      where
+        by_test : (b : Bool) → IsTrue b → IsTrue (not (b || false)) → ⊥
+        by_test true one none = cc
+        by_test false one none = cc
+    none_drops test (x ∷ xs) p one none = none_drops test xs p one (further (test x) none)
+      where
+        further : (b : Bool) → IsTrue (not (b || list_any test (xs ++ p ∷ []))) → IsTrue (not (list_any test (xs ++ p ∷ [])))
+        further true none = absurd cc
+        further false none = none

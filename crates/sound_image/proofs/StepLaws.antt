@@ -3,7 +3,7 @@ use Rattle.std.proofs.Common.{◌≡◌, ◌≢◌, ◌∙◌, ℕ, ◌+◌, ◌
 use Rattle.std.specs.Prelude.{IsTrue}
 use Rattle.std.proofs.lemmas.List.{take_at, drop_at, take_all}
 use Rattle.std.proofs.lemmas.Bool.{cases_lt}
-use Rattle.bool_tables.specs.Plans.{is_live, makes_diagram}
+use Rattle.bool_tables.specs.Plans.{is_live, makes_diagram, drops}
 use Rattle.shelf_model.specs.declared.file_no.FileNo.{FileNo}
 use Rattle.shelf_model.specs.File.{File, firm_file, no_file, IsKept}
 use Rattle.shelf_model.specs.Folder.{Folder, Image, file_in, bytes_in, IsImage}
@@ -21,9 +21,9 @@ use Rattle.sound_image.specs.Jobs.{Job, file_of, step_at, no_step}
 use Rattle.sound_image.specs.Entries.{IsEntryOfStep}
 use Rattle.sound_image.specs.Sound.{IsSound}
 use Rattle.sound_image.specs.Holds.{Holds}
-use Rattle.sound_image.proofs.Numbers.{IsOfStep, node_of_step, gate_of_step, not_job_file, not_job_gate, not_catalogue, not_step_gate, gate_not_node, other_node}
+use Rattle.sound_image.proofs.Numbers.{IsOfStep, node_of_step, gate_of_step, not_job_file, not_job_gate, not_catalogue, not_step_gate, gate_not_node}
 use Rattle.sound_image.proofs.HoldsLaws.{entry_in_front, none_left}
-use Rattle.sound_image.proofs.Live.{live_below, live_earlier, live_last}
+use Rattle.sound_image.proofs.Live.{live_below, live_earlier, live_last, live_undropped}
 
 -- few enough steps that their numbers are none of the job's files
 abbrev pub AreFew : Job → Type 0
@@ -36,9 +36,10 @@ early job s few within = omega (arith, few, within)
 abbrev pub OnlyNodeFile : ℕ → Folder → Folder → Type 0
 OnlyNodeFile step old new = (q : FileNo) → q ≢ node_file step → file_in new q ≡ file_in old q
 
--- while a step's file is made, the steps before it are held
-pub holds_while_made : (job : Job) (k : ℕ) (old new : Folder) → AreFew job → k < length job.steps → Holds job k old → OnlyNodeFile k old new → Holds job k new
-holds_while_made job k old new few within holds only =
+-- while a node file is changed that no live diagram needs, the steps so far are held
+pub holds_beside : (job : Job) (count k : ℕ) (old new : Folder) → AreFew job → k < length job.steps → (IsTrue (is_live (take count job.steps) k) → ⊥)
+    → Holds job count old → OnlyNodeFile k old new → Holds job count new
+holds_beside job count k old new few within unneeded holds only =
     let of_step : IsOfStep (node_file k) = node_of_step k (early job k few within) in
     let job_same : file_in new job_file ≡ file_in old job_file = only job_file (λ e. not_job_file (node_file k) of_step (sym e)) in
     let gate_same : file_in new job_gate ≡ file_in old job_gate = only job_gate (λ e. not_job_gate (node_file k) of_step (sym e)) in
@@ -50,7 +51,7 @@ holds_while_made job k old new few within holds only =
         stored = subst (λ (x : File). 0 < x.firm) (sym gate_same) holds.ready.stored;
         gate = steps_same ∙ holds.ready.gate ∙ ap (λ (x : File). firm_file x.bytes) (sym steps_same);
         count = ap (λ (x : File). length x.bytes) steps_same ∙ holds.ready.count;
-        covers = subst (λ (x : File). 128 * k ≤ length x.bytes) (sym catalogue_same) holds.ready.covers;
+        covers = subst (λ (x : File). 128 * count ≤ length x.bytes) (sym catalogue_same) holds.ready.covers;
       };
       few = holds.few;
       entries = record {
@@ -59,9 +60,20 @@ holds_while_made job k old new few within holds only =
         kept = subst (IsKept holds.entries.front) (sym catalogue_same) holds.entries.kept;
         each = holds.entries.each;
       };
-      files = λ s live. only (node_file s) (other_node s k (live_below job.steps k s live)) ∙ holds.files s live;
+      files = λ s live. only (node_file s) (λ e. unneeded (subst (λ j. IsTrue (is_live (take count job.steps) j)) (ap (λ (q : FileNo). q.step) e) live)) ∙ holds.files s live;
       gates = λ s inside. only (checkpoint_gate s) (gate_not_node s k) ∙ holds.gates s inside;
     }
+
+-- while a step's file is made, the steps before it are held
+pub holds_while_made : (job : Job) (k : ℕ) (old new : Folder) → AreFew job → k < length job.steps → Holds job k old → OnlyNodeFile k old new → Holds job k new
+holds_while_made job k old new few within =
+    holds_beside job k k old new few within (λ live. let below : k < k = live_below job.steps k k live in omega (arith, below))
+
+-- while the file of a dropped diagram is cut, the steps up to the drop are held
+pub holds_while_cut : (job : Job) (k gone : ℕ) (old new : Folder) → AreFew job → k < length job.steps → gone < length job.steps
+    → IsTrue (drops gone (step_at job k).step) → Holds job (k + 1) old → OnlyNodeFile gone old new → Holds job (k + 1) new
+holds_while_cut job k gone old new few within inside dropped =
+    holds_beside job (k + 1) gone old new few inside (live_undropped job.steps k gone no_step within dropped)
 
 -- the step's own file, where it makes a diagram
 abbrev pub IsMade : Job → ℕ → Folder → Type 0
