@@ -1,9 +1,9 @@
 -- What stays sound while a step is made and committed.
-use Rattle.std.proofs.Common.{◌≡◌, ◌≢◌, ◌∙◌, ℕ, ◌+◌, ◌*◌, ◌<◌, ◌≤◌, List, ◌++◌, length, take, drop, refl, sym, ap, subst, inl, inr, arith, length-append}
+use Rattle.std.proofs.Common.{◌≡◌, ◌∙◌, ℕ, ◌+◌, ◌*◌, ◌<◌, ◌≤◌, List, ◌++◌, length, take, drop, refl, sym, ap, subst, inl, inr, arith, length-append}
 use Rattle.std.specs.Prelude.{IsTrue}
 use Rattle.std.proofs.lemmas.List.{take_at, drop_at, take_all}
 use Rattle.std.proofs.lemmas.Bool.{cases_lt}
-use Rattle.bool_tables.specs.Plans.{is_live, makes_diagram, drops}
+use Rattle.bool_tables.specs.Plans.{is_live, drops}
 use Rattle.shelf_model.specs.declared.file_no.FileNo.{FileNo}
 use Rattle.shelf_model.specs.File.{File, firm_file, no_file, IsKept}
 use Rattle.shelf_model.specs.Folder.{Folder, Image, file_in, bytes_in, IsImage}
@@ -20,7 +20,7 @@ use Rattle.sound_image.specs.Files.{node_file, checkpoint_gate}
 use Rattle.sound_image.specs.Jobs.{Job, file_of, step_at, no_step}
 use Rattle.sound_image.specs.Entries.{IsEntryOfStep}
 use Rattle.sound_image.specs.Sound.{IsSound}
-use Rattle.sound_image.specs.Holds.{Holds}
+use Rattle.sound_image.specs.Holds.{Holds, IsMade, OnlyNodeFile}
 use Rattle.sound_image.proofs.Numbers.{IsOfStep, node_of_step, gate_of_step, not_job_file, not_job_gate, not_catalogue, not_step_gate, gate_not_node}
 use Rattle.sound_image.proofs.HoldsLaws.{entry_in_front, none_left}
 use Rattle.sound_image.proofs.Live.{live_below, live_earlier, live_last, live_undropped}
@@ -31,10 +31,6 @@ AreFew job = length job.steps ≤ 1048576
 
 early : (job : Job) (s : ℕ) → AreFew job → s < length job.steps → s < 4294967295
 early job s few within = omega (arith, few, within)
-
--- every file but the node file of a step is as it was
-abbrev pub OnlyNodeFile : ℕ → Folder → Folder → Type 0
-OnlyNodeFile step old new = (q : FileNo) → q ≢ node_file step → file_in new q ≡ file_in old q
 
 -- while a node file is changed that no live diagram needs, the steps so far are held
 pub holds_beside : (job : Job) (count k : ℕ) (old new : Folder) → AreFew job → k < length job.steps → (IsTrue (is_live (take count job.steps) k) → ⊥)
@@ -74,10 +70,6 @@ pub holds_while_cut : (job : Job) (k gone : ℕ) (old new : Folder) → AreFew j
     → IsTrue (drops gone (step_at job k).step) → Holds job (k + 1) old → OnlyNodeFile gone old new → Holds job (k + 1) new
 holds_while_cut job k gone old new few within inside dropped =
     holds_beside job (k + 1) gone old new few inside (live_undropped job.steps k gone no_step within dropped)
-
--- the step's own file, where it makes a diagram
-abbrev pub IsMade : Job → ℕ → Folder → Type 0
-IsMade job k folder = IsTrue (makes_diagram (step_at job k).step) → file_in folder (node_file k) ≡ firm_file (file_of job k)
 
 -- a diagram that is live after the step has its file, before and after it
 live_file : (job : Job) (k s : ℕ) (folder : Folder) → k < length job.steps → Holds job k folder → IsMade job k folder

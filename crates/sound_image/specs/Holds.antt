@@ -1,6 +1,7 @@
 -- A folder whose every image is sound with a count, said file by file.
-use Rattle.std.specs.Prelude.{◌≡◌, ℕ, ◌*◌, ◌<◌, ◌≤◌, IsTrue, List, length, take, drop}
-use Rattle.bool_tables.specs.Plans.{is_live}
+use Rattle.std.specs.Prelude.{◌≡◌, ◌≢◌, ℕ, ◌*◌, ◌<◌, ◌≤◌, IsTrue, List, length, take, drop}
+use Rattle.bool_tables.specs.Plans.{is_live, makes_diagram}
+use Rattle.shelf_model.specs.declared.file_no.FileNo.{FileNo}
 use Rattle.shelf_model.specs.File.{firm_file, no_file, IsKept}
 use Rattle.shelf_model.specs.Folder.{Folder, Image, file_in, bytes_in, IsImage}
 use Rattle.catalogue.specs.declared.layout.Entry.{Entry}
@@ -9,7 +10,7 @@ use Rattle.catalogue.specs.Commits.{IsReady}
 use Rattle.catalogue.specs.Counts.{count_in}
 use Rattle.catalogue.specs.Entries.{entry_bytes}
 use Rattle.sound_image.specs.Files.{node_file, checkpoint_gate}
-use Rattle.sound_image.specs.Jobs.{Job, file_of}
+use Rattle.sound_image.specs.Jobs.{Job, step_at, file_of}
 use Rattle.sound_image.specs.Entries.{IsEntryOfStep}
 use Rattle.sound_image.specs.Sound.{IsSound}
 
@@ -28,6 +29,14 @@ pub record Holds (job : Job) (count : ℕ) (folder : Folder) : Type 0 where
   pub entries : KeepsEntries job count folder
   pub files : (s : ℕ) → IsTrue (is_live (take count job.steps) s) → file_in folder (node_file s) ≡ firm_file (file_of job s)
   pub gates : (s : ℕ) → s < length job.steps → file_in folder (checkpoint_gate s) ≡ no_file
+
+-- the step's own file, where it makes a diagram
+abbrev pub IsMade : Job → ℕ → Folder → Type 0
+IsMade job k folder = IsTrue (makes_diagram (step_at job k).step) → file_in folder (node_file k) ≡ firm_file (file_of job k)
+
+-- every file but the node file of a step is as it was
+abbrev pub OnlyNodeFile : ℕ → Folder → Folder → Type 0
+OnlyNodeFile step old new = (q : FileNo) → q ≢ node_file step → file_in new q ≡ file_in old q
 
 -- each image of a folder is sound, with one of two counts
 abbrev pub AreSound : Job → Folder → Type 0

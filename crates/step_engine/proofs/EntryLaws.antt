@@ -1,0 +1,176 @@
+-- The entries that are made are those of their steps.
+use Rattle.std.proofs.Common.{◌≡◌, ◌∙◌, ℕ, zero, suc, ◌+◌, ◌-◌, ◌^◌, ◌<◌, ◌≤◌, true, false, cond, ◌&&◌, nat_le, nat_lt, List, [], ◌∷◌, ◌++◌, length, take, drop, get_or, replicate, refl, sym, ap, ap₂, subst, inl, inr, arith, length-append}
+use Rattle.std.specs.Prelude.{IsTrue, All, not, Result, Ok, Err, IfErr}
+use Rattle.std.specs.Result.{IsErrAnd}
+use Rattle.std.specs.List.{list_all, list_any}
+use Rattle.std.proofs.lemmas.List.{length-take-le, length-drop, drop_at, length-replicate, get_or-take}
+use Rattle.std.proofs.lemmas.List.Elements.{All-replicate}
+use Rattle.bool_tables.specs.declared.steps.Step.{Step}
+use Rattle.bool_tables.specs.declared.steps.Step.TheVariants.{Const, Var, Pair, Ite, Quantify, Restrict, Drop, Same, Leq, Eval, Size}
+use Rattle.bool_tables.specs.declared.steps.Planned.{Planned}
+use Rattle.bool_tables.specs.Plans.{IsWellFormed, is_live, is_diagram, drops, operands, makes_diagram, has_name}
+use Rattle.shelf_model.specs.declared.fault.StreamFault.{StreamFault}
+use Rattle.shelf_model.specs.declared.fault.StreamFault.TheVariants as stream
+use Rattle.shelf_model.specs.declared.sort_fault.SortFault.{SortFault}
+use Rattle.shelf_model.specs.SortFaults.{handed_on}
+use Rattle.shelf_model.specs.Folder.{Folder}
+use Rattle.catalogue.specs.declared.layout.Entry.{Entry}
+use Rattle.catalogue.specs.Counts.{present}
+use Rattle.catalogue.specs.Entries.{IsEntryOf}
+use Rattle.sound_image.specs.Jobs.{Job, no_step, step_at, nodes_at}
+use Rattle.sound_image.specs.Entries.{IsEntryOfStep, kind_of, answer_of, count_of, name_of, work_of}
+use Rattle.sound_image.specs.Holds.{Holds}
+use Rattle.sound_image.proofs.EntryLaws.{entry_stands, held_entry}
+use Rattle.step_engine.specs.StepEntries.{diagram_entry, nameless_entry}
+use Rattle.step_engine.specs.StepFaults.{IsKindFault}
+use Rattle.step_engine.proofs.PlanLaws.{first_true, second_true, follows_at, operands_live}
+
+from_le : (a b : ℕ) → IsTrue (nat_le a b) → a ≤ b
+from_le a b h = search (arith, h)
+
+all_zero : (n : ℕ) → All (λ (b : ℕ). b ≡ 0) (replicate n 0)
+all_zero n = All-replicate (λ (b : ℕ). b ≡ 0) n 0 refl
+
+filled : (n : ℕ) → n ≤ 63 → n + (63 - n) ≡ 63
+filled n h = omega arith
+
+one_turn : (job : Job) (step : Step) → (◌≤◌ 1 1) × (1 ≤ work_of job step)
+one_turn job step = (omega arith, omega arith)
+
+-- a diagram's entry
+pub diagram_entry_is : (job : Job) (k nodes : ℕ) (text : List ℕ) (p : Planned) → k < 1048576 → IsTrue (has_name text p) → job.text ≡ text → step_at job k ≡ p
+    → kind_of p.step ≡ 1 → makes_diagram p.step ≡ true → answer_of job p.step ≡ 0 → count_of job k p.step ≡ nodes → nodes < 2 ^ 64
+    → IsEntryOfStep job k (diagram_entry text p k nodes)
+diagram_entry_is job k nodes text p few named text_is p_is kind diagram answer count small =
+    let within : p.name_at + p.name_len ≤ length text = from_le (p.name_at + p.name_len) (length text) (first_true (nat_le (p.name_at + p.name_len) (length text)) (nat_le p.name_len 63) named) in
+    let short : p.name_len ≤ 63 = from_le p.name_len 63 (second_true (nat_le (p.name_at + p.name_len) (length text)) (nat_le p.name_len 63) named) in
+    let name : List ℕ = take p.name_len (drop p.name_at text) in
+    let size : length name ≡ p.name_len = length-take-le p.name_len (drop p.name_at text) (omega (arith, length-drop p.name_at text, within)) in
+    let name_is : name_of job (step_at job k) ≡ name =
+    ap (name_of job) p_is ∙ ap (λ b. cond b (take p.name_len (drop p.name_at job.text)) []) diagram ∙ ap (λ t. take p.name_len (drop p.name_at t)) text_is in
+    record {
+      entry_is = record {
+        fits = record {
+          number = omega (arith, few);
+          count = small;
+          turns = omega arith;
+          parts = omega arith;
+          name = length-append name (replicate (63 - p.name_len) 0) ∙ ap₂ (λ a b. a + b) size (length-replicate (63 - p.name_len) 0) ∙ filled p.name_len short;
+        };
+        layout = record {
+          kind = (omega arith, omega arith);
+          answer = inl refl;
+          named = inr (short, refl);
+          padded = subst (λ xs. All (λ (b : ℕ). b ≡ 0) xs) (sym (drop_at name (replicate (63 - p.name_len) 0) p.name_len size)) (all_zero (63 - p.name_len));
+          worked = omega arith;
+        };
+      };
+      number_is = refl;
+      kind_is = sym kind ∙ ap (λ (q : Planned). kind_of q.step) (sym p_is);
+      answer_is = sym answer ∙ ap (λ (q : Planned). answer_of job q.step) (sym p_is);
+      count_is = sym count ∙ ap (λ (q : Planned). count_of job k q.step) (sym p_is);
+      name_len_is = sym size ∙ ap length (sym name_is);
+      name_is = ap₂ (λ a b. a ++ replicate (63 - b) 0) (sym name_is) (sym size ∙ ap length (sym name_is));
+      turns_are = (omega arith, omega arith);
+      parts_are = (omega arith, omega arith);
+    }
+
+-- the entry of a drop or an answer
+pub nameless_entry_is : (job : Job) (k kind count : ℕ) (p : Planned) → k < 1048576 → step_at job k ≡ p → kind_of p.step ≡ kind → (1 ≤ kind) × (kind ≤ 3)
+    → makes_diagram p.step ≡ false → answer_of job p.step ≡ 0 → count_of job k p.step ≡ count → count < 2 ^ 64 → IsEntryOfStep job k (nameless_entry k kind count)
+nameless_entry_is job k kind count p few p_is kind_is kinds diagram answer count_is small =
+    let none : name_of job (step_at job k) ≡ [] = ap (name_of job) p_is ∙ ap (λ b. cond b (take p.name_len (drop p.name_at job.text)) []) diagram in
+    record {
+      entry_is = record {
+        fits = record { number = omega (arith, few); count = small; turns = omega arith; parts = omega arith; name = length-replicate {A = ℕ} 63 0 };
+        layout = record {
+          kind = kinds;
+          answer = inl refl;
+          named = inl refl;
+          padded = all_zero 63;
+          worked = omega arith;
+        };
+      };
+      number_is = refl;
+      kind_is = sym kind_is ∙ ap (λ (q : Planned). kind_of q.step) (sym p_is);
+      answer_is = sym answer ∙ ap (λ (q : Planned). answer_of job q.step) (sym p_is);
+      count_is = sym count_is ∙ ap (λ (q : Planned). count_of job k q.step) (sym p_is);
+      name_len_is = ap length (sym none);
+      name_is = ap (λ name. name ++ replicate (63 - length name) 0) (sym none);
+      turns_are = (omega arith, omega arith);
+      parts_are = (omega arith, omega arith);
+    }
+
+-- an entry of the kind of diagrams counts nodes
+diagram_count : (job : Job) (k : ℕ) (s : Step) → kind_of s ≡ 1 → count_of job k s ≡ nodes_at job k
+diagram_count job k (Const value) h = refl
+diagram_count job k (Var level) h = refl
+diagram_count job k (Pair op left right) h = refl
+diagram_count job k (Ite test if_one if_zero) h = refl
+diagram_count job k (Quantify kind operand level) h = refl
+diagram_count job k (Restrict operand level value) h = refl
+diagram_count job k (Drop gone) h = absurd (omega (arith, h))
+diagram_count job k (Same left right) h = absurd (omega (arith, h))
+diagram_count job k (Leq left right) h = absurd (omega (arith, h))
+diagram_count job k (Eval operand at) h = absurd (omega (arith, h))
+diagram_count job k (Size operand) h = absurd (omega (arith, h))
+
+diagram_kind : (s : Step) → IsTrue (makes_diagram s) → kind_of s ≡ 1
+diagram_kind (Const value) h = refl
+diagram_kind (Var level) h = refl
+diagram_kind (Pair op left right) h = refl
+diagram_kind (Ite test if_one if_zero) h = refl
+diagram_kind (Quantify kind operand level) h = refl
+diagram_kind (Restrict operand level value) h = refl
+diagram_kind (Drop gone) h = cc
+diagram_kind (Same left right) h = cc
+diagram_kind (Leq left right) h = cc
+diagram_kind (Eval operand at) h = cc
+diagram_kind (Size operand) h = cc
+
+-- the entry of a size counts the nodes that its operand's entry counts
+pub size_entry_is : (job : Job) (k operand : ℕ) (p : Planned) (e : Entry) (folder : Folder) → k < 1048576 → step_at job k ≡ p → p.step ≡ Size operand → operand < k
+    → Holds job k folder → IsEntryOf operand (present folder) e → e.kind ≡ 1 → IsEntryOfStep job k (nameless_entry k 3 e.count)
+size_entry_is job k operand p e folder few p_is size below holds is kind =
+    let of_step : IsEntryOfStep job operand e = held_entry job k operand folder e holds below is in
+    let counts : count_of job k p.step ≡ e.count =
+    ap (count_of job k) size ∙ sym (of_step.count_is ∙ diagram_count job operand (step_at job operand).step (sym of_step.kind_is ∙ kind)) in
+    nameless_entry_is job k 3 e.count p few p_is (ap kind_of size) (omega arith, omega arith) (ap makes_diagram size) (ap (answer_of job) size) counts is.entry.fits.count
+
+-- a step of a list that makes a diagram
+diagram_made : (steps : List Planned) (j : ℕ) (d : Planned) → IsTrue (is_diagram steps j) → IsTrue (makes_diagram (get_or steps j d).step)
+diagram_made [] j d h = absurd cc
+diagram_made (s ∷ steps) zero d h = h
+diagram_made (s ∷ steps) (suc j) d h = diagram_made steps j d h
+
+-- where the folder holds the steps before, the entry of a size's operand isn't damaged
+pub size_is_sound : (job : Job) (k operand : ℕ) (p : Planned) (fault : StreamFault) (folder : Folder) → k < length job.steps → IsWellFormed job.n job.text job.steps
+    → step_at job k ≡ p → p.step ≡ Size operand → operand < k → Holds job k folder → IsKindFault operand 1 (present folder) fault → fault ≡ stream.Shelf
+size_is_sound job k operand p stream.Shelf folder within plan p_is size below holds is = refl
+size_is_sound job k operand p (stream.Damaged f at) folder within plan p_is size below holds is =
+    let found = entry_stands job k operand folder holds below in
+    let live : IsTrue (list_all (is_live (take k job.steps)) (operand ∷ [])) =
+    subst (λ s. IsTrue (list_all (is_live (take k job.steps)) (operands s))) (ap (λ (q : Planned). q.step) p_is ∙ size)
+    (operands_live job.n job.text (take k job.steps) (step_at job k) (follows_at job.n job.text job.steps k no_step within plan)) in
+    let diagram : IsTrue (is_diagram (take k job.steps) operand) =
+    first_true (is_diagram (take k job.steps) operand) (not (list_any (λ (s : Planned). drops operand s.step) (take k job.steps)))
+    (first_true (is_live (take k job.steps) operand) true live) in
+    let made : IsTrue (makes_diagram (step_at job operand).step) =
+    subst (λ (q : Planned). IsTrue (makes_diagram q.step)) (get_or-take k job.steps operand no_step below) (diagram_made (take k job.steps) operand no_step diagram) in
+    absurd (is.2 found.0 (record { entry = found.1.entry_is; number = found.1.number_is; bytes = found.2 }) (found.1.kind_is ∙ diagram_kind (step_at job operand).step made))
+
+-- a step that was found in its place
+pub place_step : (job : Job) (k : ℕ) (p : Planned) (s : Step) → step_at job k ≡ p → p.step ≡ s → (step_at job k).step ≡ s
+place_step job k p s p_is step = ap (λ (q : Planned). q.step) p_is ∙ step
+
+-- a step's only operand is an earlier step, and its only level one of n
+pub only_below : (n x : ℕ) → IsTrue (nat_lt x n && true) → x < n
+only_below n x h = below (first_true (nat_lt x n) true h)
+  where
+    below : IsTrue (nat_lt x n) → x < n
+    below h = search (arith, h)
+
+-- what is said of a fault that was handed on
+pub handed : {T : Type 0} (result : Result T SortFault) (fault : StreamFault) (P : SortFault → Type 0) → IsErrAnd result (λ f. f ≡ handed_on fault) → P (handed_on fault) → IfErr result P
+handed (Ok x) fault P is fact = absurd is
+handed (Err f) fault P is fact = subst P (sym is) fact

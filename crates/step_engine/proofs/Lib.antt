@@ -1,0 +1,4 @@
+mod Written
+pub mod PlanLaws
+mod TableLaws
+mod EntryLaws

@@ -1,0 +1,4 @@
+pub mod Simple
+pub mod StepEntries
+pub mod StepFaults
+pub mod OneFile

@@ -1,0 +1,12 @@
+//! The steps of a plan, one at a time: a step is run, its caller commits its entry, and what it leaves behind is tidied up.
+#![tactic(auto)]
+
+mod diagrams;
+mod drops;
+mod entries;
+mod kinds;
+mod step;
+
+pub use drops::tidy;
+pub use kinds::{entry_of_kind, kind_of};
+pub use step::run_step;
