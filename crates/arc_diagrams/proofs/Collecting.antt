@@ -10,9 +10,10 @@ use Rattle.canon_file.proofs.RowLaws.{same_row}
 use Rattle.arc_file.specs.declared.arc.Arc.{Arc}
 use Rattle.arc_diagrams.specs.Arcs.{target_on, targets_of, IsMet, IsComplete}
 use Rattle.arc_diagrams.specs.Reduction.{final_pointer, final_pair, final_rows, AreFinal}
-use Rattle.arc_diagrams.specs.Reducing.{told, Comes, Queues, pair, IsCollected, IsRightRow, IsRightName, Collects}
-use Rattle.arc_diagrams.specs.declared.items.SourceRow.{SourceRow}
-use Rattle.arc_diagrams.specs.declared.items.Name.{Name}
+use Rattle.arc_diagrams.specs.Items.{pair}
+use Rattle.arc_diagrams.specs.Reducing.{final_arc, Comes, Queues, IsCollected, IsRightRow, IsRightName, Collects}
+use Rattle.arc_diagrams.specs.declared.source_row.SourceRow.{SourceRow}
+use Rattle.arc_diagrams.specs.declared.name.Name.{Name}
 use Rattle.arc_diagrams.proofs.TargetLaws.{target_has, arc_on}
 
 -- with all levels below i done, nothing of level i is collected yet
@@ -39,7 +40,7 @@ collect_one n i arcs queue rest noted rows names q taken greatest here one c = r
   queue_from = λ x m. c.queue_from x (taken.back x (inr m));
   noted_from = λ p m. elim m [ inl e ↦ subst (λ x. Comes n (suc i) (suc i) arcs x × (level_of x.source ≡ i)) e (c.queue_from q (taken.back q (inl refl)), here) | inr k ↦ c.noted_from p k ];
   each = λ a m above to. elim (c.each a m above to) [
-    | inl k ↦ elim (taken.there (told n arcs a) k) [ inl e ↦ inr (inl (inl e)) | inr l ↦ inl l ]
+    | inl k ↦ elim (taken.there (final_arc n arcs a) k) [ inl e ↦ inr (inl (inl e)) | inr l ↦ inl l ]
     | inr k ↦ inr (elim k [ inl l ↦ inl (inr l) | inr l ↦ inr l ])
   ];
   rows_right = c.rows_right;
@@ -79,7 +80,7 @@ collect_again n root i arcs queue rest noted rows names p q complete taken membe
       queue_from = λ x m. c.queue_from x (taken.back x (inr m));
       noted_from = c.noted_from;
       each = λ a m above to. elim (c.each a m above to) [
-        | inl k ↦ elim (taken.there (told n arcs a) k) [ inl e ↦ inr (inl (subst (λ x. Has x noted) (same ∙ e) member)) | inr l ↦ inl l ]
+        | inl k ↦ elim (taken.there (final_arc n arcs a) k) [ inl e ↦ inr (inl (subst (λ x. Has x noted) (same ∙ e) member)) | inr l ↦ inl l ]
         | inr k ↦ inr k
       ];
       rows_right = c.rows_right;
@@ -94,15 +95,15 @@ collect_again n root i arcs queue rest noted rows names p q complete taken membe
 -- where no arc of the source at hand is in the queue, the arc on each side was noted
 noted-arc : (n root i : ℕ) (arcs queue noted : List Arc) (rows : List SourceRow) (names : List Name) (p : Arc) (high : Bool)
     → i < n → IsComplete n root arcs → Collects n i arcs queue noted rows names → Has p noted → ((q : Arc) → Has q queue → q.source ≢ p.source)
-    → (b : Arc) × Has (told n arcs b) noted × (b.source ≡ p.source) × (b.high ≡ high) × (b.target ≡ target_on arcs p.source high)
+    → (b : Arc) × Has (final_arc n arcs b) noted × (b.source ≡ p.source) × (b.high ≡ high) × (b.target ≡ target_on arcs p.source high)
 noted-arc n root i arcs queue noted rows names p high below complete c member none =
     let ((a, in_a, above, to, is_p), here) = c.noted_from p member in
     let met : IsMet root arcs p.source = subst (IsMet root arcs) (ap (λ (x : Arc). x.source) is_p) (complete.met a in_a) in
     let (b, in_b, from_b, high_b, target_b) = arc_on n root arcs p.source high complete met (omega arith) in
     let deep : suc i ≤ level_of b.target = omega (arith, complete.deeper b in_b, ap level_of from_b) in
-    let found : Has (told n arcs b) noted =
+    let found : Has (final_arc n arcs b) noted =
     elim (c.each b in_b (omega (arith, ap level_of from_b)) deep) [
-      | inl k ↦ absurd (none (told n arcs b) k from_b)
+      | inl k ↦ absurd (none (final_arc n arcs b) k from_b)
       | inr k ↦ elim k [
         | inl l ↦ l
         | inr collected ↦ absurd (omega (arith, c.noted_behind b.source collected p member, from_b))
@@ -112,12 +113,12 @@ noted-arc n root i arcs queue noted rows names p high below complete c member no
 
 -- so its targets are its final pointers
 noted-target : (n root i : ℕ) (arcs queue noted : List Arc) (rows : List SourceRow) (names : List Name) (b : Arc)
-    → IsComplete n root arcs → Collects n i arcs queue noted rows names → Has (told n arcs b) noted
+    → IsComplete n root arcs → Collects n i arcs queue noted rows names → Has (final_arc n arcs b) noted
     → target_on noted b.source b.high ≡ final_pointer n arcs b.target
 noted-target n root i arcs queue noted rows names b complete c found =
-    let (d, in_d, from_d, high_d, target_d) = target_has noted b.source b.high (told n arcs b) found refl refl in
-    let same : d ≡ told n arcs b =
-    comes_once n root (suc i) (suc i) arcs d (told n arcs b) complete (c.noted_from d in_d).0 (c.noted_from (told n arcs b) found).0 from_d high_d in
+    let (d, in_d, from_d, high_d, target_d) = target_has noted b.source b.high (final_arc n arcs b) found refl refl in
+    let same : d ≡ final_arc n arcs b =
+    comes_once n root (suc i) (suc i) arcs d (final_arc n arcs b) complete (c.noted_from d in_d).0 (c.noted_from (final_arc n arcs b) found).0 from_d high_d in
     sym target_d ∙ ap (λ (x : Arc). x.target) same
 
 pub noted-targets : (n root i : ℕ) (arcs queue noted : List Arc) (rows : List SourceRow) (names : List Name) (p : Arc)
@@ -147,10 +148,10 @@ module _ (n root i : ℕ) (arcs queue noted : List Arc) (rows : List SourceRow) 
 
   -- each arc is in the queue, or its source is collected or at hand
   each-closed : (a : Arc) → Has a arcs → level_of a.source < suc i → suc i ≤ level_of a.target
-      → Has (told n arcs a) queue ⊎ ((p.source ≡ a.source) ⊎ IsCollected rows names a.source)
+      → Has (final_arc n arcs a) queue ⊎ ((p.source ≡ a.source) ⊎ IsCollected rows names a.source)
   each-closed a m above to = elim (c.each a m above to) [
     | inl k ↦ inl k
-    | inr k ↦ inr (elim k [ inl l ↦ inl (c.one_source p (told n arcs a) member l) | inr l ↦ inr l ])
+    | inr k ↦ inr (elim k [ inl l ↦ inl (c.one_source p (final_arc n arcs a) member l) | inr l ↦ inr l ])
   ]
 
   -- the source at hand becomes a row, where its two final pointers differ
@@ -232,13 +233,25 @@ module _ (n root i : ℕ) (arcs queue noted : List Arc) (rows : List SourceRow) 
         queue_below = λ x k q l. absurd k;
       }
 
+-- where the greatest source of the queue is of a shallower level than i, each is
+pub all_below : (i : ℕ) (queue : List Arc) (q : Arc) → ((x : Arc) → Has x queue → x.source ≤ q.source) → level_of q.source < i
+    → (x : Arc) → Has x queue → level_of x.source < i
+all_below i queue q greatest low x m = omega (arith, greatest x m)
+
+-- where it isn't the source at hand, none is
+pub none-of : (n i : ℕ) (arcs queue noted : List Arc) (rows : List SourceRow) (names : List Name) (p q : Arc)
+    → Collects n i arcs queue noted rows names → Has p noted → Has q queue → ((x : Arc) → Has x queue → x.source ≤ q.source) → q.source ≢ p.source
+    → (x : Arc) → Has x queue → x.source ≢ p.source
+none-of n i arcs queue noted rows names p q c member first greatest other x m same =
+    omega (arith, c.queue_below p member q first, greatest x m)
+
 -- with no arc of the level left in the queue, each of its sources is collected
 pub all_collected : (n root i : ℕ) (arcs queue : List Arc) (rows : List SourceRow) (names : List Name) → IsComplete n root arcs
     → Collects n i arcs queue [] rows names → ((q : Arc) → Has q queue → level_of q.source < i)
     → (a : Arc) → Has a arcs → level_of a.source ≡ i → IsCollected rows names a.source
 all_collected n root i arcs queue rows names complete c low a m here =
     elim (c.each a m (omega arith) (omega (arith, complete.deeper a m))) [
-      | inl k ↦ absurd (omega (arith, low (told n arcs a) k))
+      | inl k ↦ absurd (omega (arith, low (final_arc n arcs a) k))
       | inr k ↦ elim k [ inl l ↦ absurd l | inr l ↦ l ]
     ]
 

@@ -1,4 +1,4 @@
--- the arcs to a level are read, and told of their final targets
+-- the arcs to a level are read, and get their final targets
 use Rattle.std.specs.Prelude.{◌≡◌, ◌≢◌, ◌<◌, ◌≤◌, ◌==◌, nat_lt, ℕ, suc, false, List, [], ◌∷◌, Option, Some}
 use Rattle.std.proofs.Common.{refl, sym, ◌∙◌, ap, inl, inr, arith}
 use Rattle.std.proofs.lemmas.Bool.Decides.{nat_tests}
@@ -8,8 +8,8 @@ use Rattle.canon_file.proofs.MemberLaws.{either_bit}
 use Rattle.arc_file.specs.declared.arc.Arc.{Arc}
 use Rattle.arc_diagrams.specs.Arcs.{IsComplete}
 use Rattle.arc_diagrams.specs.Reduction.{final_pointer}
-use Rattle.arc_diagrams.specs.Reducing.{told, Queues, Leaves, IsRightName, AreNamed, Forwards, KnowsRoot, FindsRoot}
-use Rattle.arc_diagrams.specs.declared.items.Name.{Name}
+use Rattle.arc_diagrams.specs.Reducing.{final_arc, Queues, Leaves, IsRightName, AreNamed, Forwards, KnowsRoot, FindsRoot}
+use Rattle.arc_diagrams.specs.declared.name.Name.{Name}
 
 -- with the sources of level i named, no arc to them is read yet
 pub forward_first : (n root i : ℕ) (arcs queue unread : List Arc) (names : List Name) → i < n → IsComplete n root arcs
@@ -30,7 +30,7 @@ forward_first n root i arcs queue unread names below complete queued leaves name
   names_right = named.right;
 }
 
--- an arc to a source that has its name is told of it
+-- an arc to a source that has its name gets that pointer
 pub forward_one : (n root i : ℕ) (arcs queue unread rest : List Arc) (names : List Name) (u q : Arc) (m : Name) → IsComplete n root arcs
     → SameMembers unread (u ∷ rest) → Has m names → m.source ≡ u.target
     → q.source ≡ u.source → q.high ≡ u.high → q.target ≡ m.pointer
@@ -40,16 +40,16 @@ forward_one n root i arcs queue unread rest names u q m complete taken in_names 
     let (in_arcs, _) = f.unread_from u (taken.back u (inl refl)) in
     let level : level_of u.target ≡ i = ap level_of (sym to_source ∙ sym of_m) ∙ here in
     let final : final_pointer n arcs u.target ≡ q.target = ap (final_pointer n arcs) (sym to_source ∙ sym of_m) ∙ pointer ∙ sym target in
-    let is_told : told n arcs u ≡ q = λ j. record { source = sym source j; high = sym high j; target = final j } in
+    let is_final : final_arc n arcs u ≡ q = λ j. record { source = sym source j; high = sym high j; target = final j } in
     record {
       queue_from = λ x k. elim k [
-        | inl e ↦ (u, in_arcs, omega (arith, complete.deeper u in_arcs), omega arith, is_told ∙ e)
+        | inl e ↦ (u, in_arcs, omega (arith, complete.deeper u in_arcs), omega arith, is_final ∙ e)
         | inr l ↦ f.queue_from x l
       ];
       each = λ x k above to. elim (f.each x k above to) [
         | inl l ↦ inl (inr l)
         | inr (l, there) ↦ elim (taken.there x l) [
-          | inl same ↦ inl (inl (sym is_told ∙ ap (told n arcs) same))
+          | inl same ↦ inl (inl (sym is_final ∙ ap (final_arc n arcs) same))
           | inr later ↦ inr (later, there)
         ]
       ];
@@ -99,6 +99,14 @@ forward-below n i arcs queue unread names m u in_names greatest k f =
   where
     by : (l : ℕ) → l ≡ i → (l == i) ≡ false → ⊥
     by l same e = grind (arith, nat_tests)
+
+-- where the arc that is read next leads to no source that has a name, none does that isn't read
+pub none-to : (n i : ℕ) (arcs queue unread : List Arc) (names : List Name) (m : Name) (u : Arc)
+    → Has m names → ((p : Name) → Has p names → p.source ≤ m.source) → Has u unread → ((x : Arc) → Has x unread → x.target ≤ u.target)
+    → u.target ≢ m.source → Forwards n i arcs queue unread names → (x : Arc) → Has x unread → x.target ≢ m.source
+none-to n i arcs queue unread names m u in_names greatest member last other f x k same =
+    let below : u.target ≤ m.source = forward-below n i arcs queue unread names m u in_names greatest member f in
+    omega (arith, last x k)
 
 -- with no name left, level i is done
 pub forward_last-queue : (n i : ℕ) (arcs queue unread : List Arc) → Forwards n i arcs queue unread [] → Queues n i i arcs queue

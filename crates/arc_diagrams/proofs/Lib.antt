@@ -12,4 +12,7 @@ pub mod Collecting
 pub mod Numbering
 pub mod Forwarding
 pub mod Remaining
+pub mod ListViews
+pub mod ItemOrders
+pub mod SameLists
 mod Worked

@@ -1,7 +1,5 @@
 -- the rows of a level are numbered, in ascending order
-use Rattle.std.specs.Prelude.{◌≡◌, ◌-◌, ◌<◌, ◌==◌, ◌&&◌, ℕ, true, false, cond, List, [], ◌∷◌, ◌++◌, length, map, filter, Option, Some, None}
-use Rattle.std.specs.Ordering.{nat_cmp, ordering_then}
-use Rattle.std.specs.declared.cmp.Ordering.{Ordering}
+use Rattle.std.specs.Prelude.{◌≤◌, ◌<◌, ◌≡◌, ◌-◌, ◌<◌, ◌==◌, ◌&&◌, ℕ, true, false, cond, List, [], ◌∷◌, ◌++◌, length, map, filter, Option, Some, None}
 use Rattle.std.proofs.Common.{refl, sym, ◌∙◌, ap, subst, inl, inr, true≢false, arith}
 use Rattle.std.proofs.lemmas.List.{append_assoc, append-nil, length-append}
 use Rattle.std.proofs.lemmas.Bool.Decides.{nat_tests}
@@ -16,9 +14,11 @@ use Rattle.canon_file.proofs.StandLaws.{same_words}
 use Rattle.arc_file.specs.declared.arc.Arc.{Arc}
 use Rattle.arc_diagrams.specs.Arcs.{sources_of, IsComplete}
 use Rattle.arc_diagrams.specs.Reduction.{final_pointer, final_pair, final_rows, AreFinal}
-use Rattle.arc_diagrams.specs.Reducing.{pair, IsCollected, IsRightRow, IsRightName, Collects, distinct_after, IsRising, Numbers, AreNamed}
-use Rattle.arc_diagrams.specs.declared.items.SourceRow.{SourceRow}
-use Rattle.arc_diagrams.specs.declared.items.Name.{Name}
+use Rattle.arc_diagrams.specs.Items.{pair}
+use Rattle.arc_diagrams.specs.Reducing.{IsCollected, IsRightRow, IsRightName, Collects, distinct_after, IsRising, Numbers, AreNamed}
+use Rattle.arc_diagrams.specs.declared.source_row.SourceRow.{SourceRow}
+use Rattle.arc_diagrams.specs.declared.name.Name.{Name}
+use Rattle.arc_diagrams.proofs.ReduceLaws.{length-final_rows}
 use Rattle.arc_diagrams.proofs.RowPlaces.{place_at}
 use Rattle.arc_diagrams.proofs.RowLists.{after-same, after-new, distinct_is}
 use Rattle.arc_diagrams.proofs.Collecting.{all_collected}
@@ -151,6 +151,18 @@ number_same n i arcs done p r rows names m final same is_source is_pointer c =
       names_right = λ s k. elim k [ inl e ↦ subst (IsRightName n i arcs) e right | inr l ↦ c.names_right s l ];
     }
 
+-- the rows with a number are no more than the arcs, and fewer where the next row is new
+pub few_done : (n i : ℕ) (arcs : List Arc) (done : List Row) (last : Option Row) (rows : List SourceRow) (names : List Name)
+    → Numbers n i arcs done last rows names → length done ≤ length arcs
+few_done n i arcs done last rows names c =
+    omega (arith, length-final_rows n arcs i, ap length c.whole, length-append done (distinct_after last (map pair rows)))
+
+pub fewer_done : (n i : ℕ) (arcs : List Arc) (done : List Row) (last : Option Row) (r : SourceRow) (rows : List SourceRow) (names : List Name)
+    → distinct_after last (pair r ∷ map pair rows) ≡ pair r ∷ distinct_after (Some (pair r)) (map pair rows)
+    → Numbers n i arcs done last (r ∷ rows) names → length done < length arcs
+fewer_done n i arcs done last r rows names is_new c =
+    omega (arith, length-final_rows n arcs i, ap length c.whole, length-append done (distinct_after last (map pair (r ∷ rows))), ap length is_new)
+
 -- when no row is left, those with a number are the rows of the level, and each source has its name
 pub number_last-rows : (n i : ℕ) (arcs : List Arc) (done : List Row) (last : Option Row) (names : List Name)
     → Numbers n i arcs done last [] names → final_rows n arcs i ≡ done
@@ -162,7 +174,3 @@ number_last n i arcs done last names c = record {
   each = λ a m here. elim (c.each a m here) [ inl (r, k, e) ↦ absurd k | inr named ↦ named ];
   right = c.names_right;
 }
-
--- how rows compare: by the pair first
-abbrev pub row_cmp : SourceRow → SourceRow → Ordering
-row_cmp x y = ordering_then (nat_cmp x.low y.low) (ordering_then (nat_cmp x.high y.high) (nat_cmp x.source y.source))

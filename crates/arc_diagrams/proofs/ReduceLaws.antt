@@ -14,7 +14,7 @@ use Rattle.canon_file.proofs.MemberLaws.{has_map}
 use Rattle.canon_file.proofs.StandLaws.{injective}
 use Rattle.arc_file.specs.declared.arc.Arc.{Arc}
 use Rattle.arc_diagrams.specs.Arcs.{targets_of, sources_of, IsComplete, table_of_arcs}
-use Rattle.arc_diagrams.specs.Reduction.{pair_of, rows_of, final, final_pointer, final_nodes}
+use Rattle.arc_diagrams.specs.Reduction.{pair_of, rows_of, final, final_pointer, final_rows, final_nodes}
 use Rattle.arc_diagrams.specs.Laws.{ReducesTo, Reduces}
 use Rattle.arc_diagrams.proofs.WordLaws.{terminal-value}
 use Rattle.arc_diagrams.proofs.TableLaws.{length-table_of, table_from_stands}
@@ -57,6 +57,11 @@ length-reduced targets f sources =
 length-sources : (arcs : List Arc) (i : ℕ) → length (sources_of arcs i) ≤ length arcs
 length-sources arcs i =
     omega (arith, length-filter (λ s. level_of s == i) (map (λ (a : Arc). a.source) arcs), length-map arcs (λ (a : Arc). a.source))
+
+-- so a level has no more rows than there are arcs
+pub length-final_rows : (n : ℕ) (arcs : List Arc) (i : ℕ) → length (final_rows n arcs i) ≤ length arcs
+unfolding final_rows
+length-final_rows n arcs i = omega (arith, length-reduced (targets_of arcs) (final_pointer n arcs) (sources_of arcs i), length-sources arcs i)
 
 -- the rows of level i, and of each of the h - 1 deeper levels
 abbrev pub reduced : (ℕ → Row) → (ℕ → List ℕ) → ℕ → ℕ → List (List Row)

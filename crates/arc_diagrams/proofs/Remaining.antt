@@ -13,7 +13,7 @@ use Rattle.arc_file.specs.declared.arc.Arc.{Arc}
 use Rattle.arc_diagrams.specs.Arcs.{targets_of, IsMet, IsComplete}
 use Rattle.arc_diagrams.specs.Laws.{IsDiagramOf}
 use Rattle.arc_diagrams.specs.Reduction.{rows_of, final_pointer, final_rows, final_nodes, AreFinal}
-use Rattle.arc_diagrams.specs.Reducing.{told, nodes_from, Queues, Leaves, KnowsRoot, Remains}
+use Rattle.arc_diagrams.specs.Reducing.{final_arc, nodes_from, Queues, Leaves, KnowsRoot, Remains}
 use Rattle.arc_diagrams.proofs.WordLaws.{terminal_from}
 use Rattle.arc_diagrams.proofs.RowPlaces.{has_left, has_right}
 use Rattle.arc_diagrams.proofs.FinalLaws.{source_below}
@@ -29,9 +29,9 @@ nodes_from-end n arcs = let none : n - n ≡ 0 = omega arith in λ j. final_node
 pub nodes_from-whole : (n : ℕ) (arcs : List Arc) → nodes_from n arcs 0 ≡ final_nodes n arcs n 0
 nodes_from-whole n arcs = let all : n - 0 ≡ n = omega arith in λ j. final_nodes n arcs (all j) 0
 
--- an arc to a truth value is told already
-told-end : (n : ℕ) (arcs : List Arc) (a : Arc) → AreFinal n arcs → IsTerminal a.target → told n arcs a ≡ a
-told-end n arcs a final end = λ j. record { source = a.source; high = a.high; target = final.ends a.target end j }
+-- an arc to a truth value has its final target
+final_arc-end : (n : ℕ) (arcs : List Arc) (a : Arc) → AreFinal n arcs → IsTerminal a.target → final_arc n arcs a ≡ a
+final_arc-end n arcs a final end = λ j. record { source = a.source; high = a.high; target = final.ends a.target end j }
 
 -- at the beginning no level is done: the end arcs are the queue, and no other arc is read
 pub begun_remains : (n root : ℕ) (inner ends : List Arc) (known : Option ℕ) → n ≤ 65535 → IsComplete n root (inner ++ ends) → AreFinal n (inner ++ ends)
@@ -47,11 +47,11 @@ begun_remains n root inner ends known top complete final to_nodes to_ends begins
           has_right q inner ends m,
           source_below n root (inner ++ ends) q top complete (has_right q inner ends m),
           to_ends q m,
-          told-end n (inner ++ ends) q final (end q m),
+          final_arc-end n (inner ++ ends) q final (end q m),
         );
         each = λ a m above to. elim (has_append a inner ends m) [
           | inl k ↦ absurd (omega (arith, to_nodes a k))
-          | inr k ↦ subst (λ b. Has b ends) (sym (told-end n (inner ++ ends) a final (end a k))) k
+          | inr k ↦ subst (λ b. Has b ends) (sym (final_arc-end n (inner ++ ends) a final (end a k))) k
         ];
       };
       leaves = record {
@@ -100,7 +100,7 @@ module _ (n root i j : ℕ) (arcs queue : List Arc) (within : i ≤ n) (later : 
             no-sources d b in_b (omega (arith, complete.deeper a m, ap level_of source)) (omega (arith, ap level_of source)) (omega (arith, complete.deeper a m, ap level_of source))
         | inr e ↦
             let deep : i ≤ level_of a.target = grind (arith, nat_tests) in
-            omega (arith, low (told n arcs a) (queued.each a m to deep))
+            omega (arith, low (final_arc n arcs a) (queued.each a m to deep))
       ]
 
   no-source : (a : Arc) → Has a arcs → j ≤ level_of a.source → level_of a.source < i → ⊥

@@ -7,26 +7,27 @@ use Rattle.canon_file.specs.Members.{Has}
 use Rattle.canon_file.specs.Rows.{row_before}
 use Rattle.canon_file.specs.Pairs.{differs}
 use Rattle.arc_file.specs.declared.arc.Arc.{Arc}
+use Rattle.arc_diagrams.specs.Items.{pair}
 use Rattle.arc_diagrams.specs.Reduction.{final_pointer, final_pair, final_rows, final_nodes}
-use Rattle.arc_diagrams.specs.declared.items.SourceRow.{SourceRow}
-use Rattle.arc_diagrams.specs.declared.items.Name.{Name}
+use Rattle.arc_diagrams.specs.declared.source_row.SourceRow.{SourceRow}
+use Rattle.arc_diagrams.specs.declared.name.Name.{Name}
 
 -- the arc with the final pointer of its target
-abbrev pub told : ℕ → List Arc → Arc → Arc
-told n arcs a = record { source = a.source; high = a.high; target = final_pointer n arcs a.target }
+abbrev pub final_arc : ℕ → List Arc → Arc → Arc
+final_arc n arcs a = record { source = a.source; high = a.high; target = final_pointer n arcs a.target }
 
 -- the nodes of level i and of all deeper ones
 abbrev pub nodes_from : ℕ → List Arc → ℕ → List Node
 nodes_from n arcs i = final_nodes n arcs (n - i) i
 
--- an arc of the set from a level below `above` to level `to` or a deeper one, told of its final target
+-- an arc of the set from a level below `above` to level `to` or a deeper one, with its final target
 abbrev pub Comes : ℕ → ℕ → ℕ → List Arc → Arc → Type 0
-Comes n above to arcs q = (a : Arc) × Has a arcs × (level_of a.source < above) × (to ≤ level_of a.target) × (told n arcs a ≡ q)
+Comes n above to arcs q = (a : Arc) × Has a arcs × (level_of a.source < above) × (to ≤ level_of a.target) × (final_arc n arcs a ≡ q)
 
 -- the queue has those arcs and no others
 pub record Queues (n above to : ℕ) (arcs queue : List Arc) : Type 0 where
   pub from : (q : Arc) → Has q queue → Comes n above to arcs q
-  pub each : (a : Arc) → Has a arcs → level_of a.source < above → to ≤ level_of a.target → Has (told n arcs a) queue
+  pub each : (a : Arc) → Has a arcs → level_of a.source < above → to ≤ level_of a.target → Has (final_arc n arcs a) queue
 
 -- the arcs that aren't read yet are those to nodes of levels below i
 pub record Leaves (i : ℕ) (arcs unread : List Arc) : Type 0 where
@@ -43,10 +44,6 @@ pub record Remains (n root i : ℕ) (arcs queue unread : List Arc) (nodes : List
   pub leaves : Leaves i arcs unread
   pub made : nodes ≡ nodes_from n arcs i
   pub root_known : KnowsRoot n root i arcs known
-
--- the pair of a row with its source
-abbrev pub pair : SourceRow → Row
-pair r = record { low = r.low; high = r.high }
 
 -- the source is among the rows or the names
 abbrev pub IsCollected : List SourceRow → List Name → ℕ → Type 0
@@ -67,7 +64,7 @@ pub record Collects (n i : ℕ) (arcs queue noted : List Arc) (rows : List Sourc
   pub queue_from : (q : Arc) → Has q queue → Comes n (suc i) (suc i) arcs q
   pub noted_from : (p : Arc) → Has p noted → Comes n (suc i) (suc i) arcs p × (level_of p.source ≡ i)
   pub each : (a : Arc) → Has a arcs → level_of a.source < suc i → suc i ≤ level_of a.target
-      → Has (told n arcs a) queue ⊎ (Has (told n arcs a) noted ⊎ IsCollected rows names a.source)
+      → Has (final_arc n arcs a) queue ⊎ (Has (final_arc n arcs a) noted ⊎ IsCollected rows names a.source)
   pub rows_right : (r : SourceRow) → Has r rows → IsRightRow n i arcs r
   pub names_right : (m : Name) → Has m names → IsRightName n i arcs m
   -- so far a source has a name only where its two final pointers are equal
@@ -101,12 +98,12 @@ pub record AreNamed (n i : ℕ) (arcs : List Arc) (names : List Name) : Type 0 w
   pub each : (a : Arc) → Has a arcs → level_of a.source ≡ i → (m : Name) × Has m names × (m.source ≡ a.source)
   pub right : (m : Name) → Has m names → IsRightName n i arcs m
 
--- while the arcs to level i are read and told of their final targets, in descending order of these
+-- while the arcs to level i are read and get their final targets, in descending order of these
 -- sources: a source to which an arc isn't read yet still has its name
 pub record Forwards (n i : ℕ) (arcs queue unread : List Arc) (names : List Name) : Type 0 where
   pub queue_from : (q : Arc) → Has q queue → Comes n i i arcs q
   pub each : (a : Arc) → Has a arcs → level_of a.source < i → i ≤ level_of a.target
-      → Has (told n arcs a) queue ⊎ (Has a unread × (level_of a.target ≡ i))
+      → Has (final_arc n arcs a) queue ⊎ (Has a unread × (level_of a.target ≡ i))
   pub unread_from : (a : Arc) → Has a unread → Has a arcs × (level_of a.target < suc i)
   pub unread_each : (a : Arc) → Has a arcs → level_of a.target < i → Has a unread
   pub named : (a : Arc) → Has a unread → level_of a.target ≡ i → (m : Name) × Has m names × (m.source ≡ a.target)

@@ -1,7 +1,15 @@
-//! What a set of arcs stands for, and why reducing it level by level gives the canonical diagram.
+//! What a set of arcs stands for, why reducing it level by level gives the canonical diagram, and what a
+//! reduction keeps.
 #![tactic(auto)]
 
-mod items;
+mod final_arc;
 pub mod laws;
+mod name;
+mod source_row;
 
-pub use items::{Name, SourceRow};
+pub use final_arc::FinalArc;
+pub use name::Name;
+pub use source_row::SourceRow;
+
+#[cfg(test)]
+mod tests;
