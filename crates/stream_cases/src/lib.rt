@@ -1,5 +1,7 @@
-//! Cases of streams and node files over a folder in memory.
+//! Cases of streams, node files and arc files over a folder in memory.
 #![tactic(auto)]
 
+#[cfg(test)]
+mod arcs;
 #[cfg(test)]
 mod tests;
