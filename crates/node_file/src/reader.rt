@@ -27,7 +27,7 @@ pub struct NodeReader<'r> {
 }
 
 impl<'r> NodeReader<'r> {
-    ghost use Rattle.std.specs.Prelude.{◌/◌, min, List, length, OnOk, IfOk, IfErr, None};
+    ghost use Rattle.std.specs.Prelude.{◌/◌, min, List, length, take, OnOk, IfOk, IfErr, None};
     ghost use Rattle.shelf_model.specs.World.{file};
     ghost use Rattle.shelf_model.specs.Calls.{Told};
     ghost use Rattle.shelf_model.specs.Faults.{OnlyShelf};
@@ -90,6 +90,11 @@ impl<'r> NodeReader<'r> {
             HasTrailer n (trailer_of r).root bytes × ((trailer_of r).count ≡ length bytes / 24 - 1)) }
         ensures reads { IfOk result (λ r. IsTrue (S.tells shelf.new) →
             Reads r (file (S.world shelf.old) f).bytes) }
+        ensures nodes { IfOk result (λ r. IsTrue (S.tells shelf.new) → (root : ℕ) → (xs : List Node) →
+            let bytes = (file (S.world shelf.old) f).bytes in HasNodes n root xs bytes →
+            ((trailer_of r).count ≡ length xs) × AreLeft r bytes (take place xs)) }
+        ensures sound { IfErr result (λ e. IsTrue (S.tells shelf.new) → (root : ℕ) → (xs : List Node) →
+            HasNodes n root xs (file (S.world shelf.old) f).bytes → e ≡ StreamFault.Shelf) }
         ensures damage { IfErr result (IsDamageOf f) }
         ensures damaged { IfErr result (λ e. IsTrue (S.tells shelf.new) →
             let bytes = (file (S.world shelf.old) f).bytes in
@@ -111,6 +116,14 @@ impl<'r> NodeReader<'r> {
         ensures reads { IsTrue (S.tells shelf.new) →
             let bytes = (file (S.world shelf.old) (file_of self.old)).bytes in
             Reads self.old bytes → OnOk result (Reads self.new bytes) }
+        ensures nodes { IsTrue (S.tells shelf.new) →
+            let bytes = (file (S.world shelf.old) (file_of self.old)).bytes in
+            Reads self.old bytes → (xs : List Node) → AreLeft self.old bytes xs →
+            OnOk result (AreLeft self.new bytes (take place xs)) }
+        ensures sound { IsTrue (S.tells shelf.new) →
+            let bytes = (file (S.world shelf.old) (file_of self.old)).bytes in
+            Reads self.old bytes → (xs : List Node) → AreLeft self.old bytes xs →
+            IfErr result (λ e. e ≡ StreamFault.Shelf) }
         ensures damage { IfErr result (IsDamageOf (file_of self.old)) }
         ensures damaged { IsTrue (S.tells shelf.new) →
             let bytes = (file (S.world shelf.old) (file_of self.old)).bytes in
