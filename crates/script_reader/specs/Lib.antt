@@ -1,0 +1,5 @@
+pub mod Script
+pub mod Plans
+pub mod Lines
+pub mod Built
+pub mod Reading
