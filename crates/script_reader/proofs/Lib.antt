@@ -3,3 +3,7 @@ pub mod OneScript
 pub mod Naming
 pub mod Planned
 pub mod PlannedLines
+pub mod Accepted
+pub mod Front
+pub mod Places
+pub mod Steps

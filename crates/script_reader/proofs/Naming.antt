@@ -1,5 +1,5 @@
 -- A name that is live among the requests so far names a live diagram among their steps.
-use Rattle.std.proofs.Common.{◌≡◌, ◌⊎◌, ℕ, zero, suc, ◌+◌, ◌<◌, ◌≤◌, Bool, true, false, ◌||◌, List, [], ◌∷◌, ◌++◌, length, refl, sym, ap, subst, ◌∙◌, arith, inl, inr}
+use Rattle.std.proofs.Common.{◌≡◌, ◌⊎◌, ℕ, zero, suc, ◌<◌, ◌≤◌, Bool, true, false, ◌||◌, List, [], ◌∷◌, ◌++◌, length, refl, sym, ap, subst, ◌∙◌, arith, inl, inr}
 use Rattle.std.specs.List.{list_any}
 use Rattle.std.specs.Str.{bytes_eq}
 use Rattle.std.proofs.lemmas.Bool.{cases_Bool, and_from, and_parts, or_from, or_parts, or_cases, not-true, not_from_false, ne_eqb}
@@ -127,7 +127,7 @@ stands_more before made r s h k = record {
         let p = live_parts made (step_named before name) (h.live name earlier) in
         subst (λ n. is_live (made ++ s ∷ []) n ≡ true) (sym (named_stays before r name given))
         (and_from _ _ (diagram_stays made s (step_named before name) p.0)
-            (not_from_false _ (none_more (λ (s : Planned). plans.drops (step_named before name) s.step) made s p.1 (k.others name earlier not_dropped))))
+        (not_from_false _ (none_more (λ (s : Planned). plans.drops (step_named before name) s.step) made s p.1 (k.others name earlier not_dropped))))
       where
         before_that : (list_any (gives name) before ≡ true) ⊎ ((gives name r || false) ≡ true) → list_any (gives name) before ≡ true
         before_that (inl given) = given

@@ -1,6 +1,5 @@
 -- The plan that a script stands for.
 use Rattle.std.specs.Prelude.{ℕ, zero, suc, ◌+◌, List, [], ◌∷◌, ◌++◌, length, unwrap_or, cond}
-use Rattle.bool_tables.specs.declared.steps.Step.{Step}
 use Rattle.bool_tables.specs.declared.steps.Step.TheVariants as step
 use Rattle.bool_tables.specs.declared.steps.Planned.{Planned}
 use Rattle.script_reader.specs.declared.plan.Plan.{Plan}

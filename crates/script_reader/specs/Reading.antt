@@ -1,6 +1,6 @@
 -- The word and the request at the front of a text, each with the bytes behind it, and the step that a request makes.
 use Rattle.std.specs.Prelude.{ℕ, suc, ◌+◌, Bool, true, false, ◌==◌, nat_le, List, [], ◌∷◌, length, map, take, drop, codes, Option, Some, None, option_map, if◌then◌else◌}
-use Rattle.std.specs.List.{AllByRecursion, IsDistinct}
+use Rattle.std.specs.List.{IsDistinct}
 use Rattle.std.specs.Option.{option_or}
 use Rattle.std.specs.Str.{bytes_eq}
 use Rattle.std.specs.Map.{update}
@@ -117,10 +117,14 @@ script_of names lines = record { variables = texts names; requests = requests_of
 abbrev pub number_in : BTreeMap (Bor (List ℕ)) ℕ → List ℕ → Option ℕ
 number_in numbers name = get_by (λ (k : Bor (List ℕ)). slice_cmp nat_cmp name k.now) numbers
 
+-- the first place at which a test passes
+abbrev pub place_of : {A : Type 0} → (A → Bool) → List A → Option ℕ
+place_of p [] = None
+place_of p (x ∷ xs) = if p x then Some 0 else option_map suc (place_of p xs)
+
 -- the number of the request that gives a diagram this name
 abbrev pub giver_of : List Request → List ℕ → Option ℕ
-giver_of [] name = None
-giver_of (r ∷ requests) name = if gives name r then Some 0 else option_map suc (giver_of requests name)
+giver_of requests name = place_of (gives name) requests
 
 -- the variables differ, and each request may follow those before it
 pub record Fits (variables : List (List ℕ)) (requests : List Request) : Type 0 where

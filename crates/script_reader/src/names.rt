@@ -1,4 +1,6 @@
 ghost use Rattle.std.specs.Prelude.{◌≡◌, ℕ, List, OnOk, IsErrOf};
+ghost use Rattle.std.specs.Map.{update};
+ghost use Rattle.std.specs.Str.{bytes_eq};
 ghost use Rattle.script_reader.specs.Reading.{number_in, live_number, given_behind, dropped_behind, request_of};
 
 use crate::reading::RequestLine;
@@ -44,14 +46,23 @@ impl<'a> Names<'a> {
         ensures refused { ¬ (IsErrOf result ScriptRefusal.Word) }
     {
         match *request {
-            RequestLine::Constant { name, .. } | RequestLine::Variable { name, .. } => {
-                self.given.insert(name, step)?;
-            }
-            RequestLine::Drop { operand } => {
-                self.dropped.insert(operand, step)?;
-            }
-            RequestLine::Size { .. } => {}
+            RequestLine::Constant { name, .. } => put(&mut self.given, name, step),
+            RequestLine::Variable { name, .. } => put(&mut self.given, name, step),
+            RequestLine::Size { .. } => Ok(()),
+            RequestLine::Drop { operand } => put(&mut self.dropped, operand, step),
         }
-        Ok(())
     }
+}
+
+fn put<'a>(
+    numbers: &mut BTreeMap<&'a [u8], u32>,
+    name: &'a [u8],
+    number: u32,
+) -> Result<(), ScriptRefusal>
+    ensures put { OnOk result ((other : List ℕ) → number_in numbers.new other
+        ≡ update bytes_eq (number_in numbers.old) name.entry.now (Some number) other) }
+    ensures refused { ¬ (IsErrOf result ScriptRefusal.Word) }
+{
+    numbers.insert(name, number)?;
+    Ok(())
 }
