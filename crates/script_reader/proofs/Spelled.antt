@@ -153,12 +153,13 @@ one_word_takes front bytes word rest e =
     subst (λ (p : List ℕ × List ℕ). IsWord p.0 × (bytes ≡ line_of_words front (p.0 ∷ []) ++ p.1)) same
     (is.word_is, behind_takes front bytes a read ∙ rw (is.parts, behind_takes (10 ∷ []) w.1 more end) (sym (one_word-append front w.0 more))))))
 
--- what is read as a line of two words stands there
+-- a line of two words behind the first, and the rest
 record IsPair (front bytes first second rest : List ℕ) : Type 0 where
   first_is : IsWord first
   second_is : IsWord second
   parts : bytes ≡ line_of_words front (first ∷ second ∷ []) ++ rest
 
+-- what is read as a line of two words stands there
 two_words_takes : (front bytes first second rest : List ℕ) → two_words_at front bytes ≡ Some ((first, second), rest) → IsPair front bytes first second rest
 unfolding two_words_at
 two_words_takes front bytes first second rest e =
