@@ -1,12 +1,13 @@
 //! Plans of small netlists, and of one that has too many steps.
 
-ghost use Rattle.std.specs.Prelude.{ℕ, ◌<◌, length, slice_index, IfOk};
+ghost use Rattle.std.specs.Prelude.{◌≡◌, ℕ, ◌<◌, length, map, slice_index, nat_lt, IsTrue, IfOk};
+ghost use Rattle.std.specs.List.{list_all};
 ghost use Rattle.blif_reader.specs.Answers.{net_of};
 
 use crate::planner::{BOTH, EITHER, LEFT_ALONE, NOT_BOTH};
 use crate::{NetPlan, PlanFault, plan_signals};
 use blif_reader::{Netlist, read_netlist};
-use bool_tables::{Bin, Step};
+use bool_tables::{Bin, Planned, Step, eval_steps};
 use std::alloc::{AllocError, Global};
 use std::test::Fail;
 
@@ -17,6 +18,10 @@ const CONSTANTS: &str =
     ".model k/.inputs a b/.outputs z o y/.names z/.names o/ 1/.names a b y/11 0/";
 
 const JOINED: &str = ".model m/.inputs a \\ # two/b/.outputs y/.names a b y/11 1/";
+
+const NEITHER: &str = ".model m/.inputs a b/.names a b y/1- 0/-1 0/";
+
+const HYPHEN: &str = ".model m/.inputs a b/.names b a a y/0-1 1/.outputs y/";
 
 fn constant(value: bool) -> Step {
     Step::Const { value }
@@ -141,10 +146,7 @@ fn plans_each_character_of_a_row(rt: HostRuntime) -> Result<(), Fail> {
         gone(0),
     ];
     // The second column of the row asks for nothing, and the block reads `a` twice.
-    let bytes = text(
-        rt.alloc(),
-        ".model m/.inputs a b/.names b a a y/0-1 1/.outputs y/",
-    )?;
+    let bytes = text(rt.alloc(), HYPHEN)?;
     let plan = planned(rt.alloc(), bytes.as_slice(), &[0, 1], &["y", "a"], 0)??;
     assert_eq!(rt; plan.steps.items(), steps.as_slice());
     Ok(())
@@ -175,5 +177,60 @@ fn refuses_too_many_steps(rt: HostRuntime) -> Result<(), Fail> {
     let bytes = wide(rt.alloc(), 262144)?;
     let plan = planned(rt.alloc(), bytes.as_slice(), &[0], &["y"], 0)?;
     assert!(rt; matches!(plan.err(), Some(PlanFault::TooManySteps)));
+    Ok(())
+}
+
+/// The steps as those of a script without names.
+fn unnamed(alloc: Global, steps: &[Step]) -> Result<Vec<Planned>, AllocError>
+    ensures { IfOk result (λ v. v.items ≡ map (λ s. record { step = s; name_at = 0; name_len = 0 }) steps.now) }
+{
+    let mut planned = Vec::new(alloc);
+    for step in steps {
+        planned.push(Planned {
+            step: *step,
+            name_at: 0,
+            name_len: 0,
+        })?;
+    }
+    Ok(planned)
+}
+
+/// The table of a signal over two variables, made from its steps.
+fn table_of(alloc: Global, slashed: &str, levels: &[u32], name: &str) -> Result<Vec<bool>, Fail>
+    requires { IsTrue (list_all (λ level. nat_lt level 2) levels.now) }
+{
+    let bytes = text(alloc, slashed)?;
+    let net = read_netlist(alloc, bytes.as_slice())?;
+    if levels.len() != net.input_count() as usize {
+        return Err(Fail::new("a level is missing"));
+    }
+    let wanted = signals(alloc, &net, &[name])?;
+    let plan = plan_signals(alloc, &net, levels, wanted.as_slice(), 0)?;
+    let planned = unnamed(alloc, plan.steps.items())?;
+    let tables = eval_steps(alloc, 2, b"", planned.as_slice())?;
+    let made = plan.made.items().first().copied().ok_or("no such signal")?;
+    let table = tables.get(made as usize).ok_or("no such step")?;
+    Ok(Vec::from_slice(alloc, table.items())?)
+}
+
+#[test]
+fn makes_the_tables_of_signals(rt: HostRuntime) -> Result<(), Fail> {
+    let cases: [(&str, &str, [bool; 4]); 8] = [
+        (HALF_ADDER, "s", [false, true, true, false]),
+        (HALF_ADDER, "c", [false, false, false, true]),
+        (HALF_ADDER, "t", [false, true, true, true]),
+        (HALF_ADDER, "b", [false, true, false, true]),
+        (CONSTANTS, "z", [false, false, false, false]),
+        (CONSTANTS, "o", [true, true, true, true]),
+        (CONSTANTS, "y", [true, true, true, false]),
+        (NEITHER, "y", [true, false, false, false]),
+    ];
+    for (slashed, name, values) in cases {
+        let table = table_of(rt.alloc(), slashed, &[0, 1], name)?;
+        assert_eq!(rt; table.as_slice(), values.as_slice(), "{slashed}");
+    }
+    // The second input is the variable that is asked first.
+    let table = table_of(rt.alloc(), HYPHEN, &[1, 0], "y")?;
+    assert_eq!(rt; table.as_slice(), [false, true, false, false].as_slice());
     Ok(())
 }
