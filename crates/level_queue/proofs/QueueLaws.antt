@@ -1,0 +1,83 @@
+-- the list of a queue from that of its sorter
+use Rattle.std.proofs.Common.{◌≡◌, ℕ, ◌*◌, ◌≤◌, List, ◌∷◌, All, length, subst}
+use Rattle.std.specs.Prelude.{Option, Some, None, Result, Ok, Err}
+use Rattle.std.specs.List.Sorted.{IsPermutation, IsSorted}
+use Rattle.std.specs.Ordering.{is_lt}
+use Rattle.std.specs.declared.cmp.Ordering.{Ordering}
+use Rattle.std.specs.Cmp.{IsTotalOrder, IsStrictWeakOrder}
+use Rattle.std.proofs.lemmas.List.MinMax.{ranks_by}
+use Rattle.std.proofs.lemmas.List.Elements.{All-tail, All-cons}
+use Rattle.std.proofs.lemmas.List.Sorted.{All-permutation}
+use Rattle.shelf_model.specs.declared.sort_fault.SortFault.{SortFault}
+use Rattle.shelf_model.specs.declared.sort_fault.SortFault.TheVariants.{Shelf, Damaged, RunsSpent, RoomFull}
+use Rattle.shelf_model.specs.World.{World}
+use Rattle.run_merge.specs.Lists.{Joins, Shows, Gives}
+use Rattle.run_merge.specs.declared.sorter.Sorter.{Sorter}
+use Rattle.run_merge.specs.Sorters as sorters
+use Rattle.run_merge.proofs.Ascending.{none_less}
+use Rattle.run_merge.proofs.SorterLaws.{credit_bounded, list_counted}
+use Rattle.level_queue.specs.declared.queue.LevelQueue.{LevelQueue}
+use Rattle.level_queue.specs.Queues.{held, credit, IsNoLess, Lists}
+
+-- what follows from the list of which an item joined the other
+joins_so : {T : Type 0} (P Q : List T → Type 0) (x : T) (xs : List T) (result : Result Unit SortFault)
+    → ((ys : List T) → IsPermutation (x ∷ xs) ys → P ys → Q ys) → (P xs → Q xs) → Joins P x xs result → Joins Q x xs result
+joins_so P Q x xs (Ok u) joined kept is = (is.0, is.1, joined is.0 is.1 is.2)
+joins_so P Q x xs (Err RoomFull) joined kept is = kept is
+joins_so P Q x xs (Err Shelf) joined kept is = tt
+joins_so P Q x xs (Err (Damaged f at)) joined kept is = is
+joins_so P Q x xs (Err RunsSpent) joined kept is = tt
+
+-- what follows from the list of which the first item is shown
+shows_so : {T : Type 0} (P Q : List T → Type 0) (xs : List T) (result : Result (Option T) SortFault) → (P xs → Q xs) → Shows P xs result → Shows Q xs result
+shows_so P Q xs (Ok (Some x)) kept is = (is.0, is.1, kept is.2)
+shows_so P Q xs (Ok None) kept is = (is.0, kept is.1)
+shows_so P Q xs (Err Shelf) kept is = tt
+shows_so P Q xs (Err (Damaged f at)) kept is = is
+shows_so P Q xs (Err RunsSpent) kept is = is
+shows_so P Q xs (Err RoomFull) kept is = is
+
+-- an item that isn't less than the last one taken joins
+pub queue_joined : {T : Type 0} (is_value : T → Type 0) (words : T → List ℕ) (cmp : T → T → Ordering) (q : LevelQueue T) (s : Sorter T) (old new : World) (x : T) (xs : List T) (result : Result Unit SortFault)
+    → IsNoLess cmp q.last x → Lists is_value words cmp q old xs
+    → Joins (sorters.Lists is_value words cmp s new) x xs result
+    → Joins (Lists is_value words cmp (record { sorter = s; last = q.last }) new) x xs result
+queue_joined {T = T} is_value words cmp q s old new x xs result no_less list joined =
+    let after : LevelQueue T = record { sorter = s; last = q.last } in
+    joins_so (sorters.Lists is_value words cmp s new) (Lists is_value words cmp after new) x xs result
+    (λ ys moved sorted. record { sorter = sorted; reached = All-permutation (IsNoLess cmp q.last) (x ∷ xs) ys moved (All-cons (IsNoLess cmp q.last) x xs no_less list.reached) })
+    (λ sorted. record { sorter = sorted; reached = list.reached }) joined
+
+-- the first item is shown
+pub queue_shown : {T : Type 0} (is_value : T → Type 0) (words : T → List ℕ) (cmp : T → T → Ordering) (q : LevelQueue T) (s : Sorter T) (old new : World) (xs : List T) (result : Result (Option T) SortFault)
+    → Lists is_value words cmp q old xs
+    → Shows (sorters.Lists is_value words cmp s new) xs result
+    → Shows (Lists is_value words cmp (record { sorter = s; last = q.last }) new) xs result
+queue_shown {T = T} is_value words cmp q s old new xs result list shown =
+    let after : LevelQueue T = record { sorter = s; last = q.last } in
+    shows_so (sorters.Lists is_value words cmp s new) (Lists is_value words cmp after new) xs result
+    (λ sorted. record { sorter = sorted; reached = list.reached }) shown
+
+-- the first item is taken, and none of the others is less
+pub queue_given : {T : Type 0} (is_value : T → Type 0) (words : T → List ℕ) (cmp : T → T → Ordering) → IsTotalOrder cmp
+    → (q : LevelQueue T) (s : Sorter T) (old new : World) (x : T) (xs : List T)
+    → Lists is_value words cmp q old xs
+    → Gives (sorters.Lists is_value words cmp s new) xs (Ok (Some x))
+    → Gives (Lists is_value words cmp (record { sorter = s; last = Some x }) new) xs (Ok (Some x))
+queue_given {T = T} is_value words cmp total q s old new x xs list given =
+    let order : IsStrictWeakOrder (λ (a b : T). is_lt (cmp a b)) = ranks_by total (λ (a : T). a) in
+    let up = subst (IsSorted cmp) given.1 list.sorter.ascends in
+    let after : All (IsNoLess cmp (Some x)) given.0 =
+    All-tail (IsNoLess cmp (Some x)) x given.0 (none_less (λ (a b : T). is_lt (cmp a b)) order x given.0 up) in
+    (given.0, given.1, record { sorter = given.2; reached = after })
+
+-- a queue holds as many items as its list has
+pub queue_counted : {T : Type 0} (is_value : T → Type 0) (words : T → List ℕ) (cmp : T → T → Ordering) (q : LevelQueue T) (world : World) (xs : List T)
+    → Lists is_value words cmp q world xs → length xs ≡ held q
+unfolding held
+queue_counted is_value words cmp q world xs list = list_counted is_value words cmp q.sorter world xs list.sorter
+
+-- what is paid for calls is at most 64 for each item
+pub queue_credit : {T : Type 0} (q : LevelQueue T) → credit q ≤ 64 * held q
+unfolding credit held
+queue_credit q = credit_bounded q.sorter

@@ -1,0 +1,59 @@
+-- What is seen of a queue.
+use Rattle.std.specs.Prelude.{◌≡◌, ℕ, ◌≤◌, false, List, All, Result, Option, Ok, Err, Some, None, IfSome}
+use Rattle.std.specs.Ordering.{is_lt}
+use Rattle.std.specs.declared.cmp.Ordering.{Ordering}
+use Rattle.shelf_model.specs.declared.file_no.FileNo.{FileNo}
+use Rattle.shelf_model.specs.declared.sort_fault.SortFault.{SortFault}
+use Rattle.shelf_model.specs.World.{World}
+use Rattle.run_merge.specs.declared.parts.Parts.{Parts}
+use Rattle.run_merge.specs.Parts.{WasTaken}
+use Rattle.run_merge.specs.Sorters as sorters
+use Rattle.level_queue.specs.declared.queue.LevelQueue.{LevelQueue}
+
+-- how many items it holds
+unfoldable pub held : {T : Type 0} → LevelQueue T → ℕ
+held q = sorters.held q.sorter
+
+-- how many records its room has
+unfoldable pub room_of : {T : Type 0} → LevelQueue T → ℕ
+room_of q = sorters.room_of q.sorter
+
+-- how many calls are paid for that weren't made yet
+unfoldable pub credit : {T : Type 0} → LevelQueue T → ℕ
+credit q = sorters.credit q.sorter
+
+-- what is paid for parts that weren't taken yet, 256 for each part
+unfoldable pub stock : {T : Type 0} → LevelQueue T → ℕ
+stock q = sorters.stock q.sorter
+
+-- the file is that of one of its runs
+unfoldable pub IsRunOf : {T : Type 0} → LevelQueue T → FileNo → Type 0
+IsRunOf q f = sorters.IsRunOf q.sorter f
+
+-- the last item that was taken from it
+abbrev pub last_of : {T : Type 0} → LevelQueue T → Option T
+last_of q = q.last
+
+-- the item isn't less than the last one taken
+abbrev pub IsNoLess : {T : Type 0} → (T → T → Ordering) → Option T → T → Type 0
+IsNoLess cmp last x = IfSome last (λ l. is_lt (cmp x l) ≡ false)
+
+-- the parts can serve the queue: the first three are taken, and so are those of its runs
+pub record Serves {T : Type 0} (parts : Parts) (q : LevelQueue T) : Type 0 where
+  pub past_made : 3 ≤ parts.next
+  pub runs_made : (f : FileNo) → IsRunOf q f → WasTaken parts f
+
+-- each of its records is that of a value
+pub record HoldsItems {T : Type 0} (is_value : T → Type 0) (words : T → List ℕ) (q : LevelQueue T) : Type 0 where
+  pub sorter : sorters.HoldsItems is_value words q.sorter
+
+-- in that world the queue stands for these values, which ascend, and none of which is less than the last one taken
+pub record Lists {T : Type 0} (is_value : T → Type 0) (words : T → List ℕ) (cmp : T → T → Ordering) (q : LevelQueue T) (world : World) (xs : List T) : Type 0 where
+  pub sorter : sorters.Lists is_value words cmp q.sorter world xs
+  pub reached : All (IsNoLess cmp q.last) xs
+
+-- an item that is taken is the last one from then on
+abbrev pub Reaches : {T : Type 0} → Option T → Option T → Result (Option T) SortFault → Type 0
+Reaches old new (Ok (Some x)) = new ≡ Some x
+Reaches old new (Ok None) = new ≡ old
+Reaches old new (Err e) = Unit
