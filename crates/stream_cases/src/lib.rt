@@ -4,4 +4,6 @@
 #[cfg(test)]
 mod arcs;
 #[cfg(test)]
-mod tests;
+mod nodes;
+#[cfg(test)]
+mod streams;

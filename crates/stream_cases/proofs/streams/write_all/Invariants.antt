@@ -1,7 +1,7 @@
 use Rattle.std.proofs.Common.{IsTrue}
 use Rattle.block_stream.specs.Writes.{InStep}
 use Rattle.block_stream.specs.Appenders.{filling_of}
-use Rattle.stream_cases.proofs.tests.write_all.Given as goal
+use Rattle.stream_cases.proofs.streams.write_all.Given as goal
 
 -- the appender is in step with its file
 abbrev pub invariant-loop-k : goal.invariant-loop-k

@@ -1,9 +1,8 @@
-// What no clause says: calls succeed with ample memory, and a call that fails or a torn record ends a stream.
+// Streams: calls succeed with ample memory, and a call that fails or a torn record ends a stream.
 ghost use Rattle.std.specs.Prelude.{◌≤◌, ◌<◌, ◌^◌, length};
 
 use block_stream::{Appender, Backward, Forward};
-use node_file::{NodeReader, NodeWriter};
-use rec_words::{Node, Ptr, Rec, Uid};
+use rec_words::Rec;
 use shelf_memory::Bench;
 use shelf_model::{FileNo, Shelf, StreamFault};
 use std::test::Fail;
@@ -68,15 +67,20 @@ fn reads_backward<S: Shelf>(
 #[test]
 fn gives_what_was_put(rt: HostRuntime) -> Result<(), Fail> {
     let mut room = [EMPTY; 40];
-    let cases: [(usize, u64); 9] = [
+    // A window, and how many records: around what it has room for, and around the 32 that one call moves.
+    let cases: [(usize, u64); 13] = [
         (8, 0),
         (8, 1),
         (8, 7),
         (8, 8),
         (8, 9),
         (8, 100),
+        (40, 0),
         (40, 31),
+        (40, 32),
         (40, 33),
+        (40, 40),
+        (40, 41),
         (40, 100),
     ];
     for (size, count) in cases {
@@ -108,6 +112,9 @@ fn a_failing_call_and_a_torn_record_end_a_stream(rt: HostRuntime) -> Result<(), 
     bench.fail_at(calls + 1)?;
     let failed = reads_forward(20, &mut window, &mut bench).err();
     assert_eq!(rt; failed, Some(StreamFault::Shelf));
+    bench.fail_at(calls + 3)?;
+    let failed = reads_backward(20, &mut window, &mut bench).err();
+    assert_eq!(rt; failed, Some(StreamFault::Shelf));
     let len = bench.len(FILE)?;
     bench.append(FILE, len, &[7; 20])?;
     let torn = StreamFault::Damaged {
@@ -122,32 +129,5 @@ fn a_failing_call_and_a_torn_record_end_a_stream(rt: HostRuntime) -> Result<(), 
         reads_backward(21, &mut window, &mut bench).err(),
         Some(torn)
     );
-    Ok(())
-}
-
-#[test]
-fn reads_the_node_file_of_a_variable(rt: HostRuntime) -> Result<(), Fail> {
-    let mut window = [EMPTY; 8];
-    let mut bench = Bench::empty(rt.alloc());
-    let root = Ptr::node(1, (1 << 47) - 1);
-    let Some(uid) = Uid::of(root) else {
-        return Ok(());
-    };
-    let node = Node {
-        uid,
-        low: Ptr::terminal(false),
-        high: Ptr::terminal(true),
-    };
-    let mut writer = NodeWriter::start(FILE, 3, &mut window, &mut bench)?;
-    writer.put(node, &mut bench)?;
-    assert_eq!(rt; writer.finish(root, &mut bench)?, 1);
-    assert_eq!(rt; bench.file(FILE).len(), 48);
-    let mut reader = NodeReader::start(FILE, 3, &mut window, &mut bench)?;
-    assert_eq!(rt; reader.trailer().count, 1);
-    assert_eq!(rt; reader.next(&mut bench)?, Some(node));
-    assert_eq!(rt; reader.next(&mut bench)?, None);
-    let other = NodeReader::start(FILE, 4, &mut window, &mut bench).err();
-    let damage = StreamFault::Damaged { file: FILE, at: 24 };
-    assert_eq!(rt; other, Some(damage));
     Ok(())
 }
