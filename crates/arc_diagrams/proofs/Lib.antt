@@ -15,4 +15,6 @@ pub mod Remaining
 pub mod ListViews
 pub mod ItemOrders
 pub mod SameLists
+pub mod Phases
+pub mod NotedArcs
 mod Worked

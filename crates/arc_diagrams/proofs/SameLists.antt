@@ -58,6 +58,24 @@ collects-same n i arcs queue other noted rows other_rows names other_names same 
       queue_below = λ p m q k. c.queue_below p m q (same.back q k);
     }
 
+pub noted-same : (n i : ℕ) (arcs queue noted other : List Arc) (rows : List SourceRow) (names : List Name) → SameMembers noted other
+    → Collects n i arcs queue noted rows names → Collects n i arcs queue other rows names
+noted-same n i arcs queue noted other rows names same c = record {
+  queue_from = c.queue_from;
+  noted_from = λ p m. c.noted_from p (same.back p m);
+  each = λ a m above to. elim (c.each a m above to) [
+    | inl k ↦ inl k
+    | inr k ↦ inr (elim k [ inl l ↦ inl (same.there (final_arc n arcs a) l) | inr l ↦ inr l ])
+  ];
+  rows_right = c.rows_right;
+  names_right = c.names_right;
+  names_plain = c.names_plain;
+  one_source = λ p q m k. c.one_source p q (same.back p m) (same.back q k);
+  queue_behind = c.queue_behind;
+  noted_behind = λ s k p m. c.noted_behind s k p (same.back p m);
+  queue_below = λ p m q k. c.queue_below p (same.back p m) q k;
+}
+
 pub numbers-same : (n i : ℕ) (arcs : List Arc) (done : List Row) (last : Option Row) (rows : List SourceRow) (names other : List Name)
     → SameMembers names other → Numbers n i arcs done last rows names → Numbers n i arcs done last rows other
 numbers-same n i arcs done last rows names other same c =

@@ -1,11 +1,12 @@
 -- what remains to be done of a reduction that goes from the deepest level to the first, between two levels and within one
-use Rattle.std.specs.Prelude.{◌≡◌, ◌⊎◌, ◌-◌, ◌<◌, ◌≤◌, ◌==◌, ◌&&◌, ℕ, suc, true, false, cond, List, [], ◌∷◌, ◌++◌, map, Option, Some, None}
+use Rattle.std.specs.Prelude.{◌≡◌, ◌⊎◌, ◌-◌, ◌<◌, ◌≤◌, ◌==◌, ◌&&◌, ℕ, suc, Bool, true, false, cond, List, [], ◌∷◌, ◌++◌, map, Option, Some, None}
 use Rattle.rec_words.specs.Words.{level_of}
 use Rattle.rec_words.specs.declared.node.Node.{Node}
 use Rattle.canon_file.specs.declared.row.Row.{Row}
 use Rattle.canon_file.specs.Members.{Has}
 use Rattle.canon_file.specs.Rows.{row_before}
 use Rattle.canon_file.specs.Pairs.{differs}
+use Rattle.canon_file.specs.Canon.{numbered}
 use Rattle.arc_file.specs.declared.arc.Arc.{Arc}
 use Rattle.arc_diagrams.specs.Items.{pair}
 use Rattle.arc_diagrams.specs.Reduction.{final_pointer, final_pair, final_rows, final_nodes}
@@ -114,3 +115,35 @@ pub record Forwards (n i : ℕ) (arcs queue unread : List Arc) (names : List Nam
 pub record FindsRoot (n root i : ℕ) (arcs : List Arc) (names : List Name) (known : Option ℕ) : Type 0 where
   pub deeper : suc i ≤ level_of root → known ≡ Some (final_pointer n arcs root)
   pub here : level_of root ≡ i → (known ≡ Some (final_pointer n arcs root)) ⊎ ((m : Name) × Has m names × (m.source ≡ root))
+
+-- the arcs of the source at hand, of which the targets on some sides are known
+abbrev pub side_arcs : ℕ → Bool → Option ℕ → List Arc
+side_arcs source side None = []
+side_arcs source side (Some target) = record { source = source; high = side; target = target } ∷ []
+
+abbrev pub noted_arcs : ℕ → Option ℕ → Option ℕ → List Arc
+noted_arcs source low high = side_arcs source false low ++ side_arcs source true high
+
+-- the deeper levels are done, and the sources of level i are collected
+pub record IsCollecting (n root i : ℕ) (arcs queue noted unread : List Arc) (rows : List SourceRow) (names : List Name) (nodes : List Node) (known : Option ℕ) : Type 0 where
+  pub level : i < n
+  pub collects : Collects n i arcs queue noted rows names
+  pub leaves : Leaves (suc i) arcs unread
+  pub made : nodes ≡ nodes_from n arcs (suc i)
+  pub root_known : KnowsRoot n root (suc i) arcs known
+
+-- then its rows are numbered
+pub record IsNumbering (n root i : ℕ) (arcs queue unread : List Arc) (done : List Row) (last : Option Row) (rows : List SourceRow) (names : List Name) (nodes : List Node) (known : Option ℕ) : Type 0 where
+  pub level : i < n
+  pub numbers : Numbers n i arcs done last rows names
+  pub queued : Queues n i (suc i) arcs queue
+  pub leaves : Leaves (suc i) arcs unread
+  pub made : nodes ≡ nodes_from n arcs (suc i) ++ numbered i 0 done
+  pub root_known : KnowsRoot n root (suc i) arcs known
+
+-- and the arcs to it get their final targets
+pub record IsForwarding (n root i : ℕ) (arcs queue unread : List Arc) (names : List Name) (nodes : List Node) (known : Option ℕ) : Type 0 where
+  pub level : i < n
+  pub forwards : Forwards n i arcs queue unread names
+  pub made : nodes ≡ nodes_from n arcs i
+  pub root_found : FindsRoot n root i arcs names known
