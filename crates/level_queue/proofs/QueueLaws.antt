@@ -10,14 +10,18 @@ use Rattle.std.proofs.lemmas.List.Elements.{All-tail, All-cons}
 use Rattle.std.proofs.lemmas.List.Sorted.{All-permutation}
 use Rattle.shelf_model.specs.declared.sort_fault.SortFault.{SortFault}
 use Rattle.shelf_model.specs.declared.sort_fault.SortFault.TheVariants.{Shelf, Damaged, RunsSpent, RoomFull}
-use Rattle.shelf_model.specs.World.{World}
+use Rattle.shelf_model.specs.declared.file_no.FileNo.{FileNo}
+use Rattle.shelf_model.specs.Moments.{Ran, Stays}
+use Rattle.shelf_model.specs.World.{World, now, file}
 use Rattle.run_merge.specs.Lists.{Joins, Shows, Gives}
 use Rattle.run_merge.specs.declared.sorter.Sorter.{Sorter}
+use Rattle.run_merge.specs.declared.parts.Parts.{Parts}
+use Rattle.run_merge.specs.Parts.{Took, Spilled}
 use Rattle.run_merge.specs.Sorters as sorters
 use Rattle.run_merge.proofs.Ascending.{none_less}
-use Rattle.run_merge.proofs.SorterLaws.{credit_bounded, list_counted}
+use Rattle.run_merge.proofs.SorterLaws.{credit_bounded, list_counted, list_kept, list_kept_unchanged, list_kept_with_parts, serves_on}
 use Rattle.level_queue.specs.declared.queue.LevelQueue.{LevelQueue}
-use Rattle.level_queue.specs.Queues.{held, credit, IsNoLess, Lists}
+use Rattle.level_queue.specs.Queues.{held, credit, IsRunOf, IsNoLess, Serves, Lists}
 
 -- what follows from the list of which an item joined the other
 joins_so : {T : Type 0} (P Q : List T → Type 0) (x : T) (xs : List T) (result : Result Unit SortFault)
@@ -81,3 +85,32 @@ queue_counted is_value words cmp q world xs list = list_counted is_value words c
 pub queue_credit : {T : Type 0} (q : LevelQueue T) → credit q ≤ 64 * held q
 unfolding credit held
 queue_credit q = credit_bounded q.sorter
+
+-- a queue's list stays where the files of its runs stay
+pub queue_kept : {T : Type 0} (is_value : T → Type 0) (words : T → List ℕ) (cmp : T → T → Ordering) (q : LevelQueue T) (old new : World) (xs : List T)
+    → ((f : FileNo) → IsRunOf q f → file new f ≡ file old f) → Lists is_value words cmp q old xs → Lists is_value words cmp q new xs
+unfolding IsRunOf
+queue_kept is_value words cmp q old new xs same list =
+    record { sorter = list_kept is_value words cmp q.sorter old new xs same list.sorter; reached = list.reached }
+
+-- so it stays while no file changes
+pub queue_kept_unchanged : {T : Type 0} (is_value : T → Type 0) (words : T → List ℕ) (cmp : T → T → Ordering) (q : LevelQueue T) (old new : World) (xs : List T)
+    → Ran (Stays (now old)) old new → Lists is_value words cmp q old xs → Lists is_value words cmp q new xs
+queue_kept_unchanged is_value words cmp q old new xs ran list =
+    record { sorter = list_kept_unchanged is_value words cmp q.sorter old new xs ran list.sorter; reached = list.reached }
+
+-- and where parts that can serve the queue were taken
+pub queue_kept_with_parts : {T : Type 0} (is_value : T → Type 0) (words : T → List ℕ) (cmp : T → T → Ordering) (q : LevelQueue T) (before after : Parts) (old new : World) (xs : List T)
+    → Serves before q → Spilled before after old new → Lists is_value words cmp q old xs → Lists is_value words cmp q new xs
+unfolding IsRunOf
+queue_kept_with_parts is_value words cmp q before after old new xs serves spilled list =
+    let sorter : sorters.Serves before q.sorter = record { past_made = serves.past_made; runs_made = serves.runs_made } in
+    record { sorter = list_kept_with_parts is_value words cmp q.sorter before after old new xs sorter spilled list.sorter; reached = list.reached }
+
+-- parts that can serve a queue still can when some of them were taken
+pub queue_serves_on : {T : Type 0} (q : LevelQueue T) (old new : Parts) → Serves old q → Took old new → Serves new q
+unfolding IsRunOf
+queue_serves_on q old new serves took =
+    let sorter : sorters.Serves old q.sorter = record { past_made = serves.past_made; runs_made = serves.runs_made } in
+    let on : sorters.Serves new q.sorter = serves_on q.sorter old new sorter took in
+    record { past_made = on.past_made; runs_made = on.runs_made }

@@ -44,8 +44,8 @@ pub record Serves {T : Type 0} (parts : Parts) (q : LevelQueue T) : Type 0 where
   pub runs_made : (f : FileNo) → IsRunOf q f → WasTaken parts f
 
 -- each of its records is that of a value
-pub record HoldsItems {T : Type 0} (is_value : T → Type 0) (words : T → List ℕ) (q : LevelQueue T) : Type 0 where
-  pub sorter : sorters.HoldsItems is_value words q.sorter
+pub record HoldsValues {T : Type 0} (is_value : T → Type 0) (words : T → List ℕ) (q : LevelQueue T) : Type 0 where
+  pub sorter : sorters.HoldsValues is_value words q.sorter
 
 -- in that world the queue stands for these values, which ascend, and none of which is less than the last one taken
 pub record Lists {T : Type 0} (is_value : T → Type 0) (words : T → List ℕ) (cmp : T → T → Ordering) (q : LevelQueue T) (world : World) (xs : List T) : Type 0 where

@@ -1,7 +1,8 @@
 //! The laws of queues. Each function does nothing: what it ensures is the law.
 ghost use Rattle.std.specs.Prelude.{◌≡◌, ◌*◌, ◌≤◌, List, length};
 ghost use Rattle.shelf_model.specs.declared.file_no.FileNo.{FileNo};
-ghost use Rattle.shelf_model.specs.World.{World, file};
+ghost use Rattle.shelf_model.specs.World.{World, now, file};
+ghost use Rattle.shelf_model.specs.Moments.{Ran, Stays};
 ghost use Rattle.run_merge.specs.declared.parts.Parts.{Parts};
 ghost use Rattle.run_merge.specs.Parts.{Took, Spilled};
 ghost use Rattle.level_queue.specs.declared.queue.LevelQueue.{LevelQueue};
@@ -28,7 +29,13 @@ pub fn list_stays<T: Spill>()
         Lists T.is_value T.words T.cmp q old xs → Lists T.is_value T.words T.cmp q new xs }
 {}
 
-/// So it stays where parts that can serve the queue are taken, and only their files changed.
+/// So it stays while no file changes.
+pub fn list_stays_unchanged<T: Spill>()
+    ensures { (q : LevelQueue T) (old new : World) (xs : List T) → Ran (Stays (now old)) old new →
+        Lists T.is_value T.words T.cmp q old xs → Lists T.is_value T.words T.cmp q new xs }
+{}
+
+/// And it stays where parts that can serve the queue are taken, and only their files changed.
 pub fn list_stays_with_parts<T: Spill>()
     ensures { (q : LevelQueue T) (before after : Parts) (old new : World) (xs : List T) →
         Serves before q → Spilled before after old new →
