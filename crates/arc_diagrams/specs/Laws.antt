@@ -1,11 +1,14 @@
 -- the laws of sets of arcs
-use Rattle.std.specs.Prelude.{◌≡◌, ◌↔◌, ℕ, ◌^◌, ◌≤◌, Bool, List, [], length, replicate}
-use Rattle.rec_words.specs.Words.{terminal}
+use Rattle.std.specs.Prelude.{◌≡◌, ◌↔◌, ℕ, ◌^◌, ◌<◌, ◌≤◌, Bool, List, [], ◌++◌, length, replicate, Option, Some}
+use Rattle.rec_words.specs.Words.{terminal, level_of, IsTerminal}
+use Rattle.rec_words.specs.declared.node.Node.{Node}
+use Rattle.canon_file.specs.Members.{Has}
 use Rattle.canon_file.specs.Laws.{HasForm}
 use Rattle.canon_file.specs.Canon.{canon_nodes, canon_root}
 use Rattle.arc_file.specs.declared.arc.Arc.{Arc}
 use Rattle.arc_diagrams.specs.Arcs.{IsComplete, StandFor, table_of_arcs, arcs_of}
 use Rattle.arc_diagrams.specs.Reduction.{final_pointer, final_nodes, AreFinal}
+use Rattle.arc_diagrams.specs.Reducing.{Remains}
 
 -- a complete set of arcs stands for one table: that of its root
 abbrev pub StandsForOne : ℕ → Type 0
@@ -39,3 +42,15 @@ Reduces n = (root : ℕ) (arcs : List Arc) (t : List Bool) → n ≤ 65535 → l
 -- the final pointers of a complete set are found from those of deeper pointers
 abbrev pub FindsFinal : ℕ → Type 0
 FindsFinal n = (root : ℕ) (arcs : List Arc) → n ≤ 65535 → IsComplete n root arcs → AreFinal n arcs
+
+-- with no level done, the arcs to truth values are the queue, and no other arc is read
+abbrev pub BeginsReduction : ℕ → Type 0
+BeginsReduction n = (root : ℕ) (inner ends : List Arc) (known : Option ℕ) → n ≤ 65535 → IsComplete n root (inner ++ ends)
+    → ((a : Arc) → Has a inner → level_of a.target < n) → ((a : Arc) → Has a ends → n ≤ level_of a.target) → (IsTerminal root → known ≡ Some root)
+    → Remains n root n (inner ++ ends) ends inner [] known
+
+-- with no arc left in the queue none is left to be read, and the nodes and the root are canonical
+abbrev pub EndsReduction : ℕ → Type 0
+EndsReduction n = (root i : ℕ) (arcs unread : List Arc) (nodes : List Node) (known : Option ℕ) (t : List Bool) → i ≤ n → n ≤ 65535 → length arcs ≤ 2 ^ 47
+    → IsDiagramOf n root arcs t → Remains n root i arcs [] unread nodes known
+    → (unread ≡ []) × (nodes ≡ canon_nodes n t) × (known ≡ Some (canon_root n t))

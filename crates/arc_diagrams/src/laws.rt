@@ -1,6 +1,6 @@
 //! The laws of sets of arcs. Each function does nothing: what it ensures is the law.
 ghost use Rattle.std.specs.Prelude.{ℕ};
-ghost use Rattle.arc_diagrams.specs.Laws.{StandsForOne, CanonIsDiagram, ConstantIsDiagram, Reduces, FindsFinal};
+ghost use Rattle.arc_diagrams.specs.Laws.{StandsForOne, CanonIsDiagram, ConstantIsDiagram, Reduces, FindsFinal, BeginsReduction, EndsReduction};
 
 /// A complete set of arcs stands for exactly one table: at each place, the sides that the place's
 /// digits name lead from the root to the table's value there.
@@ -25,4 +25,11 @@ pub fn reducing_gives_the_canonical_form()
 /// node of its pair among the rows of its level, or the one pointer that its pair has twice.
 pub fn final_pointers_are_found_level_by_level()
     ensures { (n : ℕ) → FindsFinal n }
+{}
+
+/// What remains of a reduction is everything at first. When nothing is left of it, its nodes and its
+/// root are the canonical ones.
+pub fn what_remains_leads_to_the_canonical_form()
+    ensures begins { (n : ℕ) → BeginsReduction n }
+    ensures ends { (n : ℕ) → EndsReduction n }
 {}
