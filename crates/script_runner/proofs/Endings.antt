@@ -1,20 +1,20 @@
 -- The endings of a call of the program.
-use Rattle.std.proofs.Common.{◌≡◌, ◌∙◌, ◌⊎◌, ℕ, ◌+◌, ◌<◌, ◌≤◌, min, Bool, List, [], ◌++◌, length, take, refl, sym, ap, subst, inl, inr, arith}
-use Rattle.std.specs.Prelude.{IsTrue, Option, Some, None}
+use Rattle.std.proofs.Common.{◌≡◌, ◌∙◌, ◌⊎◌, ℕ, ◌+◌, ◌≤◌, min, Bool, List, ◌++◌, length, take, refl, sym, ap, subst, inl, inr, arith}
+use Rattle.std.specs.Prelude.{IsTrue, Some}
 use Rattle.std.proofs.lemmas.List.{take_all, length-take}
 use Rattle.shelf_model.specs.World.{Moment, World, now, said}
 use Rattle.shelf_model.specs.Calls.{Told}
 use Rattle.shelf_model.specs.Moments.{Throughout}
 use Rattle.shelf_model.proofs.Runs.{joins, weakens, at_end}
 use Rattle.sound_image.specs.Jobs.{Job}
-use Rattle.script_runner.specs.declared.plan.LineEnd.{LineEnd}
-use Rattle.script_runner.specs.declared.plan.Plan.{Plan}
+use Rattle.script_reader.specs.declared.plan.LineEnd.{LineEnd}
+use Rattle.script_reader.specs.declared.plan.Plan.{Plan}
 use Rattle.script_runner.specs.declared.ending.Ending.{Ending}
 use Rattle.script_runner.specs.declared.ending.Ending.TheVariants.{SayFault}
 use Rattle.script_runner.specs.declared.ending.Ending.TheVariants as refusal
 use Rattle.script_runner.specs.Words.{Reading, reading_of}
-use Rattle.script_runner.specs.Script.{Script, IsAccepted}
-use Rattle.script_runner.specs.Plans.{plan_of}
+use Rattle.script_reader.specs.Script.{Script, IsAccepted}
+use Rattle.script_reader.specs.Plans.{plan_of}
 use Rattle.script_runner.specs.Status.{status_of}
 use Rattle.script_runner.specs.Text.{refused_line}
 use Rattle.script_runner.specs.Running.{IsSaying, SaysOnly}

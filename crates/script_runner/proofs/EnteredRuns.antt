@@ -1,19 +1,20 @@
 -- A run of a job in a folder, from entering it on.
-use Rattle.std.proofs.Common.{◌≡◌, ◌≢◌, ◌∙◌, ◌⊎◌, ℕ, ◌<◌, ◌≤◌, Bool, List, [], ◌++◌, length, refl, sym, ap, subst, inl, inr, arith}
-use Rattle.std.specs.Prelude.{IsTrue, Result, Ok, Err}
+use Rattle.std.proofs.Common.{◌≡◌, ◌∙◌, ◌⊎◌, ℕ, Bool, List, [], ◌++◌, length, refl, sym, ap, subst, inl, inr, arith}
+use Rattle.std.specs.Prelude.{IsTrue, Result, Ok, nat_eq}
+use Rattle.std.specs.List.{common_prefix_len}
 use Rattle.std.proofs.lemmas.List.{append-nil}
 use Rattle.shelf_model.specs.declared.file_no.FileNo.{FileNo}
 use Rattle.shelf_model.specs.declared.fault.Failed.{Failed}
-use Rattle.shelf_model.specs.Folder.{Image, IsImage, bytes_in}
+use Rattle.shelf_model.specs.Folder.{Folder, Image, IsImage}
 use Rattle.shelf_model.specs.World.{Moment, World, now, said}
 use Rattle.shelf_model.specs.Calls.{Told, Entered}
 use Rattle.shelf_model.specs.Moments.{Throughout, OnlyOldImages}
 use Rattle.shelf_model.proofs.Runs.{stands, one_call, joins, weakens, at_end, told, told_then}
 use Rattle.catalogue.specs.Files.{job_file}
-use Rattle.catalogue.specs.Counts.{present, is_stored, count_in}
+use Rattle.catalogue.specs.Counts.{present, count_in}
 use Rattle.sound_image.specs.Jobs.{Job}
 use Rattle.sound_image.specs.Holds.{AreSound}
-use Rattle.script_runner.specs.declared.plan.LineEnd.{LineEnd}
+use Rattle.script_reader.specs.declared.plan.LineEnd.{LineEnd}
 use Rattle.script_runner.specs.declared.finish.Finish.{Finish}
 use Rattle.script_runner.specs.declared.finish.Finish.TheVariants.{Done, OtherJob, FolderFault, SayFault, Damaged}
 use Rattle.script_runner.specs.declared.ending.Ending.{Ending}
@@ -21,47 +22,44 @@ use Rattle.script_runner.specs.declared.ending.Ending.TheVariants as ending
 use Rattle.script_runner.specs.Status.{status_of}
 use Rattle.script_runner.specs.Said.{whole_lines, said_count}
 use Rattle.script_runner.specs.Text.{run_text, other_job_line, damaged_line}
-use Rattle.script_runner.specs.Running.{SaysFront, IsSaying, SaysOnly, IsSafe, OthersAre, IsRunning, StaysThere, HasOtherJob, RefusesFolder, RunsSteps}
-use Rattle.script_runner.specs.Entered.{SaysIn, IsAnswering, EndsRun, Refused, RunsFrom, RunsIn}
+use Rattle.script_runner.specs.Running.{SaysFront, IsSaying, SaysOnly, OthersAre, IsSafeRun, IsRunning, StaysThere, IsOther, HasOtherJob, IsEntryDamage, RefusesFolder, IsStill, RunsSteps}
+use Rattle.script_runner.specs.Entered.{EndsRun, Refused, RefusesOther, RunsFrom, RunsIn}
 use Rattle.script_runner.proofs.Saying.{says_nothing}
 
--- how a run ended that didn't refuse its folder
-abbrev pub WasRun : Finish → ℕ → Type 0
-WasRun finish status = ((status ≡ 0) × (finish ≡ Done)) ⊎ (status ≡ 7) ⊎ (status ≡ 8)
+-- the status of a run that didn't refuse its folder
+abbrev pub status_for : Finish → ℕ
+status_for Done = 0
+status_for (OtherJob at) = 5
+status_for FolderFault = 7
+status_for SayFault = 8
+status_for (Damaged f at) = 10
 
-not_refused : (finish : Finish) (status : ℕ) → WasRun finish status → Refused status → ⊥
-not_refused finish status (inl a) (inl x) = let zero = a.0 in omega (arith, x)
-not_refused finish status (inl a) (inr x) = let zero = a.0 in omega (arith, x)
-not_refused finish status (inr (inl a)) (inl x) = omega (arith, x)
-not_refused finish status (inr (inl a)) (inr x) = omega (arith, x)
-not_refused finish status (inr (inr a)) (inl x) = omega (arith, x)
-not_refused finish status (inr (inr a)) (inr x) = omega (arith, x)
+not_refused : (finish : Finish) → ¬ (RefusesFolder finish) → Refused (status_for finish) → ⊥
+not_refused Done none refused = elim refused [ inl x ↦ omega (arith, x) | inr x ↦ omega (arith, x) ]
+not_refused (OtherJob at) none refused = none tt
+not_refused FolderFault none refused = elim refused [ inl x ↦ omega (arith, x) | inr x ↦ omega (arith, x) ]
+not_refused SayFault none refused = elim refused [ inl x ↦ omega (arith, x) | inr x ↦ omega (arith, x) ]
+not_refused (Damaged f at) none refused = none tt
 
-was_done : (finish : Finish) (status : ℕ) → WasRun finish status → status ≡ 0 → finish ≡ Done
-was_done finish status (inl a) zero = a.1
-was_done finish status (inr (inl a)) zero = absurd (omega (arith, zero))
-was_done finish status (inr (inr a)) zero = absurd (omega (arith, zero))
+was_done : (finish : Finish) → status_for finish ≡ 0 → finish ≡ Done
+was_done Done zero = refl
+was_done (OtherJob at) zero = absurd (omega (arith, zero))
+was_done FolderFault zero = absurd (omega (arith, zero))
+was_done SayFault zero = absurd (omega (arith, zero))
+was_done (Damaged f at) zero = absurd (omega (arith, zero))
 
-run_status : (finish : Finish) (status : ℕ) → WasRun finish status → EndsRun status
-run_status finish status (inl a) = inl a.0
-run_status finish status (inr (inl a)) = inr (inr (inl a))
-run_status finish status (inr (inr a)) = inr (inr (inr (inl a)))
+ends_run : (finish : Finish) → EndsRun (status_for finish)
+ends_run Done = inl refl
+ends_run (OtherJob at) = inr (inl refl)
+ends_run FolderFault = inr (inr (inl refl))
+ends_run SayFault = inr (inr (inr (inl refl)))
+ends_run (Damaged f at) = inr (inr (inr (inr refl)))
 
 -- a run that has only begun
-answering_first : (job : Job) (lines : List LineEnd) (start : Moment) → IsAnswering job lines start start
-answering_first job lines start = record {
-  status = 0;
-  text = run_text job lines (present start.folder);
-  text_is = inl (refl, refl);
-  says = says_nothing start.said (run_text job lines (present start.folder));
-  others = λ f apart. refl;
-}
-
-running_first : (job : Job) (lines : List LineEnd) (start : Moment) → IsRunning job lines start start
-running_first job lines start = record {
+safe_first : (job : Job) (lines : List LineEnd) (start : Moment) → AreSound job start.folder → IsSafeRun job lines start start
+safe_first job lines start sound = record {
   says = record { front = []; rest = run_text job lines (present start.folder); text_is = refl; said_is = sym (append-nil start.said) };
-  others = λ f apart. refl;
-  safe = λ sound image is_image.
+  safe = λ image is_image.
       let none : said_count (count_in (present start.folder)) lines [] ≡ 0 = refl in
       let no_lines : whole_lines [] ≡ 0 = refl in
       record {
@@ -72,15 +70,6 @@ running_first job lines start = record {
       };
 }
 
-is_answering : (job : Job) (lines : List LineEnd) (start m : Moment) → IsRunning job lines start m → IsAnswering job lines start m
-is_answering job lines start m running = record {
-  status = 0;
-  text = run_text job lines (present start.folder);
-  text_is = inl (refl, refl);
-  says = running.says;
-  others = running.others;
-}
-
 -- nothing was done before
 before : (P : Moment → Type 0) (start : Moment) (old mid new : World) → Throughout old mid (λ m. m ≡ start) → P start → Throughout mid new P → Throughout old new P
 before P start old mid new stay here after = joins old mid new P (weakens old mid (λ m. m ≡ start) P (λ m same. subst P (sym same) here) stay) after
@@ -88,99 +77,165 @@ before P start old mid new stay here after = joins old mid new P (weakens old mi
 pub earlier : (job : Job) (lines : List LineEnd) (status : ℕ) (start : Moment) (old mid new : World) → Throughout old mid (λ m. m ≡ start)
     → RunsFrom job lines status start mid new → RunsFrom job lines status start old new
 earlier job lines status start old mid new stay run = record {
-  moments = before (IsAnswering job lines start) start old mid new stay (answering_first job lines start) run.moments;
-  running = λ sound. before (IsRunning job lines start) start old mid new stay (running_first job lines start) (run.running sound);
+  others = before (λ m. OthersAre (length job.steps) start.folder m.folder) start old mid new stay (λ f apart. refl) run.others;
+  running = λ sound. before (IsSafeRun job lines start) start old mid new stay (safe_first job lines start sound) (run.running sound);
   goes_on = run.goes_on;
   whole = run.whole;
   all = run.all;
-  kept = λ refused. before (OnlyOldImages start) start old mid new stay (λ image is_image. is_image) (run.kept refused);
-  other_job = run.other_job;
+  other = λ other.
+      let refuses = run.other other in
+      record {
+        at = refuses.at;
+        place = refuses.place;
+        moments = before (λ m. SaysFront start.said (other_job_line refuses.at) m.said × OnlyOldImages start m) start old mid new stay
+            (says_nothing start.said (other_job_line refuses.at), λ image is_image. is_image) refuses.moments;
+        status_is = refuses.status_is;
+        whole = refuses.whole;
+      };
+  only_other = run.only_other;
+  damaged = λ ten.
+      let names = run.damaged ten in
+      record {
+        file = names.file;
+        at = names.at;
+        before = names.before;
+        said_is = names.said_is;
+        place = elim names.place [
+          | inl first ↦ inl (first.0, first.1, before (OnlyOldImages start) start old mid new stay (λ image is_image. is_image) first.2)
+          | inr later ↦ inr later
+        ];
+      };
+}
+
+-- a run in a folder of another job that met a fault before it said so
+stood : (job : List ℕ) (old new : World) → IsOther job (present (now old).folder) → Throughout old new (IsStill (now old)) → RefusesOther job 7 (now old) old new
+stood job old new other still = record {
+  at = common_prefix_len nat_eq (present (now old).folder job_file) job;
+  place = record { is_other = other; place = refl };
+  moments = weakens old new (IsStill (now old)) (λ m. SaysFront (said old) (other_job_line (common_prefix_len nat_eq (present (now old).folder job_file) job)) m.said × OnlyOldImages (now old) m)
+      (λ m is_still. (
+        subst (SaysFront (said old) (other_job_line (common_prefix_len nat_eq (present (now old).folder job_file) job))) (sym is_still.said_is) (says_nothing (said old) (other_job_line (common_prefix_len nat_eq (present (now old).folder job_file) job))),
+        is_still.images,
+      )) still;
+  status_is = inr (inl refl);
+  whole = λ five. absurd (omega (arith, five));
 }
 
 -- a run that met a fault before it did anything
 nothing_ran : (job : Job) (lines : List LineEnd) (w : World) → RunsFrom job lines 7 (now w) w w
 nothing_ran job lines w = record {
-  moments = stands w (IsAnswering job lines (now w)) (answering_first job lines (now w));
-  running = λ sound. stands w (IsRunning job lines (now w)) (running_first job lines (now w));
-  goes_on = λ sound. not_refused Done 7 (inr (inl refl));
-  whole = λ good. absurd (elim good [ inl x ↦ omega (arith, x) | inr refused ↦ not_refused Done 7 (inr (inl refl)) refused ]);
+  others = stands w (λ m. OthersAre (length job.steps) (now w).folder m.folder) (λ f apart. refl);
+  running = λ sound. stands w (IsSafeRun job lines (now w)) (safe_first job lines (now w) sound);
+  goes_on = λ sound. not_refused FolderFault (λ x. x);
+  whole = λ sound x. absurd (omega (arith, x));
   all = λ x. absurd (omega (arith, x));
-  kept = λ refused. absurd (not_refused Done 7 (inr (inl refl)) refused);
-  other_job = λ stored other good. elim good [ inl x ↦ omega (arith, x) | inr x ↦ omega (arith, x) ];
+  other = λ other. stood job.bytes w w other (stands w (IsStill (now w)) (record { said_is = refl; images = λ image is_image. is_image }));
+  only_other = λ x. absurd (omega (arith, x));
+  damaged = λ x. absurd (omega (arith, x));
 }
 
 -- the steps were run
-ran_from : (job : Job) (lines : List LineEnd) (finish : Finish) (status : ℕ) (old new : World) → WasRun finish status → RunsSteps job lines finish old new
-    → RunsFrom job lines status (now old) old new
-ran_from job lines finish status old new was run = record {
-  moments = weakens old new (IsRunning job lines (now old)) (IsAnswering job lines (now old)) (is_answering job lines (now old)) run.moments;
-  running = λ sound. run.moments;
-  goes_on = λ sound. not_refused finish status was;
-  whole = λ good. elim good [
-    | inl zero ↦ (run_text job lines (present (now old).folder), inl (zero, refl), run.whole (was_done finish status was zero))
-    | inr refused ↦ absurd (not_refused finish status was refused)
+ran_from : (job : Job) (lines : List LineEnd) (finish : Finish) (old new : World) → ¬ (RefusesFolder finish) → RunsSteps job lines finish old new
+    → RunsFrom job lines (status_for finish) (now old) old new
+ran_from job lines finish old new none run = record {
+  others = weakens old new (IsRunning job lines (now old)) (λ m. OthersAre (length job.steps) (now old).folder m.folder) (λ m running. running.others) run.moments;
+  running = λ sound. weakens old new (IsRunning job lines (now old)) (IsSafeRun job lines (now old)) (λ m running. running.safe_run sound) run.moments;
+  goes_on = λ sound. not_refused finish none;
+  whole = λ sound zero. run.whole sound (was_done finish zero);
+  all = λ zero. run.all (was_done finish zero);
+  other = λ other. elim (run.refuses_other other).1 [
+    | inl named ↦ absurd (none (subst RefusesFolder (sym named.1) tt))
+    | inr fault ↦ subst (λ f. RefusesOther job.bytes (status_for f) (now old) old new) (sym fault) (stood job.bytes old new other (run.refuses_other other).0)
   ];
-  all = λ zero. run.all (was_done finish status was zero);
-  kept = λ refused. absurd (not_refused finish status was refused);
-  other_job = λ stored other good. elim good [
-    | inl zero ↦ not_other finish (was_done finish status was zero) (run.refuses_other stored other)
-    | inr ten ↦ not_refused finish status was (inr ten)
-  ];
+  only_other = λ five. absurd (not_refused finish none (inl five));
+  damaged = λ ten. absurd (not_refused finish none (inr ten));
+}
+
+-- the statuses after a line of refusal
+abbrev pub SaidOr : ℕ → ℕ → Type 0
+SaidOr good status = (status ≡ good) ⊎ (status ≡ 8)
+
+-- other files stay while a line is said
+others_said : (job : Job) (lines : List LineEnd) (finish : Finish) (line : List ℕ) (old mid new : World) → RunsSteps job lines finish old mid → SaysOnly line mid new
+    → Throughout old new (λ m. OthersAre (length job.steps) (now old).folder m.folder)
+others_said job lines finish line old mid new run says =
+    joins old mid new (λ m. OthersAre (length job.steps) (now old).folder m.folder)
+    (weakens old mid (IsRunning job lines (now old)) (λ m. OthersAre (length job.steps) (now old).folder m.folder) (λ m running. running.others) run.moments)
+    (weakens mid new (IsSaying line (now mid)) (λ m. OthersAre (length job.steps) (now old).folder m.folder)
+    (λ m saying. subst (OthersAre (length job.steps) (now old).folder) (sym saying.folder_is) (at_end old mid (IsRunning job lines (now old)) run.moments).others) says.moments)
+
+-- no image is new while a line is said
+images_said : (line : List ℕ) (start : Moment) (old mid new : World) → Throughout old mid (OnlyOldImages start) → SaysOnly line mid new → Throughout old new (OnlyOldImages start)
+images_said line start old mid new kept says =
+    joins old mid new (OnlyOldImages start) kept
+    (weakens mid new (IsSaying line (now mid)) (OnlyOldImages start)
+    (λ m saying. subst (λ (folder : Folder). (image : Image) → IsImage folder image → IsImage start.folder image) (sym saying.folder_is) (at_end old mid (OnlyOldImages start) kept)) says.moments)
+
+-- another job is stored, and that was said, or a front part of it
+refused_other : (job : Job) (lines : List LineEnd) (at status : ℕ) (old mid new : World) → SaidOr 5 status → RunsSteps job lines (OtherJob at) old mid
+    → SaysOnly (other_job_line at) mid new → (status ≡ 5 → said new ≡ said mid ++ other_job_line at) → RunsFrom job lines status (now old) old new
+refused_other job lines at status old mid new which run says whole = record {
+  others = others_said job lines (OtherJob at) (other_job_line at) old mid new run says;
+  running = λ sound. absurd (run.goes_on sound tt);
+  goes_on = λ sound. absurd (run.goes_on sound tt);
+  whole = λ sound. absurd (run.goes_on sound tt);
+  all = λ zero. absurd (elim which [ inl x ↦ omega (arith, x, zero) | inr x ↦ omega (arith, x, zero) ]);
+  other = λ differs. record {
+    at = at;
+    place = has;
+    moments = joins old mid new (λ m. SaysFront (said old) (other_job_line at) m.said × OnlyOldImages (now old) m)
+        (weakens old mid (IsStill (now old)) (λ m. SaysFront (said old) (other_job_line at) m.said × OnlyOldImages (now old) m)
+        (λ m is_still. (subst (SaysFront (said old) (other_job_line at)) (sym is_still.said_is) (says_nothing (said old) (other_job_line at)), is_still.images)) still)
+        (weakens mid new (IsSaying (other_job_line at) (now mid)) (λ m. SaysFront (said old) (other_job_line at) m.said × OnlyOldImages (now old) m) (λ m saying. (
+          subst (λ bytes. SaysFront bytes (other_job_line at) m.said) end.said_is saying.says,
+          subst (λ (folder : Folder). (image : Image) → IsImage folder image → IsImage (now old).folder image) (sym saying.folder_is) end.images,
+        )) says.moments);
+    status_is = elim which [ inl x ↦ inl x | inr x ↦ inr (inr x) ];
+    whole = λ five. whole five ∙ ap (λ bytes. bytes ++ other_job_line at) end.said_is;
+  };
+  only_other = λ five. has.is_other;
+  damaged = λ ten. absurd (elim which [ inl x ↦ omega (arith, x, ten) | inr x ↦ omega (arith, x, ten) ]);
 }
   where
-    not_other : (f : Finish) → f ≡ Done → ((at : ℕ) × (f ≡ OtherJob at)) ⊎ (f ≡ FolderFault) → ⊥
-    not_other f e (inl x) = let other = x.1 in cc
-    not_other f e (inr x) = cc
+    has : HasOtherJob job.bytes at (present (now old).folder)
+    has = run.other_job at refl
 
--- the folder was refused, and that was said, or a front part of it
-refused_from : (job : Job) (lines : List LineEnd) (finish : Finish) (good status : ℕ) (line : List ℕ) (old mid new : World) → Refused good → (status ≡ good) ⊎ (status ≡ 8)
-    → RefusesFolder finish → SaysIn job lines (present (now old).folder) good line
-    → (IsTrue (is_stored (present (now old).folder)) → present (now old).folder job_file ≢ job.bytes → good ≡ 5)
-    → RunsSteps job lines finish old mid → SaysOnly line mid new → (status ≡ good → said new ≡ said mid ++ line)
-    → RunsFrom job lines status (now old) old new
-refused_from job lines finish good status line old mid new refuses which refused says_in other run says whole = record {
-  moments = joins old mid new (IsAnswering job lines (now old))
-      (weakens old mid (IsRunning job lines (now old)) (IsAnswering job lines (now old)) (is_answering job lines (now old)) run.moments)
-      (weakens mid new (IsSaying line (now mid)) (IsAnswering job lines (now old)) (λ m saying. record {
-        status = good;
-        text = line;
-        text_is = says_in;
-        says = subst (λ bytes. SaysFront bytes line m.said) (run.refused_says refused) saying.says;
-        others = subst (λ folder. OthersAre (length job.steps) (now old).folder folder) (sym saying.folder_is) (at_end old mid (IsRunning job lines (now old)) run.moments).others;
-      }) says.moments);
-  running = λ sound. absurd (run.goes_on sound refused);
-  goes_on = λ sound. absurd (run.goes_on sound refused);
-  whole = λ ends. (
-    line,
-    subst (λ s. SaysIn job lines (present (now old).folder) s line) (sym (is_good ends)) says_in,
-    whole (is_good ends) ∙ ap (λ bytes. bytes ++ line) (run.refused_says refused),
-  );
-  all = λ zero. absurd (not_zero good status refuses which zero);
-  kept = λ ends. joins old mid new (OnlyOldImages (now old)) (run.refused_keeps refused)
-      (weakens mid new (IsSaying line (now mid)) (OnlyOldImages (now old)) (λ m saying. subst (λ folder. (image : Image) → IsImage folder image → IsImage (now old).folder image)
-      (sym saying.folder_is) (at_end old mid (OnlyOldImages (now old)) (run.refused_keeps refused))) says.moments);
-  other_job = λ stored differs ends. not_ten good status (other stored differs) which ends;
+    still : Throughout old mid (IsStill (now old))
+    still = (run.refuses_other has.is_other).0
+
+    end : IsStill (now old) (now mid)
+    end = at_end old mid (IsStill (now old)) still
+
+-- the folder is damaged, and that was said, or a front part of it
+refused_damage : (job : Job) (lines : List LineEnd) (f : FileNo) (at status : ℕ) (old mid new : World) → SaidOr 10 status → RunsSteps job lines (Damaged f at) old mid
+    → SaysOnly (damaged_line f at) mid new → (status ≡ 10 → said new ≡ said mid ++ damaged_line f at) → RunsFrom job lines status (now old) old new
+refused_damage job lines f at status old mid new which run says whole = record {
+  others = others_said job lines (Damaged f at) (damaged_line f at) old mid new run says;
+  running = λ sound. absurd (run.goes_on sound tt);
+  goes_on = λ sound. absurd (run.goes_on sound tt);
+  whole = λ sound. absurd (run.goes_on sound tt);
+  all = λ zero. absurd (elim which [ inl x ↦ omega (arith, x, zero) | inr x ↦ omega (arith, x, zero) ]);
+  other = λ differs. absurd (not_other (run.refuses_other differs).1);
+  only_other = λ five. absurd (elim which [ inl x ↦ omega (arith, x, five) | inr x ↦ omega (arith, x, five) ]);
+  damaged = λ ten. record {
+    file = f;
+    at = at;
+    before = said mid;
+    said_is = whole ten;
+    place = elim (run.damaged f at refl) [
+      | inl first ↦ inl (
+        first.0,
+        (at_end old mid (IsStill (now old)) first.1).said_is,
+        images_said (damaged_line f at) (now old) old mid new (weakens old mid (IsStill (now old)) (OnlyOldImages (now old)) (λ m still. still.images) first.1) says,
+      )
+      | inr later ↦ inr (subst (λ (folder : Folder). IsEntryDamage job.steps f at (present folder)) (sym (at_end mid new (IsSaying (damaged_line f at) (now mid)) says.moments).folder_is) later)
+    ];
+  };
 }
   where
-    good_one : (g s : ℕ) → (s ≡ g) ⊎ (s ≡ 8) → (s ≡ 0) ⊎ Refused s → s ≡ g
-    good_one g s (inl same) ends = same
-    good_one g s (inr eight) (inl x) = absurd (omega (arith, x))
-    good_one g s (inr eight) (inr (inl x)) = absurd (omega (arith, x))
-    good_one g s (inr eight) (inr (inr x)) = absurd (omega (arith, x))
-
-    is_good : (status ≡ 0) ⊎ Refused status → status ≡ good
-    is_good ends = good_one good status which ends
-
-    not_zero : (g s : ℕ) → Refused g → (s ≡ g) ⊎ (s ≡ 8) → s ≡ 0 → ⊥
-    not_zero g s (inl a) (inl b) zero = omega (arith, zero)
-    not_zero g s (inr a) (inl b) zero = omega (arith, zero)
-    not_zero g s a (inr b) zero = omega (arith, zero)
-
-    not_ten : (g s : ℕ) → g ≡ 5 → (s ≡ g) ⊎ (s ≡ 8) → (s ≡ 0) ⊎ (s ≡ 10) → ⊥
-    not_ten g s five (inl a) (inl b) = omega (arith, b)
-    not_ten g s five (inl a) (inr b) = omega (arith, b)
-    not_ten g s five (inr a) (inl b) = omega (arith, b)
-    not_ten g s five (inr a) (inr b) = omega (arith, b)
+    not_other : ((a : ℕ) × (Damaged f at ≡ OtherJob a)) ⊎ (Damaged f at ≡ FolderFault) → ⊥
+    not_other (inl x) = let other = x.1 in cc
+    not_other (inr x) = cc
 
 -- the folder was entered first
 pub enters_then : (folder : List ℕ) (job : Job) (lines : List LineEnd) (status : ℕ) (x : Unit) (old mid new : World) → EndsRun status
@@ -213,63 +268,56 @@ stays_then text old mid new stays says = record {
   strays_are = λ inside. says.strays_are ∙ stays.strays_are inside;
 }
 
+-- the ending of a line of refusal, and its status
+pub said_or : (good end : Ending) → (end ≡ good) ⊎ (end ≡ ending.SayFault) → SaidOr (status_of good) (status_of end)
+said_or good end (inl same) = inl (ap status_of same)
+said_or good end (inr fault) = inr (ap status_of fault)
+
+pub whole_line : (good end : Ending) → (status_of good ≡ 8 → ⊥) → (end ≡ good) ⊎ (end ≡ ending.SayFault) → status_of end ≡ status_of good → end ≡ good
+whole_line good end other (inl same) is = same
+whole_line good end other (inr fault) is = absurd (other (sym is ∙ ap status_of fault))
+
 module _ {S : Type 0} (tells : S → Bool) (world : S → World) where
   pub enter_failed : (folder : List ℕ) (job : Job) (lines : List LineEnd) (result : Result Unit Failed) (old s : S)
       → Told tells old s (Entered folder result (world old) (world s)) → Told tells old s (RunsIn folder job lines 7 (world old) (world s))
   enter_failed folder job lines result old s entered = told tells old s _ _ entered (λ _ e. not_entered folder job lines result (world old) (world s) e)
 
-  pub entered_runs : (folder : List ℕ) (job : Job) (lines : List LineEnd) (finish : Finish) (status : ℕ) (x : Unit) (old s t : S) → WasRun finish status
+  pub entered_runs : (folder : List ℕ) (job : Job) (lines : List LineEnd) (finish : Finish) (x : Unit) (old s t : S) → ¬ (RefusesFolder finish)
       → Told tells old s (Entered folder (Ok x) (world old) (world s)) → Told tells s t (RunsSteps job lines finish (world s) (world t))
-      → Told tells old t (RunsIn folder job lines status (world old) (world t))
-  entered_runs folder job lines finish status x old s t was entered run =
-      told_then tells old s t _ _ _ entered run (λ _ e r. enters_then folder job lines status x (world old) (world s) (world t) (run_status finish status was) e r.stays
-      (ran_from job lines finish status (world s) (world t) was r))
+      → Told tells old t (RunsIn folder job lines (status_for finish) (world old) (world t))
+  entered_runs folder job lines finish x old s t none entered run =
+      told_then tells old s t _ _ _ entered run (λ _ e r. enters_then folder job lines (status_for finish) x (world old) (world s) (world t) (ends_run finish) e r.stays
+      (ran_from job lines finish (world s) (world t) none r))
 
-  -- why a folder is refused, with the line that says so
-  pub entered_refuses : (folder : List ℕ) (job : Job) (lines : List LineEnd) (finish : Finish) (good end : Ending) (line : List ℕ) (x : Unit) (old s t u : S)
-      → Refused (status_of good) → RefusesFolder finish → (end ≡ good) ⊎ (end ≡ ending.SayFault)
-      → (RunsSteps job lines finish (world s) (world t) → SaysIn job lines (present (now (world s)).folder) (status_of good) line
-      × (IsTrue (is_stored (present (now (world s)).folder)) → present (now (world s)).folder job_file ≢ job.bytes → status_of good ≡ 5))
-      → Told tells old s (Entered folder (Ok x) (world old) (world s)) → Told tells s t (RunsSteps job lines finish (world s) (world t))
-      → Told tells t u (SaysOnly line (world t) (world u)) → (end ≡ good → IsTrue (tells u) → said (world u) ≡ said (world t) ++ line)
-      → Told tells old u (RunsIn folder job lines (status_of end) (world old) (world u))
-  entered_refuses folder job lines finish good end line x old s t u refused refuses which why entered run says whole = record {
+  -- a folder is refused, with the line that says so
+  pub entered_other : (folder : List ℕ) (job : Job) (lines : List LineEnd) (at status : ℕ) (line : List ℕ) (x : Unit) (old s t u : S) → SaidOr 5 status → line ≡ other_job_line at
+      → Told tells old s (Entered folder (Ok x) (world old) (world s)) → Told tells s t (RunsSteps job lines (OtherJob at) (world s) (world t))
+      → Told tells t u (SaysOnly line (world t) (world u)) → (status ≡ 5 → IsTrue (tells u) → said (world u) ≡ said (world t) ++ line)
+      → Told tells old u (RunsIn folder job lines status (world old) (world u))
+  entered_other folder job lines at status line x old s t u which line_is entered run says whole = record {
     before = λ tells_u. entered.before (run.before (says.before tells_u));
     did = λ tells_u.
         let tells_t : IsTrue (tells t) = says.before tells_u in
         let tells_s : IsTrue (tells s) = run.before tells_t in
-        let r : RunsSteps job lines finish (world s) (world t) = run.did tells_t in
-        enters_then folder job lines (status_of end) x (world old) (world s) (world u) (ends good end refused which) (entered.did tells_s)
-        (stays_then line (world s) (world t) (world u) r.stays (says.did tells_u))
-        (refused_from job lines finish (status_of good) (status_of end) line (world s) (world t) (world u) refused (statuses good end which) refuses (why r).0 (why r).1
-        r (says.did tells_u) (λ same. whole (is_it good end refused which same) tells_u));
+        let r : RunsSteps job lines (OtherJob at) (world s) (world t) = run.did tells_t in
+        let only : SaysOnly (other_job_line at) (world t) (world u) = subst (λ l. SaysOnly l (world t) (world u)) line_is (says.did tells_u) in
+        enters_then folder job lines status x (world old) (world s) (world u) (elim which [ inl a ↦ inr (inl a) | inr a ↦ inr (inr (inr (inl a))) ]) (entered.did tells_s)
+        (stays_then (other_job_line at) (world s) (world t) (world u) r.stays only)
+        (refused_other job lines at status (world s) (world t) (world u) which r only (λ five. whole five tells_u ∙ ap (λ l. said (world t) ++ l) line_is));
   }
-    where
-      statuses : (g e : Ending) → (e ≡ g) ⊎ (e ≡ ending.SayFault) → (status_of e ≡ status_of g) ⊎ (status_of e ≡ 8)
-      statuses g e (inl a) = inl (ap status_of a)
-      statuses g e (inr a) = inr (ap status_of a)
 
-      ends : (g e : Ending) → Refused (status_of g) → (e ≡ g) ⊎ (e ≡ ending.SayFault) → EndsRun (status_of e)
-      ends g e (inl five) (inl a) = inr (inl (ap status_of a ∙ five))
-      ends g e (inr ten) (inl a) = inr (inr (inr (inr (ap status_of a ∙ ten))))
-      ends g e r (inr a) = inr (inr (inr (inl (ap status_of a))))
-
-      is_it : (g e : Ending) → Refused (status_of g) → (e ≡ g) ⊎ (e ≡ ending.SayFault) → status_of e ≡ status_of g → e ≡ g
-      is_it g e r (inl a) same = a
-      is_it g e (inl five) (inr a) same = absurd (let eight : status_of e ≡ 8 = ap status_of a in omega (arith, same))
-      is_it g e (inr ten) (inr a) same = absurd (let eight : status_of e ≡ 8 = ap status_of a in omega (arith, same))
-
--- another job is stored
-pub why_other : (job : Job) (lines : List LineEnd) (at : ℕ) (line : List ℕ) (old new : World) → line ≡ other_job_line at → RunsSteps job lines (OtherJob at) old new
-    → SaysIn job lines (present (now old).folder) 5 line × (IsTrue (is_stored (present (now old).folder)) → present (now old).folder job_file ≢ job.bytes → ◌≡◌ {A = ℕ} 5 5)
-why_other job lines at line old new line_is run = (inr (inl (refl, at, run.other_job at refl, line_is)), λ stored differs. refl)
-
--- the folder is damaged
-pub why_damaged : (job : Job) (lines : List LineEnd) (f : FileNo) (at : ℕ) (line : List ℕ) (old new : World) → line ≡ damaged_line f at → RunsSteps job lines (Damaged f at) old new
-    → SaysIn job lines (present (now old).folder) 10 line × (IsTrue (is_stored (present (now old).folder)) → present (now old).folder job_file ≢ job.bytes → ◌≡◌ {A = ℕ} 10 5)
-why_damaged job lines f at line old new line_is run =
-    (inr (inr (refl, f, at, run.damaged f at refl, line_is)), λ stored differs. absurd (not_other (run.refuses_other stored differs)))
-  where
-    not_other : ((a : ℕ) × (Damaged f at ≡ OtherJob a)) ⊎ (Damaged f at ≡ FolderFault) → ⊥
-    not_other (inl x) = let other = x.1 in cc
-    not_other (inr x) = cc
+  pub entered_damage : (folder : List ℕ) (job : Job) (lines : List LineEnd) (f : FileNo) (at status : ℕ) (line : List ℕ) (x : Unit) (old s t u : S) → SaidOr 10 status → line ≡ damaged_line f at
+      → Told tells old s (Entered folder (Ok x) (world old) (world s)) → Told tells s t (RunsSteps job lines (Damaged f at) (world s) (world t))
+      → Told tells t u (SaysOnly line (world t) (world u)) → (status ≡ 10 → IsTrue (tells u) → said (world u) ≡ said (world t) ++ line)
+      → Told tells old u (RunsIn folder job lines status (world old) (world u))
+  entered_damage folder job lines f at status line x old s t u which line_is entered run says whole = record {
+    before = λ tells_u. entered.before (run.before (says.before tells_u));
+    did = λ tells_u.
+        let tells_t : IsTrue (tells t) = says.before tells_u in
+        let tells_s : IsTrue (tells s) = run.before tells_t in
+        let r : RunsSteps job lines (Damaged f at) (world s) (world t) = run.did tells_t in
+        let only : SaysOnly (damaged_line f at) (world t) (world u) = subst (λ l. SaysOnly l (world t) (world u)) line_is (says.did tells_u) in
+        enters_then folder job lines status x (world old) (world s) (world u) (elim which [ inl a ↦ inr (inr (inr (inr a))) | inr a ↦ inr (inr (inr (inl a))) ]) (entered.did tells_s)
+        (stays_then (damaged_line f at) (world s) (world t) (world u) r.stays only)
+        (refused_damage job lines f at status (world s) (world t) (world u) which r only (λ ten. whole ten tells_u ∙ ap (λ l. said (world t) ++ l) line_is));
+  }

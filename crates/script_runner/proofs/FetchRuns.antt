@@ -1,10 +1,10 @@
 -- Reading a text in pieces.
-use Rattle.std.proofs.Common.{◌≡◌, ◌∙◌, ℕ, ◌+◌, ◌-◌, ◌<◌, ◌≤◌, min, Bool, List, [], ◌++◌, length, take, drop, refl, sym, ap, subst, arith, length-append}
-use Rattle.std.specs.Prelude.{IsTrue, Option, Some, is_some, Result, Ok, Err}
+use Rattle.std.proofs.Common.{◌≡◌, ◌∙◌, ℕ, ◌+◌, ◌-◌, ◌<◌, ◌≤◌, min, Bool, List, ◌++◌, length, take, drop, sym, ap, subst, arith, length-append}
+use Rattle.std.specs.Prelude.{IsTrue, Some, is_some, Result, Ok}
 use Rattle.std.proofs.lemmas.List.{take-append-drop, take_at, take_all, take-take, drop-take, length-take-le, length-drop}
-use Rattle.shelf_model.specs.World.{Moment, World, now}
+use Rattle.shelf_model.specs.World.{World, now}
 use Rattle.shelf_model.specs.declared.fault.Failed.{Failed}
-use Rattle.shelf_model.specs.Calls.{Told, Copied, Elsewhere, Fetched}
+use Rattle.shelf_model.specs.Calls.{Told, Fetched}
 use Rattle.shelf_model.proofs.Runs.{goes_on, at_end, told_then}
 use Rattle.script_runner.specs.Fetching.{OnlyFetched, IsText}
 

@@ -1,22 +1,15 @@
 pub mod Tests
-pub mod Spelled
-pub mod OneScript
-pub mod Planned
 pub mod FetchRuns
-pub mod Front
-pub mod Levels
-pub mod Steps
-pub mod Accepted
 pub mod LineOrder
 pub mod Saying
 pub mod SaidLaws
-pub mod Variables
-pub mod RunSteps
 pub mod Standing
+pub mod RunSteps
 pub mod StepByStep
-pub mod VariableEntries
+mod Built
+pub mod SayingLines
+pub mod Taking
 pub mod Turns
-pub mod PlannedLines
 pub mod EnteredRuns
 pub mod Endings
 pub mod Lives

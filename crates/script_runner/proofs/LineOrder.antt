@@ -1,12 +1,12 @@
 -- The order of said lines.
-use Rattle.std.proofs.Common.{◌≡◌, ◌∙◌, ◌⊎◌, ℕ, zero, suc, ◌+◌, ◌<◌, ◌≤◌, Bool, true, false, ◌&&◌, nat_le, nat_lt, List, [], ◌∷◌, ◌++◌, length, get_or, take, drop, refl, sym, ap, ap₂, subst, inl, inr, arith}
-use Rattle.std.specs.Prelude.{IsTrue, cond, filter, count_by}
+use Rattle.std.proofs.Common.{◌≡◌, ◌∙◌, ℕ, zero, suc, ◌+◌, ◌<◌, ◌≤◌, Bool, true, false, ◌&&◌, nat_le, nat_lt, List, [], ◌∷◌, ◌++◌, length, get_or, take, drop, refl, sym, ap, ap₂, subst, arith}
+use Rattle.std.specs.Prelude.{IsTrue, cond, filter}
 use Rattle.std.specs.List.{list_all}
 use Rattle.std.proofs.lemmas.List.{drop_more, take_more, take-append-drop, length-take-le}
 use Rattle.std.proofs.lemmas.List.Sums.{sum_by-cons, sum_by-append}
 use Rattle.std.proofs.lemmas.List.Folds.{list_all-append}
-use Rattle.script_runner.specs.declared.plan.LineEnd.{LineEnd}
-use Rattle.script_runner.specs.Lines.{rise_from, shows_past}
+use Rattle.script_reader.specs.declared.plan.LineEnd.{LineEnd}
+use Rattle.script_reader.specs.Lines.{rise_from, shows_past}
 use Rattle.script_runner.specs.Text.{ended_before, lines_from_step}
 use Rattle.script_runner.proofs.Tests.{first_true, second_true, both_true}
 
@@ -129,3 +129,23 @@ none_left count (line ∷ lines) rise shown =
     let here : IsTrue (shows_past count line) = first_true (shows_past count line) (list_all (shows_past count) lines) shown in
     let below : line.last < count = from_lt line.last count (second_true (nat_le line.shows line.last) (nat_lt line.last count) here) in
     absurd (omega (arith, up, below))
+
+-- lines that come before the step after a number show no step above it
+pub shown_in_front : (count number : ℕ) (lines : List LineEnd) → IsTrue (list_all (shows_past count) lines) → IsTrue (list_all (λ (l : LineEnd). nat_lt l.last (number + 1)) lines)
+    → IsTrue (list_all (λ (l : LineEnd). nat_le l.shows number) lines)
+shown_in_front count number [] shown front = refl
+shown_in_front count number (line ∷ lines) shown front =
+    let here : IsTrue (shows_past count line) = first_true (shows_past count line) (list_all (shows_past count) lines) shown in
+    let up_to : line.shows ≤ line.last = from_le line.shows line.last (first_true (nat_le line.shows line.last) (nat_lt line.last count) here) in
+    let before : line.last < number + 1 =
+    from_lt line.last (number + 1) (first_true (nat_lt line.last (number + 1)) (list_all (λ (l : LineEnd). nat_lt l.last (number + 1)) lines) front) in
+    both_true (nat_le line.shows number) (list_all (λ (l : LineEnd). nat_le l.shows number) lines) (to_le line.shows number (omega (arith, up_to, before)))
+    (shown_in_front count number lines (second_true (shows_past count line) (list_all (shows_past count) lines) shown)
+    (second_true (nat_lt line.last (number + 1)) (list_all (λ (l : LineEnd). nat_lt l.last (number + 1)) lines) front))
+
+-- a front of lines passes a test that all pass
+pub front_passes : (p : LineEnd → Bool) (lines : List LineEnd) (count : ℕ) → IsTrue (list_all p lines) → IsTrue (list_all p (take count lines))
+front_passes p lines zero all = refl
+front_passes p [] (suc count) all = refl
+front_passes p (line ∷ lines) (suc count) all =
+    both_true (p line) (list_all p (take count lines)) (first_true (p line) (list_all p lines) all) (front_passes p lines count (second_true (p line) (list_all p lines) all))

@@ -1,6 +1,6 @@
 -- What any list of stops leaves.
-use Rattle.std.proofs.Common.{◌≡◌, ◌∙◌, ◌⊎◌, ℕ, ◌≤◌, Bool, List, [], ◌∷◌, ◌++◌, length, refl, sym, ap, subst, inl, inr, arith}
-use Rattle.std.specs.Prelude.{IsTrue, Option, Some, None, nat_lt}
+use Rattle.std.proofs.Common.{◌≡◌, ◌∙◌, ℕ, ◌≤◌, List, [], ◌∷◌, length, refl, sym, ap, subst, inl, inr, arith}
+use Rattle.std.specs.Prelude.{Some, None, nat_lt}
 use Rattle.std.specs.List.{AllByRecursion}
 use Rattle.std.proofs.lemmas.List.{append-nil, append_cancel_left}
 use Rattle.shelf_model.specs.declared.file_no.FileNo.{FileNo}
@@ -8,25 +8,25 @@ use Rattle.shelf_model.specs.File.{no_file, IsLeft}
 use Rattle.shelf_model.specs.Folder.{Folder, Image, IsImage, file_in, bytes_in}
 use Rattle.shelf_model.proofs.Files.{only_image}
 use Rattle.shelf_model.specs.World.{Moment, World, now, said}
-use Rattle.shelf_model.proofs.Lives.{next_life, same_reading, entered_image}
+use Rattle.shelf_model.proofs.Lives.{next_life}
 use Rattle.catalogue.specs.Files.{job_gate, step_gate}
 use Rattle.catalogue.specs.Counts.{present, count_in}
 use Rattle.sound_image.specs.Files.{checkpoint_gate}
 use Rattle.sound_image.specs.Jobs.{Job}
 use Rattle.sound_image.specs.Sound.{IsSound}
 use Rattle.sound_image.specs.Holds.{AreSound}
-use Rattle.script_runner.specs.declared.plan.LineEnd.{LineEnd}
+use Rattle.script_reader.specs.declared.plan.LineEnd.{LineEnd}
 use Rattle.script_runner.specs.Words.{Reading, reading_of}
-use Rattle.script_runner.specs.Script.{Script, IsAccepted}
-use Rattle.script_runner.specs.Plans.{plan_of}
+use Rattle.script_reader.specs.Script.{Script, IsAccepted}
+use Rattle.script_reader.specs.Plans.{plan_of}
 use Rattle.script_runner.specs.Said.{said_count}
-use Rattle.script_runner.specs.Running.{IsSafe, IsRunning}
+use Rattle.script_runner.specs.Running.{IsSafe, IsSafeRun}
 use Rattle.script_runner.specs.Fetching.{OnlyFetched}
 use Rattle.script_runner.specs.JobOf.{job_of}
 use Rattle.script_runner.specs.Entered.{RunsIn}
 use Rattle.script_runner.specs.Outcome.{Accepts, Refuses, EndsRan}
 use Rattle.script_runner.specs.Lives.{Life, IsLife, AreLives, LifeKeeps}
-use Rattle.script_runner.proofs.OneScript.{one_script}
+use Rattle.script_reader.proofs.OneScript.{one_script}
 
 -- an image without bytes is sound for every job
 pub empty_is_sound : (job : Job) (r : FileNo → List ℕ) → ((f : FileNo) → r f ≡ []) → IsSound job r
@@ -83,8 +83,8 @@ keeps_run : (job : Job) (lines : List LineEnd) (words : List (List ℕ)) (script
     → IsLife words script text life → RunsIn folder job lines life.status life.old life.new → LifeKeeps job lines life
 keeps_run job lines words script text folder life sound is run =
     let are_sound : AreSound job (now life.old).folder = λ image is_image. next_life (IsSound job) (now life.old).folder life.begun image is.entered sound is_image in
-    let running : IsRunning job lines (now life.old) (life.new.moment is.stop.at) = (run.leaves.running are_sound).each is.stop.at is.stop.since is.stop.until in
-    let safe : IsSafe job lines (now life.old).folder running.says.front (bytes_in life.left) = running.safe are_sound life.left is.stop.image_then in
+    let running : IsSafeRun job lines (now life.old) (life.new.moment is.stop.at) = (run.leaves.running are_sound).each is.stop.at is.stop.since is.stop.until in
+    let safe : IsSafe job lines (now life.old).folder running.says.front (bytes_in life.left) = running.safe life.left is.stop.image_then in
     let told : running.says.front ≡ life.told = append_cancel_left (said life.old) running.says.front life.told (sym running.says.said_is ∙ is.stop.said_then) in
     let reads : present (now life.old).folder ≡ bytes_in life.begun = λ i f. ap (λ file. file.bytes) (is.entered f) i in
     record {

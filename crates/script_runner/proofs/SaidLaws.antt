@@ -1,12 +1,16 @@
 -- How many steps stand behind what was said.
-use Rattle.std.proofs.Common.{◌≡◌, ◌≢◌, ◌∙◌, ◌⊎◌, ℕ, zero, suc, ◌+◌, ◌-◌, ◌/◌, ◌%◌, ◌<◌, ◌≤◌, ◌==◌, min, Bool, true, false, cond, List, [], ◌∷◌, ◌++◌, length, get_or, take, drop, refl, sym, ap, ap₂, subst, inl, inr, arith}
-use Rattle.std.specs.Prelude.{IsTrue, count_by, codes, nat_lt}
+use Rattle.std.proofs.Common.{◌≡◌, ◌∙◌, ◌⊎◌, ℕ, zero, suc, ◌+◌, ◌-◌, ◌/◌, ◌%◌, ◌<◌, ◌≤◌, ◌==◌, min, Bool, true, false, cond, List, [], ◌∷◌, ◌++◌, length, get_or, refl, sym, ap, ap₂, subst, inl, inr, arith}
+use Rattle.std.specs.Prelude.{codes}
 use Rattle.std.specs.List.{flat_map}
 use Rattle.std.specs.Fmt.{decimal, digits, digits_onto, digit_glyph}
 use Rattle.std.proofs.lemmas.List.Sums.{sum_by-cons, sum_by-append}
 use Rattle.script_runner.proofs.LineOrder.{to_lt}
-use Rattle.script_runner.specs.declared.plan.LineEnd.{LineEnd}
-use Rattle.script_runner.specs.Text.{line_of, start_line, resume_line, nodes_line, one_node_line, ended_before}
+use Rattle.script_reader.specs.declared.plan.LineEnd.{LineEnd}
+use Rattle.bool_tables.specs.declared.steps.Step.{Step}
+use Rattle.bool_tables.specs.declared.steps.Step.TheVariants.{Const, Var, Pair, Ite, Quantify, Restrict, Drop, Same, Leq, Eval, Size}
+use Rattle.sound_image.specs.Jobs.{Job, step_at}
+use Rattle.sound_image.specs.Entries.{answer_of, count_of}
+use Rattle.script_runner.specs.Text.{line_of, start_line, resume_line, nodes_line, dropped_line, truth_line, value_line, answer_line, said_line, ended_before}
 use Rattle.script_runner.specs.Said.{whole_lines, acknowledged, no_line, said_count}
 
 -- the whole lines of two parts
@@ -67,11 +71,43 @@ nodes_line_is_one : (line count : ℕ) → whole_lines (nodes_line line count) �
 nodes_line_is_one line count = line_is_one ((decimal line ++ codes ": nodes ") ++ decimal count)
     (none_in_both (decimal line ++ codes ": nodes ") (decimal count) (none_in_both (decimal line) (codes ": nodes ") (decimal_has_none line) refl) (decimal_has_none count))
 
+dropped_line_is_one : (line : ℕ) → whole_lines (dropped_line line) ≡ 1
+dropped_line_is_one line = line_is_one (decimal line ++ codes ": dropped") (none_in_both (decimal line) (codes ": dropped") (decimal_has_none line) refl)
+
+truth_line_is_one : (line answer : ℕ) → whole_lines (truth_line line answer) ≡ 1
+truth_line_is_one line answer = by_answer (answer == 1)
+  where
+    by_answer : (b : Bool) → whole_lines (line_of (decimal line ++ cond b (codes ": yes") (codes ": no"))) ≡ 1
+    by_answer true = line_is_one (decimal line ++ codes ": yes") (none_in_both (decimal line) (codes ": yes") (decimal_has_none line) refl)
+    by_answer false = line_is_one (decimal line ++ codes ": no") (none_in_both (decimal line) (codes ": no") (decimal_has_none line) refl)
+
+value_line_is_one : (line answer : ℕ) → whole_lines (value_line line answer) ≡ 1
+value_line_is_one line answer = by_answer (answer == 1)
+  where
+    by_answer : (b : Bool) → whole_lines (line_of (decimal line ++ cond b (codes ": 1") (codes ": 0"))) ≡ 1
+    by_answer true = line_is_one (decimal line ++ codes ": 1") (none_in_both (decimal line) (codes ": 1") (decimal_has_none line) refl)
+    by_answer false = line_is_one (decimal line ++ codes ": 0") (none_in_both (decimal line) (codes ": 0") (decimal_has_none line) refl)
+
+answer_line_is_one : (line : ℕ) (step : Step) (answer count : ℕ) → whole_lines (answer_line line step answer count) ≡ 1
+answer_line_is_one line (Const value) answer count = nodes_line_is_one line count
+answer_line_is_one line (Var level) answer count = nodes_line_is_one line count
+answer_line_is_one line (Pair op left right) answer count = nodes_line_is_one line count
+answer_line_is_one line (Ite test if_one if_zero) answer count = nodes_line_is_one line count
+answer_line_is_one line (Quantify kind operand level) answer count = nodes_line_is_one line count
+answer_line_is_one line (Restrict operand level value) answer count = nodes_line_is_one line count
+answer_line_is_one line (Drop gone) answer count = dropped_line_is_one line
+answer_line_is_one line (Same left right) answer count = truth_line_is_one line answer
+answer_line_is_one line (Leq left right) answer count = truth_line_is_one line answer
+answer_line_is_one line (Eval operand at) answer count = value_line_is_one line answer
+answer_line_is_one line (Size operand) answer count = nodes_line_is_one line count
+
 -- so many lines are so many
-pub lines_are : (lines : List LineEnd) → whole_lines (flat_map one_node_line lines) ≡ length lines
-lines_are [] = refl
-lines_are (line ∷ lines) =
-    whole_lines-append (one_node_line line) (flat_map one_node_line lines) ∙ ap₂ (λ a b. a + b) (nodes_line_is_one line.line 1) (lines_are lines) ∙ one_more (length lines)
+pub lines_are : (job : Job) (lines : List LineEnd) → whole_lines (flat_map (said_line job) lines) ≡ length lines
+lines_are job [] = refl
+lines_are job (line ∷ lines) =
+    whole_lines-append (said_line job line) (flat_map (said_line job) lines)
+    ∙ ap₂ (λ a b. a + b) (answer_line_is_one line.line (step_at job line.shows).step (answer_of job (step_at job line.shows).step) (count_of job line.shows (step_at job line.shows).step)) (lines_are job lines)
+    ∙ one_more (length lines)
   where
     one_more : (n : ℕ) → 1 + n ≡ suc n
     one_more n = omega arith

@@ -1,5 +1,5 @@
 -- What the answer of an attach says of the files.
-use Rattle.std.proofs.Common.{◌≡◌, ◌≢◌, ◌∙◌, ◌⊎◌, ℕ, ◌+◌, ◌-◌, ◌*◌, ◌/◌, ◌%◌, ◌<◌, ◌≤◌, Bool, true, false, not, cond, List, length, refl, sym, ap, subst, inl, inr, arith}
+use Rattle.std.proofs.Common.{◌≡◌, ℕ, ◌+◌, ◌*◌, ◌/◌, ◌<◌, ◌≤◌, Bool, true, false, not, cond, List, length, refl, sym, ap, subst, inl, inr, arith}
 use Rattle.std.specs.Prelude.{IsTrue, Result, Ok, Err, nat_eq, nat_lt, bytes_eq}
 use Rattle.std.specs.List.{common_prefix_len}
 use Rattle.std.proofs.lemmas.Slice.Eq.{bytes_eq-Decides}
@@ -7,7 +7,7 @@ use Rattle.shelf_model.specs.declared.file_no.FileNo.{FileNo}
 use Rattle.catalogue.specs.declared.fault.AttachFault.{AttachFault}
 use Rattle.catalogue.specs.declared.fault.AttachFault.TheVariants.{Shelf, Damaged, OtherJob}
 use Rattle.catalogue.specs.declared.standing.Standing.{Standing}
-use Rattle.catalogue.specs.Files.{job_file, job_gate, catalogue, step_gate}
+use Rattle.catalogue.specs.Files.{job_file, catalogue, step_gate}
 use Rattle.catalogue.specs.Counts.{is_stored, count_in}
 use Rattle.catalogue.specs.Standings.{standing_of, counted_standing}
 use Rattle.script_runner.specs.Running.{HasOtherJob, IsDamage}
@@ -72,7 +72,7 @@ standing_says job steps r result answer = subst (Says job steps r) (sym answer) 
     by_job : IsTrue (is_stored r) → (b : Bool) → bytes_eq (r job_file) job ≡ b
         → Says job steps r (cond b (counted_standing steps (length (r step_gate)) (length (r catalogue))) (Err (OtherJob (common_prefix_len nat_eq (r job_file) job))))
     by_job stored true e = counted_says job steps r stored ((bytes_eq-Decides (r job_file) job).0 e)
-    by_job stored false e = record { stored = stored; other = λ same. (let equal : bytes_eq (r job_file) job ≡ true = (bytes_eq-Decides (r job_file) job).1 same in no_both (bytes_eq (r job_file) job) equal e); place = refl }
+    by_job stored false e = record { is_other = record { stored = stored; other = λ same. (let equal : bytes_eq (r job_file) job ≡ true = (bytes_eq-Decides (r job_file) job).1 same in no_both (bytes_eq (r job_file) job) equal e) }; place = refl }
       where
         no_both : (b : Bool) → b ≡ true → b ≡ false → ⊥
         no_both b x y = cc

@@ -1,73 +1,39 @@
--- The turns of a run of steps, for a station that may tell its content or not.
-use Rattle.std.proofs.Common.{◌≡◌, ◌≢◌, ◌∙◌, ◌⊎◌, ℕ, zero, suc, ◌+◌, ◌-◌, ◌<◌, ◌≤◌, Bool, true, false, not, cond, ◌&&◌, nat_le, nat_lt, List, [], ◌∷◌, ◌++◌, length, take, drop, get_or, refl, sym, ap, ap₂, subst, inl, inr, arith, append_assoc}
+-- A run of steps, part by part: the banner, the steps with their lines, and the end.
+use Rattle.std.proofs.Common.{◌≡◌, ◌∙◌, ℕ, ◌+◌, ◌-◌, ◌<◌, ◌≤◌, Bool, true, false, nat_lt, List, [], ◌++◌, length, take, drop, get_or, refl, sym, ap, subst, inl, inr, arith, append_assoc}
 use Rattle.std.specs.Prelude.{IsTrue, Result, Ok, Err, OnOk, if◌then◌else◌}
 use Rattle.std.specs.List.{flat_map, list_all}
 use Rattle.std.proofs.lemmas.List.{append-nil, take-append-drop, drop-drop, get_or-drop, get_or-take, length-take, length-drop}
 use Rattle.std.proofs.lemmas.Grind.{flat_map-append}
 use Rattle.std.proofs.lemmas.Bool.{cases_lt}
-use Rattle.bool_tables.specs.Plans.{IsWellFormed}
 use Rattle.shelf_model.specs.declared.fault.Failed.{Failed}
-use Rattle.shelf_model.specs.declared.file_no.FileNo.{FileNo}
-use Rattle.shelf_model.specs.File.{firm_file}
-use Rattle.shelf_model.specs.Folder.{Folder, Image, IsImage, AreFiles, bytes_in}
-use Rattle.shelf_model.specs.World.{Moment, World, now, said, file}
-use Rattle.shelf_model.specs.Calls.{Told, Said}
-use Rattle.shelf_model.specs.Moments.{Throughout, Quiet, Ran, OnlyOldImages}
-use Rattle.shelf_model.proofs.Images.{chosen, standing_image}
-use Rattle.shelf_model.proofs.Runs.{told, told_then, weakens, at_end, ran_end}
+use Rattle.shelf_model.specs.Folder.{AreFiles}
+use Rattle.shelf_model.specs.World.{World, now, said}
+use Rattle.shelf_model.specs.Calls.{Said}
+use Rattle.shelf_model.specs.Moments.{Throughout, Stays, Ran}
+use Rattle.shelf_model.proofs.Runs.{weakens, at_end, ran_end}
 use Rattle.catalogue.specs.declared.layout.Entry.{Entry}
 use Rattle.catalogue.specs.declared.standing.Standing.{Standing}
-use Rattle.catalogue.specs.declared.fault.AttachFault.{AttachFault}
-use Rattle.catalogue.specs.declared.fault.AttachFault.TheVariants as attach
-use Rattle.catalogue.specs.Files.{job_file, job_gate, catalogue, step_gate}
-use Rattle.catalogue.specs.Counts.{present, is_stored, count_in}
-use Rattle.catalogue.specs.Commits.{DuringCommit, IsCommitted}
-use Rattle.catalogue.specs.Standings.{standing_of, DuringAttach, IsAttached}
+use Rattle.catalogue.specs.Counts.{present, is_stored}
+use Rattle.catalogue.specs.Commits.{IsReady}
+use Rattle.catalogue.specs.Standings.{DuringAttach, IsAttached}
 use Rattle.catalogue.proofs.Counted.{ready_counts}
-use Rattle.sound_image.specs.Files.{node_file}
-use Rattle.sound_image.specs.Jobs.{Job, file_of}
+use Rattle.sound_image.specs.Jobs.{Job}
 use Rattle.sound_image.specs.Entries.{IsEntryOfStep}
-use Rattle.sound_image.specs.Sound.{IsSound, ShowsSteps}
-use Rattle.sound_image.specs.Holds.{AreSound, HaveCount}
-use Rattle.sound_image.proofs.StepLaws.{AreFew, IsMade}
-use Rattle.sound_image.proofs.AttachLaws.{standing, holds_after_attach}
-use Rattle.script_runner.specs.declared.plan.LineEnd.{LineEnd}
+use Rattle.sound_image.specs.Holds.{Holds, AreSound, HaveCount}
+use Rattle.sound_image.proofs.AttachLaws.{holds_after_attach}
+use Rattle.script_reader.specs.declared.plan.LineEnd.{LineEnd}
+use Rattle.script_reader.specs.Lines.{rise_from}
 use Rattle.script_runner.specs.declared.finish.Finish.{Finish}
-use Rattle.script_runner.specs.declared.finish.Finish.TheVariants.{Done, OtherJob, FolderFault, SayFault, Damaged}
-use Rattle.script_runner.specs.OneFile.{OnlyFile}
-use Rattle.script_runner.specs.Built.{are_variables}
-use Rattle.script_runner.specs.Lines.{rise_from, shows_past, AreLines}
-use Rattle.script_runner.specs.Text.{one_node_line, said_line, done_line, ended_before, lines_from_step, banner_line, start_line, resume_line, run_text}
-use Rattle.script_runner.specs.Said.{whole_lines, said_count, no_line}
-use Rattle.script_runner.specs.Running.{SaysOnly, HasOtherJob, IsDamage, RefusesFolder, RunsSteps}
-use Rattle.script_runner.proofs.Tests.{each_passes, rest_passes}
-use Rattle.script_runner.proofs.LineOrder.{from_lt, ended_is, none_left}
+use Rattle.script_runner.specs.Text.{said_line, done_line, ended_before, banner_line, start_line, resume_line}
+use Rattle.script_runner.specs.Said.{whole_lines, no_line}
+use Rattle.script_runner.specs.Running.{SaysFront, IsSaying, SaysOnly, StaysThere}
+use Rattle.script_runner.specs.StepRuns.{SaysRight, SaysLines}
+use Rattle.script_runner.proofs.Tests.{each_passes}
+use Rattle.script_runner.proofs.LineOrder.{from_lt, ended_is}
 use Rattle.script_runner.proofs.SaidLaws.{whole_lines-append, whole_lines-front, start_line_is_one, resume_line_is_one, lines_are, said_below}
-use Rattle.script_runner.proofs.Standing.{IsStanding, IsDamaged, Says, standing_says}
-use Rattle.script_runner.proofs.Variables.{lines_say_one}
-use Rattle.script_runner.proofs.Saying.{said_piece, one_piece}
-use Rattle.script_runner.proofs.RunSteps.{done_at, text_at, Ongoing, Stands, attaching, saying, said_more, making, made, committing, committed}
-
--- what is known of a job of variables and its lines
-pub record IsPlan (job : Job) (lines : List LineEnd) : Type 0 where
-  pub well_formed : IsWellFormed job.n job.text job.steps
-  pub are_lines : AreLines job.steps lines
-  pub variables : IsTrue (are_variables job.steps)
-
--- so many steps are committed, and these lines remain to be said
-pub record AtStep (job : Job) (lines : List LineEnd) (step : ℕ) (rest : List LineEnd) (old new : World) : Type 0 where
-  pub since : List ℕ
-  pub place : ℕ
-  pub stand : Stands job lines step since (flat_map one_node_line rest ++ done_line) old new
-  pub begun : ended_before (done_at old) lines ≤ place
-  pub within : place ≤ length lines
-  pub rest_is : rest ≡ drop place lines
-  pub feeds : whole_lines since ≤ 1 + (place - ended_before (done_at old) lines)
-  pub earlier : (i : ℕ) → i < place → (get_or lines i no_line).last < step
-  pub upto : step ≤ length job.steps
-
-few_said : (job : Job) (lines rest : List LineEnd) (step : ℕ) (old new : World) (at : AtStep job lines step rest old new) → said_count (done_at old) lines at.since ≤ step
-few_said job lines rest step old new at = said_below (done_at old) lines at.since at.place step at.begun (inl at.feeds) at.earlier
+use Rattle.script_runner.proofs.Standing.{IsStanding}
+use Rattle.script_runner.proofs.Saying.{one_piece}
+use Rattle.script_runner.proofs.RunSteps.{done_at, text_at, remains, IsPlan, Ongoing, AtStep, BeforePiece, said_more, attaching, saying}
 
 -- a front of lines comes before a step, so each of them does
 front_each : (step count : ℕ) (lines : List LineEnd) → IsTrue (list_all (λ (l : LineEnd). nat_lt l.last step) (take count lines)) → (i : ℕ) → i < count → i < length lines
@@ -78,16 +44,21 @@ front_each step count lines front i within inside =
     each_passes (λ (l : LineEnd). nat_lt l.last step) (take count lines) i no_line there front in
     subst (λ (l : LineEnd). l.last < step) (get_or-take count lines i no_line within) (from_lt (get_or (take count lines) i no_line).last step test)
 
-module _ (job : Job) (lines : List LineEnd) (plan : IsPlan job lines) (old : World) (files : AreFiles (now old).folder) where
-  few : AreFew job
-  few = plan.well_formed.few_steps
+-- a piece that was said leaves the files and the station's folder
+piece_stays : (piece : List ℕ) (mid new : World) → SaysOnly piece mid new → Throughout mid new (Stays (now mid)) × StaysThere mid new
+piece_stays piece mid new says = (
+  weakens mid new (IsSaying piece (now mid)) (Stays (now mid)) (λ m saying. saying.folder_is) says.moments,
+  record { texts_are = says.texts_are; home_is = says.home_is; inside_is = says.inside_is; strays_are = λ _. says.strays_are },
+)
 
+piece_fronts : (piece : List ℕ) (mid new : World) → SaysOnly piece mid new → Throughout mid new (λ m. SaysFront (said mid) piece m.said)
+piece_fronts piece mid new says = weakens mid new (IsSaying piece (now mid)) (λ m. SaysFront (said mid) piece m.said) (λ m saying. saying.says) says.moments
+
+module _ (job : Job) (lines : List LineEnd) (plan : IsPlan job lines) (old : World) (files : AreFiles (now old).folder) where
   text_parts : (before : ℕ) → before ≤ length lines → IsTrue (list_all (λ (l : LineEnd). nat_lt l.last (done_at old)) (take before lines)) → IsTrue (rise_from (done_at old) (drop before lines))
-      → text_at job lines old ≡ banner_line (present (now old).folder) lines ++ (flat_map one_node_line (drop before lines) ++ done_line)
+      → text_at job lines old ≡ banner_line (present (now old).folder) lines ++ remains job (drop before lines)
   text_parts before within front rest =
-      ap (λ said. banner_line (present (now old).folder) lines ++ (said ++ done_line))
-      (ap (flat_map (said_line job)) (ended_is (done_at old) lines before within front rest).1
-      ∙ lines_say_one job (drop before lines) plan.well_formed plan.variables (rest_passes (shows_past (length job.steps)) lines before plan.are_lines.show_past))
+      ap (λ ls. banner_line (present (now old).folder) lines ++ remains job ls) (ended_is (done_at old) lines before within front rest).1
 
   banner_is_one : whole_lines (banner_line (present (now old).folder) lines) ≡ 1
   banner_is_one = by_stored (is_stored (present (now old).folder))
@@ -96,109 +67,90 @@ module _ (job : Job) (lines : List LineEnd) (plan : IsPlan job lines) (old : Wor
       by_stored true = resume_line_is_one (ended_before (done_at old) lines) (length lines)
       by_stored false = start_line_is_one (length lines)
 
-  -- the job is attached
-  stands_attached : (s : Standing) (mid : World) → AreFiles (now mid).folder → Ran (DuringAttach job.bytes (now old)) old mid → IsStanding job.bytes (length job.steps) s (present (now old).folder)
-      → IsAttached job.bytes s.done (now mid).folder → (todo : List ℕ) → text_at job lines old ≡ todo → Stands job lines s.done [] todo old mid
-  stands_attached s mid mid_files run is_standing attached todo text = record {
-    run = attaching job lines few old files mid run;
-    said_is = run.station.said_is ∙ sym (append-nil (said old));
-    text_is = text;
-    ready = attached.ready;
-    holds = λ sound. holds_after_attach job s.done (now old) (now mid) files mid_files few sound (ran_end old mid (DuringAttach job.bytes (now old)) run) attached;
-    reached = let same : s.done ≡ done_at old = is_standing.done in omega (arith, same);
-  }
-
   -- the banner is said, or a front part of it
-  pub begun : (s : Standing) (before : ℕ) (piece : List ℕ) (result : Result Unit Failed) (mid new : World) → AreFiles (now mid).folder
-      → Ran (DuringAttach job.bytes (now old)) old mid → IsStanding job.bytes (length job.steps) s (present (now old).folder) → IsAttached job.bytes s.done (now mid).folder
-      → before ≤ length lines → IsTrue (list_all (λ (l : LineEnd). nat_lt l.last s.done) (take before lines)) → IsTrue (rise_from s.done (drop before lines))
-      → piece ≡ banner_line (present (now old).folder) lines → Said piece result mid new
-      → Ongoing job lines old new × OnOk result (AtStep job lines s.done (drop before lines) old new)
-  begun s before piece result mid new mid_files run is_standing attached within front rest piece_is did =
-      let done : s.done ≡ done_at old = is_standing.done in
-      let todo : List ℕ = flat_map one_node_line (drop before lines) ++ done_line in
-      let front_done : IsTrue (list_all (λ (l : LineEnd). nat_lt l.last (done_at old)) (take before lines)) =
-      subst (λ d. IsTrue (list_all (λ (l : LineEnd). nat_lt l.last d) (take before lines))) done front in
-      let rest_done : IsTrue (rise_from (done_at old) (drop before lines)) = subst (λ d. IsTrue (rise_from d (drop before lines))) done rest in
-      let text : text_at job lines old ≡ piece ++ todo = text_parts before within front_done rest_done ∙ ap (λ p. p ++ todo) (sym piece_is) in
-      let stand : Stands job lines s.done [] (piece ++ todo) old mid = stands_attached s mid mid_files run is_standing attached (piece ++ todo) text in
-      let counted : ended_before (done_at old) lines ≡ before = (ended_is (done_at old) lines before within front_done rest_done).0 in
-      let one : whole_lines piece ≡ 1 = ap whole_lines piece_is ∙ banner_is_one in
-      let earlier : (i : ℕ) → i < before → (get_or lines i no_line).last < s.done = λ i inside. front_each s.done before lines front i inside (omega (arith, inside, within)) in
-      let fronts : (part rest' : List ℕ) → piece ≡ part ++ rest' → said_count (done_at old) lines ([] ++ part) ≤ s.done = λ part rest' parts.
-      said_below (done_at old) lines part before s.done (omega (arith, counted))
-      (inl (let least : whole_lines part ≤ whole_lines (part ++ rest') = whole_lines-front part rest' in
-      let whole : whole_lines (part ++ rest') ≡ 1 = ap whole_lines (sym parts) ∙ one in
-      omega (arith, least, whole))) earlier in
-      let says = one_piece piece result mid new did in (
-        saying job lines few old files s.done [] piece todo mid new stand says.0 fronts,
-        at_first result says.1 stand says.0 fronts counted one earlier,
-      )
-    where
-      at_first : (r : Result Unit Failed) → OnOk r (said new ≡ said mid ++ piece)
-          → Stands job lines s.done [] (piece ++ (flat_map one_node_line (drop before lines) ++ done_line)) old mid → SaysOnly piece mid new
-          → ((part rest' : List ℕ) → piece ≡ part ++ rest' → said_count (done_at old) lines ([] ++ part) ≤ s.done)
-          → ended_before (done_at old) lines ≡ before → whole_lines piece ≡ 1 → ((i : ℕ) → i < before → (get_or lines i no_line).last < s.done)
-          → OnOk r (AtStep job lines s.done (drop before lines) old new)
-      at_first (Ok x) whole stand says fronts counted one earlier = record {
-        since = [] ++ piece;
-        place = before;
-        stand = said_more job lines few old files s.done [] piece (flat_map one_node_line (drop before lines) ++ done_line) mid new stand says fronts whole;
-        begun = omega (arith, counted);
-        within = within;
-        rest_is = refl;
-        feeds = omega (arith, one);
-        earlier = earlier;
-        upto = is_standing.few;
-      }
-      at_first (Err e) whole stand says fronts counted one earlier = tt
+  module _ (s : Standing) (before : ℕ) (piece : List ℕ) (mid : World) (mid_files : AreFiles (now mid).folder)
+      (run : Ran (DuringAttach job.bytes (now old)) old mid) (is_standing : IsStanding job.bytes (length job.steps) s (present (now old).folder))
+      (attached : IsAttached job.bytes s.done (now mid).folder)
+      (within : before ≤ length lines) (front : IsTrue (list_all (λ (l : LineEnd). nat_lt l.last s.done) (take before lines))) (rest : IsTrue (rise_from s.done (drop before lines)))
+      (piece_is : piece ≡ banner_line (present (now old).folder) lines) where
+    front_done : IsTrue (list_all (λ (l : LineEnd). nat_lt l.last (done_at old)) (take before lines))
+    front_done = subst (λ d. IsTrue (list_all (λ (l : LineEnd). nat_lt l.last d) (take before lines))) is_standing.done front
 
-  -- the file of a step is made
-  pub makes : (step : ℕ) (rest : List LineEnd) (mid new : World) → step < length job.steps → AtStep job lines step rest old mid
-      → Ran (OnlyFile (node_file step) (now mid).folder) mid new → Ongoing job lines old new
-  makes step rest mid new within at run =
-      making job lines few old files step at.since (flat_map one_node_line rest ++ done_line) mid new within (few_said job lines rest step old mid at) at.stand run
+    rest_done : IsTrue (rise_from (done_at old) (drop before lines))
+    rest_done = subst (λ d. IsTrue (rise_from d (drop before lines))) is_standing.done rest
 
-  pub has_made : (step : ℕ) (rest : List LineEnd) (mid new : World) → step < length job.steps → AtStep job lines step rest old mid
-      → Ran (OnlyFile (node_file step) (now mid).folder) mid new → AtStep job lines step rest old new
-  has_made step rest mid new within at run = record {
-    since = at.since;
-    place = at.place;
-    stand = made job lines few old files step at.since (flat_map one_node_line rest ++ done_line) mid new within (few_said job lines rest step old mid at) at.stand run;
-    begun = at.begun;
-    within = at.within;
-    rest_is = at.rest_is;
-    feeds = at.feeds;
-    earlier = at.earlier;
-    upto = at.upto;
-  }
+    counted : ended_before (done_at old) lines ≡ before
+    counted = (ended_is (done_at old) lines before within front_done rest_done).0
 
-  -- the step is committed
-  pub commits : (step : ℕ) (rest : List LineEnd) (e : Entry) (mid new : World) → step < length job.steps → AtStep job lines step rest old mid
-      → IsMade job step (now mid).folder → IsEntryOfStep job step e → Ran (DuringCommit e (now mid)) mid new → Ongoing job lines old new
-  commits step rest e mid new within at is_made is_entry run =
-      committing job lines few old files step at.since (flat_map one_node_line rest ++ done_line) e mid new within (few_said job lines rest step old mid at) at.stand is_made is_entry run
+    one : whole_lines piece ≡ 1
+    one = ap whole_lines piece_is ∙ banner_is_one
 
-  pub has_committed : (step : ℕ) (rest : List LineEnd) (e : Entry) (mid new : World) → step < length job.steps → AtStep job lines step rest old mid
-      → IsMade job step (now mid).folder → IsEntryOfStep job step e → Ran (DuringCommit e (now mid)) mid new → IsCommitted e (now mid).folder (now new).folder
-      → AtStep job lines (step + 1) rest old new
-  has_committed step rest e mid new within at is_made is_entry run one_more = record {
-    since = at.since;
-    place = at.place;
-    stand = committed job lines few old files step at.since (flat_map one_node_line rest ++ done_line) e mid new within (few_said job lines rest step old mid at) at.stand is_made is_entry run one_more;
-    begun = at.begun;
-    within = at.within;
-    rest_is = at.rest_is;
-    feeds = at.feeds;
-    earlier = λ i inside. let before : (get_or lines i no_line).last < step = at.earlier i inside in omega (arith, before);
-    upto = omega (arith, within);
-  }
+    earlier : (i : ℕ) → i < before → (get_or lines i no_line).last < s.done
+    earlier i inside = front_each s.done before lines front i inside (omega (arith, inside, within))
+
+    abbrev at_banner : BeforePiece job lines s.done piece (remains job (drop before lines)) old mid
+    at_banner = record {
+      run = attaching job lines plan old files mid run;
+      reached = let same : s.done ≡ done_at old = is_standing.done in omega (arith, same);
+      sound = λ sound. record {
+        since = [];
+        said_is = run.station.said_is ∙ sym (append-nil (said old));
+        text_is = text_parts before within front_done rest_done ∙ ap (λ p. p ++ remains job (drop before lines)) (sym piece_is);
+        holds = holds_after_attach job s.done (now old) (now mid) files mid_files plan.well_formed.few_steps sound (ran_end old mid (DuringAttach job.bytes (now old)) run) attached;
+        few = λ part back parts. said_below (done_at old) lines part before s.done (omega (arith, counted))
+            (inl (let least : whole_lines part ≤ whole_lines (part ++ back) = whole_lines-front part back in
+            let whole : whole_lines (part ++ back) ≡ 1 = ap whole_lines (sym parts) ∙ one in
+            omega (arith, least, whole))) earlier;
+      };
+    }
+
+    pub begun : (result : Result Unit Failed) (new : World) → Said piece result mid new
+        → Ongoing job lines old new × OnOk result (AtStep job lines s.done (drop before lines) old new)
+    begun result new did = (so_far, at_first result (one_piece piece result mid new did).1)
+      where
+        says : SaysOnly piece mid new
+        says = (one_piece piece result mid new did).0
+
+        so_far : Ongoing job lines old new
+        so_far = saying job lines plan old files s.done piece (remains job (drop before lines)) mid new at_banner (piece_stays piece mid new says).0 (piece_stays piece mid new says).1
+            (λ sound. piece_fronts piece mid new says)
+
+        same : (now new).folder ≡ (now mid).folder
+        same = at_end mid new (Stays (now mid)) (piece_stays piece mid new says).0
+
+        at_first : (r : Result Unit Failed) → OnOk r (said new ≡ said mid ++ piece) → OnOk r (AtStep job lines s.done (drop before lines) old new)
+        at_first (Ok x) whole = record {
+          run = so_far;
+          ready = subst (IsReady s.done) (sym same) attached.ready;
+          reached = at_banner.reached;
+          upto = is_standing.few;
+          place = before;
+          begun = omega (arith, counted);
+          within = within;
+          rest_is = refl;
+          earlier = earlier;
+          sound = λ sound.
+              let parts = said_more job lines s.done piece (remains job (drop before lines)) old mid new (at_banner.sound sound) whole in
+              record {
+                since = piece;
+                said_is = parts.0;
+                text_is = parts.1;
+                holds = subst (Holds job s.done) (sym same) (at_banner.sound sound).holds;
+                feeds = omega (arith, one);
+              };
+        }
+        at_first (Err e) whole = tt
 
   -- the lines that come before a step are said, the first of those that remain
-  module _ (step count : ℕ) (rest : List LineEnd) (mid new : World) (at : AtStep job lines step rest old mid) (inside : count ≤ length rest)
-      (front : IsTrue (list_all (λ (l : LineEnd). nat_lt l.last step) (take count rest))) (says : SaysOnly (flat_map one_node_line (take count rest)) mid new) where
+  module _ (step count : ℕ) (rest : List LineEnd) (e : Entry) (mid new : World) (result : Result Unit Finish) (at : AtStep job lines step rest old mid) (inside : count ≤ length rest)
+      (front : IsTrue (list_all (λ (l : LineEnd). nat_lt l.last step) (take count rest)))
+      (entry : AreSound job (now old).folder → IsEntryOfStep job e.number e)
+      (says : SaysLines job.steps step (take count rest) e result mid new) where
+    abbrev piece : List ℕ
+    piece = flat_map (said_line job) (take count rest)
+
     room : at.place + count ≤ length lines
-    room = let size : length rest ≡ length lines - at.place = ap length at.rest_is ∙ length-drop at.place lines in omega (arith, size, inside, at.within)
+    room = let size : length rest ≡ length lines - at.place = ap length at.rest_is ∙ length-drop at.place lines in let within = at.within in omega (arith, size, inside, within)
 
     all_earlier : (i : ℕ) → i < at.place + count → (get_or lines i no_line).last < step
     all_earlier i below = elim (cases_lt i at.place) [
@@ -212,68 +164,110 @@ module _ (job : Job) (lines : List LineEnd) (plan : IsPlan job lines) (old : Wor
           (ap (λ ls. get_or ls (i - at.place) no_line) at.rest_is ∙ get_or-drop at.place lines (i - at.place) no_line ∙ ap (λ j. get_or lines j no_line) back) here
     ]
 
-    lines_parts : flat_map one_node_line rest ++ done_line ≡ flat_map one_node_line (take count rest) ++ (flat_map one_node_line (drop count rest) ++ done_line)
-    lines_parts =
-        ap (λ ls. flat_map one_node_line ls ++ done_line) (sym (take-append-drop count rest))
-        ∙ ap (λ ls. ls ++ done_line) (flat_map-append one_node_line (take count rest) (drop count rest))
-        ∙ append_assoc (flat_map one_node_line (take count rest)) (flat_map one_node_line (drop count rest)) done_line
+    parts : remains job rest ≡ piece ++ remains job (drop count rest)
+    parts =
+        ap (λ ls. flat_map (said_line job) ls ++ done_line) (sym (take-append-drop count rest))
+        ∙ ap (λ ls. ls ++ done_line) (flat_map-append (said_line job) (take count rest) (drop count rest))
+        ∙ append_assoc (flat_map (said_line job) (take count rest)) (flat_map (said_line job) (drop count rest)) done_line
 
-    stand_parts : Stands job lines step at.since (flat_map one_node_line (take count rest) ++ (flat_map one_node_line (drop count rest) ++ done_line)) old mid
-    stand_parts = subst (λ todo. Stands job lines step at.since todo old mid) lines_parts at.stand
+    size_of : whole_lines piece ≡ count
+    size_of = lines_are job (take count rest) ∙ (let taken : length (take count rest) ≡ count = omega (arith, length-take count rest, inside) in taken)
 
-    size_of : whole_lines (flat_map one_node_line (take count rest)) ≡ count
-    size_of = lines_are (take count rest) ∙ (let taken : length (take count rest) ≡ count = omega (arith, length-take count rest, inside) in taken)
+    abbrev at_lines : BeforePiece job lines step piece (remains job (drop count rest)) old mid
+    at_lines = record {
+      run = at.run;
+      reached = at.reached;
+      sound = λ sound.
+          let so_far = at.sound sound in
+          record {
+            since = so_far.since;
+            said_is = so_far.said_is;
+            text_is = so_far.text_is ∙ ap (λ todo. so_far.since ++ todo) parts;
+            holds = so_far.holds;
+            few = λ part back split.
+                let least : whole_lines part ≤ whole_lines (part ++ back) = whole_lines-front part back in
+                let whole : whole_lines (part ++ back) ≡ count = ap whole_lines (sym split) ∙ size_of in
+                let both : whole_lines (so_far.since ++ part) ≡ whole_lines so_far.since + whole_lines part = whole_lines-append so_far.since part in
+                let f = so_far.feeds in
+                let b = at.begun in
+                said_below (done_at old) lines (so_far.since ++ part) (at.place + count) step (omega (arith, b)) (inl (omega (arith, least, whole, both, f, b))) all_earlier;
+          };
+    }
 
-    fronts : (part more : List ℕ) → flat_map one_node_line (take count rest) ≡ part ++ more → said_count (done_at old) lines (at.since ++ part) ≤ step
-    fronts part more parts =
-        let least : whole_lines part ≤ whole_lines (part ++ more) = whole_lines-front part more in
-        let whole : whole_lines (part ++ more) ≡ count = ap whole_lines (sym parts) ∙ size_of in
-        let both : whole_lines (at.since ++ part) ≡ whole_lines at.since + whole_lines part = whole_lines-append at.since part in
-        said_below (done_at old) lines (at.since ++ part) (at.place + count) step (let b = at.begun in omega (arith, b))
-        (inl (let f = at.feeds in let b = at.begun in omega (arith, least, whole, both, f, b))) all_earlier
+    right : AreSound job (now old).folder → SaysRight job (take count rest) result mid new
+    right sound = says.holds job plan.well_formed refl (at.sound sound).holds (entry sound)
 
     pub says_lines : Ongoing job lines old new
-    says_lines = saying job lines few old files step at.since (flat_map one_node_line (take count rest)) (flat_map one_node_line (drop count rest) ++ done_line) mid new stand_parts says fronts
+    says_lines = saying job lines plan old files step piece (remains job (drop count rest)) mid new at_lines says.files says.stays (λ sound. (right sound).fronts)
 
-    pub has_said_lines : said new ≡ said mid ++ flat_map one_node_line (take count rest) → AtStep job lines step (drop count rest) old new
-    has_said_lines whole = record {
-      since = at.since ++ flat_map one_node_line (take count rest);
+    same : (now new).folder ≡ (now mid).folder
+    same = at_end mid new (Stays (now mid)) says.files
+
+    pub has_said_lines : (x : Unit) → result ≡ Ok x → AtStep job lines step (drop count rest) old new
+    has_said_lines x ok = record {
+      run = says_lines;
+      ready = subst (IsReady step) (sym same) at.ready;
+      reached = at.reached;
+      upto = at.upto;
       place = at.place + count;
-      stand = said_more job lines few old files step at.since (flat_map one_node_line (take count rest)) (flat_map one_node_line (drop count rest) ++ done_line) mid new stand_parts says fronts whole;
       begun = let b = at.begun in omega (arith, b);
       within = room;
       rest_is = ap (drop count) at.rest_is ∙ drop-drop count at.place lines;
-      feeds = let both : whole_lines (at.since ++ flat_map one_node_line (take count rest)) ≡ whole_lines at.since + whole_lines (flat_map one_node_line (take count rest)) =
-          whole_lines-append at.since (flat_map one_node_line (take count rest)) in
-          let f = at.feeds in let b = at.begun in omega (arith, both, size_of, f, b);
       earlier = all_earlier;
-      upto = at.upto;
+      sound = λ sound.
+          let whole : said new ≡ said mid ++ piece = subst (λ r. OnOk r (said new ≡ said mid ++ piece)) ok (right sound).ok in
+          let more = said_more job lines step piece (remains job (drop count rest)) old mid new (at_lines.sound sound) whole in
+          let so_far = at.sound sound in
+          record {
+            since = so_far.since ++ piece;
+            said_is = more.0;
+            text_is = more.1;
+            holds = subst (Holds job step) (sym same) so_far.holds;
+            feeds = let both : whole_lines (so_far.since ++ piece) ≡ whole_lines so_far.since + whole_lines piece = whole_lines-append so_far.since piece in
+                let f = so_far.feeds in let b = at.begun in omega (arith, both, size_of, f, b);
+          };
     }
 
   -- the last line is said
-  pub ends : (rest : List LineEnd) (piece : List ℕ) (result : Result Unit Failed) (mid new : World) → rest ≡ [] → piece ≡ done_line
-      → AtStep job lines (length job.steps) rest old mid → Said piece result mid new
-      → Ongoing job lines old new × OnOk result ((said new ≡ said old ++ text_at job lines old) × HaveCount (length job.steps) (now new).folder)
-  ends rest piece result mid new none piece_is at did =
-      let todo : flat_map one_node_line rest ++ done_line ≡ piece ++ [] =
-      ap (λ ls. flat_map one_node_line ls ++ done_line) none ∙ sym piece_is ∙ sym (append-nil piece) in
-      let stand : Stands job lines (length job.steps) at.since (piece ++ []) old mid =
-      subst (λ t. Stands job lines (length job.steps) at.since t old mid) todo at.stand in
-      let size : length rest ≡ length lines - at.place = ap length at.rest_is ∙ length-drop at.place lines in
-      let empty : length rest ≡ 0 = ap length none in
-      let all : length lines ≤ at.place = omega (arith, size, empty) in
-      let fronts : (part more : List ℕ) → piece ≡ part ++ more → said_count (done_at old) lines (at.since ++ part) ≤ length job.steps = λ part more parts.
-      said_below (done_at old) lines (at.since ++ part) at.place (length job.steps) at.begun (inr all) at.earlier in
-      let says = one_piece piece result mid new did in
-      (saying job lines few old files (length job.steps) at.since piece [] mid new stand says.0 fronts, at_last result says.1 at.since stand says.0 fronts)
-    where
-      at_last : (r : Result Unit Failed) → OnOk r (said new ≡ said mid ++ piece) → (since : List ℕ) → Stands job lines (length job.steps) since (piece ++ []) old mid → SaysOnly piece mid new
-          → ((part more : List ℕ) → piece ≡ part ++ more → said_count (done_at old) lines (since ++ part) ≤ length job.steps)
-          → OnOk r ((said new ≡ said old ++ text_at job lines old) × HaveCount (length job.steps) (now new).folder)
-      at_last (Ok x) whole since stand says fronts =
-          let last : Stands job lines (length job.steps) (since ++ piece) [] old new =
-          said_more job lines few old files (length job.steps) since piece [] mid new stand says fronts whole in (
-            last.said_is ∙ ap (λ p. said old ++ p) (sym (append-nil (since ++ piece)) ∙ sym last.text_is),
-            λ image is_image. (ready_counts (length job.steps) (now new).folder image last.ready is_image).count,
-          )
-      at_last (Err e) whole since stand says fronts = tt
+  module _ (rest : List LineEnd) (piece : List ℕ) (mid : World) (none : rest ≡ []) (piece_is : piece ≡ done_line) (at : AtStep job lines (length job.steps) rest old mid) where
+    abbrev at_last : BeforePiece job lines (length job.steps) piece [] old mid
+    at_last = record {
+      run = at.run;
+      reached = at.reached;
+      sound = λ sound.
+          let so_far = at.sound sound in
+          let todo : remains job rest ≡ piece ++ [] = ap (remains job) none ∙ sym piece_is ∙ sym (append-nil piece) in
+          let size : length rest ≡ length lines - at.place = ap length at.rest_is ∙ length-drop at.place lines in
+          let empty : length rest ≡ 0 = ap length none in
+          record {
+            since = so_far.since;
+            said_is = so_far.said_is;
+            text_is = so_far.text_is ∙ ap (λ t. so_far.since ++ t) todo;
+            holds = so_far.holds;
+            few = λ part back split. said_below (done_at old) lines (so_far.since ++ part) at.place (length job.steps) at.begun (inr (omega (arith, size, empty))) at.earlier;
+          };
+    }
+
+    pub ends : (result : Result Unit Failed) (new : World) → Said piece result mid new
+        → Ongoing job lines old new × OnOk result ((AreSound job (now old).folder → said new ≡ said old ++ text_at job lines old) × HaveCount (length job.steps) (now new).folder)
+    ends result new did = (so_far, when_said result (one_piece piece result mid new did).1)
+      where
+        says : SaysOnly piece mid new
+        says = (one_piece piece result mid new did).0
+
+        so_far : Ongoing job lines old new
+        so_far = saying job lines plan old files (length job.steps) piece [] mid new at_last (piece_stays piece mid new says).0 (piece_stays piece mid new says).1
+            (λ sound. piece_fronts piece mid new says)
+
+        same : (now new).folder ≡ (now mid).folder
+        same = at_end mid new (Stays (now mid)) (piece_stays piece mid new says).0
+
+        when_said : (r : Result Unit Failed) → OnOk r (said new ≡ said mid ++ piece)
+            → OnOk r ((AreSound job (now old).folder → said new ≡ said old ++ text_at job lines old) × HaveCount (length job.steps) (now new).folder)
+        when_said (Ok x) whole = (
+          λ sound.
+              let more = said_more job lines (length job.steps) piece [] old mid new (at_last.sound sound) whole in
+              more.0 ∙ ap (λ p. said old ++ p) (sym (append-nil ((at_last.sound sound).since ++ piece)) ∙ sym more.1),
+          λ image is_image. (ready_counts (length job.steps) (now new).folder image (subst (IsReady (length job.steps)) (sym same) at.ready) is_image).count,
+        )
+        when_said (Err e) whole = tt

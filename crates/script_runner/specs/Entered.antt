@@ -1,33 +1,17 @@
 -- What a run of a job in a folder leaves, from entering it on.
-use Rattle.std.specs.Prelude.{◌≡◌, ◌≢◌, ℕ, ◌⊎◌, IsTrue, List, ◌++◌, length}
+use Rattle.std.specs.Prelude.{◌≡◌, ℕ, ◌⊎◌, List, ◌++◌, length}
 use Rattle.shelf_model.specs.declared.file_no.FileNo.{FileNo}
 use Rattle.shelf_model.specs.World.{Moment, World, now, said}
 use Rattle.shelf_model.specs.Moments.{Throughout, OnlyOldImages}
 use Rattle.shelf_model.specs.Faults.{Faults, Rose}
-use Rattle.catalogue.specs.Files.{job_file}
-use Rattle.catalogue.specs.Counts.{present, is_stored}
+use Rattle.catalogue.specs.Counts.{present}
 use Rattle.sound_image.specs.Jobs.{Job}
 use Rattle.sound_image.specs.Holds.{AreSound, HaveCount}
-use Rattle.script_runner.specs.declared.plan.LineEnd.{LineEnd}
+use Rattle.script_reader.specs.declared.plan.LineEnd.{LineEnd}
 use Rattle.script_runner.specs.declared.ending.Ending.{Ending}
 use Rattle.script_runner.specs.declared.ending.Ending.TheVariants.{FolderFault, SayFault}
 use Rattle.script_runner.specs.Text.{run_text, other_job_line, damaged_line}
-use Rattle.script_runner.specs.Running.{SaysFront, OthersAre, IsRunning, HasOtherJob, IsDamage}
-
--- all that a run in such a folder says, and the status that it ends with then: the run's text, or why the folder is refused
-abbrev pub SaysIn : Job → List LineEnd → (FileNo → List ℕ) → ℕ → List ℕ → Type 0
-SaysIn job lines r status text =
-    ((status ≡ 0) × (text ≡ run_text job lines r))
-    ⊎ ((status ≡ 5) × (at : ℕ) × HasOtherJob job.bytes at r × (text ≡ other_job_line at))
-    ⊎ ((status ≡ 10) × (f : FileNo) × (at : ℕ) × IsDamage (length job.steps) f at r × (text ≡ damaged_line f at))
-
--- a moment at which a front part of one of these was said, and files that aren't the job's are as they were
-pub record IsAnswering (job : Job) (lines : List LineEnd) (old m : Moment) : Type 0 where
-  pub status : ℕ
-  pub text : List ℕ
-  pub text_is : SaysIn job lines (present old.folder) status text
-  pub says : SaysFront old.said text m.said
-  pub others : OthersAre (length job.steps) old.folder m.folder
+use Rattle.script_runner.specs.Running.{SaysFront, OthersAre, IsSafeRun, IsOther, HasOtherJob, IsDamage, IsEntryDamage}
 
 -- the statuses of a run that was done, refused its folder, or met a fault of the folder or of saying
 abbrev pub EndsRun : ℕ → Type 0
@@ -37,19 +21,38 @@ EndsRun status = (status ≡ 0) ⊎ (status ≡ 5) ⊎ (status ≡ 7) ⊎ (statu
 abbrev pub Refused : ℕ → Type 0
 Refused status = (status ≡ 5) ⊎ (status ≡ 10)
 
+-- a run in a folder that stores another job: no image is new, and the line that says so was said, or a front part of it
+pub record RefusesOther (job : List ℕ) (status : ℕ) (start : Moment) (old new : World) : Type 0 where
+  pub at : ℕ
+  pub place : HasOtherJob job at (present start.folder)
+  pub moments : Throughout old new (λ m. SaysFront start.said (other_job_line at) m.said × OnlyOldImages start m)
+  pub status_is : (status ≡ 5) ⊎ (status ≡ 7) ⊎ (status ≡ 8)
+  pub whole : status ≡ 5 → said new ≡ start.said ++ other_job_line at
+
+-- a damaged place was named at the end of what was said: it was met before anything was done, or where an entry was read
+pub record NamesDamage (job : Job) (start : Moment) (old new : World) : Type 0 where
+  pub file : FileNo
+  pub at : ℕ
+  pub before : List ℕ
+  pub said_is : said new ≡ before ++ damaged_line file at
+  pub place : (IsDamage (length job.steps) file at (present start.folder) × (before ≡ start.said) × Throughout old new (OnlyOldImages start))
+      ⊎ IsEntryDamage job.steps file at (present (now new).folder)
+
 -- what a run of a job leaves by the moment at which it was started
 pub record RunsFrom (job : Job) (lines : List LineEnd) (status : ℕ) (start : Moment) (old new : World) : Type 0 where
-  pub moments : Throughout old new (IsAnswering job lines start)
-  -- where each image was sound for the job at first, it runs: each image that a stop may leave is safe, and it isn't refused
-  pub running : AreSound job start.folder → Throughout old new (IsRunning job lines start)
+  pub others : Throughout old new (λ m. OthersAre (length job.steps) start.folder m.folder)
+  -- where each image was sound for the job at first: a front part of its text was said at each moment and each image is safe, the
+  -- folder isn't refused, and with 0 the whole text was said
+  pub running : AreSound job start.folder → Throughout old new (IsSafeRun job lines start)
   pub goes_on : AreSound job start.folder → ¬ (Refused status)
-  -- with 0, 5 and 10 all was said that goes with the status
-  pub whole : (status ≡ 0) ⊎ Refused status → (text : List ℕ) × SaysIn job lines (present start.folder) status text × (said new ≡ start.said ++ text)
+  pub whole : AreSound job start.folder → status ≡ 0 → said new ≡ start.said ++ run_text job lines (present start.folder)
   -- with 0 every image has all steps
   pub all : status ≡ 0 → HaveCount (length job.steps) (now new).folder
-  -- a folder that is refused has no new image, and one that stores another job is neither run nor taken for damaged
-  pub kept : Refused status → Throughout old new (OnlyOldImages start)
-  pub other_job : IsTrue (is_stored (present start.folder)) → present start.folder job_file ≢ job.bytes → ¬ ((status ≡ 0) ⊎ (status ≡ 10))
+  -- a folder that stores another job is refused, and with 5 it is such a one
+  pub other : IsOther job.bytes (present start.folder) → RefusesOther job.bytes status start old new
+  pub only_other : status ≡ 5 → IsOther job.bytes (present start.folder)
+  -- with 10 a damaged place is named
+  pub damaged : status ≡ 10 → NamesDamage job start old new
 
 -- a job was run in the folder of that path
 pub record RunsIn (folder : List ℕ) (job : Job) (lines : List LineEnd) (status : ℕ) (old new : World) : Type 0 where

@@ -1,5 +1,5 @@
 -- What reading a text leaves, and what was read.
-use Rattle.std.specs.Prelude.{◌≡◌, ℕ, ◌+◌, ◌≤◌, List, take, Option, Some}
+use Rattle.std.specs.Prelude.{◌≡◌, ℕ, ◌+◌, ◌≤◌, List, take, Some}
 use Rattle.shelf_model.specs.World.{World, now}
 use Rattle.shelf_model.specs.Moments.{Throughout}
 use Rattle.shelf_model.specs.Faults.{Faults}

@@ -2,8 +2,8 @@
 use Rattle.std.specs.Prelude.{ℕ, List, ◌++◌, length, replicate, codes}
 use Rattle.byteorder.specs.Endian.{big_bytes}
 use Rattle.sound_image.specs.Jobs.{Job}
-use Rattle.script_runner.specs.Script.{Script}
-use Rattle.script_runner.specs.Plans.{plan_of}
+use Rattle.script_reader.specs.Script.{Script}
+use Rattle.script_reader.specs.Plans.{plan_of}
 
 -- the version of the layout, the records of the run's room, the length of the script, no netlist, and the script
 unfoldable pub job_bytes : List ℕ → List ℕ

@@ -1,16 +1,10 @@
 pub mod Words
-pub mod Script
-pub mod Plans
-pub mod Reading
 pub mod Text
 pub mod Said
-pub mod Lines
-pub mod Built
 pub mod Causes
-pub mod OneFile
 pub mod Running
+pub mod StepRuns
 pub mod Fetching
-pub mod VariableEntries
 pub mod JobOf
 pub mod Status
 pub mod Entered

@@ -8,9 +8,9 @@ use Rattle.shelf_model.specs.Moments.{Left}
 use Rattle.catalogue.specs.Counts.{count_in}
 use Rattle.sound_image.specs.Jobs.{Job}
 use Rattle.sound_image.specs.Sound.{IsSound}
-use Rattle.script_runner.specs.declared.plan.LineEnd.{LineEnd}
+use Rattle.script_reader.specs.declared.plan.LineEnd.{LineEnd}
 use Rattle.script_runner.specs.Said.{said_count}
-use Rattle.script_runner.specs.Script.{Script}
+use Rattle.script_reader.specs.Script.{Script}
 use Rattle.script_runner.specs.Outcome.{Accepts, Ends}
 
 -- a call of the program, the image that it began on, what it said until a stop, and the image that the stop left

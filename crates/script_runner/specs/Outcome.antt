@@ -1,11 +1,11 @@
 -- What a call of the program leaves, by its words and the texts of its station.
-use Rattle.std.specs.Prelude.{◌≡◌, ℕ, ◌⊎◌, Bool, List, [], ◌∷◌, ◌++◌, ◌==◌, Option, Some, None, IsTrue}
+use Rattle.std.specs.Prelude.{◌≡◌, ℕ, ◌⊎◌, List, [], ◌∷◌, ◌++◌, ◌==◌, Some, None, IsTrue}
 use Rattle.std.specs.List.{list_any}
 use Rattle.shelf_model.specs.World.{World, said}
 use Rattle.shelf_model.specs.Faults.{Faults, Rose}
 use Rattle.script_runner.specs.Words.{Reading, reading_of}
-use Rattle.script_runner.specs.Script.{Script, IsAccepted}
-use Rattle.script_runner.specs.Plans.{plan_of}
+use Rattle.script_reader.specs.Script.{Script, IsAccepted}
+use Rattle.script_reader.specs.Plans.{plan_of}
 use Rattle.script_runner.specs.Text.{usage_line, refused_line}
 use Rattle.script_runner.specs.Fetching.{OnlyFetched}
 use Rattle.script_runner.specs.Running.{SaysOnly}

@@ -1,16 +1,20 @@
 -- What holds at every moment of a run, and what a run leaves.
-use Rattle.std.specs.Prelude.{◌≡◌, ◌≢◌, ◌⊎◌, ℕ, ◌+◌, ◌*◌, ◌<◌, ◌≤◌, Bool, IsTrue, List, [], ◌++◌, length, nat_eq}
+use Rattle.std.specs.Prelude.{◌≡◌, ◌≢◌, ◌⊎◌, ℕ, ◌+◌, ◌*◌, ◌<◌, ◌≤◌, IsTrue, List, ◌++◌, length, get_or, nat_eq}
 use Rattle.std.specs.List.{common_prefix_len}
 use Rattle.shelf_model.specs.declared.file_no.FileNo.{FileNo}
 use Rattle.shelf_model.specs.Folder.{Folder, Image, file_in, bytes_in, IsImage}
 use Rattle.shelf_model.specs.World.{Moment, World, now, said}
 use Rattle.shelf_model.specs.Moments.{Throughout, OnlyOldImages}
+use Rattle.bool_tables.specs.declared.steps.Planned.{Planned}
+use Rattle.catalogue.specs.declared.layout.Entry.{Entry}
+use Rattle.catalogue.specs.Entries.{IsEntryOf}
 use Rattle.catalogue.specs.Files.{job_file, catalogue, step_gate}
 use Rattle.catalogue.specs.Counts.{present, is_stored, count_in}
-use Rattle.sound_image.specs.Jobs.{Job}
+use Rattle.sound_image.specs.Jobs.{Job, no_step}
+use Rattle.sound_image.specs.Entries.{kind_of}
 use Rattle.sound_image.specs.Sound.{IsSound}
 use Rattle.sound_image.specs.Holds.{AreSound, HaveCount}
-use Rattle.script_runner.specs.declared.plan.LineEnd.{LineEnd}
+use Rattle.script_reader.specs.declared.plan.LineEnd.{LineEnd}
 use Rattle.script_runner.specs.declared.finish.Finish.{Finish}
 use Rattle.script_runner.specs.declared.finish.Finish.TheVariants.{Done, OtherJob, FolderFault, SayFault, Damaged}
 use Rattle.script_runner.specs.Text.{run_text}
@@ -56,12 +60,15 @@ IsJobs steps f = (f.step < steps) ⊎ (f.step ≡ 4294967295)
 abbrev pub OthersAre : ℕ → Folder → Folder → Type 0
 OthersAre steps old new = (f : FileNo) → ¬ (IsJobs steps f) → file_in new f ≡ file_in old f
 
--- a moment of a run: a front part of its text was said, other files are as they were, and where each image was sound for the
--- job at first, each is safe
-pub record IsRunning (job : Job) (lines : List LineEnd) (old m : Moment) : Type 0 where
+-- a moment of a run that began where each image was sound for the job: a front part of its text was said, and each image is safe
+pub record IsSafeRun (job : Job) (lines : List LineEnd) (old m : Moment) : Type 0 where
   pub says : SaysFront old.said (run_text job lines (present old.folder)) m.said
+  pub safe : (image : Image) → IsImage m.folder image → IsSafe job lines old.folder says.front (bytes_in image)
+
+-- a moment of a run: other files are as they were, and where each image was sound at first it is safe
+pub record IsRunning (job : Job) (lines : List LineEnd) (old m : Moment) : Type 0 where
   pub others : OthersAre (length job.steps) old.folder m.folder
-  pub safe : AreSound job old.folder → (image : Image) → IsImage m.folder image → IsSafe job lines old.folder says.front (bytes_in image)
+  pub safe_run : AreSound job old.folder → IsSafeRun job lines old m
 
 -- the texts and the folder's path stay, and in its folder the station strays nowhere
 pub record StaysThere (old new : World) : Type 0 where
@@ -70,10 +77,14 @@ pub record StaysThere (old new : World) : Type 0 where
   pub inside_is : new.inside ≡ old.inside
   pub strays_are : IsTrue old.inside → new.strays ≡ old.strays
 
--- another job is stored, and that is the first byte that differs, or the shorter length
-pub record HasOtherJob (job : List ℕ) (at : ℕ) (r : FileNo → List ℕ) : Type 0 where
+-- another job is stored
+pub record IsOther (job : List ℕ) (r : FileNo → List ℕ) : Type 0 where
   pub stored : IsTrue (is_stored r)
   pub other : r job_file ≢ job
+
+-- and that is the first byte that differs, or the shorter length
+pub record HasOtherJob (job : List ℕ) (at : ℕ) (r : FileNo → List ℕ) : Type 0 where
+  pub is_other : IsOther job r
   pub place : at ≡ common_prefix_len nat_eq (r job_file) job
 
 -- the step gate counts more than the steps, or the catalogue lacks an entry that it counts, the first one there
@@ -81,6 +92,14 @@ abbrev pub IsDamage : ℕ → FileNo → ℕ → (FileNo → List ℕ) → Type 
 IsDamage steps f at r =
     ((f ≡ step_gate) × (at ≡ steps) × (steps < length (r step_gate)))
     ⊎ ((f ≡ catalogue) × (at ≤ length (r catalogue)) × (length (r catalogue) < at + 128) × (at + 128 ≤ 128 * length (r step_gate)))
+
+-- no entry of a committed step, of the kind of that step, stands whole at its place
+pub record IsEntryDamage (steps : List Planned) (f : FileNo) (at : ℕ) (r : FileNo → List ℕ) : Type 0 where
+  pub step : ℕ
+  pub counted : step < count_in r
+  pub file_is : f ≡ catalogue
+  pub at_is : at ≡ 128 * step
+  pub none_there : (e : Entry) → IsEntryOf step r e → e.kind ≢ kind_of (get_or steps step no_step).step
 
 -- the run ended because the folder holds another job, or is damaged
 abbrev pub RefusesFolder : Finish → Type 0
@@ -90,20 +109,35 @@ RefusesFolder FolderFault = ⊥
 RefusesFolder SayFault = ⊥
 RefusesFolder (Damaged f at) = Unit
 
+-- a part of a run stopped it
+abbrev pub IsStop : Finish → Type 0
+IsStop Done = ⊥
+IsStop (OtherJob at) = ⊥
+IsStop FolderFault = Unit
+IsStop SayFault = Unit
+IsStop (Damaged f at) = Unit
+
+-- a moment at which nothing was said since, and no image is new
+pub record IsStill (old m : Moment) : Type 0 where
+  pub said_is : m.said ≡ old.said
+  pub images : OnlyOldImages old m
+
+-- nothing was done throughout
+abbrev pub StoodStill : World → World → Type 0
+StoodStill old new = Throughout old new (IsStill (now old))
+
 -- a run of the steps of a job
 pub record RunsSteps (job : Job) (lines : List LineEnd) (finish : Finish) (old new : World) : Type 0 where
   pub moments : Throughout old new (IsRunning job lines (now old))
   pub stays : StaysThere old new
-  -- where all was done the whole text was said, and every image has all steps
-  pub whole : finish ≡ Done → said new ≡ said old ++ run_text job lines (present (now old).folder)
-  pub all : finish ≡ Done → HaveCount (length job.steps) (now new).folder
-  -- another job is refused exactly where one is stored, unless a call of the folder failed
-  pub other_job : (at : ℕ) → finish ≡ OtherJob at → HasOtherJob job.bytes at (present (now old).folder)
-  pub refuses_other : IsTrue (is_stored (present (now old).folder)) → present (now old).folder job_file ≢ job.bytes
-      → ((at : ℕ) × (finish ≡ OtherJob at)) ⊎ (finish ≡ FolderFault)
-  pub damaged : (f : FileNo) (at : ℕ) → finish ≡ Damaged f at → IsDamage (length job.steps) f at (present (now old).folder)
-  -- then nothing was said, and no image is new
-  pub refused_says : RefusesFolder finish → said new ≡ said old
-  pub refused_keeps : RefusesFolder finish → Throughout old new (OnlyOldImages (now old))
-  -- a sound folder is refused for nothing
+  -- where each image was sound at first the folder is refused for nothing, and where all was done the whole text was said
   pub goes_on : AreSound job (now old).folder → ¬ (RefusesFolder finish)
+  pub whole : AreSound job (now old).folder → finish ≡ Done → said new ≡ said old ++ run_text job lines (present (now old).folder)
+  -- where all was done every image has all steps
+  pub all : finish ≡ Done → HaveCount (length job.steps) (now new).folder
+  -- another job is refused exactly where one is stored, unless a call of the folder failed, and then nothing was done
+  pub other_job : (at : ℕ) → finish ≡ OtherJob at → HasOtherJob job.bytes at (present (now old).folder)
+  pub refuses_other : IsOther job.bytes (present (now old).folder) → StoodStill old new × (((at : ℕ) × (finish ≡ OtherJob at)) ⊎ (finish ≡ FolderFault))
+  -- damage is met before anything is done, or where an entry is read
+  pub damaged : (f : FileNo) (at : ℕ) → finish ≡ Damaged f at
+      → (IsDamage (length job.steps) f at (present (now old).folder) × StoodStill old new) ⊎ IsEntryDamage job.steps f at (present (now new).folder)

@@ -1,6 +1,6 @@
 -- How many steps stand behind what a run has said.
-use Rattle.std.specs.Prelude.{ℕ, ◌+◌, ◌-◌, ◌==◌, Bool, List, length, count_by, get_or, min, if◌then◌else◌}
-use Rattle.script_runner.specs.declared.plan.LineEnd.{LineEnd}
+use Rattle.std.specs.Prelude.{ℕ, ◌+◌, ◌-◌, ◌==◌, List, length, count_by, get_or, min, if◌then◌else◌}
+use Rattle.script_reader.specs.declared.plan.LineEnd.{LineEnd}
 use Rattle.script_runner.specs.Text.{ended_before}
 
 -- how many whole lines the bytes have

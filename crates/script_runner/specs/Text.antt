@@ -1,11 +1,14 @@
 -- What the program says.
-use Rattle.std.specs.Prelude.{ℕ, Bool, List, [], ◌∷◌, ◌++◌, length, filter, count_by, nat_le, nat_lt, codes, if◌then◌else◌}
+use Rattle.std.specs.Prelude.{ℕ, List, [], ◌∷◌, ◌++◌, length, filter, count_by, nat_le, nat_lt, codes, ◌==◌, if◌then◌else◌}
 use Rattle.std.specs.List.{flat_map}
 use Rattle.std.specs.Fmt.{decimal}
 use Rattle.shelf_model.specs.declared.file_no.FileNo.{FileNo}
 use Rattle.catalogue.specs.Counts.{is_stored, count_in}
-use Rattle.sound_image.specs.Jobs.{Job, nodes_at}
-use Rattle.script_runner.specs.declared.plan.LineEnd.{LineEnd}
+use Rattle.bool_tables.specs.declared.steps.Step.{Step}
+use Rattle.bool_tables.specs.declared.steps.Step.TheVariants.{Const, Var, Pair, Ite, Quantify, Restrict, Drop, Same, Leq, Eval, Size}
+use Rattle.sound_image.specs.Jobs.{Job, step_at}
+use Rattle.sound_image.specs.Entries.{answer_of, count_of}
+use Rattle.script_reader.specs.declared.plan.LineEnd.{LineEnd}
 
 -- a line ends with a line feed
 abbrev pub line_of : List ℕ → List ℕ
@@ -23,9 +26,31 @@ resume_line before count = line_of (codes "resume " ++ decimal before ++ codes "
 abbrev pub nodes_line : ℕ → ℕ → List ℕ
 nodes_line line count = line_of (decimal line ++ codes ": nodes " ++ decimal count)
 
--- a diagram of one node
-abbrev pub one_node_line : LineEnd → List ℕ
-one_node_line line = nodes_line line.line 1
+-- that a diagram was dropped
+abbrev pub dropped_line : ℕ → List ℕ
+dropped_line line = line_of (decimal line ++ codes ": dropped")
+
+-- whether two functions are equal, or one implies the other
+abbrev pub truth_line : ℕ → ℕ → List ℕ
+truth_line line answer = line_of (decimal line ++ (if answer == 1 then codes ": yes" else codes ": no"))
+
+-- a function's value
+abbrev pub value_line : ℕ → ℕ → List ℕ
+value_line line answer = line_of (decimal line ++ (if answer == 1 then codes ": 1" else codes ": 0"))
+
+-- the line that shows the answer and the count of a step's entry
+abbrev pub answer_line : ℕ → Step → ℕ → ℕ → List ℕ
+answer_line line (Const value) answer count = nodes_line line count
+answer_line line (Var level) answer count = nodes_line line count
+answer_line line (Pair op left right) answer count = nodes_line line count
+answer_line line (Ite test if_one if_zero) answer count = nodes_line line count
+answer_line line (Quantify kind operand level) answer count = nodes_line line count
+answer_line line (Restrict operand level value) answer count = nodes_line line count
+answer_line line (Drop gone) answer count = dropped_line line
+answer_line line (Same left right) answer count = truth_line line answer
+answer_line line (Leq left right) answer count = truth_line line answer
+answer_line line (Eval operand at) answer count = value_line line answer
+answer_line line (Size operand) answer count = nodes_line line count
 
 abbrev pub done_line : List ℕ
 done_line = line_of (codes "done")
@@ -56,7 +81,8 @@ lines_from_step step lines = filter (λ (line : LineEnd). nat_le step line.last)
 
 -- the line that shows the answer of a step
 abbrev pub said_line : Job → LineEnd → List ℕ
-said_line job line = nodes_line line.line (nodes_at job line.shows)
+said_line job line =
+    let step = (step_at job line.shows).step in answer_line line.line step (answer_of job step) (count_of job line.shows step)
 
 -- the first line of a run of so many lines that begins where the files show what they show
 abbrev pub banner_line : (FileNo → List ℕ) → List LineEnd → List ℕ

@@ -7,8 +7,8 @@ ghost use Rattle.shelf_model.specs.Folder.{Folder, Image, file_in, bytes_in};
 ghost use Rattle.sound_image.specs.Jobs.{Job};
 ghost use Rattle.sound_image.specs.Sound.{IsSound};
 ghost use Rattle.sound_image.specs.Holds.{AreSound};
-ghost use Rattle.script_runner.specs.Script.{Script};
-ghost use Rattle.script_runner.specs.Plans.{plan_of};
+ghost use Rattle.script_reader.specs.Script.{Script};
+ghost use Rattle.script_reader.specs.Plans.{plan_of};
 ghost use Rattle.script_runner.specs.JobOf.{job_of};
 ghost use Rattle.script_runner.specs.Lives.{Life, AreLives, LifeKeeps};
 

@@ -1,7 +1,8 @@
 ghost use Rattle.std.specs.Prelude.{◌≡◌, ◌<◌, ◌≤◌, length};
-ghost use Rattle.script_runner.specs.Text.{start_line, resume_line, nodes_line, other_job_line, damaged_line};
+ghost use Rattle.script_runner.specs.Text.{start_line, resume_line, nodes_line, dropped_line, truth_line, value_line, answer_line, other_job_line, damaged_line};
 
 use arrayvec::ArrayString;
+use bool_tables::Step;
 use itoa::Buffer;
 use shelf_model::FileNo;
 
@@ -20,8 +21,27 @@ pub(crate) fn start_line(count: u64) -> Line
     line
 }
 
-/// The number of nodes of the diagram that a line of the script asks for.
-pub(crate) fn nodes_line(script_line: u32, count: u64) -> Line
+/// What a line of the script asked for: the answer and the count of its step's entry.
+pub(crate) fn answer_line(script_line: u32, step: Step, answer: u8, count: u64) -> Line
+    ensures text { result.bytes ≡ answer_line script_line step answer count }
+    ensures some { 0 < length result.bytes }
+{
+    match step {
+        Step::Const { .. }
+        | Step::Var { .. }
+        | Step::Pair { .. }
+        | Step::Ite { .. }
+        | Step::Quantify { .. }
+        | Step::Restrict { .. }
+        | Step::Size { .. } => nodes_line(script_line, count),
+        Step::Drop { .. } => dropped_line(script_line),
+        Step::Same { .. } | Step::Leq { .. } => truth_line(script_line, answer),
+        Step::Eval { .. } => value_line(script_line, answer),
+    }
+}
+
+/// The number of nodes of a diagram.
+fn nodes_line(script_line: u32, count: u64) -> Line
     ensures text { result.bytes ≡ nodes_line script_line count }
     ensures some { 0 < length result.bytes }
 {
@@ -29,6 +49,42 @@ pub(crate) fn nodes_line(script_line: u32, count: u64) -> Line
     line.push_str(Buffer::new().format(script_line));
     line.push_str(": nodes ");
     line.push_str(Buffer::new().format(count));
+    line.push_str("\n");
+    line
+}
+
+/// That a diagram was dropped.
+fn dropped_line(script_line: u32) -> Line
+    ensures text { result.bytes ≡ dropped_line script_line }
+    ensures some { 0 < length result.bytes }
+{
+    let mut line = Line::new();
+    line.push_str(Buffer::new().format(script_line));
+    line.push_str(": dropped");
+    line.push_str("\n");
+    line
+}
+
+/// Whether two functions are equal, or one implies the other.
+fn truth_line(script_line: u32, answer: u8) -> Line
+    ensures text { result.bytes ≡ truth_line script_line answer }
+    ensures some { 0 < length result.bytes }
+{
+    let mut line = Line::new();
+    line.push_str(Buffer::new().format(script_line));
+    line.push_str(if answer == 1 { ": yes" } else { ": no" });
+    line.push_str("\n");
+    line
+}
+
+/// A function's value.
+fn value_line(script_line: u32, answer: u8) -> Line
+    ensures text { result.bytes ≡ value_line script_line answer }
+    ensures some { 0 < length result.bytes }
+{
+    let mut line = Line::new();
+    line.push_str(Buffer::new().format(script_line));
+    line.push_str(if answer == 1 { ": 1" } else { ": 0" });
     line.push_str("\n");
     line
 }

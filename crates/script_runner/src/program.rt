@@ -2,8 +2,8 @@ ghost use Rattle.std.specs.Prelude.{◌≡◌, ◌≢◌, ◌⊎◌, ◌<◌, �
 ghost use Rattle.bool_tables.specs.Plans.{IsWellFormed};
 ghost use Rattle.shelf_model.specs.World.{said};
 ghost use Rattle.shelf_model.specs.Calls.{Told};
-ghost use Rattle.script_runner.specs.Lines.{AreLines};
-ghost use Rattle.script_runner.specs.Built.{are_variables};
+ghost use Rattle.script_reader.specs.Lines.{AreLines};
+ghost use Rattle.script_reader.specs.Built.{are_built};
 ghost use Rattle.script_runner.specs.Running.{SaysOnly};
 ghost use Rattle.script_runner.specs.Status.{status_of};
 ghost use Rattle.script_runner.specs.Outcome.{Ends, ByWords, StatusHasCause};
@@ -13,9 +13,9 @@ use crate::ending::Ending;
 use crate::fetch::{FetchFault, fetch_text};
 use crate::job::{BUDGET, job_bytes};
 use crate::line::{damaged_line, other_job_line};
-use crate::script::{ScriptRefusal, read_script};
 use crate::words::read_words;
-use crate::{Finish, Plan, run_steps};
+use crate::{Finish, run_steps};
+use script_reader::{Plan, ScriptRefusal, read_script};
 
 /// The most bytes that a script has.
 const MOST_SCRIPT: usize = 1_048_576;
@@ -56,7 +56,7 @@ fn run_plan<W: Station>(
 ) -> Ending
     requires plan { IsWellFormed plan.now.n text.now plan.now.steps }
     requires lines { AreLines plan.now.steps plan.now.lines }
-    requires built { IsTrue (are_variables plan.now.steps) }
+    requires built { IsTrue (are_built plan.now.steps) }
     requires room { (16384 ≤ length room.old) × (length room.old ≤ 4194304) }
     ensures content { Told W.tells station.old station.new
         (RunsIn folder.now (record { n = plan.now.n; text = text.now; steps = plan.now.steps; bytes = job.now }) plan.now.lines

@@ -1,21 +1,20 @@
 ghost use Rattle.std.specs.Prelude.{◌≡◌, ◌≤◌, IsTrue, length};
 ghost use Rattle.bool_tables.specs.Plans.{IsWellFormed};
 ghost use Rattle.shelf_model.specs.Calls.{Told};
-ghost use Rattle.script_runner.specs.Lines.{AreLines};
-ghost use Rattle.script_runner.specs.Built.{are_variables, is_variable_of};
+ghost use Rattle.script_reader.specs.Lines.{AreLines};
+ghost use Rattle.script_reader.specs.Built.{are_built};
 ghost use Rattle.script_runner.specs.Running.{RunsSteps};
 ghost use Rattle.script_runner.specs.Causes.{FinishHasCause};
 
+use crate::Finish;
 use crate::banner::banner_line;
-use crate::entry::variable_entry;
-use crate::make::make_file;
 use crate::say::{count_before, say_lines};
-use crate::{Finish, LineEnd};
-use bool_tables::{Planned, Step};
-use canon_file::var_file;
-use catalogue::{AttachFault, attach, commit};
+use crate::step::take_step;
+use bool_tables::Planned;
+use catalogue::{AttachFault, attach};
 use rec_words::Rec;
-use shelf_model::{FileNo, Station};
+use script_reader::LineEnd;
+use shelf_model::Station;
 
 /// Runs the steps of a job from where the folder stands: attaches the job, says how many lines there
 /// will be, makes and commits each step that isn't committed yet and says the lines that end with it,
@@ -33,7 +32,7 @@ pub fn run_steps<W: Station>(
 ) -> Finish
     requires plan { IsWellFormed n text.now steps.now }
     requires lines { AreLines steps.now lines.now }
-    requires built { IsTrue (are_variables steps.now) }
+    requires built { IsTrue (are_built steps.now) }
     requires room { (16384 ≤ length room.old) × (length room.old ≤ 4194304) }
     ensures content { Told W.tells station.old station.new
         (RunsSteps (record { n = n; text = text.now; steps = steps.now; bytes = job.now }) lines.now result
@@ -53,34 +52,19 @@ pub fn run_steps<W: Station>(
     };
     let mut rest = lines.split_at(before).1;
     for step in standing.done..steps.len() as u32 {
-        let planned = &steps[step as usize];
-        let bytes = var_file(level_of(n, planned.step), n);
-        let Ok(()) = make_file(FileNo { step, part: 0 }, &bytes, station) else {
-            return Finish::FolderFault;
-        };
-        let Ok(()) = commit(&variable_entry(text, planned, step), station) else {
-            return Finish::FolderFault;
+        let entry = match take_step(n, text, steps, step, room, station) {
+            Ok(entry) => entry,
+            Err(finish) => return finish,
         };
         let (ending, later) = rest.split_at(count_before(step + 1, rest));
-        let Ok(()) = say_lines(ending, station) else {
-            return Finish::SayFault;
-        };
+        match say_lines(steps, ending, &entry, station) {
+            Ok(()) => {}
+            Err(finish) => return finish,
+        }
         rest = later;
     }
     let Ok(()) = station.say(b"done\n") else {
         return Finish::SayFault;
     };
     Finish::Done
-}
-
-/// The level of a variable's step.
-fn level_of(n: u32, step: Step) -> u16
-    requires few { n ≤ 65535 }
-    requires variable { IsTrue (is_variable_of n step) }
-    ensures { step ≡ Step.Var result }
-{
-    match step {
-        Step::Var { level } => level as u16,
-        _ => unreachable!(),
-    }
 }

@@ -1,15 +1,25 @@
-ghost use Rattle.std.specs.Prelude.{◌≡◌, ◌≤◌, ◌++◌, IsTrue, OnOk, length, take, drop, nat_lt};
-ghost use Rattle.std.specs.List.{flat_map, list_all};
-ghost use Rattle.shelf_model.specs.World.{said};
+//! The lines that a run says.
+ghost use Rattle.std.specs.Prelude.{◌≡◌, ◌⊎◌, ◌+◌, ◌<◌, ◌≤◌, [], ◌∷◌, IsTrue, IfOk, IfErr, length, take, drop, get_or, nat_le, nat_lt};
+ghost use Rattle.std.specs.List.{list_all};
+ghost use Rattle.shelf_model.specs.World.{now};
 ghost use Rattle.shelf_model.specs.Calls.{Told};
-ghost use Rattle.shelf_model.specs.Faults.{OnlySay};
-ghost use Rattle.script_runner.specs.Lines.{rise_from};
-ghost use Rattle.script_runner.specs.Text.{one_node_line};
-ghost use Rattle.script_runner.specs.Running.{SaysOnly};
+ghost use Rattle.shelf_model.specs.Moments.{Ran, Stays};
+ghost use Rattle.catalogue.specs.Counts.{count_in, present};
+ghost use Rattle.catalogue.specs.Commits.{IsReady};
+ghost use Rattle.catalogue.specs.Entries.{IsEntryOf};
+ghost use Rattle.sound_image.specs.Jobs.{no_step};
+ghost use Rattle.sound_image.specs.Entries.{kind_of};
+ghost use Rattle.script_reader.specs.Lines.{rise_from};
+ghost use Rattle.script_runner.specs.StepRuns.{SaysLines, IsReadFault};
+ghost use Rattle.script_runner.specs.Causes.{StopHasCause};
 
-use crate::LineEnd;
-use crate::line::nodes_line;
-use shelf_model::{Failed, Station};
+use crate::Finish;
+use crate::line::answer_line;
+use bool_tables::Planned;
+use catalogue::Entry;
+use script_reader::LineEnd;
+use shelf_model::{Shelf, Station, StreamFault};
+use step_engine::{entry_of_kind, kind_of};
 
 /// How many lines come before a step: as they rise, these are the first of them.
 pub(crate) fn count_before(step: u32, lines: &[LineEnd]) -> usize
@@ -26,16 +36,76 @@ pub(crate) fn count_before(step: u32, lines: &[LineEnd]) -> usize
     lines.len()
 }
 
-/// Says lines, each of a diagram with one node.
-pub(crate) fn say_lines<W: Station>(lines: &[LineEnd], station: &mut W) -> Result<(), Failed>
+/// The entry of a committed step: the one at hand, or as it is read from the folder.
+fn shown_entry<S: Shelf>(
+    steps: &[Planned],
+    k: u32,
+    made: &Entry,
+    shelf: &mut S,
+) -> Result<Entry, Finish>
+    requires within { k < length steps.now }
+    requires committed { IsTrue (S.tells shelf.old) → k < count_in (present (now (S.world shelf.old)).folder) }
+    ensures content { Told S.tells shelf.old shelf.new
+        (Ran (Stays (now (S.world shelf.old))) (S.world shelf.old) (S.world shelf.new)) }
+    ensures shown { IfOk result (λ e. (k ≡ made.now.number × (e ≡ made.now))
+        ⊎ (IsTrue (S.tells shelf.new) → IsEntryOf k (present (now (S.world shelf.old)).folder) e)) }
+    ensures damaged { IfErr result (λ finish. IsTrue (S.tells shelf.new) →
+        IsReadFault k (kind_of (get_or steps.now k no_step).step) (present (now (S.world shelf.old)).folder) finish) }
+    ensures causes { StopHasCause (S.faults shelf.old) (S.faults shelf.new) result }
+{
+    if k == made.number {
+        return Ok(*made);
+    }
+    match entry_of_kind(k, kind_of(steps[k as usize].step), shelf) {
+        Ok(entry) => Ok(entry),
+        Err(StreamFault::Damaged { file, at }) => Err(Finish::Damaged { file, at }),
+        Err(StreamFault::Shelf) => Err(Finish::FolderFault),
+    }
+}
+
+/// Says the line that shows the answer of a committed step, the last of which has the entry at hand.
+fn say_line<W: Station>(
+    steps: &[Planned],
+    line: &LineEnd,
+    made: &Entry,
+    station: &mut W,
+) -> Result<(), Finish>
+    requires within { line.now.shows < length steps.now }
+    requires ready { IsTrue (W.tells station.old) → IsReady (made.now.number + 1) (now (W.world station.old)).folder }
+    requires shown { line.now.shows ≤ made.now.number }
     ensures content { Told W.tells station.old station.new
-        (SaysOnly (flat_map one_node_line lines.now) (W.world station.old) (W.world station.new)) }
-    ensures said { OnOk result (IsTrue (W.tells station.new) →
-        said (W.world station.new) ≡ said (W.world station.old) ++ flat_map one_node_line lines.now) }
-    ensures faults { OnlySay (W.faults station.old) (W.faults station.new) result }
+        (SaysLines steps.now (made.now.number + 1) (line.now ∷ []) made.now result (W.world station.old) (W.world station.new)) }
+    ensures causes { StopHasCause (W.faults station.old) (W.faults station.new) result }
+{
+    let entry = shown_entry(steps, line.shows, made, station)?;
+    let text = answer_line(
+        line.line,
+        steps[line.shows as usize].step,
+        entry.answer,
+        entry.count,
+    );
+    match station.say(text.as_str().as_bytes()) {
+        Ok(()) => Ok(()),
+        Err(_) => Err(Finish::SayFault),
+    }
+}
+
+/// Says lines, each of which shows the answer of a committed step, the last of which has the entry at hand.
+pub(crate) fn say_lines<W: Station>(
+    steps: &[Planned],
+    lines: &[LineEnd],
+    made: &Entry,
+    station: &mut W,
+) -> Result<(), Finish>
+    requires within { made.now.number < length steps.now }
+    requires ready { IsTrue (W.tells station.old) → IsReady (made.now.number + 1) (now (W.world station.old)).folder }
+    requires shown { IsTrue (list_all (λ line. nat_le line.shows made.now.number) lines.now) }
+    ensures content { Told W.tells station.old station.new
+        (SaysLines steps.now (made.now.number + 1) lines.now made.now result (W.world station.old) (W.world station.new)) }
+    ensures causes { StopHasCause (W.faults station.old) (W.faults station.new) result }
 {
     for line in lines {
-        station.say(nodes_line(line.line, 1).as_str().as_bytes())?;
+        say_line(steps, line, made, station)?;
     }
     Ok(())
 }

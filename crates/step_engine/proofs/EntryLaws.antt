@@ -143,21 +143,28 @@ diagram_made [] j d h = absurd cc
 diagram_made (s ∷ steps) zero d h = h
 diagram_made (s ∷ steps) (suc j) d h = diagram_made steps j d h
 
+-- the operand of a size in a well-formed plan is a diagram
+pub operand_kind : (n : ℕ) (text : List ℕ) (steps : List Planned) (k operand : ℕ) → k < length steps → IsWellFormed n text steps → (get_or steps k no_step).step ≡ Size operand
+    → operand < k → kind_of (get_or steps operand no_step).step ≡ 1
+operand_kind n text steps k operand within plan size below =
+    let live : IsTrue (list_all (is_live (take k steps)) (operand ∷ [])) =
+    subst (λ s. IsTrue (list_all (is_live (take k steps)) (operands s))) size
+    (operands_live n text (take k steps) (get_or steps k no_step) (follows_at n text steps k no_step within plan)) in
+    let diagram : IsTrue (is_diagram (take k steps) operand) =
+    first_true (is_diagram (take k steps) operand) (not (list_any (λ (s : Planned). drops operand s.step) (take k steps)))
+    (first_true (is_live (take k steps) operand) true live) in
+    diagram_kind (get_or steps operand no_step).step
+    (subst (λ (q : Planned). IsTrue (makes_diagram q.step)) (get_or-take k steps operand no_step below) (diagram_made (take k steps) operand no_step diagram))
+
 -- where the folder holds the steps before, the entry of a size's operand isn't damaged
 pub size_is_sound : (job : Job) (k operand : ℕ) (p : Planned) (fault : StreamFault) (folder : Folder) → k < length job.steps → IsWellFormed job.n job.text job.steps
     → step_at job k ≡ p → p.step ≡ Size operand → operand < k → Holds job k folder → IsKindFault operand 1 (present folder) fault → fault ≡ stream.Shelf
 size_is_sound job k operand p stream.Shelf folder within plan p_is size below holds is = refl
 size_is_sound job k operand p (stream.Damaged f at) folder within plan p_is size below holds is =
     let found = entry_stands job k operand folder holds below in
-    let live : IsTrue (list_all (is_live (take k job.steps)) (operand ∷ [])) =
-    subst (λ s. IsTrue (list_all (is_live (take k job.steps)) (operands s))) (ap (λ (q : Planned). q.step) p_is ∙ size)
-    (operands_live job.n job.text (take k job.steps) (step_at job k) (follows_at job.n job.text job.steps k no_step within plan)) in
-    let diagram : IsTrue (is_diagram (take k job.steps) operand) =
-    first_true (is_diagram (take k job.steps) operand) (not (list_any (λ (s : Planned). drops operand s.step) (take k job.steps)))
-    (first_true (is_live (take k job.steps) operand) true live) in
-    let made : IsTrue (makes_diagram (step_at job operand).step) =
-    subst (λ (q : Planned). IsTrue (makes_diagram q.step)) (get_or-take k job.steps operand no_step below) (diagram_made (take k job.steps) operand no_step diagram) in
-    absurd (is.2 found.0 (record { entry = found.1.entry_is; number = found.1.number_is; bytes = found.2 }) (found.1.kind_is ∙ diagram_kind (step_at job operand).step made))
+    let kind : kind_of (step_at job operand).step ≡ 1 =
+    operand_kind job.n job.text job.steps k operand within plan (ap (λ (q : Planned). q.step) p_is ∙ size) below in
+    absurd (is.2 found.0 (record { entry = found.1.entry_is; number = found.1.number_is; bytes = found.2 }) (found.1.kind_is ∙ kind))
 
 -- a step that was found in its place
 pub place_step : (job : Job) (k : ℕ) (p : Planned) (s : Step) → step_at job k ≡ p → p.step ≡ s → (step_at job k).step ≡ s

@@ -1,4 +1,4 @@
 mod Written
 pub mod PlanLaws
 mod TableLaws
-mod EntryLaws
+pub mod EntryLaws

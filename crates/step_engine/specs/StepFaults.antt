@@ -32,6 +32,13 @@ IsStepFault (Leq left right) r fault = fault ≡ sort.Shelf
 IsStepFault (Eval operand at) r fault = fault ≡ sort.Shelf
 IsStepFault (Size operand) r fault = (found : StreamFault) × (fault ≡ handed_on found) × IsKindFault operand 1 r found
 
+-- the folder failed, or a file of it is damaged
+abbrev pub IsOfFolder : SortFault → Type 0
+IsOfFolder sort.Shelf = Unit
+IsOfFolder (sort.Damaged f at) = Unit
+IsOfFolder sort.RunsSpent = ⊥
+IsOfFolder sort.RoomFull = ⊥
+
 -- a call answered Shelf only where the folder's count rose, and no other count changed
 pub record OnlyStep {T : Type 0} (old new : Faults) (result : Result T SortFault) : Type 0 where
   pub later : old.folder ≤ new.folder

@@ -10,7 +10,7 @@ ghost use Rattle.sound_image.specs.Entries.{IsEntryOfStep};
 ghost use Rattle.sound_image.specs.Holds.{Holds, IsMade};
 ghost use Rattle.step_engine.specs.Simple.{MayRun, IsStepOf};
 ghost use Rattle.step_engine.specs.OneFile.{OnlyFile};
-ghost use Rattle.step_engine.specs.StepFaults.{IsStepFault, OnlyStep};
+ghost use Rattle.step_engine.specs.StepFaults.{IsStepFault, IsOfFolder, OnlyStep};
 
 use crate::diagrams::{write_constant, write_variable};
 use crate::entries::{diagram_entry, nameless_entry};
@@ -46,6 +46,7 @@ pub fn run_step<S: Shelf>(
         Holds job number (now (S.world shelf.old)).folder → fault ≡ sort.Shelf) }
     ensures damaged { IfErr result (λ fault. IsTrue (S.tells shelf.new) →
         IsStepFault planned.now.step (present (now (S.world shelf.new)).folder) fault) }
+    ensures which { IfErr result IsOfFolder }
     ensures faults { OnlyStep (S.faults shelf.old) (S.faults shelf.new) result }
 {
     let file = FileNo {

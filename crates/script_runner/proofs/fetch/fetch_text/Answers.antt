@@ -1,7 +1,6 @@
-use Rattle.std.proofs.Common.{rules, ◌≡◌, ◌+◌, ◌<◌, ◌≤◌, ◌∙◌, IsTrue, vec_len, ℕ, length, ◌++◌, take, drop, arith, sym, ap, subst}
+use Rattle.std.proofs.Common.{rules, ◌≡◌, ◌+◌, ◌<◌, ◌≤◌, ◌∙◌, length, ◌++◌, take, drop, arith, sym, ap, subst}
 use Rattle.std.proofs.lemmas.List.{take-append-le}
 use Rattle.std.proofs.lemmas.Grind.{common_steps}
-use Rattle.shelf_model.specs.Faults.{Faults}
 use Rattle.script_runner.proofs.FetchRuns.{IsFront, fetched_on, all_is_read, more_is_read}
 use Rattle.script_runner.proofs.fetch.fetch_text.Goals as goal
 

@@ -1,4 +1,4 @@
-use Rattle.std.proofs.Common.{◌≡◌, ◌+◌, ◌-◌, ◌≤◌, ℕ, IsTrue, vec_len, length}
+use Rattle.std.proofs.Common.{◌≡◌, ◌+◌, ◌-◌, ◌≤◌, IsTrue, vec_len, length}
 use Rattle.shelf_model.specs.Calls.{Told}
 use Rattle.script_runner.specs.Fetching.{OnlyFetched, OnlyTexts}
 use Rattle.script_runner.proofs.FetchRuns.{IsFront}

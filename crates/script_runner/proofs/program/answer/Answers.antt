@@ -1,18 +1,10 @@
-use Rattle.std.proofs.Common.{◌≡◌, ◌∙◌, ◌⊎◌, ℕ, List, length, map, sym, ap, subst, inl, inr, refl, string_bytes, rules, arith}
-use Rattle.std.specs.Prelude.{IsTrue, Some, Err}
+use Rattle.std.proofs.Common.{◌≡◌, ◌∙◌, map, sym, ap, subst, string_bytes, arith}
+use Rattle.std.specs.Prelude.{Err}
 use Rattle.bool_tables.specs.Plans.{IsWellFormed}
-use Rattle.shelf_model.specs.Faults.{Rose}
-use Rattle.script_runner.specs.declared.plan.Plan.{Plan}
-use Rattle.script_runner.specs.Words.{Reading, reading_of}
-use Rattle.script_runner.specs.Script.{Script, IsAccepted, first_line}
-use Rattle.script_runner.specs.Plans.{plan_of}
+use Rattle.script_runner.specs.Words.{Reading}
 use Rattle.script_runner.specs.Status.{status_of}
 use Rattle.script_runner.specs.Fetching.{IsText}
-use Rattle.script_runner.specs.Lines.{AreLines}
-use Rattle.script_runner.specs.Built.{are_variables}
 use Rattle.script_runner.specs.JobOf.{job_bytes}
-use Rattle.script_runner.proofs.Planned.{is_planned}
-use Rattle.script_runner.proofs.PlannedLines.{are_lines, only_variables}
 use Rattle.script_runner.proofs.Endings.{answers_refused, answers_run}
 use Rattle.script_runner.proofs.program.answer.Goals as goal
 
@@ -35,20 +27,8 @@ returns-in-Err-Word-clause-content g c =
 
 pub run_plan-requires-clause-plan : goal.run_plan-requires-clause-plan
 run_plan-requires-clause-plan g c =
-    let read : (script : Script) × IsAccepted c.deref.result.now script × (c.in-Ok-read_script.plan ≡ plan_of script) = c.in-Ok-read_script.ensures.read in
     let same : c.deref.result.now ≡ c.deref-3.result.now = c.deref.ensures.value ∙ sym c.deref-3.ensures.value in
-    subst (λ (p : Plan). IsWellFormed p.n c.deref-3.result.now p.steps) (sym read.2)
-    (subst (λ bytes. IsWellFormed (plan_of read.0).n bytes (plan_of read.0).steps) same (is_planned c.deref.result.now read.0 read.1).well_formed)
-
-pub run_plan-requires-clause-lines : goal.run_plan-requires-clause-lines
-run_plan-requires-clause-lines g c =
-    let read : (script : Script) × IsAccepted c.deref.result.now script × (c.in-Ok-read_script.plan ≡ plan_of script) = c.in-Ok-read_script.ensures.read in
-    subst (λ (p : Plan). AreLines p.steps p.lines) (sym read.2) (are_lines read.0)
-
-pub run_plan-requires-clause-built : goal.run_plan-requires-clause-built
-run_plan-requires-clause-built g c =
-    let read : (script : Script) × IsAccepted c.deref.result.now script × (c.in-Ok-read_script.plan ≡ plan_of script) = c.in-Ok-read_script.ensures.read in
-    subst (λ (p : Plan). IsTrue (are_variables p.steps)) (sym read.2) (only_variables read.0.variables (length (first_line read.0.variables)) read.0.requests)
+    subst (λ bytes. IsWellFormed c.in-Ok-read_script.plan.n bytes c.in-Ok-read_script.plan.steps) same c.in-Ok-read_script.ensures.well_formed
 
 pub returns-clause-content : goal.returns-clause-content
 returns-clause-content g c =

@@ -1,13 +1,12 @@
-use Rattle.std.proofs.Common.{◌≡◌, ◌∙◌, List, sym, ap, subst, inl, inr, refl}
+use Rattle.std.proofs.Common.{◌∙◌, List, subst, arith}
 use Rattle.shelf_model.specs.Calls.{Told}
 use Rattle.bool_tables.specs.declared.steps.Planned.{Planned}
 use Rattle.sound_image.specs.Jobs.{Job}
-use Rattle.script_runner.specs.declared.plan.LineEnd.{LineEnd}
-use Rattle.script_runner.specs.declared.finish.Finish.{Finish}
+use Rattle.script_reader.specs.declared.plan.LineEnd.{LineEnd}
 use Rattle.script_runner.specs.declared.finish.Finish.TheVariants.{Done, OtherJob, FolderFault, SayFault, Damaged}
 use Rattle.script_runner.specs.declared.ending.Ending.TheVariants as ending
 use Rattle.script_runner.specs.Running.{RunsSteps}
-use Rattle.script_runner.proofs.EnteredRuns.{enter_failed, entered_runs, entered_refuses, why_other, why_damaged}
+use Rattle.script_runner.proofs.EnteredRuns.{enter_failed, entered_runs, entered_other, entered_damage, said_or, whole_line}
 use Rattle.script_runner.proofs.program.run_plan.Goals as goal
 
 pub returns-in_default-clause-content : goal.returns-in_default-clause-content
@@ -25,7 +24,7 @@ returns-in-Done-clause-content g c =
     (subst (λ (ss : List Planned). Told g.W.Shelf.tells c.enter.new.self c.run_steps-finish.new.station
     (RunsSteps (record { n = c.args.plan.now.n; text = c.args.text.now; steps = ss; bytes = c.args.job.now }) c.items-2.result.now Done (g.W.Shelf.world c.enter.new.self) (g.W.Shelf.world c.run_steps-finish.new.station))) c.items.ensures
     c.in-Done.ensures.content) in
-    entered_runs g.W.Shelf.tells g.W.Shelf.world c.args.folder.now job c.args.plan.now.lines Done 0 c.in-Ok.field-0 _ _ _ (inl (refl, refl)) c.in-Ok.ensures.content run
+    entered_runs g.W.Shelf.tells g.W.Shelf.world c.args.folder.now job c.args.plan.now.lines Done c.in-Ok.field-0 _ _ _ (λ x. x) c.in-Ok.ensures.content run
 
 pub returns-in-FolderFault-clause-content : goal.returns-in-FolderFault-clause-content
 returns-in-FolderFault-clause-content g c =
@@ -37,7 +36,7 @@ returns-in-FolderFault-clause-content g c =
     (subst (λ (ss : List Planned). Told g.W.Shelf.tells c.enter.new.self c.run_steps-finish.new.station
     (RunsSteps (record { n = c.args.plan.now.n; text = c.args.text.now; steps = ss; bytes = c.args.job.now }) c.items-2.result.now FolderFault (g.W.Shelf.world c.enter.new.self) (g.W.Shelf.world c.run_steps-finish.new.station))) c.items.ensures
     c.in-FolderFault.ensures.content) in
-    entered_runs g.W.Shelf.tells g.W.Shelf.world c.args.folder.now job c.args.plan.now.lines FolderFault 7 c.in-Ok.field-0 _ _ _ (inr (inl refl)) c.in-Ok.ensures.content run
+    entered_runs g.W.Shelf.tells g.W.Shelf.world c.args.folder.now job c.args.plan.now.lines FolderFault c.in-Ok.field-0 _ _ _ (λ x. x) c.in-Ok.ensures.content run
 
 pub returns-in-SayFault-clause-content : goal.returns-in-SayFault-clause-content
 returns-in-SayFault-clause-content g c =
@@ -49,7 +48,7 @@ returns-in-SayFault-clause-content g c =
     (subst (λ (ss : List Planned). Told g.W.Shelf.tells c.enter.new.self c.run_steps-finish.new.station
     (RunsSteps (record { n = c.args.plan.now.n; text = c.args.text.now; steps = ss; bytes = c.args.job.now }) c.items-2.result.now SayFault (g.W.Shelf.world c.enter.new.self) (g.W.Shelf.world c.run_steps-finish.new.station))) c.items.ensures
     c.in-SayFault.ensures.content) in
-    entered_runs g.W.Shelf.tells g.W.Shelf.world c.args.folder.now job c.args.plan.now.lines SayFault 8 c.in-Ok.field-0 _ _ _ (inr (inr refl)) c.in-Ok.ensures.content run
+    entered_runs g.W.Shelf.tells g.W.Shelf.world c.args.folder.now job c.args.plan.now.lines SayFault c.in-Ok.field-0 _ _ _ (λ x. x) c.in-Ok.ensures.content run
 
 pub returns-in-OtherJob-clause-content : goal.returns-in-OtherJob-clause-content
 returns-in-OtherJob-clause-content g c =
@@ -61,11 +60,10 @@ returns-in-OtherJob-clause-content g c =
     (subst (λ (ss : List Planned). Told g.W.Shelf.tells c.enter.new.self c.run_steps-finish.new.station
     (RunsSteps (record { n = c.args.plan.now.n; text = c.args.text.now; steps = ss; bytes = c.args.job.now }) c.items-2.result.now (OtherJob c.in-OtherJob.at) (g.W.Shelf.world c.enter.new.self) (g.W.Shelf.world c.run_steps-finish.new.station))) c.items.ensures
     c.in-OtherJob.ensures.content) in
-    entered_refuses g.W.Shelf.tells g.W.Shelf.world c.args.folder.now job c.args.plan.now.lines (OtherJob c.in-OtherJob.at) ending.OtherJob c.say_refusal.result c.as_bytes.result.now c.in-Ok.field-0 _ _ _ _
-    (inl refl) tt c.say_refusal.ensures.which
-    (λ r. why_other job c.args.plan.now.lines c.in-OtherJob.at c.as_bytes.result.now (g.W.Shelf.world c.enter.new.self) (g.W.Shelf.world c.run_steps-finish.new.station)
-    (c.as_bytes.ensures.value ∙ c.as_str.ensures.value ∙ c.other_job_line.ensures.text) r)
-    c.in-Ok.ensures.content run c.say_refusal.ensures.content c.say_refusal.ensures.whole
+    entered_other g.W.Shelf.tells g.W.Shelf.world c.args.folder.now job c.args.plan.now.lines c.in-OtherJob.at _ c.as_bytes.result.now c.in-Ok.field-0 _ _ _ _
+    (said_or ending.OtherJob c.say_refusal.result c.say_refusal.ensures.which) (c.as_bytes.ensures.value ∙ c.as_str.ensures.value ∙ c.other_job_line.ensures.text)
+    c.in-Ok.ensures.content run c.say_refusal.ensures.content
+    (λ five. c.say_refusal.ensures.whole (whole_line ending.OtherJob c.say_refusal.result (λ x. omega (arith, x)) c.say_refusal.ensures.which five))
 
 pub returns-in-Damaged-clause-content : goal.returns-in-Damaged-clause-content
 returns-in-Damaged-clause-content g c =
@@ -77,8 +75,7 @@ returns-in-Damaged-clause-content g c =
     (subst (λ (ss : List Planned). Told g.W.Shelf.tells c.enter.new.self c.run_steps-finish.new.station
     (RunsSteps (record { n = c.args.plan.now.n; text = c.args.text.now; steps = ss; bytes = c.args.job.now }) c.items-2.result.now (Damaged c.in-Damaged.file c.in-Damaged.at) (g.W.Shelf.world c.enter.new.self) (g.W.Shelf.world c.run_steps-finish.new.station))) c.items.ensures
     c.in-Damaged.ensures.content) in
-    entered_refuses g.W.Shelf.tells g.W.Shelf.world c.args.folder.now job c.args.plan.now.lines (Damaged c.in-Damaged.file c.in-Damaged.at) ending.Damaged c.say_refusal-in-Damaged.result c.as_bytes-in-Damaged.result.now c.in-Ok.field-0 _ _ _ _
-    (inr refl) tt c.say_refusal-in-Damaged.ensures.which
-    (λ r. why_damaged job c.args.plan.now.lines c.in-Damaged.file c.in-Damaged.at c.as_bytes-in-Damaged.result.now (g.W.Shelf.world c.enter.new.self) (g.W.Shelf.world c.run_steps-finish.new.station)
-    (c.as_bytes-in-Damaged.ensures.value ∙ c.as_str-in-Damaged.ensures.value ∙ c.damaged_line.ensures.text) r)
-    c.in-Ok.ensures.content run c.say_refusal-in-Damaged.ensures.content c.say_refusal-in-Damaged.ensures.whole
+    entered_damage g.W.Shelf.tells g.W.Shelf.world c.args.folder.now job c.args.plan.now.lines c.in-Damaged.file c.in-Damaged.at _ c.as_bytes-in-Damaged.result.now c.in-Ok.field-0 _ _ _ _
+    (said_or ending.Damaged c.say_refusal-in-Damaged.result c.say_refusal-in-Damaged.ensures.which) (c.as_bytes-in-Damaged.ensures.value ∙ c.as_str-in-Damaged.ensures.value ∙ c.damaged_line.ensures.text)
+    c.in-Ok.ensures.content run c.say_refusal-in-Damaged.ensures.content
+    (λ ten. c.say_refusal-in-Damaged.ensures.whole (whole_line ending.Damaged c.say_refusal-in-Damaged.result (λ x. omega (arith, x)) c.say_refusal-in-Damaged.ensures.which ten))

@@ -2,8 +2,7 @@ use Rattle.std.proofs.Common.{◌≡◌, ◌≤◌, ℕ, List, length}
 use Rattle.std.specs.Prelude.{IsTrue}
 use Rattle.std.specs.List.{list_all}
 use Rattle.shelf_model.specs.Calls.{Told}
-use Rattle.sound_image.specs.Jobs.{Job}
-use Rattle.script_runner.specs.Lines.{rise_from, shows_past}
+use Rattle.script_reader.specs.Lines.{rise_from, shows_past}
 use Rattle.script_runner.proofs.Turns.{Turn}
 use Rattle.script_runner.proofs.run.run_steps.Given as goal
 

@@ -1,4 +1,3 @@
-use Rattle.std.proofs.Common.{◌≤◌, arith}
 use Rattle.script_runner.specs.Said.{no_line}
 use Rattle.script_runner.proofs.LineOrder.{rises_behind, rises_later}
 use Rattle.script_runner.proofs.say.count_before.Goals as goal

@@ -1,7 +1,6 @@
-use Rattle.std.proofs.Common.{◌≡◌, nat_lt, take, drop}
+use Rattle.std.proofs.Common.{nat_lt, take}
 use Rattle.std.specs.Prelude.{IsTrue}
 use Rattle.std.specs.List.{list_all}
-use Rattle.script_runner.specs.Lines.{rise_from}
 use Rattle.script_runner.proofs.say.count_before.Given as goal
 
 -- the lines so far come before the step

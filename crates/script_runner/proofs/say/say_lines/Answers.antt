@@ -1,25 +1,31 @@
-use Rattle.std.proofs.Common.{◌≡◌, ◌∙◌, ◌<◌, length, get_or, arith, rules}
+use Rattle.std.proofs.Common.{◌∙◌, ◌<◌, ◌+◌, length, arith, sym, subst}
+use Rattle.shelf_model.specs.Calls.{Told}
 use Rattle.script_runner.specs.Said.{no_line}
-use Rattle.script_runner.specs.Text.{one_node_line}
-use Rattle.script_runner.proofs.Saying.{saying_line, told_first}
+use Rattle.script_runner.specs.StepRuns.{SaysLines}
+use Rattle.script_runner.proofs.SayingLines.{line_more, lines_stopped, err_is}
 use Rattle.script_runner.proofs.say.say_lines.Goals as goal
 
-pub returns-in_err-say-clause-content : goal.returns-in_err-say-clause-content
-returns-in_err-say-clause-content g c =
+pub returns-in_err-say_line-clause-content : goal.returns-in_err-say_line-clause-content
+returns-in_err-say_line-clause-content g c =
     let within : c.loop-line.line-index < length c.args.lines.now = omega arith in
-    let piece : c.as_bytes.result.now ≡ one_node_line (get_or c.args.lines.now c.loop-line.line-index no_line) =
-    c.as_bytes.ensures.value ∙ c.as_str.ensures.value ∙ c.nodes_line.ensures.text in
-    told_first g.W.Shelf.tells g.W.Shelf.world _ _ _ _
-    (saying_line g.W.Shelf.tells g.W.Shelf.world one_node_line c.args.lines.now c.loop-line.line-index no_line _ _ _ _ _
-    within piece c.loop-line.invariant.said c.in_err-say.ensures.content)
+    subst (λ r. Told g.W.Shelf.tells c.args.station.now c.say_line.new.station
+    (SaysLines c.args.steps.now (c.args.made.now.number + 1) c.args.lines.now c.args.made.now r (g.W.Shelf.world c.args.station.now) (g.W.Shelf.world c.say_line.new.station)))
+    (sym (err_is c.from_residual.result c.in_err-say_line.field-0.0 c.from_residual.ensures.1))
+    (lines_stopped g.W.Shelf.tells g.W.Shelf.world c.args.steps.now c.args.made.now c.args.lines.now (c.loop-line.line-index + 1) c.in_err-say_line.field-0.0 _ _
+    (line_more g.W.Shelf.tells g.W.Shelf.world c.args.steps.now c.args.made.now c.args.lines.now c.loop-line.line-index no_line _ _ _ _ _ within c.loop-line.invariant.said c.in_err-say_line.ensures.content))
 
 pub loop-line-preserved : goal.loop-line-preserved
 loop-line-preserved g c =
     let within : c.loop-line.line-index < length c.args.lines.now = omega arith in
-    let piece : c.as_bytes.result.now ≡ one_node_line (get_or c.args.lines.now c.loop-line.line-index no_line) =
-    c.as_bytes.ensures.value ∙ c.as_str.ensures.value ∙ c.nodes_line.ensures.text in
+    let before = c.loop-line.invariant.causes in
+    let now = c.in_ok-say_line.ensures.causes in
     record {
-      said = saying_line g.W.Shelf.tells g.W.Shelf.world one_node_line c.args.lines.now c.loop-line.line-index no_line _ _ _ _ _
-          within piece c.loop-line.invariant.said c.in_ok-say.ensures.content;
-      faults = search rules;
+      said = line_more g.W.Shelf.tells g.W.Shelf.world c.args.steps.now c.args.made.now c.args.lines.now c.loop-line.line-index no_line _ _ _ _ _ within c.loop-line.invariant.said c.in_ok-say_line.ensures.content;
+      causes = record {
+        folder_later = let a = before.folder_later in let b = now.folder_later in omega (arith, a, b);
+        say_later = let a = before.say_later in let b = now.say_later in omega (arith, a, b);
+        text_is = λ path. now.text_is path ∙ before.text_is path;
+        folder_fault = tt;
+        say_fault = tt;
+      };
     }
