@@ -18,7 +18,7 @@ covers [] values = true
 covers (c ∷ cells) [] = true
 covers (c ∷ cells) (v ∷ values) = holds c v && covers cells values
 
--- the value that a cover gives: the output of its rows where some row covers, and the other value where none does
+-- the value that a cover gives: the output of its rows where some row covers, and the other value where none does; the output of no rows is 1
 abbrev pub cover_value : Cover → List Bool → Bool
 cover_value cover values = if list_any (λ row. covers row values) cover.rows then cover.value else not cover.value
 
