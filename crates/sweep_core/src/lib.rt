@@ -1,0 +1,10 @@
+//! Sweeps over diagrams, which work in small turns, and their driver.
+#![tactic(auto)]
+
+mod driver;
+mod sweep;
+mod turn;
+
+pub use driver::drive;
+pub use sweep::Sweep;
+pub use turn::Turn;

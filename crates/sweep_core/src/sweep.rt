@@ -1,0 +1,42 @@
+use crate::Turn;
+use shelf_model::{Shelf, SortFault};
+
+/// Work on diagrams that is done in small turns, each of which handles one item of a queue or of a file.
+///
+/// A sweep is seen by what remains of its job: a relation between the sweep, the folder and the job, which
+/// each turn keeps. A turn changes no file but the sweep's own, and leaves fewer turns.
+pub trait Sweep<'r>: Sized {
+    ghost use Rattle.std.specs.Prelude.{◌≡◌, ℕ, IsTrue, OnOk};
+    ghost use Rattle.shelf_model.specs.declared.file_no.FileNo.{FileNo};
+    ghost use Rattle.shelf_model.specs.World.{World, now};
+    ghost use Rattle.shelf_model.specs.Calls.{Told};
+    ghost use Rattle.shelf_model.specs.Moments.{Ran};
+    ghost use Rattle.run_merge.specs.Faults.{OnlySortShelf};
+    ghost use Rattle.sweep_core.specs.Sweeps.{Falls, Counts, OnlyOwn};
+
+    /// What a sweep of this kind is to do.
+    ghost Job: { Type 0 };
+
+    /// What the sweep has done so far, with what remains of it, does the job.
+    ghost remains: { Self → World → Job → Type 0 };
+
+    /// No more turns than these remain.
+    ghost left: { Self → ℕ };
+
+    /// How many turns it has made.
+    ghost made: { Self → ℕ };
+
+    /// The files that the sweep may change.
+    ghost own: { Self → FileNo → Type 0 };
+
+    /// Handles one item. Once a sweep has ended, each further turn answers so and does nothing.
+    fn turn<S: Shelf>(&mut self, shelf: &mut S) -> Result<Turn, SortFault>
+        ensures falls { Falls (left self.old) (left self.new) result }
+        ensures counts { Counts (made self.old) (made self.new) result }
+        ensures keeps { OnOk result (IsTrue (S.tells shelf.new) → (job : Job) →
+            remains self.old (S.world shelf.old) job → remains self.new (S.world shelf.new) job) }
+        ensures fewer { (f : FileNo) → own self.new f → own self.old f }
+        ensures content { Told S.tells shelf.old shelf.new
+            (Ran (OnlyOwn (own self.old) (now (S.world shelf.old))) (S.world shelf.old) (S.world shelf.new)) }
+        ensures faults { OnlySortShelf (S.faults shelf.old) (S.faults shelf.new) result };
+}
