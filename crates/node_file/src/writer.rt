@@ -133,6 +133,24 @@ impl<'r> NodeWriter<'r> {
         let window = self.window;
         finish_window(window, filling, self.n, root, shelf)
     }
+
+    /// Does the same as `finish` for a writer that is a part of something else. It isn't used again.
+    pub fn end<S: Shelf>(&mut self, root: Ptr, shelf: &mut S) -> Result<u64, StreamFault>
+        requires in_step { IsTrue (S.tells shelf.old) → InStep (filling_of self.old) (S.world shelf.old) }
+        ensures same { filling_of self.new ≡ filling_of self.old }
+        ensures variables { self.new.n ≡ self.old.n }
+        ensures count { IfOk result (λ count. count ≡ count_of (filling_of self.old)) }
+        ensures fits { IfOk result (λ count. (count + 1) * 24 ≤ longest) }
+        ensures firm { OnOk result (IsTrue (S.tells shelf.new) → let w = filling_of self.old in
+            file (S.world shelf.new) w.file
+            ≡ firm_file (written_of self.old (S.world shelf.old) ++ trailer_bytes root (count_of w) self.old.n)) }
+        ensures cause { IfErr result (λ e. e ≡ StreamFault.Shelf) }
+        ensures content { Told S.tells shelf.old shelf.new
+            (Wrote 3 (filling_of self.old).file (S.world shelf.old) (S.world shelf.new)) }
+        ensures faults { OnlyShelf (S.faults shelf.old) (S.faults shelf.new) result }
+    {
+        finish_window(self.window, self.filling, self.n, root, shelf)
+    }
 }
 
 // Ends the file of a writer.
