@@ -16,6 +16,13 @@ pub(crate) const THREE_VARIABLES: &[u8] = b"vars a b c\nvar f a\nvar g b\nvar h 
 /// What its run says in an empty folder.
 pub(crate) const THREE_TEXT: &[u8] = b"start 3\n2: nodes 1\n3: nodes 1\n4: nodes 1\ndone\n";
 
+/// A script that drops a diagram.
+pub(crate) const DROPPING: &[u8] = b"vars a b\nconst z 0\nvar f b\nsize f\ndrop z\n";
+
+/// What its run says in an empty folder.
+pub(crate) const DROPPING_TEXT: &[u8] =
+    b"start 4\n2: nodes 0\n3: nodes 1\n4: nodes 1\n5: dropped\ndone\n";
+
 /// A station with a script at the path that `RUN` names.
 pub(crate) fn bench_with(alloc: Global, script: &[u8]) -> Result<Bench, Fail> {
     let mut bench = Bench::empty(alloc);

@@ -1,8 +1,9 @@
 // A run of three requests that is stopped at any of its calls, or of which any one call fails, and is then run again.
 use crate::bench_run::{RUN, THREE_TEXT, THREE_VARIABLES, bench_with, run};
 use crate::files::same_files;
+use crate::parts_said::{Part, front_of, goes_on};
 use shelf_memory::{Bench, Choice};
-use std::alloc::{AllocError, Global};
+use std::alloc::Global;
 use std::test::Fail;
 
 /// The calls of a run in an empty folder: three before the folder is read, ten that store the job, one that says how
@@ -10,7 +11,7 @@ use std::test::Fail;
 const CALLS: u64 = 42;
 
 /// What a run may have said before it was stopped, and how many steps' lines are in it.
-const FRONTS: [(usize, &[u8]); 6] = [
+const FRONTS: [Part; 6] = [
     (0, b""),
     (0, b"start 3\n"),
     (1, b"start 3\n2: nodes 1\n"),
@@ -20,7 +21,7 @@ const FRONTS: [(usize, &[u8]); 6] = [
 ];
 
 /// What the next run may say, and how many lines it counts as said before.
-const RESTS: [(usize, &[u8]); 5] = [
+const RESTS: [Part; 5] = [
     (0, THREE_TEXT),
     (
         0,
@@ -41,28 +42,6 @@ fn status_at(call: u64) -> u8 {
     }
 }
 
-/// The front part of the text that was said, and how many steps' lines are in it.
-fn front_of(said: &[u8]) -> Option<(usize, &'static [u8])> {
-    for (lines, front) in FRONTS {
-        if said == front {
-            return Some((lines, front));
-        }
-    }
-    None
-}
-
-/// Whether what was said is this front part and then a whole text that counts at least its lines.
-fn goes_on(alloc: Global, said: &[u8], lines: usize, front: &[u8]) -> Result<bool, AllocError> {
-    for (count, rest) in RESTS {
-        let mut whole = Vec::from_slice(alloc, front)?;
-        whole.extend_from_slice(rest)?;
-        if lines <= count && said == whole.as_slice() {
-            return Ok(true);
-        }
-    }
-    Ok(false)
-}
-
 /// A folder in which the script was run with no stop.
 fn unstopped(alloc: Global) -> Result<Bench, Fail> {
     let mut bench = bench_with(alloc, THREE_VARIABLES)?;
@@ -78,10 +57,10 @@ fn first_loss(alloc: Global, choice: Choice) -> Result<Option<u64>, Fail> {
         let mut first = bench_with(alloc, THREE_VARIABLES)?;
         first.fail_from(call);
         let status = run(alloc, &RUN, &mut first)?;
-        let (lines, _) = front_of(first.said()).ok_or("no front part")?;
+        let (lines, _) = front_of(&FRONTS, first.said()).ok_or("no front part")?;
         let mut next = first.stop(choice)?;
         let next_status = run(alloc, &RUN, &mut next)?;
-        let kept = goes_on(alloc, next.said(), lines, b"")? && same_files(&next, &whole);
+        let kept = goes_on(alloc, &RESTS, next.said(), lines, b"")? && same_files(&next, &whole);
         if status != status_at(call) || next_status != 0 || !kept {
             return Ok(Some(call));
         }
@@ -136,9 +115,12 @@ fn makes_the_same_files_after_a_call_that_failed(rt: HostRuntime) -> Result<(), 
             status_at(call),
             "{call}"
         );
-        let (lines, front) = front_of(bench.said()).ok_or("no front part")?;
+        let (lines, front) = front_of(&FRONTS, bench.said()).ok_or("no front part")?;
         assert_eq!(rt; run(rt.alloc(), &RUN, &mut bench)?, 0, "{call}");
-        assert!(rt; goes_on(rt.alloc(), bench.said(), lines, front)?, "{call}");
+        assert!(rt;
+            goes_on(rt.alloc(), &RESTS, bench.said(), lines, front)?,
+            "{call}"
+        );
         assert!(rt; same_files(&bench, &whole), "{call}");
     }
     Ok(())

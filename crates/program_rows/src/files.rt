@@ -22,6 +22,14 @@ pub(crate) const STEP_GATE: FileNo = FileNo {
     part: 3,
 };
 
+/// The node file of the first step.
+pub(crate) const FIRST: FileNo = FileNo { step: 0, part: 0 };
+
+/// The file of the constant 0 of two variables: the trailer alone, with the root, no nodes and two variables.
+pub(crate) const ZERO_OF_TWO: &[u8; 24] = b"\x80\x00\x00\x00\x00\x00\x00\x00\
+      \x00\x00\x00\x00\x00\x00\x00\x00\
+      \x00\x00\x00\x00\x00\x00\x00\x02";
+
 /// The entry of a variable's step: its number, kind 1, a name of one letter, one node, one turn, and 3 as its next part.
 pub(crate) fn entry(step: u8, name: u8) -> [u8; 128] {
     let mut bytes = [0; 128];
@@ -35,11 +43,10 @@ pub(crate) fn entry(step: u8, name: u8) -> [u8; 128] {
     bytes
 }
 
-/// The files of a folder of three steps but for its gates, and some that stay empty.
-const FILES: [FileNo; 14] = [
+/// The files of a folder of three or four steps but for its gates and the first step's node file, and some that stay empty.
+const FILES: [FileNo; 15] = [
     JOB,
     CATALOGUE,
-    FileNo { step: 0, part: 0 },
     FileNo { step: 0, part: 1 },
     FileNo { step: 0, part: 2 },
     FileNo { step: 0, part: 3 },
@@ -51,10 +58,17 @@ const FILES: [FileNo; 14] = [
     FileNo { step: 2, part: 1 },
     FileNo { step: 2, part: 2 },
     FileNo { step: 3, part: 0 },
+    FileNo { step: 3, part: 1 },
+    FileNo { step: 4, part: 0 },
 ];
 
 /// Whether the files of two folders read alike, and their gates are as long: what the bytes of a gate are means nothing.
 pub(crate) fn same_files(a: &Bench, b: &Bench) -> bool {
+    a.file(FIRST) == b.file(FIRST) && same_files_but_the_first(a, b)
+}
+
+/// The same, whatever the first step's node file is.
+pub(crate) fn same_files_but_the_first(a: &Bench, b: &Bench) -> bool {
     for f in FILES {
         if a.file(f) != b.file(f) {
             return false;

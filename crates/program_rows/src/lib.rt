@@ -5,6 +5,10 @@
 #[cfg(test)]
 mod bench_run;
 #[cfg(test)]
+mod dropping;
+#[cfg(test)]
+mod dropping_stops;
+#[cfg(test)]
 mod every_stop;
 #[cfg(test)]
 mod failing_calls;
@@ -12,6 +16,8 @@ mod failing_calls;
 mod files;
 #[cfg(test)]
 mod node_files;
+#[cfg(test)]
+mod parts_said;
 #[cfg(test)]
 mod refusals;
 #[cfg(test)]

@@ -1,6 +1,6 @@
 // What accepted scripts say, and the bytes that they leave. Numbers in files have the highest byte first.
 use crate::bench_run::{ONE_VARIABLE, RUN, bench_with, run};
-use crate::files::{CATALOGUE, JOB, JOB_GATE, STEP_GATE, entry};
+use crate::files::{CATALOGUE, JOB, JOB_GATE, STEP_GATE, ZERO_OF_TWO, entry};
 use shelf_memory::Bench;
 use shelf_model::FileNo;
 use std::test::Fail;
@@ -61,6 +61,22 @@ fn makes_the_file_of_each_request(rt: HostRuntime) -> Result<(), Fail> {
             "{script:?}"
         );
     }
+    Ok(())
+}
+
+#[test]
+fn makes_the_files_of_both_constants(rt: HostRuntime) -> Result<(), Fail> {
+    let one = b"\x80\x00\x00\x00\x00\x00\x00\x01\
+                \x00\x00\x00\x00\x00\x00\x00\x00\
+                \x00\x00\x00\x00\x00\x00\x00\x02";
+    let mut bench = bench_with(rt.alloc(), b"vars a b\nconst z 0\nconst o 1\n")?;
+    assert_eq!(rt; run(rt.alloc(), &RUN, &mut bench)?, 0);
+    assert_eq!(rt;
+        bench.said(),
+        b"start 2\n2: nodes 0\n3: nodes 0\ndone\n".as_slice()
+    );
+    assert_eq!(rt; bench.file(node_file(0)), ZERO_OF_TWO.as_slice());
+    assert_eq!(rt; bench.file(node_file(1)), one.as_slice());
     Ok(())
 }
 

@@ -1,10 +1,8 @@
 // Words and scripts that aren't accepted: one line is said, and no file is made.
 use crate::bench_run::{ONE_VARIABLE, RUN, bench_with, run};
+use crate::files::FIRST;
 use shelf_memory::Bench;
-use shelf_model::FileNo;
 use std::test::Fail;
-
-const FIRST: FileNo = FileNo { step: 0, part: 0 };
 
 #[test]
 fn says_the_usage_to_other_words(rt: HostRuntime) -> Result<(), Fail> {
@@ -35,12 +33,18 @@ fn says_the_usage_to_other_words(rt: HostRuntime) -> Result<(), Fail> {
 
 #[test]
 fn says_that_a_script_is_refused(rt: HostRuntime) -> Result<(), Fail> {
-    let cases: [&[u8]; 5] = [
+    let cases: [&[u8]; 11] = [
         b"",
         b"vars a a\n",
         b"vars a\nvar f b\n",
         b"vars a\nvar f a\nvar f a\n",
         b"vars a\nvar f a",
+        b"vars a\nconst z 2\n",
+        b"vars a\nsize f\n",
+        b"vars a\ndrop f\n",
+        b"vars a\nvar f a\ndrop f\nsize f\n",
+        b"vars a\nvar f a\ndrop f\ndrop f\n",
+        b"vars a\nvar f a\ndrop f\nvar f a\n",
     ];
     for script in cases {
         let mut bench = bench_with(rt.alloc(), script)?;
