@@ -1,0 +1,3 @@
+pub mod GrownLaws
+pub mod NewIdentifiers
+pub mod TurnLaws
