@@ -1,5 +1,5 @@
 -- with no ask open, the arcs are complete, and each identifier stands for its tuple's table
-use Rattle.std.specs.Prelude.{◌≡◌, ◌⊎◌, ◌+◌, ◌^◌, ◌<◌, ◌≤◌, ℕ, zero, suc, Bool, true, false, cond, List, [], ◌∷◌, ◌++◌, replicate}
+use Rattle.std.specs.Prelude.{◌≡◌, ◌+◌, ◌^◌, ◌<◌, ◌≤◌, ℕ, zero, suc, Bool, true, false, cond, List, [], ◌++◌, replicate}
 use Rattle.std.proofs.Common.{refl, sym, ◌∙◌, ap, subst, inl, inr, arith}
 use Rattle.std.proofs.lemmas.List.{replicate-append-replicate}
 use Rattle.bool_tables.proofs.Halves.{twice}
@@ -11,10 +11,9 @@ use Rattle.canon_file.proofs.MemberLaws.{either_bit}
 use Rattle.arc_file.specs.declared.arc.Arc.{Arc}
 use Rattle.arc_diagrams.specs.Arcs.{target_on, targets_of, IsMet, IsComplete}
 use Rattle.arc_diagrams.proofs.WordLaws.{level_at, level_past, past_from, level-terminal, terminal_is}
-use Rattle.arc_diagrams.proofs.TableLaws.{onward, table_parts}
 use Rattle.arc_diagrams.proofs.TargetLaws.{the_target}
 use Rattle.top_down.specs.Rules.{Goal, End, Go, IsRule}
-use Rattle.top_down.specs.Asks.{Ask, Follows, Grows}
+use Rattle.top_down.specs.Asks.{Grows}
 
 -- a truth value stands for a constant table
 pub table-terminal : (targets : ℕ → Row) (h i : ℕ) (value : Bool) → i + h ≤ 65535 → table_of targets h i (terminal value) ≡ replicate (2 ^ h) value
@@ -24,8 +23,8 @@ table-terminal targets (suc h) i value top =
     let past : is_at i (terminal value) ≡ false = past_from i (terminal value) (omega (arith, level-terminal (terminal value) (terminal_is value))) in
     let below = table-terminal targets h (suc i) value (omega arith) in
     ap (λ b. cond b
-      (table_of targets h (suc i) (targets (terminal value)).low ++ table_of targets h (suc i) (targets (terminal value)).high)
-      (table_of targets h (suc i) (terminal value) ++ table_of targets h (suc i) (terminal value))) past
+    (table_of targets h (suc i) (targets (terminal value)).low ++ table_of targets h (suc i) (targets (terminal value)).high)
+    (table_of targets h (suc i) (terminal value) ++ table_of targets h (suc i) (terminal value))) past
     ∙ (λ j. below j ++ below j) ∙ replicate-append-replicate (2 ^ h) (2 ^ h) value ∙ ap (λ k. replicate k value) (sym (twice h))
 
 module _ (n root : ℕ) {Tuple : Type 0} (level : Tuple → ℕ) (below : Bool → Tuple → Tuple) (rule : Tuple → Goal Tuple)
@@ -67,7 +66,7 @@ module _ (n root : ℕ) {Tuple : Type 0} (level : Tuple → ℕ) (below : Bool �
   -- one side of an identifier, where the next level's stand for their tuples
   side_stands : (h s : ℕ) → suc (level_of s + h) ≡ n → Has s used → IsFrom (level_of s) (tuple s)
       → ((v : ℕ) → Has v used → suc (level_of s) ≤ level_of v → IsFrom (suc (level_of s)) (tuple v)
-        → table_of (targets_of arcs) h (suc (level_of s)) v ≡ table h (suc (level_of s)) (tuple v))
+      → table_of (targets_of arcs) h (suc (level_of s)) v ≡ table h (suc (level_of s)) (tuple v))
       → (side : Bool) → table_of (targets_of arcs) h (suc (level_of s)) (target_on arcs s side) ≡ table h (suc (level_of s)) (below side (tuple s))
   side_stands h s end k from stand side =
       elim (g.sides s k side) [
@@ -107,14 +106,14 @@ module _ (n root : ℕ) {Tuple : Type 0} (level : Tuple → ℕ) (below : Bool �
             let here : level_of s ≡ i = level_at i s deep e in
             let sides : (side : Bool) → table_of (targets_of arcs) h (suc (level_of s)) (target_on arcs s side) ≡ table h (suc (level_of s)) (below side (tuple s)) =
             side_stands h s (omega arith) k (subst (λ l. IsFrom l (tuple s)) (sym here) from)
-              (λ v m later there. grown_stands h (suc (level_of s)) v (omega arith) m later there) in
+            (λ v m later there. grown_stands h (suc (level_of s)) v (omega arith) m later there) in
             let at : i ≡ level (tuple s) = sym here ∙ is_level in
             let halves : table (suc h) (level (tuple s)) (tuple s)
-              ≡ table h (suc (level (tuple s))) (below false (tuple s)) ++ table h (suc (level (tuple s))) (below true (tuple s)) =
+            ≡ table h (suc (level (tuple s))) (below false (tuple s)) ++ table h (suc (level (tuple s))) (below true (tuple s)) =
             laws.splits h (tuple s) (subst (λ l. IsFrom l (tuple s)) at from) (omega arith) in
             ap (λ b. cond b
-              (table_of (targets_of arcs) h (suc i) (target_on arcs s false) ++ table_of (targets_of arcs) h (suc i) (target_on arcs s true))
-              (table_of (targets_of arcs) h (suc i) s ++ table_of (targets_of arcs) h (suc i) s)) e
+            (table_of (targets_of arcs) h (suc i) (target_on arcs s false) ++ table_of (targets_of arcs) h (suc i) (target_on arcs s true))
+            (table_of (targets_of arcs) h (suc i) s ++ table_of (targets_of arcs) h (suc i) s)) e
             ∙ (λ j. table_of (targets_of arcs) h (suc (sym here j)) (target_on arcs s false) ++ table_of (targets_of arcs) h (suc (sym here j)) (target_on arcs s true))
             ∙ (λ j. sides false j ++ sides true j)
             ∙ (λ j. table h (suc (is_level j)) (below false (tuple s)) ++ table h (suc (is_level j)) (below true (tuple s)))
@@ -125,7 +124,7 @@ module _ (n root : ℕ) {Tuple : Type 0} (level : Tuple → ℕ) (below : Bool �
             let below_here : IsFrom (suc i) (tuple s) = laws.later i (tuple s) from (omega arith) (omega (arith, (g.levels s k).1)) in
             let rest : table_of (targets_of arcs) h (suc i) s ≡ table h (suc i) (tuple s) = grown_stands h (suc i) s (omega arith) k later below_here in
             ap (λ b. cond b
-              (table_of (targets_of arcs) h (suc i) (target_on arcs s false) ++ table_of (targets_of arcs) h (suc i) (target_on arcs s true))
-              (table_of (targets_of arcs) h (suc i) s ++ table_of (targets_of arcs) h (suc i) s)) e
+            (table_of (targets_of arcs) h (suc i) (target_on arcs s false) ++ table_of (targets_of arcs) h (suc i) (target_on arcs s true))
+            (table_of (targets_of arcs) h (suc i) s ++ table_of (targets_of arcs) h (suc i) s)) e
             ∙ (λ j. rest j ++ rest j) ∙ sym twice_same
       ]

@@ -1,3 +1,5 @@
 pub mod GrownLaws
 pub mod NewIdentifiers
 pub mod TurnLaws
+pub mod ProductLaws
+pub mod ProductDiagrams

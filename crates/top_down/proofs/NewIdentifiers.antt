@@ -1,5 +1,5 @@
 -- the arcs and the asks of a new identifier
-use Rattle.std.specs.Prelude.{◌≡◌, ◌⊎◌, ◌==◌, ℕ, Bool, true, false, cond, List, [], ◌∷◌, ◌++◌}
+use Rattle.std.specs.Prelude.{◌≡◌, ◌⊎◌, ◌==◌, ℕ, Bool, true, false, cond, List, ◌++◌}
 use Rattle.std.proofs.Common.{refl, sym, ◌∙◌, ap, subst, inl, inr, true≢false, arith}
 use Rattle.std.proofs.lemmas.List.{append_assoc}
 use Rattle.std.proofs.lemmas.Bool.Decides.{nat_tests}
@@ -112,5 +112,5 @@ module _ {Tuple : Type 0} (below : Bool → Tuple → Tuple) (rule : Tuple → G
   new_asks-apart asks apart others =
       subst AreApart (sym (append_assoc (side_asks s false (rule (below false x))) (side_asks s true (rule (below true x))) asks))
       (one_apart (side_asks s true (rule (below true x)) ++ asks) false (rule (below false x))
-        (one_apart asks true (rule (below true x)) apart (λ f m source high. others f m source))
-        (second_apart asks others))
+      (one_apart asks true (rule (below true x)) apart (λ f m source high. others f m source))
+      (second_apart asks others))

@@ -1,13 +1,13 @@
 -- turns that answer an ask: by an identifier that is used, or by a new one
-use Rattle.std.specs.Prelude.{◌≡◌, ◌⊎◌, ◌<◌, ℕ, Bool, true, false, List, [], ◌∷◌, ◌++◌}
+use Rattle.std.specs.Prelude.{◌≡◌, ◌⊎◌, ◌<◌, ℕ, Bool, List, [], ◌∷◌, ◌++◌}
 use Rattle.std.proofs.Common.{refl, sym, ◌∙◌, ap, subst, inl, inr, arith}
 use Rattle.std.proofs.lemmas.List.{append-nil}
-use Rattle.rec_words.specs.Words.{terminal, level_of}
+use Rattle.rec_words.specs.Words.{level_of}
 use Rattle.canon_file.specs.Members.{Has}
 use Rattle.canon_file.proofs.StandLaws.{has_append}
 use Rattle.arc_file.specs.declared.arc.Arc.{Arc}
 use Rattle.arc_diagrams.proofs.RowPlaces.{has_left, has_right}
-use Rattle.top_down.specs.Rules.{Goal, End, Go, IsRule}
+use Rattle.top_down.specs.Rules.{Goal, Go, IsRule}
 use Rattle.top_down.specs.Asks.{Ask, IsApart, AreApart, Follows, Grows, answer, new_arcs, new_asks, with_tuple}
 use Rattle.top_down.proofs.NewIdentifiers.{with-new, with-other, new_arc, new_ask, new_side, new_apart, new_once, new_asks-apart}
 
@@ -21,9 +21,9 @@ module _ (n root : ℕ) {Tuple : Type 0} (level : Tuple → ℕ) (below : Bool �
     answered_side t k side = elim (g.sides t k side) [
       | inl (a, m, source, high) ↦ inl (a, inr m, source, high)
       | inr (f, m, source, high) ↦ elim m [
-          | inl is_e ↦ inl (answer e s, inl refl, ap (λ (h : Ask Tuple). h.source) is_e ∙ source, ap (λ (h : Ask Tuple). h.high) is_e ∙ high)
-          | inr later ↦ inr (f, later, source, high)
-        ]
+        | inl is_e ↦ inl (answer e s, inl refl, ap (λ (h : Ask Tuple). h.source) is_e ∙ source, ap (λ (h : Ask Tuple). h.high) is_e ∙ high)
+        | inr later ↦ inr (f, later, source, high)
+      ]
     ]
 
     answered_once : (a b : Arc) → Has a (answer e s ∷ arcs) → Has b (answer e s ∷ arcs) → a.source ≡ b.source → a.high ≡ b.high → a.target ≡ b.target
@@ -135,20 +135,23 @@ module _ (n root : ℕ) {Tuple : Type 0} (level : Tuple → ℕ) (below : Bool �
             ];
             sides = λ v k side. elim k [
               | inl same ↦ elim (new_side below rule s e.tuple side) [
-                  | inl (a, m, source, high) ↦ inl (a, inr (has_left a more arcs m), source ∙ same, high)
-                  | inr (f, m, source, high) ↦ inr (f, has_left f (new_asks below rule s e.tuple) asks m, source ∙ same, high)
-                ]
+                | inl (a, m, source, high) ↦ inl (a, inr (has_left a more arcs m), source ∙ same, high)
+                | inr (f, m, source, high) ↦ inr (f, has_left f (new_asks below rule s e.tuple) asks m, source ∙ same, high)
+              ]
               | inr m ↦ elim (answered_side v m side) [
-                  | inl (a, l, source, high) ↦ inl (a, arc_there a l, source, high)
-                  | inr (f, l, source, high) ↦ inr (f, has_right f (new_asks below rule s e.tuple) asks l, source, high)
-                ]
+                | inl (a, l, source, high) ↦ inl (a, arc_there a l, source, high)
+                | inr (f, l, source, high) ↦ inr (f, has_right f (new_asks below rule s e.tuple) asks l, source, high)
+              ]
             ];
             arc_right = λ a m. elim (which_arc a m) [
               | inl k ↦ fresh_right a k
-              | inr k ↦ (inr (answered_source a k), elim k [
+              | inr k ↦ (
+                inr (answered_source a k),
+                elim k [
                   | inl is_a ↦ subst (Follows below rule (s ∷ used) (with_tuple s e.tuple tuple)) is_a answer_right
                   | inr l ↦ old_right a l
-                ])
+                ],
+              )
             ];
             ask_right = λ f m. elim (has_append f (new_asks below rule s e.tuple) asks m) [
               | inl k ↦
@@ -175,9 +178,9 @@ module _ (n root : ℕ) {Tuple : Type 0} (level : Tuple → ℕ) (below : Bool �
     levels = λ s k. elim k [ inl same ↦ (ap level_of (sym same) ∙ at, omega (arith, ap level_of same)) | inr none ↦ absurd none ];
     sides = λ s k side. elim k [
       | inl same ↦ elim (new_side below rule root x side) [
-          | inl (a, m, source, high) ↦ inl (a, m, source ∙ same, high)
-          | inr (f, m, source, high) ↦ inr (f, m, source ∙ same, high)
-        ]
+        | inl (a, m, source, high) ↦ inl (a, m, source ∙ same, high)
+        | inr (f, m, source, high) ↦ inr (f, m, source ∙ same, high)
+      ]
       | inr none ↦ absurd none
     ];
     arc_right = λ a m. let (value, ends, source, target) = new_arc below rule root x a m in (inl (sym source), inr (value, target, ends));

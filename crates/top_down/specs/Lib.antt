@@ -1,3 +1,4 @@
 pub mod Rules
 pub mod Asks
-
+pub mod Product
+pub mod Laws
