@@ -28,7 +28,7 @@ table-far targets (suc h) i w far =
     ∙ (λ j. below j ++ below j) ∙ replicate-append-replicate (2 ^ h) (2 ^ h) (w == 2 ^ 63 + 1) ∙ ap (λ k. replicate k (w == 2 ^ 63 + 1)) (sym (twice h))
 
 -- below level i a pointer leads deeper
-part-deep : (n i w : ℕ) (targets : ℕ → Row) (side : Bool) → IsDeepening n targets → i < n → i ≤ level_of w → i < level_of (part targets i side w)
+pub part-deep : (n i w : ℕ) (targets : ℕ → Row) (side : Bool) → IsDeepening n targets → i < n → i ≤ level_of w → i < level_of (part targets i side w)
 part-deep n i w targets side deep below from = by (is_at i w) refl side
   where
     by : (b : Bool) → is_at i w ≡ b → (side : Bool) → i < level_of (cond b (cond side (targets w).high (targets w).low) w)
@@ -36,7 +36,7 @@ part-deep n i w targets side deep below from = by (is_at i w) refl side
     by true e false = let here : level_of w ≡ i = level_at i w from e in omega (arith, (deep w (omega arith)).0)
     by false e side = level_past i w e
 
-part-past : (targets : ℕ → Row) (i w : ℕ) (side : Bool) → i < level_of w → part targets i side w ≡ w
+pub part-past : (targets : ℕ → Row) (i w : ℕ) (side : Bool) → i < level_of w → part targets i side w ≡ w
 part-past targets i w side past = ap (λ b. cond b (cond side (targets w).high (targets w).low) w) (past_from i w past)
 
 -- what the rule's answer means

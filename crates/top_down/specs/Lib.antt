@@ -1,4 +1,5 @@
 pub mod Rules
 pub mod Asks
 pub mod Product
+pub mod Choice
 pub mod Laws
