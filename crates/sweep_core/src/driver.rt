@@ -15,6 +15,10 @@ pub fn drive<'r, P: Sweep<'r>, S: Shelf>(
     turns: u64,
     shelf: &mut S,
 ) -> Result<Turn, SortFault>
+    requires ready { P.ready sweep.old }
+    requires in_step { IsTrue (S.tells shelf.old) → P.in_step sweep.old (S.world shelf.old) }
+    ensures ready { OnOk result (P.ready sweep.new) }
+    ensures in_step { OnOk result (IsTrue (S.tells shelf.new) → P.in_step sweep.new (S.world shelf.new)) }
     ensures moves { MovesOn turns (P.left sweep.old) (P.left sweep.new) result }
     ensures counts { CountsOn turns (P.made sweep.old) (P.made sweep.new) result }
     ensures keeps { OnOk result (IsTrue (S.tells shelf.new) → (job : P.Job) →

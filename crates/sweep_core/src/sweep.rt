@@ -4,7 +4,8 @@ use shelf_model::{Shelf, SortFault};
 /// Work on diagrams that is done in small turns, each of which handles one item of a queue or of a file.
 ///
 /// A sweep is seen by what remains of its job: a relation between the sweep, the folder and the job, which
-/// each turn keeps. A turn changes no file but the sweep's own, and leaves fewer turns.
+/// each turn keeps. A turn changes no file but the sweep's own, and leaves fewer turns. After a refusal a sweep
+/// isn't used again.
 pub trait Sweep<'r>: Sized {
     ghost use Rattle.std.specs.Prelude.{◌≡◌, ℕ, IsTrue, OnOk};
     ghost use Rattle.shelf_model.specs.declared.file_no.FileNo.{FileNo};
@@ -29,8 +30,18 @@ pub trait Sweep<'r>: Sized {
     /// The files that the sweep may change.
     ghost own: { Self → FileNo → Type 0 };
 
+    /// What is true of the sweep between turns, whatever the folder holds.
+    ghost ready: { Self → Type 0 };
+
+    /// Its files hold what it takes them to hold.
+    ghost in_step: { Self → World → Type 0 };
+
     /// Handles one item. Once a sweep has ended, each further turn answers so and does nothing.
     fn turn<S: Shelf>(&mut self, shelf: &mut S) -> Result<Turn, SortFault>
+        requires ready { ready self.old }
+        requires in_step { IsTrue (S.tells shelf.old) → in_step self.old (S.world shelf.old) }
+        ensures ready { OnOk result (ready self.new) }
+        ensures in_step { OnOk result (IsTrue (S.tells shelf.new) → in_step self.new (S.world shelf.new)) }
         ensures falls { Falls (left self.old) (left self.new) result }
         ensures counts { Counts (made self.old) (made self.new) result }
         ensures keeps { OnOk result (IsTrue (S.tells shelf.new) → (job : Job) →

@@ -9,6 +9,8 @@ use Rattle.sweep_core.proofs.driver.drive.Given as goal
 -- so many turns fewer are left, and what each turn keeps was kept
 abbrev pub invariant-loop-turn : goal.invariant-loop-turn
 invariant-loop-turn g l = record {
+  ready : g.P.Sweep.ready l.sweep;
+  in_step : IsTrue (g.S.Shelf.tells l.shelf) → g.P.Sweep.in_step l.sweep (g.S.Shelf.world l.shelf);
   fell : g.P.Sweep.left l.sweep + l._turn ≤ g.P.Sweep.left l.fn.sweep;
   counted : g.P.Sweep.made l.sweep ≡ g.P.Sweep.made l.fn.sweep + l._turn;
   keeps : IsTrue (g.S.Shelf.tells l.shelf) → (job : g.P.Sweep.Job) → g.P.Sweep.remains l.fn.sweep (g.S.Shelf.world l.fn.shelf) job → g.P.Sweep.remains l.sweep (g.S.Shelf.world l.shelf) job;
