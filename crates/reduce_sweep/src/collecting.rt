@@ -1,0 +1,211 @@
+//! The collecting of the sources of a level.
+ghost use Rattle.std.specs.Prelude.{◌≡◌, ◌≤◌};
+ghost use Rattle.rec_words.specs.Words.{level_of};
+
+use crate::phase::Phase;
+use crate::reduce::ReduceSweep;
+use crate::source::Source;
+use arc_diagrams::{FinalArc, Name, SourceRow};
+use shelf_model::{Shelf, SortFault};
+
+impl<'r> ReduceSweep<'r> {
+    ghost use Rattle.std.specs.Prelude.{◌≢◌, ◌+◌, IsTrue, true, OnOk, IfOk, IfErr, None, IsSome};
+    ghost use Rattle.shelf_model.specs.World.{now};
+    ghost use Rattle.shelf_model.specs.Calls.{Told};
+    ghost use Rattle.shelf_model.specs.Moments.{Ran};
+    ghost use Rattle.block_stream.specs.Writes.{InStep};
+    ghost use Rattle.node_file.specs.Writers.{filling_of};
+    ghost use Rattle.run_merge.specs.Faults.{OnlySortShelf};
+    ghost use Rattle.sweep_core.specs.Sweeps.{OnlyOwn};
+    ghost use Rattle.reduce_sweep.specs.Sweeps.{Owns, inner_file, ends_file, IsSound, SameTask, Refuses, SamePlace, SameArcs, IsNext, Lightens, weight, MovesOn};
+
+    /// Collects an arc of the level at hand, or ends the collecting where the next one is of a shallower level.
+    pub(crate) fn collect<S: Shelf>(&mut self, shelf: &mut S) -> Result<bool, SortFault>
+        requires open { self.old.open ≡ true }
+        requires phase { self.old.phase ≡ Phase.Collect }
+        requires sound { IsSound self.old }
+        requires in_step { IsTrue (S.tells shelf.old) → InStep (filling_of self.old.writer) (S.world shelf.old) }
+        ensures sound { OnOk result (IsSound self.new) }
+        ensures in_step { OnOk result (IsTrue (S.tells shelf.new) → InStep (filling_of self.new.writer) (S.world shelf.new)) }
+        ensures task { SameTask self.old self.new }
+        ensures lightens { IfOk result (Lightens self.old self.new) }
+        ensures next { IfOk result (MovesOn Phase.Number self.new.phase) }
+        ensures count { self.new.count ≡ self.old.count }
+
+        // what the call leaves
+        ensures content { Told S.tells shelf.old shelf.new
+            (Ran (OnlyOwn (Owns self.old) (now (S.world shelf.old))) (S.world shelf.old) (S.world shelf.new)) }
+        ensures faults { OnlySortShelf (S.faults shelf.old) (S.faults shelf.new) result }
+        ensures refused { IfErr result (Refuses (inner_file self.old) (ends_file self.old) self.new) }
+    {
+        if let Some((arc, queued)) = self.next_arc(shelf)? {
+            let level = source_level(&arc);
+            if level >= self.level {
+                self.take_arc(&arc, queued, level == self.level, shelf)?;
+                return Ok(true);
+            }
+        }
+        self.close_source(shelf)?;
+        self.phase = Phase::Number;
+        Ok(false)
+    }
+
+    /// Passes over the next arc, and notes it where it is of the level at hand.
+    pub(crate) fn take_arc<S: Shelf>(
+        &mut self,
+        arc: &FinalArc,
+        queued: bool,
+        here: bool,
+        shelf: &mut S,
+    ) -> Result<(), SortFault>
+        requires next { IsNext self.old queued }
+        requires sound { IsSound self.old }
+        requires in_step { IsTrue (S.tells shelf.old) → InStep (filling_of self.old.writer) (S.world shelf.old) }
+        ensures sound { OnOk result (IsSound self.new) }
+        ensures in_step { OnOk result (IsTrue (S.tells shelf.new) → InStep (filling_of self.new.writer) (S.world shelf.new)) }
+        ensures task { SameTask self.old self.new }
+        ensures place { SamePlace self.old self.new }
+        ensures weight { OnOk result (weight self.new + 1 ≤ weight self.old) }
+
+        // what the call leaves
+        ensures content { Told S.tells shelf.old shelf.new
+            (Ran (OnlyOwn (Owns self.old) (now (S.world shelf.old))) (S.world shelf.old) (S.world shelf.new)) }
+        ensures faults { OnlySortShelf (S.faults shelf.old) (S.faults shelf.new) result }
+        ensures refused { IfErr result (Refuses (inner_file self.old) (ends_file self.old) self.new) }
+    {
+        if here {
+            self.note(arc, shelf)?;
+        }
+        self.pass(queued, shelf)
+    }
+
+    // Notes an arc of the level at hand. Another source is the one at hand from then on.
+    fn note<S: Shelf>(&mut self, arc: &FinalArc, shelf: &mut S) -> Result<(), SortFault>
+        requires sound { IsSound self.old }
+        requires in_step { IsTrue (S.tells shelf.old) → InStep (filling_of self.old.writer) (S.world shelf.old) }
+        ensures sound { OnOk result (IsSound self.new) }
+        ensures in_step { OnOk result (IsTrue (S.tells shelf.new) → InStep (filling_of self.new.writer) (S.world shelf.new)) }
+        ensures task { SameTask self.old self.new }
+        ensures place { SamePlace self.old self.new }
+        ensures arcs { SameArcs self.old self.new }
+        ensures weight { OnOk result (weight self.new ≤ weight self.old + 2) }
+
+        // what the call leaves
+        ensures content { Told S.tells shelf.old shelf.new
+            (Ran (OnlyOwn (Owns self.old) (now (S.world shelf.old))) (S.world shelf.old) (S.world shelf.new)) }
+        ensures faults { OnlySortShelf (S.faults shelf.old) (S.faults shelf.new) result }
+        ensures refused { IfErr result (Refuses (inner_file self.old) (ends_file self.old) self.new) }
+    {
+        let Some(source) = self.noted(arc) else {
+            self.close_source(shelf)?;
+            self.source = Some(Source::new(arc.source).noted(arc.high, arc.target));
+            return Ok(());
+        };
+        self.source = Some(source);
+        Ok(())
+    }
+
+    // The source at hand with the arc noted, where it is the arc's.
+    fn noted(&self, arc: &FinalArc) -> Option<Source>
+        ensures { IsSome result → IsSome self.now.source }
+    {
+        match &self.source {
+            Some(source) if source.uid == arc.source => Some(source.noted(arc.high, arc.target)),
+            _ => None,
+        }
+    }
+
+    // Makes a row of the source at hand, or a name where its two pointers are equal.
+    fn close_source<S: Shelf>(&mut self, shelf: &mut S) -> Result<(), SortFault>
+        requires sound { IsSound self.old }
+        requires in_step { IsTrue (S.tells shelf.old) → InStep (filling_of self.old.writer) (S.world shelf.old) }
+        ensures sound { OnOk result (IsSound self.new) }
+        ensures in_step { OnOk result (IsTrue (S.tells shelf.new) → InStep (filling_of self.new.writer) (S.world shelf.new)) }
+        ensures task { SameTask self.old self.new }
+        ensures place { SamePlace self.old self.new }
+        ensures arcs { SameArcs self.old self.new }
+        ensures none { OnOk result (self.new.source ≡ None) }
+        ensures weight { OnOk result (weight self.new ≤ weight self.old) }
+
+        // what the call leaves
+        ensures content { Told S.tells shelf.old shelf.new
+            (Ran (OnlyOwn (Owns self.old) (now (S.world shelf.old))) (S.world shelf.old) (S.world shelf.new)) }
+        ensures faults { OnlySortShelf (S.faults shelf.old) (S.faults shelf.new) result }
+        ensures refused { IfErr result (Refuses (inner_file self.old) (ends_file self.old) self.new) }
+    {
+        let Some(source) = &self.source else {
+            return Ok(());
+        };
+        let row = source.row();
+        self.source = None;
+        if row.low == row.high {
+            let name = Name {
+                source: row.source,
+                pointer: row.low,
+            };
+            return self.push_name(name, shelf);
+        }
+        self.push_row(row, shelf)
+    }
+
+    // Puts a row into its list.
+    #[tactic(auto, using(crate::proofs::Owning::queue_lent, crate::proofs::Owning::sorter_lent, crate::proofs::Owning::queue_back, crate::proofs::Owning::sorter_back, crate::proofs::Owning::queue_later, crate::proofs::Owning::sorter_later))]
+    fn push_row<S: Shelf>(&mut self, row: SourceRow, shelf: &mut S) -> Result<(), SortFault>
+        requires sound { IsSound self.old }
+        requires in_step { IsTrue (S.tells shelf.old) → InStep (filling_of self.old.writer) (S.world shelf.old) }
+        ensures sound { OnOk result (IsSound self.new) }
+        ensures in_step { OnOk result (IsTrue (S.tells shelf.new) → InStep (filling_of self.new.writer) (S.world shelf.new)) }
+        ensures task { SameTask self.old self.new }
+        ensures place { SamePlace self.old self.new }
+        ensures arcs { SameArcs self.old self.new }
+        ensures source { self.new.source ≡ self.old.source }
+        ensures weight { OnOk result (weight self.new ≡ weight self.old + 2) }
+
+        // what the call leaves
+        ensures content { Told S.tells shelf.old shelf.new
+            (Ran (OnlyOwn (Owns self.old) (now (S.world shelf.old))) (S.world shelf.old) (S.world shelf.new)) }
+        ensures faults { OnlySortShelf (S.faults shelf.old) (S.faults shelf.new) result }
+        ensures refused { IfErr result (Refuses (inner_file self.old) (ends_file self.old) self.new) }
+    {
+        let mut parts = self.parts();
+        let pushed = self.rows.push(row, &mut parts, shelf);
+        self.next = parts.next;
+        pushed
+    }
+
+    /// Puts a name into its list.
+    #[tactic(auto, using(crate::proofs::Owning::queue_lent, crate::proofs::Owning::sorter_lent, crate::proofs::Owning::queue_back, crate::proofs::Owning::sorter_back, crate::proofs::Owning::queue_later, crate::proofs::Owning::sorter_later))]
+    pub(crate) fn push_name<S: Shelf>(&mut self, name: Name, shelf: &mut S) -> Result<(), SortFault>
+        requires sound { IsSound self.old }
+        requires in_step { IsTrue (S.tells shelf.old) → InStep (filling_of self.old.writer) (S.world shelf.old) }
+        ensures sound { OnOk result (IsSound self.new) }
+        ensures in_step { OnOk result (IsTrue (S.tells shelf.new) → InStep (filling_of self.new.writer) (S.world shelf.new)) }
+        ensures task { SameTask self.old self.new }
+        ensures place { SamePlace self.old self.new }
+        ensures arcs { SameArcs self.old self.new }
+        ensures source { self.new.source ≡ self.old.source }
+        ensures weight { OnOk result (weight self.new ≡ weight self.old + 1) }
+
+        // what the call leaves
+        ensures content { Told S.tells shelf.old shelf.new
+            (Ran (OnlyOwn (Owns self.old) (now (S.world shelf.old))) (S.world shelf.old) (S.world shelf.new)) }
+        ensures faults { OnlySortShelf (S.faults shelf.old) (S.faults shelf.new) result }
+        ensures refused { IfErr result (Refuses (inner_file self.old) (ends_file self.old) self.new) }
+    {
+        let mut parts = self.parts();
+        let pushed = self.names.push(name, &mut parts, shelf);
+        self.next = parts.next;
+        pushed
+    }
+}
+
+/// The level of an arc's source.
+pub(crate) fn source_level(arc: &FinalArc) -> u32
+    ensures level { result ≡ level_of arc.now.source }
+    ensures below { result ≤ 65534 }
+{
+    match arc.source.ptr().level() {
+        Some(level) => u32::from(level),
+        None => unreachable!(),
+    }
+}

@@ -1,0 +1,102 @@
+//! The beginning of a reduction.
+use crate::phase::Phase;
+use crate::reduce::ReduceSweep;
+use arc_file::{ArcReader, Unreduced};
+use level_queue::LevelQueue;
+use node_file::NodeWriter;
+use rec_words::{Ptr, Rec};
+use run_merge::{Parts, Sorter};
+use shelf_model::{FileNo, Shelf, SortFault};
+
+/// How many records of the room the reader of arcs has, and the writer of nodes.
+const READING: usize = 256;
+
+const WRITING: usize = 88;
+
+impl<'r> ReduceSweep<'r> {
+    ghost use Rattle.std.specs.Prelude.{◌≡◌, ◌≢◌, ℕ, ◌+◌, ◌*◌, ◌^◌, ◌≤◌, IsTrue, OnOk, IfOk, IfErr, None, length};
+    ghost use Rattle.shelf_model.specs.World.{now};
+    ghost use Rattle.shelf_model.specs.Calls.{Told};
+    ghost use Rattle.shelf_model.specs.Moments.{Ran};
+    ghost use Rattle.run_merge.specs.Faults.{OnlySortShelf};
+    ghost use Rattle.level_queue.specs.Queues as queues;
+    ghost use Rattle.run_merge.specs.Sorters as sorters;
+    ghost use Rattle.sweep_core.specs.Sweeps.{OnlyOwn};
+    ghost use Rattle.reduce_sweep.specs.Sweeps.{out_of, inner_file, ends_file, HasParts, turns_of, turns_left, count_in, CanBeTaken, IsReady, IsInStep, IsOut, IsArcDamage};
+
+    /// Begins the reduction of a diagram of `n` variables into a file, with the part numbers that its lists may take.
+    ///
+    /// Half of the room is the queue's, and a quarter each that of the rows and of the names, but for 344 records
+    /// with which files are read and written.
+    pub fn start<S: Shelf>(
+        n: u32,
+        made: Unreduced,
+        out: FileNo,
+        parts: Parts,
+        room: &'r mut [Rec],
+        shelf: &mut S,
+    ) -> Result<ReduceSweep<'r>, SortFault>
+        requires variables { n ≤ 65535 }
+        requires room { 16384 ≤ length room.old }
+        requires inner_few { made.inner_count ≤ 2 ^ 46 }
+        requires ends_few { made.ends_count ≤ 2 ^ 46 }
+        requires apart_inner { out ≢ made.inner }
+        requires apart_ends { out ≢ made.ends }
+        requires two_files { made.inner ≢ made.ends }
+        requires past_made { 3 ≤ parts.next }
+        requires out_made { ¬ CanBeTaken parts.step parts.next out }
+        requires inner_made { ¬ CanBeTaken parts.step parts.next made.inner }
+        requires ends_made { ¬ CanBeTaken parts.step parts.next made.ends }
+        ensures ready { IfOk result IsReady }
+        ensures in_step { IfOk result (λ r. IsTrue (S.tells shelf.new) → IsInStep r (S.world shelf.new)) }
+        ensures files { IfOk result (λ r. (out_of r ≡ out) × (inner_file r ≡ made.inner) × (ends_file r ≡ made.ends)) }
+        ensures parts { IfOk result (λ r. HasParts r parts) }
+        ensures left { IfOk result (λ r. turns_left r ≤ 4 * made.inner_count + 3 * made.ends_count + 1) }
+        ensures bound { IfOk result (λ r. (sources : ℕ) → made.inner_count + made.ends_count ≡ 2 * sources →
+            turns_left r ≤ 8 * sources + 8) }
+        ensures turns { IfOk result (λ r. turns_of r ≡ 0) }
+        ensures count { IfOk result (λ r. count_in r ≡ None) }
+        ensures rooms { IfOk result (λ r. (3 * length room.entry.now ≤ 16 * queues.room_of r.queue)
+            × (length room.entry.now ≤ 16 * sorters.room_of r.rows) × (length room.entry.now ≤ 16 * sorters.room_of r.names)) }
+
+        // what the call leaves
+        ensures content { Told S.tells shelf.old shelf.new
+            (Ran (OnlyOwn (IsOut out) (now (S.world shelf.old))) (S.world shelf.old) (S.world shelf.new)) }
+        ensures faults { OnlySortShelf (S.faults shelf.old) (S.faults shelf.new) result }
+        ensures refused { IfErr result (IsArcDamage made.inner made.ends) }
+    {
+        let (reading, rest) = room.split_at_mut(READING);
+        let (writing, lists) = rest.split_at_mut(WRITING);
+        let half = lists.len() / 2;
+        let (queue, sorters) = lists.split_at_mut(half);
+        let quarter = sorters.len() / 2;
+        let (rows, names) = sorters.split_at_mut(quarter);
+        let writer = NodeWriter::start(out, n, writing, shelf)?;
+        let mut reader = ArcReader::start(made, reading);
+        let inner = reader.next_inner(shelf)?;
+        let end = reader.next_end(shelf)?;
+        let root = reader.left_over().root;
+        let known = root.value().map(Ptr::terminal);
+        Ok(ReduceSweep {
+            root,
+            reader,
+            inner,
+            end,
+            queue: LevelQueue::start(queue),
+            rows: Sorter::start(rows),
+            names: Sorter::start(names),
+            writer,
+            step: parts.step,
+            next: parts.next,
+            phase: Phase::Collect,
+            level: n,
+            open: false,
+            source: None,
+            number: 0,
+            pair: None,
+            known,
+            count: None,
+            turns: 0,
+        })
+    }
+}
