@@ -7,7 +7,7 @@ use crate::Arc;
 
 /// Which arcs a file has: those to nodes, or those to truth values.
 #[derive(Clone, Copy, Debug, PartialEq, Eq)]
-pub(crate) enum Kind {
+pub enum Kind {
     Inner,
     End,
 }

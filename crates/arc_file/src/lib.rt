@@ -10,6 +10,7 @@ mod unreduced;
 mod writer;
 
 pub use arc::Arc;
+pub use kind::Kind;
 pub use reader::ArcReader;
 pub use unreduced::Unreduced;
 pub use writer::ArcWriter;
