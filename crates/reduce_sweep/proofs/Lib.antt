@@ -1,1 +1,4 @@
 mod Owning
+mod Frames
+mod ArcFrames
+mod NumberingKeeps

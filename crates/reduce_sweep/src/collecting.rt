@@ -17,6 +17,7 @@ impl<'r> ReduceSweep<'r> {
     ghost use Rattle.node_file.specs.Writers.{filling_of};
     ghost use Rattle.run_merge.specs.Faults.{OnlySortShelf};
     ghost use Rattle.sweep_core.specs.Sweeps.{OnlyOwn};
+    ghost use Rattle.reduce_sweep.specs.Remaining.{Contents, Holds, SameButNames, JoinsNames};
     ghost use Rattle.reduce_sweep.specs.Sweeps.{Owns, inner_file, ends_file, IsSound, SameTask, Refuses, SamePlace, SameArcs, IsNext, Lightens, weight, MovesOn};
 
     /// Collects an arc of the level at hand, or ends the collecting where the next one is of a shallower level.
@@ -185,6 +186,11 @@ impl<'r> ReduceSweep<'r> {
         ensures arcs { SameArcs self.old self.new }
         ensures source { self.new.source ≡ self.old.source }
         ensures weight { OnOk result (weight self.new ≡ weight self.old + 1) }
+
+        // what remains
+        ensures rest { SameButNames self.old self.new }
+        ensures joined { OnOk result (IsTrue (S.tells shelf.new) → (k : Contents) →
+            Holds self.old (S.world shelf.old) k → JoinsNames self.new (S.world shelf.new) k name) }
 
         // what the call leaves
         ensures content { Told S.tells shelf.old shelf.new

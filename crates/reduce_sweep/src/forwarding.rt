@@ -5,7 +5,8 @@ use arc_diagrams::{FinalArc, Name};
 use shelf_model::{Shelf, SortFault};
 
 impl<'r> ReduceSweep<'r> {
-    ghost use Rattle.std.specs.Prelude.{◌≡◌, ◌≤◌, ◌+◌, IsTrue, OnOk, IfOk, IfErr, IsSome};
+    ghost use Rattle.arc_diagrams.specs.declared.name.Name.{Name};
+    ghost use Rattle.std.specs.Prelude.{List, ◌∷◌, ◌≡◌, ◌≤◌, ◌+◌, IsTrue, OnOk, IfOk, IfErr, IsSome};
     ghost use Rattle.shelf_model.specs.World.{now};
     ghost use Rattle.shelf_model.specs.Calls.{Told};
     ghost use Rattle.shelf_model.specs.Moments.{Ran};
@@ -13,6 +14,7 @@ impl<'r> ReduceSweep<'r> {
     ghost use Rattle.node_file.specs.Writers.{filling_of};
     ghost use Rattle.run_merge.specs.Faults.{OnlySortShelf};
     ghost use Rattle.sweep_core.specs.Sweeps.{OnlyOwn};
+    ghost use Rattle.reduce_sweep.specs.Remaining.{Contents, Holds, SameButInner, PassesInner, SameButKnown, known_with, LeavesNames, SameButQueue, JoinsQueue};
     ghost use Rattle.reduce_sweep.specs.Sweeps.{Owns, inner_file, ends_file, IsSound, SameTask, Refuses, SamePlace, Lightens, weight, MovesOn};
     ghost use Rattle.run_merge.specs.Sorters.{held};
 
@@ -90,6 +92,11 @@ impl<'r> ReduceSweep<'r> {
         ensures inner { self.new.inner ≡ self.old.inner }
         ensures weight { OnOk result (weight self.new ≡ weight self.old + 3) }
 
+        // what remains
+        ensures rest { SameButQueue self.old self.new }
+        ensures joined { OnOk result (IsTrue (S.tells shelf.new) → (k : Contents) →
+            Holds self.old (S.world shelf.old) k → JoinsQueue self.new (S.world shelf.new) k told) }
+
         // what the call leaves
         ensures content { Told S.tells shelf.old shelf.new
             (Ran (OnlyOwn (Owns self.old) (now (S.world shelf.old))) (S.world shelf.old) (S.world shelf.new)) }
@@ -124,6 +131,11 @@ impl<'r> ReduceSweep<'r> {
         ensures place { SamePlace self.old self.new }
         ensures weight { OnOk result (weight self.new + 4 ≡ weight self.old) }
 
+        // what remains
+        ensures rest { SameButInner self.old self.new }
+        ensures passed { OnOk result (IsTrue (S.tells shelf.new) → (k : Contents) →
+            Holds self.old (S.world shelf.old) k → PassesInner self.old.inner self.new (S.world shelf.new) k) }
+
         // what the call leaves
         ensures content { Told S.tells shelf.old shelf.new
             (Ran (OnlyOwn (Owns self.old) (now (S.world shelf.old))) (S.world shelf.old) (S.world shelf.new)) }
@@ -144,6 +156,13 @@ impl<'r> ReduceSweep<'r> {
         ensures task { SameTask self.old self.new }
         ensures place { SamePlace self.old self.new }
         ensures weight { OnOk result (weight self.new + 1 ≡ weight self.old) }
+
+        // what remains
+        ensures rest { SameButKnown self.old self.new }
+        ensures known { OnOk result (self.new.known ≡ known_with self.old name.now) }
+        ensures left { OnOk result (IsTrue (S.tells shelf.new) → (k : Contents) → (rest : List Name) →
+            k.names ≡ name.now ∷ rest → Holds self.old (S.world shelf.old) k →
+            LeavesNames self.new (S.world shelf.new) k rest) }
 
         // what the call leaves
         ensures content { Told S.tells shelf.old shelf.new

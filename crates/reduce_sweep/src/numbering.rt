@@ -9,7 +9,8 @@ use shelf_model::{Shelf, SortFault};
 const TOP: u64 = (1 << 47) - 1;
 
 impl<'r> ReduceSweep<'r> {
-    ghost use Rattle.std.specs.Prelude.{◌≡◌, ◌^◌, ◌<◌, ◌≤◌, IsTrue, true, OnOk, IfOk, IfErr, IsSome};
+    ghost use Rattle.rec_words.specs.Words.{node_word};
+    ghost use Rattle.std.specs.Prelude.{◌-◌, ◌≡◌, ◌^◌, ◌<◌, ◌≤◌, IsTrue, true, OnOk, IfOk, IfErr, IsSome};
     ghost use Rattle.shelf_model.specs.World.{now};
     ghost use Rattle.shelf_model.specs.Calls.{Told};
     ghost use Rattle.shelf_model.specs.Moments.{Ran};
@@ -17,6 +18,7 @@ impl<'r> ReduceSweep<'r> {
     ghost use Rattle.node_file.specs.Writers.{filling_of};
     ghost use Rattle.run_merge.specs.Faults.{OnlySortShelf};
     ghost use Rattle.sweep_core.specs.Sweeps.{OnlyOwn};
+    ghost use Rattle.reduce_sweep.specs.Remaining.{Diagram, IsOf, IsWorking, Contents, Holds, SameButNodes, PutsNode, IsNumbered, is_last};
     ghost use Rattle.reduce_sweep.specs.Sweeps.{Owns, inner_file, ends_file, IsSound, SameTask, Refuses, SamePlace, Lightens, weight, MovesOn};
 
     /// Names the source of the next row, whose node is put where its pair is a new one.
@@ -30,6 +32,10 @@ impl<'r> ReduceSweep<'r> {
         ensures lightens { IfOk result (Lightens self.old self.new) }
         ensures next { IfOk result (MovesOn Phase.Forward self.new.phase) }
         ensures count { self.new.count ≡ self.old.count }
+
+        // what remains
+        ensures keeps { OnOk result (IsTrue (S.tells shelf.new) → (d : Diagram) → IsOf self.old d →
+            IsWorking self.old (S.world shelf.old) d → IsWorking self.new (S.world shelf.new) d) }
 
         // what the call leaves
         ensures content { Told S.tells shelf.old shelf.new
@@ -64,6 +70,12 @@ impl<'r> ReduceSweep<'r> {
         ensures weight { weight self.new ≡ weight self.old }
         ensures numbered { OnOk result (1 ≤ self.new.number) }
 
+        // what remains
+        ensures rest { SameButNodes self.old self.new }
+        ensures pair { OnOk result (IsNumbered self.old row.now self.new) }
+        ensures put { OnOk result (IsTrue (S.tells shelf.new) → (k : Contents) →
+            Holds self.old (S.world shelf.old) k → PutsNode self.old row.now self.new (S.world shelf.new) k) }
+
         // what the call leaves
         ensures content { Told S.tells shelf.old shelf.new
             (Ran (OnlyOwn (Owns self.old) (now (S.world shelf.old))) (S.world shelf.old) (S.world shelf.new)) }
@@ -89,7 +101,8 @@ impl<'r> ReduceSweep<'r> {
 
     // Whether the row that got its number last has the same pair.
     fn has_last(&self, row: &SourceRow) -> bool
-        ensures { result ≡ true → IsSome self.now.pair }
+        ensures last { result ≡ is_last self.now.pair row.now }
+        ensures some { result ≡ true → IsSome self.now.pair }
     {
         match &self.pair {
             Some((low, high)) => *low == row.low && *high == row.high,
@@ -101,7 +114,8 @@ impl<'r> ReduceSweep<'r> {
     fn node(&self) -> Ptr
         requires level { self.now.level ≤ 65534 }
         requires number { (1 ≤ self.now.number) × (self.now.number ≤ 2 ^ 47) }
-        ensures { result < 2 ^ 63 }
+        ensures value { result ≡ node_word self.now.level (2 ^ 47 - self.now.number) }
+        ensures below { result < 2 ^ 63 }
     {
         Ptr::node(self.level as u16, TOP + 1 - self.number)
     }
