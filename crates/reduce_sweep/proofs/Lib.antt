@@ -1,4 +1,9 @@
 mod Owning
 mod Frames
-mod ArcFrames
+mod CallFrames
+mod NextArcs
 mod NumberingKeeps
+mod LevelKeeps
+mod ForwardingKeeps
+mod StartKeeps
+mod CollectingKeeps

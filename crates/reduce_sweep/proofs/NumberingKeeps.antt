@@ -2,8 +2,8 @@
 use Rattle.std.proofs.lemmas.Bool.{true≢false}
 use Rattle.std.proofs.lemmas.Bool.Decides.{nat_tests}
 use Rattle.std.proofs.lemmas.List.{length-append}
-use Rattle.std.proofs.Common.{◌≡◌, ◌≢◌, ◌⊎◌, ℕ, ◌≤◌, ◌<◌, arith, refl, ap, sym, subst, ◌∙◌, inl, inr, List, ◌++◌}
-use Rattle.std.specs.Prelude.{◌+◌, ◌-◌, ◌^◌, ◌∷◌, [], ◌==◌, ◌&&◌, Bool, true, false, cond, Option, Some, None, IsSome, map, length}
+use Rattle.std.proofs.Common.{◌≡◌, ◌≢◌, ℕ, ◌≤◌, arith, refl, ap, sym, subst, ◌∙◌, List, ◌++◌}
+use Rattle.std.specs.Prelude.{◌+◌, ◌-◌, ◌^◌, ◌∷◌, [], Bool, true, false, cond, Option, Some, None, IsSome, map, length}
 use Rattle.std.specs.List.Sorted.{IsPermutation}
 use Rattle.rec_words.specs.Words.{node_word}
 use Rattle.rec_words.specs.declared.node.Node.{Node}
@@ -21,7 +21,8 @@ use Rattle.arc_diagrams.proofs.RowLists.{after-new}
 use Rattle.arc_diagrams.proofs.Phases.{row_numbered, row_shared, names_begin}
 use Rattle.arc_diagrams.proofs.SameLists.{numbers-same}
 use Rattle.reduce_sweep.specs.declared.reduce.ReduceSweep.{ReduceSweep}
-use Rattle.reduce_sweep.specs.Remaining.{Diagram, Contents, IsOf, AreNumbered, AreForwarded, is_last, last_row, to_collect, number_with, nodes_with}
+use Rattle.reduce_sweep.specs.Remaining.{Diagram, Contents, IsOf, AreNumbered, AreForwarded, AreUnnumbered, last_row, to_collect}
+use Rattle.reduce_sweep.specs.Changes.{is_last, number_with, nodes_with}
 
 -- names in another order are the same
 numbering-same : (n root i : ℕ) (arcs queue unread : List Arc) (done : List Row) (last : Option Row) (rows : List SourceRow) (names other : List Name) (nodes : List Node) (known : Option ℕ)
@@ -104,14 +105,15 @@ row_kept s u k r rest names nodes d m done is_of taken are n_is root_is level_is
 
 -- all rows have their numbers
 pub rows_kept : (s u : ReduceSweep) (k : Contents) (d : Diagram) (done : List Row) → IsOf s d → k.rows ≡ [] → AreNumbered s d k done
-    → u.writer.n ≡ s.writer.n → u.root ≡ s.root → u.level ≡ s.level → u.known ≡ s.known → u.source ≡ s.source → AreForwarded u d k
-rows_kept s u k d done is_of none are n_is root_is level_is known_is source_is =
+    → u.writer.n ≡ s.writer.n → u.root ≡ s.root → u.level ≡ s.level → u.known ≡ s.known → u.source ≡ s.source → AreUnnumbered u → AreForwarded u d k
+rows_kept s u k d done is_of none are n_is root_is level_is known_is source_is fresh =
     let begun = names_begin s.writer.n s.root s.level d.arcs (to_collect k) k.inner done (last_row s.pair) k.names k.nodes s.known is_of.diagram.complete
     (subst (λ rows. IsNumbering s.writer.n s.root s.level d.arcs (to_collect k) k.inner done (last_row s.pair) rows k.names k.nodes s.known) none are.numbering) in
     record {
       forwarding = subst (λ v. v) (λ j. IsForwarding (sym n_is j) (sym root_is j) (sym level_is j) d.arcs (to_collect k) k.inner k.names k.nodes (sym known_is j)) begun;
       no_rows = none;
       no_source = source_is ∙ are.no_source;
+      unnumbered = fresh;
     }
 
 -- what is none of the items is None

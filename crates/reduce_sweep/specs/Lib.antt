@@ -1,3 +1,4 @@
 pub mod Sources
 pub mod Sweeps
 pub mod Remaining
+pub mod Changes

@@ -112,6 +112,8 @@ pub record SameTask (old new : ReduceSweep) : Type 0 where
   pub inner_is : inner_file new ≡ inner_file old
   pub ends_are : ends_file new ≡ ends_file old
   pub turns_are : new.turns ≡ old.turns
+  pub variables_are : new.writer.n ≡ old.writer.n
+  pub root_is : new.root ≡ old.root
   pub queue_room : queues.room_of new.queue ≡ queues.room_of old.queue
   pub rows_room : sorters.room_of new.rows ≡ sorters.room_of old.rows
   pub names_room : sorters.room_of new.names ≡ sorters.room_of old.names
@@ -182,7 +184,3 @@ IsArcDamage inner ends Shelf = Unit
 IsArcDamage inner ends (Damaged f at) = (f ≡ inner) ⊎ (f ≡ ends)
 IsArcDamage inner ends RunsSpent = ⊥
 IsArcDamage inner ends RoomFull = ⊥
-
--- of the job of a reduction nothing is promised yet: what remains of it isn't said
-abbrev pub NoPromise : Type 0
-NoPromise = Unit {0}

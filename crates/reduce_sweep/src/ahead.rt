@@ -4,7 +4,7 @@ use arc_diagrams::FinalArc;
 use shelf_model::{Shelf, SortFault};
 
 impl<'r> ReduceSweep<'r> {
-    ghost use Rattle.std.specs.Prelude.{◌≡◌, ◌+◌, IsTrue, true, OnOk, IfOk, IfErr, IfSome};
+    ghost use Rattle.std.specs.Prelude.{◌≡◌, ◌+◌, Bool, IsTrue, true, OnOk, IfOk, IfErr, IfSome};
     ghost use Rattle.shelf_model.specs.World.{now};
     ghost use Rattle.shelf_model.specs.Calls.{Told};
     ghost use Rattle.shelf_model.specs.Moments.{Ran};
@@ -12,6 +12,9 @@ impl<'r> ReduceSweep<'r> {
     ghost use Rattle.node_file.specs.Writers.{filling_of};
     ghost use Rattle.run_merge.specs.Faults.{OnlySortShelf};
     ghost use Rattle.sweep_core.specs.Sweeps.{OnlyOwn};
+    ghost use Rattle.arc_diagrams.specs.declared.final_arc.FinalArc.{FinalArc};
+    ghost use Rattle.reduce_sweep.specs.Remaining.{Contents, Holds};
+    ghost use Rattle.reduce_sweep.specs.Changes.{SameButQueue, SameButAhead, IsAt, ComesFirst, Passes};
     ghost use Rattle.reduce_sweep.specs.Sweeps.{Owns, inner_file, ends_file, IsSound, SameTask, Refuses, SamePlace, IsNext, weight};
 
     /// The next arc to collect, and whether it is of the queue.
@@ -28,6 +31,15 @@ impl<'r> ReduceSweep<'r> {
         ensures source { self.new.source ≡ self.old.source }
         ensures weight { OnOk result (weight self.new ≡ weight self.old) }
         ensures next { IfOk result (λ found. IfSome found (λ next. IsNext self.new next.1)) }
+
+        // what remains
+        ensures rest { SameButQueue self.old self.new }
+        ensures shown { OnOk result (IsTrue (S.tells shelf.new) → (whole : Bool) → (k : Contents) →
+            Holds whole self.old (S.world shelf.old) k → Holds whole self.new (S.world shelf.new) k) }
+        ensures at { IfOk result (λ found. IsTrue (S.tells shelf.new) → (whole : Bool) → (k : Contents) →
+            Holds whole self.old (S.world shelf.old) k → IfSome found (λ next. IsAt whole next.1 k next.0)) }
+        ensures first { IfOk result (λ found. IsTrue (S.tells shelf.new) → (k : Contents) →
+            Holds true self.old (S.world shelf.old) k → ComesFirst k found) }
 
         // what the call leaves
         ensures content { Told S.tells shelf.old shelf.new
@@ -65,6 +77,12 @@ impl<'r> ReduceSweep<'r> {
         ensures source { self.new.source ≡ self.old.source }
         ensures weight { OnOk result (weight self.new + 3 ≡ weight self.old) }
 
+        // what remains
+        ensures rest { SameButAhead self.old self.new }
+        ensures passed { OnOk result (IsTrue (S.tells shelf.new) → (whole : Bool) → (k : Contents) → (arc : FinalArc) →
+            IsAt whole queued k arc → Holds whole self.old (S.world shelf.old) k →
+            Passes whole queued self.new (S.world shelf.new) k arc) }
+
         // what the call leaves
         ensures content { Told S.tells shelf.old shelf.new
             (Ran (OnlyOwn (Owns self.old) (now (S.world shelf.old))) (S.world shelf.old) (S.world shelf.new)) }
@@ -90,6 +108,12 @@ impl<'r> ReduceSweep<'r> {
         ensures place { SamePlace self.old self.new }
         ensures source { self.new.source ≡ self.old.source }
         ensures weight { OnOk result (weight self.new + 3 ≡ weight self.old) }
+
+        // what remains
+        ensures rest { SameButQueue self.old self.new }
+        ensures taken { OnOk result (IsTrue (S.tells shelf.new) → (whole : Bool) → (k : Contents) → (arc : FinalArc) →
+            IsAt whole true k arc → Holds whole self.old (S.world shelf.old) k →
+            Passes whole true self.new (S.world shelf.new) k arc) }
 
         // what the call leaves
         ensures content { Told S.tells shelf.old shelf.new

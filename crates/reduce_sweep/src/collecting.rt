@@ -9,7 +9,7 @@ use arc_diagrams::{FinalArc, Name, SourceRow};
 use shelf_model::{Shelf, SortFault};
 
 impl<'r> ReduceSweep<'r> {
-    ghost use Rattle.std.specs.Prelude.{◌≢◌, ◌+◌, IsTrue, true, OnOk, IfOk, IfErr, None, IsSome};
+    ghost use Rattle.std.specs.Prelude.{◌≢◌, ◌+◌, Bool, IsTrue, true, OnOk, IfOk, IfErr, None, IsSome};
     ghost use Rattle.shelf_model.specs.World.{now};
     ghost use Rattle.shelf_model.specs.Calls.{Told};
     ghost use Rattle.shelf_model.specs.Moments.{Ran};
@@ -17,7 +17,8 @@ impl<'r> ReduceSweep<'r> {
     ghost use Rattle.node_file.specs.Writers.{filling_of};
     ghost use Rattle.run_merge.specs.Faults.{OnlySortShelf};
     ghost use Rattle.sweep_core.specs.Sweeps.{OnlyOwn};
-    ghost use Rattle.reduce_sweep.specs.Remaining.{Contents, Holds, SameButNames, JoinsNames};
+    ghost use Rattle.reduce_sweep.specs.Remaining.{Diagram, Contents, Holds, IsOf, IsWorking};
+    ghost use Rattle.reduce_sweep.specs.Changes.{SameButNames, JoinsNames, SameButRows, JoinsRows, SameButCollected, Closes, going_on, closed_by, noted_with, IsToCollect, IsCollectingIn};
     ghost use Rattle.reduce_sweep.specs.Sweeps.{Owns, inner_file, ends_file, IsSound, SameTask, Refuses, SamePlace, SameArcs, IsNext, Lightens, weight, MovesOn};
 
     /// Collects an arc of the level at hand, or ends the collecting where the next one is of a shallower level.
@@ -32,6 +33,10 @@ impl<'r> ReduceSweep<'r> {
         ensures lightens { IfOk result (Lightens self.old self.new) }
         ensures next { IfOk result (MovesOn Phase.Number self.new.phase) }
         ensures count { self.new.count ≡ self.old.count }
+
+        // what remains
+        ensures keeps { OnOk result (IsTrue (S.tells shelf.new) → (d : Diagram) → IsOf self.old d →
+            IsWorking self.old (S.world shelf.old) d → IsWorking self.new (S.world shelf.new) d) }
 
         // what the call leaves
         ensures content { Told S.tells shelf.old shelf.new
@@ -68,6 +73,11 @@ impl<'r> ReduceSweep<'r> {
         ensures place { SamePlace self.old self.new }
         ensures weight { OnOk result (weight self.new + 1 ≤ weight self.old) }
 
+        // what remains
+        ensures keeps { OnOk result (IsTrue (S.tells shelf.new) → (d : Diagram) → (k : Contents) → here ≡ true →
+            IsOf self.old d → Holds true self.old (S.world shelf.old) k → IsToCollect self.old d k queued arc.now →
+            IsCollectingIn self.new (S.world shelf.new) d) }
+
         // what the call leaves
         ensures content { Told S.tells shelf.old shelf.new
             (Ran (OnlyOwn (Owns self.old) (now (S.world shelf.old))) (S.world shelf.old) (S.world shelf.new)) }
@@ -91,6 +101,13 @@ impl<'r> ReduceSweep<'r> {
         ensures arcs { SameArcs self.old self.new }
         ensures weight { OnOk result (weight self.new ≤ weight self.old + 2) }
 
+        // what remains
+        ensures rest { SameButCollected self.old self.new }
+        ensures source { OnOk result (self.new.source ≡ Some (noted_with self.old.source arc.now)) }
+        ensures closed { OnOk result (IsTrue (S.tells shelf.new) → (whole : Bool) → (k : Contents) →
+            Holds whole self.old (S.world shelf.old) k →
+            Closes whole (closed_by self.old.source arc.now) self.new (S.world shelf.new) k) }
+
         // what the call leaves
         ensures content { Told S.tells shelf.old shelf.new
             (Ran (OnlyOwn (Owns self.old) (now (S.world shelf.old))) (S.world shelf.old) (S.world shelf.new)) }
@@ -108,7 +125,8 @@ impl<'r> ReduceSweep<'r> {
 
     // The source at hand with the arc noted, where it is the arc's.
     fn noted(&self, arc: &FinalArc) -> Option<Source>
-        ensures { IsSome result → IsSome self.now.source }
+        ensures some { IsSome result → IsSome self.now.source }
+        ensures going { result ≡ going_on self.now.source arc.now }
     {
         match &self.source {
             Some(source) if source.uid == arc.source => Some(source.noted(arc.high, arc.target)),
@@ -127,6 +145,11 @@ impl<'r> ReduceSweep<'r> {
         ensures arcs { SameArcs self.old self.new }
         ensures none { OnOk result (self.new.source ≡ None) }
         ensures weight { OnOk result (weight self.new ≤ weight self.old) }
+
+        // what remains
+        ensures rest { SameButCollected self.old self.new }
+        ensures closed { OnOk result (IsTrue (S.tells shelf.new) → (whole : Bool) → (k : Contents) →
+            Holds whole self.old (S.world shelf.old) k → Closes whole self.old.source self.new (S.world shelf.new) k) }
 
         // what the call leaves
         ensures content { Told S.tells shelf.old shelf.new
@@ -162,6 +185,11 @@ impl<'r> ReduceSweep<'r> {
         ensures source { self.new.source ≡ self.old.source }
         ensures weight { OnOk result (weight self.new ≡ weight self.old + 2) }
 
+        // what remains
+        ensures rest { SameButRows self.old self.new }
+        ensures joined { OnOk result (IsTrue (S.tells shelf.new) → (whole : Bool) → (k : Contents) →
+            Holds whole self.old (S.world shelf.old) k → JoinsRows whole self.new (S.world shelf.new) k row) }
+
         // what the call leaves
         ensures content { Told S.tells shelf.old shelf.new
             (Ran (OnlyOwn (Owns self.old) (now (S.world shelf.old))) (S.world shelf.old) (S.world shelf.new)) }
@@ -189,8 +217,8 @@ impl<'r> ReduceSweep<'r> {
 
         // what remains
         ensures rest { SameButNames self.old self.new }
-        ensures joined { OnOk result (IsTrue (S.tells shelf.new) → (k : Contents) →
-            Holds self.old (S.world shelf.old) k → JoinsNames self.new (S.world shelf.new) k name) }
+        ensures joined { OnOk result (IsTrue (S.tells shelf.new) → (whole : Bool) → (k : Contents) →
+            Holds whole self.old (S.world shelf.old) k → JoinsNames whole self.new (S.world shelf.new) k name) }
 
         // what the call leaves
         ensures content { Told S.tells shelf.old shelf.new

@@ -6,7 +6,7 @@ use shelf_model::{Shelf, SortFault};
 
 impl<'r> ReduceSweep<'r> {
     ghost use Rattle.arc_diagrams.specs.declared.name.Name.{Name};
-    ghost use Rattle.std.specs.Prelude.{List, ◌∷◌, ◌≡◌, ◌≤◌, ◌+◌, IsTrue, OnOk, IfOk, IfErr, IsSome};
+    ghost use Rattle.std.specs.Prelude.{List, ◌∷◌, ◌≡◌, ◌≤◌, ◌+◌, Bool, IsTrue, true, OnOk, IfOk, IfErr, IsSome};
     ghost use Rattle.shelf_model.specs.World.{now};
     ghost use Rattle.shelf_model.specs.Calls.{Told};
     ghost use Rattle.shelf_model.specs.Moments.{Ran};
@@ -14,7 +14,8 @@ impl<'r> ReduceSweep<'r> {
     ghost use Rattle.node_file.specs.Writers.{filling_of};
     ghost use Rattle.run_merge.specs.Faults.{OnlySortShelf};
     ghost use Rattle.sweep_core.specs.Sweeps.{OnlyOwn};
-    ghost use Rattle.reduce_sweep.specs.Remaining.{Contents, Holds, SameButInner, PassesInner, SameButKnown, known_with, LeavesNames, SameButQueue, JoinsQueue};
+    ghost use Rattle.reduce_sweep.specs.Remaining.{Diagram, Contents, Holds, IsOf, IsWorking, AreForwarded};
+    ghost use Rattle.reduce_sweep.specs.Changes.{SameButInner, PassesInner, SameButKnown, known_with, LeavesNames, SameButQueue, JoinsQueue, IsForwardingIn, ClosesLevel};
     ghost use Rattle.reduce_sweep.specs.Sweeps.{Owns, inner_file, ends_file, IsSound, SameTask, Refuses, SamePlace, Lightens, weight, MovesOn};
     ghost use Rattle.run_merge.specs.Sorters.{held};
 
@@ -29,6 +30,11 @@ impl<'r> ReduceSweep<'r> {
         ensures lightens { IfOk result (Lightens self.old self.new) }
         ensures next { IfOk result (MovesOn Phase.Collect self.new.phase) }
         ensures count { self.new.count ≡ self.old.count }
+
+        // what remains
+        ensures closed { IfOk result (ClosesLevel self.new) }
+        ensures keeps { OnOk result (IsTrue (S.tells shelf.new) → (d : Diagram) → IsOf self.old d →
+            IsWorking self.old (S.world shelf.old) d → IsWorking self.new (S.world shelf.new) d) }
 
         // what the call leaves
         ensures content { Told S.tells shelf.old shelf.new
@@ -55,6 +61,11 @@ impl<'r> ReduceSweep<'r> {
         ensures task { SameTask self.old self.new }
         ensures place { SamePlace self.old self.new }
         ensures weight { OnOk result (weight self.new + 1 ≤ weight self.old) }
+
+        // what remains
+        ensures keeps { OnOk result (IsTrue (S.tells shelf.new) → (d : Diagram) → (k : Contents) → (rest : List Name) →
+            k.names ≡ name.now ∷ rest → IsOf self.old d → Holds true self.old (S.world shelf.old) k →
+            AreForwarded self.old d k → IsForwardingIn self.new (S.world shelf.new) d) }
 
         // what the call leaves
         ensures content { Told S.tells shelf.old shelf.new
@@ -94,8 +105,8 @@ impl<'r> ReduceSweep<'r> {
 
         // what remains
         ensures rest { SameButQueue self.old self.new }
-        ensures joined { OnOk result (IsTrue (S.tells shelf.new) → (k : Contents) →
-            Holds self.old (S.world shelf.old) k → JoinsQueue self.new (S.world shelf.new) k told) }
+        ensures joined { OnOk result (IsTrue (S.tells shelf.new) → (whole : Bool) → (k : Contents) →
+            Holds whole self.old (S.world shelf.old) k → JoinsQueue whole self.new (S.world shelf.new) k told) }
 
         // what the call leaves
         ensures content { Told S.tells shelf.old shelf.new
@@ -133,8 +144,8 @@ impl<'r> ReduceSweep<'r> {
 
         // what remains
         ensures rest { SameButInner self.old self.new }
-        ensures passed { OnOk result (IsTrue (S.tells shelf.new) → (k : Contents) →
-            Holds self.old (S.world shelf.old) k → PassesInner self.old.inner self.new (S.world shelf.new) k) }
+        ensures passed { OnOk result (IsTrue (S.tells shelf.new) → (whole : Bool) → (k : Contents) →
+            Holds whole self.old (S.world shelf.old) k → PassesInner whole self.old.inner self.new (S.world shelf.new) k) }
 
         // what the call leaves
         ensures content { Told S.tells shelf.old shelf.new
@@ -160,9 +171,9 @@ impl<'r> ReduceSweep<'r> {
         // what remains
         ensures rest { SameButKnown self.old self.new }
         ensures known { OnOk result (self.new.known ≡ known_with self.old name.now) }
-        ensures left { OnOk result (IsTrue (S.tells shelf.new) → (k : Contents) → (rest : List Name) →
-            k.names ≡ name.now ∷ rest → Holds self.old (S.world shelf.old) k →
-            LeavesNames self.new (S.world shelf.new) k rest) }
+        ensures left { OnOk result (IsTrue (S.tells shelf.new) → (whole : Bool) → (k : Contents) →
+            (rest : List Name) → k.names ≡ name.now ∷ rest → Holds whole self.old (S.world shelf.old) k →
+            LeavesNames whole self.new (S.world shelf.new) k rest) }
 
         // what the call leaves
         ensures content { Told S.tells shelf.old shelf.new

@@ -10,7 +10,7 @@ const TOP: u64 = (1 << 47) - 1;
 
 impl<'r> ReduceSweep<'r> {
     ghost use Rattle.rec_words.specs.Words.{node_word};
-    ghost use Rattle.std.specs.Prelude.{◌-◌, ◌≡◌, ◌^◌, ◌<◌, ◌≤◌, IsTrue, true, OnOk, IfOk, IfErr, IsSome};
+    ghost use Rattle.std.specs.Prelude.{Bool, ◌-◌, ◌≡◌, ◌^◌, ◌<◌, ◌≤◌, IsTrue, true, OnOk, IfOk, IfErr, IsSome};
     ghost use Rattle.shelf_model.specs.World.{now};
     ghost use Rattle.shelf_model.specs.Calls.{Told};
     ghost use Rattle.shelf_model.specs.Moments.{Ran};
@@ -18,7 +18,8 @@ impl<'r> ReduceSweep<'r> {
     ghost use Rattle.node_file.specs.Writers.{filling_of};
     ghost use Rattle.run_merge.specs.Faults.{OnlySortShelf};
     ghost use Rattle.sweep_core.specs.Sweeps.{OnlyOwn};
-    ghost use Rattle.reduce_sweep.specs.Remaining.{Diagram, IsOf, IsWorking, Contents, Holds, SameButNodes, PutsNode, IsNumbered, is_last};
+    ghost use Rattle.reduce_sweep.specs.Remaining.{Diagram, IsOf, IsWorking, Contents, Holds};
+    ghost use Rattle.reduce_sweep.specs.Changes.{SameButNodes, PutsNode, IsNumbered, is_last};
     ghost use Rattle.reduce_sweep.specs.Sweeps.{Owns, inner_file, ends_file, IsSound, SameTask, Refuses, SamePlace, Lightens, weight, MovesOn};
 
     /// Names the source of the next row, whose node is put where its pair is a new one.
@@ -73,8 +74,8 @@ impl<'r> ReduceSweep<'r> {
         // what remains
         ensures rest { SameButNodes self.old self.new }
         ensures pair { OnOk result (IsNumbered self.old row.now self.new) }
-        ensures put { OnOk result (IsTrue (S.tells shelf.new) → (k : Contents) →
-            Holds self.old (S.world shelf.old) k → PutsNode self.old row.now self.new (S.world shelf.new) k) }
+        ensures put { OnOk result (IsTrue (S.tells shelf.new) → (whole : Bool) → (k : Contents) →
+            Holds whole self.old (S.world shelf.old) k → PutsNode whole self.old row.now self.new (S.world shelf.new) k) }
 
         // what the call leaves
         ensures content { Told S.tells shelf.old shelf.new

@@ -1,4 +1,7 @@
 //! The beginning of a reduction.
+ghost use Rattle.std.specs.Prelude.{◌≡◌, Some};
+ghost use Rattle.rec_words.specs.Words.{IsTerminal};
+
 use crate::phase::Phase;
 use crate::reduce::ReduceSweep;
 use arc_file::{ArcReader, Unreduced};
@@ -14,8 +17,13 @@ const READING: usize = 256;
 const WRITING: usize = 88;
 
 impl<'r> ReduceSweep<'r> {
-    ghost use Rattle.std.specs.Prelude.{◌≡◌, ◌≢◌, ℕ, ◌+◌, ◌*◌, ◌^◌, ◌≤◌, IsTrue, OnOk, IfOk, IfErr, None, length};
-    ghost use Rattle.shelf_model.specs.World.{now};
+    ghost use Rattle.std.specs.Prelude.{◌≡◌, ◌≢◌, ℕ, ◌+◌, ◌*◌, ◌^◌, ◌≤◌, IsTrue, List, ◌++◌, OnOk, IfOk, IfErr, None, length};
+    ghost use Rattle.shelf_model.specs.World.{now, file};
+    ghost use Rattle.arc_file.specs.declared.arc.Arc.{Arc};
+    ghost use Rattle.arc_file.specs.declared.kind.Kind.TheVariants.{Inner, End};
+    ghost use Rattle.arc_file.specs.Files.{HasArcs};
+    ghost use Rattle.arc_diagrams.specs.Laws.{IsDiagramOf};
+    ghost use Rattle.reduce_sweep.specs.Remaining.{Diagram, RemainsOf};
     ghost use Rattle.shelf_model.specs.Calls.{Told};
     ghost use Rattle.shelf_model.specs.Moments.{Ran};
     ghost use Rattle.run_merge.specs.Faults.{OnlySortShelf};
@@ -59,6 +67,12 @@ impl<'r> ReduceSweep<'r> {
         ensures rooms { IfOk result (λ r. (3 * length room.entry.now ≤ 16 * queues.room_of r.queue)
             × (length room.entry.now ≤ 16 * sorters.room_of r.rows) × (length room.entry.now ≤ 16 * sorters.room_of r.names)) }
 
+        // what remains
+        ensures remains { IfOk result (λ r. IsTrue (S.tells shelf.new) → (d : Diagram) → (inner ends : List Arc) →
+            HasArcs Inner inner made.inner_count (file (S.world shelf.old) made.inner).bytes →
+            HasArcs End ends made.ends_count (file (S.world shelf.old) made.ends).bytes →
+            d.arcs ≡ inner ++ ends → IsDiagramOf n made.root d.arcs d.table → RemainsOf r (S.world shelf.new) d) }
+
         // what the call leaves
         ensures content { Told S.tells shelf.old shelf.new
             (Ran (OnlyOwn (IsOut out) (now (S.world shelf.old))) (S.world shelf.old) (S.world shelf.new)) }
@@ -76,7 +90,7 @@ impl<'r> ReduceSweep<'r> {
         let inner = reader.next_inner(shelf)?;
         let end = reader.next_end(shelf)?;
         let root = reader.left_over().root;
-        let known = root.value().map(Ptr::terminal);
+        let known = final_from_start(root);
         Ok(ReduceSweep {
             root,
             reader,
@@ -98,5 +112,15 @@ impl<'r> ReduceSweep<'r> {
             count: None,
             turns: 0,
         })
+    }
+}
+
+// The final pointer of a truth value, which is itself. That of a node isn't known at first.
+fn final_from_start(root: Ptr) -> Option<Ptr>
+    ensures { IsTerminal root → result ≡ Some root }
+{
+    match root.value() {
+        Some(value) => Some(Ptr::terminal(value)),
+        None => None,
     }
 }

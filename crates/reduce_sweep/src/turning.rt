@@ -7,14 +7,16 @@ use shelf_model::{Shelf, SortFault};
 use sweep_core::{Sweep, Turn};
 
 impl<'r> ReduceSweep<'r> {
-    ghost use Rattle.std.specs.Prelude.{◌≡◌, ◌≢◌, ◌≤◌, ◌+◌, IsTrue, true, OnOk, IfOk, IfErr};
-    ghost use Rattle.shelf_model.specs.World.{now};
+    ghost use Rattle.std.specs.Prelude.{◌≡◌, ◌≢◌, ◌≤◌, ◌<◌, ◌+◌, Bool, IsTrue, false, true, [], OnOk, IfOk, IfErr};
+    ghost use Rattle.shelf_model.specs.World.{World, now};
     ghost use Rattle.shelf_model.specs.Calls.{Told};
     ghost use Rattle.shelf_model.specs.Moments.{Ran};
     ghost use Rattle.block_stream.specs.Writes.{InStep};
     ghost use Rattle.node_file.specs.Writers.{filling_of};
     ghost use Rattle.run_merge.specs.Faults.{OnlySortShelf};
     ghost use Rattle.sweep_core.specs.Sweeps.{OnlyOwn, Falls, Counts};
+    ghost use Rattle.reduce_sweep.specs.Remaining.{Diagram, Contents, Holds, IsOf, IsWorking, IsBetween, to_collect, IsReduced, IsOnTheWay, RemainsOf};
+    ghost use Rattle.reduce_sweep.specs.Changes.{OpensLevel, ClosesLevel, IsDoneAt};
     ghost use Rattle.reduce_sweep.specs.Sweeps.{Owns, inner_file, ends_file, IsSound, SameTask, Refuses, IsReady, IsInStep, Lightens, Opens, SameArcs, EndsAt, CountsAtEnd, count_in, turns_left, turns_of, weight};
     ghost use Rattle.shelf_model.specs.declared.file_no.FileNo.{FileNo};
 
@@ -31,6 +33,12 @@ impl<'r> ReduceSweep<'r> {
         ensures counts { Counts (turns_of self.old) (turns_of self.new) result }
         ensures ends { IfOk result (λ turn. CountsAtEnd turn (count_in self.new)) }
         ensures fewer { (f : FileNo) → Owns self.new f → Owns self.old f }
+
+        // what remains
+        ensures keeps { OnOk result (IsTrue (S.tells shelf.new) → (d : Diagram) →
+            RemainsOf self.old (S.world shelf.old) d → RemainsOf self.new (S.world shelf.new) d) }
+        ensures reduced { IfOk result (λ turn. IsTrue (S.tells shelf.new) → (d : Diagram) →
+            RemainsOf self.old (S.world shelf.old) d → IsDoneAt turn self.new (S.world shelf.new) d) }
 
         // what the call leaves
         ensures content { Told S.tells shelf.old shelf.new
@@ -54,6 +62,10 @@ impl<'r> ReduceSweep<'r> {
         ensures task { SameTask self.old self.new }
         ensures falls { Falls (turns_left self.old) (turns_left self.new) result }
         ensures ends { IfOk result (λ turn. EndsAt turn self.new) }
+
+        // what remains
+        ensures keeps { OnOk result (IsTrue (S.tells shelf.new) → (d : Diagram) →
+            RemainsOf self.old (S.world shelf.old) d → RemainsOf self.new (S.world shelf.new) d) }
 
         // what the call leaves
         ensures content { Told S.tells shelf.old shelf.new
@@ -82,6 +94,11 @@ impl<'r> ReduceSweep<'r> {
         ensures next { OnOk result (self.new.phase ≢ Phase.Ended) }
         ensures count { self.new.count ≡ self.old.count }
 
+        // what remains
+        ensures closed { IfOk result (ClosesLevel self.new) }
+        ensures keeps { OnOk result (IsTrue (S.tells shelf.new) → (d : Diagram) → IsOf self.old d →
+            IsWorking self.old (S.world shelf.old) d → IsWorking self.new (S.world shelf.new) d) }
+
         // what the call leaves
         ensures content { Told S.tells shelf.old shelf.new
             (Ran (OnlyOwn (Owns self.old) (now (S.world shelf.old))) (S.world shelf.old) (S.world shelf.new)) }
@@ -109,6 +126,11 @@ impl<'r> ReduceSweep<'r> {
         ensures next { OnOk result (self.new.phase ≢ Phase.Ended) }
         ensures count { self.new.count ≡ self.old.count }
 
+        // what remains
+        ensures closed { IfOk result (ClosesLevel self.new) }
+        ensures keeps { OnOk result (IsTrue (S.tells shelf.new) → (d : Diagram) → IsOf self.old d →
+            IsWorking self.old (S.world shelf.old) d → IsWorking self.new (S.world shelf.new) d) }
+
         // what the call leaves
         ensures content { Told S.tells shelf.old shelf.new
             (Ran (OnlyOwn (Owns self.old) (now (S.world shelf.old))) (S.world shelf.old) (S.world shelf.new)) }
@@ -133,6 +155,11 @@ impl<'r> ReduceSweep<'r> {
         ensures next { OnOk result (self.new.phase ≢ Phase.Ended) }
         ensures count { self.new.count ≡ self.old.count }
 
+        // what remains
+        ensures closed { IfOk result (ClosesLevel self.new) }
+        ensures keeps { OnOk result (IsTrue (S.tells shelf.new) → (d : Diagram) → IsOf self.old d →
+            IsWorking self.old (S.world shelf.old) d → IsWorking self.new (S.world shelf.new) d) }
+
         // what the call leaves
         ensures content { Told S.tells shelf.old shelf.new
             (Ran (OnlyOwn (Owns self.old) (now (S.world shelf.old))) (S.world shelf.old) (S.world shelf.new)) }
@@ -147,13 +174,18 @@ impl<'r> ReduceSweep<'r> {
 
     // Opens the level of the next arc, or ends the reduction where there is none.
     fn open_level<S: Shelf>(&mut self, shelf: &mut S) -> Result<Turn, SortFault>
-        requires going { self.old.phase ≢ Phase.Ended }
+        requires phase { self.old.phase ≡ Phase.Collect }
+        requires closed { self.old.open ≡ false }
         requires sound { IsSound self.old }
         requires in_step { IsTrue (S.tells shelf.old) → InStep (filling_of self.old.writer) (S.world shelf.old) }
         ensures sound { OnOk result (IsSound self.new) }
         ensures in_step { OnOk result (IsTrue (S.tells shelf.new) → IsInStep self.new (S.world shelf.new)) }
         ensures task { SameTask self.old self.new }
         ensures opens { IfOk result (Opens self.old self.new) }
+
+        // what remains
+        ensures keeps { OnOk result (IsTrue (S.tells shelf.new) → (d : Diagram) → IsOf self.old d →
+            IsWorking self.old (S.world shelf.old) d → IsOnTheWay self.new.phase self.new (S.world shelf.new) d) }
 
         // what the call leaves
         ensures content { Told S.tells shelf.old shelf.new
@@ -181,6 +213,9 @@ impl<'r> ReduceSweep<'r> {
         ensures count { self.new.count ≡ self.old.count }
         ensures weight { weight self.new ≡ weight self.old }
         ensures arcs { SameArcs self.old self.new }
+        ensures opened { level < self.old.level → (result ≡ true) × OpensLevel self.old level self.new }
+        ensures holds { (whole : Bool) → (world : World) → (k : Contents) →
+            Holds whole self.old world k → Holds whole self.new world k }
     {
         if level >= self.level {
             return false;
@@ -198,6 +233,11 @@ impl<'r> ReduceSweep<'r> {
         ensures task { SameTask self.old self.new }
         ensures ended { OnOk result (EndsAt Turn.Ended self.new) }
 
+        // what remains
+        ensures reduced { OnOk result (IsTrue (S.tells shelf.new) → (d : Diagram) → (k : Contents) → IsOf self.old d →
+            Holds true self.old (S.world shelf.old) k → IsBetween self.old d k → to_collect k ≡ [] →
+            IsReduced self.new (S.world shelf.new) d) }
+
         // what the call leaves
         ensures content { Told S.tells shelf.old shelf.new
             (Ran (OnlyOwn (Owns self.old) (now (S.world shelf.old))) (S.world shelf.old) (S.world shelf.new)) }
@@ -213,11 +253,12 @@ impl<'r> ReduceSweep<'r> {
 }
 
 impl<'r> Sweep<'r> for ReduceSweep<'r> {
-    ghost use Rattle.reduce_sweep.specs.Sweeps.{Owns, IsReady, IsInStep, turns_left, turns_of, NoPromise};
+    ghost use Rattle.reduce_sweep.specs.Remaining.{Diagram, RemainsOf};
+    ghost use Rattle.reduce_sweep.specs.Sweeps.{Owns, IsReady, IsInStep, turns_left, turns_of};
 
-    ghost Job = { NoPromise };
+    ghost Job = { Diagram };
 
-    ghost remains = { λ _ _ _. NoPromise };
+    ghost remains = { RemainsOf };
 
     ghost left = { turns_left };
 

@@ -1,5 +1,17 @@
+use Rattle.std.proofs.Common.{◌≡◌, ◌≤◌, ◌<◌, arith, refl, subst, ◌∙◌}
+use Rattle.std.proofs.lemmas.Bool.Decides.{nat_tests}
+use Rattle.std.specs.Prelude.{Bool, IfSome, Option, true}
+use Rattle.rec_words.specs.Words.{level_of}
+use Rattle.canon_file.specs.Members.{Has}
+use Rattle.arc_file.specs.declared.arc.Arc.{Arc}
+use Rattle.arc_diagrams.specs.declared.final_arc.FinalArc.{FinalArc}
+use Rattle.reduce_sweep.specs.Remaining.{to_collect}
+use Rattle.reduce_sweep.specs.Changes.{IsAt, IsGreatest, ComesFirst}
 use Rattle.reduce_sweep.proofs.Owning.{own_more}
+use Rattle.reduce_sweep.proofs.NumberingKeeps.{none_from}
+use Rattle.reduce_sweep.proofs.CollectingKeeps.{collected_still, diagram_still, next_within, arc_below, none_below, collecting_from, working_from, holds_still, sources_closed}
 use Rattle.reduce_sweep.proofs.reduce.ReduceSweep.collect.Goals as goal
+use Rattle.reduce_sweep.proofs.reduce.ReduceSweep.collect.Goals.{in-Some+else-level-self, in_default}
 
 pub returns-in_err-take_arc-clause-content : goal.returns-in_err-take_arc-clause-content
 returns-in_err-take_arc-clause-content g c = own_more g.S.Shelf.tells g.S.Shelf.world _ _ _ _ _ c.next_arc.ensures.task c.next_arc.ensures.content c.take_arc.ensures.content
@@ -12,3 +24,49 @@ returns-in_err-close_source-clause-content g c = own_more g.S.Shelf.tells g.S.Sh
 
 pub returns-clause-content : goal.returns-clause-content
 returns-clause-content g c = own_more g.S.Shelf.tells g.S.Shelf.world _ _ _ _ _ c.next_arc.ensures.task c.next_arc.ensures.content c.close_source.ensures.content
+
+-- an arc of the level is taken
+pub returns-then-level-self-clause-keeps : goal.returns-then-level-self-clause-keeps
+returns-then-level-self-clause-keeps g c = λ told d is_of working.
+    let s = c.args.self.now in
+    let t = c.next_arc.new.self in
+    let a = c.in-Some.arc in
+    let shown = c.take_arc.ensures.content.before told in
+    let now = collecting_from s (g.S.Shelf.world c.args.shelf.now) d c.requires.phase c.requires.«open» working in
+    let k = now.contents in
+    let are = collected_still s t d k c.next_arc.ensures.rest c.next_arc.ensures.place now.collected in
+    let at : IsAt true c.in-Some.queued k a =
+    subst (λ (o : Option (FinalArc × Bool)). IfSome o (λ next. IsAt true next.1 k next.0)) c.in-Some.is (c.in_ok-arc.ensures.at shown true k now.holds) in
+    let first : IsGreatest k a = subst (ComesFirst k) c.in-Some.is (c.in_ok-arc.ensures.first shown k now.holds) in
+    let within : level_of a.source ≤ t.level = next_within t d k c.in-Some.queued a are at in
+    let level : c.source_level-level.result ≡ level_of a.source = c.source_level-level.ensures.level in
+    let over : t.level ≤ c.source_level-level.result = c.if-level-self.true in
+    let here : level_of a.source ≡ t.level = omega (arith, within, level, over) in
+    let kept = c.in_ok-take_arc.ensures.keeps told d k (grind (arith, nat_tests)) (diagram_still s t d c.next_arc.ensures.rest is_of) (c.in_ok-arc.ensures.shown shown true k now.holds)
+    (record { at = at; greatest = first; here = here; collected = are }) in
+    working_from c.take_arc.new.self (g.S.Shelf.world c.take_arc.new.shelf) d
+    (c.take_arc.ensures.place.phase_is ∙ c.next_arc.ensures.place.phase_is ∙ c.requires.phase) (c.take_arc.ensures.place.open_is ∙ c.next_arc.ensures.place.open_is ∙ c.requires.«open») kept
+
+-- no arc of the level is left
+pub returns-clause-keeps : goal.returns-clause-keeps
+returns-clause-keeps g c = λ told d is_of working.
+    let s = c.args.self.now in
+    let t = c.next_arc.new.self in
+    let shown = c.close_source.ensures.content.before told in
+    let now = collecting_from s (g.S.Shelf.world c.args.shelf.now) d c.requires.phase c.requires.«open» working in
+    let k = now.contents in
+    let first = c.in_ok-arc.ensures.first shown k now.holds in
+    let low : (q : Arc) → Has q (to_collect k) → level_of q.source < t.level =
+    elim c.match-branch-2.branch [
+      | in-Some+else-level-self w ↦
+          let level : w.source_level-level.result ≡ level_of w.in-Some.arc.source = w.source_level-level.ensures.level in
+          let under : w.source_level-level.result < t.level = w.if-level-self.false in
+          arc_below t.level k w.in-Some.arc (subst (ComesFirst k) w.in-Some.is first) (omega (arith, level, under))
+      | in_default w ↦ none_below t.level k (subst (ComesFirst k) (none_from _ w.in_default.not-Some) first)
+    ] in
+    sources_closed t c.close_source.new.self _ (g.S.Shelf.world c.close_source.new.shelf) d k (diagram_still s t d c.next_arc.ensures.rest is_of)
+    (collected_still s t d k c.next_arc.ensures.rest c.next_arc.ensures.place now.collected) low
+    c.close_source.ensures.rest c.close_source.ensures.place c.in_ok-close_source.ensures.none
+    (c.in_ok-close_source.ensures.closed told true k (c.in_ok-arc.ensures.shown shown true k now.holds))
+    refl refl refl refl refl refl refl refl
+    (λ more holds. holds_still c.close_source.new.self (g.S.Shelf.world c.close_source.new.shelf) more _ _ _ _ holds)

@@ -1,16 +1,17 @@
-use Rattle.std.proofs.Common.{rules, arith, ◌≡◌, ◌∙◌, refl, sym, ap, subst}
+use Rattle.std.proofs.Common.{rules, arith, ◌∙◌, refl, sym, ap, subst}
 use Rattle.reduce_sweep.specs.Sweeps.{parts_at}
 use Rattle.reduce_sweep.proofs.Owning.{own_more, stays_then}
 use Rattle.reduce_sweep.proofs.reduce.ReduceSweep.give_number.Goals as goal
-use Rattle.std.specs.Prelude.{Option, Ok, None, List, ◌-◌, ◌^◌}
+use Rattle.std.specs.Prelude.{Option, Ok, None, true, ◌-◌, ◌^◌}
 use Rattle.rec_words.specs.Words.{node_word}
 use Rattle.node_file.specs.declared.writer.NodeWriter.{NodeWriter}
 use Rattle.run_merge.specs.Lists.{Gives}
 use Rattle.run_merge.specs.Sorters as sorters
 use Rattle.arc_diagrams.specs.Items.{source_row_words, IsSourceRow, source_row_cmp}
 use Rattle.arc_diagrams.specs.declared.source_row.SourceRow.{SourceRow}
-use Rattle.reduce_sweep.specs.Remaining.{RemainsIn, nodes_with}
-use Rattle.reduce_sweep.proofs.Frames.{rows_left}
+use Rattle.reduce_sweep.specs.Remaining.{RemainsIn}
+use Rattle.reduce_sweep.specs.Changes.{nodes_with}
+use Rattle.reduce_sweep.proofs.CallFrames.{rows_left}
 use Rattle.reduce_sweep.proofs.NumberingKeeps.{row_kept, rows_kept, none_from}
 
 pub returns-in_default-clause-sound : goal.returns-in_default-clause-sound
@@ -39,10 +40,10 @@ returns-in_default-clause-keeps g c = λ told d is_of working.
     (none_from _ c.in_default.not-Some) (c.in_ok-row.ensures.list told k.rows working.holds.rows_is) in
     record {
       contents = k;
-      holds = rows_left s _ _ _ k k.rows
-          (record { reader_is = refl; inner_is = refl; end_is = refl; queue_is = refl; names_is = refl; writer_is = refl; step_is = refl; next_is = refl })
+      holds = rows_left s _ _ _ k k.rows c.requires.sound
+          refl refl refl refl refl refl refl refl
           (c.next.ensures.content.did told) c.next.ensures.runs given.1 working.holds;
-      remains = rows_kept s _ k d are.0 is_of given.0 are.1 refl refl refl refl refl;
+      remains = rows_kept s _ k d are.0 is_of given.0 are.1 refl refl refl refl refl (record { number_is = refl; pair_is = refl });
     }
 
 -- the row is numbered, and its source is named
@@ -56,11 +57,11 @@ returns-clause-keeps g c = λ told d is_of working.
     let are = subst (λ p. RemainsIn p s.«open» s d k) c.requires.phase working.remains in
     let given = subst (λ (o : Option SourceRow). Gives (sorters.Lists IsSourceRow source_row_words source_row_cmp c.next.new.self (g.S.Shelf.world c.next.new.shelf)) k.rows (Ok o))
     c.in-Some.is (c.in_ok-row.ensures.list taken_told k.rows working.holds.rows_is) in
-    let taken = rows_left s _ _ _ k given.0
-    (record { reader_is = refl; inner_is = refl; end_is = refl; queue_is = refl; names_is = refl; writer_is = refl; step_is = refl; next_is = refl })
+    let taken = rows_left s _ _ _ k given.0 c.requires.sound
+    refl refl refl refl refl refl refl refl
     (c.next.ensures.content.did taken_told) c.next.ensures.runs given.2 working.holds in
-    let put = c.in_ok-put_node.ensures.put put_told (record k { rows = given.0 }) taken in
-    let joined = c.in_ok-push_name.ensures.joined told _ put in
+    let put = c.in_ok-put_node.ensures.put put_told true (record k { rows = given.0 }) taken in
+    let joined = c.in_ok-push_name.ensures.joined told true _ put in
     let later = c.push_name.ensures.rest in
     let put_same = c.put_node.ensures.rest in
     let numbered = c.in_ok-put_node.ensures.pair in

@@ -1,5 +1,5 @@
 use Rattle.std.proofs.Common.{refl, arith, ◌≡◌, ◌≤◌}
-use Rattle.reduce_sweep.proofs.Frames.{queue_join}
+use Rattle.reduce_sweep.proofs.CallFrames.{queue_join}
 use Rattle.reduce_sweep.proofs.reduce.ReduceSweep.push.Goals as goal
 
 -- the arc joined the queue, and only parts were taken
@@ -8,7 +8,7 @@ returns-clause-joined g c =
     let next : c.parts-parts.result.next ≡ c.args.self.now.next = c.parts-parts.ensures.next_is in
     let later : c.parts-parts.result.next ≤ c.push-pushed.new.parts.next = c.push-pushed.ensures.parts.later in
     queue_join c.args.self.now _ _ _ (g.S.Shelf.tells _) _ _ _ _ c.requires.sound
-    (record { reader_is = refl; inner_is = refl; end_is = refl; rows_is = refl; names_is = refl; writer_is = refl; root_is = refl; source_is = refl; known_is = refl })
+    (record { reader_is = refl; inner_is = refl; end_is = refl; rows_is = refl; names_is = refl; writer_is = refl; root_is = refl; source_is = refl; known_is = refl; number_is = refl; pair_is = refl })
     refl (omega (arith, next, later)) c.parts-parts.ensures
     (λ told. c.push-pushed.ensures.content.did told)
     c.push-pushed.ensures.runs

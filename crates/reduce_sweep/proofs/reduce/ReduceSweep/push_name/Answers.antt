@@ -1,5 +1,5 @@
 use Rattle.std.proofs.Common.{refl, arith, ◌≡◌, ◌≤◌}
-use Rattle.reduce_sweep.proofs.Frames.{names_join}
+use Rattle.reduce_sweep.proofs.CallFrames.{names_join}
 use Rattle.reduce_sweep.proofs.reduce.ReduceSweep.push_name.Goals as goal
 
 -- the name joined the list, and only parts were taken

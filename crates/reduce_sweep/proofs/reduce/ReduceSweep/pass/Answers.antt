@@ -1,0 +1,15 @@
+use Rattle.std.proofs.Common.{refl}
+use Rattle.reduce_sweep.proofs.NextArcs.{passes_end}
+use Rattle.reduce_sweep.proofs.reduce.ReduceSweep.pass.Goals as goal
+
+-- the first arc of the queue was taken
+pub returns-then-queued-clause-passed : goal.returns-then-queued-clause-passed
+returns-then-queued-clause-passed g c = rw c.if-queued.true c.take.ensures.taken
+
+-- the arc to a truth value before it is the next one
+pub returns-clause-passed : goal.returns-clause-passed
+returns-clause-passed g c = λ told whole k arc at holds.
+    passes_end whole c.args.queued c.args.self.now _ _ _ k arc c.args.self.now.end c.if-queued.false refl c.requires.next c.requires.sound
+    (record { inner_is = refl; rows_is = refl; names_is = refl; writer_is = refl; root_is = refl; source_is = refl; known_is = refl; number_is = refl; pair_is = refl })
+    refl refl refl c.next_end.ensures.inner c.next_end.ensures.file
+    (c.next_end.ensures.content.did told).run c.in_ok-self.ensures.place (c.in_ok-self.ensures.reads told) (c.in_ok-self.ensures.arcs told) at holds
