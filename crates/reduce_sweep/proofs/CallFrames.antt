@@ -1,6 +1,7 @@
 -- what calls on lists, on the writer and on the readers do to what a sweep holds
 use Rattle.std.proofs.Common.{◌≡◌, ◌⊎◌, ℕ, ◌≤◌, arith, refl, ap, sym, subst, ◌∙◌, inl, inr, List, ◌++◌}
 use Rattle.std.proofs.lemmas.Bool.{false≢true}
+use Rattle.std.proofs.lemmas.Option.{none-some}
 use Rattle.std.proofs.lemmas.List.{length-append}
 use Rattle.std.specs.Prelude.{◌+◌, ◌-◌, ◌^◌, ◌∷◌, [], false, true, cond, Bool, IsTrue, IsSome, Option, Some, None, Result, Ok, Err, OnOk, length}
 use Rattle.shelf_model.specs.declared.sort_fault.SortFault.{SortFault}
@@ -33,7 +34,7 @@ use Rattle.arc_diagrams.specs.declared.source_row.SourceRow.{SourceRow}
 use Rattle.arc_diagrams.specs.declared.name.Name.{Name}
 use Rattle.reduce_sweep.specs.declared.reduce.ReduceSweep.{ReduceSweep}
 use Rattle.reduce_sweep.specs.Sweeps.{out_of, inner_file, HasParts, IsSound}
-use Rattle.reduce_sweep.specs.Remaining.{Contents, Holds, IsUnread}
+use Rattle.reduce_sweep.specs.Remaining.{Contents, Holds, IsUnread, IsReadOn}
 use Rattle.reduce_sweep.specs.Changes.{SameButNames, JoinsNames, SameButNodes, is_last, nodes_with, PutsNode, SameButRows, JoinsRows, SameButInner, PassesInner, SameButKnown, SameButQueue, JoinsQueue}
 use Rattle.reduce_sweep.proofs.Frames.{Beside, can_take, taken_later, beside_stays, beside_spilled, names_changed, rows_changed, queue_changed, nodes_changed, inner_changed}
 
@@ -149,8 +150,13 @@ queue_shown s t old new k queue sound same step next ran runs list holds =
 -- what a reader answers is the next arc, and those before it are unread
 pub unread_on : (kind : Kind) (s t : ArcStream) (bytes : List ℕ) (front : List Arc) (next : Option Arc) → streams.GoesUp kind s t (Ok next) → streams.Reads kind t bytes
     → GivesLast (streams.AreLeft kind t bytes) front (Ok next) → IsUnread true kind next t bytes front
-unread_on kind s t bytes front None up reads left = left
+unread_on kind s t bytes front None up reads left = (left, up.1)
 unread_on kind s t bytes front (Some a) up reads left = (left.0, left.1, record { given = up.4; reads = reads; left = left.2 })
+
+-- what is answered is read on
+pub read_on : (kind : Kind) (s t : ArcStream) (bytes : List ℕ) (next : Option Arc) → streams.GoesUp kind s t (Ok next) → streams.Reads kind t bytes → IsReadOn kind next t bytes
+read_on kind s t bytes None up reads = record { reads = reads; given = λ a e. absurd (none-some a e) }
+read_on kind s t bytes (Some b) up reads = record { reads = reads; given = λ a e. up.4 ∙ e }
 
 -- an arc to a node is handled
 pub passes_inner : (whole : Bool) (s t : ReduceSweep) (old new : World) (k : Contents) (inner : Option Arc) → s.inner ≡ inner → IsSome inner → IsSound s → SameButInner s t
@@ -162,7 +168,7 @@ pub passes_inner : (whole : Bool) (s t : ReduceSweep) (old new : World) (k : Con
     → Holds whole s old k → PassesInner whole inner t new k
 passes_inner false s t old new k inner is some sound same ran up reads left holds =
     inner_changed s t old new k k.inner sound (beside_stays s t old new same.step_is same.next_is ran)
-    same.inner_place same.ends_are same.end_is same.queue_is same.rows_is same.names_is same.writer_is (reads holds.inner_is) holds
+    same.inner_place same.ends_are same.end_is same.queue_is same.rows_is same.names_is same.writer_is (read_on Inner (inner_of s.reader) (inner_of t.reader) (file old (inner_file s)).bytes t.inner up (reads holds.inner_is.reads)) holds
 passes_inner true s t old new k None is some sound same ran up reads left holds = absurd (false≢true some)
 passes_inner true s t old new k (Some a) is some sound same ran up reads left holds =
     let unread : IsUnread true Inner (Some a) (inner_of s.reader) (file old (inner_file s)).bytes k.inner =

@@ -86,8 +86,9 @@ name_kept s u world k rest d m taken none are same place known left =
 -- where no arc to a node is left, none leads to the name's source
 pub none_left : (s : ReduceSweep) (world : World) (k : Contents) (source : ℕ) → s.inner ≡ None → Holds true s world k → (x : Arc) → Has x k.inner → x.target ≢ source
 none_left s world k source none holds x m =
-    let empty : k.inner ≡ [] = subst (λ (o : Option Arc). IsUnread true Inner o (inner_of s.reader) (file world (inner_file s)).bytes k.inner) none holds.inner_is in
-    absurd (subst (λ xs. Has x xs) empty m)
+    let empty : IsUnread true Inner None (inner_of s.reader) (file world (inner_file s)).bytes k.inner =
+    subst (λ (o : Option Arc). IsUnread true Inner o (inner_of s.reader) (file world (inner_file s)).bytes k.inner) none holds.inner_is in
+    absurd (subst (λ xs. Has x xs) empty.0 m)
 
 -- the arcs that aren't handled: that which was read last leads furthest
 record IsFurthest (k : Contents) (a : Arc) : Type 0 where

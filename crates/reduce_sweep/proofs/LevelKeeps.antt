@@ -104,6 +104,12 @@ working_from Number s world d going way = way
 working_from Forward s world d going way = way
 working_from Ended s world d going way = absurd (going refl)
 
+pub working_to : (p : Phase) (s : ReduceSweep) (world : World) (d : Diagram) → p ≢ Ended → IsWorking s world d → IsOnTheWay p s world d
+working_to Collect s world d going working = working
+working_to Number s world d going working = working
+working_to Forward s world d going working = working
+working_to Ended s world d going working = absurd (going refl)
+
 module _ {S : Type 0} (tells : S → Bool) (world : S → World) where
   -- a call behind another goes on with what remains
   pub working_then : {A : Type 0} (s u t : ReduceSweep) (before after end : S) (result : Result A SortFault) → SameTask s u

@@ -7,3 +7,8 @@ mod LevelKeeps
 mod ForwardingKeeps
 mod StartKeeps
 mod CollectingKeeps
+mod HeldKeeps
+mod TurnKeeps
+mod HeldCollecting
+mod HeldForwarding
+mod Undamaged

@@ -31,7 +31,7 @@ use Rattle.reduce_sweep.specs.Sweeps.{ends_file, IsSound, IsNext}
 use Rattle.reduce_sweep.specs.Remaining.{Contents, Holds, IsUnread, to_collect}
 use Rattle.reduce_sweep.specs.Changes.{SameButAhead, IsAt, IsGreatest, Passes}
 use Rattle.reduce_sweep.proofs.Frames.{beside_stays, ends_changed}
-use Rattle.reduce_sweep.proofs.CallFrames.{unread_on}
+use Rattle.reduce_sweep.proofs.CallFrames.{read_on, unread_on}
 
 -- a list whose first item is shown stays
 pub shown_stays : {T : Type 0} (Now : List T → Type 0) (xs : List T) (o : Option T) → Shows Now xs (Ok o) → Now xs
@@ -52,7 +52,9 @@ shown_none {T} Now xs o is shows =
 
 -- no arc is unread where none was read last
 pub none_unread : (kind : Kind) (next : Option Arc) (s : ArcStream) (bytes : List ℕ) (xs : List Arc) → next ≡ None → IsUnread true kind next s bytes xs → xs ≡ []
-none_unread kind next s bytes xs is unread = subst (λ (o : Option Arc). IsUnread true kind o s bytes xs) is unread
+none_unread kind next s bytes xs is unread =
+    let none : IsUnread true kind None s bytes xs = subst (λ (o : Option Arc). IsUnread true kind o s bytes xs) is unread in
+    none.0
 
 -- the order of arcs to truth values chains
 end_weak : IsStrictWeakOrder (λ x y. is_lt (end_cmp x y))
@@ -130,7 +132,7 @@ pub passes_end : (whole queued : Bool) (s t : ReduceSweep) (old new : World) (k 
     → IsAt whole queued k arc → Holds whole s old k → Passes whole queued t new k arc
 passes_end whole true s t old new k arc end ended is some sound same queue step next inner place ran up reads left at holds = absurd (true≢false ended)
 passes_end false false s t old new k arc end ended is some sound same queue step next inner place ran up reads left at holds =
-    ends_changed s t old new k k.ends sound (beside_stays s t old new step next ran) place inner same.inner_is queue same.rows_is same.names_is same.writer_is (reads holds.ends_is) holds
+    ends_changed s t old new k k.ends sound (beside_stays s t old new step next ran) place inner same.inner_is queue same.rows_is same.names_is same.writer_is (read_on End (ends_of s.reader) (ends_of t.reader) (file old (ends_file s)).bytes t.end up (reads holds.ends_is.reads)) holds
 passes_end true false s t old new k arc None ended is some sound same queue step next inner place ran up reads left at holds =
     absurd (false≢true (subst (λ (o : Option Arc). IsSome o) is some))
 passes_end true false s t old new k arc (Some a) ended is some sound same queue step next inner place ran up reads left at holds =

@@ -1,14 +1,18 @@
 -- a reduction begins with what is to remain
-use Rattle.std.proofs.Common.{◌≡◌, ◌≢◌, ℕ, ◌≤◌, ◌<◌, ◌+◌, arith, refl, ap, sym, subst, ◌∙◌, inl, inr, List, ◌++◌}
-use Rattle.std.specs.Prelude.{◌^◌, [], Bool, true, false, IsTrue, Option, Some, Ok, All, length}
+use Rattle.std.proofs.Common.{◌≡◌, ◌≢◌, ℕ, ◌≤◌, ◌<◌, ◌+◌, ◌-◌, ◌*◌, arith, refl, ap, sym, subst, ◌∙◌, inl, inr, List, ◌++◌}
+use Rattle.std.specs.Prelude.{◌^◌, [], Bool, true, false, IsTrue, Option, Some, Ok, All, length, None, Result, Err, IfErr}
 use Rattle.std.proofs.lemmas.List.{length-append}
 use Rattle.rec_words.specs.Words.{level_of, IsTerminal}
 use Rattle.canon_file.specs.Members.{Has}
 use Rattle.arc_file.specs.declared.arc.Arc.{Arc}
 use Rattle.arc_file.specs.declared.kind.Kind.{Kind}
 use Rattle.arc_file.specs.declared.kind.Kind.TheVariants.{Inner, End}
-use Rattle.arc_file.specs.Files.{Leads, HasArcs}
+use Rattle.arc_file.specs.Files.{Leads, HasArcs, IsDamagedArc}
 use Rattle.shelf_model.specs.declared.file_no.FileNo.{FileNo}
+use Rattle.shelf_model.specs.declared.fault.StreamFault.{StreamFault}
+use Rattle.shelf_model.specs.declared.fault.StreamFault.TheVariants.{Shelf, Damaged}
+use Rattle.shelf_model.specs.declared.sort_fault.SortFault.{SortFault}
+use Rattle.shelf_model.specs.SortFaults.{handed_on}
 use Rattle.shelf_model.specs.File.{File}
 use Rattle.shelf_model.specs.Folder.{Folder, file_in}
 use Rattle.shelf_model.specs.World.{World, now, file}
@@ -21,7 +25,7 @@ use Rattle.node_file.specs.declared.writer.NodeWriter.{NodeWriter}
 use Rattle.node_file.specs.Writers as writers
 use Rattle.arc_file.specs.declared.stream.ArcStream.{ArcStream}
 use Rattle.arc_file.specs.Streams as streams
-use Rattle.arc_file.specs.Streams.{file_of}
+use Rattle.arc_file.specs.Streams.{file_of, left_of, given_of}
 use Rattle.arc_diagrams.specs.Arcs.{IsComplete}
 use Rattle.arc_diagrams.specs.Reducing.{Remains}
 use Rattle.arc_diagrams.proofs.WordLaws.{level-terminal}
@@ -29,9 +33,19 @@ use Rattle.arc_diagrams.proofs.ListViews.{contains_from_has}
 use Rattle.arc_diagrams.proofs.RowPlaces.{has_left}
 use Rattle.arc_diagrams.proofs.FinalLaws.{finds_final}
 use Rattle.arc_diagrams.proofs.Remaining.{begun_remains}
-use Rattle.reduce_sweep.specs.Remaining.{IsUnread}
+use Rattle.arc_file.specs.declared.unreduced.Unreduced.{Unreduced}
+use Rattle.arc_file.specs.declared.reader.ArcReader.{ArcReader}
+use Rattle.arc_file.specs.Readers.{inner_of, ends_of}
+use Rattle.block_stream.specs.Writes.{count_of}
+use Rattle.run_merge.specs.Sorters as sorters
+use Rattle.level_queue.specs.Queues as queues
+use Rattle.arc_diagrams.specs.Items.{final_arc_words, IsFinalArc, final_arc_cmp, source_row_words, IsSourceRow, source_row_cmp, name_words, IsName, name_cmp}
+use Rattle.reduce_sweep.specs.declared.reduce.ReduceSweep.{ReduceSweep}
+use Rattle.reduce_sweep.specs.Sweeps.{out_of, CanBeTaken}
+use Rattle.reduce_sweep.specs.Remaining.{Contents, Holds, IsUnread, IsRun}
+use Rattle.reduce_sweep.specs.Held.{IsDamagedAt, IsDamageAtStart}
 use Rattle.reduce_sweep.proofs.Frames.{writer_kept}
-use Rattle.reduce_sweep.proofs.CallFrames.{unread_on}
+use Rattle.reduce_sweep.proofs.CallFrames.{unread_on, read_on}
 
 -- what is true of all items is true of each
 each_of : {X : Type 0} (P : X → Type 0) (xs : List X) (x : X) → All P xs → Has x xs → P x
@@ -67,41 +81,133 @@ few_at_start arcs inner ends inner_count ends_count inner_bytes ends_bytes has_i
     let other : length ends ≡ ends_count = has_ends.begin.count_is in
     omega (arith, many, one, other, few_inner, few_ends)
 
+-- another file is as it was before the file of the nodes was emptied
+pub emptied : (out f : FileNo) (first second : World) → f ≢ out → Cut 1 out 0 first second → file second f ≡ file first f
+emptied out f first second other cut = (ran_end first second (DuringCut out 0 (now first)) cut.run).others f other
+
 -- a file is as it was before the file of the nodes was emptied and the first arcs were read
 pub as_before : (out f : FileNo) (first second third fourth : World) → f ≢ out → Cut 1 out 0 first second → Looked 1 second third → Looked 1 third fourth
     → (file second f ≡ file first f) × ((file third f ≡ file second f) × (file fourth f ≡ file third f))
 as_before out f first second third fourth other cut looked again =
     let one : (now third).folder ≡ (now second).folder = ran_end second third (Stays (now second)) looked.run in
     let two : (now fourth).folder ≡ (now third).folder = ran_end third fourth (Stays (now third)) again.run in (
-      (ran_end first second (DuringCut out 0 (now first)) cut.run).others f other,
+      emptied out f first second other cut,
       (ap (λ (d : Folder). file_in d f) one, ap (λ (d : Folder). file_in d f) two),
     )
 
 -- the writer holds nothing yet
-pub nothing_written : (w : NodeWriter) (second third fourth : World) → Looked 1 second third → Looked 1 third fourth → writers.Holds w second [] → writers.Holds w fourth []
+nothing_written : (w : NodeWriter) (second third fourth : World) → Looked 1 second third → Looked 1 third fourth → writers.Holds w second [] → writers.Holds w fourth []
 nothing_written w second third fourth looked again holds =
     let one : (now third).folder ≡ (now second).folder = ran_end second third (Stays (now second)) looked.run in
     let two : (now fourth).folder ≡ (now third).folder = ran_end third fourth (Stays (now third)) again.run in
     writer_kept w second fourth [] (ap (λ (d : Folder). file_in d (writers.filling_of w).file) (two ∙ one)) holds
 
 -- a first arc is unread, with those before it
-pub unread_first : (whole : Bool) (kind : Kind) (s t : ArcStream) (next : Option Arc) (xs : List Arc) (count : ℕ) (bytes : List ℕ) → streams.GoesUp kind s t (Ok next)
+unread_first : (whole : Bool) (kind : Kind) (s t : ArcStream) (next : Option Arc) (xs : List Arc) (count : ℕ) (bytes : List ℕ) → streams.GoesUp kind s t (Ok next)
     → streams.Reads kind t bytes → (IsTrue whole → GivesLast (streams.AreLeft kind t bytes) xs (Ok next)) → IsUnread whole kind next t bytes xs
-unread_first false kind s t next xs count bytes up reads left = reads
+unread_first false kind s t next xs count bytes up reads left = read_on kind s t bytes next up reads
 unread_first true kind s t next xs count bytes up reads left = unread_on kind s t bytes xs next up reads (left refl)
 
--- so it is where its file was as before when it was read, and is when all have begun
-pub unread_begun : (whole : Bool) (kind : Kind) (f : FileNo) (first read last : World) (s t u : ArcStream) (next : Option Arc) (xs : List Arc) (count : ℕ)
-    → file_of s ≡ f → file_of t ≡ file_of s → u ≡ t → file read f ≡ file first f → file last f ≡ file first f → streams.GoesUp kind s t (Ok next)
-    → ((bytes : List ℕ) → streams.Reads kind s bytes) → (streams.Reads kind s (file read (file_of s)).bytes → streams.Reads kind t (file read (file_of s)).bytes)
-    → (streams.Reads kind s (file read (file_of s)).bytes → (ys : List Arc) → streams.AreLeft kind s (file read (file_of s)).bytes ys
-    → GivesLast (streams.AreLeft kind t (file read (file_of s)).bytes) ys (Ok next))
-    → ((bytes : List ℕ) → (ys : List Arc) → HasArcs kind ys count bytes → streams.AreLeft kind s bytes ys)
+-- one arc was read of a file
+pub record ReadsOne (kind : Kind) (world : World) (s t : ArcStream) (next : Option Arc) : Type 0 where
+  pub place : file_of t ≡ file_of s
+  pub up : streams.GoesUp kind s t (Ok next)
+  pub reads : streams.Reads kind s (file world (file_of s)).bytes → streams.Reads kind t (file world (file_of s)).bytes
+  pub arcs : streams.Reads kind s (file world (file_of s)).bytes → (ys : List Arc) → streams.AreLeft kind s (file world (file_of s)).bytes ys
+      → GivesLast (streams.AreLeft kind t (file world (file_of s)).bytes) ys (Ok next)
+
+-- nothing of a file was read yet
+pub record ReadsNothing (kind : Kind) (s : ArcStream) (f : FileNo) (count : ℕ) : Type 0 where
+  pub place : file_of s ≡ f
+  pub reads : (bytes : List ℕ) → streams.Reads kind s bytes
+  pub arcs : (bytes : List ℕ) → (ys : List Arc) → HasArcs kind ys count bytes → streams.AreLeft kind s bytes ys
+
+-- its arcs are unread where the file was as before when it was read, and is when all have begun
+unread_begun : (whole : Bool) (kind : Kind) (f : FileNo) (first read last : World) (s t u : ArcStream) (next : Option Arc) (xs : List Arc) (count : ℕ)
+    → ReadsNothing kind s f count → ReadsOne kind read s t next → u ≡ t → file read f ≡ file first f → file last f ≡ file first f
     → (IsTrue whole → HasArcs kind xs count (file first f).bytes) → IsUnread whole kind next u (file last (file_of u)).bytes xs
-unread_begun whole kind f first read last s t u next xs count place still same before after up begun reads gives left has =
-    let here : file read (file_of s) ≡ file first f = ap (file read) place ∙ before in
-    let there : file last (file_of u) ≡ file first f = ap (file last) (ap file_of same ∙ still ∙ place) ∙ after in
-    let now_read = begun (file read (file_of s)).bytes in
-    let unread : IsUnread whole kind next t (file read (file_of s)).bytes xs = unread_first whole kind s t next xs count (file read (file_of s)).bytes up (reads now_read)
-    (λ is_whole. gives now_read xs (left (file read (file_of s)).bytes xs (subst (λ (g : File). HasArcs kind xs count g.bytes) (sym here) (has is_whole)))) in
+unread_begun whole kind f first read last s t u next xs count begun one same before after has =
+    let here : file read (file_of s) ≡ file first f = ap (file read) begun.place ∙ before in
+    let there : file last (file_of u) ≡ file first f = ap (file last) (ap file_of same ∙ one.place ∙ begun.place) ∙ after in
+    let now_read = begun.reads (file read (file_of s)).bytes in
+    let unread : IsUnread whole kind next t (file read (file_of s)).bytes xs = unread_first whole kind s t next xs count (file read (file_of s)).bytes one.up (one.reads now_read)
+    (λ is_whole. one.arcs now_read xs (begun.arcs (file read (file_of s)).bytes xs (subst (λ (g : File). HasArcs kind xs count g.bytes) (sym here) (has is_whole)))) in
     subst (λ v. v) (λ j. IsUnread whole kind next (sym same j) ((here ∙ sym there) j).bytes xs) unread
+
+-- the lists are empty, and hold no run of a file
+pub record AreEmpty (s : ReduceSweep) (world : World) : Type 0 where
+  pub queue_is : queues.Lists IsFinalArc final_arc_words final_arc_cmp s.queue world []
+  pub rows_is : sorters.Lists IsSourceRow source_row_words source_row_cmp s.rows world []
+  pub names_is : sorters.Lists IsName name_words name_cmp s.names world []
+  pub no_run : (f : FileNo) → ¬ IsRun s f
+
+-- what a sweep holds at first: all arcs, of which none is handled
+abbrev pub at_first : List Arc → List Arc → Contents
+at_first inner ends = record { queue = []; inner = inner; ends = ends; rows = []; names = []; nodes = [] }
+
+-- the two files of arcs differ from that of the nodes, which was emptied, and no part that can be taken is one of them
+pub record AreOthers (s : ReduceSweep) (made : Unreduced) (out : FileNo) : Type 0 where
+  pub out_is : out_of s ≡ out
+  pub apart_inner : out ≢ made.inner
+  pub apart_ends : out ≢ made.ends
+  pub inner_made : ¬ CanBeTaken s.step s.next made.inner
+  pub ends_made : ¬ CanBeTaken s.step s.next made.ends
+
+-- so a reduction begins
+pub held_at_first : (whole : Bool) (s : ReduceSweep) (made : Unreduced) (out : FileNo) (first second third last : World) (opened : ArcReader) (read : ArcReader) (inner ends : List Arc)
+    → AreOthers s made out → Cut 1 out 0 first second → Looked 1 second third → Looked 1 third last
+    → ReadsNothing Inner (inner_of opened) made.inner made.inner_count → ReadsNothing End (ends_of opened) made.ends made.ends_count
+    → ends_of read ≡ ends_of opened → inner_of s.reader ≡ inner_of read
+    → ReadsOne Inner second (inner_of opened) (inner_of read) s.inner → ReadsOne End third (ends_of read) (ends_of s.reader) s.end → AreEmpty s last
+    → writers.Holds s.writer second [] → count_of (writers.filling_of s.writer) ≡ 0
+    → (IsTrue whole → HasArcs Inner inner made.inner_count (file first made.inner).bytes) → (IsTrue whole → HasArcs End ends made.ends_count (file first made.ends).bytes)
+    → Holds whole s last (at_first inner ends)
+held_at_first whole s made out first second third last opened read inner ends others cut looked again no_inner no_end ends_kept inner_kept one_inner one_end empty written none has_inner has_ends =
+    let inner_stays = as_before out made.inner first second third last (λ e. others.apart_inner (sym e)) cut looked again in
+    let ends_stays = as_before out made.ends first second third last (λ e. others.apart_ends (sym e)) cut looked again in
+    let inner_place : file_of (inner_of s.reader) ≡ made.inner = ap file_of inner_kept ∙ one_inner.place ∙ no_inner.place in
+    let ends_place : file_of (ends_of s.reader) ≡ made.ends = one_end.place ∙ ap file_of ends_kept ∙ no_end.place in
+    let no_end_yet : ReadsNothing End (ends_of read) made.ends made.ends_count = subst (λ r. ReadsNothing End r made.ends made.ends_count) (sym ends_kept) no_end in
+    record {
+      apart = record {
+        out_inner = λ e. others.apart_inner (sym (sym inner_place ∙ e ∙ others.out_is));
+        out_ends = λ e. others.apart_ends (sym (sym ends_place ∙ e ∙ others.out_is));
+        inner_made = λ free. others.inner_made (subst (CanBeTaken s.step s.next) inner_place free);
+        ends_made = λ free. others.ends_made (subst (CanBeTaken s.step s.next) ends_place free);
+        no_run = empty.no_run (out_of s);
+      };
+      queue_is = empty.queue_is;
+      inner_is = unread_begun whole Inner made.inner first second last (inner_of opened) (inner_of read) (inner_of s.reader) s.inner inner made.inner_count no_inner one_inner inner_kept
+          inner_stays.0 (inner_stays.1.1 ∙ inner_stays.1.0 ∙ inner_stays.0) has_inner;
+      ends_is = unread_begun whole End made.ends first third last (ends_of read) (ends_of s.reader) (ends_of s.reader) s.end ends made.ends_count no_end_yet one_end refl
+          (ends_stays.1.0 ∙ ends_stays.0) (ends_stays.1.1 ∙ ends_stays.1.0 ∙ ends_stays.0) has_ends;
+      rows_is = empty.rows_is;
+      names_is = empty.names_is;
+      nodes_is = nothing_written s.writer second third last looked again written;
+      nodes_many = sym none;
+    }
+
+-- what is damaged in a file of which nothing was read is its last arc
+damaged_last : (kind : Kind) (g : FileNo) (count : ℕ) (first read : World) (s t : ArcStream) (f : FileNo) (at : ℕ) → ReadsNothing kind s g count → left_of s ≡ count → given_of s ≡ None
+    → file read g ≡ file first g → streams.GoesUp kind s t (Err (Damaged f at)) → streams.IsArcAnswer kind s (file read (file_of s)).bytes (Err (Damaged f at)) → IsDamagedAt kind g count None first f at
+damaged_last kind g count first read s t f at begun left given before up is = record {
+  file_is = up.1.0 ∙ begun.place;
+  some = subst (λ k. 0 < k) left up.0;
+  at_is = up.1.1 ∙ ap (λ k. (k - 1) * 16) left;
+  damaged = subst (λ v. v) (λ j. IsDamagedArc kind (left j - 1) ((ap (file read) begun.place ∙ before ∙ sym (ap (file first) (up.1.0 ∙ begun.place))) j).bytes (given j)) is;
+}
+
+-- so it is told by a call that answers that fault
+pub inner_damaged : {A : Type 0} (told : Type 0) (made : Unreduced) (first read : World) (s t : ArcStream) (r : Result A SortFault) (e : StreamFault) → r ≡ Err (handed_on e)
+    → ReadsNothing Inner s made.inner made.inner_count → left_of s ≡ made.inner_count → given_of s ≡ None → (told → file read made.inner ≡ file first made.inner)
+    → streams.GoesUp Inner s t (Err e) → (told → streams.IsArcAnswer Inner s (file read (file_of s)).bytes (Err e)) → IfErr r (λ fault. told → IsDamageAtStart made first fault)
+inner_damaged told made first read s t r Shelf is begun left given before up answer = subst (λ q. IfErr q (λ fault. told → IsDamageAtStart made first fault)) (sym is) (λ tells. tt)
+inner_damaged told made first read s t r (Damaged f at) is begun left given before up answer =
+    subst (λ q. IfErr q (λ fault. told → IsDamageAtStart made first fault)) (sym is) (λ tells. inl (damaged_last Inner made.inner made.inner_count first read s t f at begun left given (before tells) up (answer tells)))
+
+pub ends_damaged : {A : Type 0} (told : Type 0) (made : Unreduced) (first read : World) (s t : ArcStream) (r : Result A SortFault) (e : StreamFault) → r ≡ Err (handed_on e)
+    → ReadsNothing End s made.ends made.ends_count → left_of s ≡ made.ends_count → given_of s ≡ None → (told → file read made.ends ≡ file first made.ends)
+    → streams.GoesUp End s t (Err e) → (told → streams.IsArcAnswer End s (file read (file_of s)).bytes (Err e)) → IfErr r (λ fault. told → IsDamageAtStart made first fault)
+ends_damaged told made first read s t r Shelf is begun left given before up answer = subst (λ q. IfErr q (λ fault. told → IsDamageAtStart made first fault)) (sym is) (λ tells. tt)
+ends_damaged told made first read s t r (Damaged f at) is begun left given before up answer =
+    subst (λ q. IfErr q (λ fault. told → IsDamageAtStart made first fault)) (sym is) (λ tells. inr (damaged_last End made.ends made.ends_count first read s t f at begun left given (before tells) up (answer tells)))

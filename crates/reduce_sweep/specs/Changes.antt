@@ -268,10 +268,22 @@ pub record OpensLevel (s : ReduceSweep) (level : ℕ) (t : ReduceSweep) : Type 0
   pub number_is : t.number ≡ s.number
   pub pair_is : t.pair ≡ s.pair
 
--- where nothing of a level was handled, none is open
-abbrev pub ClosesLevel : ReduceSweep → Bool → Type 0
-ClosesLevel s true = Unit
-ClosesLevel s false = (s.phase ≡ Collect) × (s.«open» ≡ false)
+-- nothing but the level at hand is new
+pub record SameButLevel (s t : ReduceSweep) : Type 0 where
+  pub phase_is : t.phase ≡ s.phase
+  pub reader_is : t.reader ≡ s.reader
+  pub queue_is : t.queue ≡ s.queue
+  pub source_is : t.source ≡ s.source
+
+-- where nothing of a level was handled, none is open, and no arc was read
+abbrev pub ClosesLevel : ReduceSweep → ReduceSweep → Bool → Type 0
+ClosesLevel s t true = Unit
+ClosesLevel s t false = (t.phase ≡ Collect) × (t.«open» ≡ false) × (t.reader ≡ s.reader)
+
+-- where no item was handled, no arc was read
+abbrev pub ReadsNone : ReduceSweep → ReduceSweep → Bool → Type 0
+ReadsNone s t true = Unit
+ReadsNone s t false = t.reader ≡ s.reader
 
 -- where all is done, the file is the canonical one
 abbrev pub IsDoneAt : Turn → ReduceSweep → World → Diagram → Type 0

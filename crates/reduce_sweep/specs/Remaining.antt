@@ -40,11 +40,16 @@ pub record IsReading (kind : Kind) (s : ArcStream) (bytes : List ℕ) (front : L
   pub reads : streams.Reads kind s bytes
   pub left : streams.AreLeft kind s bytes front
 
+-- what was read is as the bytes say, and the next arc is the one that was given last
+pub record IsReadOn (kind : Kind) (next : Option Arc) (s : ArcStream) (bytes : List ℕ) : Type 0 where
+  pub reads : streams.Reads kind s bytes
+  pub given : (a : Arc) → next ≡ Some a → streams.given_of s ≡ Some a
+
 -- the arcs that aren't handled: the one that was read last, and those before it. Where the bytes needn't be those
--- of arcs it is only said that what was read is as they say
+-- of arcs it is only said what was read
 abbrev pub IsUnread : Bool → Kind → Option Arc → ArcStream → List ℕ → List Arc → Type 0
-IsUnread false kind next s bytes xs = streams.Reads kind s bytes
-IsUnread true kind None s bytes xs = xs ≡ []
+IsUnread false kind next s bytes xs = IsReadOn kind next s bytes
+IsUnread true kind None s bytes xs = (xs ≡ []) × (streams.left_of s ≡ 0)
 IsUnread true kind (Some a) s bytes xs = (front : List Arc) × (xs ≡ front ++ a ∷ []) × IsReading kind s bytes front a
 
 -- what the queue and the sorters hold, which arcs of either file aren't handled, and which nodes were put

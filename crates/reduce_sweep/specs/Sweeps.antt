@@ -4,8 +4,7 @@ use Rattle.std.proofs.Math.Nat.{min-le_right}
 use Rattle.shelf_model.specs.declared.file_no.FileNo.{FileNo}
 use Rattle.shelf_model.specs.declared.sort_fault.SortFault.{SortFault}
 use Rattle.shelf_model.specs.declared.sort_fault.SortFault.TheVariants.{Shelf, Damaged, RunsSpent, RoomFull}
-use Rattle.shelf_model.specs.World.{World}
-use Rattle.block_stream.specs.Writes.{InStep, count_of}
+use Rattle.block_stream.specs.Writes.{count_of}
 use Rattle.node_file.specs.Writers as nodes
 use Rattle.arc_file.specs.Streams.{file_of, left_of}
 use Rattle.arc_file.specs.Readers.{inner_of, ends_of}
@@ -101,10 +100,6 @@ pub record IsReady (r : ReduceSweep) : Type 0 where
   -- the count of nodes is known exactly where it has ended
   pub going : r.phase ≢ phase.Ended → r.count ≡ None
   pub ended : r.phase ≡ phase.Ended → IsSome r.count
-
--- until it has ended, the writer is in step with the file of the nodes
-abbrev pub IsInStep : ReduceSweep → World → Type 0
-IsInStep r world = r.phase ≢ phase.Ended → InStep (nodes.filling_of r.writer) world
 
 -- what no call changes, but that parts are taken
 pub record SameTask (old new : ReduceSweep) : Type 0 where

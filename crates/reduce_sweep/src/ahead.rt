@@ -4,7 +4,7 @@ use arc_diagrams::FinalArc;
 use shelf_model::{Shelf, SortFault};
 
 impl<'r> ReduceSweep<'r> {
-    ghost use Rattle.std.specs.Prelude.{◌≡◌, ◌+◌, Bool, IsTrue, true, OnOk, IfOk, IfErr, IfSome};
+    ghost use Rattle.std.specs.Prelude.{◌≡◌, ◌+◌, Bool, IsTrue, true, OnOk, false, Some, IfOk, IfErr, IfSome};
     ghost use Rattle.shelf_model.specs.World.{now};
     ghost use Rattle.shelf_model.specs.Calls.{Told};
     ghost use Rattle.shelf_model.specs.Moments.{Ran};
@@ -15,6 +15,8 @@ impl<'r> ReduceSweep<'r> {
     ghost use Rattle.arc_diagrams.specs.declared.final_arc.FinalArc.{FinalArc};
     ghost use Rattle.reduce_sweep.specs.Remaining.{Contents, Holds};
     ghost use Rattle.reduce_sweep.specs.Changes.{SameButQueue, SameButAhead, IsAt, ComesFirst, Passes};
+    ghost use Rattle.reduce_sweep.specs.Held.{IsDamageOf, IsNoDamage, TakesLast};
+    ghost use Rattle.level_queue.specs.Queues.{last_of};
     ghost use Rattle.reduce_sweep.specs.Sweeps.{Owns, inner_file, ends_file, IsSound, SameTask, Refuses, SamePlace, IsNext, weight};
 
     /// The next arc to collect, and whether it is of the queue.
@@ -40,6 +42,9 @@ impl<'r> ReduceSweep<'r> {
             Holds whole self.old (S.world shelf.old) k → IfSome found (λ next. IsAt whole next.1 k next.0)) }
         ensures first { IfOk result (λ found. IsTrue (S.tells shelf.new) → (k : Contents) →
             Holds true self.old (S.world shelf.old) k → ComesFirst k found) }
+        ensures last { last_of self.new.queue ≡ last_of self.old.queue }
+        ensures damage { IfErr result (λ e. IsTrue (S.tells shelf.new) → (k : Contents) →
+            Holds false self.old (S.world shelf.old) k → IsNoDamage e) }
 
         // what the call leaves
         ensures content { Told S.tells shelf.old shelf.new
@@ -82,6 +87,10 @@ impl<'r> ReduceSweep<'r> {
         ensures passed { OnOk result (IsTrue (S.tells shelf.new) → (whole : Bool) → (k : Contents) → (arc : FinalArc) →
             IsAt whole queued k arc → Holds whole self.old (S.world shelf.old) k →
             Passes whole queued self.new (S.world shelf.new) k arc) }
+        ensures last { OnOk result (IsTrue (S.tells shelf.new) → (k : Contents) → (arc : FinalArc) →
+            IsAt false queued k arc → Holds false self.old (S.world shelf.old) k → TakesLast queued self.old self.new arc) }
+        ensures damage { IfErr result (λ e. IsTrue (S.tells shelf.new) → (k : Contents) →
+            Holds false self.old (S.world shelf.old) k → IsDamageOf self.old (S.world shelf.old) e) }
 
         // what the call leaves
         ensures content { Told S.tells shelf.old shelf.new
@@ -114,6 +123,10 @@ impl<'r> ReduceSweep<'r> {
         ensures taken { OnOk result (IsTrue (S.tells shelf.new) → (whole : Bool) → (k : Contents) → (arc : FinalArc) →
             IsAt whole true k arc → Holds whole self.old (S.world shelf.old) k →
             Passes whole true self.new (S.world shelf.new) k arc) }
+        ensures last { OnOk result (IsTrue (S.tells shelf.new) → (k : Contents) → (arc : FinalArc) →
+            IsAt false true k arc → Holds false self.old (S.world shelf.old) k → last_of self.new.queue ≡ Some arc) }
+        ensures damage { IfErr result (λ e. IsTrue (S.tells shelf.new) → (k : Contents) →
+            Holds false self.old (S.world shelf.old) k → IsNoDamage e) }
 
         // what the call leaves
         ensures content { Told S.tells shelf.old shelf.new

@@ -9,7 +9,7 @@ use arc_diagrams::{FinalArc, Name, SourceRow};
 use shelf_model::{Shelf, SortFault};
 
 impl<'r> ReduceSweep<'r> {
-    ghost use Rattle.std.specs.Prelude.{◌≢◌, ◌+◌, Bool, IsTrue, true, OnOk, IfOk, IfErr, None, IsSome};
+    ghost use Rattle.std.specs.Prelude.{◌≢◌, ◌+◌, Bool, IsTrue, false, true, OnOk, IfOk, IfErr, None, IsSome};
     ghost use Rattle.shelf_model.specs.World.{now};
     ghost use Rattle.shelf_model.specs.Calls.{Told};
     ghost use Rattle.shelf_model.specs.Moments.{Ran};
@@ -18,7 +18,8 @@ impl<'r> ReduceSweep<'r> {
     ghost use Rattle.run_merge.specs.Faults.{OnlySortShelf};
     ghost use Rattle.sweep_core.specs.Sweeps.{OnlyOwn};
     ghost use Rattle.reduce_sweep.specs.Remaining.{Diagram, Contents, Holds, IsOf, IsWorking};
-    ghost use Rattle.reduce_sweep.specs.Changes.{SameButNames, JoinsNames, SameButRows, JoinsRows, SameButCollected, Closes, going_on, closed_by, noted_with, IsToCollect, IsCollectingIn};
+    ghost use Rattle.reduce_sweep.specs.Changes.{SameButNames, JoinsNames, SameButRows, JoinsRows, SameButCollected, Closes, going_on, closed_by, noted_with, IsToCollect, IsCollectingIn, IsAt, ReadsNone};
+    ghost use Rattle.reduce_sweep.specs.Held.{IsHeld, AreOfLevel, AreGone, MayBeTaken, IsDamageOf, IsNoDamage};
     ghost use Rattle.reduce_sweep.specs.Sweeps.{Owns, inner_file, ends_file, IsSound, SameTask, Refuses, SamePlace, SameArcs, IsNext, Lightens, weight, MovesOn};
 
     /// Collects an arc of the level at hand, or ends the collecting where the next one is of a shallower level.
@@ -37,6 +38,10 @@ impl<'r> ReduceSweep<'r> {
         // what remains
         ensures keeps { OnOk result (IsTrue (S.tells shelf.new) → (d : Diagram) → IsOf self.old d →
             IsWorking self.old (S.world shelf.old) d → IsWorking self.new (S.world shelf.new) d) }
+        ensures still { IfOk result (ReadsNone self.old self.new) }
+        ensures held { OnOk result (IsTrue (S.tells shelf.new) → IsHeld self.old (S.world shelf.old) → IsHeld self.new (S.world shelf.new)) }
+        ensures damage { IfErr result (λ e. IsTrue (S.tells shelf.new) → IsHeld self.old (S.world shelf.old) →
+            IsDamageOf self.old (S.world shelf.old) e) }
 
         // what the call leaves
         ensures content { Told S.tells shelf.old shelf.new
@@ -77,6 +82,11 @@ impl<'r> ReduceSweep<'r> {
         ensures keeps { OnOk result (IsTrue (S.tells shelf.new) → (d : Diagram) → (k : Contents) → here ≡ true →
             IsOf self.old d → Holds true self.old (S.world shelf.old) k → IsToCollect self.old d k queued arc.now →
             IsCollectingIn self.new (S.world shelf.new) d) }
+        ensures held { OnOk result (IsTrue (S.tells shelf.new) → (k : Contents) → MayBeTaken self.old here arc.now →
+            IsAt false queued k arc.now → Holds false self.old (S.world shelf.old) k → AreOfLevel self.old k →
+            AreGone self.old.phase self.old.open self.old k → self.old.phase ≡ Phase.Collect → IsHeld self.new (S.world shelf.new)) }
+        ensures damage { IfErr result (λ e. IsTrue (S.tells shelf.new) → (k : Contents) →
+            Holds false self.old (S.world shelf.old) k → IsDamageOf self.old (S.world shelf.old) e) }
 
         // what the call leaves
         ensures content { Told S.tells shelf.old shelf.new
@@ -107,6 +117,8 @@ impl<'r> ReduceSweep<'r> {
         ensures closed { OnOk result (IsTrue (S.tells shelf.new) → (whole : Bool) → (k : Contents) →
             Holds whole self.old (S.world shelf.old) k →
             Closes whole (closed_by self.old.source arc.now) self.new (S.world shelf.new) k) }
+        ensures damage { IfErr result (λ e. IsTrue (S.tells shelf.new) → (k : Contents) →
+            Holds false self.old (S.world shelf.old) k → IsNoDamage e) }
 
         // what the call leaves
         ensures content { Told S.tells shelf.old shelf.new
@@ -150,6 +162,8 @@ impl<'r> ReduceSweep<'r> {
         ensures rest { SameButCollected self.old self.new }
         ensures closed { OnOk result (IsTrue (S.tells shelf.new) → (whole : Bool) → (k : Contents) →
             Holds whole self.old (S.world shelf.old) k → Closes whole self.old.source self.new (S.world shelf.new) k) }
+        ensures damage { IfErr result (λ e. IsTrue (S.tells shelf.new) → (k : Contents) →
+            Holds false self.old (S.world shelf.old) k → IsNoDamage e) }
 
         // what the call leaves
         ensures content { Told S.tells shelf.old shelf.new
@@ -189,6 +203,8 @@ impl<'r> ReduceSweep<'r> {
         ensures rest { SameButRows self.old self.new }
         ensures joined { OnOk result (IsTrue (S.tells shelf.new) → (whole : Bool) → (k : Contents) →
             Holds whole self.old (S.world shelf.old) k → JoinsRows whole self.new (S.world shelf.new) k row) }
+        ensures damage { IfErr result (λ e. IsTrue (S.tells shelf.new) → (k : Contents) →
+            Holds false self.old (S.world shelf.old) k → IsNoDamage e) }
 
         // what the call leaves
         ensures content { Told S.tells shelf.old shelf.new
@@ -219,6 +235,8 @@ impl<'r> ReduceSweep<'r> {
         ensures rest { SameButNames self.old self.new }
         ensures joined { OnOk result (IsTrue (S.tells shelf.new) → (whole : Bool) → (k : Contents) →
             Holds whole self.old (S.world shelf.old) k → JoinsNames whole self.new (S.world shelf.new) k name) }
+        ensures damage { IfErr result (λ e. IsTrue (S.tells shelf.new) → (k : Contents) →
+            Holds false self.old (S.world shelf.old) k → IsNoDamage e) }
 
         // what the call leaves
         ensures content { Told S.tells shelf.old shelf.new

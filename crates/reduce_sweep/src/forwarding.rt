@@ -6,7 +6,7 @@ use shelf_model::{Shelf, SortFault};
 
 impl<'r> ReduceSweep<'r> {
     ghost use Rattle.arc_diagrams.specs.declared.name.Name.{Name};
-    ghost use Rattle.std.specs.Prelude.{List, ◌∷◌, ◌≡◌, ◌≤◌, ◌+◌, Bool, IsTrue, true, OnOk, IfOk, IfErr, IsSome};
+    ghost use Rattle.std.specs.Prelude.{List, ◌∷◌, ◌≡◌, ◌≤◌, ◌+◌, Bool, IsTrue, false, true, [], None, OnOk, IfOk, IfErr, IsSome};
     ghost use Rattle.shelf_model.specs.World.{now};
     ghost use Rattle.shelf_model.specs.Calls.{Told};
     ghost use Rattle.shelf_model.specs.Moments.{Ran};
@@ -16,6 +16,8 @@ impl<'r> ReduceSweep<'r> {
     ghost use Rattle.sweep_core.specs.Sweeps.{OnlyOwn};
     ghost use Rattle.reduce_sweep.specs.Remaining.{Diagram, Contents, Holds, IsOf, IsWorking, AreForwarded};
     ghost use Rattle.reduce_sweep.specs.Changes.{SameButInner, PassesInner, SameButKnown, known_with, LeavesNames, SameButQueue, JoinsQueue, IsForwardingIn, ClosesLevel};
+    ghost use Rattle.reduce_sweep.specs.Held.{IsHeld, AreOfLevel, ComesLater, IsDamageOf, IsNoDamage};
+    ghost use Rattle.level_queue.specs.Queues.{last_of};
     ghost use Rattle.reduce_sweep.specs.Sweeps.{Owns, inner_file, ends_file, IsSound, SameTask, Refuses, SamePlace, Lightens, weight, MovesOn};
     ghost use Rattle.run_merge.specs.Sorters.{held};
 
@@ -32,9 +34,12 @@ impl<'r> ReduceSweep<'r> {
         ensures count { self.new.count ≡ self.old.count }
 
         // what remains
-        ensures closed { IfOk result (ClosesLevel self.new) }
+        ensures closed { IfOk result (ClosesLevel self.old self.new) }
         ensures keeps { OnOk result (IsTrue (S.tells shelf.new) → (d : Diagram) → IsOf self.old d →
             IsWorking self.old (S.world shelf.old) d → IsWorking self.new (S.world shelf.new) d) }
+        ensures held { OnOk result (IsTrue (S.tells shelf.new) → IsHeld self.old (S.world shelf.old) → IsHeld self.new (S.world shelf.new)) }
+        ensures damage { IfErr result (λ e. IsTrue (S.tells shelf.new) → IsHeld self.old (S.world shelf.old) →
+            IsDamageOf self.old (S.world shelf.old) e) }
 
         // what the call leaves
         ensures content { Told S.tells shelf.old shelf.new
@@ -66,6 +71,12 @@ impl<'r> ReduceSweep<'r> {
         ensures keeps { OnOk result (IsTrue (S.tells shelf.new) → (d : Diagram) → (k : Contents) → (rest : List Name) →
             k.names ≡ name.now ∷ rest → IsOf self.old d → Holds true self.old (S.world shelf.old) k →
             AreForwarded self.old d k → IsForwardingIn self.new (S.world shelf.new) d) }
+        ensures held { OnOk result (IsTrue (S.tells shelf.new) → (k : Contents) → (rest : List Name) → k.names ≡ name.now ∷ rest →
+            Holds false self.old (S.world shelf.old) k → AreOfLevel self.old k → k.rows ≡ [] → self.old.source ≡ None →
+            (self.old.phase ≡ Phase.Forward) → IsHeld self.new (S.world shelf.new)) }
+        ensures damage { IfErr result (λ e. IsTrue (S.tells shelf.new) → (k : Contents) → (rest : List Name) →
+            k.names ≡ name.now ∷ rest → Holds false self.old (S.world shelf.old) k → AreOfLevel self.old k →
+            IsDamageOf self.old (S.world shelf.old) e) }
 
         // what the call leaves
         ensures content { Told S.tells shelf.old shelf.new
@@ -107,6 +118,9 @@ impl<'r> ReduceSweep<'r> {
         ensures rest { SameButQueue self.old self.new }
         ensures joined { OnOk result (IsTrue (S.tells shelf.new) → (whole : Bool) → (k : Contents) →
             Holds whole self.old (S.world shelf.old) k → JoinsQueue whole self.new (S.world shelf.new) k told) }
+        ensures last { last_of self.new.queue ≡ last_of self.old.queue }
+        ensures damage { IfErr result (λ e. IsTrue (S.tells shelf.new) → (k : Contents) →
+            Holds false self.old (S.world shelf.old) k → ComesLater self.old told → IsNoDamage e) }
 
         // what the call leaves
         ensures content { Told S.tells shelf.old shelf.new
@@ -146,6 +160,8 @@ impl<'r> ReduceSweep<'r> {
         ensures rest { SameButInner self.old self.new }
         ensures passed { OnOk result (IsTrue (S.tells shelf.new) → (whole : Bool) → (k : Contents) →
             Holds whole self.old (S.world shelf.old) k → PassesInner whole self.old.inner self.new (S.world shelf.new) k) }
+        ensures damage { IfErr result (λ e. IsTrue (S.tells shelf.new) → (k : Contents) →
+            Holds false self.old (S.world shelf.old) k → IsDamageOf self.old (S.world shelf.old) e) }
 
         // what the call leaves
         ensures content { Told S.tells shelf.old shelf.new
@@ -174,6 +190,8 @@ impl<'r> ReduceSweep<'r> {
         ensures left { OnOk result (IsTrue (S.tells shelf.new) → (whole : Bool) → (k : Contents) →
             (rest : List Name) → k.names ≡ name.now ∷ rest → Holds whole self.old (S.world shelf.old) k →
             LeavesNames whole self.new (S.world shelf.new) k rest) }
+        ensures damage { IfErr result (λ e. IsTrue (S.tells shelf.new) → (k : Contents) →
+            Holds false self.old (S.world shelf.old) k → IsNoDamage e) }
 
         // what the call leaves
         ensures content { Told S.tells shelf.old shelf.new

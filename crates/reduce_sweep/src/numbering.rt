@@ -20,6 +20,7 @@ impl<'r> ReduceSweep<'r> {
     ghost use Rattle.sweep_core.specs.Sweeps.{OnlyOwn};
     ghost use Rattle.reduce_sweep.specs.Remaining.{Diagram, IsOf, IsWorking, Contents, Holds};
     ghost use Rattle.reduce_sweep.specs.Changes.{SameButNodes, PutsNode, IsNumbered, is_last};
+    ghost use Rattle.reduce_sweep.specs.Held.{IsHeld, IsDamageOf, IsNoDamage};
     ghost use Rattle.reduce_sweep.specs.Sweeps.{Owns, inner_file, ends_file, IsSound, SameTask, Refuses, SamePlace, Lightens, weight, MovesOn};
 
     /// Names the source of the next row, whose node is put where its pair is a new one.
@@ -37,6 +38,10 @@ impl<'r> ReduceSweep<'r> {
         // what remains
         ensures keeps { OnOk result (IsTrue (S.tells shelf.new) → (d : Diagram) → IsOf self.old d →
             IsWorking self.old (S.world shelf.old) d → IsWorking self.new (S.world shelf.new) d) }
+        ensures still { self.new.reader ≡ self.old.reader }
+        ensures held { OnOk result (IsTrue (S.tells shelf.new) → IsHeld self.old (S.world shelf.old) → IsHeld self.new (S.world shelf.new)) }
+        ensures damage { IfErr result (λ e. IsTrue (S.tells shelf.new) → IsHeld self.old (S.world shelf.old) →
+            IsDamageOf self.old (S.world shelf.old) e) }
 
         // what the call leaves
         ensures content { Told S.tells shelf.old shelf.new
@@ -76,6 +81,7 @@ impl<'r> ReduceSweep<'r> {
         ensures pair { OnOk result (IsNumbered self.old row.now self.new) }
         ensures put { OnOk result (IsTrue (S.tells shelf.new) → (whole : Bool) → (k : Contents) →
             Holds whole self.old (S.world shelf.old) k → PutsNode whole self.old row.now self.new (S.world shelf.new) k) }
+        ensures damage { IfErr result IsNoDamage }
 
         // what the call leaves
         ensures content { Told S.tells shelf.old shelf.new

@@ -24,13 +24,14 @@ impl<'r> ReduceSweep<'r> {
     ghost use Rattle.arc_file.specs.Files.{HasArcs};
     ghost use Rattle.arc_diagrams.specs.Laws.{IsDiagramOf};
     ghost use Rattle.reduce_sweep.specs.Remaining.{Diagram, RemainsOf};
+    ghost use Rattle.reduce_sweep.specs.Held.{IsInStep, IsDamageAtStart, IsNoDamage};
     ghost use Rattle.shelf_model.specs.Calls.{Told};
     ghost use Rattle.shelf_model.specs.Moments.{Ran};
     ghost use Rattle.run_merge.specs.Faults.{OnlySortShelf};
     ghost use Rattle.level_queue.specs.Queues as queues;
     ghost use Rattle.run_merge.specs.Sorters as sorters;
     ghost use Rattle.sweep_core.specs.Sweeps.{OnlyOwn};
-    ghost use Rattle.reduce_sweep.specs.Sweeps.{out_of, inner_file, ends_file, HasParts, turns_of, turns_left, count_in, CanBeTaken, IsReady, IsInStep, IsOut, IsArcDamage};
+    ghost use Rattle.reduce_sweep.specs.Sweeps.{out_of, inner_file, ends_file, HasParts, turns_of, turns_left, count_in, CanBeTaken, IsReady, IsOut, IsArcDamage};
 
     /// Begins the reduction of a diagram of `n` variables into a file, with the part numbers that its lists may take.
     ///
@@ -72,6 +73,10 @@ impl<'r> ReduceSweep<'r> {
             HasArcs Inner inner made.inner_count (file (S.world shelf.old) made.inner).bytes →
             HasArcs End ends made.ends_count (file (S.world shelf.old) made.ends).bytes →
             d.arcs ≡ inner ++ ends → IsDiagramOf n made.root d.arcs d.table → RemainsOf r (S.world shelf.new) d) }
+        ensures damage { IfErr result (λ e. IsTrue (S.tells shelf.new) → IsDamageAtStart made (S.world shelf.old) e) }
+        ensures undamaged { IfErr result (λ e. IsTrue (S.tells shelf.new) → (inner ends : List Arc) →
+            HasArcs Inner inner made.inner_count (file (S.world shelf.old) made.inner).bytes →
+            HasArcs End ends made.ends_count (file (S.world shelf.old) made.ends).bytes → IsNoDamage e) }
 
         // what the call leaves
         ensures content { Told S.tells shelf.old shelf.new

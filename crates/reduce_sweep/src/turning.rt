@@ -16,14 +16,15 @@ impl<'r> ReduceSweep<'r> {
     ghost use Rattle.run_merge.specs.Faults.{OnlySortShelf};
     ghost use Rattle.sweep_core.specs.Sweeps.{OnlyOwn, Falls, Counts};
     ghost use Rattle.reduce_sweep.specs.Remaining.{Diagram, Contents, Holds, IsOf, IsWorking, IsBetween, to_collect, IsReduced, IsOnTheWay, RemainsOf};
-    ghost use Rattle.reduce_sweep.specs.Changes.{OpensLevel, ClosesLevel, IsDoneAt};
-    ghost use Rattle.reduce_sweep.specs.Sweeps.{Owns, inner_file, ends_file, IsSound, SameTask, Refuses, IsReady, IsInStep, Lightens, Opens, SameArcs, EndsAt, CountsAtEnd, count_in, turns_left, turns_of, weight};
+    ghost use Rattle.reduce_sweep.specs.Changes.{SameButLevel, OpensLevel, ClosesLevel, IsDoneAt};
+    ghost use Rattle.reduce_sweep.specs.Held.{IsHeld, IsInStep, IsDamageOf, IsNoDamage};
+    ghost use Rattle.reduce_sweep.specs.Sweeps.{Owns, inner_file, ends_file, IsSound, SameTask, Refuses, IsReady, Lightens, Opens, SameArcs, EndsAt, CountsAtEnd, count_in, turns_left, turns_of, weight};
     ghost use Rattle.shelf_model.specs.declared.file_no.FileNo.{FileNo};
 
     /// Handles one item, or ends the reduction.
     ///
-    /// Damage is that of an arc file: as its reader finds it, or at an arc whose source isn't above all that was
-    /// handled. It isn't shown yet that the second never comes where the folder tells its content.
+    /// Damage is that of the next record of an arc file, from its end on. Where the folder tells nothing of its
+    /// content it may also be that of an arc whose source isn't above all that was taken from the queue.
     pub fn turn<S: Shelf>(&mut self, shelf: &mut S) -> Result<Turn, SortFault>
         requires ready { IsReady self.old }
         requires in_step { IsTrue (S.tells shelf.old) → IsInStep self.old (S.world shelf.old) }
@@ -39,6 +40,9 @@ impl<'r> ReduceSweep<'r> {
             RemainsOf self.old (S.world shelf.old) d → RemainsOf self.new (S.world shelf.new) d) }
         ensures reduced { IfOk result (λ turn. IsTrue (S.tells shelf.new) → (d : Diagram) →
             RemainsOf self.old (S.world shelf.old) d → IsDoneAt turn self.new (S.world shelf.new) d) }
+        ensures damage { IfErr result (λ e. IsTrue (S.tells shelf.new) → IsDamageOf self.old (S.world shelf.old) e) }
+        ensures undamaged { IfErr result (λ e. IsTrue (S.tells shelf.new) → (d : Diagram) →
+            RemainsOf self.old (S.world shelf.old) d → IsNoDamage e) }
 
         // what the call leaves
         ensures content { Told S.tells shelf.old shelf.new
@@ -62,10 +66,12 @@ impl<'r> ReduceSweep<'r> {
         ensures task { SameTask self.old self.new }
         ensures falls { Falls (turns_left self.old) (turns_left self.new) result }
         ensures ends { IfOk result (λ turn. EndsAt turn self.new) }
+        ensures going { IfErr result (λ e. self.old.phase ≢ Phase.Ended) }
 
         // what remains
         ensures keeps { OnOk result (IsTrue (S.tells shelf.new) → (d : Diagram) →
             RemainsOf self.old (S.world shelf.old) d → RemainsOf self.new (S.world shelf.new) d) }
+        ensures damage { IfErr result (λ e. IsTrue (S.tells shelf.new) → IsDamageOf self.old (S.world shelf.old) e) }
 
         // what the call leaves
         ensures content { Told S.tells shelf.old shelf.new
@@ -95,9 +101,12 @@ impl<'r> ReduceSweep<'r> {
         ensures count { self.new.count ≡ self.old.count }
 
         // what remains
-        ensures closed { IfOk result (ClosesLevel self.new) }
+        ensures closed { IfOk result (ClosesLevel self.old self.new) }
         ensures keeps { OnOk result (IsTrue (S.tells shelf.new) → (d : Diagram) → IsOf self.old d →
             IsWorking self.old (S.world shelf.old) d → IsWorking self.new (S.world shelf.new) d) }
+        ensures held { OnOk result (IsTrue (S.tells shelf.new) → IsHeld self.old (S.world shelf.old) → IsHeld self.new (S.world shelf.new)) }
+        ensures damage { IfErr result (λ e. IsTrue (S.tells shelf.new) → IsHeld self.old (S.world shelf.old) →
+            IsDamageOf self.old (S.world shelf.old) e) }
 
         // what the call leaves
         ensures content { Told S.tells shelf.old shelf.new
@@ -127,9 +136,12 @@ impl<'r> ReduceSweep<'r> {
         ensures count { self.new.count ≡ self.old.count }
 
         // what remains
-        ensures closed { IfOk result (ClosesLevel self.new) }
+        ensures closed { IfOk result (ClosesLevel self.old self.new) }
         ensures keeps { OnOk result (IsTrue (S.tells shelf.new) → (d : Diagram) → IsOf self.old d →
             IsWorking self.old (S.world shelf.old) d → IsWorking self.new (S.world shelf.new) d) }
+        ensures held { OnOk result (IsTrue (S.tells shelf.new) → IsHeld self.old (S.world shelf.old) → IsHeld self.new (S.world shelf.new)) }
+        ensures damage { IfErr result (λ e. IsTrue (S.tells shelf.new) → IsHeld self.old (S.world shelf.old) →
+            IsDamageOf self.old (S.world shelf.old) e) }
 
         // what the call leaves
         ensures content { Told S.tells shelf.old shelf.new
@@ -156,9 +168,12 @@ impl<'r> ReduceSweep<'r> {
         ensures count { self.new.count ≡ self.old.count }
 
         // what remains
-        ensures closed { IfOk result (ClosesLevel self.new) }
+        ensures closed { IfOk result (ClosesLevel self.old self.new) }
         ensures keeps { OnOk result (IsTrue (S.tells shelf.new) → (d : Diagram) → IsOf self.old d →
             IsWorking self.old (S.world shelf.old) d → IsWorking self.new (S.world shelf.new) d) }
+        ensures held { OnOk result (IsTrue (S.tells shelf.new) → IsHeld self.old (S.world shelf.old) → IsHeld self.new (S.world shelf.new)) }
+        ensures damage { IfErr result (λ e. IsTrue (S.tells shelf.new) → IsHeld self.old (S.world shelf.old) →
+            IsDamageOf self.old (S.world shelf.old) e) }
 
         // what the call leaves
         ensures content { Told S.tells shelf.old shelf.new
@@ -179,13 +194,15 @@ impl<'r> ReduceSweep<'r> {
         requires sound { IsSound self.old }
         requires in_step { IsTrue (S.tells shelf.old) → InStep (filling_of self.old.writer) (S.world shelf.old) }
         ensures sound { OnOk result (IsSound self.new) }
-        ensures in_step { OnOk result (IsTrue (S.tells shelf.new) → IsInStep self.new (S.world shelf.new)) }
         ensures task { SameTask self.old self.new }
         ensures opens { IfOk result (Opens self.old self.new) }
 
         // what remains
         ensures keeps { OnOk result (IsTrue (S.tells shelf.new) → (d : Diagram) → IsOf self.old d →
             IsWorking self.old (S.world shelf.old) d → IsOnTheWay self.new.phase self.new (S.world shelf.new) d) }
+        ensures held { OnOk result (IsTrue (S.tells shelf.new) → IsHeld self.old (S.world shelf.old) → IsInStep self.new (S.world shelf.new)) }
+        ensures damage { IfErr result (λ e. IsTrue (S.tells shelf.new) → IsHeld self.old (S.world shelf.old) →
+            IsDamageOf self.old (S.world shelf.old) e) }
 
         // what the call leaves
         ensures content { Told S.tells shelf.old shelf.new
@@ -213,6 +230,10 @@ impl<'r> ReduceSweep<'r> {
         ensures count { self.new.count ≡ self.old.count }
         ensures weight { weight self.new ≡ weight self.old }
         ensures arcs { SameArcs self.old self.new }
+        ensures rest { SameButLevel self.old self.new }
+        ensures here { result ≡ true → (self.new.level ≡ level) × (self.new.open ≡ true) }
+        ensures deep { self.new.level ≤ level }
+        ensures shallower { self.new.level ≤ self.old.level }
         ensures opened { level < self.old.level → (result ≡ true) × OpensLevel self.old level self.new }
         ensures holds { (whole : Bool) → (world : World) → (k : Contents) →
             Holds whole self.old world k → Holds whole self.new world k }
@@ -237,6 +258,7 @@ impl<'r> ReduceSweep<'r> {
         ensures reduced { OnOk result (IsTrue (S.tells shelf.new) → (d : Diagram) → (k : Contents) → IsOf self.old d →
             Holds true self.old (S.world shelf.old) k → IsBetween self.old d k → to_collect k ≡ [] →
             IsReduced self.new (S.world shelf.new) d) }
+        ensures damage { IfErr result IsNoDamage }
 
         // what the call leaves
         ensures content { Told S.tells shelf.old shelf.new
@@ -254,7 +276,8 @@ impl<'r> ReduceSweep<'r> {
 
 impl<'r> Sweep<'r> for ReduceSweep<'r> {
     ghost use Rattle.reduce_sweep.specs.Remaining.{Diagram, RemainsOf};
-    ghost use Rattle.reduce_sweep.specs.Sweeps.{Owns, IsReady, IsInStep, turns_left, turns_of};
+    ghost use Rattle.reduce_sweep.specs.Sweeps.{Owns, IsReady, turns_left, turns_of};
+    ghost use Rattle.reduce_sweep.specs.Held.{IsInStep};
 
     ghost Job = { Diagram };
 

@@ -1,4 +1,11 @@
-use Rattle.std.proofs.Common.{◌∙◌, sym, subst}
+use Rattle.reduce_sweep.specs.declared.phase.Phase.TheVariants.{Collect}
+use Rattle.std.specs.Prelude.{◌≤◌, false}
+use Rattle.level_queue.specs.Queues.{last_of}
+use Rattle.reduce_sweep.specs.Held.{AreGone}
+use Rattle.reduce_sweep.proofs.TurnKeeps.{opens_held}
+use Rattle.reduce_sweep.proofs.HeldCollecting.{fault_handed}
+use Rattle.reduce_sweep.proofs.HeldKeeps.{damage_before}
+use Rattle.std.proofs.Common.{◌∙◌, ap, sym, subst}
 use Rattle.std.specs.Prelude.{Bool, true, ◌<◌, Option, None, IfSome}
 use Rattle.arc_diagrams.specs.declared.final_arc.FinalArc.{FinalArc}
 use Rattle.reduce_sweep.specs.Remaining.{IsBetween, RemainsIn, IsOnTheWay}
@@ -57,3 +64,35 @@ returns-clause-keeps g c = λ told d is_of working.
       holds = taken.holds;
       remains = subst (λ v. v) (λ j. RemainsIn (sym phase j) (sym open_is j) c.take_arc.new.self d taken.contents) taken.collected;
     })
+
+-- the lists hold what they are to
+pub returns-clause-held : goal.returns-clause-held
+returns-clause-held g c = λ told held going.
+    let s = c.args.self.now in
+    let k = held.contents in
+    let before = c.take_arc.ensures.content.before told in
+    let gone : AreGone Collect false s k = subst (λ v. v) (λ j. AreGone (c.requires.phase j) (c.requires.closed j) s k) held.gone in
+    let at : IsAt false c.in-Some.queued k c.in-Some.arc =
+    subst (λ (o : Option (FinalArc × Bool)). IfSome o (λ next. IsAt false next.1 k next.0)) c.in-Some.is (c.in_ok-arc.ensures.at before false k held.holds) in
+    let phase = c.open_at-here.ensures.phase ∙ c.next_arc.ensures.place.phase_is ∙ c.requires.phase in
+    let opened = opens_held s c.open_at-here.new.self k phase (c.open_at-here.ensures.rest.source_is ∙ c.next_arc.ensures.source)
+    (ap last_of c.open_at-here.ensures.rest.queue_is ∙ c.next_arc.ensures.last)
+    (subst (λ i. c.open_at-here.new.self.level ≤ i) c.next_arc.ensures.place.level_is c.open_at-here.ensures.shallower) gone held.here in
+    let level = c.source_level.ensures.level in
+    c.in_ok-take_arc.ensures.held told k
+    (record {
+      deep = subst (λ i. c.open_at-here.new.self.level ≤ i) level c.open_at-here.ensures.deep;
+      noted_here = λ here. sym level ∙ sym (c.open_at-here.ensures.here here).0;
+      opened = λ here. (c.open_at-here.ensures.here here).1;
+    })
+    at (c.open_at-here.ensures.holds false _ k (c.in_ok-arc.ensures.shown before false k held.holds)) opened.0 opened.1 phase
+
+-- what is damaged was so before
+pub returns-in_err-take_arc-clause-damage : goal.returns-in_err-take_arc-clause-damage
+returns-in_err-take_arc-clause-damage g c =
+    fault_handed _ c.from_residual-in_err-take_arc.result c.in_err-take_arc.field-0.0 c.from_residual-in_err-take_arc.ensures.1 (λ told held.
+    let before = c.take_arc.ensures.content.before told in
+    let k = held.contents in
+    damage_before c.args.self.now c.open_at-here.new.self (g.S.Shelf.world c.args.shelf.now) (g.S.Shelf.world c.next_arc.new.shelf) c.in_err-take_arc.field-0.0 held.holds.apart
+    (c.open_at-here.ensures.rest.reader_is ∙ c.next_arc.ensures.rest.reader_is) (c.next_arc.ensures.content.did before)
+    (c.in_err-take_arc.ensures.damage told k (c.open_at-here.ensures.holds false _ k (c.in_ok-arc.ensures.shown before false k held.holds))))

@@ -1,12 +1,15 @@
 use Rattle.std.proofs.Common.{◌≡◌, ◌≤◌, ◌∙◌, ap, inl, inr, refl, sym, subst, rules, arith}
-use Rattle.std.specs.Prelude.{[], true, Some}
-use Rattle.rec_words.specs.Words.{IsTerminal}
+use Rattle.std.specs.Prelude.{[], true, false, Option, Some, Err, IfSome}
+use Rattle.std.proofs.lemmas.Bool.{false≢true}
+use Rattle.arc_diagrams.specs.declared.final_arc.FinalArc.{FinalArc}
+use Rattle.rec_words.specs.Words.{IsTerminal, level_of}
 use Rattle.arc_diagrams.specs.Laws.{IsDiagramOf}
-use Rattle.reduce_sweep.proofs.StartKeeps.{begins, few_at_start, nothing_written, as_before, unread_begun}
-use Rattle.arc_file.specs.declared.kind.Kind.TheVariants.{Inner, End}
-use Rattle.arc_file.specs.Streams as streams
+use Rattle.reduce_sweep.proofs.StartKeeps.{begins, few_at_start, at_first, held_at_first, as_before, emptied, ReadsNothing, inner_damaged, ends_damaged}
+use Rattle.reduce_sweep.proofs.Undamaged.{begins_undamaged}
+use Rattle.std.proofs.lemmas.Result.{err_from_is_err_and}
+use Rattle.arc_file.specs.declared.kind.Kind.TheVariants.{End}
 use Rattle.arc_file.specs.declared.unreduced.Unreduced.{Unreduced}
-use Rattle.arc_file.specs.Streams.{file_of}
+use Rattle.arc_file.specs.Streams.{left_of, given_of}
 use Rattle.arc_file.specs.Readers.{inner_of, ends_of, left_over_of}
 use Rattle.arc_diagrams.specs.Reducing.{Remains}
 use Rattle.reduce_sweep.specs.Sweeps.{IsOut, CanBeTaken, parts_at}
@@ -49,26 +52,11 @@ pub returns-clause-remains : goal.returns-clause-remains
 returns-clause-remains g c = λ told d inner ends has_inner has_ends arcs diagram.
     let few = few_at_start d.arcs inner ends c.args.made.inner_count c.args.made.ends_count _ _ has_inner has_ends arcs c.requires.inner_few c.requires.ends_few in
     let variables = c.in_ok-writer.ensures.variables in
-    let out = c.in_ok-writer.ensures.file in
     let left : left_over_of c.start-reader.result ≡ c.args.made = c.start-reader.ensures.left_over in
     let root : c.left_over-root.result.root ≡ c.args.made.root =
     ap (λ (u : Unreduced). u.root) c.left_over-root.ensures ∙ c.in_ok-end.ensures.root ∙ c.in_ok-inner.ensures.root ∙ ap (λ (u : Unreduced). u.root) left in
-    let inner_place : file_of (inner_of c.next_end.new.self) ≡ c.args.made.inner =
-    ap file_of c.in_ok-end.ensures.inner ∙ c.in_ok-inner.ensures.file ∙ ap (λ (u : Unreduced). u.inner) left in
-    let ends_place : file_of (ends_of c.next_end.new.self) ≡ c.args.made.ends =
-    c.in_ok-end.ensures.file ∙ ap file_of c.in_ok-inner.ensures.ends ∙ ap (λ (u : Unreduced). u.ends) left in
     let read_told = c.next_end.ensures.content.before told in
     let cut_told = c.next_inner.ensures.content.before read_told in
-    let cut = c.start.ensures.content.did cut_told in
-    let looked = c.next_inner.ensures.content.did read_told in
-    let again = c.next_end.ensures.content.did told in
-    let first = g.S.Shelf.world c.args.shelf.now in
-    let second = g.S.Shelf.world c.start.new.shelf in
-    let third = g.S.Shelf.world c.next_inner.new.shelf in
-    let last = g.S.Shelf.world c.next_end.new.shelf in
-    let inner_stays = as_before c.args.out c.args.made.inner first second third last (λ e. c.requires.apart_inner (sym e)) cut looked again in
-    let ends_stays = as_before c.args.out c.args.made.ends first second third last (λ e. c.requires.apart_ends (sym e)) cut looked again in
-    let ends_kept : ends_of c.next_inner.new.self ≡ ends_of c.start-reader.result = c.in_ok-inner.ensures.ends in
     record {
       is_of = record {
         few = subst (λ n. n ≤ 65535) (sym variables) c.requires.variables;
@@ -76,31 +64,26 @@ returns-clause-remains g c = λ told d inner ends has_inner has_ends arcs diagra
         diagram = subst (λ v. v) (λ j. IsDiagramOf (sym variables j) (sym root j) d.arcs d.table) diagram;
       };
       on_the_way = record {
-        contents = record { queue = []; inner = inner; ends = ends; rows = []; names = []; nodes = [] };
-        holds = record {
-          apart = record {
-            out_inner = λ e. c.requires.apart_inner (sym (sym inner_place ∙ e ∙ out));
-            out_ends = λ e. c.requires.apart_ends (sym (sym ends_place ∙ e ∙ out));
-            inner_made = λ free. c.requires.inner_made (subst (CanBeTaken c.args.parts.step c.args.parts.next) inner_place free);
-            ends_made = λ free. c.requires.ends_made (subst (CanBeTaken c.args.parts.step c.args.parts.next) ends_place free);
-            no_run = λ run. elim run [
-              | inl q ↦ c.start-2.ensures.runs _ q
-              | inr other ↦ elim other [ inl q ↦ c.start-3.ensures.runs _ q | inr q ↦ c.start-4.ensures.runs _ q ]
-            ];
-          };
-          queue_is = c.start-2.ensures.list _;
-          inner_is = unread_begun true Inner c.args.made.inner first second last (inner_of c.start-reader.result) (inner_of c.next_inner.new.self) (inner_of c.next_end.new.self) c.in_ok-inner.inner inner
-              c.args.made.inner_count (ap (λ (u : Unreduced). u.inner) left) c.in_ok-inner.ensures.file c.in_ok-end.ensures.inner inner_stays.0 (inner_stays.1.1 ∙ inner_stays.1.0 ∙ inner_stays.0)
-              c.in_ok-inner.ensures.place c.start-reader.ensures.reads_inner (c.in_ok-inner.ensures.reads read_told) (c.in_ok-inner.ensures.arcs read_told) c.start-reader.ensures.inner_arcs (λ _. has_inner);
-          ends_is = unread_begun true End c.args.made.ends first third last (ends_of c.next_inner.new.self) (ends_of c.next_end.new.self) (ends_of c.next_end.new.self) c.in_ok-end.end ends
-              c.args.made.ends_count (ap file_of ends_kept ∙ ap (λ (u : Unreduced). u.ends) left) c.in_ok-end.ensures.file refl (ends_stays.1.0 ∙ ends_stays.0) (ends_stays.1.1 ∙ ends_stays.1.0 ∙ ends_stays.0)
-              c.in_ok-end.ensures.place (λ bytes. subst (λ s. streams.Reads End s bytes) (sym ends_kept) (c.start-reader.ensures.reads_ends bytes)) (c.in_ok-end.ensures.reads told) (c.in_ok-end.ensures.arcs told)
-              (λ bytes ys has. subst (λ s. streams.AreLeft End s bytes ys) (sym ends_kept) (c.start-reader.ensures.end_arcs bytes ys has)) (λ _. has_ends);
-          rows_is = c.start-3.ensures.list _;
-          names_is = c.start-4.ensures.list _;
-          nodes_is = nothing_written c.in_ok-writer.writer second third last looked again (c.in_ok-writer.ensures.holds cut_told);
-          nodes_many = sym c.in_ok-writer.ensures.count;
-        };
+        contents = at_first inner ends;
+        holds = held_at_first true _ c.args.made c.args.out (g.S.Shelf.world c.args.shelf.now) (g.S.Shelf.world c.start.new.shelf) (g.S.Shelf.world c.next_inner.new.shelf)
+            (g.S.Shelf.world c.next_end.new.shelf) c.start-reader.result c.next_inner.new.self inner ends
+            (record { out_is = c.in_ok-writer.ensures.file; apart_inner = c.requires.apart_inner; apart_ends = c.requires.apart_ends; inner_made = c.requires.inner_made; ends_made = c.requires.ends_made })
+            (c.start.ensures.content.did cut_told) (c.next_inner.ensures.content.did read_told) (c.next_end.ensures.content.did told)
+            (record { place = ap (λ (u : Unreduced). u.inner) left; reads = c.start-reader.ensures.reads_inner; arcs = c.start-reader.ensures.inner_arcs })
+            (record { place = ap (λ (u : Unreduced). u.ends) left; reads = c.start-reader.ensures.reads_ends; arcs = c.start-reader.ensures.end_arcs })
+            c.in_ok-inner.ensures.ends c.in_ok-end.ensures.inner
+            (record { place = c.in_ok-inner.ensures.file; up = c.in_ok-inner.ensures.place; reads = c.in_ok-inner.ensures.reads read_told; arcs = c.in_ok-inner.ensures.arcs read_told })
+            (record { place = c.in_ok-end.ensures.file; up = c.in_ok-end.ensures.place; reads = c.in_ok-end.ensures.reads told; arcs = c.in_ok-end.ensures.arcs told })
+            (record {
+              queue_is = c.start-2.ensures.list _;
+              rows_is = c.start-3.ensures.list _;
+              names_is = c.start-4.ensures.list _;
+              no_run = λ f run. elim run [
+                | inl q ↦ c.start-2.ensures.runs f q
+                | inr other ↦ elim other [ inl q ↦ c.start-3.ensures.runs f q | inr q ↦ c.start-4.ensures.runs f q ]
+              ];
+            })
+            (c.in_ok-writer.ensures.holds cut_told) c.in_ok-writer.ensures.count (λ _. has_inner) (λ _. has_ends);
         remains = record {
           within = omega (arith, variables);
           remains = subst (λ v. v) (λ j. Remains (sym variables j) (sym root j) c.args.n d.arcs ends inner [] c.final_from_start-known.result)
@@ -113,3 +96,79 @@ returns-clause-remains g c = λ told d inner ends has_inner has_ends arcs diagra
         };
       };
     }
+
+-- it holds nothing yet
+pub returns-clause-in_step : goal.returns-clause-in_step
+returns-clause-in_step g c = λ told going.
+    let left : left_over_of c.start-reader.result ≡ c.args.made = c.start-reader.ensures.left_over in
+    let read_told = c.next_end.ensures.content.before told in
+    let cut_told = c.next_inner.ensures.content.before read_told in
+    record {
+      contents = at_first [] [];
+      holds = held_at_first false _ c.args.made c.args.out (g.S.Shelf.world c.args.shelf.now) (g.S.Shelf.world c.start.new.shelf) (g.S.Shelf.world c.next_inner.new.shelf)
+          (g.S.Shelf.world c.next_end.new.shelf) c.start-reader.result c.next_inner.new.self [] []
+          (record { out_is = c.in_ok-writer.ensures.file; apart_inner = c.requires.apart_inner; apart_ends = c.requires.apart_ends; inner_made = c.requires.inner_made; ends_made = c.requires.ends_made })
+          (c.start.ensures.content.did cut_told) (c.next_inner.ensures.content.did read_told) (c.next_end.ensures.content.did told)
+          (record { place = ap (λ (u : Unreduced). u.inner) left; reads = c.start-reader.ensures.reads_inner; arcs = c.start-reader.ensures.inner_arcs })
+          (record { place = ap (λ (u : Unreduced). u.ends) left; reads = c.start-reader.ensures.reads_ends; arcs = c.start-reader.ensures.end_arcs })
+          c.in_ok-inner.ensures.ends c.in_ok-end.ensures.inner
+          (record { place = c.in_ok-inner.ensures.file; up = c.in_ok-inner.ensures.place; reads = c.in_ok-inner.ensures.reads read_told; arcs = c.in_ok-inner.ensures.arcs read_told })
+          (record { place = c.in_ok-end.ensures.file; up = c.in_ok-end.ensures.place; reads = c.in_ok-end.ensures.reads told; arcs = c.in_ok-end.ensures.arcs told })
+          (record {
+            queue_is = c.start-2.ensures.list _;
+            rows_is = c.start-3.ensures.list _;
+            names_is = c.start-4.ensures.list _;
+            no_run = λ f run. elim run [
+              | inl q ↦ c.start-2.ensures.runs f q
+              | inr other ↦ elim other [ inl q ↦ c.start-3.ensures.runs f q | inr q ↦ c.start-4.ensures.runs f q ]
+            ];
+          })
+          (c.in_ok-writer.ensures.holds cut_told) c.in_ok-writer.ensures.count (λ no. absurd (false≢true no)) (λ no. absurd (false≢true no));
+      here = record {
+        rows_here = λ r member. absurd member;
+        names_here = λ m member. absurd member;
+        source_here = tt;
+        taken = subst (λ (o : Option FinalArc). IfSome o (λ a. c.args.n ≤ level_of a.source)) (sym c.start-2.ensures.last) tt;
+      };
+      gone = (refl, refl, refl);
+    }
+
+-- what is damaged is the last arc of a file
+pub returns-in_err-inner-clause-damage : goal.returns-in_err-inner-clause-damage
+returns-in_err-inner-clause-damage g c =
+    let out = err_from_is_err_and c.from_residual-in_err-inner.result c.from_residual-in_err-inner.ensures.1 in
+    let left : left_over_of c.start-reader.result ≡ c.args.made = c.start-reader.ensures.left_over in
+    inner_damaged _ c.args.made (g.S.Shelf.world c.args.shelf.now) (g.S.Shelf.world c.start.new.shelf) (inner_of c.start-reader.result) (inner_of c.next_inner.new.self)
+    c.from_residual-in_err-inner.result c.in_err-inner.field-0.0 (out.1 ∙ ap Err out.2)
+    (record { place = ap (λ (u : Unreduced). u.inner) left; reads = c.start-reader.ensures.reads_inner; arcs = c.start-reader.ensures.inner_arcs })
+    (ap (λ (u : Unreduced). u.inner_count) left) c.start-reader.ensures.given.0
+    (λ told. emptied c.args.out c.args.made.inner _ _ (λ e. c.requires.apart_inner (sym e)) (c.start.ensures.content.did (c.next_inner.ensures.content.before told)))
+    c.in_err-inner.ensures.place (λ told. c.in_err-inner.ensures.value told (c.start-reader.ensures.reads_inner _))
+
+pub returns-in_err-end-clause-damage : goal.returns-in_err-end-clause-damage
+returns-in_err-end-clause-damage g c =
+    let out = err_from_is_err_and c.from_residual-in_err-end.result c.from_residual-in_err-end.ensures.1 in
+    let left : left_over_of c.start-reader.result ≡ c.args.made = c.start-reader.ensures.left_over in
+    let kept : ends_of c.next_inner.new.self ≡ ends_of c.start-reader.result = c.in_ok-inner.ensures.ends in
+    let nothing : ReadsNothing End (ends_of c.start-reader.result) c.args.made.ends c.args.made.ends_count =
+    record { place = ap (λ (u : Unreduced). u.ends) left; reads = c.start-reader.ensures.reads_ends; arcs = c.start-reader.ensures.end_arcs } in
+    let reads = subst (λ r. ReadsNothing End r c.args.made.ends c.args.made.ends_count) (sym kept) nothing in
+    ends_damaged _ c.args.made (g.S.Shelf.world c.args.shelf.now) (g.S.Shelf.world c.next_inner.new.shelf) (ends_of c.next_inner.new.self) (ends_of c.next_end.new.self)
+    c.from_residual-in_err-end.result c.in_err-end.field-0.0 (out.1 ∙ ap Err out.2)
+    reads
+    (ap left_of kept ∙ ap (λ (u : Unreduced). u.ends_count) left) (ap given_of kept ∙ c.start-reader.ensures.given.1)
+    (λ told.
+    let read_told = c.next_end.ensures.content.before told in
+    let stays = as_before c.args.out c.args.made.ends _ _ _ _ (λ e. c.requires.apart_ends (sym e)) (c.start.ensures.content.did (c.next_inner.ensures.content.before read_told))
+    (c.next_inner.ensures.content.did read_told) (c.next_end.ensures.content.did told) in
+    stays.1.0 ∙ stays.0)
+    c.in_err-end.ensures.place (λ told. c.in_err-end.ensures.value told (reads.reads _))
+
+-- nothing is damaged where the files are whole
+pub returns-in_err-inner-clause-undamaged : goal.returns-in_err-inner-clause-undamaged
+returns-in_err-inner-clause-undamaged g c =
+    begins_undamaged _ c.args.made (g.S.Shelf.world c.args.shelf.now) c.from_residual-in_err-inner.result (returns-in_err-inner-clause-damage g c)
+
+pub returns-in_err-end-clause-undamaged : goal.returns-in_err-end-clause-undamaged
+returns-in_err-end-clause-undamaged g c =
+    begins_undamaged _ c.args.made (g.S.Shelf.world c.args.shelf.now) c.from_residual-in_err-end.result (returns-in_err-end-clause-damage g c)

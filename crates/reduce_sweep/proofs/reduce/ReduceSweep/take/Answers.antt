@@ -2,6 +2,7 @@ use Rattle.std.proofs.Common.{refl, arith, ◌≡◌, ◌≤◌}
 use Rattle.level_queue.specs.Queues as queues
 use Rattle.arc_diagrams.specs.Items.{final_arc_words, IsFinalArc, final_arc_cmp}
 use Rattle.reduce_sweep.proofs.CallFrames.{queue_moved, rest_is}
+use Rattle.reduce_sweep.proofs.HeldCollecting.{first_reached}
 use Rattle.reduce_sweep.proofs.reduce.ReduceSweep.take.Goals as goal
 
 -- the arcs behind it are left, and only parts were taken
@@ -17,3 +18,9 @@ returns-clause-taken g c = λ told whole k arc at holds.
           (rest_is (queues.Lists IsFinalArc final_arc_words final_arc_cmp c.take-taken.new.self (g.S.Shelf.world c.take-taken.new.shelf)) k.queue at.0 arc _ at.1
           (c.in_ok-taken.ensures.list told k.queue holds.queue_is)) holds,
     )
+
+-- the arc that was taken is the first one
+pub returns-clause-last : goal.returns-clause-last
+returns-clause-last g c = λ told k arc at holds.
+    first_reached (queues.Lists IsFinalArc final_arc_words final_arc_cmp c.take-taken.new.self (g.S.Shelf.world c.take-taken.new.shelf)) k.queue at.0 arc _ _ _ at.1
+    (c.in_ok-taken.ensures.list told k.queue holds.queue_is) c.in_ok-taken.ensures.last
