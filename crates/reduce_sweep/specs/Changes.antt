@@ -273,6 +273,9 @@ pub record SameButLevel (s t : ReduceSweep) : Type 0 where
   pub phase_is : t.phase ≡ s.phase
   pub reader_is : t.reader ≡ s.reader
   pub queue_is : t.queue ≡ s.queue
+  pub rows_is : t.rows ≡ s.rows
+  pub names_is : t.names ≡ s.names
+  pub next_is : t.next ≡ s.next
   pub source_is : t.source ≡ s.source
 
 -- where nothing of a level was handled, none is open, and no arc was read

@@ -1,5 +1,5 @@
 -- What is seen of a reduction, and what it keeps between turns.
-use Rattle.std.specs.Prelude.{◌≡◌, ◌≢◌, ◌⊎◌, ℕ, ◌+◌, ◌*◌, ◌^◌, ◌≤◌, ◌<◌, Bool, true, false, Option, Some, None, IsSome, min}
+use Rattle.std.specs.Prelude.{◌≡◌, ◌≢◌, ◌⊎◌, ℕ, ◌+◌, ◌*◌, ◌-◌, ◌^◌, ◌≤◌, ◌<◌, Bool, true, false, Option, Some, None, IsSome, min}
 use Rattle.std.proofs.Math.Nat.{min-le_right}
 use Rattle.shelf_model.specs.declared.file_no.FileNo.{FileNo}
 use Rattle.shelf_model.specs.declared.sort_fault.SortFault.{SortFault}
@@ -59,6 +59,18 @@ Owns r f = (f ≡ out_of r) ⊎ CanBeTaken r.step r.next f
 abbrev pub one_if_some : {X : Type 0} → Option X → ℕ
 one_if_some None = 0
 one_if_some (Some x) = 1
+
+-- how many calls are paid for that weren't made yet
+abbrev pub credit_of : ReduceSweep → ℕ
+credit_of r = queues.credit r.queue + sorters.credit r.rows + sorters.credit r.names
+
+-- what is paid for parts that weren't taken yet, 256 for each part
+abbrev pub stock_of : ReduceSweep → ℕ
+stock_of r = queues.stock r.queue + sorters.stock r.rows + sorters.stock r.names
+
+-- the parts that were taken, 256 for each, are paid for with what stays paid: by what was paid before, and by n
+abbrev pub PaysParts : ℕ → ReduceSweep → ReduceSweep → Type 0
+PaysParts n old new = 256 * (new.next - old.next) + stock_of new ≤ stock_of old + n
 
 -- what weighs on the turns to come: an arc to a node that isn't used, 4; one to a truth value, and an arc in the
 -- queue, 3; a source that is collected, and a row, 2; a name, 1

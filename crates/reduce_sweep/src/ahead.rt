@@ -11,13 +11,14 @@ impl<'r> ReduceSweep<'r> {
     ghost use Rattle.block_stream.specs.Writes.{InStep};
     ghost use Rattle.node_file.specs.Writers.{filling_of};
     ghost use Rattle.run_merge.specs.Faults.{OnlySortShelf};
+    ghost use Rattle.run_merge.specs.Parts.{Paid};
     ghost use Rattle.sweep_core.specs.Sweeps.{OnlyOwn};
     ghost use Rattle.arc_diagrams.specs.declared.final_arc.FinalArc.{FinalArc};
     ghost use Rattle.reduce_sweep.specs.Remaining.{Contents, Holds};
     ghost use Rattle.reduce_sweep.specs.Changes.{SameButQueue, SameButAhead, IsAt, ComesFirst, Passes};
     ghost use Rattle.reduce_sweep.specs.Held.{IsDamageOf, IsNoDamage, TakesLast};
     ghost use Rattle.level_queue.specs.Queues.{last_of};
-    ghost use Rattle.reduce_sweep.specs.Sweeps.{Owns, inner_file, ends_file, IsSound, SameTask, Refuses, SamePlace, IsNext, weight};
+    ghost use Rattle.reduce_sweep.specs.Sweeps.{Owns, credit_of, PaysParts, inner_file, ends_file, IsSound, SameTask, Refuses, SamePlace, IsNext, weight};
 
     /// The next arc to collect, and whether it is of the queue.
     pub(crate) fn next_arc<S: Shelf>(
@@ -46,9 +47,12 @@ impl<'r> ReduceSweep<'r> {
         ensures damage { IfErr result (λ e. IsTrue (S.tells shelf.new) → (k : Contents) →
             Holds false self.old (S.world shelf.old) k → IsNoDamage e) }
 
-        // what the call leaves
+        // what the call leaves, and what it costs
         ensures content { Told S.tells shelf.old shelf.new
             (Ran (OnlyOwn (Owns self.old) (now (S.world shelf.old))) (S.world shelf.old) (S.world shelf.new)) }
+        ensures calls { IsTrue (S.tells shelf.new) →
+            Paid 8 (credit_of self.old) (credit_of self.new) (S.world shelf.old) (S.world shelf.new) }
+        ensures spent { PaysParts 0 self.old self.new }
         ensures faults { OnlySortShelf (S.faults shelf.old) (S.faults shelf.new) result }
         ensures refused { IfErr result (Refuses (inner_file self.old) (ends_file self.old) self.new) }
     {
@@ -92,9 +96,12 @@ impl<'r> ReduceSweep<'r> {
         ensures damage { IfErr result (λ e. IsTrue (S.tells shelf.new) → (k : Contents) →
             Holds false self.old (S.world shelf.old) k → IsDamageOf self.old (S.world shelf.old) e) }
 
-        // what the call leaves
+        // what the call leaves, and what it costs
         ensures content { Told S.tells shelf.old shelf.new
             (Ran (OnlyOwn (Owns self.old) (now (S.world shelf.old))) (S.world shelf.old) (S.world shelf.new)) }
+        ensures calls { IsTrue (S.tells shelf.new) →
+            Paid 8 (credit_of self.old) (credit_of self.new) (S.world shelf.old) (S.world shelf.new) }
+        ensures spent { PaysParts 0 self.old self.new }
         ensures faults { OnlySortShelf (S.faults shelf.old) (S.faults shelf.new) result }
         ensures refused { IfErr result (Refuses (inner_file self.old) (ends_file self.old) self.new) }
     {
@@ -128,9 +135,12 @@ impl<'r> ReduceSweep<'r> {
         ensures damage { IfErr result (λ e. IsTrue (S.tells shelf.new) → (k : Contents) →
             Holds false self.old (S.world shelf.old) k → IsNoDamage e) }
 
-        // what the call leaves
+        // what the call leaves, and what it costs
         ensures content { Told S.tells shelf.old shelf.new
             (Ran (OnlyOwn (Owns self.old) (now (S.world shelf.old))) (S.world shelf.old) (S.world shelf.new)) }
+        ensures calls { IsTrue (S.tells shelf.new) →
+            Paid 8 (credit_of self.old) (credit_of self.new) (S.world shelf.old) (S.world shelf.new) }
+        ensures spent { PaysParts 0 self.old self.new }
         ensures faults { OnlySortShelf (S.faults shelf.old) (S.faults shelf.new) result }
         ensures refused { IfErr result (Refuses (inner_file self.old) (ends_file self.old) self.new) }
     {

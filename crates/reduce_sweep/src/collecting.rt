@@ -16,11 +16,12 @@ impl<'r> ReduceSweep<'r> {
     ghost use Rattle.block_stream.specs.Writes.{InStep};
     ghost use Rattle.node_file.specs.Writers.{filling_of};
     ghost use Rattle.run_merge.specs.Faults.{OnlySortShelf};
+    ghost use Rattle.run_merge.specs.Parts.{Paid};
     ghost use Rattle.sweep_core.specs.Sweeps.{OnlyOwn};
     ghost use Rattle.reduce_sweep.specs.Remaining.{Diagram, Contents, Holds, IsOf, IsWorking};
     ghost use Rattle.reduce_sweep.specs.Changes.{SameButNames, JoinsNames, SameButRows, JoinsRows, SameButCollected, Closes, going_on, closed_by, noted_with, IsToCollect, IsCollectingIn, IsAt, ReadsNone};
     ghost use Rattle.reduce_sweep.specs.Held.{IsHeld, AreOfLevel, AreGone, MayBeTaken, IsDamageOf, IsNoDamage};
-    ghost use Rattle.reduce_sweep.specs.Sweeps.{Owns, inner_file, ends_file, IsSound, SameTask, Refuses, SamePlace, SameArcs, IsNext, Lightens, weight, MovesOn};
+    ghost use Rattle.reduce_sweep.specs.Sweeps.{Owns, credit_of, PaysParts, inner_file, ends_file, IsSound, SameTask, Refuses, SamePlace, SameArcs, IsNext, Lightens, weight, MovesOn};
 
     /// Collects an arc of the level at hand, or ends the collecting where the next one is of a shallower level.
     pub(crate) fn collect<S: Shelf>(&mut self, shelf: &mut S) -> Result<bool, SortFault>
@@ -43,9 +44,12 @@ impl<'r> ReduceSweep<'r> {
         ensures damage { IfErr result (λ e. IsTrue (S.tells shelf.new) → IsHeld self.old (S.world shelf.old) →
             IsDamageOf self.old (S.world shelf.old) e) }
 
-        // what the call leaves
+        // what the call leaves, and what it costs
         ensures content { Told S.tells shelf.old shelf.new
             (Ran (OnlyOwn (Owns self.old) (now (S.world shelf.old))) (S.world shelf.old) (S.world shelf.new)) }
+        ensures calls { IsTrue (S.tells shelf.new) →
+            Paid 32 (credit_of self.old) (credit_of self.new) (S.world shelf.old) (S.world shelf.new) }
+        ensures spent { PaysParts 1 self.old self.new }
         ensures faults { OnlySortShelf (S.faults shelf.old) (S.faults shelf.new) result }
         ensures refused { IfErr result (Refuses (inner_file self.old) (ends_file self.old) self.new) }
     {
@@ -88,9 +92,12 @@ impl<'r> ReduceSweep<'r> {
         ensures damage { IfErr result (λ e. IsTrue (S.tells shelf.new) → (k : Contents) →
             Holds false self.old (S.world shelf.old) k → IsDamageOf self.old (S.world shelf.old) e) }
 
-        // what the call leaves
+        // what the call leaves, and what it costs
         ensures content { Told S.tells shelf.old shelf.new
             (Ran (OnlyOwn (Owns self.old) (now (S.world shelf.old))) (S.world shelf.old) (S.world shelf.new)) }
+        ensures calls { IsTrue (S.tells shelf.new) →
+            Paid 24 (credit_of self.old) (credit_of self.new) (S.world shelf.old) (S.world shelf.new) }
+        ensures spent { PaysParts 1 self.old self.new }
         ensures faults { OnlySortShelf (S.faults shelf.old) (S.faults shelf.new) result }
         ensures refused { IfErr result (Refuses (inner_file self.old) (ends_file self.old) self.new) }
     {
@@ -120,9 +127,12 @@ impl<'r> ReduceSweep<'r> {
         ensures damage { IfErr result (λ e. IsTrue (S.tells shelf.new) → (k : Contents) →
             Holds false self.old (S.world shelf.old) k → IsNoDamage e) }
 
-        // what the call leaves
+        // what the call leaves, and what it costs
         ensures content { Told S.tells shelf.old shelf.new
             (Ran (OnlyOwn (Owns self.old) (now (S.world shelf.old))) (S.world shelf.old) (S.world shelf.new)) }
+        ensures calls { IsTrue (S.tells shelf.new) →
+            Paid 16 (credit_of self.old) (credit_of self.new) (S.world shelf.old) (S.world shelf.new) }
+        ensures spent { PaysParts 1 self.old self.new }
         ensures faults { OnlySortShelf (S.faults shelf.old) (S.faults shelf.new) result }
         ensures refused { IfErr result (Refuses (inner_file self.old) (ends_file self.old) self.new) }
     {
@@ -165,9 +175,12 @@ impl<'r> ReduceSweep<'r> {
         ensures damage { IfErr result (λ e. IsTrue (S.tells shelf.new) → (k : Contents) →
             Holds false self.old (S.world shelf.old) k → IsNoDamage e) }
 
-        // what the call leaves
+        // what the call leaves, and what it costs
         ensures content { Told S.tells shelf.old shelf.new
             (Ran (OnlyOwn (Owns self.old) (now (S.world shelf.old))) (S.world shelf.old) (S.world shelf.new)) }
+        ensures calls { IsTrue (S.tells shelf.new) →
+            Paid 16 (credit_of self.old) (credit_of self.new) (S.world shelf.old) (S.world shelf.new) }
+        ensures spent { PaysParts 1 self.old self.new }
         ensures faults { OnlySortShelf (S.faults shelf.old) (S.faults shelf.new) result }
         ensures refused { IfErr result (Refuses (inner_file self.old) (ends_file self.old) self.new) }
     {
@@ -206,9 +219,12 @@ impl<'r> ReduceSweep<'r> {
         ensures damage { IfErr result (λ e. IsTrue (S.tells shelf.new) → (k : Contents) →
             Holds false self.old (S.world shelf.old) k → IsNoDamage e) }
 
-        // what the call leaves
+        // what the call leaves, and what it costs
         ensures content { Told S.tells shelf.old shelf.new
             (Ran (OnlyOwn (Owns self.old) (now (S.world shelf.old))) (S.world shelf.old) (S.world shelf.new)) }
+        ensures calls { IsTrue (S.tells shelf.new) →
+            Paid 16 (credit_of self.old) (credit_of self.new) (S.world shelf.old) (S.world shelf.new) }
+        ensures spent { PaysParts 1 self.old self.new }
         ensures faults { OnlySortShelf (S.faults shelf.old) (S.faults shelf.new) result }
         ensures refused { IfErr result (Refuses (inner_file self.old) (ends_file self.old) self.new) }
     {
@@ -238,9 +254,12 @@ impl<'r> ReduceSweep<'r> {
         ensures damage { IfErr result (λ e. IsTrue (S.tells shelf.new) → (k : Contents) →
             Holds false self.old (S.world shelf.old) k → IsNoDamage e) }
 
-        // what the call leaves
+        // what the call leaves, and what it costs
         ensures content { Told S.tells shelf.old shelf.new
             (Ran (OnlyOwn (Owns self.old) (now (S.world shelf.old))) (S.world shelf.old) (S.world shelf.new)) }
+        ensures calls { IsTrue (S.tells shelf.new) →
+            Paid 16 (credit_of self.old) (credit_of self.new) (S.world shelf.old) (S.world shelf.new) }
+        ensures spent { PaysParts 1 self.old self.new }
         ensures faults { OnlySortShelf (S.faults shelf.old) (S.faults shelf.new) result }
         ensures refused { IfErr result (Refuses (inner_file self.old) (ends_file self.old) self.new) }
     {

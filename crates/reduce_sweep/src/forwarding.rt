@@ -13,12 +13,13 @@ impl<'r> ReduceSweep<'r> {
     ghost use Rattle.block_stream.specs.Writes.{InStep};
     ghost use Rattle.node_file.specs.Writers.{filling_of};
     ghost use Rattle.run_merge.specs.Faults.{OnlySortShelf};
+    ghost use Rattle.run_merge.specs.Parts.{Paid};
     ghost use Rattle.sweep_core.specs.Sweeps.{OnlyOwn};
     ghost use Rattle.reduce_sweep.specs.Remaining.{Diagram, Contents, Holds, IsOf, IsWorking, AreForwarded};
     ghost use Rattle.reduce_sweep.specs.Changes.{SameButInner, PassesInner, SameButKnown, known_with, LeavesNames, SameButQueue, JoinsQueue, IsForwardingIn, ClosesLevel};
     ghost use Rattle.reduce_sweep.specs.Held.{IsHeld, AreOfLevel, ComesLater, IsDamageOf, IsNoDamage};
     ghost use Rattle.level_queue.specs.Queues.{last_of};
-    ghost use Rattle.reduce_sweep.specs.Sweeps.{Owns, inner_file, ends_file, IsSound, SameTask, Refuses, SamePlace, Lightens, weight, MovesOn};
+    ghost use Rattle.reduce_sweep.specs.Sweeps.{Owns, credit_of, PaysParts, inner_file, ends_file, IsSound, SameTask, Refuses, SamePlace, Lightens, weight, MovesOn};
     ghost use Rattle.run_merge.specs.Sorters.{held};
 
     /// Forwards the next name along the next arc, where it leads to its source, or gives up one of both.
@@ -41,9 +42,12 @@ impl<'r> ReduceSweep<'r> {
         ensures damage { IfErr result (λ e. IsTrue (S.tells shelf.new) → IsHeld self.old (S.world shelf.old) →
             IsDamageOf self.old (S.world shelf.old) e) }
 
-        // what the call leaves
+        // what the call leaves, and what it costs
         ensures content { Told S.tells shelf.old shelf.new
             (Ran (OnlyOwn (Owns self.old) (now (S.world shelf.old))) (S.world shelf.old) (S.world shelf.new)) }
+        ensures calls { IsTrue (S.tells shelf.new) →
+            Paid 51 (credit_of self.old) (credit_of self.new) (S.world shelf.old) (S.world shelf.new) }
+        ensures spent { PaysParts 3 self.old self.new }
         ensures faults { OnlySortShelf (S.faults shelf.old) (S.faults shelf.new) result }
         ensures refused { IfErr result (Refuses (inner_file self.old) (ends_file self.old) self.new) }
     {
@@ -78,9 +82,12 @@ impl<'r> ReduceSweep<'r> {
             k.names ≡ name.now ∷ rest → Holds false self.old (S.world shelf.old) k → AreOfLevel self.old k →
             IsDamageOf self.old (S.world shelf.old) e) }
 
-        // what the call leaves
+        // what the call leaves, and what it costs
         ensures content { Told S.tells shelf.old shelf.new
             (Ran (OnlyOwn (Owns self.old) (now (S.world shelf.old))) (S.world shelf.old) (S.world shelf.new)) }
+        ensures calls { IsTrue (S.tells shelf.new) →
+            Paid 49 (credit_of self.old) (credit_of self.new) (S.world shelf.old) (S.world shelf.new) }
+        ensures spent { PaysParts 3 self.old self.new }
         ensures faults { OnlySortShelf (S.faults shelf.old) (S.faults shelf.new) result }
         ensures refused { IfErr result (Refuses (inner_file self.old) (ends_file self.old) self.new) }
     {
@@ -122,9 +129,12 @@ impl<'r> ReduceSweep<'r> {
         ensures damage { IfErr result (λ e. IsTrue (S.tells shelf.new) → (k : Contents) →
             Holds false self.old (S.world shelf.old) k → ComesLater self.old told → IsNoDamage e) }
 
-        // what the call leaves
+        // what the call leaves, and what it costs
         ensures content { Told S.tells shelf.old shelf.new
             (Ran (OnlyOwn (Owns self.old) (now (S.world shelf.old))) (S.world shelf.old) (S.world shelf.new)) }
+        ensures calls { IsTrue (S.tells shelf.new) →
+            Paid 48 (credit_of self.old) (credit_of self.new) (S.world shelf.old) (S.world shelf.new) }
+        ensures spent { PaysParts 3 self.old self.new }
         ensures faults { OnlySortShelf (S.faults shelf.old) (S.faults shelf.new) result }
         ensures refused { IfErr result (Refuses (inner_file self.old) (ends_file self.old) self.new) }
     {
@@ -163,9 +173,12 @@ impl<'r> ReduceSweep<'r> {
         ensures damage { IfErr result (λ e. IsTrue (S.tells shelf.new) → (k : Contents) →
             Holds false self.old (S.world shelf.old) k → IsDamageOf self.old (S.world shelf.old) e) }
 
-        // what the call leaves
+        // what the call leaves, and what it costs
         ensures content { Told S.tells shelf.old shelf.new
             (Ran (OnlyOwn (Owns self.old) (now (S.world shelf.old))) (S.world shelf.old) (S.world shelf.new)) }
+        ensures calls { IsTrue (S.tells shelf.new) →
+            Paid 1 (credit_of self.old) (credit_of self.new) (S.world shelf.old) (S.world shelf.new) }
+        ensures spent { PaysParts 0 self.old self.new }
         ensures faults { OnlySortShelf (S.faults shelf.old) (S.faults shelf.new) result }
         ensures refused { IfErr result (Refuses (inner_file self.old) (ends_file self.old) self.new) }
     {
@@ -193,9 +206,12 @@ impl<'r> ReduceSweep<'r> {
         ensures damage { IfErr result (λ e. IsTrue (S.tells shelf.new) → (k : Contents) →
             Holds false self.old (S.world shelf.old) k → IsNoDamage e) }
 
-        // what the call leaves
+        // what the call leaves, and what it costs
         ensures content { Told S.tells shelf.old shelf.new
             (Ran (OnlyOwn (Owns self.old) (now (S.world shelf.old))) (S.world shelf.old) (S.world shelf.new)) }
+        ensures calls { IsTrue (S.tells shelf.new) →
+            Paid 2 (credit_of self.old) (credit_of self.new) (S.world shelf.old) (S.world shelf.new) }
+        ensures spent { PaysParts 0 self.old self.new }
         ensures faults { OnlySortShelf (S.faults shelf.old) (S.faults shelf.new) result }
         ensures refused { IfErr result (Refuses (inner_file self.old) (ends_file self.old) self.new) }
     {

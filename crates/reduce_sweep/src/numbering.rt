@@ -17,11 +17,12 @@ impl<'r> ReduceSweep<'r> {
     ghost use Rattle.block_stream.specs.Writes.{InStep};
     ghost use Rattle.node_file.specs.Writers.{filling_of};
     ghost use Rattle.run_merge.specs.Faults.{OnlySortShelf};
+    ghost use Rattle.run_merge.specs.Parts.{Paid};
     ghost use Rattle.sweep_core.specs.Sweeps.{OnlyOwn};
     ghost use Rattle.reduce_sweep.specs.Remaining.{Diagram, IsOf, IsWorking, Contents, Holds};
     ghost use Rattle.reduce_sweep.specs.Changes.{SameButNodes, PutsNode, IsNumbered, is_last};
     ghost use Rattle.reduce_sweep.specs.Held.{IsHeld, IsDamageOf, IsNoDamage};
-    ghost use Rattle.reduce_sweep.specs.Sweeps.{Owns, inner_file, ends_file, IsSound, SameTask, Refuses, SamePlace, Lightens, weight, MovesOn};
+    ghost use Rattle.reduce_sweep.specs.Sweeps.{Owns, credit_of, PaysParts, inner_file, ends_file, IsSound, SameTask, Refuses, SamePlace, Lightens, weight, MovesOn};
 
     /// Names the source of the next row, whose node is put where its pair is a new one.
     pub(crate) fn give_number<S: Shelf>(&mut self, shelf: &mut S) -> Result<bool, SortFault>
@@ -43,9 +44,12 @@ impl<'r> ReduceSweep<'r> {
         ensures damage { IfErr result (λ e. IsTrue (S.tells shelf.new) → IsHeld self.old (S.world shelf.old) →
             IsDamageOf self.old (S.world shelf.old) e) }
 
-        // what the call leaves
+        // what the call leaves, and what it costs
         ensures content { Told S.tells shelf.old shelf.new
             (Ran (OnlyOwn (Owns self.old) (now (S.world shelf.old))) (S.world shelf.old) (S.world shelf.new)) }
+        ensures calls { IsTrue (S.tells shelf.new) →
+            Paid 19 (credit_of self.old) (credit_of self.new) (S.world shelf.old) (S.world shelf.new) }
+        ensures spent { PaysParts 1 self.old self.new }
         ensures faults { OnlySortShelf (S.faults shelf.old) (S.faults shelf.new) result }
         ensures refused { IfErr result (Refuses (inner_file self.old) (ends_file self.old) self.new) }
     {
@@ -83,9 +87,12 @@ impl<'r> ReduceSweep<'r> {
             Holds whole self.old (S.world shelf.old) k → PutsNode whole self.old row.now self.new (S.world shelf.new) k) }
         ensures damage { IfErr result IsNoDamage }
 
-        // what the call leaves
+        // what the call leaves, and what it costs
         ensures content { Told S.tells shelf.old shelf.new
             (Ran (OnlyOwn (Owns self.old) (now (S.world shelf.old))) (S.world shelf.old) (S.world shelf.new)) }
+        ensures calls { IsTrue (S.tells shelf.new) →
+            Paid 1 (credit_of self.old) (credit_of self.new) (S.world shelf.old) (S.world shelf.new) }
+        ensures spent { PaysParts 0 self.old self.new }
         ensures faults { OnlySortShelf (S.faults shelf.old) (S.faults shelf.new) result }
         ensures refused { IfErr result (Refuses (inner_file self.old) (ends_file self.old) self.new) }
     {

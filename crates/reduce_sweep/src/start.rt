@@ -28,10 +28,11 @@ impl<'r> ReduceSweep<'r> {
     ghost use Rattle.shelf_model.specs.Calls.{Told};
     ghost use Rattle.shelf_model.specs.Moments.{Ran};
     ghost use Rattle.run_merge.specs.Faults.{OnlySortShelf};
+    ghost use Rattle.run_merge.specs.Parts.{Paid};
     ghost use Rattle.level_queue.specs.Queues as queues;
     ghost use Rattle.run_merge.specs.Sorters as sorters;
     ghost use Rattle.sweep_core.specs.Sweeps.{OnlyOwn};
-    ghost use Rattle.reduce_sweep.specs.Sweeps.{out_of, inner_file, ends_file, HasParts, turns_of, turns_left, count_in, CanBeTaken, IsReady, IsOut, IsArcDamage};
+    ghost use Rattle.reduce_sweep.specs.Sweeps.{credit_of, stock_of, out_of, inner_file, ends_file, HasParts, turns_of, turns_left, count_in, CanBeTaken, IsReady, IsOut, IsArcDamage};
 
     /// Begins the reduction of a diagram of `n` variables into a file, with the part numbers that its lists may take.
     ///
@@ -78,9 +79,12 @@ impl<'r> ReduceSweep<'r> {
             HasArcs Inner inner made.inner_count (file (S.world shelf.old) made.inner).bytes →
             HasArcs End ends made.ends_count (file (S.world shelf.old) made.ends).bytes → IsNoDamage e) }
 
-        // what the call leaves
+        // what the call leaves, and what it costs
         ensures content { Told S.tells shelf.old shelf.new
             (Ran (OnlyOwn (IsOut out) (now (S.world shelf.old))) (S.world shelf.old) (S.world shelf.new)) }
+        ensures calls { IfOk result (λ r. IsTrue (S.tells shelf.new) →
+            Paid 3 0 (credit_of r) (S.world shelf.old) (S.world shelf.new)) }
+        ensures stock { IfOk result (λ r. stock_of r ≡ 0) }
         ensures faults { OnlySortShelf (S.faults shelf.old) (S.faults shelf.new) result }
         ensures refused { IfErr result (IsArcDamage made.inner made.ends) }
     {

@@ -14,11 +14,12 @@ impl<'r> ReduceSweep<'r> {
     ghost use Rattle.block_stream.specs.Writes.{InStep};
     ghost use Rattle.node_file.specs.Writers.{filling_of};
     ghost use Rattle.run_merge.specs.Faults.{OnlySortShelf};
+    ghost use Rattle.run_merge.specs.Parts.{Paid};
     ghost use Rattle.sweep_core.specs.Sweeps.{OnlyOwn, Falls, Counts};
     ghost use Rattle.reduce_sweep.specs.Remaining.{Diagram, Contents, Holds, IsOf, IsWorking, IsBetween, to_collect, IsReduced, IsOnTheWay, RemainsOf};
     ghost use Rattle.reduce_sweep.specs.Changes.{SameButLevel, OpensLevel, ClosesLevel, IsDoneAt};
     ghost use Rattle.reduce_sweep.specs.Held.{IsHeld, IsInStep, IsDamageOf, IsNoDamage};
-    ghost use Rattle.reduce_sweep.specs.Sweeps.{Owns, inner_file, ends_file, IsSound, SameTask, Refuses, IsReady, Lightens, Opens, SameArcs, EndsAt, CountsAtEnd, count_in, turns_left, turns_of, weight};
+    ghost use Rattle.reduce_sweep.specs.Sweeps.{Owns, credit_of, PaysParts, inner_file, ends_file, IsSound, SameTask, Refuses, IsReady, Lightens, Opens, SameArcs, EndsAt, CountsAtEnd, count_in, turns_left, turns_of, weight};
     ghost use Rattle.shelf_model.specs.declared.file_no.FileNo.{FileNo};
 
     /// Handles one item, or ends the reduction.
@@ -44,9 +45,12 @@ impl<'r> ReduceSweep<'r> {
         ensures undamaged { IfErr result (λ e. IsTrue (S.tells shelf.new) → (d : Diagram) →
             RemainsOf self.old (S.world shelf.old) d → IsNoDamage e) }
 
-        // what the call leaves
+        // what the call leaves, and what it costs
         ensures content { Told S.tells shelf.old shelf.new
             (Ran (OnlyOwn (Owns self.old) (now (S.world shelf.old))) (S.world shelf.old) (S.world shelf.new)) }
+        ensures calls { IsTrue (S.tells shelf.new) →
+            Paid 134 (credit_of self.old) (credit_of self.new) (S.world shelf.old) (S.world shelf.new) }
+        ensures spent { PaysParts 6 self.old self.new }
         ensures faults { OnlySortShelf (S.faults shelf.old) (S.faults shelf.new) result }
         ensures refused { IfErr result (Refuses (inner_file self.old) (ends_file self.old) self.new) }
     {
@@ -73,9 +77,12 @@ impl<'r> ReduceSweep<'r> {
             RemainsOf self.old (S.world shelf.old) d → RemainsOf self.new (S.world shelf.new) d) }
         ensures damage { IfErr result (λ e. IsTrue (S.tells shelf.new) → IsDamageOf self.old (S.world shelf.old) e) }
 
-        // what the call leaves
+        // what the call leaves, and what it costs
         ensures content { Told S.tells shelf.old shelf.new
             (Ran (OnlyOwn (Owns self.old) (now (S.world shelf.old))) (S.world shelf.old) (S.world shelf.new)) }
+        ensures calls { IsTrue (S.tells shelf.new) →
+            Paid 134 (credit_of self.old) (credit_of self.new) (S.world shelf.old) (S.world shelf.new) }
+        ensures spent { PaysParts 6 self.old self.new }
         ensures faults { OnlySortShelf (S.faults shelf.old) (S.faults shelf.new) result }
         ensures refused { IfErr result (Refuses (inner_file self.old) (ends_file self.old) self.new) }
     {
@@ -108,9 +115,12 @@ impl<'r> ReduceSweep<'r> {
         ensures damage { IfErr result (λ e. IsTrue (S.tells shelf.new) → IsHeld self.old (S.world shelf.old) →
             IsDamageOf self.old (S.world shelf.old) e) }
 
-        // what the call leaves
+        // what the call leaves, and what it costs
         ensures content { Told S.tells shelf.old shelf.new
             (Ran (OnlyOwn (Owns self.old) (now (S.world shelf.old))) (S.world shelf.old) (S.world shelf.new)) }
+        ensures calls { IsTrue (S.tells shelf.new) →
+            Paid 102 (credit_of self.old) (credit_of self.new) (S.world shelf.old) (S.world shelf.new) }
+        ensures spent { PaysParts 5 self.old self.new }
         ensures faults { OnlySortShelf (S.faults shelf.old) (S.faults shelf.new) result }
         ensures refused { IfErr result (Refuses (inner_file self.old) (ends_file self.old) self.new) }
     {
@@ -143,9 +153,12 @@ impl<'r> ReduceSweep<'r> {
         ensures damage { IfErr result (λ e. IsTrue (S.tells shelf.new) → IsHeld self.old (S.world shelf.old) →
             IsDamageOf self.old (S.world shelf.old) e) }
 
-        // what the call leaves
+        // what the call leaves, and what it costs
         ensures content { Told S.tells shelf.old shelf.new
             (Ran (OnlyOwn (Owns self.old) (now (S.world shelf.old))) (S.world shelf.old) (S.world shelf.new)) }
+        ensures calls { IsTrue (S.tells shelf.new) →
+            Paid 102 (credit_of self.old) (credit_of self.new) (S.world shelf.old) (S.world shelf.new) }
+        ensures spent { PaysParts 5 self.old self.new }
         ensures faults { OnlySortShelf (S.faults shelf.old) (S.faults shelf.new) result }
         ensures refused { IfErr result (Refuses (inner_file self.old) (ends_file self.old) self.new) }
     {
@@ -175,9 +188,12 @@ impl<'r> ReduceSweep<'r> {
         ensures damage { IfErr result (λ e. IsTrue (S.tells shelf.new) → IsHeld self.old (S.world shelf.old) →
             IsDamageOf self.old (S.world shelf.old) e) }
 
-        // what the call leaves
+        // what the call leaves, and what it costs
         ensures content { Told S.tells shelf.old shelf.new
             (Ran (OnlyOwn (Owns self.old) (now (S.world shelf.old))) (S.world shelf.old) (S.world shelf.new)) }
+        ensures calls { IsTrue (S.tells shelf.new) →
+            Paid 70 (credit_of self.old) (credit_of self.new) (S.world shelf.old) (S.world shelf.new) }
+        ensures spent { PaysParts 4 self.old self.new }
         ensures faults { OnlySortShelf (S.faults shelf.old) (S.faults shelf.new) result }
         ensures refused { IfErr result (Refuses (inner_file self.old) (ends_file self.old) self.new) }
     {
@@ -204,9 +220,12 @@ impl<'r> ReduceSweep<'r> {
         ensures damage { IfErr result (λ e. IsTrue (S.tells shelf.new) → IsHeld self.old (S.world shelf.old) →
             IsDamageOf self.old (S.world shelf.old) e) }
 
-        // what the call leaves
+        // what the call leaves, and what it costs
         ensures content { Told S.tells shelf.old shelf.new
             (Ran (OnlyOwn (Owns self.old) (now (S.world shelf.old))) (S.world shelf.old) (S.world shelf.new)) }
+        ensures calls { IsTrue (S.tells shelf.new) →
+            Paid 32 (credit_of self.old) (credit_of self.new) (S.world shelf.old) (S.world shelf.new) }
+        ensures spent { PaysParts 1 self.old self.new }
         ensures faults { OnlySortShelf (S.faults shelf.old) (S.faults shelf.new) result }
         ensures refused { IfErr result (Refuses (inner_file self.old) (ends_file self.old) self.new) }
     {
@@ -260,9 +279,12 @@ impl<'r> ReduceSweep<'r> {
             IsReduced self.new (S.world shelf.new) d) }
         ensures damage { IfErr result IsNoDamage }
 
-        // what the call leaves
+        // what the call leaves, and what it costs
         ensures content { Told S.tells shelf.old shelf.new
             (Ran (OnlyOwn (Owns self.old) (now (S.world shelf.old))) (S.world shelf.old) (S.world shelf.new)) }
+        ensures calls { IsTrue (S.tells shelf.new) →
+            Paid 3 (credit_of self.old) (credit_of self.new) (S.world shelf.old) (S.world shelf.new) }
+        ensures spent { PaysParts 0 self.old self.new }
         ensures faults { OnlySortShelf (S.faults shelf.old) (S.faults shelf.new) result }
         ensures refused { IfErr result (Refuses (inner_file self.old) (ends_file self.old) self.new) }
     {
@@ -276,7 +298,7 @@ impl<'r> ReduceSweep<'r> {
 
 impl<'r> Sweep<'r> for ReduceSweep<'r> {
     ghost use Rattle.reduce_sweep.specs.Remaining.{Diagram, RemainsOf};
-    ghost use Rattle.reduce_sweep.specs.Sweeps.{Owns, IsReady, turns_left, turns_of};
+    ghost use Rattle.reduce_sweep.specs.Sweeps.{Owns, IsReady, credit_of, turns_left, turns_of};
     ghost use Rattle.reduce_sweep.specs.Held.{IsInStep};
 
     ghost Job = { Diagram };
@@ -286,6 +308,8 @@ impl<'r> Sweep<'r> for ReduceSweep<'r> {
     ghost left = { turns_left };
 
     ghost made = { turns_of };
+
+    ghost credit = { credit_of };
 
     ghost own = { Owns };
 

@@ -1,9 +1,10 @@
-ghost use Rattle.std.specs.Prelude.{IsTrue, OnOk};
+ghost use Rattle.std.specs.Prelude.{IsTrue, OnOk, ◌*◌};
 ghost use Rattle.shelf_model.specs.declared.file_no.FileNo.{FileNo};
 ghost use Rattle.shelf_model.specs.World.{now};
 ghost use Rattle.shelf_model.specs.Calls.{Told};
 ghost use Rattle.shelf_model.specs.Moments.{Ran};
 ghost use Rattle.run_merge.specs.Faults.{OnlySortShelf};
+ghost use Rattle.run_merge.specs.Parts.{Paid};
 ghost use Rattle.sweep_core.specs.Sweeps.{MovesOn, CountsOn, OnlyOwn};
 
 use crate::{Sweep, Turn};
@@ -26,6 +27,8 @@ pub fn drive<'r, P: Sweep<'r>, S: Shelf>(
     ensures fewer { (f : FileNo) → P.own sweep.new f → P.own sweep.old f }
     ensures content { Told S.tells shelf.old shelf.new
         (Ran (OnlyOwn (P.own sweep.old) (now (S.world shelf.old))) (S.world shelf.old) (S.world shelf.new)) }
+    ensures calls { IsTrue (S.tells shelf.new) →
+        Paid (224 * turns) (P.credit sweep.old) (P.credit sweep.new) (S.world shelf.old) (S.world shelf.new) }
     ensures faults { OnlySortShelf (S.faults shelf.old) (S.faults shelf.new) result }
 {
     for _turn in 0..turns {

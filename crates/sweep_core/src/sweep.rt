@@ -4,7 +4,7 @@ use shelf_model::{Shelf, SortFault};
 /// Work on diagrams that is done in small turns, each of which handles one item of a queue or of a file.
 ///
 /// A sweep is seen by what remains of its job: a relation between the sweep, the folder and the job, which
-/// each turn keeps. A turn changes no file but the sweep's own, and leaves fewer turns. After a refusal a sweep
+/// each turn keeps. A turn changes no file but the sweep's own, leaves fewer turns, and makes few calls. After a refusal a sweep
 /// isn't used again.
 pub trait Sweep<'r>: Sized {
     ghost use Rattle.std.specs.Prelude.{◌≡◌, ℕ, IsTrue, OnOk};
@@ -13,6 +13,7 @@ pub trait Sweep<'r>: Sized {
     ghost use Rattle.shelf_model.specs.Calls.{Told};
     ghost use Rattle.shelf_model.specs.Moments.{Ran};
     ghost use Rattle.run_merge.specs.Faults.{OnlySortShelf};
+    ghost use Rattle.run_merge.specs.Parts.{Paid};
     ghost use Rattle.sweep_core.specs.Sweeps.{Falls, Counts, OnlyOwn};
 
     /// What a sweep of this kind is to do.
@@ -26,6 +27,9 @@ pub trait Sweep<'r>: Sized {
 
     /// How many turns it has made.
     ghost made: { Self → ℕ };
+
+    /// How many calls of the folder are paid for that weren't made yet.
+    ghost credit: { Self → ℕ };
 
     /// The files that the sweep may change.
     ghost own: { Self → FileNo → Type 0 };
@@ -49,5 +53,7 @@ pub trait Sweep<'r>: Sized {
         ensures fewer { (f : FileNo) → own self.new f → own self.old f }
         ensures content { Told S.tells shelf.old shelf.new
             (Ran (OnlyOwn (own self.old) (now (S.world shelf.old))) (S.world shelf.old) (S.world shelf.new)) }
+        ensures calls { IsTrue (S.tells shelf.new) →
+            Paid 224 (credit self.old) (credit self.new) (S.world shelf.old) (S.world shelf.new) }
         ensures faults { OnlySortShelf (S.faults shelf.old) (S.faults shelf.new) result };
 }
