@@ -16,12 +16,12 @@ use Rattle.arc_file.specs.Files.{IsDamagedArc}
 use Rattle.arc_file.specs.Streams.{file_of, left_of, given_of}
 use Rattle.arc_file.specs.Readers.{inner_of, ends_of}
 use Rattle.arc_file.specs.declared.reader.ArcReader.{ArcReader}
-use Rattle.sweep_core.specs.Sweeps.{OnlyOwn}
+use Rattle.sweep_core.specs.Sweeps.{OnlyOwn, IsNoDamage}
 use Rattle.reduce_sweep.specs.declared.reduce.ReduceSweep.{ReduceSweep}
 use Rattle.reduce_sweep.specs.Sweeps.{Owns, inner_file, ends_file}
 use Rattle.reduce_sweep.specs.Remaining.{AreApart}
 use Rattle.reduce_sweep.specs.Changes.{ClosesLevel, ReadsNone}
-use Rattle.reduce_sweep.specs.Held.{IsHeld, IsDamagedIn, IsDamageOf, IsNoDamage}
+use Rattle.reduce_sweep.specs.Held.{IsHeld, IsDamagedIn, IsDamageOf}
 
 -- what is no damage is no wrong damage
 pub none_damaged : (s : ReduceSweep) (world : World) (e : SortFault) → IsNoDamage e → IsDamageOf s world e

@@ -26,7 +26,8 @@ use Rattle.arc_file.specs.Readers.{inner_of, ends_of}
 use Rattle.reduce_sweep.specs.declared.phase.Phase.TheVariants.{Ended}
 use Rattle.reduce_sweep.specs.declared.reduce.ReduceSweep.{ReduceSweep}
 use Rattle.reduce_sweep.specs.Remaining.{Diagram, Contents, Holds, IsUnread, RemainsOf}
-use Rattle.reduce_sweep.specs.Held.{IsDamageOf, IsDamageAtStart, IsNoDamage}
+use Rattle.sweep_core.specs.Sweeps.{IsNoDamage}
+use Rattle.reduce_sweep.specs.Held.{IsDamageOf, IsDamageAtStart}
 use Rattle.reduce_sweep.proofs.LevelKeeps.{working_from}
 
 -- what stands behind others in order doesn't come before the last of them

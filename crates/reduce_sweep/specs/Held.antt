@@ -49,13 +49,6 @@ IsDamageAtStart made world (Damaged f at) =
 IsDamageAtStart made world RunsSpent = Unit
 IsDamageAtStart made world RoomFull = Unit
 
--- no file is damaged
-abbrev pub IsNoDamage : SortFault → Type 0
-IsNoDamage Shelf = Unit
-IsNoDamage (Damaged f at) = ⊥
-IsNoDamage RunsSpent = Unit
-IsNoDamage RoomFull = Unit
-
 -- what isn't there in a phase: between levels neither rows nor names nor a source
 abbrev pub AreGone : Phase → Bool → ReduceSweep → Contents → Type 0
 AreGone Collect false s k = (k.rows ≡ []) × (k.names ≡ []) × (s.source ≡ None)

@@ -12,11 +12,11 @@ impl<'r> ReduceSweep<'r> {
     ghost use Rattle.node_file.specs.Writers.{filling_of};
     ghost use Rattle.run_merge.specs.Faults.{OnlySortShelf};
     ghost use Rattle.run_merge.specs.Parts.{Paid};
-    ghost use Rattle.sweep_core.specs.Sweeps.{OnlyOwn};
+    ghost use Rattle.sweep_core.specs.Sweeps.{OnlyOwn, IsNoDamage};
     ghost use Rattle.arc_diagrams.specs.declared.final_arc.FinalArc.{FinalArc};
     ghost use Rattle.reduce_sweep.specs.Remaining.{Contents, Holds};
     ghost use Rattle.reduce_sweep.specs.Changes.{SameButQueue, SameButAhead, IsAt, ComesFirst, Passes};
-    ghost use Rattle.reduce_sweep.specs.Held.{IsDamageOf, IsNoDamage, TakesLast};
+    ghost use Rattle.reduce_sweep.specs.Held.{IsDamageOf, TakesLast};
     ghost use Rattle.level_queue.specs.Queues.{last_of};
     ghost use Rattle.reduce_sweep.specs.Sweeps.{Owns, credit_of, PaysParts, inner_file, ends_file, IsSound, SameTask, Refuses, SamePlace, IsNext, weight};
 

@@ -17,10 +17,10 @@ impl<'r> ReduceSweep<'r> {
     ghost use Rattle.node_file.specs.Writers.{filling_of};
     ghost use Rattle.run_merge.specs.Faults.{OnlySortShelf};
     ghost use Rattle.run_merge.specs.Parts.{Paid};
-    ghost use Rattle.sweep_core.specs.Sweeps.{OnlyOwn};
+    ghost use Rattle.sweep_core.specs.Sweeps.{OnlyOwn, IsNoDamage};
     ghost use Rattle.reduce_sweep.specs.Remaining.{Diagram, Contents, Holds, IsOf, IsWorking};
     ghost use Rattle.reduce_sweep.specs.Changes.{SameButNames, JoinsNames, SameButRows, JoinsRows, SameButCollected, Closes, going_on, closed_by, noted_with, IsToCollect, IsCollectingIn, IsAt, ReadsNone};
-    ghost use Rattle.reduce_sweep.specs.Held.{IsHeld, AreOfLevel, AreGone, MayBeTaken, IsDamageOf, IsNoDamage};
+    ghost use Rattle.reduce_sweep.specs.Held.{IsHeld, AreOfLevel, AreGone, MayBeTaken, IsDamageOf};
     ghost use Rattle.reduce_sweep.specs.Sweeps.{Owns, credit_of, PaysParts, inner_file, ends_file, IsSound, SameTask, Refuses, SamePlace, SameArcs, IsNext, Lightens, weight, MovesOn};
 
     /// Collects an arc of the level at hand, or ends the collecting where the next one is of a shallower level.

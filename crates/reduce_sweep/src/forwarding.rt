@@ -14,10 +14,10 @@ impl<'r> ReduceSweep<'r> {
     ghost use Rattle.node_file.specs.Writers.{filling_of};
     ghost use Rattle.run_merge.specs.Faults.{OnlySortShelf};
     ghost use Rattle.run_merge.specs.Parts.{Paid};
-    ghost use Rattle.sweep_core.specs.Sweeps.{OnlyOwn};
+    ghost use Rattle.sweep_core.specs.Sweeps.{OnlyOwn, IsNoDamage};
     ghost use Rattle.reduce_sweep.specs.Remaining.{Diagram, Contents, Holds, IsOf, IsWorking, AreForwarded};
     ghost use Rattle.reduce_sweep.specs.Changes.{SameButInner, PassesInner, SameButKnown, known_with, LeavesNames, SameButQueue, JoinsQueue, IsForwardingIn, ClosesLevel};
-    ghost use Rattle.reduce_sweep.specs.Held.{IsHeld, AreOfLevel, ComesLater, IsDamageOf, IsNoDamage};
+    ghost use Rattle.reduce_sweep.specs.Held.{IsHeld, AreOfLevel, ComesLater, IsDamageOf};
     ghost use Rattle.level_queue.specs.Queues.{last_of};
     ghost use Rattle.reduce_sweep.specs.Sweeps.{Owns, credit_of, PaysParts, inner_file, ends_file, IsSound, SameTask, Refuses, SamePlace, Lightens, weight, MovesOn};
     ghost use Rattle.run_merge.specs.Sorters.{held};

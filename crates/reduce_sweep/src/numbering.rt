@@ -18,10 +18,10 @@ impl<'r> ReduceSweep<'r> {
     ghost use Rattle.node_file.specs.Writers.{filling_of};
     ghost use Rattle.run_merge.specs.Faults.{OnlySortShelf};
     ghost use Rattle.run_merge.specs.Parts.{Paid};
-    ghost use Rattle.sweep_core.specs.Sweeps.{OnlyOwn};
+    ghost use Rattle.sweep_core.specs.Sweeps.{OnlyOwn, IsNoDamage};
     ghost use Rattle.reduce_sweep.specs.Remaining.{Diagram, IsOf, IsWorking, Contents, Holds};
     ghost use Rattle.reduce_sweep.specs.Changes.{SameButNodes, PutsNode, IsNumbered, is_last};
-    ghost use Rattle.reduce_sweep.specs.Held.{IsHeld, IsDamageOf, IsNoDamage};
+    ghost use Rattle.reduce_sweep.specs.Held.{IsHeld, IsDamageOf};
     ghost use Rattle.reduce_sweep.specs.Sweeps.{Owns, credit_of, PaysParts, inner_file, ends_file, IsSound, SameTask, Refuses, SamePlace, Lightens, weight, MovesOn};
 
     /// Names the source of the next row, whose node is put where its pair is a new one.

@@ -24,14 +24,14 @@ impl<'r> ReduceSweep<'r> {
     ghost use Rattle.arc_file.specs.Files.{HasArcs};
     ghost use Rattle.arc_diagrams.specs.Laws.{IsDiagramOf};
     ghost use Rattle.reduce_sweep.specs.Remaining.{Diagram, RemainsOf};
-    ghost use Rattle.reduce_sweep.specs.Held.{IsInStep, IsDamageAtStart, IsNoDamage};
+    ghost use Rattle.reduce_sweep.specs.Held.{IsInStep, IsDamageAtStart};
     ghost use Rattle.shelf_model.specs.Calls.{Told};
     ghost use Rattle.shelf_model.specs.Moments.{Ran};
     ghost use Rattle.run_merge.specs.Faults.{OnlySortShelf};
     ghost use Rattle.run_merge.specs.Parts.{Paid};
     ghost use Rattle.level_queue.specs.Queues as queues;
     ghost use Rattle.run_merge.specs.Sorters as sorters;
-    ghost use Rattle.sweep_core.specs.Sweeps.{OnlyOwn};
+    ghost use Rattle.sweep_core.specs.Sweeps.{OnlyOwn, IsNoDamage};
     ghost use Rattle.reduce_sweep.specs.Sweeps.{credit_of, stock_of, out_of, inner_file, ends_file, HasParts, turns_of, turns_left, count_in, CanBeTaken, IsReady, IsOut, IsArcDamage};
 
     /// Begins the reduction of a diagram of `n` variables into a file, with the part numbers that its lists may take.

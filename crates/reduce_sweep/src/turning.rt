@@ -15,10 +15,10 @@ impl<'r> ReduceSweep<'r> {
     ghost use Rattle.node_file.specs.Writers.{filling_of};
     ghost use Rattle.run_merge.specs.Faults.{OnlySortShelf};
     ghost use Rattle.run_merge.specs.Parts.{Paid};
-    ghost use Rattle.sweep_core.specs.Sweeps.{OnlyOwn, Falls, Counts};
+    ghost use Rattle.sweep_core.specs.Sweeps.{OnlyOwn, Falls, Counts, IsNoDamage};
     ghost use Rattle.reduce_sweep.specs.Remaining.{Diagram, Contents, Holds, IsOf, IsWorking, IsBetween, to_collect, IsReduced, IsOnTheWay, RemainsOf};
     ghost use Rattle.reduce_sweep.specs.Changes.{SameButLevel, OpensLevel, ClosesLevel, IsDoneAt};
-    ghost use Rattle.reduce_sweep.specs.Held.{IsHeld, IsInStep, IsDamageOf, IsNoDamage};
+    ghost use Rattle.reduce_sweep.specs.Held.{IsHeld, IsInStep, IsDamageOf};
     ghost use Rattle.reduce_sweep.specs.Sweeps.{Owns, credit_of, PaysParts, inner_file, ends_file, IsSound, SameTask, Refuses, IsReady, Lightens, Opens, SameArcs, EndsAt, CountsAtEnd, count_in, turns_left, turns_of, weight};
     ghost use Rattle.shelf_model.specs.declared.file_no.FileNo.{FileNo};
 
@@ -299,7 +299,7 @@ impl<'r> ReduceSweep<'r> {
 impl<'r> Sweep<'r> for ReduceSweep<'r> {
     ghost use Rattle.reduce_sweep.specs.Remaining.{Diagram, RemainsOf};
     ghost use Rattle.reduce_sweep.specs.Sweeps.{Owns, IsReady, credit_of, turns_left, turns_of};
-    ghost use Rattle.reduce_sweep.specs.Held.{IsInStep};
+    ghost use Rattle.reduce_sweep.specs.Held.{IsInStep, IsDamageOf};
 
     ghost Job = { Diagram };
 
@@ -312,6 +312,8 @@ impl<'r> Sweep<'r> for ReduceSweep<'r> {
     ghost credit = { credit_of };
 
     ghost own = { Owns };
+
+    ghost damaged = { IsDamageOf };
 
     ghost ready = { IsReady };
 

@@ -2,6 +2,7 @@
 use Rattle.std.specs.Prelude.{◌≡◌, ℕ, ◌+◌, ◌<◌, ◌≤◌, Result, Ok, Err}
 use Rattle.shelf_model.specs.declared.file_no.FileNo.{FileNo}
 use Rattle.shelf_model.specs.declared.sort_fault.SortFault.{SortFault}
+use Rattle.shelf_model.specs.declared.sort_fault.SortFault.TheVariants.{Shelf, Damaged, RunsSpent, RoomFull}
 use Rattle.shelf_model.specs.Folder.{file_in}
 use Rattle.shelf_model.specs.World.{Moment}
 use Rattle.sweep_core.specs.declared.turn.Turn.{Turn}
@@ -34,3 +35,10 @@ MovesOn turns old new (Err e) = Unit
 -- at each moment every file but the sweep's own is as it was
 abbrev pub OnlyOwn : (FileNo → Type 0) → Moment → Moment → Type 0
 OnlyOwn own old m = (f : FileNo) → ¬ (own f) → file_in m.folder f ≡ file_in old.folder f
+
+-- no file is said to be damaged
+abbrev pub IsNoDamage : SortFault → Type 0
+IsNoDamage Shelf = Unit
+IsNoDamage (Damaged f at) = ⊥
+IsNoDamage RunsSpent = Unit
+IsNoDamage RoomFull = Unit

@@ -1,11 +1,11 @@
-ghost use Rattle.std.specs.Prelude.{IsTrue, OnOk, ◌*◌};
+ghost use Rattle.std.specs.Prelude.{IsTrue, OnOk, IfErr, ◌*◌};
 ghost use Rattle.shelf_model.specs.declared.file_no.FileNo.{FileNo};
 ghost use Rattle.shelf_model.specs.World.{now};
 ghost use Rattle.shelf_model.specs.Calls.{Told};
 ghost use Rattle.shelf_model.specs.Moments.{Ran};
 ghost use Rattle.run_merge.specs.Faults.{OnlySortShelf};
 ghost use Rattle.run_merge.specs.Parts.{Paid};
-ghost use Rattle.sweep_core.specs.Sweeps.{MovesOn, CountsOn, OnlyOwn};
+ghost use Rattle.sweep_core.specs.Sweeps.{MovesOn, CountsOn, OnlyOwn, IsNoDamage};
 
 use crate::{Sweep, Turn};
 use shelf_model::{Shelf, SortFault};
@@ -25,6 +25,8 @@ pub fn drive<'r, P: Sweep<'r>, S: Shelf>(
     ensures keeps { OnOk result (IsTrue (S.tells shelf.new) → (job : P.Job) →
         P.remains sweep.old (S.world shelf.old) job → P.remains sweep.new (S.world shelf.new) job) }
     ensures fewer { (f : FileNo) → P.own sweep.new f → P.own sweep.old f }
+    ensures undamaged { IfErr result (λ e. IsTrue (S.tells shelf.new) → (job : P.Job) →
+        P.remains sweep.old (S.world shelf.old) job → IsNoDamage e) }
     ensures content { Told S.tells shelf.old shelf.new
         (Ran (OnlyOwn (P.own sweep.old) (now (S.world shelf.old))) (S.world shelf.old) (S.world shelf.new)) }
     ensures calls { IsTrue (S.tells shelf.new) →

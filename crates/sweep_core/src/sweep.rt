@@ -7,14 +7,15 @@ use shelf_model::{Shelf, SortFault};
 /// each turn keeps. A turn changes no file but the sweep's own, leaves fewer turns, and makes few calls. After a refusal a sweep
 /// isn't used again.
 pub trait Sweep<'r>: Sized {
-    ghost use Rattle.std.specs.Prelude.{◌≡◌, ℕ, IsTrue, OnOk};
+    ghost use Rattle.std.specs.Prelude.{◌≡◌, ℕ, IsTrue, OnOk, IfErr};
     ghost use Rattle.shelf_model.specs.declared.file_no.FileNo.{FileNo};
     ghost use Rattle.shelf_model.specs.World.{World, now};
     ghost use Rattle.shelf_model.specs.Calls.{Told};
     ghost use Rattle.shelf_model.specs.Moments.{Ran};
     ghost use Rattle.run_merge.specs.Faults.{OnlySortShelf};
     ghost use Rattle.run_merge.specs.Parts.{Paid};
-    ghost use Rattle.sweep_core.specs.Sweeps.{Falls, Counts, OnlyOwn};
+    ghost use Rattle.sweep_core.specs.Sweeps.{Falls, Counts, OnlyOwn, IsNoDamage};
+    ghost use Rattle.shelf_model.specs.declared.sort_fault.SortFault.{SortFault};
 
     /// What a sweep of this kind is to do.
     ghost Job: { Type 0 };
@@ -34,6 +35,9 @@ pub trait Sweep<'r>: Sized {
     /// The files that the sweep may change.
     ghost own: { Self → FileNo → Type 0 };
 
+    /// Where a file is damaged, where a turn says so.
+    ghost damaged: { Self → World → SortFault → Type 0 };
+
     /// What is true of the sweep between turns, whatever the folder holds.
     ghost ready: { Self → Type 0 };
 
@@ -51,6 +55,9 @@ pub trait Sweep<'r>: Sized {
         ensures keeps { OnOk result (IsTrue (S.tells shelf.new) → (job : Job) →
             remains self.old (S.world shelf.old) job → remains self.new (S.world shelf.new) job) }
         ensures fewer { (f : FileNo) → own self.new f → own self.old f }
+        ensures damage { IfErr result (λ e. IsTrue (S.tells shelf.new) → damaged self.old (S.world shelf.old) e) }
+        ensures undamaged { IfErr result (λ e. IsTrue (S.tells shelf.new) → (job : Job) →
+            remains self.old (S.world shelf.old) job → IsNoDamage e) }
         ensures content { Told S.tells shelf.old shelf.new
             (Ran (OnlyOwn (own self.old) (now (S.world shelf.old))) (S.world shelf.old) (S.world shelf.new)) }
         ensures calls { IsTrue (S.tells shelf.new) →
