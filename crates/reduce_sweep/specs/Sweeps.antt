@@ -60,6 +60,10 @@ abbrev pub one_if_some : {X : Type 0} → Option X → ℕ
 one_if_some None = 0
 one_if_some (Some x) = 1
 
+-- the part number from which on none was taken
+abbrev pub next_of : ReduceSweep → ℕ
+next_of r = r.next
+
 -- how many calls are paid for that weren't made yet
 abbrev pub credit_of : ReduceSweep → ℕ
 credit_of r = queues.credit r.queue + sorters.credit r.rows + sorters.credit r.names

@@ -15,11 +15,11 @@ impl<'r> ReduceSweep<'r> {
     ghost use Rattle.node_file.specs.Writers.{filling_of};
     ghost use Rattle.run_merge.specs.Faults.{OnlySortShelf};
     ghost use Rattle.run_merge.specs.Parts.{Paid};
-    ghost use Rattle.sweep_core.specs.Sweeps.{OnlyOwn, Falls, Counts, IsNoDamage};
+    ghost use Rattle.sweep_core.specs.Sweeps.{OnlyOwn, Falls, Counts, SpendsParts, IsNoDamage};
     ghost use Rattle.reduce_sweep.specs.Remaining.{Diagram, Contents, Holds, IsOf, IsWorking, IsBetween, to_collect, IsReduced, IsOnTheWay, RemainsOf};
     ghost use Rattle.reduce_sweep.specs.Changes.{SameButLevel, OpensLevel, ClosesLevel, IsDoneAt};
     ghost use Rattle.reduce_sweep.specs.Held.{IsHeld, IsInStep, IsDamageOf};
-    ghost use Rattle.reduce_sweep.specs.Sweeps.{Owns, credit_of, PaysParts, inner_file, ends_file, IsSound, SameTask, Refuses, IsReady, Lightens, Opens, SameArcs, EndsAt, CountsAtEnd, count_in, turns_left, turns_of, weight};
+    ghost use Rattle.reduce_sweep.specs.Sweeps.{Owns, credit_of, stock_of, next_of, PaysParts, inner_file, ends_file, IsSound, SameTask, Refuses, IsReady, Lightens, Opens, SameArcs, EndsAt, CountsAtEnd, count_in, turns_left, turns_of, weight};
     ghost use Rattle.shelf_model.specs.declared.file_no.FileNo.{FileNo};
 
     /// Handles one item, or ends the reduction.
@@ -50,7 +50,7 @@ impl<'r> ReduceSweep<'r> {
             (Ran (OnlyOwn (Owns self.old) (now (S.world shelf.old))) (S.world shelf.old) (S.world shelf.new)) }
         ensures calls { IsTrue (S.tells shelf.new) →
             Paid 134 (credit_of self.old) (credit_of self.new) (S.world shelf.old) (S.world shelf.new) }
-        ensures spent { PaysParts 6 self.old self.new }
+        ensures spent { SpendsParts 6 (next_of self.old) (next_of self.new) (stock_of self.old) (stock_of self.new) }
         ensures faults { OnlySortShelf (S.faults shelf.old) (S.faults shelf.new) result }
         ensures refused { IfErr result (Refuses (inner_file self.old) (ends_file self.old) self.new) }
     {
@@ -298,7 +298,7 @@ impl<'r> ReduceSweep<'r> {
 
 impl<'r> Sweep<'r> for ReduceSweep<'r> {
     ghost use Rattle.reduce_sweep.specs.Remaining.{Diagram, RemainsOf};
-    ghost use Rattle.reduce_sweep.specs.Sweeps.{Owns, IsReady, credit_of, turns_left, turns_of};
+    ghost use Rattle.reduce_sweep.specs.Sweeps.{Owns, IsReady, credit_of, next_of, stock_of, turns_left, turns_of};
     ghost use Rattle.reduce_sweep.specs.Held.{IsInStep, IsDamageOf};
 
     ghost Job = { Diagram };
@@ -310,6 +310,10 @@ impl<'r> Sweep<'r> for ReduceSweep<'r> {
     ghost made = { turns_of };
 
     ghost credit = { credit_of };
+
+    ghost next = { next_of };
+
+    ghost stock = { stock_of };
 
     ghost own = { Owns };
 

@@ -1,5 +1,5 @@
 -- What the turns of a sweep do.
-use Rattle.std.specs.Prelude.{◌≡◌, ℕ, ◌+◌, ◌<◌, ◌≤◌, Result, Ok, Err}
+use Rattle.std.specs.Prelude.{◌≡◌, ℕ, ◌+◌, ◌-◌, ◌*◌, ◌<◌, ◌≤◌, Result, Ok, Err}
 use Rattle.shelf_model.specs.declared.file_no.FileNo.{FileNo}
 use Rattle.shelf_model.specs.declared.sort_fault.SortFault.{SortFault}
 use Rattle.shelf_model.specs.declared.sort_fault.SortFault.TheVariants.{Shelf, Damaged, RunsSpent, RoomFull}
@@ -31,6 +31,11 @@ abbrev pub MovesOn : ℕ → ℕ → ℕ → Result Turn SortFault → Type 0
 MovesOn turns old new (Ok More) = new + turns ≤ old
 MovesOn turns old new (Ok Ended) = new ≡ 0
 MovesOn turns old new (Err e) = Unit
+
+-- part numbers were taken in turn, and those that were, 256 for each, are paid for with what stays paid: by what was paid
+-- before, and by n
+abbrev pub SpendsParts : ℕ → ℕ → ℕ → ℕ → ℕ → Type 0
+SpendsParts n from to old new = (from ≤ to) × (256 * (to - from) + new ≤ old + n)
 
 -- at each moment every file but the sweep's own is as it was
 abbrev pub OnlyOwn : (FileNo → Type 0) → Moment → Moment → Type 0

@@ -5,7 +5,7 @@ ghost use Rattle.shelf_model.specs.Calls.{Told};
 ghost use Rattle.shelf_model.specs.Moments.{Ran};
 ghost use Rattle.run_merge.specs.Faults.{OnlySortShelf};
 ghost use Rattle.run_merge.specs.Parts.{Paid};
-ghost use Rattle.sweep_core.specs.Sweeps.{MovesOn, CountsOn, OnlyOwn, IsNoDamage};
+ghost use Rattle.sweep_core.specs.Sweeps.{MovesOn, CountsOn, SpendsParts, OnlyOwn, IsNoDamage};
 
 use crate::{Sweep, Turn};
 use shelf_model::{Shelf, SortFault};
@@ -31,6 +31,7 @@ pub fn drive<'r, P: Sweep<'r>, S: Shelf>(
         (Ran (OnlyOwn (P.own sweep.old) (now (S.world shelf.old))) (S.world shelf.old) (S.world shelf.new)) }
     ensures calls { IsTrue (S.tells shelf.new) →
         Paid (224 * turns) (P.credit sweep.old) (P.credit sweep.new) (S.world shelf.old) (S.world shelf.new) }
+    ensures spent { SpendsParts (12 * turns) (P.next sweep.old) (P.next sweep.new) (P.stock sweep.old) (P.stock sweep.new) }
     ensures faults { OnlySortShelf (S.faults shelf.old) (S.faults shelf.new) result }
 {
     for _turn in 0..turns {

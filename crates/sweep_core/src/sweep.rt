@@ -4,8 +4,8 @@ use shelf_model::{Shelf, SortFault};
 /// Work on diagrams that is done in small turns, each of which handles one item of a queue or of a file.
 ///
 /// A sweep is seen by what remains of its job: a relation between the sweep, the folder and the job, which
-/// each turn keeps. A turn changes no file but the sweep's own, leaves fewer turns, and makes few calls. After a refusal a sweep
-/// isn't used again.
+/// each turn keeps. A turn changes no file but the sweep's own, leaves fewer turns, makes few calls and takes
+/// few parts. After a refusal a sweep isn't used again.
 pub trait Sweep<'r>: Sized {
     ghost use Rattle.std.specs.Prelude.{◌≡◌, ℕ, IsTrue, OnOk, IfErr};
     ghost use Rattle.shelf_model.specs.declared.file_no.FileNo.{FileNo};
@@ -14,7 +14,7 @@ pub trait Sweep<'r>: Sized {
     ghost use Rattle.shelf_model.specs.Moments.{Ran};
     ghost use Rattle.run_merge.specs.Faults.{OnlySortShelf};
     ghost use Rattle.run_merge.specs.Parts.{Paid};
-    ghost use Rattle.sweep_core.specs.Sweeps.{Falls, Counts, OnlyOwn, IsNoDamage};
+    ghost use Rattle.sweep_core.specs.Sweeps.{Falls, Counts, SpendsParts, OnlyOwn, IsNoDamage};
     ghost use Rattle.shelf_model.specs.declared.sort_fault.SortFault.{SortFault};
 
     /// What a sweep of this kind is to do.
@@ -31,6 +31,12 @@ pub trait Sweep<'r>: Sized {
 
     /// How many calls of the folder are paid for that weren't made yet.
     ghost credit: { Self → ℕ };
+
+    /// The part number from which on it has taken none.
+    ghost next: { Self → ℕ };
+
+    /// What is paid for parts that weren't taken yet, 256 for each.
+    ghost stock: { Self → ℕ };
 
     /// The files that the sweep may change.
     ghost own: { Self → FileNo → Type 0 };
@@ -62,5 +68,6 @@ pub trait Sweep<'r>: Sized {
             (Ran (OnlyOwn (own self.old) (now (S.world shelf.old))) (S.world shelf.old) (S.world shelf.new)) }
         ensures calls { IsTrue (S.tells shelf.new) →
             Paid 224 (credit self.old) (credit self.new) (S.world shelf.old) (S.world shelf.new) }
+        ensures spent { SpendsParts 12 (next self.old) (next self.new) (stock self.old) (stock self.new) }
         ensures faults { OnlySortShelf (S.faults shelf.old) (S.faults shelf.new) result };
 }
