@@ -24,7 +24,6 @@ use Rattle.arc_diagrams.proofs.Phases.{one_noted, one_passed, row_closed, name_c
 use Rattle.arc_diagrams.proofs.Collecting.{all_below}
 use Rattle.arc_diagrams.proofs.ItemOrders.{rising}
 use Rattle.arc_diagrams.proofs.RowPlaces.{has_right}
-use Rattle.arc_diagrams.specs.Laws.{IsDiagramOf}
 use Rattle.reduce_sweep.specs.declared.phase.Phase.{Phase}
 use Rattle.reduce_sweep.specs.declared.phase.Phase.TheVariants.{Collect, Number}
 use Rattle.reduce_sweep.specs.declared.source.Source.{Source}
@@ -273,14 +272,6 @@ collected_still s t d k same place are = record {
       (sym same.known_is j)) are.collecting;
   one = subst HasOne (sym same.source_is) are.one;
   unnumbered = record { number_is = same.number_is ∙ are.unnumbered.number_is; pair_is = same.pair_is ∙ are.unnumbered.pair_is };
-}
-
--- and is of the same diagram
-pub diagram_still : (s t : ReduceSweep) (d : Diagram) → SameButQueue s t → IsOf s d → IsOf t d
-diagram_still s t d same is_of = record {
-  few = subst (λ (w : NodeWriter). w.n ≤ 65535) (sym same.writer_is) is_of.few;
-  few_arcs = is_of.few_arcs;
-  diagram = subst (λ v. v) (λ j. IsDiagramOf (sym same.writer_is j).n (sym same.root_is j) d.arcs d.table) is_of.diagram;
 }
 
 -- the arc that comes next is of no deeper level

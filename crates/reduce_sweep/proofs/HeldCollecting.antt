@@ -1,6 +1,6 @@
 -- what the lists of a reduction hold while sources are collected, whatever stands in the arc files
 use Rattle.std.proofs.Common.{◌≡◌, ℕ, ◌≤◌, arith, refl, ap, sym, subst, inl, inr, ◌∙◌, List}
-use Rattle.std.specs.Prelude.{◌-◌, ◌==◌, [], ◌∷◌, Bool, IsTrue, true, false, cond, Option, Some, None, IfSome, Result, Ok, Err, IfErr, IsErrAnd, OnOk, length}
+use Rattle.std.specs.Prelude.{◌==◌, [], ◌∷◌, Bool, IsTrue, true, false, cond, Option, Some, None, IfSome, Result, Ok, Err, IfErr, IsErrAnd, OnOk, length}
 use Rattle.rec_words.specs.Words.{level_of}
 use Rattle.canon_file.specs.Members.{Has}
 use Rattle.canon_file.specs.Pairs.{differs}
@@ -20,8 +20,7 @@ use Rattle.shelf_model.specs.SortFaults.{handed_on}
 use Rattle.shelf_model.specs.World.{World, file}
 use Rattle.arc_file.specs.declared.kind.Kind.TheVariants.{End}
 use Rattle.arc_file.specs.declared.stream.ArcStream.{ArcStream}
-use Rattle.arc_file.specs.Files.{IsDamagedArc}
-use Rattle.arc_file.specs.Streams.{left_of, given_of, GoesUp, IsArcAnswer, Reads}
+use Rattle.arc_file.specs.Streams.{GoesUp, IsArcAnswer, Reads}
 use Rattle.arc_file.specs.Readers.{ends_of}
 use Rattle.run_merge.specs.Lists.{Gives}
 use Rattle.level_queue.specs.Queues.{Reaches, last_of}
@@ -29,6 +28,7 @@ use Rattle.reduce_sweep.specs.declared.reduce.ReduceSweep.{ReduceSweep}
 use Rattle.reduce_sweep.specs.Sweeps.{ends_file, SamePlace}
 use Rattle.reduce_sweep.specs.Remaining.{Contents, Holds}
 use Rattle.reduce_sweep.specs.Changes.{JoinsOne, IsClosed, closed_by, first_noted, noted_with, IsAt, Passes, Closes, SameButCollected, SameButQueue, SameButAhead}
+use Rattle.reduce_sweep.proofs.HeldKeeps.{damaged_next}
 use Rattle.reduce_sweep.specs.Held.{AreGone, AreOfLevel, IsHeld, TakesLast, IsDamageOf}
 
 -- the first item, where there is one
@@ -45,12 +45,7 @@ first_reached Now xs rest x old new (Some y) is given reached = reached ∙ ap h
 end_fault : (s : ReduceSweep) (world : World) (t : ArcStream) (fault : StreamFault) → GoesUp End (ends_of s.reader) t (Err fault)
     → IsArcAnswer End (ends_of s.reader) (file world (ends_file s)).bytes (Err fault) → IsDamageOf s world (handed_on fault)
 end_fault s world t Shelf up answer = tt
-end_fault s world t (Damaged f at) (some, (file_is, at_is)) answer = inr (record {
-  file_is = file_is;
-  some = some;
-  at_is = at_is;
-  damaged = subst (λ g. IsDamagedArc End (left_of (ends_of s.reader) - 1) (file world g).bytes (given_of (ends_of s.reader))) (sym file_is) answer;
-})
+end_fault s world t (Damaged f at) up answer = inr (damaged_next End (ends_of s.reader) world f at up answer)
 
 -- and so is what is handed on
 pub end_damaged : {T : Type 0} (s : ReduceSweep) (old : World) (t : ArcStream) (tells : Bool) (result : Result T SortFault) (fault : StreamFault) → IsErrAnd result (λ e. e ≡ handed_on fault)

@@ -4,7 +4,6 @@ use Rattle.std.specs.Prelude.{◌∷◌, [], false, Option, Some, None, IfSome, 
 use Rattle.std.specs.List.Sorted.{IsPermutation}
 use Rattle.rec_words.specs.Words.{level_of}
 use Rattle.rec_words.specs.declared.node.Node.{Node}
-use Rattle.shelf_model.specs.declared.file_no.FileNo.{FileNo}
 use Rattle.shelf_model.specs.declared.fault.StreamFault.{StreamFault}
 use Rattle.shelf_model.specs.declared.fault.StreamFault.TheVariants as stream
 use Rattle.shelf_model.specs.declared.sort_fault.SortFault.{SortFault}
@@ -15,8 +14,8 @@ use Rattle.block_stream.specs.Reads.{IsDamageAt}
 use Rattle.canon_file.specs.Members.{Has}
 use Rattle.arc_file.specs.declared.arc.Arc.{Arc}
 use Rattle.arc_file.specs.declared.kind.Kind.TheVariants.{Inner}
-use Rattle.arc_file.specs.Files.{IsArcAt, IsDamagedArc}
-use Rattle.arc_file.specs.Streams.{left_of, given_of, Reads, IsArcAnswer}
+use Rattle.arc_file.specs.Files.{IsArcAt}
+use Rattle.arc_file.specs.Streams.{left_of, Reads, IsArcAnswer}
 use Rattle.arc_file.specs.Readers.{inner_of}
 use Rattle.arc_diagrams.specs.declared.final_arc.FinalArc.{FinalArc}
 use Rattle.arc_diagrams.specs.declared.source_row.SourceRow.{SourceRow}
@@ -32,20 +31,15 @@ use Rattle.reduce_sweep.specs.Sweeps.{Owns, inner_file, SamePlace}
 use Rattle.reduce_sweep.specs.Remaining.{Contents, Holds}
 use Rattle.reduce_sweep.specs.Changes.{SameButInner, SameButKnown, LeavesNames, SameButQueue, JoinsQueue}
 use Rattle.reduce_sweep.specs.Held.{IsHeld, AreOfLevel, AreGone, ComesLater, IsDamageOf}
-use Rattle.reduce_sweep.proofs.HeldKeeps.{damage_before}
+use Rattle.reduce_sweep.proofs.HeldKeeps.{damaged_next, damage_before}
 
 -- what the reader of the arcs to nodes finds damaged is the next one of them
-pub inner_damaged : (s : ReduceSweep) (world : World) (k : Contents) (fault : StreamFault) → Holds false s world k
+pub inner_fault : (s : ReduceSweep) (world : World) (k : Contents) (fault : StreamFault) → Holds false s world k
     → (0 < left_of (inner_of s.reader)) × IsDamageAt (inner_file s) 2 (left_of (inner_of s.reader) - 1) fault
     → (Reads Inner (inner_of s.reader) (file world (inner_file s)).bytes → IsArcAnswer Inner (inner_of s.reader) (file world (inner_file s)).bytes (Err fault))
     → IsDamageOf s world (handed_on fault)
-inner_damaged s world k stream.Shelf holds place value = tt
-inner_damaged s world k (stream.Damaged f at) holds place value = inl (record {
-  file_is = place.1.0;
-  some = place.0;
-  at_is = place.1.1;
-  damaged = subst (λ (g : FileNo). IsDamagedArc Inner (left_of (inner_of s.reader) - 1) (file world g).bytes (given_of (inner_of s.reader))) (sym place.1.0) (value holds.inner_is.reads);
-})
+inner_fault s world k stream.Shelf holds place value = tt
+inner_fault s world k (stream.Damaged f at) holds place value = inl (damaged_next Inner (inner_of s.reader) world f at place (value holds.inner_is.reads))
 
 -- a shallower level than one that is no deeper than that of the last arc
 later_than : (level source : ℕ) (last : Option FinalArc) → level_of source < level → IfSome last (λ l. level ≤ level_of l.source) → IfSome last (λ l. level_of source < level_of l.source)

@@ -1,5 +1,5 @@
 -- damage of the arc files, and lists of one level
-use Rattle.std.proofs.Common.{◌≡◌, ◌⊎◌, ℕ, ◌-◌, ap, sym, subst, ◌∙◌, inl, inr}
+use Rattle.std.proofs.Common.{◌≡◌, ◌⊎◌, ℕ, ◌-◌, ap, sym, subst, ◌∙◌, inl, inr, ◌*◌, ◌<◌}
 use Rattle.std.specs.Prelude.{Bool, true, false, IsTrue, Result, Ok, Err, OnOk, IfOk, IfErr}
 use Rattle.shelf_model.specs.Calls.{Told}
 use Rattle.shelf_model.specs.declared.file_no.FileNo.{FileNo}
@@ -29,6 +29,16 @@ none_damaged s world Shelf none = tt
 none_damaged s world (Damaged f at) none = absurd none
 none_damaged s world RunsSpent none = tt
 none_damaged s world RoomFull none = tt
+
+-- what a reader finds damaged is the next record of its file
+pub damaged_next : (kind : Kind) (s : ArcStream) (world : World) (f : FileNo) (at : ℕ) → (0 < left_of s) × ((f ≡ file_of s) × (at ≡ (left_of s - 1) * 16))
+    → IsDamagedArc kind (left_of s - 1) (file world (file_of s)).bytes (given_of s) → IsDamagedIn kind s world f at
+damaged_next kind s world f at place answer = record {
+  file_is = place.1.0;
+  some = place.0;
+  at_is = place.1.1;
+  damaged = subst (λ (g : FileNo). IsDamagedArc kind (left_of s - 1) (file world g).bytes (given_of s)) (sym place.1.0) answer;
+}
 
 -- a file of arcs is as it was while a sweep changes its own files
 pub arcs_stay : (s : ReduceSweep) (old mid : World) → AreApart s → Ran (OnlyOwn (Owns s) (now old)) old mid

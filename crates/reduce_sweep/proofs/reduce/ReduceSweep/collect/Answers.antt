@@ -9,7 +9,8 @@ use Rattle.reduce_sweep.specs.Remaining.{to_collect}
 use Rattle.reduce_sweep.specs.Changes.{IsAt, IsGreatest, ComesFirst}
 use Rattle.reduce_sweep.proofs.Owning.{own_more}
 use Rattle.reduce_sweep.proofs.NumberingKeeps.{none_from}
-use Rattle.reduce_sweep.proofs.CollectingKeeps.{collected_still, diagram_still, next_within, arc_below, none_below, collecting_from, working_from, holds_still, sources_closed}
+use Rattle.reduce_sweep.proofs.LevelKeeps.{is_of_on}
+use Rattle.reduce_sweep.proofs.CollectingKeeps.{collected_still, next_within, arc_below, none_below, collecting_from, working_from, holds_still, sources_closed}
 use Rattle.reduce_sweep.proofs.HeldKeeps.{none_damaged, damage_before}
 use Rattle.reduce_sweep.proofs.HeldCollecting.{fault_handed, shown_of_level, none_gone, sources_held}
 use Rattle.reduce_sweep.proofs.reduce.ReduceSweep.collect.Goals as goal
@@ -44,7 +45,7 @@ returns-then-level-self-clause-keeps g c = λ told d is_of working.
     let level : c.source_level-level.result ≡ level_of a.source = c.source_level-level.ensures.level in
     let over : t.level ≤ c.source_level-level.result = c.if-level-self.true in
     let here : level_of a.source ≡ t.level = omega (arith, within, level, over) in
-    let kept = c.in_ok-take_arc.ensures.keeps told d k (grind (arith, nat_tests)) (diagram_still s t d c.next_arc.ensures.rest is_of) (c.in_ok-arc.ensures.shown shown true k now.holds)
+    let kept = c.in_ok-take_arc.ensures.keeps told d k (grind (arith, nat_tests)) (is_of_on s t d c.next_arc.ensures.task is_of) (c.in_ok-arc.ensures.shown shown true k now.holds)
     (record { at = at; greatest = first; here = here; collected = are }) in
     working_from c.take_arc.new.self (g.S.Shelf.world c.take_arc.new.shelf) d
     (c.take_arc.ensures.place.phase_is ∙ c.next_arc.ensures.place.phase_is ∙ c.requires.phase) (c.take_arc.ensures.place.open_is ∙ c.next_arc.ensures.place.open_is ∙ c.requires.«open») kept
@@ -66,7 +67,7 @@ returns-clause-keeps g c = λ told d is_of working.
           arc_below t.level k w.in-Some.arc (subst (ComesFirst k) w.in-Some.is first) (omega (arith, level, under))
       | in_default w ↦ none_below t.level k (subst (ComesFirst k) (none_from _ w.in_default.not-Some) first)
     ] in
-    sources_closed t c.close_source.new.self _ (g.S.Shelf.world c.close_source.new.shelf) d k (diagram_still s t d c.next_arc.ensures.rest is_of)
+    sources_closed t c.close_source.new.self _ (g.S.Shelf.world c.close_source.new.shelf) d k (is_of_on s t d c.next_arc.ensures.task is_of)
     (collected_still s t d k c.next_arc.ensures.rest c.next_arc.ensures.place now.collected) low
     c.close_source.ensures.rest c.close_source.ensures.place c.in_ok-close_source.ensures.none
     (c.in_ok-close_source.ensures.closed told true k (c.in_ok-arc.ensures.shown shown true k now.holds))

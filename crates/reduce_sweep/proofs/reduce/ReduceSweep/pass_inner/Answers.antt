@@ -2,7 +2,7 @@ use Rattle.std.proofs.Common.{refl}
 use Rattle.shelf_model.specs.SortFaults.{handed_on}
 use Rattle.reduce_sweep.proofs.CallFrames.{passes_inner}
 use Rattle.reduce_sweep.proofs.HeldCollecting.{fault_handed}
-use Rattle.reduce_sweep.proofs.HeldForwarding.{inner_damaged}
+use Rattle.reduce_sweep.proofs.HeldForwarding.{inner_fault}
 use Rattle.reduce_sweep.proofs.reduce.ReduceSweep.pass_inner.Goals as goal
 
 -- the arc before it is the next one
@@ -16,4 +16,4 @@ returns-clause-passed g c = λ told whole k holds.
 pub returns-in_err-self-clause-damage : goal.returns-in_err-self-clause-damage
 returns-in_err-self-clause-damage g c =
     fault_handed _ c.from_residual.result (handed_on c.in_err-self.field-0.0) c.from_residual.ensures.1
-    (λ told k holds. inner_damaged c.args.self.now _ k c.in_err-self.field-0.0 holds c.in_err-self.ensures.place (c.in_err-self.ensures.value told))
+    (λ told k holds. inner_fault c.args.self.now _ k c.in_err-self.field-0.0 holds c.in_err-self.ensures.place (c.in_err-self.ensures.value told))
