@@ -86,9 +86,9 @@ pub queue_credit : {T : Type 0} (q : LevelQueue T) → credit q ≤ 64 * held q
 unfolding credit held
 queue_credit q = credit_bounded q.sorter
 
--- a queue's list stays where the files of its runs stay
+-- a queue's list stays where the bytes of its runs stay
 pub queue_kept : {T : Type 0} (is_value : T → Type 0) (words : T → List ℕ) (cmp : T → T → Ordering) (q : LevelQueue T) (old new : World) (xs : List T)
-    → ((f : FileNo) → IsRunOf q f → file new f ≡ file old f) → Lists is_value words cmp q old xs → Lists is_value words cmp q new xs
+    → ((f : FileNo) → IsRunOf q f → (file new f).bytes ≡ (file old f).bytes) → Lists is_value words cmp q old xs → Lists is_value words cmp q new xs
 unfolding IsRunOf
 queue_kept is_value words cmp q old new xs same list =
     record { sorter = list_kept is_value words cmp q.sorter old new xs same list.sorter; reached = list.reached }

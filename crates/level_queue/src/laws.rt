@@ -22,10 +22,10 @@ pub fn list_is_unique<T: Spill>()
         Lists T.is_value T.words T.cmp q world xs → Lists T.is_value T.words T.cmp q world ys → xs ≡ ys }
 {}
 
-/// A queue's list stays where the files of its runs stay.
+/// A queue's list stays where the bytes of its runs stay, also over a stop.
 pub fn list_stays<T: Spill>()
     ensures { (q : LevelQueue T) (old new : World) (xs : List T) →
-        ((f : FileNo) → IsRunOf q f → file new f ≡ file old f) →
+        ((f : FileNo) → IsRunOf q f → (file new f).bytes ≡ (file old f).bytes) →
         Lists T.is_value T.words T.cmp q old xs → Lists T.is_value T.words T.cmp q new xs }
 {}
 

@@ -307,9 +307,9 @@ working_from s world d phase opened collecting = record {
 }
 
 -- what it holds has nothing to do with its phase and with the source at hand
-pub holds_still : {whole : Bool} (s : ReduceSweep) (world : World) (k : Contents) (phase : Phase) (source : Option Source) (low : s.level ≤ 65535) (few : s.next ≤ 2 ^ 32)
-    → Holds whole s world k → Holds whole (record s { phase = phase; source = source; low = low; few = few }) world k
-holds_still s world k phase source low few holds = record {
+pub holds_still : {whole : Bool} (s : ReduceSweep) (world : World) (k : Contents) (phase : Phase) (source : Option Source) (low : s.level ≤ 65535)
+    → Holds whole s world k → Holds whole (record s { phase = phase; source = source; low = low }) world k
+holds_still s world k phase source low holds = record {
   apart = record {
     out_inner = holds.apart.out_inner;
     out_ends = holds.apart.out_ends;

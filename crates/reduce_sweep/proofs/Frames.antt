@@ -1,7 +1,6 @@
 -- what a sweep holds stays while calls change other files
 use Rattle.std.proofs.Common.{◌≡◌, ◌≢◌, ℕ, ◌≤◌, ◌<◌, arith, ap, sym, subst, ◌∙◌, inl, inr, List, ◌++◌}
 use Rattle.std.specs.Prelude.{min, ◌^◌, Bool, Option, length, take}
-use Rattle.std.proofs.Math.Nat.{min-le_left}
 use Rattle.shelf_model.specs.declared.file_no.FileNo.{FileNo}
 use Rattle.shelf_model.specs.File.{File}
 use Rattle.shelf_model.specs.Folder.{Folder, file_in}
@@ -39,10 +38,9 @@ use Rattle.reduce_sweep.specs.Remaining.{Contents, AreApart, Holds, IsUnread, Is
 -- a file of which the part was taken can't be taken
 made : (step next : ℕ) (f : FileNo) → WasTaken (parts_at step next) f → ¬ CanBeTaken step next f
 made step next f was free =
-    let below : f.part < min next (2 ^ 32) = was.below in
-    let least : min next (2 ^ 32) ≤ next = min-le_left next (2 ^ 32) in
+    let below : f.part < next = was.below in
     let from : next ≤ f.part = free.from in
-    omega (arith, below, least, from)
+    omega (arith, below, from)
 
 -- a part that was taken could be taken
 pub can_take : (s : ReduceSweep) (before after : Parts) (f : FileNo) → HasParts s before → IsTaken before after f → CanBeTaken s.step s.next f
@@ -118,21 +116,21 @@ pub queue_still : (s t : ReduceSweep) (old new : World) (xs : List FinalArc) →
 queue_still s t old new xs sound apart beside same list =
     subst (λ (q : LevelQueue FinalArc). queues.Lists IsFinalArc final_arc_words final_arc_cmp q new xs) (sym same)
     (queue_kept IsFinalArc final_arc_words final_arc_cmp s.queue old new xs
-    (λ f run. beside.still f (made s.step s.next f (sound.queue_served.runs_made f run)) (λ e. apart.no_run (inl (subst (queues.IsRunOf s.queue) e run)))) list)
+    (λ f run. ap (λ (a : File). a.bytes) (beside.still f (made s.step s.next f (sound.queue_served.runs_made f run)) (λ e. apart.no_run (inl (subst (queues.IsRunOf s.queue) e run))))) list)
 
 pub rows_still : (s t : ReduceSweep) (old new : World) (xs : List SourceRow) → IsSound s → AreApart s → Beside s t old new → t.rows ≡ s.rows
     → sorters.Lists IsSourceRow source_row_words source_row_cmp s.rows old xs → sorters.Lists IsSourceRow source_row_words source_row_cmp t.rows new xs
 rows_still s t old new xs sound apart beside same list =
     subst (λ (r : Sorter SourceRow). sorters.Lists IsSourceRow source_row_words source_row_cmp r new xs) (sym same)
     (list_kept IsSourceRow source_row_words source_row_cmp s.rows old new xs
-    (λ f run. beside.still f (made s.step s.next f (sound.rows_served.runs_made f run)) (λ e. apart.no_run (inr (inl (subst (sorters.IsRunOf s.rows) e run))))) list)
+    (λ f run. ap (λ (a : File). a.bytes) (beside.still f (made s.step s.next f (sound.rows_served.runs_made f run)) (λ e. apart.no_run (inr (inl (subst (sorters.IsRunOf s.rows) e run)))))) list)
 
 pub names_still : (s t : ReduceSweep) (old new : World) (xs : List Name) → IsSound s → AreApart s → Beside s t old new → t.names ≡ s.names
     → sorters.Lists IsName name_words name_cmp s.names old xs → sorters.Lists IsName name_words name_cmp t.names new xs
 names_still s t old new xs sound apart beside same list =
     subst (λ (r : Sorter Name). sorters.Lists IsName name_words name_cmp r new xs) (sym same)
     (list_kept IsName name_words name_cmp s.names old new xs
-    (λ f run. beside.still f (made s.step s.next f (sound.names_served.runs_made f run)) (λ e. apart.no_run (inr (inr (subst (sorters.IsRunOf s.names) e run))))) list)
+    (λ f run. ap (λ (a : File). a.bytes) (beside.still f (made s.step s.next f (sound.names_served.runs_made f run)) (λ e. apart.no_run (inr (inr (subst (sorters.IsRunOf s.names) e run)))))) list)
 
 -- so do the arcs that aren't handled
 pub inner_still : (whole : Bool) (s t : ReduceSweep) (old new : World) (xs : List Arc) → AreApart s → Beside s t old new → t.inner ≡ s.inner → inner_of t.reader ≡ inner_of s.reader

@@ -1,7 +1,7 @@
 -- Calls change no file but the reduction's own, and leave its writer in step with its file.
 use Rattle.std.proofs.Common.{◌≡◌, ℕ, ◌≤◌, ◌+◌, ◌*◌, arith, Bool, refl, ap, sym, subst, ◌∙◌, inl, inr}
-use Rattle.std.specs.Prelude.{IsTrue, length, ◌^◌, min}
-use Rattle.std.proofs.Math.Nat.{min-le_left, min-le_right, le-min, le_trans}
+use Rattle.std.specs.Prelude.{IsTrue, length, ◌^◌}
+use Rattle.std.proofs.Math.Nat.{le_trans}
 use Rattle.shelf_model.specs.declared.file_no.FileNo.{FileNo}
 use Rattle.shelf_model.specs.File.{File}
 use Rattle.shelf_model.specs.Folder.{file_in, Folder}
@@ -42,30 +42,26 @@ sorter_served_on s before after serves same later = serves_on s before after ser
 -- what the part numbers of a reduction can serve, those that are lent can, and the other way round
 pub queue_lent : {T : Type 0} (q : LevelQueue T) (lent : Parts) (step next : ℕ) → lent.step ≡ step → lent.next ≡ next → queues.Serves (parts_at step next) q → queues.Serves lent q
 queue_lent q lent step next same at serves =
-    let later : min next (2 ^ 32) ≤ lent.next = subst (λ n. min next (2 ^ 32) ≤ n) (sym at) (min-le_left next (2 ^ 32)) in
+    let later : next ≤ lent.next = omega (arith, at) in
     queue_served_on q (parts_at step next) lent serves same later
 
 pub sorter_lent : {T : Type 0} (s : Sorter T) (lent : Parts) (step next : ℕ) → lent.step ≡ step → lent.next ≡ next → sorters.Serves (parts_at step next) s → sorters.Serves lent s
 sorter_lent s lent step next same at serves =
-    let later : min next (2 ^ 32) ≤ lent.next = subst (λ n. min next (2 ^ 32) ≤ n) (sym at) (min-le_left next (2 ^ 32)) in
+    let later : next ≤ lent.next = omega (arith, at) in
     sorter_served_on s (parts_at step next) lent serves same later
 
 pub queue_back : {T : Type 0} (q : LevelQueue T) (lent : Parts) (step next : ℕ) → lent.step ≡ step → lent.next ≤ next → queues.Serves lent q → queues.Serves (parts_at step next) q
-queue_back q lent step next same at serves = queue_served_on q lent (parts_at step next) serves (sym same) (le-min at lent.bounded)
+queue_back q lent step next same at serves = queue_served_on q lent (parts_at step next) serves (sym same) at
 
 pub sorter_back : {T : Type 0} (s : Sorter T) (lent : Parts) (step next : ℕ) → lent.step ≡ step → lent.next ≤ next → sorters.Serves lent s → sorters.Serves (parts_at step next) s
-sorter_back s lent step next same at serves = sorter_served_on s lent (parts_at step next) serves (sym same) (le-min at lent.bounded)
+sorter_back s lent step next same at serves = sorter_served_on s lent (parts_at step next) serves (sym same) at
 
 -- and where more of them were taken
 pub queue_later : {T : Type 0} (q : LevelQueue T) (step next after : ℕ) → next ≤ after → queues.Serves (parts_at step next) q → queues.Serves (parts_at step after) q
-queue_later q step next after later serves =
-    let low : min next (2 ^ 32) ≤ after = le_trans (min-le_left next (2 ^ 32)) later in
-    queue_served_on q (parts_at step next) (parts_at step after) serves refl (le-min low (min-le_right next (2 ^ 32)))
+queue_later q step next after later serves = queue_served_on q (parts_at step next) (parts_at step after) serves refl later
 
 pub sorter_later : {T : Type 0} (s : Sorter T) (step next after : ℕ) → next ≤ after → sorters.Serves (parts_at step next) s → sorters.Serves (parts_at step after) s
-sorter_later s step next after later serves =
-    let low : min next (2 ^ 32) ≤ after = le_trans (min-le_left next (2 ^ 32)) later in
-    sorter_served_on s (parts_at step next) (parts_at step after) serves refl (le-min low (min-le_right next (2 ^ 32)))
+sorter_later s step next after later serves = sorter_served_on s (parts_at step next) (parts_at step after) serves refl later
 
 -- a task that stays, and stays again
 pub task_then : (a b c : ReduceSweep) → SameTask a b → SameTask b c → SameTask a c
@@ -86,10 +82,6 @@ task_then a b c first second = record {
 -- at first few turns remain
 pub few_at_first : (inner ends left : ℕ) → inner ≤ 2 ^ 46 → ends ≤ 2 ^ 46 → left ≤ 4 * inner + 3 * ends + 1 → 0 + left ≤ 2 ^ 50
 few_at_first inner ends left inner_few ends_few few = omega (arith, inner_few, ends_few, few)
-
--- the parts can serve an empty list
-pub three_at_first : (next : ℕ) → 3 ≤ next → 3 ≤ min next (2 ^ 32)
-three_at_first next past = le-min past (omega arith)
 
 module _ {S : Type 0} (tells : S → Bool) (world : S → World) where
   -- no call was made

@@ -15,9 +15,9 @@ use Rattle.reduce_sweep.specs.Remaining.{Diagram, Contents, Holds, IsWorking, Is
 use Rattle.reduce_sweep.specs.Held.{AreGone, AreOfLevel, IsHeld, IsInStep}
 
 -- what it holds has nothing to do with the number of its turns
-holds_turned : (whole : Bool) (s : ReduceSweep) (world : World) (k : Contents) (turns : ℕ) (low : s.level ≤ 65535) (few : s.next ≤ 2 ^ 32)
-    → Holds whole s world k → Holds whole (record s { turns = turns; low = low; few = few }) world k
-holds_turned whole s world k turns low few holds = record {
+holds_turned : (whole : Bool) (s : ReduceSweep) (world : World) (k : Contents) (turns : ℕ) (low : s.level ≤ 65535)
+    → Holds whole s world k → Holds whole (record s { turns = turns; low = low }) world k
+holds_turned whole s world k turns low holds = record {
   apart = record {
     out_inner = holds.apart.out_inner;
     out_ends = holds.apart.out_ends;
@@ -35,29 +35,29 @@ holds_turned whole s world k turns low few holds = record {
 }
 
 -- nor has what isn't there
-gone_turned : (p : Phase) (opened : Bool) (s : ReduceSweep) (k : Contents) (turns : ℕ) (low : s.level ≤ 65535) (few : s.next ≤ 2 ^ 32)
-    → AreGone p opened s k → AreGone p opened (record s { turns = turns; low = low; few = few }) k
-gone_turned Collect false s k turns low few gone = gone
-gone_turned Collect true s k turns low few gone = gone
-gone_turned Number opened s k turns low few gone = gone
-gone_turned Forward opened s k turns low few gone = gone
-gone_turned Ended opened s k turns low few gone = gone
+gone_turned : (p : Phase) (opened : Bool) (s : ReduceSweep) (k : Contents) (turns : ℕ) (low : s.level ≤ 65535)
+    → AreGone p opened s k → AreGone p opened (record s { turns = turns; low = low }) k
+gone_turned Collect false s k turns low gone = gone
+gone_turned Collect true s k turns low gone = gone
+gone_turned Number opened s k turns low gone = gone
+gone_turned Forward opened s k turns low gone = gone
+gone_turned Ended opened s k turns low gone = gone
 
-pub step_turned : (s : ReduceSweep) (world : World) (turns : ℕ) (low : s.level ≤ 65535) (few : s.next ≤ 2 ^ 32)
-    → IsInStep s world → IsInStep (record s { turns = turns; low = low; few = few }) world
-step_turned s world turns low few step = λ going.
+pub step_turned : (s : ReduceSweep) (world : World) (turns : ℕ) (low : s.level ≤ 65535)
+    → IsInStep s world → IsInStep (record s { turns = turns; low = low }) world
+step_turned s world turns low step = λ going.
     let held = step going in
     record {
       contents = held.contents;
-      holds = holds_turned false s world held.contents turns low few held.holds;
+      holds = holds_turned false s world held.contents turns low held.holds;
       here = record { rows_here = held.here.rows_here; names_here = held.here.names_here; source_here = held.here.source_here; taken = held.here.taken };
-      gone = gone_turned s.phase s.«open» s held.contents turns low few held.gone;
+      gone = gone_turned s.phase s.«open» s held.contents turns low held.gone;
     }
 
 -- nor has what remains
-in_turned : (p : Phase) (opened : Bool) (s : ReduceSweep) (d : Diagram) (k : Contents) (turns : ℕ) (low : s.level ≤ 65535) (few : s.next ≤ 2 ^ 32)
-    → RemainsIn p opened s d k → RemainsIn p opened (record s { turns = turns; low = low; few = few }) d k
-in_turned Collect false s d k turns low few r = record {
+in_turned : (p : Phase) (opened : Bool) (s : ReduceSweep) (d : Diagram) (k : Contents) (turns : ℕ) (low : s.level ≤ 65535)
+    → RemainsIn p opened s d k → RemainsIn p opened (record s { turns = turns; low = low }) d k
+in_turned Collect false s d k turns low r = record {
   within = r.within;
   remains = r.remains;
   no_rows = r.no_rows;
@@ -65,40 +65,40 @@ in_turned Collect false s d k turns low few r = record {
   no_source = r.no_source;
   unnumbered = record { number_is = r.unnumbered.number_is; pair_is = r.unnumbered.pair_is };
 }
-in_turned Collect true s d k turns low few r = record {
+in_turned Collect true s d k turns low r = record {
   collecting = r.collecting;
   one = r.one;
   unnumbered = record { number_is = r.unnumbered.number_is; pair_is = r.unnumbered.pair_is };
 }
-in_turned Number opened s d k turns low few r = (r.0, record { numbering = r.1.numbering; number_is = r.1.number_is; no_source = r.1.no_source })
-in_turned Forward opened s d k turns low few r = record {
+in_turned Number opened s d k turns low r = (r.0, record { numbering = r.1.numbering; number_is = r.1.number_is; no_source = r.1.no_source })
+in_turned Forward opened s d k turns low r = record {
   forwarding = r.forwarding;
   no_rows = r.no_rows;
   no_source = r.no_source;
   unnumbered = record { number_is = r.unnumbered.number_is; pair_is = r.unnumbered.pair_is };
 }
-in_turned Ended opened s d k turns low few r = absurd r
+in_turned Ended opened s d k turns low r = absurd r
 
-working_turned : (s : ReduceSweep) (world : World) (d : Diagram) (turns : ℕ) (low : s.level ≤ 65535) (few : s.next ≤ 2 ^ 32)
-    → IsWorking s world d → IsWorking (record s { turns = turns; low = low; few = few }) world d
-working_turned s world d turns low few w = record {
+working_turned : (s : ReduceSweep) (world : World) (d : Diagram) (turns : ℕ) (low : s.level ≤ 65535)
+    → IsWorking s world d → IsWorking (record s { turns = turns; low = low }) world d
+working_turned s world d turns low w = record {
   contents = w.contents;
-  holds = holds_turned true s world w.contents turns low few w.holds;
-  remains = in_turned s.phase s.«open» s d w.contents turns low few w.remains;
+  holds = holds_turned true s world w.contents turns low w.holds;
+  remains = in_turned s.phase s.«open» s d w.contents turns low w.remains;
 }
 
-way_turned : (p : Phase) (s : ReduceSweep) (world : World) (d : Diagram) (turns : ℕ) (low : s.level ≤ 65535) (few : s.next ≤ 2 ^ 32)
-    → IsOnTheWay p s world d → IsOnTheWay p (record s { turns = turns; low = low; few = few }) world d
-way_turned Collect s world d turns low few w = working_turned s world d turns low few w
-way_turned Number s world d turns low few w = working_turned s world d turns low few w
-way_turned Forward s world d turns low few w = working_turned s world d turns low few w
-way_turned Ended s world d turns low few w = record { firm = w.firm; count_is = w.count_is }
+way_turned : (p : Phase) (s : ReduceSweep) (world : World) (d : Diagram) (turns : ℕ) (low : s.level ≤ 65535)
+    → IsOnTheWay p s world d → IsOnTheWay p (record s { turns = turns; low = low }) world d
+way_turned Collect s world d turns low w = working_turned s world d turns low w
+way_turned Number s world d turns low w = working_turned s world d turns low w
+way_turned Forward s world d turns low w = working_turned s world d turns low w
+way_turned Ended s world d turns low w = record { firm = w.firm; count_is = w.count_is }
 
-pub remains_turned : (s : ReduceSweep) (world : World) (d : Diagram) (turns : ℕ) (low : s.level ≤ 65535) (few : s.next ≤ 2 ^ 32)
-    → RemainsOf s world d → RemainsOf (record s { turns = turns; low = low; few = few }) world d
-remains_turned s world d turns low few r = record {
+pub remains_turned : (s : ReduceSweep) (world : World) (d : Diagram) (turns : ℕ) (low : s.level ≤ 65535)
+    → RemainsOf s world d → RemainsOf (record s { turns = turns; low = low }) world d
+remains_turned s world d turns low r = record {
   is_of = record { few = r.is_of.few; few_arcs = r.is_of.few_arcs; diagram = r.is_of.diagram };
-  on_the_way = way_turned s.phase s world d turns low few r.on_the_way;
+  on_the_way = way_turned s.phase s world d turns low r.on_the_way;
 }
 
 -- between levels there are neither rows nor names nor a source, and an open level may have some

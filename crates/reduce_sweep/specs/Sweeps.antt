@@ -1,6 +1,5 @@
 -- What is seen of a reduction, and what it keeps between turns.
-use Rattle.std.specs.Prelude.{◌≡◌, ◌≢◌, ◌⊎◌, ℕ, ◌+◌, ◌*◌, ◌-◌, ◌^◌, ◌≤◌, ◌<◌, Bool, true, false, Option, Some, None, IsSome, min}
-use Rattle.std.proofs.Math.Nat.{min-le_right}
+use Rattle.std.specs.Prelude.{◌≡◌, ◌≢◌, ◌⊎◌, ℕ, ◌+◌, ◌*◌, ◌-◌, ◌^◌, ◌≤◌, ◌<◌, Bool, true, false, Option, Some, None, IsSome}
 use Rattle.shelf_model.specs.declared.file_no.FileNo.{FileNo}
 use Rattle.shelf_model.specs.declared.sort_fault.SortFault.{SortFault}
 use Rattle.shelf_model.specs.declared.sort_fault.SortFault.TheVariants.{Shelf, Damaged, RunsSpent, RoomFull}
@@ -35,7 +34,7 @@ count_in r = r.count
 
 -- the part numbers of a step from one on
 abbrev pub parts_at : ℕ → ℕ → Parts
-parts_at step next = record { step = step; next = min next (2 ^ 32); bounded = min-le_right next (2 ^ 32) }
+parts_at step next = record { step = step; next = next }
 
 -- these are the part numbers that weren't taken
 pub record HasParts (r : ReduceSweep) (parts : Parts) : Type 0 where

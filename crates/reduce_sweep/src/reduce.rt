@@ -1,5 +1,5 @@
 //! A reduction, as it stands between two turns.
-ghost use Rattle.std.specs.Prelude.{◌≤◌, ◌^◌};
+ghost use Rattle.std.specs.Prelude.{◌≤◌};
 
 use crate::phase::Phase;
 use crate::source::Source;
@@ -40,7 +40,6 @@ pub struct ReduceSweep<'r> {
     pub(crate) count: Option<u64>,
     pub(crate) turns: u64,
     ghost low: { level ≤ 65535 },
-    ghost few: { next ≤ 2 ^ 32 },
 }
 
 impl<'r> ReduceSweep<'r> {

@@ -72,7 +72,7 @@ returns-clause-keeps g c = λ told d is_of working.
     c.close_source.ensures.rest c.close_source.ensures.place c.in_ok-close_source.ensures.none
     (c.in_ok-close_source.ensures.closed told true k (c.in_ok-arc.ensures.shown shown true k now.holds))
     refl refl refl refl refl refl refl refl
-    (λ more holds. holds_still c.close_source.new.self (g.S.Shelf.world c.close_source.new.shelf) more _ _ _ _ holds)
+    (λ more holds. holds_still c.close_source.new.self (g.S.Shelf.world c.close_source.new.shelf) more _ _ _ holds)
 
 -- an arc of the level or of a deeper one is taken
 pub returns-then-level-self-clause-held : goal.returns-then-level-self-clause-held
@@ -109,7 +109,7 @@ returns-clause-held g c = λ told held.
     c.close_source.ensures.rest c.close_source.ensures.place c.in_ok-close_source.ensures.none
     (c.in_ok-close_source.ensures.closed told false k (c.in_ok-arc.ensures.shown shown false k held.holds))
     refl refl refl refl
-    (λ more holds. holds_still c.close_source.new.self (g.S.Shelf.world c.close_source.new.shelf) more _ _ _ _ holds)
+    (λ more holds. holds_still c.close_source.new.self (g.S.Shelf.world c.close_source.new.shelf) more _ _ _ holds)
 
 -- what is damaged was so before the queue was looked at
 pub returns-in_err-take_arc-clause-damage : goal.returns-in_err-take_arc-clause-damage

@@ -46,7 +46,7 @@ returns-in_default-clause-closed g c = λ told whole k holds.
     let going : c.noted.result ≡ going_on source a = c.noted.ensures.going in
     let other = begins source a (sym going ∙ none_from c.noted.result c.in_default.not-Some) in
     let (rows, names, closed, left) = c.in_ok-close_source.ensures.closed told whole k holds in
-    (rows, names, subst (λ o. IsClosed o k.rows k.names rows names) (sym other.1) closed, holds_still c.close_source.new.self (g.S.Shelf.world c.close_source.new.shelf) _ _ _ _ _ left)
+    (rows, names, subst (λ o. IsClosed o k.rows k.names rows names) (sym other.1) closed, holds_still c.close_source.new.self (g.S.Shelf.world c.close_source.new.shelf) _ _ _ _ left)
 
 -- the source at hand goes on with the arc
 pub returns-clause-source : goal.returns-clause-source
@@ -63,4 +63,4 @@ returns-clause-closed g c = λ told whole k holds.
     let a = c.args.arc.now in
     let going : c.noted.result ≡ going_on source a = c.noted.ensures.going in
     let goes_on = goes source a c.in-Some.source (sym going ∙ c.in-Some.is) in
-    (k.rows, k.names, subst (λ o. IsClosed o k.rows k.names k.rows k.names) (sym goes_on.1) (refl, refl), holds_still c.args.self.now (g.S.Shelf.world c.args.shelf.now) k _ _ _ _ holds)
+    (k.rows, k.names, subst (λ o. IsClosed o k.rows k.names k.rows k.names) (sym goes_on.1) (refl, refl), holds_still c.args.self.now (g.S.Shelf.world c.args.shelf.now) k _ _ _ holds)

@@ -13,7 +13,7 @@ use Rattle.arc_file.specs.Streams.{left_of, given_of}
 use Rattle.arc_file.specs.Readers.{inner_of, ends_of, left_over_of}
 use Rattle.arc_diagrams.specs.Reducing.{Remains}
 use Rattle.reduce_sweep.specs.Sweeps.{IsOut, CanBeTaken, parts_at}
-use Rattle.reduce_sweep.proofs.Owning.{own_cut, then_looked, few_at_first, three_at_first}
+use Rattle.reduce_sweep.proofs.Owning.{own_cut, then_looked, few_at_first}
 use Rattle.reduce_sweep.proofs.reduce.ReduceSweep.start.Goals as goal
 
 pub returns-in_err-inner-clause-content : goal.returns-in_err-inner-clause-content
@@ -27,7 +27,7 @@ returns-clause-content g c = then_looked g.S.Shelf.tells g.S.Shelf.world (IsOut 
 
 pub returns-clause-ready : goal.returns-clause-ready
 returns-clause-ready g c =
-    let past = three_at_first c.args.parts.next c.requires.past_made in
+    let past = c.requires.past_made in
     record {
       sound = record {
         queue_values = c.start-2.ensures.values;

@@ -7,10 +7,10 @@ use Rattle.reduce_sweep.proofs.reduce.ReduceSweep.turn.Goals as goal
 
 -- a turn more was made
 pub returns-then-eq-clause-in_step : goal.returns-then-eq-clause-in_step
-returns-then-eq-clause-in_step g c = λ told. step_turned c.handle.new.self _ _ _ _ (c.in_ok-turn.ensures.in_step told)
+returns-then-eq-clause-in_step g c = λ told. step_turned c.handle.new.self _ _ _ (c.in_ok-turn.ensures.in_step told)
 
 pub returns-then-eq-clause-keeps : goal.returns-then-eq-clause-keeps
-returns-then-eq-clause-keeps g c = λ told d remains. remains_turned c.handle.new.self _ d _ _ _ (c.in_ok-turn.ensures.keeps told d remains)
+returns-then-eq-clause-keeps g c = λ told d remains. remains_turned c.handle.new.self _ d _ _ (c.in_ok-turn.ensures.keeps told d remains)
 
 -- what remains of a diagram isn't damaged
 pub returns-in_err-turn-clause-undamaged : goal.returns-in_err-turn-clause-undamaged
