@@ -43,10 +43,10 @@ targets-arcs_of [] w = refl
 targets-arcs_of (x ∷ xs) w = row_with-is x xs w (x.uid == w) (targets-arcs_of xs w)
 
 -- the arc of a node on a side
-abbrev arc_to : Node → Bool → Arc
+abbrev pub arc_to : Node → Bool → Arc
 arc_to x side = record { source = x.uid; high = side; target = cond side x.high x.low }
 
-has_arc_to : (x : Node) (side : Bool) (xs : List Node) → Has x xs → Has (arc_to x side) (arcs_of xs)
+pub has_arc_to : (x : Node) (side : Bool) (xs : List Node) → Has x xs → Has (arc_to x side) (arcs_of xs)
 has_arc_to x side [] m = absurd m
 has_arc_to x true (y ∷ xs) (inl e) = inr (inl (ap (λ z. arc_to z true) e))
 has_arc_to x false (y ∷ xs) (inl e) = inl (ap (λ z. arc_to z false) e)

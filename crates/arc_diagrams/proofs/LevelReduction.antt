@@ -12,8 +12,9 @@ use Rattle.canon_file.specs.Walks.{is_at, table_of}
 use Rattle.canon_file.proofs.MemberLaws.{either_bit, has_map, map_has, has_filter, filter_has}
 use Rattle.canon_file.proofs.PieceLaws.{same_bits-self, same_from_bits, low-append, high-append, unsplit_same}
 use Rattle.canon_file.proofs.RowLaws.{same_row, ascending_same}
+use Rattle.arc_diagrams.specs.Arcs.{onward}
 use Rattle.arc_diagrams.specs.Reduction.{pair_of, rows_of}
-use Rattle.arc_diagrams.proofs.TableLaws.{onward, table_parts, length-table_of}
+use Rattle.arc_diagrams.proofs.TableLaws.{table_parts, length-table_of}
 use Rattle.arc_diagrams.proofs.MetLaws.{next, next_has}
 
 -- the halves of what a pointer stands for are what is met next on either side

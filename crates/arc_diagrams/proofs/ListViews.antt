@@ -10,7 +10,7 @@ use Rattle.canon_file.proofs.MemberLaws.{has_map, map_has}
 use Rattle.canon_file.proofs.StandLaws.{has_append}
 use Rattle.arc_diagrams.proofs.RowPlaces.{has_left, has_right}
 
-has_at : {X : Type 0} (xs : List X) (k : ℕ) (d : X) → k < length xs → Has (slice_index_or xs k d) xs
+pub has_at : {X : Type 0} (xs : List X) (k : ℕ) (d : X) → k < length xs → Has (slice_index_or xs k d) xs
 has_at [] k d below = absurd (omega arith)
 has_at (x ∷ xs) zero d below = inl refl
 has_at (x ∷ xs) (suc k) d below = inr (has_at xs k d (omega arith))

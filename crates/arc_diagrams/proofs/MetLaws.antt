@@ -8,10 +8,10 @@ use Rattle.canon_file.specs.Members.{Has, SameMembers}
 use Rattle.canon_file.specs.Walks.{is_at}
 use Rattle.canon_file.proofs.MemberLaws.{either_bit, has_map, map_has, has_filter, filter_has}
 use Rattle.arc_file.specs.declared.arc.Arc.{Arc}
-use Rattle.arc_diagrams.specs.Arcs.{target_on, targets_of, sources_of, IsMet, IsComplete}
+use Rattle.arc_diagrams.specs.Arcs.{onward, target_on, targets_of, sources_of, IsMet, IsComplete}
 use Rattle.arc_diagrams.proofs.WordLaws.{level_at, at_from, past_from, terminal_from}
 use Rattle.arc_diagrams.proofs.TargetLaws.{the_target, met_within}
-use Rattle.arc_diagrams.proofs.TableLaws.{onward, onward_met}
+use Rattle.arc_diagrams.proofs.TableLaws.{onward_met}
 
 -- where the pointers ws are met at level i, those that are met at the next one, as often as there are walks to them
 abbrev pub next : (ℕ → Row) → ℕ → List ℕ → List ℕ

@@ -10,14 +10,10 @@ use Rattle.canon_file.specs.Walks.{is_at, walk, table_of}
 use Rattle.canon_file.proofs.PieceLaws.{length-low, length-high, joined}
 use Rattle.canon_file.proofs.WalkLaws.{place_below}
 use Rattle.arc_file.specs.declared.arc.Arc.{Arc}
-use Rattle.arc_diagrams.specs.Arcs.{targets_of, IsMet, IsComplete, StandFor, table_of_arcs}
+use Rattle.arc_diagrams.specs.Arcs.{targets_of, onward, IsMet, IsComplete, StandFor, table_of_arcs}
 use Rattle.arc_diagrams.specs.Laws.{StandsForOne}
 use Rattle.arc_diagrams.proofs.WordLaws.{level_at, level_past, terminal_from, value-terminal, terminal-value}
 use Rattle.arc_diagrams.proofs.TargetLaws.{arc_on, met_within}
-
--- where a walk goes from w on level i
-abbrev pub onward : (ℕ → Row) → ℕ → Bool → ℕ → ℕ
-onward targets i b w = cond (is_at i w) (cond b (targets w).high (targets w).low) w
 
 -- a table is that of the pointers to which the walk goes on either side
 pub table_parts : (targets : ℕ → Row) (h i w : ℕ)

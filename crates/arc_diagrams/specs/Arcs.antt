@@ -5,7 +5,7 @@ use Rattle.rec_words.specs.Words.{terminal, level_of, IsTerminal}
 use Rattle.rec_words.specs.declared.node.Node.{Node}
 use Rattle.canon_file.specs.declared.row.Row.{Row}
 use Rattle.canon_file.specs.Members.{Has}
-use Rattle.canon_file.specs.Walks.{walk, table_of}
+use Rattle.canon_file.specs.Walks.{is_at, walk, table_of}
 use Rattle.arc_file.specs.declared.arc.Arc.{Arc}
 
 -- the target of the first arc from that source on that side, or the truth value 0 where there is none
@@ -16,6 +16,10 @@ target_on (a ∷ arcs) source side = cond ((a.source == source) && same_bit a.hi
 -- the two targets of a node
 abbrev pub targets_of : List Arc → ℕ → Row
 targets_of arcs source = record { low = target_on arcs source false; high = target_on arcs source true }
+
+-- where a walk goes from w on level i: from a node of the level to its pointer on that side, from any other to itself
+abbrev pub onward : (ℕ → Row) → ℕ → Bool → ℕ → ℕ
+onward targets i side w = cond (is_at i w) (cond side (targets w).high (targets w).low) w
 
 -- the sources of a level, as often as they have arcs
 abbrev pub sources_of : List Arc → ℕ → List ℕ
