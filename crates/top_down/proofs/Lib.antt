@@ -1,7 +1,11 @@
-pub mod GrownLaws
-pub mod NewIdentifiers
-pub mod TurnLaws
+pub mod TupleLaws
+pub mod PointwiseLaws
+pub mod GoalLaws
 pub mod ProductLaws
-pub mod ProductDiagrams
 pub mod ChoiceLaws
-pub mod ChoiceDiagrams
+pub mod NumberLaws
+pub mod NewIdentifiers
+pub mod OrderLaws
+pub mod TurnLaws
+pub mod GrownLaws
+pub mod OperationDiagrams

@@ -1,5 +1,5 @@
+pub mod Tuples
 pub mod Rules
 pub mod Asks
-pub mod Product
-pub mod Choice
+pub mod Operations
 pub mod Laws

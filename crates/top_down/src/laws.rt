@@ -1,17 +1,34 @@
 //! The laws of sweeps from the root to the leaves. Each function does nothing: what it ensures is the law.
-ghost use Rattle.std.specs.Prelude.{ℕ};
-ghost use Rattle.top_down.specs.Laws.{ProductStands, ProductIsConstant, ChoiceStands, ChoiceIsConstant};
+ghost use Rattle.std.specs.Prelude.{◌≤◌, ℕ};
+ghost use Rattle.top_down.specs.Tuples.{Targets};
+ghost use Rattle.top_down.specs.Rules.{Rule, IsRule};
+ghost use Rattle.top_down.specs.Laws.{FirstGrows, KnownGrows, NewGrows, AsksInAnyOrder, NumbersAreFull, OpenStands, ClosedStands, ProductStands, ChoiceStands};
 
-/// The arcs that are made of two canonical diagrams, pair of pointers by pair of pointers, are a diagram
-/// of the operation's table once no pair is asked for. Where both roots are truth values that table is
-/// constant.
-pub fn pairs_make_a_diagram()
-    ensures stands { (n : ℕ) → ProductStands n }
-    ensures constant { (n : ℕ) → ProductIsConstant n }
+/// What a sweep has made grows by answering asks: the first is that of the root, and each further one is
+/// answered by the newest identifier, where it has the ask's tuple, or by the next. The asks may stand in
+/// any order, and the numbers of a level have no gap.
+pub fn answering_an_ask_keeps_what_is_made()
+    ensures first { (n : ℕ) (rule : Rule) (targets : Targets) → IsRule n rule targets → FirstGrows n rule targets }
+    ensures known { (n : ℕ) (rule : Rule) (targets : Targets) → IsRule n rule targets → KnownGrows n rule targets }
+    ensures renewed { (n : ℕ) (rule : Rule) (targets : Targets) → IsRule n rule targets → NewGrows n rule targets }
+    ensures any_order { (n : ℕ) (rule : Rule) (targets : Targets) → IsRule n rule targets → AsksInAnyOrder n rule targets }
+    ensures full { NumbersAreFull }
 {}
 
-/// So are the arcs that are made of three canonical diagrams, by the choice between two of them by the third.
+/// What is made, completed by what stands for the open asks, stands for the table of the roots, and with no
+/// ask open it is a diagram of that table.
+pub fn what_is_made_stands_for_the_roots()
+    ensures opened { (n : ℕ) (rule : Rule) (targets : Targets) → n ≤ 65535 → IsRule n rule targets → OpenStands n rule targets }
+    ensures closed { (n : ℕ) (rule : Rule) (targets : Targets) → n ≤ 65535 → IsRule n rule targets → ClosedStands n rule targets }
+{}
+
+/// An operation's rule makes the operation's table of two canonical diagrams, pair of pointers by pair of
+/// pointers. Where it says a constant of the roots, that table is constant.
+pub fn pairs_make_a_diagram()
+    ensures { (n : ℕ) → ProductStands n }
+{}
+
+/// So does the rule of the choice between two diagrams by a third.
 pub fn triples_make_a_diagram()
-    ensures stands { (n : ℕ) → ChoiceStands n }
-    ensures constant { (n : ℕ) → ChoiceIsConstant n }
+    ensures { (n : ℕ) → ChoiceStands n }
 {}
