@@ -1,0 +1,3 @@
+pub mod Searches
+pub mod Pieces
+pub mod Standing

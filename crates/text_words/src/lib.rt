@@ -1,0 +1,14 @@
+//! The lines of a text and the words of a line, with their places.
+#![tactic(auto)]
+
+pub mod laws;
+mod lines;
+mod search;
+mod words;
+
+pub use lines::{Line, Lines};
+pub use search::code;
+pub use words::{Word, Words};
+
+#[cfg(test)]
+mod tests;

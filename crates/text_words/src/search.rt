@@ -1,0 +1,76 @@
+//! Where a line ends, where its comment begins, and where a word begins and ends.
+
+ghost use Rattle.std.specs.Prelude.{◌≡◌, ◌≤◌, length};
+ghost use Rattle.std.specs.List.{position_or_len};
+ghost use Rattle.text_words.specs.Text.{is_feed, is_hash, is_blank, is_inner, code_of};
+
+#[tactic(auto, using(crate::proofs::Searches::found_first))]
+pub(crate) fn line_len(text: &[u8]) -> usize
+    ensures first { result ≡ position_or_len is_feed text.now }
+    ensures within { result ≤ length text.now }
+{
+    for (n, b) in text.iter().enumerate() {
+        if *b == b'\n' {
+            return n;
+        }
+    }
+    text.len()
+}
+
+#[tactic(auto, using(crate::proofs::Searches::found_first))]
+fn code_len(line: &[u8]) -> usize
+    ensures first { result ≡ position_or_len is_hash line.now }
+    ensures within { result ≤ length line.now }
+{
+    for (n, b) in line.iter().enumerate() {
+        if *b == b'#' {
+            return n;
+        }
+    }
+    line.len()
+}
+
+/// A line without its comment, which a number sign begins.
+pub fn code(line: &[u8]) -> &[u8]
+    ensures { result.now ≡ code_of line.now }
+{
+    &line[..code_len(line)]
+}
+
+fn is_blank_byte(b: u8) -> bool
+    ensures { result ≡ is_blank b }
+{
+    b == b' ' || b == b'\t' || b == b'\r'
+}
+
+#[tactic(auto, using(crate::proofs::Searches::found_first))]
+pub(crate) fn word_len(text: &[u8]) -> usize
+    ensures first { result ≡ position_or_len is_blank text.now }
+    ensures within { result ≤ length text.now }
+{
+    for (n, b) in text.iter().enumerate() {
+        if is_blank_byte(*b) {
+            return n;
+        }
+    }
+    text.len()
+}
+
+fn is_word_byte(b: u8) -> bool
+    ensures { result ≡ is_inner b }
+{
+    !is_blank_byte(b)
+}
+
+#[tactic(auto, using(crate::proofs::Searches::found_first))]
+pub(crate) fn blanks_len(text: &[u8]) -> usize
+    ensures first { result ≡ position_or_len is_inner text.now }
+    ensures within { result ≤ length text.now }
+{
+    for (n, b) in text.iter().enumerate() {
+        if is_word_byte(*b) {
+            return n;
+        }
+    }
+    text.len()
+}
