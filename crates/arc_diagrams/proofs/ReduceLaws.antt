@@ -2,6 +2,8 @@
 use Rattle.std.specs.Prelude.{◌≡◌, ℕ, zero, suc, ◌+◌, ◌^◌, ◌≤◌, ◌==◌, Bool, true, false, cond, List, [], ◌∷◌, ◌++◌, length, map, filter}
 use Rattle.std.proofs.Common.{refl, sym, ◌∙◌, ap, subst, inl, arith}
 use Rattle.std.proofs.lemmas.List.{length-map}
+use Rattle.std.proofs.lemmas.List.Sums.{length-filter, count_by-le-length}
+use Rattle.list_laws.proofs.MemberLaws.{length-ascending}
 use Rattle.rec_words.specs.Words.{level_of}
 use Rattle.canon_file.specs.declared.row.Row.{Row}
 use Rattle.canon_file.specs.Members.{Has, put, ascending}
@@ -22,41 +24,20 @@ use Rattle.arc_diagrams.proofs.MetLaws.{next, Covers, complete_covers}
 use Rattle.arc_diagrams.proofs.FinalLaws.{rows-final}
 use Rattle.arc_diagrams.proofs.LevelReduction.{halves-met, rows-at, words-at}
 
-length-put : (r : Row) (rs : List Row) → length (put row_before r rs) ≤ suc (length rs)
-length-put r [] = omega arith
-length-put r (s ∷ rs) = by (row_before r s) (row_before s r) (length-put r rs)
-  where
-    by : (b c : Bool) → length (put row_before r rs) ≤ suc (length rs)
-        → length (cond b (r ∷ s ∷ rs) (cond c (s ∷ put row_before r rs) (s ∷ rs))) ≤ suc (suc (length rs))
-    by true c l = omega arith
-    by false true l = omega arith
-    by false false l = omega arith
-
-length-ascending : (rs : List Row) → length (ascending row_before rs) ≤ length rs
-length-ascending [] = omega arith
-length-ascending (r ∷ rs) = omega (arith, length-put r (ascending row_before rs), length-ascending rs)
-
-length-filter : {X : Type 0} (p : X → Bool) (xs : List X) → length (filter p xs) ≤ length xs
-length-filter p [] = omega arith
-length-filter p (x ∷ xs) = by (p x) (length-filter p xs)
-  where
-    by : (b : Bool) → length (filter p xs) ≤ length xs → length (cond b (x ∷ filter p xs) (filter p xs)) ≤ suc (length xs)
-    by true l = omega arith
-    by false l = omega arith
-
 -- a level has no more rows than sources, and no more sources than there are arcs
 length-reduced : (targets : ℕ → Row) (f : ℕ → ℕ) (sources : List ℕ) → length (rows_of targets f sources) ≤ length sources
 length-reduced targets f sources =
     omega (
       arith,
-      length-ascending (filter differs (map (pair_of targets f) sources)),
+      length-ascending row_before (filter differs (map (pair_of targets f) sources)),
       length-filter differs (map (pair_of targets f) sources),
+      count_by-le-length differs (map (pair_of targets f) sources),
       length-map sources (pair_of targets f),
     )
 
 length-sources : (arcs : List Arc) (i : ℕ) → length (sources_of arcs i) ≤ length arcs
 length-sources arcs i =
-    omega (arith, length-filter (λ s. level_of s == i) (map (λ (a : Arc). a.source) arcs), length-map arcs (λ (a : Arc). a.source))
+    omega (arith, length-filter (λ s. level_of s == i) (map (λ (a : Arc). a.source) arcs), count_by-le-length (λ s. level_of s == i) (map (λ (a : Arc). a.source) arcs), length-map arcs (λ (a : Arc). a.source))
 
 -- so a level has no more rows than there are arcs
 pub length-final_rows : (n : ℕ) (arcs : List Arc) (i : ℕ) → length (final_rows n arcs i) ≤ length arcs

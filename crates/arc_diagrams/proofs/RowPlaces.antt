@@ -8,16 +8,8 @@ use Rattle.canon_file.specs.Members.{Has, IsAscending}
 use Rattle.canon_file.specs.Rows.{row_before, row_word, place_of}
 use Rattle.canon_file.specs.Canon.{numbered}
 use Rattle.canon_file.proofs.MemberLaws.{either_bit}
+pub use Rattle.list_laws.proofs.MemberLaws.{has_left, has_right}
 use Rattle.canon_file.proofs.StandLaws.{same_words, words_same}
-
-pub has_left : {X : Type 0} (x : X) (xs ys : List X) → Has x xs → Has x (xs ++ ys)
-has_left x [] ys m = absurd m
-has_left x (y ∷ xs) ys (inl e) = inl e
-has_left x (y ∷ xs) ys (inr m) = inr (has_left x xs ys m)
-
-pub has_right : {X : Type 0} (x : X) (xs ys : List X) → Has x ys → Has x (xs ++ ys)
-has_right x [] ys m = m
-has_right x (y ∷ xs) ys m = inr (has_right x xs ys m)
 
 -- a row that is there has a node, by its place
 pub numbered_has : (i k : ℕ) (r : Row) (rs : List Row) → Has r rs

@@ -7,17 +7,12 @@ use Rattle.std.specs.declared.cmp.Ordering.TheVariants.{Less, Equal, Greater}
 use Rattle.std.proofs.Common.{arith, inl, inr}
 use Rattle.std.proofs.lemmas.List.{get_or-replicate}
 use Rattle.std.proofs.lemmas.Bool.Decides.{nat_tests}
-use Rattle.rec_words.specs.Words.{IsPointer, IsNodeWord}
+use Rattle.rec_words.specs.Words.{IsNodeWord}
+use Rattle.rec_words.specs.RecordLaws.{then_equal, pointer_fits}
 use Rattle.arc_diagrams.specs.declared.final_arc.FinalArc.{FinalArc}
 use Rattle.arc_diagrams.specs.declared.source_row.SourceRow.{SourceRow}
 use Rattle.arc_diagrams.specs.declared.name.Name.{Name}
 use Rattle.arc_diagrams.specs.Items.{from_top, side_number, final_arc_words, source_row_words, name_words, IsFinalArc, IsSourceRow, IsName, final_arc_cmp, name_cmp, source_row_cmp}
-
--- what follows an equal comparison of zeros changes nothing
-then_equal : (o : Ordering) → o ≡ ordering_then o Equal
-then_equal Less = refl
-then_equal Equal = refl
-then_equal Greater = refl
 
 -- greater sources come first, counted down
 source_order : (s t : ℕ) → IsNodeWord s → IsNodeWord t → nat_cmp t s ≡ nat_cmp (from_top s) (from_top t)
@@ -79,11 +74,6 @@ same_source_row x y same =
     λ i. record { low = low i; high = high i; source = source i }
 
 -- their words fit 64 bits
-pointer_fits : (w : ℕ) → IsPointer w → w < 2 ^ 64
-pointer_fits w (inl node) = omega arith
-pointer_fits w (inr (inl zeros)) = omega arith
-pointer_fits w (inr (inr ones)) = omega arith
-
 side_fits : (h : Bool) → side_number h < 2 ^ 64
 side_fits false = omega arith
 side_fits true = omega arith

@@ -17,11 +17,6 @@ use Rattle.arc_file.specs.Arcs.{arc_words, IsArc}
 use Rattle.arc_file.specs.Files.{inner_arcs, end_arcs, BeginWith}
 use Rattle.arc_file.specs.Writers.{inner_file, ends_file, inner_count, ends_count, HoldsArcs, IsFileOf}
 
--- what follows from two facts of a success
-pub from_both : {T E A B C : Type 0} (r : Result T E) → (A → B → C) → OnOk r A → OnOk r B → OnOk r C
-from_both (Ok x) follows a b = follows a b
-from_both (Err e) follows a b = tt
-
 -- the two files of a writer differ
 pub files_apart : (w : ArcWriter) → inner_file w ≢ ends_file w
 files_apart w same = w.apart (sym w.inner_is ∙ same ∙ w.ends_are)

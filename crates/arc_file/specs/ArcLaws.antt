@@ -7,7 +7,8 @@ use Rattle.std.specs.declared.cmp.Ordering.TheVariants.{Less, Equal, Greater}
 use Rattle.std.proofs.Common.{ap, ◌∙◌, arith, inl, inr}
 use Rattle.std.proofs.lemmas.List.{get_or-replicate}
 use Rattle.std.proofs.lemmas.Bool.Decides.{nat_tests}
-use Rattle.rec_words.specs.Words.{IsPointer, IsNodeWord}
+use Rattle.rec_words.specs.Words.{IsNodeWord}
+use Rattle.rec_words.specs.RecordLaws.{then_equal, pointer_fits}
 use Rattle.arc_file.specs.declared.arc.Arc.{Arc}
 use Rattle.arc_file.specs.Arcs.{side_word, arc_words, IsArc}
 
@@ -18,12 +19,6 @@ first_order false false s t node other = refl
 first_order false true s t node other = let below : s < t + 2 ^ 63 = omega arith in grind (arith, nat_tests)
 first_order true false s t node other = let below : t < s + 2 ^ 63 = omega arith in grind (arith, nat_tests)
 first_order true true s t node other = grind (arith, nat_tests)
-
--- what follows an equal comparison of zeros changes nothing
-then_equal : (o : Ordering) → o ≡ ordering_then o Equal
-then_equal Less = refl
-then_equal Equal = refl
-then_equal Greater = refl
 
 -- comparisons one after the other, as one
 then_then : (a b c : Ordering) → ordering_then a (ordering_then b c) ≡ ordering_then (ordering_then a b) c
@@ -54,13 +49,7 @@ same_arc x y arc other same =
     let target : x.target ≡ y.target = cc in
     λ i. record { high = sides.0 i; source = sides.1 i; target = target i }
 
--- a pointer fits 64 bits
-pointer_fits : (w : ℕ) → IsPointer w → w < 2 ^ 64
-pointer_fits w (inl node) = omega arith
-pointer_fits w (inr (inl zeros)) = omega arith
-pointer_fits w (inr (inr ones)) = omega arith
-
--- so does the word of a source and a side
+-- the word of a source and a side fits 64 bits
 side_fits : (h : Bool) (s : ℕ) → IsNodeWord s → side_word h s < 2 ^ 64
 side_fits false s node = omega arith
 side_fits true s node = omega arith

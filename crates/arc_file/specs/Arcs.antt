@@ -3,6 +3,10 @@ use Rattle.std.specs.Prelude.{ℕ, ◌+◌, ◌^◌, Bool, true, false, List, []
 use Rattle.rec_words.specs.Words.{IsNodeWord, IsPointer}
 use Rattle.arc_file.specs.declared.arc.Arc.{Arc}
 
+-- the bytes of an arc
+abbrev pub arc_size : ℕ
+arc_size = 16
+
 -- the word of a source and a side: bit 63 is set on the high one
 abbrev pub side_word : Bool → ℕ → ℕ
 side_word false source = source

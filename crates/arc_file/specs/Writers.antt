@@ -11,7 +11,7 @@ use Rattle.block_stream.specs.Appenders.{filling_of, written_of, HoldsItems}
 use Rattle.arc_file.specs.declared.arc.Arc.{Arc}
 use Rattle.arc_file.specs.declared.unreduced.Unreduced.{Unreduced}
 use Rattle.arc_file.specs.declared.writer.ArcWriter.{ArcWriter}
-use Rattle.arc_file.specs.Arcs.{arc_words, IsArc}
+use Rattle.arc_file.specs.Arcs.{arc_size, arc_words, IsArc}
 use Rattle.arc_file.specs.Files.{BeginWith}
 
 -- the file of the arcs to nodes
@@ -61,7 +61,7 @@ pub record HoldsArcs (w : ArcWriter) (world : World) (xs ys : List Arc) : Type 0
 pub record IsFileOf (xs : List Arc) (count : ℕ) (f : File) : Type 0 where
   pub firm : f ≡ firm_file f.bytes
   pub begin : BeginWith xs count f.bytes
-  pub all : length f.bytes ≡ count * 16
+  pub all : length f.bytes ≡ count * arc_size
 
 -- what a stop leaves of both files is what they were to hold
 pub record WereSettled (w : ArcWriter) (old new : World) : Type 0 where
@@ -70,8 +70,8 @@ pub record WereSettled (w : ArcWriter) (old new : World) : Type 0 where
 
 -- both files have as many whole records as is said
 pub record AreWhole (made : Unreduced) (world : World) : Type 0 where
-  pub inner_whole : made.inner_count * 16 ≤ length (file world made.inner).bytes
-  pub ends_whole : made.ends_count * 16 ≤ length (file world made.ends).bytes
+  pub inner_whole : made.inner_count * arc_size ≤ length (file world made.inner).bytes
+  pub ends_whole : made.ends_count * arc_size ≤ length (file world made.ends).bytes
 
 -- damage is that of one of two files
 abbrev pub IsDamageOfEither : FileNo → FileNo → StreamFault → Type 0

@@ -5,6 +5,9 @@ ghost use Rattle.arc_file.specs.ArcLaws.{arc_fits, same_arc, arc_order};
 
 use rec_words::{Ptr, Rec, Spill, Uid};
 
+/// The bytes of an arc in a file.
+pub const ARC_SIZE: u64 = 16;
+
 /// What the first word of a high arc has above the identifier of its source.
 const HIGH: u64 = 1 << 63;
 

@@ -9,7 +9,7 @@ mod stream;
 mod unreduced;
 mod writer;
 
-pub use arc::Arc;
+pub use arc::{ARC_SIZE, Arc};
 pub use kind::Kind;
 pub use reader::ArcReader;
 pub use unreduced::Unreduced;

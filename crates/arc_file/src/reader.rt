@@ -25,6 +25,7 @@ impl<'r> ArcReader<'r> {
     ghost use Rattle.arc_file.specs.declared.kind.Kind.TheVariants.{Inner, End};
     ghost use Rattle.block_stream.specs.Reads.{Looked};
     ghost use Rattle.block_stream.specs.Items.{GivesLast};
+    ghost use Rattle.arc_file.specs.Arcs.{arc_size};
     ghost use Rattle.arc_file.specs.Files.{HasArcs};
     ghost use Rattle.arc_file.specs.Streams.{file_of, given_of, Reads, AreLeft, GoesUp, IsArcAnswer};
     ghost use Rattle.arc_file.specs.Readers.{root_of, inner_of, ends_of, left_over_of};
@@ -32,8 +33,8 @@ impl<'r> ArcReader<'r> {
     /// Begins with the last arcs of both files. The room is halved for them.
     pub fn start(made: Unreduced, room: &'r mut [Rec]) -> ArcReader<'r>
         requires enough { 16 ≤ length room.old }
-        requires inner_fits { made.inner_count * 16 ≤ longest }
-        requires ends_fit { made.ends_count * 16 ≤ longest }
+        requires inner_fits { made.inner_count * arc_size ≤ longest }
+        requires ends_fit { made.ends_count * arc_size ≤ longest }
         ensures left_over { left_over_of result ≡ made }
         ensures given { (given_of (inner_of result) ≡ None) × (given_of (ends_of result) ≡ None) }
         ensures reads_inner { (bytes : List ℕ) → Reads Inner (inner_of result) bytes }

@@ -3,8 +3,9 @@ ghost use Rattle.std.specs.Prelude.{◌≡◌, ◌*◌, ◌≤◌};
 ghost use Rattle.shelf_model.specs.Calls.{longest};
 ghost use Rattle.block_stream.specs.Reads.{place_of};
 ghost use Rattle.block_stream.specs.Backwards.{reading_of};
+ghost use Rattle.arc_file.specs.Arcs.{arc_size};
 
-use crate::Arc;
+use crate::{ARC_SIZE, Arc};
 use crate::kind::{Kind, may_stand};
 use block_stream::Backward;
 use rec_words::Rec;
@@ -18,7 +19,7 @@ pub(crate) struct ArcStream<'r> {
     given: Option<Arc>,
     ghost width: { (reading_of arcs).words ≡ 2 },
     ghost front: { (reading_of arcs).bound ≡ 0 },
-    ghost fits: { place_of (reading_of arcs) * 16 ≤ longest },
+    ghost fits: { place_of (reading_of arcs) * arc_size ≤ longest },
 }
 
 impl<'r> ArcStream<'r> {
@@ -36,7 +37,7 @@ impl<'r> ArcStream<'r> {
     /// Begins with the last of so many arcs.
     pub fn start(f: FileNo, count: u64, window: &'r mut [Rec]) -> ArcStream<'r>
         requires enough { 8 ≤ length window.old }
-        requires fits { count * 16 ≤ longest }
+        requires fits { count * arc_size ≤ longest }
         ensures file { file_of result ≡ f }
         ensures left { left_of result ≡ count }
         ensures given { given_of result ≡ None }
@@ -77,7 +78,7 @@ impl<'r> ArcStream<'r> {
         if !may_stand(kind, &arc, self.given) {
             return Err(StreamFault::Damaged {
                 file: self.arcs.file(),
-                at: self.arcs.place() * 16,
+                at: self.arcs.place() * ARC_SIZE,
             });
         }
         self.given = Some(arc);

@@ -31,6 +31,7 @@ impl<'r> ArcWriter<'r> {
     ghost use Rattle.shelf_model.specs.Calls.{Told};
     ghost use Rattle.shelf_model.specs.Faults.{OnlyShelf};
     ghost use Rattle.arc_file.specs.declared.arc.Arc.{Arc};
+    ghost use Rattle.arc_file.specs.Arcs.{arc_size};
     ghost use Rattle.arc_file.specs.Files.{inner_arcs, end_arcs, BeginWith};
     ghost use Rattle.arc_file.specs.Pairs.{WroteBoth, CutBoth};
     ghost use Rattle.arc_file.specs.Writers.{inner_file, ends_file, inner_count, ends_count, made_of, SameFiles, AreInStep, HoldsArcs, IsFileOf, WereSettled, AreWhole, IsDamageOfEither, IsShortOfEither};
@@ -85,7 +86,7 @@ impl<'r> ArcWriter<'r> {
         ensures short { IfErr result (λ e. IsTrue (S.tells shelf.new) →
             IsShortOfEither made (S.world shelf.old) e) }
         ensures content { Told S.tells shelf.old shelf.new
-            (CutBoth 4 made.inner (made.inner_count * 16) made.ends (made.ends_count * 16)
+            (CutBoth 4 made.inner (made.inner_count * arc_size) made.ends (made.ends_count * arc_size)
             (S.world shelf.old) (S.world shelf.new)) }
         ensures faults { OnlyShelf (S.faults shelf.old) (S.faults shelf.new) result }
     {

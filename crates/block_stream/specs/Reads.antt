@@ -7,7 +7,7 @@ use Rattle.shelf_model.specs.declared.fault.StreamFault.TheVariants.{Shelf, Dama
 use Rattle.shelf_model.specs.World.{World, now}
 use Rattle.shelf_model.specs.Moments.{Ran, Stays}
 use Rattle.block_stream.specs.declared.reading.Reading.{Reading}
-use Rattle.block_stream.specs.Records.{records_of, from_place, record_at, IsWhole}
+use Rattle.block_stream.specs.Records.{most_words, records_of, from_place, record_at, IsWhole}
 
 -- at most n calls were made, and no file changed at any moment
 pub record Looked (n : ℕ) (old new : World) : Type 0 where
@@ -89,13 +89,13 @@ pub record IsReading (r : Reading) (room : ℕ) : Type 0 where
   pub room_some : 8 ≤ room
   pub in_room : r.loaded ≤ room
   pub given : r.at ≤ r.loaded
-  pub far : r.base + r.loaded ≤ 2 ^ 47
+  pub far : r.base + r.loaded ≤ most_words
 
 -- a stream that ends at its bound
 pub record IsForward (r : Reading) (room : ℕ) : Type 0 where
   pub reading : IsReading r room
   pub within : r.base + r.loaded ≤ r.bound
-  pub bound_far : r.bound ≤ 2 ^ 47
+  pub bound_far : r.bound ≤ most_words
 
 -- a stream that comes from behind, and ends where its bound is reached
 pub record IsBackward (r : Reading) (room : ℕ) : Type 0 where

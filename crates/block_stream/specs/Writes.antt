@@ -1,23 +1,23 @@
 -- What writing leaves of the folder, and what a writer's file is to hold.
-use Rattle.std.specs.Prelude.{◌≡◌, ◌≢◌, ℕ, ◌+◌, ◌*◌, ◌≤◌, List, ◌++◌, length, take}
+use Rattle.std.specs.Prelude.{◌≡◌, ℕ, ◌+◌, ◌*◌, ◌≤◌, List, ◌++◌, length, take}
 use Rattle.rec_words.specs.declared.rec.Rec.{Rec}
 use Rattle.shelf_model.specs.declared.file_no.FileNo.{FileNo}
 use Rattle.shelf_model.specs.File.{IsKept}
 use Rattle.shelf_model.specs.Folder.{file_in}
 use Rattle.shelf_model.specs.World.{Moment, World, now, file}
-use Rattle.shelf_model.specs.Calls.{longest}
-use Rattle.shelf_model.specs.Moments.{Ran}
+use Rattle.shelf_model.specs.Calls.{longest, most_piece}
+use Rattle.shelf_model.specs.Moments.{Ran, OnlyChanged}
 use Rattle.block_stream.specs.declared.filling.Filling.{Filling}
 use Rattle.block_stream.specs.Records.{records_bytes}
 
 -- at each moment every other file is as it was, and what was sure of this one is sure
 pub record DuringWrite (f : FileNo) (old m : Moment) : Type 0 where
-  pub others : (q : FileNo) → q ≢ f → file_in m.folder q ≡ file_in old.folder q
+  pub others : OnlyChanged (λ q. q ≡ f) old m
   pub kept : (front : List ℕ) → IsKept front (file_in old.folder f) → IsKept front (file_in m.folder f)
 
 -- at each moment every other file is as it was, and what was sure of this one up to a length is sure
 pub record DuringCut (f : FileNo) (to : ℕ) (old m : Moment) : Type 0 where
-  pub others : (q : FileNo) → q ≢ f → file_in m.folder q ≡ file_in old.folder q
+  pub others : OnlyChanged (λ q. q ≡ f) old m
   pub kept : (front : List ℕ) → length front ≤ to → IsKept front (file_in old.folder f) → IsKept front (file_in m.folder f)
 
 -- a file was written to, by at most n calls
@@ -36,13 +36,13 @@ pub record IsFilling (w : Filling) (room : ℕ) : Type 0 where
   pub words_most : w.words ≤ 8
   pub room_some : 8 ≤ room
   pub in_room : w.waiting ≤ room
-  pub in_piece : w.waiting * (8 * w.words) ≤ 2048
+  pub in_piece : w.waiting * (8 * w.words) ≤ most_piece
   pub fits : w.stored * (8 * w.words) ≤ longest
 
 -- the window and a piece have room for one record more
 pub record HasRoom (w : Filling) (room : ℕ) : Type 0 where
   pub in_room : w.waiting + 1 ≤ room
-  pub in_piece : (w.waiting + 1) * (8 * w.words) ≤ 2048
+  pub in_piece : (w.waiting + 1) * (8 * w.words) ≤ most_piece
 
 -- how many records a writer holds: those in its file, and those that wait
 abbrev pub count_of : Filling → ℕ

@@ -9,9 +9,9 @@ ghost use Rattle.block_stream.specs.Reads.{IsDamageOf, IsShort};
 ghost use Rattle.block_stream.specs.Writes.{Wrote, Cut, IsFilling, HasRoom, InStep, IsWriting, SameFile, count_of, written};
 
 use crate::reading::byte_place;
-use crate::record::{PIECE, piece_len, write_records};
+use crate::record::{piece_len, write_records};
 use rec_words::Rec;
-use shelf_model::{Failed, FileNo, Shelf, StreamFault};
+use shelf_model::{Failed, FileNo, PIECE, Shelf, StreamFault};
 
 /// A file that records are put at the end of, and how many of them wait in a window.
 #[derive(Clone, Copy, Debug, PartialEq, Eq)]

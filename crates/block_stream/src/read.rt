@@ -1,14 +1,15 @@
 //! One read of records into a window.
-ghost use Rattle.std.specs.Prelude.{◌≡◌, ◌+◌, ◌*◌, ◌^◌, ◌≤◌, IsTrue, IfOk, length};
+ghost use Rattle.std.specs.Prelude.{◌≡◌, ◌+◌, ◌*◌, ◌≤◌, IsTrue, IfOk, length};
 ghost use Rattle.shelf_model.specs.World.{file};
-ghost use Rattle.shelf_model.specs.Calls.{Told};
+ghost use Rattle.shelf_model.specs.Calls.{Told, most_piece};
 ghost use Rattle.shelf_model.specs.Faults.{OnlyFolder};
+ghost use Rattle.block_stream.specs.Records.{most_words};
 ghost use Rattle.block_stream.specs.Reads.{Looked, DidLoad};
 
 use crate::reading::byte_place;
-use crate::record::{PIECE, read_records};
+use crate::record::read_records;
 use rec_words::Rec;
-use shelf_model::{Failed, FileNo, Shelf};
+use shelf_model::{Failed, FileNo, PIECE, Shelf};
 
 /// Reads records from a place on into the front of the window, with one call, and answers how many whole
 /// ones there are. What they hold isn't looked at.
@@ -21,10 +22,10 @@ pub fn load<S: Shelf>(
     shelf: &mut S,
 ) -> Result<usize, Failed>
     requires words { (1 ≤ words) × (words ≤ 8) }
-    requires place { place ≤ 2 ^ 47 }
+    requires place { place ≤ most_words }
     requires some { 1 ≤ wanted }
     requires room { wanted ≤ length window.old }
-    requires piece { wanted * (8 * words) ≤ 2048 }
+    requires piece { wanted * (8 * words) ≤ most_piece }
     ensures within { IfOk result (λ n. n ≤ wanted) }
     ensures loaded { IfOk result (λ n. IsTrue (S.tells shelf.new) →
         DidLoad words place wanted n window.new (file (S.world shelf.old) f).bytes) }

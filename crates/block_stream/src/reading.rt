@@ -18,12 +18,13 @@ pub struct Reading {
 }
 
 impl Reading {
-    ghost use Rattle.std.specs.Prelude.{◌≡◌, ◌^◌, ◌≤◌, ◌*◌, IfErr};
+    ghost use Rattle.std.specs.Prelude.{◌≡◌, ◌≤◌, ◌*◌, IfErr};
+    ghost use Rattle.block_stream.specs.Records.{most_words};
     ghost use Rattle.block_stream.specs.Reads.{IsDamageAt};
 
     /// The damage of the record at a place.
     pub(crate) fn damage_at(&self, place: u64) -> StreamFault
-        requires place { place ≤ 2 ^ 47 }
+        requires place { place ≤ most_words }
         requires words { self.now.words ≤ 8 }
         ensures { result ≡ StreamFault.Damaged self.now.file (place * (8 * self.now.words)) }
     {
@@ -34,11 +35,12 @@ impl Reading {
     }
 }
 
-ghost use Rattle.std.specs.Prelude.{◌≡◌, ◌^◌, ◌≤◌, ◌*◌};
+ghost use Rattle.std.specs.Prelude.{◌≡◌, ◌≤◌, ◌*◌};
+ghost use Rattle.block_stream.specs.Records.{most_words};
 
 /// The place in bytes of a record.
 pub(crate) fn byte_place(place: u64, words: usize) -> u64
-    requires place { place ≤ 2 ^ 47 }
+    requires place { place ≤ most_words }
     requires words { words ≤ 8 }
     ensures { result ≡ place * (8 * words) }
 {

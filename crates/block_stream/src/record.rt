@@ -1,12 +1,11 @@
 //! Records as bytes.
 ghost use Rattle.std.specs.Prelude.{◌≡◌, ◌+◌, ◌*◌, ◌≤◌, ◌++◌, length, take, drop};
 ghost use Rattle.std.specs.Int.{w64, from_be_bytes};
+ghost use Rattle.shelf_model.specs.Calls.{most_piece};
 ghost use Rattle.block_stream.specs.Records.{record_of, records_of, record_bytes, records_bytes};
 
 use rec_words::Rec;
-
-/// The most bytes that one call of the folder moves.
-pub(crate) const PIECE: usize = 2048;
+use shelf_model::PIECE;
 
 /// How many records one call of the folder moves: no more than there is room for, and than a piece has.
 pub(crate) fn piece_len(room: usize, words: usize) -> usize
@@ -14,9 +13,9 @@ pub(crate) fn piece_len(room: usize, words: usize) -> usize
     requires room { 8 ≤ room }
     ensures some { 8 ≤ result }
     ensures in_room { result ≤ room }
-    ensures in_piece { result * (8 * words) ≤ 2048 }
+    ensures in_piece { result * (8 * words) ≤ most_piece }
 {
-    room.min(256 / words)
+    room.min(PIECE / 8 / words)
 }
 
 // The word of eight bytes from a place on.

@@ -1,6 +1,7 @@
 -- which lists of planned steps are well formed
 use Rattle.std.specs.Prelude.{ℕ, zero, suc, ◌+◌, ◌≤◌, Bool, true, false, not, ◌&&◌, ◌||◌, ◌==◌, nat_lt, nat_le, IsTrue, List, [], ◌∷◌, ◌++◌, length, take, drop}
 use Rattle.std.specs.List.{list_all, list_any}
+use Rattle.rec_words.specs.Words.{most_variables}
 use Rattle.bool_tables.specs.declared.steps.Step.{Step}
 use Rattle.bool_tables.specs.declared.steps.Step.TheVariants.{Const, Var, Pair, Ite, Quantify, Restrict, Drop, Same, Leq, Eval, Size}
 use Rattle.bool_tables.specs.declared.steps.Planned.{Planned}
@@ -106,6 +107,6 @@ all_may_follow n text before (s ∷ steps) = may_follow n text before s && all_m
 
 -- the steps are a plan for n variables over the text of a script
 pub record IsWellFormed (n : ℕ) (text : List ℕ) (steps : List Planned) : Type 0 where
-  pub few_variables : n ≤ 65535
+  pub few_variables : n ≤ most_variables
   pub few_steps : length steps ≤ 1048576
   pub in_order : IsTrue (all_may_follow n text [] steps)

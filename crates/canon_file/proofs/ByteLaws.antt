@@ -7,26 +7,22 @@ use Rattle.std.proofs.lemmas.List.{length-append}
 use Rattle.bool_tables.specs.Tables.{low_half, high_half}
 use Rattle.rec_words.specs.Words.{terminal, IsNodeWord, IsPointer}
 use Rattle.rec_words.specs.Records.{IsNode}
+use Rattle.rec_words.specs.RecordLaws.{pointer_fits}
 use Rattle.rec_words.specs.declared.node.Node.{Node}
 use Rattle.canon_file.specs.declared.row.Row.{Row}
-use Rattle.canon_file.specs.Members.{Has}
+use Rattle.list_laws.specs.Members.{Has}
 use Rattle.canon_file.specs.Pieces.{splits, halves}
 use Rattle.canon_file.specs.Rows.{row_word, place_of, row_of, rows_with, pointer, levels, Fits}
 use Rattle.canon_file.specs.Canon.{numbered, nodes_of, canon_nodes, canon_root, node_bytes, trailer_bytes, canon_bytes}
 use Rattle.canon_file.proofs.RowLaws.{row_has}
-use Rattle.canon_file.proofs.StandLaws.{has_append, tables_unique}
+use Rattle.list_laws.proofs.MemberLaws.{has_append}
+use Rattle.canon_file.proofs.StandLaws.{tables_unique}
 
 -- words are read back
 word_apart : (x y : ℕ) (a b : List ℕ) → x < 2 ^ 64 → y < 2 ^ 64 → to_be_bytes w64 x ++ a ≡ to_be_bytes w64 y ++ b → (x ≡ y) × (a ≡ b)
 word_apart x y a b below-x below-y e =
     let bytes : to_be_bytes w64 x ≡ to_be_bytes w64 y = ap (take 8) e in
     (sym (from_be_bytes-to_be_bytes_8 x below-x) ∙ ap (from_be_bytes w64) bytes ∙ from_be_bytes-to_be_bytes_8 y below-y, ap (drop 8) e)
-
--- pointers fit a word
-pointer_fits : (w : ℕ) → IsPointer w → w < 2 ^ 64
-pointer_fits w (inl node) = omega arith
-pointer_fits w (inr (inl zeros)) = omega arith
-pointer_fits w (inr (inr ones)) = omega arith
 
 pub length-node_bytes : (xs : List Node) → length (node_bytes xs) ≡ 24 * length xs
 length-node_bytes [] = refl

@@ -4,7 +4,7 @@ use Rattle.std.proofs.Common.{refl, sym, ◌∙◌, ap, inl, inr}
 use Rattle.std.proofs.lemmas.List.{append-nil}
 use Rattle.bool_tables.proofs.Halves.{low_half-constant, high_half-constant, table_with_one}
 use Rattle.rec_words.specs.Words.{terminal}
-use Rattle.canon_file.specs.Members.{SameMembers}
+use Rattle.list_laws.specs.Members.{SameMembers}
 use Rattle.canon_file.specs.Pieces.{splits, halves}
 use Rattle.canon_file.specs.Rows.{pointer, levels}
 use Rattle.canon_file.specs.Canon.{nodes_of, canon_nodes, canon_root, node_bytes, trailer_bytes, canon_bytes}

@@ -6,15 +6,16 @@ use Rattle.bool_tables.specs.Tables.{low_half, high_half}
 use Rattle.rec_words.specs.Words.{level_of, terminal, IsTerminal}
 use Rattle.rec_words.specs.declared.node.Node.{Node}
 use Rattle.canon_file.specs.declared.row.Row.{Row}
-use Rattle.canon_file.specs.Members.{Has, SameMembers, ascending}
+use Rattle.list_laws.specs.Members.{Has, SameMembers, ascending}
 use Rattle.canon_file.specs.Pieces.{splits, halves}
 use Rattle.canon_file.specs.Rows.{row_before, row_word, place_of, row_of, rows_with, pointer, levels, Fits}
 use Rattle.canon_file.specs.Canon.{numbered, nodes_of, canon_nodes, canon_root}
 use Rattle.canon_file.specs.NodeFiles.{IsProper, IsDescending, EndsAt, IsNodeFile}
-use Rattle.canon_file.proofs.MemberLaws.{either_bit}
+use Rattle.std.proofs.lemmas.Bool.{cases_Bool}
 use Rattle.canon_file.proofs.PieceLaws.{unsplit, unsplit_same, half_has, has_low, has_high, length-low, length-high}
 use Rattle.canon_file.proofs.RowLaws.{row_has, pointer-split, pointer-unsplit, pointer_same, levels_same}
-use Rattle.canon_file.proofs.StandLaws.{pointer_deep, injective, has_append, nodes_deep, words_same}
+use Rattle.canon_file.proofs.StandLaws.{pointer_deep, injective, nodes_deep, words_same}
+use Rattle.list_laws.proofs.MemberLaws.{has_append}
 use Rattle.canon_file.proofs.ByteLaws.{nodes_are}
 
 -- the pieces of the next level have half the length
@@ -115,7 +116,7 @@ nodes_end zero i p = terminal_ends (get_or p 0 false)
 nodes_end (suc h) i p =
     let f : List Bool → ℕ = pointer h (suc i) (halves h (p ∷ [])) in
     let deeper : List Node = nodes_of (suc i) (levels h (suc i) (halves h (p ∷ []))) in
-    elim (either_bit (splits h p)) [
+    elim (cases_Bool (splits h p)) [
       | inl e ↦
           let r : Row = row_of f h p in
           let rows : rows_with f h (p ∷ []) ≡ r ∷ [] = ap (ascending row_before) (ap (map (row_of f h)) (λ j. cond (e j) (p ∷ []) [])) in

@@ -3,6 +3,8 @@ use Rattle.std.specs.Prelude.{◌≡◌, ℕ, zero, suc, ◌+◌, ◌-◌, ◌*�
 use Rattle.std.specs.Int.{w64, to_be_bytes}
 use Rattle.std.proofs.Common.{subst, refl, sym, ◌∙◌, ap, inl, inr, true≢false, arith}
 use Rattle.std.proofs.lemmas.Bool.Decides.{nat_tests}
+use Rattle.std.proofs.lemmas.List.Sums.{length-filter, count_by-le-length}
+use Rattle.list_laws.proofs.MemberLaws.{length-ascending}
 use Rattle.std.proofs.Math.Nat.{le-mul_of_pos_right, pow-le-pow_right}
 use Rattle.std.proofs.lemmas.Nat.{pow_pos, pow-add}
 use Rattle.std.proofs.lemmas.List.{append-nil, get_or_read, append_assoc, length-drop, length-map, drop_more, drop_all, get_or-take, get_or-drop}
@@ -11,14 +13,14 @@ use Rattle.bool_tables.proofs.Halves.{twice}
 use Rattle.rec_words.specs.declared.node.Node.{Node}
 use Rattle.rec_words.specs.Words.{terminal}
 use Rattle.canon_file.specs.declared.row.Row.{Row}
-use Rattle.canon_file.specs.Members.{Has, put, ascending, IsAscending}
+use Rattle.list_laws.specs.Members.{Has, put, ascending, IsAscending}
 use Rattle.canon_file.specs.Pieces.{splits, halves, pieces, part_at, parts}
 use Rattle.canon_file.specs.Rows.{row_before, row_word, place_of, row_of, rows_with, pointer, levels, Fits}
 use Rattle.canon_file.specs.Canon.{numbered, nodes_of, node_bytes, trailer_bytes, canon_nodes, canon_root, canon_bytes}
 use Rattle.canon_file.proofs.ByteLaws.{length-node_bytes}
 use Rattle.canon_file.specs.Laws.{HasForm}
 use Rattle.canon_file.specs.Pairs.{pairs, differs, distinct_rows, word_in, words_above}
-use Rattle.canon_file.proofs.MemberLaws.{ascending_ascends, ascending_keeps, has_filter}
+use Rattle.list_laws.proofs.MemberLaws.{ascending_ascends, ascending_keeps, has_filter}
 use Rattle.canon_file.proofs.RowLaws.{row_order}
 use Rattle.canon_file.proofs.PieceLaws.{half_has, has_low, has_high, length-low, length-high, unsplit_same, split_differ}
 use Rattle.canon_file.proofs.StandLaws.{injective}
@@ -80,32 +82,16 @@ module _ (h i : ℕ) (ps : List (List Bool)) (few : i + suc h ≤ 65535)
   words_are =
       (λ j. map (word_in i (rows_are j)) (pairs-halves (pointer h (suc i) (halves h ps)) h ps j)) ∙ words_of ps (λ q m. m)
 
-length-put : (r : Row) (rs : List Row) → length (put row_before r rs) ≤ suc (length rs)
-length-put r [] = omega arith
-length-put r (s ∷ rs) = by (row_before r s) (row_before s r) (length-put r rs)
-  where
-    by : (b c : Bool) → length (put row_before r rs) ≤ suc (length rs)
-        → length (cond b (r ∷ s ∷ rs) (cond c (s ∷ put row_before r rs) (s ∷ rs))) ≤ suc (suc (length rs))
-    by true c l = omega arith
-    by false true l = omega arith
-    by false false l = omega arith
-
-length-ascending : (rs : List Row) → length (ascending row_before rs) ≤ length rs
-length-ascending [] = omega arith
-length-ascending (r ∷ rs) = omega (arith, length-put r (ascending row_before rs), length-ascending rs)
-
-length-filter : {X : Type 0} (p : X → Bool) (xs : List X) → length (filter p xs) ≤ length xs
-length-filter p [] = omega arith
-length-filter p (x ∷ xs) = by (p x) (length-filter p xs)
-  where
-    by : (b : Bool) → length (filter p xs) ≤ length xs → length (cond b (x ∷ filter p xs) (filter p xs)) ≤ suc (length xs)
-    by true l = omega arith
-    by false l = omega arith
-
 -- a level has no more rows than pieces
 pub length-rows : (f : List Bool → ℕ) (h : ℕ) (ps : List (List Bool)) → length (rows_with f h ps) ≤ length ps
 length-rows f h ps =
-    omega (arith, length-ascending (map (row_of f h) (filter (splits h) ps)), length-map (filter (splits h) ps) (row_of f h), length-filter (splits h) ps)
+    omega (
+      arith,
+      length-ascending row_before (map (row_of f h) (filter (splits h) ps)),
+      length-map (filter (splits h) ps) (row_of f h),
+      length-filter (splits h) ps,
+      count_by-le-length (splits h) ps,
+    )
 
 length-pairs : (words : List ℕ) → length (pairs words) ≤ length words
 length-pairs [] = omega arith
@@ -113,7 +99,13 @@ length-pairs (x ∷ []) = omega arith
 length-pairs (x ∷ y ∷ words) = omega (arith, length-pairs words)
 
 pub length-distinct : (words : List ℕ) → length (distinct_rows words) ≤ length words
-length-distinct words = omega (arith, length-ascending (filter differs (pairs words)), length-filter differs (pairs words), length-pairs words)
+length-distinct words = omega (
+      arith,
+      length-ascending row_before (filter differs (pairs words)),
+      length-filter differs (pairs words),
+      count_by-le-length differs (pairs words),
+      length-pairs words,
+    )
 
 length-halves : (h : ℕ) (ps : List (List Bool)) → length (halves h ps) ≡ length ps + length ps
 length-halves h [] = refl

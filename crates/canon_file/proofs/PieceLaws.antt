@@ -4,7 +4,7 @@ use Rattle.std.proofs.Common.{refl, sym, ◌∙◌, ap, subst, inl, inr, true≢
 use Rattle.std.proofs.lemmas.List.{take-append-drop, take_at, drop_at, length-take-le, length-drop}
 use Rattle.bool_tables.specs.Tables.{low_half, high_half, same_bits}
 use Rattle.bool_tables.proofs.Halves.{twice}
-use Rattle.canon_file.specs.Members.{Has, SameMembers}
+use Rattle.list_laws.specs.Members.{Has, SameMembers}
 use Rattle.canon_file.specs.Pieces.{splits, halves}
 
 pub same_bits-self : (xs : List Bool) → same_bits xs xs ≡ true

@@ -3,12 +3,12 @@ use Rattle.std.specs.Prelude.{◌≡◌, ℕ, zero, suc, Bool, true, false, cond
 use Rattle.std.proofs.Common.{refl, ◌∙◌, subst, arith}
 use Rattle.std.proofs.lemmas.Bool.Decides.{nat_tests}
 use Rattle.bool_tables.specs.Tables.{low_half}
-use Rattle.canon_file.specs.Members.{Has, SameMembers, IsStrictOrder, ascending}
+use Rattle.list_laws.specs.Members.{Has, SameMembers, IsStrictOrder, ascending}
 use Rattle.canon_file.specs.Pieces.{splits, halves}
 use Rattle.canon_file.specs.declared.row.Row.{Row}
 use Rattle.canon_file.specs.Rows.{row_before, row_word, place_of, row_of, rows_with, pointer, levels}
 use Rattle.canon_file.specs.Laws.{AreRows}
-use Rattle.canon_file.proofs.MemberLaws.{has_map, map_has, has_filter, filter_has, ascending_ascends, has_ascending, ascending_keeps, same_ascending}
+use Rattle.list_laws.proofs.MemberLaws.{has_map, map_has, has_filter, filter_has, ascending_ascends, has_ascending, ascending_keeps, same_ascending}
 use Rattle.canon_file.proofs.PieceLaws.{halves_same}
 
 -- rows with the same words are the same

@@ -9,9 +9,10 @@ use Rattle.std.specs.declared.cmp.Ordering.TheVariants.{Less, Equal, Greater}
 use Rattle.std.proofs.Common.{refl, sym, ◌∙◌, ap, subst, inl, inr, arith}
 use Rattle.std.proofs.lemmas.Bool.Decides.{nat_tests}
 use Rattle.canon_file.specs.declared.row.Row.{Row}
-use Rattle.canon_file.specs.Members.{Has, IsAscending, put}
+use Rattle.list_laws.specs.Members.{Has, IsAscending, put}
 use Rattle.canon_file.specs.Rows.{row_before, place_of}
-use Rattle.canon_file.proofs.MemberLaws.{either_bit, put_ascends, put_keeps, has_put, same_ascending}
+use Rattle.std.proofs.lemmas.Bool.{cases_Bool}
+use Rattle.list_laws.proofs.MemberLaws.{put_ascends, put_keeps, has_put, same_ascending}
 use Rattle.canon_file.proofs.RowLaws.{same_row, row_order}
 use Rattle.canon_file.proofs.StandLaws.{words_same, placed}
 
@@ -36,7 +37,7 @@ index_rises : (r s x : Row) → row_before r s ≡ true → ordering_index (row_
 index_rises r s x e = grind (arith, nat_tests)
 
 cases_le : (i j : ℕ) → i ≤ j → (i < j) ⊎ (i ≡ j)
-cases_le i j b = elim (either_bit (i == j)) [ inl e ↦ inr (grind (arith, nat_tests)) | inr e ↦ inl (grind (arith, nat_tests)) ]
+cases_le i j b = elim (cases_Bool (i == j)) [ inl e ↦ inr (grind (arith, nat_tests)) | inr e ↦ inl (grind (arith, nat_tests)) ]
 
 pub has_at : (rs : List Row) (k : ℕ) (d : Row) → k < length rs → Has (get_or rs k d) rs
 has_at [] k d l = absurd (omega arith)
@@ -106,7 +107,7 @@ search_found rs x (Err k) a h s =
     let (below, here) = placed x rs x h in
     let split = s (rises rs x a) in
     let same : row_cmp (get_or rs (place_of x rs) x) x ≡ Equal = ap (λ y. row_cmp y x) here ∙ itself_equal x in
-    elim (either_bit (nat_lt (place_of x rs) k)) [
+    elim (cases_Bool (nat_lt (place_of x rs) k)) [
       | inl e ↦ (let less : row_cmp (get_or rs (place_of x rs) x) x ≡ Less = split.0 (place_of x rs) x (omega arith) (grind (arith, nat_tests)) in cc)
       | inr e ↦ (let greater : row_cmp (get_or rs (place_of x rs) x) x ≡ Greater = split.1 (place_of x rs) x (grind (arith, nat_tests)) below in cc)
     ]

@@ -7,12 +7,13 @@ use Rattle.bool_tables.specs.Tables.{low_half, high_half}
 use Rattle.rec_words.specs.declared.node.Node.{Node}
 use Rattle.rec_words.specs.Words.{terminal}
 use Rattle.canon_file.specs.declared.row.Row.{Row}
-use Rattle.canon_file.specs.Members.{Has}
+use Rattle.list_laws.specs.Members.{Has}
 use Rattle.canon_file.specs.Pieces.{splits, halves}
 use Rattle.canon_file.specs.Rows.{row_word, place_of, row_of, rows_with, pointer, levels, Fits}
 use Rattle.canon_file.specs.Canon.{numbered, nodes_of, canon_nodes, canon_root}
 use Rattle.canon_file.specs.Walks.{is_at, table_of, nowhere, row_at, Agrees}
-use Rattle.canon_file.proofs.MemberLaws.{either_bit}
+use Rattle.std.proofs.lemmas.Bool.{cases_Bool}
+pub use Rattle.list_laws.proofs.MemberLaws.{has_append}
 use Rattle.canon_file.proofs.PieceLaws.{length-low, length-high, joined, unsplit, has_low, has_high}
 use Rattle.canon_file.proofs.RowLaws.{same_row, has_row}
 
@@ -64,7 +65,7 @@ pointer_stands arcs (suc h) i ps p l a f m n =
     let below : List Bool → ℕ = pointer h (suc i) (halves h ps) in
     let low : table_of arcs h (suc i) (below (low_half h p)) ≡ low_half h p = pointer_stands arcs h (suc i) (halves h ps) (low_half h p) (omega arith) a.1 f.1 (has_low h p ps m) (length-low h p n) in
     let high : table_of arcs h (suc i) (below (high_half h p)) ≡ high_half h p = pointer_stands arcs h (suc i) (halves h ps) (high_half h p) (omega arith) a.1 f.1 (has_high h p ps m) (length-high h p n) in
-    elim (either_bit (splits h p)) [
+    elim (cases_Bool (splits h p)) [
       | inl e ↦
           let r = row_of below h p in
           let at = placed r (rows_with below h ps) nowhere (has_row below h p ps m e) in
@@ -98,11 +99,6 @@ numbered_at : (i k : ℕ) (rs : List Row) (x : Node) → Has x (numbered i k rs)
 numbered_at i k [] x h = absurd h
 numbered_at i k (r ∷ rs) x (inl e) = let same : row_word i k ≡ x.uid = ap (λ (y : Node). y.uid) e in omega arith
 numbered_at i k (r ∷ rs) x (inr h) = numbered_at i (suc k) rs x h
-
-pub has_append : {X : Type 0} (x : X) (xs ys : List X) → Has x (xs ++ ys) → Has x xs ⊎ Has x ys
-has_append x [] ys h = inr h
-has_append x (y ∷ xs) ys (inl e) = inl (inl e)
-has_append x (y ∷ xs) ys (inr h) = elim (has_append x xs ys h) [ inl m ↦ inl (inr m) | inr m ↦ inr m ]
 
 -- the nodes of level i and of deeper ones are of level i at least
 pub nodes_deep : (i : ℕ) (ls : List (List Row)) (x : Node) → Has x (nodes_of i ls) → i * 2 ^ 47 ≤ x.uid

@@ -8,7 +8,7 @@ use Rattle.bool_tables.specs.Steps.{step_table}
 use Rattle.bool_tables.specs.declared.steps.Step.TheVariants.{Var}
 use Rattle.bool_tables.proofs.Halves.{low_half-var, high_half-var, low_half-first, high_half-first, low_half-constant, high_half-constant}
 use Rattle.rec_words.specs.Words.{terminal}
-use Rattle.canon_file.specs.Members.{SameMembers}
+use Rattle.list_laws.specs.Members.{SameMembers}
 use Rattle.canon_file.specs.Pieces.{splits, halves}
 use Rattle.canon_file.specs.declared.row.Row.{Row}
 use Rattle.canon_file.specs.Rows.{row_word, place_of, row_of, rows_with, pointer, levels}

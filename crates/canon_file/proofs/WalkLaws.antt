@@ -6,12 +6,12 @@ use Rattle.bool_tables.specs.Tables.{low_half, high_half, value_at, place_of_bit
 use Rattle.bool_tables.proofs.Halves.{twice}
 use Rattle.rec_words.specs.Words.{terminal}
 use Rattle.canon_file.specs.declared.row.Row.{Row}
-use Rattle.canon_file.specs.Members.{Has}
+use Rattle.list_laws.specs.Members.{Has}
 use Rattle.canon_file.specs.Pieces.{splits, halves}
 use Rattle.canon_file.specs.Rows.{row_word, place_of, row_of, rows_with, pointer, levels, Fits}
 use Rattle.canon_file.specs.Canon.{canon_nodes, canon_root}
 use Rattle.canon_file.specs.Walks.{is_at, walk, nowhere, row_at, Agrees}
-use Rattle.canon_file.proofs.MemberLaws.{either_bit}
+use Rattle.std.proofs.lemmas.Bool.{cases_Bool}
 use Rattle.canon_file.proofs.PieceLaws.{length-low, length-high, unsplit, has_low, has_high}
 use Rattle.canon_file.proofs.RowLaws.{has_row, pointer-unsplit, pointer-split}
 use Rattle.canon_file.proofs.StandLaws.{at_level, deeper_at, pointer_deep, placed, agrees}
@@ -59,7 +59,7 @@ onward-pointer : (arcs : ℕ → Row) (h i : ℕ) (b : Bool) (ps : List (List Bo
     → Agrees arcs i (levels (suc h) i ps) → Has p ps → onward arcs i b (pointer (suc h) i ps p) ≡ pointer h (suc i) (halves h ps) (half h b p)
 onward-pointer arcs h i b ps p l a m =
     let below : List Bool → ℕ = pointer h (suc i) (halves h ps) in
-    elim (either_bit (splits h p)) [
+    elim (cases_Bool (splits h p)) [
       | inl e ↦
           let r : Row = row_of below h p in
           let w : ℕ = row_word i (place_of r (rows_with below h ps)) in

@@ -1,18 +1,18 @@
 -- the laws of canonical forms
 use Rattle.std.specs.Prelude.{◌≡◌, ◌↔◌, ℕ, ◌+◌, ◌^◌, ◌≤◌, Bool, true, List, [], ◌∷◌, length}
 use Rattle.bool_tables.specs.Tables.{value_at, place_of_bits}
-use Rattle.rec_words.specs.Words.{terminal}
+use Rattle.rec_words.specs.Words.{most_variables, terminal}
 use Rattle.canon_file.specs.declared.row.Row.{Row}
-use Rattle.canon_file.specs.Members.{Has, IsAscending}
+use Rattle.list_laws.specs.Members.{Has, IsAscending}
 use Rattle.canon_file.specs.Pieces.{splits, pieces, parts}
 use Rattle.canon_file.specs.Rows.{row_before, row_of, rows_with, levels, Fits}
 use Rattle.canon_file.specs.Canon.{canon_nodes, canon_root, canon_bytes}
 use Rattle.canon_file.specs.NodeFiles.{IsNodeFile}
 use Rattle.canon_file.specs.Walks.{walk, table_of, row_at}
 
--- the table has n variables, at most 65535, and its canonical form is defined: no level has more rows than numbers
+-- the table has n variables, no more than there are levels, and its canonical form is defined: no level has more rows than numbers
 pub record HasForm (n : ℕ) (t : List Bool) : Type 0 where
-  pub few : n ≤ 65535
+  pub few : n ≤ most_variables
   pub whole : length t ≡ 2 ^ n
   pub fits : Fits (levels n 0 (t ∷ []))
 

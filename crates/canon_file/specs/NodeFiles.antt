@@ -3,7 +3,7 @@ use Rattle.std.specs.Prelude.{◌≡◌, ◌≢◌, ℕ, ◌<◌, Bool, List, []
 use Rattle.rec_words.specs.Words.{level_of, IsTerminal}
 use Rattle.rec_words.specs.Records.{IsNode}
 use Rattle.rec_words.specs.declared.node.Node.{Node}
-use Rattle.canon_file.specs.Members.{Has}
+use Rattle.list_laws.specs.Members.{Has}
 use Rattle.canon_file.specs.Canon.{canon_nodes, canon_root}
 
 -- the node may stand in a file for n variables: its level is below n, and its two pointers differ, each a truth value or a node of a deeper level

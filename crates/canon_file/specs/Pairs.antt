@@ -1,7 +1,7 @@
 -- the pointers of a level's pieces, from those of the next level
 use Rattle.std.specs.Prelude.{ℕ, ◌==◌, Bool, not, cond, List, [], ◌∷◌, map, filter}
 use Rattle.canon_file.specs.declared.row.Row.{Row}
-use Rattle.canon_file.specs.Members.{ascending}
+use Rattle.list_laws.specs.Members.{ascending}
 use Rattle.canon_file.specs.Rows.{row_before, row_word, place_of}
 
 -- the first pointer with the second one, the third with the fourth, and so on

@@ -1,9 +1,9 @@
 -- the pointer of a piece, and the rows of a level
-use Rattle.std.specs.Prelude.{ℕ, zero, suc, ◌-◌, ◌^◌, ◌==◌, ◌≤◌, nat_lt, Bool, false, cond, ◌&&◌, ◌||◌, List, [], ◌∷◌, length, get_or, map, filter}
+use Rattle.std.specs.Prelude.{ℕ, zero, suc, ◌-◌, ◌==◌, ◌≤◌, nat_lt, Bool, false, cond, ◌&&◌, ◌||◌, List, [], ◌∷◌, length, get_or, map, filter}
 use Rattle.bool_tables.specs.Tables.{low_half, high_half}
-use Rattle.rec_words.specs.Words.{terminal, node_word}
+use Rattle.rec_words.specs.Words.{level_numbers, terminal, node_word}
 use Rattle.canon_file.specs.declared.row.Row.{Row}
-use Rattle.canon_file.specs.Members.{ascending}
+use Rattle.list_laws.specs.Members.{ascending}
 use Rattle.canon_file.specs.Pieces.{splits, halves}
 
 -- rows ascend by the low word, and then by the high word
@@ -12,7 +12,7 @@ row_before r s = nat_lt r.low s.low || ((r.low == s.low) && nat_lt r.high s.high
 
 -- the word of the node of the row at place k of level i: its number is the k-th from the top
 abbrev pub row_word : ℕ → ℕ → ℕ
-row_word i k = node_word i (2 ^ 47 - 1 - k)
+row_word i k = node_word i (level_numbers - 1 - k)
 
 -- how many rows come before the first that is r
 abbrev pub place_of : Row → List Row → ℕ
@@ -43,4 +43,4 @@ levels (suc h) i ps = rows_with (pointer h (suc i) (halves h ps)) h ps ∷ level
 -- no level has more rows than it has numbers
 abbrev pub Fits : List (List Row) → Type 0
 Fits [] = Unit {0}
-Fits (rs ∷ deeper) = (length rs ≤ 2 ^ 47) × Fits deeper
+Fits (rs ∷ deeper) = (length rs ≤ level_numbers) × Fits deeper

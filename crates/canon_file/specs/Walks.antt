@@ -1,12 +1,13 @@
 -- what a pointer stands for, where the two pointers of each node are given
 use Rattle.std.specs.Prelude.{◌≡◌, ℕ, zero, suc, ◌+◌, ◌*◌, ◌^◌, ◌<◌, ◌==◌, nat_lt, Bool, cond, List, [], ◌∷◌, ◌++◌, length, get_or}
+use Rattle.rec_words.specs.Words.{level_numbers}
 use Rattle.rec_words.specs.declared.node.Node.{Node}
 use Rattle.canon_file.specs.declared.row.Row.{Row}
 use Rattle.canon_file.specs.Rows.{row_word}
 
 -- the pointer, which is of level i or deeper, is of level i
 abbrev pub is_at : ℕ → ℕ → Bool
-is_at i w = nat_lt w (suc i * 2 ^ 47)
+is_at i w = nat_lt w (suc i * level_numbers)
 
 -- the pointer in which the walk ends that begins at w on level i and takes the low or high side that each digit says
 abbrev pub walk : (ℕ → Row) → ℕ → List Bool → ℕ → ℕ

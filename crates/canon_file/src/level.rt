@@ -1,7 +1,8 @@
 //! One level of a diagram, made of the pointers of the next one.
-ghost use Rattle.std.specs.Prelude.{◌≡◌, ◌<◌, ◌≤◌, ◌^◌, ◌++◌, true, [], ◌∷◌, length, map, filter, IfOk, OnOk};
+ghost use Rattle.std.specs.Prelude.{◌≡◌, ◌<◌, ◌≤◌, ◌++◌, true, [], ◌∷◌, length, map, filter, IfOk, OnOk};
 ghost use Rattle.std.specs.Int.{w64, to_be_bytes};
-ghost use Rattle.canon_file.specs.Members.{Has, ascending, put, IsAscending};
+ghost use Rattle.rec_words.specs.Words.{deepest_level, level_numbers};
+ghost use Rattle.list_laws.specs.Members.{Has, ascending, put, IsAscending};
 ghost use Rattle.canon_file.specs.Rows.{row_before, place_of};
 ghost use Rattle.canon_file.specs.Canon.{numbered, node_bytes};
 ghost use Rattle.canon_file.specs.Pairs.{pairs, differs, distinct_rows, word_in, words_above};
@@ -10,9 +11,6 @@ use crate::Row;
 use rec_words::Ptr;
 use std::alloc::{AllocError, Global};
 
-/// The number of the first row of a level.
-const TOP: u64 = (1 << 47) - 1;
-
 /// Adds the nodes of a level to the bytes, and gives the pointers of the level's pieces.
 pub fn add_level(
     alloc: Global,
@@ -20,8 +18,8 @@ pub fn add_level(
     pointers: &[Ptr],
     bytes: &mut Vec<u8>,
 ) -> Result<Vec<Ptr>, AllocError>
-    requires level { level ≤ 65534 }
-    requires few { length pointers.now ≤ 2 ^ 47 }
+    requires level { level ≤ deepest_level }
+    requires few { length pointers.now ≤ level_numbers }
     ensures pointers { IfOk result (λ above. above.items ≡ words_above level pointers.now) }
     ensures nodes { OnOk result (bytes.new.items ≡ bytes.old.items ++ node_bytes (numbered level 0 (distinct_rows pointers.now))) }
 {
@@ -71,12 +69,12 @@ fn put_row(rows: &mut Vec<Row>, row: Row) -> Result<(), AllocError>
 
 /// Adds the nodes of a level's rows to the bytes.
 fn add_nodes(level: u16, rows: &[Row], bytes: &mut Vec<u8>) -> Result<(), AllocError>
-    requires level { level ≤ 65534 }
-    requires few { length rows.now ≤ 2 ^ 47 }
+    requires level { level ≤ deepest_level }
+    requires few { length rows.now ≤ level_numbers }
     ensures { OnOk result (bytes.new.items ≡ bytes.old.items ++ node_bytes (numbered level 0 rows.now)) }
 {
     for (k, row) in rows.iter().enumerate() {
-        add_node(Ptr::node(level, TOP - k as u64), *row, bytes)?;
+        add_node(Ptr::of_row(level, k as u64), *row, bytes)?;
     }
     Ok(())
 }
@@ -104,9 +102,9 @@ fn pointers_of(
     pairs: &[Row],
     rows: &[Row],
 ) -> Result<Vec<Ptr>, AllocError>
-    requires level { level ≤ 65534 }
+    requires level { level ≤ deepest_level }
     requires ascend { IsAscending row_before rows.now }
-    requires few { length rows.now ≤ 2 ^ 47 }
+    requires few { length rows.now ≤ level_numbers }
     requires known { (r : Row) → Has r pairs.now → differs r ≡ true → Has r rows.now }
     ensures { IfOk result (λ pointers. pointers.items ≡ map (word_in level rows.now) pairs.now) }
 {
@@ -119,16 +117,16 @@ fn pointers_of(
 
 /// The pointer of a piece with this pair.
 fn pointer_of(level: u16, pair: Row, rows: &[Row]) -> Ptr
-    requires level { level ≤ 65534 }
+    requires level { level ≤ deepest_level }
     requires ascend { IsAscending row_before rows.now }
-    requires few { length rows.now ≤ 2 ^ 47 }
+    requires few { length rows.now ≤ level_numbers }
     requires known { differs pair ≡ true → Has pair rows.now }
     ensures { result ≡ word_in level rows.now pair }
 {
     if pair.low == pair.high {
         return pair.low;
     }
-    Ptr::node(level, TOP - place_in(rows, pair) as u64)
+    Ptr::of_row(level, place_in(rows, pair) as u64)
 }
 
 /// The place of one of these rows.

@@ -3,7 +3,7 @@ ghost use Rattle.rec_words.specs.Words.{terminal};
 ghost use Rattle.canon_file.specs.Canon.{trailer_bytes, canon_bytes};
 
 use crate::level::{add_level, add_word};
-use rec_words::Ptr;
+use rec_words::{NODE_SIZE, Ptr};
 use std::alloc::{AllocError, Global};
 
 /// The canonical file of a table of at most 20 variables, made level by level from the whole table.
@@ -19,7 +19,7 @@ pub fn plain_canon(alloc: Global, n: u32, table: &[bool]) -> Result<Vec<u8>, All
         let level = (n - 1 - done) as u16;
         pointers = add_level(alloc, level, pointers.as_slice(), &mut bytes)?;
     }
-    let count = bytes.len() as u64 / 24;
+    let count = bytes.len() as u64 / NODE_SIZE;
     add_trailer(pointers[0], count, u64::from(n), &mut bytes)?;
     Ok(bytes)
 }

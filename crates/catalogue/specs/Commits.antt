@@ -6,7 +6,7 @@ use Rattle.shelf_model.specs.Folder.{Folder, Image, file_in, bytes_in, IsImage}
 use Rattle.shelf_model.specs.World.{Moment}
 use Rattle.catalogue.specs.declared.layout.Entry.{Entry}
 use Rattle.catalogue.specs.Entries.{entry_bytes}
-use Rattle.catalogue.specs.Files.{job_gate, catalogue, step_gate}
+use Rattle.catalogue.specs.Files.{entry_size, job_gate, catalogue, step_gate}
 use Rattle.catalogue.specs.Counts.{HasCount, entry_at}
 
 -- in every image a job is stored and n steps are committed, and the catalogue is as long as their entries
@@ -14,7 +14,7 @@ pub record IsReady (n : ℕ) (folder : Folder) : Type 0 where
   pub stored : 0 < (file_in folder job_gate).firm
   pub gate : file_in folder step_gate ≡ firm_file (file_in folder step_gate).bytes
   pub count : length (file_in folder step_gate).bytes ≡ n
-  pub covers : 128 * n ≤ length (file_in folder catalogue).bytes
+  pub covers : entry_size * n ≤ length (file_in folder catalogue).bytes
 
 -- one step more than the entry's number is committed, and the entry stands in its place
 pub record IsCounted (e : Entry) (r : FileNo → List ℕ) : Type 0 where
@@ -27,7 +27,7 @@ pub record DuringCommit (e : Entry) (old m : Moment) : Type 0 where
       → file_in m.folder q ≡ file_in old.folder q
   pub images : (image : Image) → IsImage m.folder image
       → HasCount e.number (bytes_in image) ⊎ IsCounted e (bytes_in image)
-  pub kept : (front : List ℕ) → length front ≤ 128 * e.number
+  pub kept : (front : List ℕ) → length front ≤ entry_size * e.number
       → IsKept front (file_in old.folder catalogue) → IsKept front (file_in m.folder catalogue)
 
 -- after a commit each image has one more, with the entry in its place behind the earlier ones
@@ -35,6 +35,6 @@ pub record IsCommitted (e : Entry) (old new : Folder) : Type 0 where
   pub ready : IsReady (e.number + 1) new
   pub images : (image : Image) → IsImage new image → IsCounted e (bytes_in image)
   pub catalogue_is : file_in new catalogue
-      ≡ firm_file (take (128 * e.number) (file_in old catalogue).bytes ++ entry_bytes e)
-  pub kept : (front : List ℕ) → length front ≡ 128 * e.number
+      ≡ firm_file (take (entry_size * e.number) (file_in old catalogue).bytes ++ entry_bytes e)
+  pub kept : (front : List ℕ) → length front ≡ entry_size * e.number
       → IsKept front (file_in old catalogue) → IsKept (front ++ entry_bytes e) (file_in new catalogue)

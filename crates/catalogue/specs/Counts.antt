@@ -2,7 +2,7 @@
 use Rattle.std.specs.Prelude.{◌≡◌, ℕ, ◌*◌, Bool, IsTrue, List, length, take, drop, nat_lt, if◌then◌else◌}
 use Rattle.shelf_model.specs.declared.file_no.FileNo.{FileNo}
 use Rattle.shelf_model.specs.Folder.{Folder, file_in}
-use Rattle.catalogue.specs.Files.{job_gate, catalogue, step_gate}
+use Rattle.catalogue.specs.Files.{entry_size, job_gate, catalogue, step_gate}
 
 -- what a read gives of each file of a folder
 abbrev pub present : Folder → FileNo → List ℕ
@@ -16,9 +16,9 @@ is_stored r = nat_lt 0 (length (r job_gate))
 abbrev pub count_in : (FileNo → List ℕ) → ℕ
 count_in r = if is_stored r then length (r step_gate) else 0
 
--- the bytes at the place of a step's entry: 128, or fewer where the catalogue ends
+-- the bytes at the place of a step's entry: those of an entry, or fewer where the catalogue ends
 abbrev pub entry_at : ℕ → (FileNo → List ℕ) → List ℕ
-entry_at k r = take 128 (drop (128 * k) (r catalogue))
+entry_at k r = take entry_size (drop (entry_size * k) (r catalogue))
 
 -- a job is stored, and so many steps are committed
 pub record HasCount (n : ℕ) (r : FileNo → List ℕ) : Type 0 where

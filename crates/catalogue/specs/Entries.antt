@@ -4,7 +4,7 @@ use Rattle.byteorder.specs.Endian.{big_bytes}
 use Rattle.shelf_model.specs.declared.file_no.FileNo.{FileNo}
 use Rattle.shelf_model.specs.declared.fault.StreamFault.{StreamFault}
 use Rattle.shelf_model.specs.declared.fault.StreamFault.TheVariants.{Shelf, Damaged}
-use Rattle.catalogue.specs.Files.{catalogue}
+use Rattle.catalogue.specs.Files.{entry_size, catalogue}
 use Rattle.catalogue.specs.Counts.{entry_at}
 use Rattle.catalogue.specs.declared.layout.Entry.{Entry}
 
@@ -45,4 +45,4 @@ pub record IsEntryOf (k : ℕ) (r : FileNo → List ℕ) (e : Entry) : Type 0 wh
 -- the entry of step k is damaged exactly where no entry of that step stands whole at its place
 abbrev pub IsEntryFault : ℕ → (FileNo → List ℕ) → StreamFault → Type 0
 IsEntryFault k r Shelf = Unit
-IsEntryFault k r (Damaged f at) = (f ≡ catalogue) × (at ≡ 128 * k) × ((e : Entry) → ¬ (IsEntryOf k r e))
+IsEntryFault k r (Damaged f at) = (f ≡ catalogue) × (at ≡ entry_size * k) × ((e : Entry) → ¬ (IsEntryOf k r e))

@@ -1,4 +1,5 @@
 -- The files that hold the job, the entries of its committed steps, and the gates of both.
+use Rattle.std.specs.Prelude.{ℕ}
 use Rattle.shelf_model.specs.declared.file_no.FileNo.{FileNo}
 
 -- the bytes of the job
@@ -16,3 +17,7 @@ catalogue = record { step = 4294967295; part = 2 }
 -- it has one byte for each committed step
 abbrev pub step_gate : FileNo
 step_gate = record { step = 4294967295; part = 3 }
+
+-- the bytes of an entry
+abbrev pub entry_size : ℕ
+entry_size = 128

@@ -9,7 +9,7 @@ use Rattle.shelf_model.specs.Moments.{OnlyOldImages}
 use Rattle.catalogue.specs.declared.fault.AttachFault.{AttachFault}
 use Rattle.catalogue.specs.declared.fault.AttachFault.TheVariants.{Damaged, OtherJob}
 use Rattle.catalogue.specs.declared.standing.Standing.{Standing}
-use Rattle.catalogue.specs.Files.{job_file, job_gate, catalogue, step_gate}
+use Rattle.catalogue.specs.Files.{entry_size, job_file, job_gate, catalogue, step_gate}
 use Rattle.catalogue.specs.Counts.{present, is_stored, HasCount}
 use Rattle.catalogue.specs.Commits.{IsReady}
 
@@ -17,7 +17,7 @@ use Rattle.catalogue.specs.Commits.{IsReady}
 abbrev pub counted_standing : ℕ → ℕ → ℕ → Result Standing AttachFault
 counted_standing steps done size =
     if nat_lt steps done then Err (Damaged step_gate steps)
-    else (if nat_lt size (128 * done) then Err (Damaged catalogue (128 * (size / 128)))
+    else (if nat_lt size (entry_size * done) then Err (Damaged catalogue (entry_size * (size / entry_size)))
     else Ok (record { fresh = false; done = done }))
 
 -- fresh where no job is stored; another one is refused at the first byte that differs, or the shorter length

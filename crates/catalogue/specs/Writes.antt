@@ -1,17 +1,19 @@
 -- What holds at each moment while a file is written.
-use Rattle.std.specs.Prelude.{◌≡◌, ◌≢◌, ℕ, ◌+◌, ◌/◌, ◌≤◌, max, List, length}
+use Rattle.std.specs.Prelude.{◌≡◌, ℕ, ◌+◌, ◌-◌, ◌/◌, ◌≤◌, max, List, length}
 use Rattle.shelf_model.specs.declared.file_no.FileNo.{FileNo}
 use Rattle.shelf_model.specs.File.{IsKept}
 use Rattle.shelf_model.specs.Folder.{file_in}
 use Rattle.shelf_model.specs.World.{Moment}
+use Rattle.shelf_model.specs.Calls.{most_piece}
+use Rattle.shelf_model.specs.Moments.{OnlyChanged}
 
--- how many pieces of at most 2,048 bytes that many bytes make
+-- how many pieces that many bytes make
 abbrev pub pieces : ℕ → ℕ
-pieces n = (n + 2047) / 2048
+pieces n = (n + (most_piece - 1)) / most_piece
 
 -- every other file is as it was then
 abbrev pub OthersStay : FileNo → Moment → Moment → Type 0
-OthersStay f old m = (q : FileNo) → q ≢ f → file_in m.folder q ≡ file_in old.folder q
+OthersStay f old m = OnlyChanged (λ q. q ≡ f) old m
 
 -- while n bytes are put at the end of a file: what it kept it keeps
 pub record Growing (f : FileNo) (n : ℕ) (old m : Moment) : Type 0 where

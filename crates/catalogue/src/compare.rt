@@ -9,8 +9,7 @@ ghost use Rattle.catalogue.specs.Files.{job_file};
 ghost use Rattle.catalogue.specs.Writes.{pieces};
 
 use crate::files::JOB;
-use crate::writes::PIECE;
-use shelf_model::{Failed, Shelf};
+use shelf_model::{Failed, PIECE, Shelf};
 
 // How many bytes from the front on are the same.
 fn shared_len(a: &[u8], b: &[u8]) -> usize

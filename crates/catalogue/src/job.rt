@@ -15,6 +15,7 @@ ghost use Rattle.catalogue.specs.Standings.{DuringSyncs, DuringStore, DuringAtta
 use crate::compare::shared_with_stored;
 use crate::fault::AttachFault;
 use crate::files::{CATALOGUE, JOB, JOB_GATE, STEP_GATE};
+use crate::layout::ENTRY_SIZE;
 use crate::standing::Standing;
 use crate::writes::{lengthen, replace_from};
 use shelf_model::{Failed, Shelf};
@@ -123,10 +124,11 @@ fn count_steps<S: Shelf>(steps: u32, shelf: &mut S) -> Result<Standing, AttachFa
         });
     }
     let size = shelf.len(CATALOGUE)?;
-    if size < 128 * done {
+    let entry = ENTRY_SIZE as u64;
+    if size < entry * done {
         return Err(AttachFault::Damaged {
             file: CATALOGUE,
-            at: 128 * (size / 128),
+            at: entry * (size / entry),
         });
     }
     Ok(Standing {

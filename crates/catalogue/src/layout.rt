@@ -6,6 +6,9 @@
 //! 33 bytes 0.
 use byteorder::{BigEndian, ByteOrder};
 
+/// The bytes of an entry.
+pub const ENTRY_SIZE: usize = 128;
+
 /// What a committed step left.
 #[derive(Clone, Copy, Debug, PartialEq, Eq)]
 pub struct Entry {
@@ -29,15 +32,16 @@ pub struct Entry {
 
 impl Entry {
     ghost use Rattle.std.specs.Prelude.{◌≡◌, ◌↔◌, ◌≤◌, IsTrue, Some, IfSome, All, drop, length};
+    ghost use Rattle.catalogue.specs.Files.{entry_size};
     ghost use Rattle.catalogue.specs.Entries.{entry_bytes, IsEntry, KeepsLayout, Fits};
 
     /// The bytes of the entry.
     #[tactic(auto, unfolding(crate::specs::Entries::entry_bytes))]
-    pub(crate) fn to_bytes(&self) -> [u8; 128]
+    pub(crate) fn to_bytes(&self) -> [u8; ENTRY_SIZE]
         ensures bytes { result ≡ entry_bytes self.now }
-        ensures len { length result ≡ 128 }
+        ensures len { length result ≡ entry_size }
     {
-        let mut bytes = [0u8; 128];
+        let mut bytes = [0u8; ENTRY_SIZE];
         BigEndian::write_u32(&mut bytes[0..4], self.number);
         bytes[4] = self.kind;
         bytes[5] = self.answer;
@@ -50,7 +54,7 @@ impl Entry {
     }
 
     /// The entry that the bytes are, where they are one.
-    pub(crate) fn from_bytes(bytes: &[u8; 128]) -> Option<Entry>
+    pub(crate) fn from_bytes(bytes: &[u8; ENTRY_SIZE]) -> Option<Entry>
         ensures found { IfSome result (λ e. IsEntry e × (entry_bytes e ≡ bytes.now)) }
         ensures only { (e : Entry) → IsEntry e → entry_bytes e ≡ bytes.now → result ≡ Some e }
     {
@@ -63,7 +67,7 @@ impl Entry {
     }
 
     // The fields at their places, whatever stands there.
-    fn fields_of(bytes: &[u8; 128]) -> Entry
+    fn fields_of(bytes: &[u8; ENTRY_SIZE]) -> Entry
         ensures fits { Fits result }
         ensures read { (e : Entry) → Fits e → entry_bytes e ≡ bytes.now → e ≡ result }
     {

@@ -17,6 +17,6 @@ mod writes;
 pub use fault::AttachFault;
 pub use files::{CATALOGUE, JOB, JOB_GATE, STEP_GATE};
 pub use job::attach;
-pub use layout::Entry;
+pub use layout::{ENTRY_SIZE, Entry};
 pub use standing::Standing;
 pub use steps::{commit, entry};

@@ -9,7 +9,7 @@ ghost use Rattle.catalogue.specs.Entries.{IsEntryOf, IsEntryFault};
 ghost use Rattle.catalogue.specs.Commits.{IsReady, DuringCommit, IsCommitted};
 
 use crate::files::{CATALOGUE, STEP_GATE};
-use crate::layout::Entry;
+use crate::layout::{ENTRY_SIZE, Entry};
 use crate::writes::{lengthen, replace_from};
 use shelf_model::{Failed, Shelf, StreamFault};
 
@@ -29,14 +29,14 @@ pub fn entry<S: Shelf>(k: u32, shelf: &mut S) -> Result<Entry, StreamFault>
         → (S.world shelf.new).clock ≤ (S.world shelf.old).clock + 1 }
     ensures faults { OnlyShelf (S.faults shelf.old) (S.faults shelf.new) result }
 {
-    let at = 128 * k as u64;
+    let at = ENTRY_SIZE as u64 * k as u64;
     let damaged = StreamFault::Damaged {
         file: CATALOGUE,
         at,
     };
-    let mut bytes = [0u8; 128];
+    let mut bytes = [0u8; ENTRY_SIZE];
     let got = shelf.read_at(CATALOGUE, at, &mut bytes)?;
-    if got < 128 {
+    if got < ENTRY_SIZE {
         return Err(damaged);
     }
     let Some(entry) = Entry::from_bytes(&bytes) else {
@@ -65,6 +65,6 @@ pub fn commit<S: Shelf>(entry: &Entry, shelf: &mut S) -> Result<(), Failed>
     ensures faults { OnlyFolder (S.faults shelf.old) (S.faults shelf.new) result }
 {
     let number = entry.number as u64;
-    replace_from(CATALOGUE, 128 * number, &entry.to_bytes(), shelf)?;
+    replace_from(CATALOGUE, ENTRY_SIZE as u64 * number, &entry.to_bytes(), shelf)?;
     lengthen(STEP_GATE, number, shelf)
 }

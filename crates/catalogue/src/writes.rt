@@ -7,10 +7,7 @@ ghost use Rattle.shelf_model.specs.Moments.{Ran};
 ghost use Rattle.shelf_model.specs.Faults.{OnlyFolder};
 ghost use Rattle.catalogue.specs.Writes.{pieces, Growing, Replacing, Lengthening};
 
-use shelf_model::{Failed, FileNo, Shelf};
-
-/// The most bytes that one call of a shelf moves.
-pub(crate) const PIECE: usize = 2048;
+use shelf_model::{Failed, FileNo, PIECE, Shelf};
 
 // Puts bytes at the end of a file, whose length is `at`.
 fn append_all<S: Shelf>(f: FileNo, at: u64, bytes: &[u8], shelf: &mut S) -> Result<(), Failed>

@@ -17,16 +17,11 @@ use Rattle.canon_file.specs.Canon.{node_bytes, trailer_bytes}
 use Rattle.canon_file.proofs.ByteLaws.{length-node_bytes}
 use Rattle.block_stream.specs.declared.reading.Reading.{Reading}
 use Rattle.block_stream.specs.Records.{records_of, record_of, record_at}
+use Rattle.rec_words.specs.RecordLaws.{pointer_fits}
 use Rattle.block_stream.specs.Reads.{IsRecordOf, place_of}
 use Rattle.block_stream.specs.Items.{item_record, AreItems, AreBehind}
 use Rattle.block_stream.proofs.ItemLaws.{nth_item}
 use Rattle.node_file.specs.Nodes.{HasTrailer, HasNodes, IsTrailerDamage}
-
--- a pointer is a word of 64 bits
-pointer_fits : (w : ℕ) → IsPointer w → w < 2 ^ 64
-pointer_fits w (inl node) = omega arith
-pointer_fits w (inr (inl zeros)) = omega arith
-pointer_fits w (inr (inr ones)) = omega arith
 
 -- the bytes of nodes are read back
 records_nodes : (xs : List Node) (rest : List ℕ) → ((x : Node) → Has x xs → IsNode x) → map (item_record node_words) xs ≡ records_of 3 (length xs) (node_bytes xs ++ rest)

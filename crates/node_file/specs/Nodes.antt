@@ -1,6 +1,6 @@
 -- The nodes and the trailer in the bytes of a node file, and what of them is damaged.
 use Rattle.std.specs.Prelude.{◌≡◌, ◌⊎◌, ℕ, ◌-◌, ◌*◌, ◌/◌, ◌^◌, ◌<◌, ◌≤◌, ◌==◌, Bool, not, ◌&&◌, nat_lt, List, ◌++◌, length, slice_index}
-use Rattle.rec_words.specs.Words.{level_of, IsTerminal, IsNodeWord}
+use Rattle.rec_words.specs.Words.{node_size, level_of, IsTerminal, IsNodeWord}
 use Rattle.rec_words.specs.Records.{node_words}
 use Rattle.rec_words.specs.declared.rec.Rec.{Rec}
 use Rattle.rec_words.specs.declared.node.Node.{Node}
@@ -32,7 +32,7 @@ IsDamagedNode n place bytes = ((x : Node) → ¬ IsNodeAt n place bytes x) ⊎ (
 -- the damage is that of a node, at its place in bytes
 abbrev pub IsNodeDamage : ℕ → List ℕ → StreamFault → Type 0
 IsNodeDamage n bytes Shelf = Unit
-IsNodeDamage n bytes (Damaged f at) = (place : ℕ) × (at ≡ place * 24) × IsDamagedNode n place bytes
+IsNodeDamage n bytes (Damaged f at) = (place : ℕ) × (at ≡ place * node_size) × IsDamagedNode n place bytes
 
 -- a trailer is a root, how many nodes there are, and n; the root is the identifier of the last node, or a truth value where there
 -- is none
@@ -45,14 +45,15 @@ pub record IsTrailer (n count root : ℕ) (trailer last : Rec) : Type 0 where
 
 -- the bytes are whole records, the last of which is a trailer
 pub record HasTrailer (n root : ℕ) (bytes : List ℕ) : Type 0 where
-  pub long : 24 ≤ length bytes
-  pub whole : length bytes / 24 * 24 ≡ length bytes
-  pub trailer : IsTrailer n (length bytes / 24 - 1) root (record_at 3 (length bytes / 24 - 1) bytes) (record_at 3 (length bytes / 24 - 2) bytes)
+  pub long : node_size ≤ length bytes
+  pub whole : length bytes / node_size * node_size ≡ length bytes
+  pub trailer : IsTrailer n (length bytes / node_size - 1) root (record_at 3 (length bytes / node_size - 1) bytes)
+      (record_at 3 (length bytes / node_size - 2) bytes)
 
--- the damage is that of the trailer: at 24 bytes before the end, or at the front of a shorter file
+-- the damage is that of the trailer: at its size before the end, or at the front of a shorter file
 abbrev pub IsTrailerDamage : ℕ → List ℕ → StreamFault → Type 0
 IsTrailerDamage n bytes Shelf = Unit
-IsTrailerDamage n bytes (Damaged f at) = (at ≡ length bytes - 24) × ((root : ℕ) → ¬ HasTrailer n root bytes)
+IsTrailerDamage n bytes (Damaged f at) = (at ≡ length bytes - node_size) × ((root : ℕ) → ¬ HasTrailer n root bytes)
 
 -- a node file for n variables: its nodes and its trailer
 pub record HasNodes (n root : ℕ) (xs : List Node) (bytes : List ℕ) : Type 0 where

@@ -1,6 +1,6 @@
 //! The rules that a node of a file keeps.
 ghost use Rattle.std.specs.Prelude.{◌≡◌, ◌≤◌, nat_lt};
-ghost use Rattle.rec_words.specs.Words.{level_of};
+ghost use Rattle.rec_words.specs.Words.{deepest_level, level_of};
 ghost use Rattle.node_file.specs.Nodes.{is_sound};
 
 use rec_words::{Node, Ptr};
@@ -21,7 +21,7 @@ pub(crate) fn is_sound_node(node: &Node, n: u32) -> bool
 
 // Whether a pointer is a truth value or a node of a deeper level.
 fn is_deeper(child: Ptr, level: u16) -> bool
-    requires { level ≤ 65534 }
+    requires { level ≤ deepest_level }
     ensures { result ≡ nat_lt level (level_of child) }
 {
     match child.level() {

@@ -1,5 +1,6 @@
 //! The reading of a node file.
 ghost use Rattle.std.specs.Prelude.{◌≡◌, ◌⊎◌, ℕ, ◌+◌, ◌-◌, ◌*◌, ◌<◌, ◌≤◌, ◌^◌, Some, IsTrue, true, false, MatchOption, IfSome};
+ghost use Rattle.rec_words.specs.Words.{node_size};
 ghost use Rattle.shelf_model.specs.Calls.{longest};
 ghost use Rattle.block_stream.specs.Reads.{place_of};
 ghost use Rattle.block_stream.specs.Backwards.{reading_of};
@@ -8,7 +9,7 @@ ghost use Rattle.node_file.specs.Nodes.{is_sound};
 use crate::node::is_sound_node;
 use crate::trailer::{Trailer, read_trailer};
 use block_stream::Backward;
-use rec_words::{Node, Rec};
+use rec_words::{NODE_SIZE, Node, Rec};
 use shelf_model::{FileNo, Shelf, StreamFault};
 
 /// The nodes of a file from its end on: from the root down, by ascending identifiers.
@@ -23,7 +24,7 @@ pub struct NodeReader<'r> {
     ghost width: { (reading_of nodes).words ≡ 3 },
     ghost front: { (reading_of nodes).bound ≡ 0 },
     ghost within: { place_of (reading_of nodes) ≤ trailer.count },
-    ghost fits: { trailer.count * 24 ≤ longest },
+    ghost fits: { trailer.count * node_size ≤ longest },
 }
 
 impl<'r> NodeReader<'r> {
@@ -51,7 +52,7 @@ impl<'r> NodeReader<'r> {
         ensures given { IfOk result (λ r. given_of r ≡ None) }
         ensures trailer { IfOk result (λ r. IsTrue (S.tells shelf.new) →
             let bytes = (file (S.world shelf.old) f).bytes in
-            HasTrailer n (trailer_of r).root bytes × ((trailer_of r).count ≡ length bytes / 24 - 1)) }
+            HasTrailer n (trailer_of r).root bytes × ((trailer_of r).count ≡ length bytes / node_size - 1)) }
         ensures reads { IfOk result (λ r. (bytes : List ℕ) → Reads r bytes) }
         ensures nodes { IfOk result (λ r. IsTrue (S.tells shelf.new) → (root : ℕ) → (xs : List Node) →
             let bytes = (file (S.world shelf.old) f).bytes in HasNodes n root xs bytes →
@@ -87,7 +88,7 @@ impl<'r> NodeReader<'r> {
         ensures place { IfOk result (λ r. left_of r ≡ min place (trailer_of r).count) }
         ensures trailer { IfOk result (λ r. IsTrue (S.tells shelf.new) →
             let bytes = (file (S.world shelf.old) f).bytes in
-            HasTrailer n (trailer_of r).root bytes × ((trailer_of r).count ≡ length bytes / 24 - 1)) }
+            HasTrailer n (trailer_of r).root bytes × ((trailer_of r).count ≡ length bytes / node_size - 1)) }
         ensures reads { IfOk result (λ r. IsTrue (S.tells shelf.new) →
             Reads r (file (S.world shelf.old) f).bytes) }
         ensures nodes { IfOk result (λ r. IsTrue (S.tells shelf.new) → (root : ℕ) → (xs : List Node) →
@@ -100,7 +101,7 @@ impl<'r> NodeReader<'r> {
             let bytes = (file (S.world shelf.old) f).bytes in
             IsTrailerDamage n bytes e ⊎ IsNodeDamage n bytes e) }
         ensures content { Told S.tells shelf.old shelf.new
-            (Looked (2 + (length (file (S.world shelf.old) f).bytes / 24 - 1 - place)) (S.world shelf.old) (S.world shelf.new)) }
+            (Looked (2 + (length (file (S.world shelf.old) f).bytes / node_size - 1 - place)) (S.world shelf.old) (S.world shelf.new)) }
         ensures faults { OnlyShelf (S.faults shelf.old) (S.faults shelf.new) result }
     {
         let mut reader = NodeReader::start(f, n, window, shelf)?;
@@ -167,7 +168,7 @@ impl<'r> NodeReader<'r> {
         if let Some(place) = damaged_place(&node, self.given, left, self.trailer.n) {
             return Err(StreamFault::Damaged {
                 file: self.nodes.file(),
-                at: place * 24,
+                at: place * NODE_SIZE,
             });
         }
         self.given = Some(node.uid.ptr().word());

@@ -3,12 +3,13 @@ ghost use Rattle.std.specs.Prelude.{◌≡◌, ℕ, ◌+◌, ◌-◌, ◌*◌, �
 ghost use Rattle.shelf_model.specs.World.{file};
 ghost use Rattle.shelf_model.specs.Calls.{Told, longest};
 ghost use Rattle.shelf_model.specs.Faults.{OnlyShelf};
+ghost use Rattle.rec_words.specs.Words.{node_size};
 ghost use Rattle.rec_words.specs.declared.rec.Rec.{Rec};
 ghost use Rattle.block_stream.specs.Reads.{Looked, IsDamageOf};
 ghost use Rattle.node_file.specs.Nodes.{IsTrailer, HasTrailer, IsTrailerDamage};
 
 use block_stream::load;
-use rec_words::{Node, Ptr, Rec, Spill};
+use rec_words::{NODE_SIZE, Node, Ptr, Rec, Spill};
 use shelf_model::{FileNo, Shelf, StreamFault};
 
 /// What ends a node file: the root, how many nodes there are, and how many variables.
@@ -19,9 +20,6 @@ pub struct Trailer {
     pub n: u32,
 }
 
-/// How many bytes a node and a trailer have.
-const WIDTH: u64 = 24;
-
 /// Reads the trailer of a file for n variables. The window is used for it.
 pub(crate) fn read_trailer<S: Shelf>(
     f: FileNo,
@@ -30,10 +28,10 @@ pub(crate) fn read_trailer<S: Shelf>(
     shelf: &mut S,
 ) -> Result<Trailer, StreamFault>
     requires room { 8 ≤ length window.old }
-    ensures fits { IfOk result (λ t. t.count * 24 ≤ longest) }
+    ensures fits { IfOk result (λ t. t.count * node_size ≤ longest) }
     ensures variables { IfOk result (λ t. t.n ≡ n) }
     ensures count { IfOk result (λ t. IsTrue (S.tells shelf.new) →
-        t.count ≡ length (file (S.world shelf.old) f).bytes / 24 - 1) }
+        t.count ≡ length (file (S.world shelf.old) f).bytes / node_size - 1) }
     ensures trailer { IfOk result (λ t. IsTrue (S.tells shelf.new) →
         HasTrailer n t.root (file (S.world shelf.old) f).bytes) }
     ensures damage { IfErr result (IsDamageOf f) }
@@ -45,10 +43,10 @@ pub(crate) fn read_trailer<S: Shelf>(
     let len = shelf.len(f)?;
     let damage = StreamFault::Damaged {
         file: f,
-        at: len.saturating_sub(WIDTH),
+        at: len.saturating_sub(NODE_SIZE),
     };
-    let end = len / WIDTH;
-    if end == 0 || end * WIDTH != len {
+    let end = len / NODE_SIZE;
+    if end == 0 || end * NODE_SIZE != len {
         return Err(damage);
     }
     let wanted = end.min(2) as usize;

@@ -4,6 +4,7 @@ ghost use Rattle.shelf_model.specs.File.{firm_file};
 ghost use Rattle.shelf_model.specs.World.{file};
 ghost use Rattle.shelf_model.specs.Calls.{Told, longest};
 ghost use Rattle.shelf_model.specs.Faults.{OnlyShelf};
+ghost use Rattle.rec_words.specs.Words.{node_size};
 ghost use Rattle.canon_file.specs.Canon.{node_bytes, trailer_bytes};
 ghost use Rattle.block_stream.specs.Records.{record_bytes};
 ghost use Rattle.block_stream.specs.Reads.{IsDamageOf, IsShort};
@@ -62,14 +63,14 @@ impl<'r> NodeWriter<'r> {
         ensures variables { IfOk result (λ w. w.n ≡ n) }
         ensures count { IfOk result (λ w. count_of (filling_of w) ≡ count) }
         ensures holds { IfOk result (λ w. IsTrue (S.tells shelf.new) → Holds w (S.world shelf.new)
-            (take (count * 24) (file (S.world shelf.old) f).bytes)) }
+            (take (count * node_size) (file (S.world shelf.old) f).bytes)) }
         ensures whole { OnOk result (IsTrue (S.tells shelf.new) →
-            count * 24 ≤ length (file (S.world shelf.old) f).bytes) }
+            count * node_size ≤ length (file (S.world shelf.old) f).bytes) }
         ensures damaged { IfErr result (IsDamageOf f) }
         ensures short { IfErr result (λ e. IsTrue (S.tells shelf.new) →
             IsShort 3 count (file (S.world shelf.old) f).bytes e) }
         ensures content { Told S.tells shelf.old shelf.new
-            (Cut 2 f (count * 24) (S.world shelf.old) (S.world shelf.new)) }
+            (Cut 2 f (count * node_size) (S.world shelf.old) (S.world shelf.new)) }
         ensures faults { OnlyShelf (S.faults shelf.old) (S.faults shelf.new) result }
     {
         let filling = Filling::resume(f, Node::WORDS, count, shelf)?;
@@ -100,7 +101,7 @@ impl<'r> NodeWriter<'r> {
         ensures same { SameFile (filling_of self.old) (filling_of self.new) }
         ensures variables { self.new.n ≡ self.old.n }
         ensures count { OnOk result (count_of (filling_of self.new) ≡ count_of (filling_of self.old)) }
-        ensures fits { OnOk result (count_of (filling_of self.new) * 24 ≤ longest) }
+        ensures fits { OnOk result (count_of (filling_of self.new) * node_size ≤ longest) }
         ensures bound { IsFilling (filling_of self.new) (room_of self.new) }
         ensures room { room_of self.new ≡ room_of self.old }
         ensures firm { OnOk result (IsTrue (S.tells shelf.new) → file (S.world shelf.new) (filling_of self.old).file
@@ -120,7 +121,7 @@ impl<'r> NodeWriter<'r> {
     pub fn finish<S: Shelf>(self, root: Ptr, shelf: &mut S) -> Result<u64, StreamFault>
         requires in_step { IsTrue (S.tells shelf.old) → InStep (filling_of self) (S.world shelf.old) }
         ensures count { IfOk result (λ count. count ≡ count_of (filling_of self.entry)) }
-        ensures fits { IfOk result (λ count. (count + 1) * 24 ≤ longest) }
+        ensures fits { IfOk result (λ count. (count + 1) * node_size ≤ longest) }
         ensures firm { OnOk result (IsTrue (S.tells shelf.new) → let w = filling_of self.entry in
             file (S.world shelf.new) w.file
             ≡ firm_file (written_of self.entry (S.world shelf.old) ++ trailer_bytes root (count_of w) self.entry.n)) }
@@ -140,7 +141,7 @@ impl<'r> NodeWriter<'r> {
         ensures same { filling_of self.new ≡ filling_of self.old }
         ensures variables { self.new.n ≡ self.old.n }
         ensures count { IfOk result (λ count. count ≡ count_of (filling_of self.old)) }
-        ensures fits { IfOk result (λ count. (count + 1) * 24 ≤ longest) }
+        ensures fits { IfOk result (λ count. (count + 1) * node_size ≤ longest) }
         ensures firm { OnOk result (IsTrue (S.tells shelf.new) → let w = filling_of self.old in
             file (S.world shelf.new) w.file
             ≡ firm_file (written_of self.old (S.world shelf.old) ++ trailer_bytes root (count_of w) self.old.n)) }
@@ -165,7 +166,7 @@ fn finish_window<S: Shelf>(
     requires words { started.words ≡ 3 }
     requires in_step { IsTrue (S.tells shelf.old) → InStep started (S.world shelf.old) }
     ensures count { IfOk result (λ count. count ≡ count_of started) }
-    ensures fits { IfOk result (λ count. (count + 1) * 24 ≤ longest) }
+    ensures fits { IfOk result (λ count. (count + 1) * node_size ≤ longest) }
     ensures firm { OnOk result (IsTrue (S.tells shelf.new) → file (S.world shelf.new) started.file
         ≡ firm_file (written started window.old (S.world shelf.old) ++ trailer_bytes root (count_of started) n)) }
     ensures cause { IfErr result (λ e. e ≡ StreamFault.Shelf) }

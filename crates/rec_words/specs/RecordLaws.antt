@@ -28,7 +28,7 @@ same_node x y same =
     λ i. record { uid = uid i; low = low i; high = high i }
 
 -- what follows an equal comparison of zeros changes nothing
-then_equal : (o : Ordering) → o ≡ ordering_then o Equal
+pub then_equal : (o : Ordering) → o ≡ ordering_then o Equal
 then_equal Less = refl
 then_equal Equal = refl
 then_equal Greater = refl
@@ -38,7 +38,7 @@ pub node_order : (x y : Node) → ordering_then (nat_cmp x.uid y.uid) (ordering_
 node_order x y = ap (λ o. ordering_then (nat_cmp x.uid y.uid) (ordering_then (nat_cmp x.low y.low) o)) (then_equal (nat_cmp x.high y.high))
 
 -- pointers fit 64 bits
-pointer_fits : (w : ℕ) → IsPointer w → w < 2 ^ 64
+pub pointer_fits : (w : ℕ) → IsPointer w → w < 2 ^ 64
 pointer_fits w (inl node) = omega arith
 pointer_fits w (inr (inl zeros)) = omega arith
 pointer_fits w (inr (inr ones)) = omega arith

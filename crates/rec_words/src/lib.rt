@@ -6,8 +6,8 @@ mod ptr;
 mod rec;
 mod spill;
 
-pub use node::Node;
-pub use ptr::{Ptr, Uid};
+pub use node::{NODE_SIZE, Node};
+pub use ptr::{DEEPEST_LEVEL, LEVEL_NUMBERS, MOST_VARIABLES, Ptr, Uid};
 pub use rec::Rec;
 pub use spill::Spill;
 

@@ -5,6 +5,9 @@ ghost use Rattle.rec_words.specs.RecordLaws.{node_fits, same_node, node_order};
 
 use crate::{Ptr, Rec, Spill, Uid};
 
+/// The bytes of a node in a file, and of the trailer that ends it.
+pub const NODE_SIZE: u64 = 24;
+
 /// A node: its identifier, and the pointers that it leads to where its variable is 0 and where it is 1.
 /// Nodes are ordered by identifier first.
 #[derive(Clone, Copy, Debug, PartialEq, Eq, PartialOrd, Ord)]

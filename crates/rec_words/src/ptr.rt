@@ -1,17 +1,20 @@
-ghost use Rattle.std.specs.Prelude.{◌≡◌, ℕ, ◌+◌, ◌^◌, ◌<◌, ◌≤◌, ◌==◌, IfSome};
+ghost use Rattle.std.specs.Prelude.{◌≡◌, ℕ, ◌+◌, ◌-◌, ◌^◌, ◌<◌, ◌≤◌, ◌==◌, IfSome};
 ghost use Rattle.std.specs.Option.{SomeIff};
-ghost use Rattle.rec_words.specs.Words.{IsPointer, IsNodeWord, IsTerminal, terminal, node_word, level_of};
+ghost use Rattle.rec_words.specs.Words.{IsPointer, IsNodeWord, IsTerminal, terminal, node_word, level_of, deepest_level, level_numbers};
 
 use std::marker::Model;
 
 /// The word of the truth value 0. That of 1 is the next one.
 const ZERO: u64 = 1 << 63;
 
-/// How many numbers a level has.
-const NUMBERS: u64 = 1 << 47;
+/// The deepest level of a node.
+pub const DEEPEST_LEVEL: u16 = 65_534;
 
-/// The first level that no node has.
-const LEVELS: u64 = 65_535;
+/// The most variables of a diagram: one for each level of a node.
+pub const MOST_VARIABLES: u32 = 65_535;
+
+/// How many numbers the nodes of a level can have.
+pub const LEVEL_NUMBERS: u64 = 1 << 47;
 
 /// A pointer of a diagram: a truth value, or a node by its level and its number there. A contract
 /// sees its word. Pointers are ordered by level and then by number, and the truth values come last.
@@ -40,22 +43,32 @@ impl Ptr {
     }
 
     pub fn node(level: u16, number: u64) -> Ptr
-        requires level { level ≤ 65534 }
-        requires number { number < 2 ^ 47 }
+        requires level { level ≤ deepest_level }
+        requires number { number < level_numbers }
         ensures { result ≡ node_word level number }
     {
         Ptr {
-            word: u64::from(level) * NUMBERS + number,
+            word: u64::from(level) * LEVEL_NUMBERS + number,
         }
+    }
+
+    /// The pointer to the node of the row at a place of its level: the numbers of a level's rows count down
+    /// from the highest one.
+    pub fn of_row(level: u16, place: u64) -> Ptr
+        requires level { level ≤ deepest_level }
+        requires place { place < level_numbers }
+        ensures { result ≡ node_word level (level_numbers - 1 - place) }
+    {
+        Ptr::node(level, LEVEL_NUMBERS - 1 - place)
     }
 
     /// The level of a node. A truth value has none.
     pub fn level(self) -> Option<u16>
         ensures level { SomeIff result (self < 2 ^ 63) (level_of self) }
-        ensures below { IfSome result (λ level. level ≤ 65534) }
+        ensures below { IfSome result (λ level. level ≤ deepest_level) }
     {
         if self.word < ZERO {
-            Some((self.word / NUMBERS) as u16)
+            Some((self.word / LEVEL_NUMBERS) as u16)
         } else {
             None
         }
@@ -83,7 +96,7 @@ impl Ptr {
     pub fn from_word(word: u64) -> Option<Ptr>
         ensures { SomeIff result (IsPointer word) word }
     {
-        if word < LEVELS * NUMBERS || word == ZERO || word == ZERO + 1 {
+        if word < u64::from(MOST_VARIABLES) * LEVEL_NUMBERS || word == ZERO || word == ZERO + 1 {
             Some(Ptr { word })
         } else {
             None

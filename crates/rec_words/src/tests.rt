@@ -1,9 +1,9 @@
 ghost use Rattle.std.specs.Prelude.{◌≡◌, Some};
 
-use crate::{Node, Ptr, Rec, Spill, Uid};
+use crate::{LEVEL_NUMBERS, Node, Ptr, Rec, Spill, Uid};
 use std::test::Fail;
 
-const TOP: u64 = (1 << 47) - 1;
+const TOP: u64 = LEVEL_NUMBERS - 1;
 
 /// What is read of a value that was written.
 fn read_back<T: Spill>(x: T) -> Option<T>

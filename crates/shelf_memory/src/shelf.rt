@@ -2,16 +2,13 @@ use crate::Bench;
 use crate::change::Change;
 use crate::files::bytes_of;
 use crate::piece::copy_piece;
-use shelf_model::{Failed, FileNo, Shelf};
-
-// The length of the longest file, in bytes.
-const LONGEST: u64 = 1 << 50;
+use shelf_model::{Failed, FileNo, LONGEST, Shelf};
 
 /// A call fails exactly where it is to fail, where it would make a file too long, or where memory was refused in it.
 impl Shelf for Bench {
     ghost use Rattle.std.specs.Prelude.{◌≡◌, IsTrue, IsErr, IfOk, ◌+◌, ◌<◌, ◌≤◌, ◌⊎◌, length, max};
     ghost use Rattle.shelf_model.specs.World.{file};
-    ghost use Rattle.shelf_model.specs.Calls.{Told, Measured, DidRead, Appended, WasCut, Synced, longest};
+    ghost use Rattle.shelf_model.specs.Calls.{Told, Measured, DidRead, Appended, WasCut, Synced, longest, most_piece};
     ghost use Rattle.shelf_model.specs.Faults.{OnlyFolder};
     ghost use Rattle.shelf_memory.specs.Benches.{tells_of, world_of, faults_of, file_at, fails_next, FailsExactly};
     ghost use Rattle.shelf_memory.specs.Laws.{all_are_files};
@@ -48,7 +45,7 @@ impl Shelf for Bench {
     }
 
     fn append(&mut self, f: FileNo, at: u64, bytes: &[u8]) -> Result<(), Failed>
-        requires small { (0 < length bytes.now) × (length bytes.now ≤ 2048) }
+        requires small { (0 < length bytes.now) × (length bytes.now ≤ most_piece) }
         requires at_end { IsTrue (tells_of self.old) → at ≡ length (file (world_of self.old) f).bytes }
         ensures content { Told tells_of self.old self.new (Appended f bytes.now result (world_of self.old) (world_of self.new)) }
         ensures faults { OnlyFolder (faults_of self.old) (faults_of self.new) result }

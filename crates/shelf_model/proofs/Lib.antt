@@ -4,3 +4,4 @@ pub mod Files
 pub mod Images
 pub mod Lives
 pub mod Runs
+pub mod Changing

@@ -3,6 +3,7 @@ use Rattle.std.specs.Prelude.{◌≡◌, ◌≢◌, ℕ, ◌+◌, ◌-◌, ◌^�
 use Rattle.shelf_model.specs.declared.file_no.FileNo.{FileNo}
 use Rattle.shelf_model.specs.declared.fault.Failed.{Failed}
 use Rattle.shelf_model.specs.File.{firm_file, appended, cut_to, TornAppend, TornCut}
+use Rattle.shelf_model.specs.Folder.{OnlyChanges}
 use Rattle.shelf_model.specs.World.{World, now, file}
 
 -- a station that tells its content after a call told it before, and the call did this
@@ -31,11 +32,15 @@ pub record OnShelf (old new : World) : Type 0 where
 
 -- every file but this one is as it was
 abbrev pub SameBut : FileNo → World → World → Type 0
-SameBut f old new = (q : FileNo) → q ≢ f → file new q ≡ file old q
+SameBut f old new = OnlyChanges (λ q. q ≡ f) (now old).folder (now new).folder
 
 -- the longest file
 abbrev pub longest : ℕ
 longest = 2 ^ 50
+
+-- the most bytes that one call reads, appends or says
+abbrev pub most_piece : ℕ
+most_piece = 2048
 
 -- the first k bytes after are those of the source from that place on, as many as there are; the others stay
 pub record Copied (source : List ℕ) (at : ℕ) (before after : List ℕ) (k : ℕ) : Type 0 where

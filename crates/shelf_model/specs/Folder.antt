@@ -1,5 +1,5 @@
 -- A folder of numbered files, and its images: what a stop may leave of all of them.
-use Rattle.std.specs.Prelude.{ℕ, List, [], unwrap_or}
+use Rattle.std.specs.Prelude.{◌≡◌, ℕ, List, [], unwrap_or}
 use Rattle.std.specs.Ordering.{nat_cmp, ordering_then}
 use Rattle.std.specs.declared.cmp.Ordering.{Ordering}
 use Rattle.std.specs.FinMap.{FinMap, get}
@@ -21,6 +21,10 @@ Image = FinMap file_cmp (List ℕ)
 -- the file of that number
 abbrev pub file_in : Folder → FileNo → File
 file_in folder f = unwrap_or (get folder f) no_file
+
+-- every file outside these is as it was: where one file may change, `OnlyChanges (λ q. q ≡ f)` says `q ≢ f` of the others
+abbrev pub OnlyChanges : (FileNo → Type 0) → Folder → Folder → Type 0
+OnlyChanges these old new = (f : FileNo) → ¬ (these f) → file_in new f ≡ file_in old f
 
 -- the bytes of that number in an image
 abbrev pub bytes_in : Image → FileNo → List ℕ

@@ -1,6 +1,7 @@
 -- What held at every moment of a run of calls, and what a stop may have left at one of them.
 use Rattle.std.specs.Prelude.{◌≡◌, ℕ, ◌≤◌, List}
-use Rattle.shelf_model.specs.Folder.{Image, IsImage}
+use Rattle.shelf_model.specs.declared.file_no.FileNo.{FileNo}
+use Rattle.shelf_model.specs.Folder.{Image, IsImage, OnlyChanges}
 use Rattle.shelf_model.specs.World.{Moment, World, now}
 use Rattle.shelf_model.specs.Calls.{SameStation}
 
@@ -25,6 +26,11 @@ InEveryImage P m = (image : Image) → IsImage m.folder image → P m.said image
 -- the files are as they were then
 abbrev pub Stays : Moment → Moment → Type 0
 Stays old m = m.folder ≡ old.folder
+
+-- at that moment every file outside these is as it was then; `proofs/Changing` joins runs of it and widens it, so that a
+-- crate's own relation is an instance, as `OnlyFile f = OnlyChanged (λ q. q ≡ f)` or `OnlyTaken before after = OnlyChanged (IsTaken before after)`
+abbrev pub OnlyChanged : (FileNo → Type 0) → Moment → Moment → Type 0
+OnlyChanged these old m = OnlyChanges these old.folder m.folder
 
 -- each image that a stop may leave was one that it might have left then
 abbrev pub OnlyOldImages : Moment → Moment → Type 0

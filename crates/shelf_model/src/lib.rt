@@ -12,6 +12,6 @@ mod station;
 
 pub use fault::{Failed, StreamFault};
 pub use file_no::FileNo;
-pub use shelf::Shelf;
+pub use shelf::{LONGEST, PIECE, Shelf};
 pub use sort_fault::SortFault;
 pub use station::Station;

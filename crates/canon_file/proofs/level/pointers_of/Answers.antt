@@ -1,5 +1,5 @@
 use Rattle.std.proofs.Common.{subst, sym}
-use Rattle.canon_file.specs.Members.{Has}
+use Rattle.list_laws.specs.Members.{Has}
 use Rattle.canon_file.proofs.SearchLaws.{has_at}
 use Rattle.canon_file.proofs.level.pointers_of.Goals as goal
 

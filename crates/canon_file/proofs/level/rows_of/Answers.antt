@@ -1,8 +1,8 @@
 use Rattle.std.proofs.Common.{subst, sym, reverse, filter}
-use Rattle.canon_file.specs.Members.{IsAscending}
+use Rattle.list_laws.specs.Members.{IsAscending}
 use Rattle.canon_file.specs.Rows.{row_before}
 use Rattle.canon_file.specs.Pairs.{differs}
-use Rattle.canon_file.proofs.MemberLaws.{ascending_ascends}
+use Rattle.list_laws.proofs.MemberLaws.{ascending_ascends}
 use Rattle.canon_file.proofs.RowLaws.{row_order}
 use Rattle.canon_file.proofs.level.rows_of.Goals as goal
 

@@ -1,5 +1,5 @@
 use Rattle.std.proofs.Common.{◌≡◌, reverse, filter}
-use Rattle.canon_file.specs.Members.{ascending}
+use Rattle.list_laws.specs.Members.{ascending}
 use Rattle.canon_file.specs.Rows.{row_before}
 use Rattle.canon_file.specs.Pairs.{differs}
 use Rattle.canon_file.proofs.level.rows_of.Given as goal

@@ -1,12 +1,13 @@
 use Rattle.std.proofs.Common.{sym, refl, arith}
 use Rattle.arc_file.proofs.PairLaws.{wrote_leaves}
-use Rattle.arc_file.proofs.WriterLaws.{from_both, files_apart, put_inner, put_end}
+use Rattle.list_laws.proofs.AnswerLaws.{on_ok_both}
+use Rattle.arc_file.proofs.WriterLaws.{files_apart, put_inner, put_end}
 use Rattle.arc_file.proofs.writer.ArcWriter.put.Goals as goal
 
 pub returns-in-Some-clause-arcs : goal.returns-in-Some-clause-arcs
 returns-in-Some-clause-arcs g c =
     let w = c.args.self.now in
-    from_both c.put.result (λ count items t xs ys held.
+    on_ok_both c.put.result (λ count items t xs ys held.
     let stays = wrote_leaves _ _ w.ends.filling.file _ _ (λ same. files_apart w (sym same)) (c.put.ensures.content.did t) in
     put_inner w _ _ _ xs ys c.args.arc c.in-Some.ensures.level.0 refl stays (items t w.inner_width xs held.inner_are) count held)
     c.put.ensures.count c.put.ensures.items
@@ -14,7 +15,7 @@ returns-in-Some-clause-arcs g c =
 pub returns-in-None-clause-arcs : goal.returns-in-None-clause-arcs
 returns-in-None-clause-arcs g c =
     let w = c.args.self.now in
-    from_both c.put-in-None.result (λ count items t xs ys held.
+    on_ok_both c.put-in-None.result (λ count items t xs ys held.
     let stays = wrote_leaves _ _ w.inner.filling.file _ _ (files_apart w) (c.put-in-None.ensures.content.did t) in
     put_end w _ _ _ xs ys c.args.arc (omega (arith, c.in-None.ensures.level)) refl stays (items t w.ends_width ys held.ends_are) count held)
     c.put-in-None.ensures.count c.put-in-None.ensures.items

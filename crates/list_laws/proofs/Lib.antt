@@ -1,0 +1,4 @@
+pub mod MemberLaws
+pub mod SameMembers
+pub mod SortedLaws
+pub mod AnswerLaws
