@@ -1,5 +1,5 @@
 pub mod Halves
 mod PlanSteps
 mod Powers
-mod StepHalves
+pub mod StepHalves
 mod Worked

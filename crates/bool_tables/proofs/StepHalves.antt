@@ -4,9 +4,9 @@ use Rattle.std.proofs.Common.{refl, sym, ◌∙◌, ap, true≢false, arith}
 use Rattle.std.proofs.Math.Nat.{mul-div-le, le-mul_of_pos_right, mul-le-mul_right, div-add-mod'}
 use Rattle.std.proofs.lemmas.Nat.{pow_pos, pow-add, div_below, mod_below}
 use Rattle.std.proofs.lemmas.Bool.Decides.{nat_tests}
-use Rattle.std.proofs.lemmas.List.{get_or-take, get_or-drop}
+use Rattle.std.proofs.lemmas.List.{get_or-take, get_or-drop, length-take-le, length-drop}
 use Rattle.std.proofs.lemmas.List.FromFn.{fill_by_all}
-use Rattle.bool_tables.specs.Tables.{low_half, high_half, value_at, table_with, weight, digit, with_digit}
+use Rattle.bool_tables.specs.Tables.{low_half, high_half, half_where, value_at, table_with, weight, digit, with_digit}
 use Rattle.bool_tables.specs.Steps.{op_value, quant_value, table_of_step, step_table}
 use Rattle.bool_tables.specs.declared.steps.Bin.{Bin}
 use Rattle.bool_tables.specs.declared.steps.Quant.{Quant}
@@ -165,10 +165,6 @@ high_half-quantify h tables kind operand level l =
     high_half-table_with h _ ∙ table_with_same h _ _
     (λ p b j. quant_value kind (set_in_high h tables operand level p false l j) (set_in_high h tables operand level p true l j))
 
--- the half of a table in which the first variable has that value
-abbrev pub half_where : ℕ → Bool → List Bool → List Bool
-half_where h value t = cond value (high_half h t) (low_half h t)
-
 value_where : (h p : ℕ) (value : Bool) (t : List Bool) → p < 2 ^ h → value_at t (p + cond value (2 ^ h) 0) ≡ value_at (half_where h value t) p
 value_where h p false t b = let same : p + 0 ≡ p = omega arith in ap (value_at t) same ∙ sym (value-low h t p b)
 value_where h p true t b = let same : p + 2 ^ h ≡ 2 ^ h + p = omega arith in ap (value_at t) same ∙ sym (value-high h t p)
@@ -205,3 +201,21 @@ high_half-quantify_first h tables kind operand =
 -- a table is made of its values
 pub table_with-values : (h : ℕ) (t : List Bool) → length t ≡ 2 ^ h → table_with h (value_at t) ≡ t
 table_with-values h t long = sym (fill_by_all (value_at t) t (2 ^ h) false long (λ p b. refl))
+
+-- a half has half of the values
+length-half : (h : ℕ) (value : Bool) (t : List Bool) → length t ≡ 2 ^ suc h → length (half_where h value t) ≡ 2 ^ h
+length-half h false t long = omega (arith, length-take-le (2 ^ h) t (omega (arith, long, twice h)))
+length-half h true t long = omega (arith, length-drop (2 ^ h) t, long, twice h)
+
+-- a restriction of the first variable leaves in both halves the half in which it has that value
+pub low_half-restricted : (h : ℕ) (tables : List (List Bool)) (operand : ℕ) (value : Bool) → length (table_of_step tables operand) ≡ 2 ^ suc h
+    → low_half h (step_table (suc h) tables (Restrict operand 0 value)) ≡ half_where h value (table_of_step tables operand)
+low_half-restricted h tables operand value long =
+    low_half-restrict_first h tables operand value
+    ∙ table_with-values h (half_where h value (table_of_step tables operand)) (length-half h value (table_of_step tables operand) long)
+
+pub high_half-restricted : (h : ℕ) (tables : List (List Bool)) (operand : ℕ) (value : Bool) → length (table_of_step tables operand) ≡ 2 ^ suc h
+    → high_half h (step_table (suc h) tables (Restrict operand 0 value)) ≡ half_where h value (table_of_step tables operand)
+high_half-restricted h tables operand value long =
+    high_half-restrict_first h tables operand value
+    ∙ table_with-values h (half_where h value (table_of_step tables operand)) (length-half h value (table_of_step tables operand) long)

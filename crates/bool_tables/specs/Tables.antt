@@ -10,6 +10,10 @@ low_half h t = take (2 ^ h) t
 abbrev pub high_half : ℕ → List Bool → List Bool
 high_half h t = drop (2 ^ h) t
 
+-- the half in which the first variable has that value
+abbrev pub half_where : ℕ → Bool → List Bool → List Bool
+half_where h value t = cond value (high_half h t) (low_half h t)
+
 -- the value at a place
 abbrev pub value_at : List Bool → ℕ → Bool
 value_at t place = get_or t place false
