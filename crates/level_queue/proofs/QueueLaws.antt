@@ -1,8 +1,9 @@
 -- the list of a queue from that of its sorter
-use Rattle.std.proofs.Common.{◌≡◌, ℕ, ◌*◌, ◌≤◌, List, ◌∷◌, All, length, subst}
-use Rattle.std.specs.Prelude.{Option, Some, None, Result, Ok, Err}
+use Rattle.std.proofs.Common.{◌≡◌, ℕ, ◌*◌, ◌≤◌, false, List, ◌∷◌, All, length, subst, ap, ◌∙◌}
+use Rattle.std.specs.Prelude.{Option, Some, None, Result, Ok, Err, IfSome}
 use Rattle.std.specs.List.Sorted.{IsPermutation, IsSorted}
-use Rattle.std.specs.Ordering.{is_lt}
+use Rattle.std.specs.Ordering.{nat_cmp, is_lt}
+use Rattle.std.specs.Cmp.Lexicographic.{slice_cmp}
 use Rattle.std.specs.declared.cmp.Ordering.{Ordering}
 use Rattle.std.specs.Cmp.{IsTotalOrder, IsStrictWeakOrder}
 use Rattle.std.proofs.lemmas.List.MinMax.{ranks_by}
@@ -13,7 +14,9 @@ use Rattle.shelf_model.specs.declared.sort_fault.SortFault.TheVariants.{Shelf, D
 use Rattle.shelf_model.specs.declared.file_no.FileNo.{FileNo}
 use Rattle.shelf_model.specs.Moments.{Ran, Stays}
 use Rattle.shelf_model.specs.World.{World, now, file}
-use Rattle.run_merge.specs.Lists.{Joins, Shows, Gives}
+use Rattle.rec_words.specs.declared.rec.Rec.{Rec}
+use Rattle.run_merge.specs.Items.{record_of}
+use Rattle.run_merge.specs.Lists.{Joins, Shows, Gives, GivesValue}
 use Rattle.run_merge.specs.declared.sorter.Sorter.{Sorter}
 use Rattle.run_merge.specs.declared.parts.Parts.{Parts}
 use Rattle.run_merge.specs.Parts.{Took, Spilled}
@@ -21,7 +24,7 @@ use Rattle.run_merge.specs.Sorters as sorters
 use Rattle.run_merge.proofs.Ascending.{none_less}
 use Rattle.run_merge.proofs.SorterLaws.{credit_bounded, list_counted, list_kept, list_kept_unchanged, list_kept_with_parts, serves_on}
 use Rattle.level_queue.specs.declared.queue.LevelQueue.{LevelQueue}
-use Rattle.level_queue.specs.Queues.{held, credit, IsRunOf, IsNoLess, Serves, Lists}
+use Rattle.level_queue.specs.Queues.{held, credit, IsRunOf, IsNoLess, IsReached, AnswersNoLess, Serves, Lists}
 
 -- what follows from the list of which an item joined the other
 joins_so : {T : Type 0} (P Q : List T → Type 0) (x : T) (xs : List T) (result : Result Unit SortFault)
@@ -114,3 +117,38 @@ queue_serves_on q old new serves took =
     let sorter : sorters.Serves old q.sorter = record { past_made = serves.past_made; runs_made = serves.runs_made } in
     let on : sorters.Serves new q.sorter = serves_on q.sorter old new sorter took in
     record { past_made = on.past_made; runs_made = on.runs_made }
+
+-- the last item taken stays below the records that are left where an item that isn't less joins
+pub reached_joined : {T : Type 0} (is_value : T → Type 0) (words : T → List ℕ) (cmp : T → T → Ordering) (last : Option T) (old new : Sorter T) (x : T)
+    → ((y : T) → is_value y → is_lt (cmp x y) ≡ false → sorters.IsAbove (record_of words y) old → sorters.IsAbove (record_of words y) new)
+    → IsNoLess cmp last x → IfSome last (IsReached is_value words old) → IfSome last (IsReached is_value words new)
+reached_joined is_value words cmp None old new x joins no_less reached = tt
+reached_joined is_value words cmp (Some l) old new x joins no_less reached =
+    record { value = reached.value; above = joins l reached.value no_less reached.above }
+
+-- and where the first one is shown or taken, which isn't less
+pub reached_stays : {T : Type 0} (is_value : T → Type 0) (words : T → List ℕ) (last : Option T) (old new : Sorter T) (result : Result (Option T) SortFault)
+    → ((r : Rec) → sorters.IsAbove r old → sorters.IsAbove r new × sorters.AnswersAbove words r result)
+    → IfSome last (IsReached is_value words old) → IfSome last (IsReached is_value words new)
+reached_stays is_value words None old new result above reached = tt
+reached_stays is_value words (Some l) old new result above reached =
+    record { value = reached.value; above = (above (record_of words l) reached.above).0 }
+
+pub answered_above : {T : Type 0} (is_value : T → Type 0) (words : T → List ℕ) (cmp : T → T → Ordering)
+    → ((x y : T) → is_value x → is_value y → cmp x y ≡ slice_cmp nat_cmp (words x) (words y))
+    → (last : Option T) (old new : Sorter T) (result : Result (Option T) SortFault) → GivesValue is_value result
+    → ((r : Rec) → sorters.IsAbove r old → sorters.IsAbove r new × sorters.AnswersAbove words r result)
+    → IfSome last (IsReached is_value words old) → AnswersNoLess cmp last result
+answered_above is_value words cmp ordered last old new (Err e) value above reached = tt
+answered_above is_value words cmp ordered last old new (Ok None) value above reached = tt
+answered_above is_value words cmp ordered None old new (Ok (Some x)) value above reached = tt
+answered_above is_value words cmp ordered (Some l) old new (Ok (Some x)) value above reached =
+    ap is_lt (ordered x l value reached.value) ∙ (above (record_of words l) reached.above).1
+
+-- an item that was given is below the records that are left
+pub given_reached : {T : Type 0} (is_value : T → Type 0) (words : T → List ℕ) (s : Sorter T) (o : Option T) (x : T) → o ≡ Some x
+    → GivesValue is_value (Ok o) → sorters.LeavesAbove words s (Ok o) → IsReached is_value words s x
+given_reached {T = T} is_value words s o x is value above = record {
+  value = subst (λ (p : Option T). GivesValue is_value (Ok p)) is value;
+  above = subst (λ (p : Option T). sorters.LeavesAbove words s (Ok p)) is above;
+}

@@ -6,6 +6,8 @@ use Rattle.shelf_model.specs.declared.file_no.FileNo.{FileNo}
 use Rattle.shelf_model.specs.declared.sort_fault.SortFault.{SortFault}
 use Rattle.shelf_model.specs.World.{World}
 use Rattle.run_merge.specs.declared.parts.Parts.{Parts}
+use Rattle.run_merge.specs.declared.sorter.Sorter.{Sorter}
+use Rattle.run_merge.specs.Items.{record_of}
 use Rattle.run_merge.specs.Parts.{WasTaken}
 use Rattle.run_merge.specs.Sorters as sorters
 use Rattle.level_queue.specs.declared.queue.LevelQueue.{LevelQueue}
@@ -17,6 +19,10 @@ held q = sorters.held q.sorter
 -- how many records its room has
 unfoldable pub room_of : {T : Type 0} → LevelQueue T → ℕ
 room_of q = sorters.room_of q.sorter
+
+-- the first item of its list, where it was shown and still is the first
+unfoldable pub shown : {T : Type 0} → LevelQueue T → Option T
+shown q = sorters.shown q.sorter
 
 -- how many calls are paid for that weren't made yet
 unfoldable pub credit : {T : Type 0} → LevelQueue T → ℕ
@@ -43,14 +49,26 @@ pub record Serves {T : Type 0} (parts : Parts) (q : LevelQueue T) : Type 0 where
   pub past_made : 3 ≤ parts.next
   pub runs_made : (f : FileNo) → IsRunOf q f → WasTaken parts f
 
--- each of its records is that of a value
+-- a value than whose record none of the sorter's is less
+pub record IsReached {T : Type 0} (is_value : T → Type 0) (words : T → List ℕ) (s : Sorter T) (x : T) : Type 0 where
+  pub value : is_value x
+  pub above : sorters.IsAbove (record_of words x) s
+
+-- each of its records is that of a value, and none is less than that of the last item taken
 pub record HoldsValues {T : Type 0} (is_value : T → Type 0) (words : T → List ℕ) (q : LevelQueue T) : Type 0 where
   pub sorter : sorters.HoldsValues is_value words q.sorter
+  pub reached : IfSome q.last (IsReached is_value words q.sorter)
 
 -- in that world the queue stands for these values, which ascend, and none of which is less than the last one taken
 pub record Lists {T : Type 0} (is_value : T → Type 0) (words : T → List ℕ) (cmp : T → T → Ordering) (q : LevelQueue T) (world : World) (xs : List T) : Type 0 where
   pub sorter : sorters.Lists is_value words cmp q.sorter world xs
   pub reached : All (IsNoLess cmp q.last) xs
+
+-- an item that is answered isn't less than the last one taken
+abbrev pub AnswersNoLess : {T : Type 0} → (T → T → Ordering) → Option T → Result (Option T) SortFault → Type 0
+AnswersNoLess cmp last (Ok (Some x)) = IsNoLess cmp last x
+AnswersNoLess cmp last (Ok None) = Unit
+AnswersNoLess cmp last (Err e) = Unit
 
 -- an item that is taken is the last one from then on
 abbrev pub Reaches : {T : Type 0} → Option T → Option T → Result (Option T) SortFault → Type 0
