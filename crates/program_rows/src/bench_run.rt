@@ -38,3 +38,13 @@ pub(crate) fn run(alloc: Global, words: &[&str], bench: &mut Bench) -> Result<u8
     }
     Ok(adiar(alloc, owned.as_slice(), bench))
 }
+
+/// Whether a run with the usual words answers this status, and the station was told this text in all.
+pub(crate) fn gives(
+    alloc: Global,
+    bench: &mut Bench,
+    status: u8,
+    said: &[u8],
+) -> Result<bool, Fail> {
+    Ok(run(alloc, &RUN, bench)? == status && bench.said() == said)
+}

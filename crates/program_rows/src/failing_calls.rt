@@ -1,7 +1,28 @@
 // One call of the station fails: the status names its kind, and what was said is a front part of the text.
-use crate::bench_run::{ONE_VARIABLE, RUN, bench_with, run};
-use shelf_memory::Choice;
+use crate::bench_run::{ONE_VARIABLE, RUN, bench_with, gives, run};
+use shelf_memory::{Bench, Choice};
+use std::alloc::Global;
 use std::test::Fail;
+
+/// Whether the run ends at the call of this number, which fails, with this status and text.
+fn ends_at(
+    alloc: Global,
+    mut bench: Bench,
+    number: u64,
+    status: u8,
+    said: &[u8],
+) -> Result<bool, Fail> {
+    bench.fail_at(number)?;
+    Ok(gives(alloc, &mut bench, status, said)? && bench.clock() == number.saturating_add(1))
+}
+
+/// The same, in a folder where the job is stored and its one step is committed.
+fn later_ends_at(alloc: Global, number: u64, status: u8, said: &[u8]) -> Result<bool, Fail> {
+    let mut first = bench_with(alloc, ONE_VARIABLE)?;
+    let ended = run(alloc, &RUN, &mut first)? == 0;
+    let later = first.stop(Choice::Firm)?;
+    Ok(ended && ends_at(alloc, later, number, status, said)?)
+}
 
 #[test]
 fn ends_with_the_call_that_fails(rt: HostRuntime) -> Result<(), Fail> {
@@ -33,12 +54,11 @@ fn ends_with_the_call_that_fails(rt: HostRuntime) -> Result<(), Fail> {
         ("say that all was done", 8, b"start 1\n2: nodes 1\n"),
     ];
     for (number, (call, status, said)) in cases.into_iter().enumerate() {
-        let mut bench = bench_with(rt.alloc(), ONE_VARIABLE)?;
-        bench.fail_at(number as u64)?;
-        assert_eq!(rt; run(rt.alloc(), &RUN, &mut bench)?, status, "{call}");
-        assert_eq!(rt; bench.said(), said, "{call}");
-        // The run ends at that call.
-        assert_eq!(rt; bench.clock(), number as u64 + 1, "{call}");
+        let bench = bench_with(rt.alloc(), ONE_VARIABLE)?;
+        assert!(rt;
+            ends_at(rt.alloc(), bench, number as u64, status, said)?,
+            "{call}"
+        );
     }
     Ok(())
 }
@@ -62,26 +82,34 @@ fn a_later_run_ends_with_the_call_that_fails(rt: HostRuntime) -> Result<(), Fail
         ("say that all was done", 8, b"resume 1 of 1\n"),
     ];
     for (number, (call, status, said)) in cases.into_iter().enumerate() {
-        let mut first = bench_with(rt.alloc(), ONE_VARIABLE)?;
-        assert_eq!(rt; run(rt.alloc(), &RUN, &mut first)?, 0, "{call}");
-        let mut later = first.stop(Choice::Firm)?;
-        later.fail_at(number as u64)?;
-        assert_eq!(rt; run(rt.alloc(), &RUN, &mut later)?, status, "{call}");
-        assert_eq!(rt; later.said(), said, "{call}");
-        assert_eq!(rt; later.clock(), number as u64 + 1, "{call}");
+        assert!(rt;
+            later_ends_at(rt.alloc(), number as u64, status, said)?,
+            "{call}"
+        );
     }
     Ok(())
 }
 
+/// Whether a run with these words ends with status 8 and nothing said, where this call, which says a refusal, fails.
+fn leaves_a_refusal_unsaid(
+    alloc: Global,
+    words: &[&str],
+    script: &[u8],
+    call: u64,
+) -> Result<bool, Fail> {
+    let mut bench = bench_with(alloc, script)?;
+    bench.fail_at(call)?;
+    Ok(run(alloc, words, &mut bench)? == 8 && bench.said().is_empty())
+}
+
 #[test]
 fn ends_where_a_refusal_is_not_said(rt: HostRuntime) -> Result<(), Fail> {
-    let mut unread = bench_with(rt.alloc(), ONE_VARIABLE)?;
-    unread.fail_at(0)?;
-    assert_eq!(rt; run(rt.alloc(), &["adiar"], &mut unread)?, 8);
-    assert_eq!(rt; unread.said(), b"".as_slice());
-    let mut refused = bench_with(rt.alloc(), b"vars\n")?;
-    refused.fail_at(2)?;
-    assert_eq!(rt; run(rt.alloc(), &RUN, &mut refused)?, 8);
-    assert_eq!(rt; refused.said(), b"".as_slice());
+    let cases: [(&[&str], &[u8], u64); 2] = [(&["adiar"], ONE_VARIABLE, 0), (&RUN, b"vars\n", 2)];
+    for (words, script, call) in cases {
+        assert!(rt;
+            leaves_a_refusal_unsaid(rt.alloc(), words, script, call)?,
+            "{words:?}"
+        );
+    }
     Ok(())
 }

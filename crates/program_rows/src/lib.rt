@@ -7,10 +7,6 @@ mod bench_run;
 #[cfg(test)]
 mod dropping;
 #[cfg(test)]
-mod dropping_stops;
-#[cfg(test)]
-mod every_stop;
-#[cfg(test)]
 mod failing_calls;
 #[cfg(test)]
 mod files;
@@ -22,3 +18,5 @@ mod parts_said;
 mod refusals;
 #[cfg(test)]
 mod restart;
+#[cfg(test)]
+mod stops;

@@ -1,8 +1,9 @@
 // What accepted scripts say, and the bytes that they leave. Numbers in files have the highest byte first.
-use crate::bench_run::{ONE_VARIABLE, RUN, bench_with, run};
+use crate::bench_run::{ONE_VARIABLE, RUN, bench_with, gives, run};
 use crate::files::{CATALOGUE, JOB, JOB_GATE, STEP_GATE, ZERO_OF_TWO, entry};
 use shelf_memory::Bench;
 use shelf_model::FileNo;
+use std::alloc::Global;
 use std::test::Fail;
 
 /// The words of a variable's file: its node, the truth values 0 and 1 that it leads to, and the trailer
@@ -19,6 +20,52 @@ const LEVEL_0: u64 = 0x0000_7fff_ffff_ffff;
 const LEVEL_1: u64 = 0x0000_ffff_ffff_ffff;
 
 const LEVEL_2: u64 = 0x0001_7fff_ffff_ffff;
+
+/// Whether a run of the script in an empty folder says this text, and each step's node file has these words and the
+/// next one no bytes.
+fn makes_files(alloc: Global, script: &[u8], said: &[u8], files: &[Words]) -> Result<bool, Fail> {
+    let mut bench = bench_with(alloc, script)?;
+    let told = gives(alloc, &mut bench, 0, said)?;
+    let mut step = 0;
+    for words in files {
+        if !holds(&bench, node_file(step), words) {
+            return Ok(false);
+        }
+        step = step.saturating_add(1);
+    }
+    Ok(told && bench.file(node_file(step)).is_empty())
+}
+
+/// Whether the run of a script of both constants says its text, and leaves the file of 0 and these bytes.
+fn makes_constants(alloc: Global, one: &[u8]) -> Result<bool, Fail> {
+    let mut bench = bench_with(alloc, b"vars a b\nconst z 0\nconst o 1\n")?;
+    Ok(
+        gives(
+            alloc,
+            &mut bench,
+            0,
+            b"start 2\n2: nodes 0\n3: nodes 0\ndone\n",
+        )? && bench.file(node_file(0)) == ZERO_OF_TWO.as_slice()
+            && bench.file(node_file(1)) == one,
+    )
+}
+
+/// Whether a run of one variable leaves the file with these bytes.
+fn leaves(alloc: Global, f: FileNo, wanted: &[u8]) -> Result<bool, Fail> {
+    let mut bench = bench_with(alloc, ONE_VARIABLE)?;
+    Ok(run(alloc, &RUN, &mut bench)? == 0 && bench.file(f) == wanted)
+}
+
+/// Whether a run of the script leaves this job behind an open gate, and a step gate with these bytes.
+fn keeps(alloc: Global, script: &[u8], job: &[u8], gate: &[u8]) -> Result<bool, Fail> {
+    let mut bench = bench_with(alloc, script)?;
+    Ok(
+        run(alloc, &RUN, &mut bench)? == 0
+            && bench.file(JOB) == job
+            && bench.file(JOB_GATE) == b"\x00".as_slice()
+            && bench.file(STEP_GATE) == gate,
+    )
+}
 
 #[test]
 fn makes_the_file_of_each_request(rt: HostRuntime) -> Result<(), Fail> {
@@ -46,20 +93,7 @@ fn makes_the_file_of_each_request(rt: HostRuntime) -> Result<(), Fail> {
         ),
     ];
     for (script, said, files) in cases {
-        let mut bench = bench_with(rt.alloc(), script)?;
-        assert_eq!(rt; run(rt.alloc(), &RUN, &mut bench)?, 0, "{script:?}");
-        assert_eq!(rt; bench.said(), said, "{script:?}");
-        for (step, words) in files.iter().enumerate() {
-            assert!(rt;
-                holds(&bench, node_file(step as u32), words),
-                "{script:?}, step {step}"
-            );
-        }
-        assert_eq!(rt;
-            bench.file(node_file(files.len() as u32)),
-            b"".as_slice(),
-            "{script:?}"
-        );
+        assert!(rt; makes_files(rt.alloc(), script, said, files)?, "{script:?}");
     }
     Ok(())
 }
@@ -69,14 +103,7 @@ fn makes_the_files_of_both_constants(rt: HostRuntime) -> Result<(), Fail> {
     let one = b"\x80\x00\x00\x00\x00\x00\x00\x01\
                 \x00\x00\x00\x00\x00\x00\x00\x00\
                 \x00\x00\x00\x00\x00\x00\x00\x02";
-    let mut bench = bench_with(rt.alloc(), b"vars a b\nconst z 0\nconst o 1\n")?;
-    assert_eq!(rt; run(rt.alloc(), &RUN, &mut bench)?, 0);
-    assert_eq!(rt;
-        bench.said(),
-        b"start 2\n2: nodes 0\n3: nodes 0\ndone\n".as_slice()
-    );
-    assert_eq!(rt; bench.file(node_file(0)), ZERO_OF_TWO.as_slice());
-    assert_eq!(rt; bench.file(node_file(1)), one.as_slice());
+    assert!(rt; makes_constants(rt.alloc(), one)?);
     Ok(())
 }
 
@@ -85,9 +112,7 @@ fn writes_numbers_with_the_highest_byte_first(rt: HostRuntime) -> Result<(), Fai
     let wanted = b"\x00\x00\xff\xff\xff\xff\xff\xff\x80\x00\x00\x00\x00\x00\x00\x00\
                    \x80\x00\x00\x00\x00\x00\x00\x01\x00\x00\xff\xff\xff\xff\xff\xff\
                    \x00\x00\x00\x00\x00\x00\x00\x01\x00\x00\x00\x00\x00\x00\x00\x03";
-    let mut bench = bench_with(rt.alloc(), ONE_VARIABLE)?;
-    assert_eq!(rt; run(rt.alloc(), &RUN, &mut bench)?, 0);
-    assert_eq!(rt; bench.file(node_file(0)), wanted.as_slice());
+    assert!(rt; leaves(rt.alloc(), node_file(0), wanted)?);
     Ok(())
 }
 
@@ -113,11 +138,7 @@ fn keeps_the_job_and_the_gates(rt: HostRuntime) -> Result<(), Fail> {
         ),
     ];
     for (script, job, gate) in cases {
-        let mut bench = bench_with(rt.alloc(), script)?;
-        assert_eq!(rt; run(rt.alloc(), &RUN, &mut bench)?, 0, "{script:?}");
-        assert_eq!(rt; bench.file(JOB), job, "{script:?}");
-        assert_eq!(rt; bench.file(JOB_GATE), b"\x00".as_slice(), "{script:?}");
-        assert_eq!(rt; bench.file(STEP_GATE), gate, "{script:?}");
+        assert!(rt; keeps(rt.alloc(), script, job, gate)?, "{script:?}");
     }
     Ok(())
 }
@@ -125,9 +146,7 @@ fn keeps_the_job_and_the_gates(rt: HostRuntime) -> Result<(), Fail> {
 #[test]
 fn keeps_the_entry_of_a_step(rt: HostRuntime) -> Result<(), Fail> {
     let wanted = entry(0, b'f');
-    let mut bench = bench_with(rt.alloc(), ONE_VARIABLE)?;
-    assert_eq!(rt; run(rt.alloc(), &RUN, &mut bench)?, 0);
-    assert_eq!(rt; bench.file(CATALOGUE), wanted.as_slice());
+    assert!(rt; leaves(rt.alloc(), CATALOGUE, &wanted)?);
     Ok(())
 }
 

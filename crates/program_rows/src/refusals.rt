@@ -1,8 +1,33 @@
 // Words and scripts that aren't accepted: one line is said, and no file is made.
-use crate::bench_run::{ONE_VARIABLE, RUN, bench_with, run};
+use crate::bench_run::{ONE_VARIABLE, bench_with, gives, run};
 use crate::files::FIRST;
 use shelf_memory::Bench;
+use std::alloc::Global;
 use std::test::Fail;
+
+/// Whether the usage is all that is said to these words. Nothing was fetched then, and no folder was entered.
+fn says_the_usage(alloc: Global, words: &[&str]) -> Result<bool, Fail> {
+    let mut bench = bench_with(alloc, ONE_VARIABLE)?;
+    Ok(
+        run(alloc, words, &mut bench)? == 2
+            && bench.said() == b"usage: adiar ACTION FOLDER [options]\n".as_slice()
+            && bench.file(FIRST).is_empty()
+            && bench.clock() == 1,
+    )
+}
+
+/// Whether the script is refused, and no file is made.
+fn refuses(alloc: Global, script: &[u8]) -> Result<bool, Fail> {
+    let mut bench = bench_with(alloc, script)?;
+    Ok(gives(alloc, &mut bench, 3, b"script: line 0: Word\n")? && bench.file(FIRST).is_empty())
+}
+
+/// Whether a run ends with nothing said where no text is at the script's path.
+fn ends_without_a_script(alloc: Global) -> Result<bool, Fail> {
+    let mut bench = Bench::empty(alloc);
+    bench.put_text("other", ONE_VARIABLE)?;
+    Ok(gives(alloc, &mut bench, 6, b"")? && bench.file(FIRST).is_empty())
+}
 
 #[test]
 fn says_the_usage_to_other_words(rt: HostRuntime) -> Result<(), Fail> {
@@ -17,16 +42,7 @@ fn says_the_usage_to_other_words(rt: HostRuntime) -> Result<(), Fail> {
         &["run", "FOLDER", "--script", "script"],
     ];
     for words in cases {
-        let mut bench = bench_with(rt.alloc(), ONE_VARIABLE)?;
-        assert_eq!(rt; run(rt.alloc(), words, &mut bench)?, 2, "{words:?}");
-        assert_eq!(rt;
-            bench.said(),
-            b"usage: adiar ACTION FOLDER [options]\n".as_slice(),
-            "{words:?}"
-        );
-        assert_eq!(rt; bench.file(FIRST), b"".as_slice(), "{words:?}");
-        // Nothing was fetched, and no folder was entered.
-        assert_eq!(rt; bench.clock(), 1, "{words:?}");
+        assert!(rt; says_the_usage(rt.alloc(), words)?, "{words:?}");
     }
     Ok(())
 }
@@ -47,24 +63,13 @@ fn says_that_a_script_is_refused(rt: HostRuntime) -> Result<(), Fail> {
         b"vars a\nvar f a\ndrop f\nvar f a\n",
     ];
     for script in cases {
-        let mut bench = bench_with(rt.alloc(), script)?;
-        assert_eq!(rt; run(rt.alloc(), &RUN, &mut bench)?, 3, "{script:?}");
-        assert_eq!(rt;
-            bench.said(),
-            b"script: line 0: Word\n".as_slice(),
-            "{script:?}"
-        );
-        assert_eq!(rt; bench.file(FIRST), b"".as_slice(), "{script:?}");
+        assert!(rt; refuses(rt.alloc(), script)?, "{script:?}");
     }
     Ok(())
 }
 
 #[test]
 fn says_nothing_without_a_script(rt: HostRuntime) -> Result<(), Fail> {
-    let mut bench = Bench::empty(rt.alloc());
-    bench.put_text("other", ONE_VARIABLE)?;
-    assert_eq!(rt; run(rt.alloc(), &RUN, &mut bench)?, 6);
-    assert_eq!(rt; bench.said(), b"".as_slice());
-    assert_eq!(rt; bench.file(FIRST), b"".as_slice());
+    assert!(rt; ends_without_a_script(rt.alloc())?);
     Ok(())
 }

@@ -1,5 +1,5 @@
 // Runs in a folder where a run ended or was stopped, and in folders that hold something else.
-use crate::bench_run::{ONE_VARIABLE, RUN, THREE_TEXT, THREE_VARIABLES, bench_with, run};
+use crate::bench_run::{ONE_VARIABLE, RUN, THREE_TEXT, THREE_VARIABLES, bench_with, gives, run};
 use crate::files::{CATALOGUE, STEP_GATE, same_files};
 use shelf_memory::{Bench, Choice};
 use std::alloc::Global;
@@ -12,9 +12,18 @@ fn ended(alloc: Global, script: &[u8]) -> Result<Bench, Fail> {
     Ok(bench.stop(Choice::Firm)?)
 }
 
+/// Whether a run that was stopped with a second byte of the gate that isn't made sure goes on with this text.
+fn goes_on_with(alloc: Global, choice: Choice, said: &[u8]) -> Result<bool, Fail> {
+    let mut bench = bench_with(alloc, THREE_VARIABLES)?;
+    bench.fail_when(STEP_GATE, 2);
+    let begun = gives(alloc, &mut bench, 7, b"start 3\n2: nodes 1\n")?;
+    let mut next = bench.stop(choice)?;
+    let whole = ended(alloc, THREE_VARIABLES)?;
+    Ok(begun && gives(alloc, &mut next, 0, said)? && same_files(&next, &whole))
+}
+
 #[test]
 fn goes_on_where_a_step_may_be_committed(rt: HostRuntime) -> Result<(), Fail> {
-    let whole = ended(rt.alloc(), THREE_VARIABLES)?;
     let cases: [(Choice, &[u8]); 2] = [
         (
             Choice::Firm,
@@ -23,46 +32,60 @@ fn goes_on_where_a_step_may_be_committed(rt: HostRuntime) -> Result<(), Fail> {
         (Choice::Present, b"resume 2 of 3\n4: nodes 1\ndone\n"),
     ];
     for (choice, said) in cases {
-        let mut bench = bench_with(rt.alloc(), THREE_VARIABLES)?;
-        // The gate has a second byte, which isn't made sure.
-        bench.fail_when(STEP_GATE, 2);
-        assert_eq!(rt; run(rt.alloc(), &RUN, &mut bench)?, 7, "{choice:?}");
-        assert_eq!(rt;
-            bench.said(),
-            b"start 3\n2: nodes 1\n".as_slice(),
-            "{choice:?}"
-        );
-        let mut next = bench.stop(choice)?;
-        assert_eq!(rt; run(rt.alloc(), &RUN, &mut next)?, 0, "{choice:?}");
-        assert_eq!(rt; next.said(), said, "{choice:?}");
-        assert!(rt; same_files(&next, &whole), "{choice:?}");
+        assert!(rt; goes_on_with(rt.alloc(), choice, said)?, "{choice:?}");
     }
     Ok(())
 }
 
-#[test]
-fn says_which_entry_is_damaged(rt: HostRuntime) -> Result<(), Fail> {
-    let mut bench = ended(rt.alloc(), THREE_VARIABLES)?;
-    let mut left = ended(rt.alloc(), THREE_VARIABLES)?;
-    let mut front = Vec::from_slice(rt.alloc(), bench.file(CATALOGUE))?;
+/// Whether a run finds the third entry damaged where the catalogue has 300 bytes, and leaves all as it was.
+fn finds_a_damaged_entry(alloc: Global) -> Result<bool, Fail> {
+    let mut bench = ended(alloc, THREE_VARIABLES)?;
+    let mut left = ended(alloc, THREE_VARIABLES)?;
+    let mut front = Vec::from_slice(alloc, bench.file(CATALOGUE))?;
     front.truncate(300);
     bench.put_file(CATALOGUE, &front)?;
     left.put_file(CATALOGUE, &front)?;
-    assert_eq!(rt; run(rt.alloc(), &RUN, &mut bench)?, 10);
-    assert_eq!(rt; bench.said(), b"damaged 4294967295 2 256\n".as_slice());
-    assert_eq!(rt; bench.file(CATALOGUE).len(), 300);
-    assert!(rt; same_files(&bench, &left));
+    Ok(
+        gives(alloc, &mut bench, 10, b"damaged 4294967295 2 256\n")?
+            && bench.file(CATALOGUE).len() == 300
+            && same_files(&bench, &left),
+    )
+}
+
+#[test]
+fn says_which_entry_is_damaged(rt: HostRuntime) -> Result<(), Fail> {
+    assert!(rt; finds_a_damaged_entry(rt.alloc())?);
     Ok(())
+}
+
+/// Whether a run finds a step gate damaged that is longer than the script has steps, and leaves it.
+fn finds_a_longer_gate(alloc: Global) -> Result<bool, Fail> {
+    let mut bench = ended(alloc, THREE_VARIABLES)?;
+    bench.put_file(STEP_GATE, &[0; 4])?;
+    Ok(
+        gives(alloc, &mut bench, 10, b"damaged 4294967295 3 3\n")?
+            && bench.file(STEP_GATE) == [0; 4].as_slice(),
+    )
 }
 
 #[test]
 fn says_that_a_longer_gate_is_damaged(rt: HostRuntime) -> Result<(), Fail> {
-    let mut bench = ended(rt.alloc(), THREE_VARIABLES)?;
-    bench.put_file(STEP_GATE, &[0; 4])?;
-    assert_eq!(rt; run(rt.alloc(), &RUN, &mut bench)?, 10);
-    assert_eq!(rt; bench.said(), b"damaged 4294967295 3 3\n".as_slice());
-    assert_eq!(rt; bench.file(STEP_GATE), [0; 4].as_slice());
+    assert!(rt; finds_a_longer_gate(rt.alloc())?);
     Ok(())
+}
+
+/// Whether a run of the script where another ended answers this, says this text and leaves all as it was.
+fn answers_over(
+    alloc: Global,
+    stored: &[u8],
+    script: &[u8],
+    status: u8,
+    said: &[u8],
+) -> Result<bool, Fail> {
+    let mut bench = ended(alloc, stored)?;
+    let left = ended(alloc, stored)?;
+    bench.put_text("script", script)?;
+    Ok(gives(alloc, &mut bench, status, said)? && same_files(&bench, &left))
 }
 
 #[test]
@@ -91,36 +114,39 @@ fn says_where_another_job_differs(rt: HostRuntime) -> Result<(), Fail> {
         (THREE_VARIABLES, ONE_VARIABLE, 5, b"other job at 15\n"),
     ];
     for (stored, script, status, said) in cases {
-        let mut bench = ended(rt.alloc(), stored)?;
-        let left = ended(rt.alloc(), stored)?;
-        bench.put_text("script", script)?;
-        assert_eq!(rt; run(rt.alloc(), &RUN, &mut bench)?, status, "{said:?}");
-        assert_eq!(rt; bench.said(), said);
-        assert!(rt; same_files(&bench, &left), "{said:?}");
+        assert!(rt;
+            answers_over(rt.alloc(), stored, script, status, said)?,
+            "{said:?}"
+        );
     }
     Ok(())
 }
 
+/// Whether a step counts whose line wasn't said, since the call that says it failed. Calls 13, 22 and 23 say.
+fn counts_an_unsaid_step(alloc: Global) -> Result<bool, Fail> {
+    let mut bench = bench_with(alloc, ONE_VARIABLE)?;
+    bench.fail_at(22)?;
+    let begun = gives(alloc, &mut bench, 8, b"start 1\n")?
+        && bench.file(STEP_GATE) == [0].as_slice();
+    Ok(begun && gives(alloc, &mut bench, 0, b"start 1\nresume 1 of 1\ndone\n")?)
+}
+
 #[test]
 fn counts_a_step_whose_line_was_not_said(rt: HostRuntime) -> Result<(), Fail> {
-    let mut bench = bench_with(rt.alloc(), ONE_VARIABLE)?;
-    // Calls 13, 22 and 23 say.
-    bench.fail_at(22)?;
-    assert_eq!(rt; run(rt.alloc(), &RUN, &mut bench)?, 8);
-    assert_eq!(rt; bench.said(), b"start 1\n".as_slice());
-    assert_eq!(rt; bench.file(STEP_GATE), [0].as_slice());
-    assert_eq!(rt; run(rt.alloc(), &RUN, &mut bench)?, 0);
-    assert_eq!(rt; bench.said(), b"start 1\nresume 1 of 1\ndone\n".as_slice());
+    assert!(rt; counts_an_unsaid_step(rt.alloc())?);
     Ok(())
+}
+
+/// Whether a run where the step gate has bytes and no job is stored is one from nothing.
+fn runs_as_from_nothing(alloc: Global) -> Result<bool, Fail> {
+    let whole = ended(alloc, THREE_VARIABLES)?;
+    let mut bench = bench_with(alloc, THREE_VARIABLES)?;
+    bench.put_file(STEP_GATE, &[0; 3])?;
+    Ok(gives(alloc, &mut bench, 0, THREE_TEXT)? && same_files(&bench, &whole))
 }
 
 #[test]
 fn runs_as_from_nothing_where_no_job_is_stored(rt: HostRuntime) -> Result<(), Fail> {
-    let whole = ended(rt.alloc(), THREE_VARIABLES)?;
-    let mut bench = bench_with(rt.alloc(), THREE_VARIABLES)?;
-    bench.put_file(STEP_GATE, &[0; 3])?;
-    assert_eq!(rt; run(rt.alloc(), &RUN, &mut bench)?, 0);
-    assert_eq!(rt; bench.said(), THREE_TEXT);
-    assert!(rt; same_files(&bench, &whole));
+    assert!(rt; runs_as_from_nothing(rt.alloc())?);
     Ok(())
 }
