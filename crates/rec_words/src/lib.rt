@@ -1,6 +1,7 @@
 //! The words that diagrams are stored as: pointers, nodes, and the records that can be spilled.
 #![tactic(auto)]
 
+pub mod laws;
 mod node;
 mod ptr;
 mod rec;
