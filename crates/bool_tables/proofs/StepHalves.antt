@@ -203,7 +203,7 @@ pub table_with-values : (h : ℕ) (t : List Bool) → length t ≡ 2 ^ h → tab
 table_with-values h t long = sym (fill_by_all (value_at t) t (2 ^ h) false long (λ p b. refl))
 
 -- a half has half of the values
-length-half : (h : ℕ) (value : Bool) (t : List Bool) → length t ≡ 2 ^ suc h → length (half_where h value t) ≡ 2 ^ h
+pub length-half : (h : ℕ) (value : Bool) (t : List Bool) → length t ≡ 2 ^ suc h → length (half_where h value t) ≡ 2 ^ h
 length-half h false t long = omega (arith, length-take-le (2 ^ h) t (omega (arith, long, twice h)))
 length-half h true t long = omega (arith, length-drop (2 ^ h) t, long, twice h)
 

@@ -24,6 +24,12 @@ word_apart x y a b below-x below-y e =
     let bytes : to_be_bytes w64 x ≡ to_be_bytes w64 y = ap (take 8) e in
     (sym (from_be_bytes-to_be_bytes_8 x below-x) ∙ ap (from_be_bytes w64) bytes ∙ from_be_bytes-to_be_bytes_8 y below-y, ap (drop 8) e)
 
+-- the bytes of nodes that follow others
+pub node_bytes-append : (xs ys : List Node) → node_bytes (xs ++ ys) ≡ node_bytes xs ++ node_bytes ys
+node_bytes-append [] ys = refl
+node_bytes-append (x ∷ xs) ys =
+    ap (λ bytes. to_be_bytes w64 x.uid ++ (to_be_bytes w64 x.low ++ (to_be_bytes w64 x.high ++ bytes))) (node_bytes-append xs ys)
+
 pub length-node_bytes : (xs : List Node) → length (node_bytes xs) ≡ 24 * length xs
 length-node_bytes [] = refl
 length-node_bytes (x ∷ xs) = omega (arith, length-node_bytes xs)

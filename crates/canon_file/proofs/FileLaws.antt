@@ -103,7 +103,7 @@ ends_last [] x = refl
 ends_last (y ∷ []) x = refl
 ends_last (y ∷ z ∷ xs) x = ends_last (z ∷ xs) x
 
-terminal_ends : (b : Bool) → IsTerminal (terminal b)
+pub terminal_ends : (b : Bool) → IsTerminal (terminal b)
 terminal_ends true = inr refl
 terminal_ends false = inl refl
 

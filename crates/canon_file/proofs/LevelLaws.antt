@@ -17,7 +17,7 @@ use Rattle.list_laws.specs.Members.{Has, put, ascending, IsAscending}
 use Rattle.canon_file.specs.Pieces.{splits, halves, pieces, part_at, parts}
 use Rattle.canon_file.specs.Rows.{row_before, row_word, place_of, row_of, rows_with, pointer, levels, Fits}
 use Rattle.canon_file.specs.Canon.{numbered, nodes_of, node_bytes, trailer_bytes, canon_nodes, canon_root, canon_bytes}
-use Rattle.canon_file.proofs.ByteLaws.{length-node_bytes}
+use Rattle.canon_file.proofs.ByteLaws.{length-node_bytes, node_bytes-append}
 use Rattle.canon_file.specs.Laws.{HasForm}
 use Rattle.canon_file.specs.Pairs.{pairs, differs, distinct_rows, word_in, words_above}
 use Rattle.list_laws.proofs.MemberLaws.{ascending_ascends, ascending_keeps, has_filter}
@@ -100,12 +100,12 @@ length-pairs (x ∷ y ∷ words) = omega (arith, length-pairs words)
 
 pub length-distinct : (words : List ℕ) → length (distinct_rows words) ≤ length words
 length-distinct words = omega (
-      arith,
-      length-ascending row_before (filter differs (pairs words)),
-      length-filter differs (pairs words),
-      count_by-le-length differs (pairs words),
-      length-pairs words,
-    )
+  arith,
+  length-ascending row_before (filter differs (pairs words)),
+  length-filter differs (pairs words),
+  count_by-le-length differs (pairs words),
+  length-pairs words,
+)
 
 length-halves : (h : ℕ) (ps : List (List Bool)) → length (halves h ps) ≡ length ps + length ps
 length-halves h [] = refl
@@ -162,11 +162,6 @@ words_begin n t long =
     let same : 2 ^ (n + 0) ≡ 2 ^ n = ap (λ k. 2 ^ k) (omega arith) in
     let whole : 0 + 2 ^ n ≡ length t = omega arith in
     sym (base_words t 0 (2 ^ n) whole) ∙ ap (map (λ p. terminal (get_or p 0 false))) (sym (pieces-parts n 0 t (long ∙ sym same)))
-
-pub node_bytes-append : (xs ys : List Node) → node_bytes (xs ++ ys) ≡ node_bytes xs ++ node_bytes ys
-node_bytes-append [] ys = refl
-node_bytes-append (x ∷ xs) ys =
-    ap (λ bytes. to_be_bytes w64 x.uid ++ (to_be_bytes w64 x.low ++ (to_be_bytes w64 x.high ++ bytes))) (node_bytes-append xs ys)
 
 fits_pieces : (i h : ℕ) (t : List Bool) → i + h ≤ 47 → Fits (levels h i (pieces i h t))
 fits_pieces i h t few =

@@ -7,7 +7,7 @@ pub mod FileLaws
 pub mod CanonLaws
 mod LevelLaws
 mod SearchLaws
-pub mod PartLaws
+mod PartLaws
 pub mod ByteLaws
 pub mod WalkLaws
 pub mod StandLaws

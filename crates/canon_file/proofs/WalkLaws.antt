@@ -2,7 +2,7 @@
 use Rattle.std.specs.Prelude.{◌≡◌, ℕ, zero, suc, ◌+◌, ◌^◌, ◌<◌, ◌≤◌, Bool, true, false, cond, List, [], ◌∷◌, length, get_or}
 use Rattle.std.proofs.Common.{refl, sym, ◌∙◌, ap, subst, inl, inr, arith}
 use Rattle.std.proofs.lemmas.List.{append-nil, get_or-take, get_or-drop}
-use Rattle.bool_tables.specs.Tables.{low_half, high_half, value_at, place_of_bits}
+use Rattle.bool_tables.specs.Tables.{low_half, high_half, half_where, value_at, place_of_bits}
 use Rattle.bool_tables.proofs.Halves.{twice}
 use Rattle.rec_words.specs.Words.{terminal}
 use Rattle.canon_file.specs.declared.row.Row.{Row}
@@ -12,7 +12,8 @@ use Rattle.canon_file.specs.Rows.{row_word, place_of, row_of, rows_with, pointer
 use Rattle.canon_file.specs.Canon.{canon_nodes, canon_root}
 use Rattle.canon_file.specs.Walks.{is_at, walk, nowhere, row_at, Agrees}
 use Rattle.std.proofs.lemmas.Bool.{cases_Bool}
-use Rattle.canon_file.proofs.PieceLaws.{length-low, length-high, unsplit, has_low, has_high}
+use Rattle.bool_tables.proofs.StepHalves.{length-half}
+use Rattle.canon_file.proofs.PieceLaws.{unsplit, has_low, has_high}
 use Rattle.canon_file.proofs.RowLaws.{has_row, pointer-unsplit, pointer-split}
 use Rattle.canon_file.proofs.StandLaws.{at_level, deeper_at, pointer_deep, placed, agrees}
 
@@ -22,41 +23,33 @@ place_below [] = omega arith
 place_below (true ∷ bits) = omega (arith, place_below bits, twice (length bits))
 place_below (false ∷ bits) = omega (arith, place_below bits, twice (length bits))
 
--- the half of a table that a digit chooses
-abbrev half : ℕ → Bool → List Bool → List Bool
-half h b t = cond b (high_half h t) (low_half h t)
-
 -- the value at a place is that of the half that its first digit chooses
 value-half : (t bits : List Bool) (b : Bool)
-    → value_at (half (length bits) b t) (place_of_bits bits) ≡ value_at t (place_of_bits (b ∷ bits))
+    → value_at (half_where (length bits) b t) (place_of_bits bits) ≡ value_at t (place_of_bits (b ∷ bits))
 value-half t bits true = get_or-drop (2 ^ length bits) t (place_of_bits bits) false
 value-half t bits false =
     let same : place_of_bits bits ≡ 0 + place_of_bits bits = omega arith in
     get_or-take (2 ^ length bits) t (place_of_bits bits) false (place_below bits) ∙ ap (λ k. get_or t k false) same
 
-below-half : (f : List Bool → ℕ) (h : ℕ) (b : Bool) (p : List Bool) → cond b (f (high_half h p)) (f (low_half h p)) ≡ f (half h b p)
+below-half : (f : List Bool → ℕ) (h : ℕ) (b : Bool) (p : List Bool) → cond b (f (high_half h p)) (f (low_half h p)) ≡ f (half_where h b p)
 below-half f h true p = refl
 below-half f h false p = refl
 
-same_half : (h : ℕ) (b : Bool) (p : List Bool) → low_half h p ≡ high_half h p → low_half h p ≡ half h b p
+same_half : (h : ℕ) (b : Bool) (p : List Bool) → low_half h p ≡ high_half h p → low_half h p ≡ half_where h b p
 same_half h true p e = e
 same_half h false p e = refl
 
-half_has : (h : ℕ) (b : Bool) (p : List Bool) (ps : List (List Bool)) → Has p ps → Has (half h b p) (halves h ps)
+half_has : (h : ℕ) (b : Bool) (p : List Bool) (ps : List (List Bool)) → Has p ps → Has (half_where h b p) (halves h ps)
 half_has h true p ps m = has_high h p ps m
 half_has h false p ps m = has_low h p ps m
 
-length-half : (h : ℕ) (b : Bool) (p : List Bool) → length p ≡ 2 ^ suc h → length (half h b p) ≡ 2 ^ h
-length-half h true p n = length-high h p n
-length-half h false p n = length-low h p n
-
 -- where a walk goes from w on level i
-abbrev onward : (ℕ → Row) → ℕ → Bool → ℕ → ℕ
+abbrev pub onward : (ℕ → Row) → ℕ → Bool → ℕ → ℕ
 onward arcs i b w = cond (is_at i w) (cond b (arcs w).high (arcs w).low) w
 
 -- from the pointer of a piece it goes to the pointer of the half that the digit chooses
 onward-pointer : (arcs : ℕ → Row) (h i : ℕ) (b : Bool) (ps : List (List Bool)) (p : List Bool) → i + suc h ≤ 65535
-    → Agrees arcs i (levels (suc h) i ps) → Has p ps → onward arcs i b (pointer (suc h) i ps p) ≡ pointer h (suc i) (halves h ps) (half h b p)
+    → Agrees arcs i (levels (suc h) i ps) → Has p ps → onward arcs i b (pointer (suc h) i ps p) ≡ pointer h (suc i) (halves h ps) (half_where h b p)
 onward-pointer arcs h i b ps p l a m =
     let below : List Bool → ℕ = pointer h (suc i) (halves h ps) in
     elim (cases_Bool (splits h p)) [
@@ -86,8 +79,8 @@ pointer_walks arcs (suc h) i ps p [] l a f m n k = absurd (omega arith)
 pointer_walks arcs (suc h) i ps p (b ∷ bits) l a f m n k =
     let long : h ≡ length bits = omega arith in
     ap (walk arcs (suc i) bits) (onward-pointer arcs h i b ps p l a m)
-    ∙ pointer_walks arcs h (suc i) (halves h ps) (half h b p) bits (omega arith) a.1 f.1 (half_has h b p ps m) (length-half h b p n) (sym long)
-    ∙ (λ j. terminal (value_at (half (long j) b p) (place_of_bits bits)))
+    ∙ pointer_walks arcs h (suc i) (halves h ps) (half_where h b p) bits (omega arith) a.1 f.1 (half_has h b p ps m) (length-half h b p n) (sym long)
+    ∙ (λ j. terminal (value_at (half_where (long j) b p) (place_of_bits bits)))
     ∙ ap terminal (value-half p bits b)
 
 -- a walk through the canonical nodes ends at the table's value

@@ -1,9 +1,9 @@
 pub mod Fields
-pub mod Written
+mod Written
 pub mod Counted
 pub mod Places
-pub mod Shared
+mod Shared
 pub mod Stored
-pub mod Synced
-pub mod Resumed
-pub mod Laws
+mod Synced
+mod Resumed
+mod Laws

@@ -1,7 +1,7 @@
-pub mod Lookups
-pub mod Events
-pub mod Paths
-pub mod Endings
-pub mod Reached
-pub mod Answered
-pub mod Stops
+mod Lookups
+mod Events
+mod Paths
+mod Endings
+mod Reached
+mod Answered
+mod Stops

@@ -40,7 +40,7 @@ get-chosen choice folder q =
     ∙ ap (option_map (choice q)) (sym (get-entries folder q))
 
 -- nothing but no bytes is left of the empty file
-left_of_none : (left : List ℕ) → IsLeft no_file left → left ≡ []
+pub left_of_none : (left : List ℕ) → IsLeft no_file left → left ≡ []
 left_of_none left h = only_image [] left h
 
 read_chosen : (choice : File → List ℕ) (o : Option File) → IsLeft (unwrap_or o no_file) (choice (unwrap_or o no_file)) → unwrap_or (option_map choice o) [] ≡ choice (unwrap_or o no_file)
