@@ -3,7 +3,7 @@ use Rattle.std.specs.Prelude.{◌≡◌, ℕ, ◌+◌, ◌-◌, ◌<◌, false, 
 use Rattle.shelf_model.specs.declared.file_no.FileNo.{FileNo}
 use Rattle.shelf_model.specs.declared.fault.StreamFault.{StreamFault}
 use Rattle.shelf_model.specs.declared.fault.StreamFault.TheVariants.{Shelf, Damaged}
-use Rattle.block_stream.specs.Reads.{place_of, IsDamageAt}
+use Rattle.block_stream.specs.Reads.{place_of, waits_behind, TakesBehind, IsDamageAt}
 use Rattle.block_stream.specs.Items.{AreBehind}
 use Rattle.block_stream.specs.Backwards as stream
 use Rattle.arc_file.specs.declared.arc.Arc.{Arc}
@@ -23,6 +23,17 @@ left_of s = place_of (stream.reading_of s.arcs)
 -- the arc that was given last
 abbrev pub given_of : ArcStream → Option Arc
 given_of s = s.given
+
+-- how many arcs wait in its window, and how many its window has room for
+abbrev pub waiting_of : ArcStream → ℕ
+waiting_of s = waits_behind (stream.reading_of s.arcs)
+
+abbrev pub room_of : ArcStream → ℕ
+room_of s = stream.room_of s.arcs
+
+-- of the arcs that waited one is given; where none did, of as many as the window, a piece and what is left allow
+abbrev pub Takes : ArcStream → ArcStream → Result (Option Arc) StreamFault → Type 0
+Takes old new result = (room_of new ≡ room_of old) × TakesBehind (room_of old) (stream.reading_of old.arcs) (stream.reading_of new.arcs) result
 
 -- what it has read is as these bytes of its file say
 pub record Reads (kind : Kind) (s : ArcStream) (bytes : List ℕ) : Type 0 where

@@ -1,13 +1,14 @@
 -- What is seen of a writer of arc files.
-use Rattle.std.specs.Prelude.{◌≡◌, ◌⊎◌, ℕ, ◌*◌, ◌≤◌, List, length}
+use Rattle.std.specs.Prelude.{◌≡◌, ◌⊎◌, ℕ, ◌*◌, ◌<◌, ◌≤◌, ◌^◌, List, length}
 use Rattle.shelf_model.specs.declared.file_no.FileNo.{FileNo}
 use Rattle.shelf_model.specs.declared.fault.StreamFault.{StreamFault}
 use Rattle.shelf_model.specs.declared.fault.StreamFault.TheVariants.{Shelf, Damaged}
 use Rattle.shelf_model.specs.File.{File, firm_file}
 use Rattle.shelf_model.specs.World.{World, file}
 use Rattle.block_stream.specs.Writes.{InStep, count_of}
+use Rattle.block_stream.specs.Records.{piece_records}
 use Rattle.block_stream.specs.Reads.{IsShort}
-use Rattle.block_stream.specs.Appenders.{filling_of, written_of, HoldsItems}
+use Rattle.block_stream.specs.Appenders.{filling_of, room_of, written_of, HoldsItems}
 use Rattle.arc_file.specs.declared.arc.Arc.{Arc}
 use Rattle.arc_file.specs.declared.unreduced.Unreduced.{Unreduced}
 use Rattle.arc_file.specs.declared.writer.ArcWriter.{ArcWriter}
@@ -56,6 +57,11 @@ pub record HoldsArcs (w : ArcWriter) (world : World) (xs ys : List Arc) : Type 0
   pub inner_many : length xs ≡ inner_count w
   pub ends_are : HoldsItems IsArc arc_words w.ends world ys
   pub ends_many : length ys ≡ ends_count w
+
+-- less than a full piece waits in the window of the file that the arc's target chooses
+pub record HasSpace (w : ArcWriter) (a : Arc) : Type 0 where
+  pub inner : a.target < 2 ^ 63 → (filling_of w.inner).waiting < piece_records (filling_of w.inner).words (room_of w.inner)
+  pub ends : 2 ^ 63 ≤ a.target → (filling_of w.ends).waiting < piece_records (filling_of w.ends).words (room_of w.ends)
 
 -- what a stop leaves of a file are these arcs, so many of them, and nothing else
 pub record IsFileOf (xs : List Arc) (count : ℕ) (f : File) : Type 0 where

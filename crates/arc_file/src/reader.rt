@@ -16,7 +16,7 @@ pub struct ArcReader<'r> {
 }
 
 impl<'r> ArcReader<'r> {
-    ghost use Rattle.std.specs.Prelude.{◌≡◌, ℕ, ◌*◌, ◌≤◌, List, length, OnOk, IsTrue, None};
+    ghost use Rattle.std.specs.Prelude.{◌≡◌, ℕ, ◌-◌, ◌*◌, ◌/◌, ◌<◌, ◌≤◌, List, length, OnOk, IsTrue, None};
     ghost use Rattle.shelf_model.specs.World.{file};
     ghost use Rattle.shelf_model.specs.Calls.{Told, longest};
     ghost use Rattle.shelf_model.specs.Faults.{OnlyShelf};
@@ -27,7 +27,7 @@ impl<'r> ArcReader<'r> {
     ghost use Rattle.block_stream.specs.Items.{GivesLast};
     ghost use Rattle.arc_file.specs.Arcs.{arc_size};
     ghost use Rattle.arc_file.specs.Files.{HasArcs};
-    ghost use Rattle.arc_file.specs.Streams.{file_of, given_of, Reads, AreLeft, GoesUp, IsArcAnswer};
+    ghost use Rattle.arc_file.specs.Streams.{file_of, given_of, waiting_of, room_of, Takes, Reads, AreLeft, GoesUp, IsArcAnswer};
     ghost use Rattle.arc_file.specs.Readers.{root_of, inner_of, ends_of, left_over_of};
 
     /// Begins with the last arcs of both files. The room is halved for them.
@@ -37,6 +37,9 @@ impl<'r> ArcReader<'r> {
         requires ends_fit { made.ends_count * arc_size ≤ longest }
         ensures left_over { left_over_of result ≡ made }
         ensures given { (given_of (inner_of result) ≡ None) × (given_of (ends_of result) ≡ None) }
+        ensures waits { (waiting_of (inner_of result) ≡ 0) × (waiting_of (ends_of result) ≡ 0) }
+        ensures rooms { (room_of (inner_of result) ≡ length room.entry.now / 2)
+            × (room_of (ends_of result) ≡ length room.entry.now - length room.entry.now / 2) }
         ensures reads_inner { (bytes : List ℕ) → Reads Inner (inner_of result) bytes }
         ensures reads_ends { (bytes : List ℕ) → Reads End (ends_of result) bytes }
         ensures inner_arcs { (bytes : List ℕ) → (xs : List Arc) →
@@ -75,7 +78,10 @@ impl<'r> ArcReader<'r> {
             Reads Inner s bytes → (xs : List Arc) → AreLeft Inner s bytes xs →
             GivesLast (AreLeft Inner (inner_of self.new) bytes) xs result }
 
-        // what the call leaves
+        // what waits afterwards, what the call leaves and what it costs
+        ensures waits { Takes (inner_of self.old) (inner_of self.new) result }
+        ensures calls { IsTrue (S.tells shelf.new) → 0 < waiting_of (inner_of self.old) →
+            (S.world shelf.new).clock ≡ (S.world shelf.old).clock }
         ensures content { Told S.tells shelf.old shelf.new (Looked 1 (S.world shelf.old) (S.world shelf.new)) }
         ensures faults { OnlyShelf (S.faults shelf.old) (S.faults shelf.new) result }
     {
@@ -105,7 +111,10 @@ impl<'r> ArcReader<'r> {
             Reads End s bytes → (xs : List Arc) → AreLeft End s bytes xs →
             GivesLast (AreLeft End (ends_of self.new) bytes) xs result }
 
-        // what the call leaves
+        // what waits afterwards, what the call leaves and what it costs
+        ensures waits { Takes (ends_of self.old) (ends_of self.new) result }
+        ensures calls { IsTrue (S.tells shelf.new) → 0 < waiting_of (ends_of self.old) →
+            (S.world shelf.new).clock ≡ (S.world shelf.old).clock }
         ensures content { Told S.tells shelf.old shelf.new (Looked 1 (S.world shelf.old) (S.world shelf.new)) }
         ensures faults { OnlyShelf (S.faults shelf.old) (S.faults shelf.new) result }
     {

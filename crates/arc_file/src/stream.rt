@@ -5,8 +5,8 @@ ghost use Rattle.block_stream.specs.Reads.{place_of};
 ghost use Rattle.block_stream.specs.Backwards.{reading_of};
 ghost use Rattle.arc_file.specs.Arcs.{arc_size};
 
-use crate::{ARC_SIZE, Arc};
 use crate::kind::{Kind, may_stand};
+use crate::{ARC_SIZE, Arc};
 use block_stream::Backward;
 use rec_words::Rec;
 use shelf_model::{FileNo, Shelf, StreamFault};
@@ -23,7 +23,7 @@ pub(crate) struct ArcStream<'r> {
 }
 
 impl<'r> ArcStream<'r> {
-    ghost use Rattle.std.specs.Prelude.{ℕ, List, length, OnOk, IfOk, IsTrue, None};
+    ghost use Rattle.std.specs.Prelude.{ℕ, ◌<◌, List, length, OnOk, IfOk, IsTrue, None};
     ghost use Rattle.shelf_model.specs.World.{file};
     ghost use Rattle.shelf_model.specs.Calls.{Told};
     ghost use Rattle.shelf_model.specs.Faults.{OnlyShelf};
@@ -32,7 +32,7 @@ impl<'r> ArcStream<'r> {
     ghost use Rattle.block_stream.specs.Reads.{Looked};
     ghost use Rattle.block_stream.specs.Items.{GivesLast};
     ghost use Rattle.arc_file.specs.Files.{HasArcs};
-    ghost use Rattle.arc_file.specs.Streams.{file_of, left_of, given_of, Reads, AreLeft, GoesUp, IsArcAnswer};
+    ghost use Rattle.arc_file.specs.Streams.{file_of, left_of, given_of, waiting_of, room_of, Takes, Reads, AreLeft, GoesUp, IsArcAnswer};
 
     /// Begins with the last of so many arcs.
     pub fn start(f: FileNo, count: u64, window: &'r mut [Rec]) -> ArcStream<'r>
@@ -41,6 +41,7 @@ impl<'r> ArcStream<'r> {
         ensures file { file_of result ≡ f }
         ensures left { left_of result ≡ count }
         ensures given { given_of result ≡ None }
+        ensures waits { (waiting_of result ≡ 0) × (room_of result ≡ length window.entry.now) }
         ensures reads { (kind : Kind) → (bytes : List ℕ) → Reads kind result bytes }
         ensures arcs { (kind : Kind) → (bytes : List ℕ) → (xs : List Arc) →
             HasArcs kind xs count bytes → AreLeft kind result bytes xs }
@@ -68,7 +69,10 @@ impl<'r> ArcStream<'r> {
             Reads kind self.old bytes → (xs : List Arc) → AreLeft kind self.old bytes xs →
             GivesLast (AreLeft kind self.new bytes) xs result }
 
-        // what the call leaves
+        // what waits afterwards, what the call leaves and what it costs
+        ensures waits { Takes self.old self.new result }
+        ensures calls { IsTrue (S.tells shelf.new) → 0 < waiting_of self.old →
+            (S.world shelf.new).clock ≡ (S.world shelf.old).clock }
         ensures content { Told S.tells shelf.old shelf.new (Looked 1 (S.world shelf.old) (S.world shelf.new)) }
         ensures faults { OnlyShelf (S.faults shelf.old) (S.faults shelf.new) result }
     {

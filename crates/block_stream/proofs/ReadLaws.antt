@@ -1,5 +1,5 @@
 -- What a read puts into a window, and what the records there say.
-use Rattle.std.proofs.Common.{◌≡◌, ◌≢◌, ℕ, ◌+◌, ◌-◌, ◌*◌, ◌/◌, ◌<◌, ◌≤◌, min, List, [], ◌++◌, All, length, take, drop, get_or, sym, ap, subst, ◌∙◌, inl, inr, arith}
+use Rattle.std.proofs.Common.{◌≡◌, ◌≢◌, ℕ, ◌+◌, ◌-◌, ◌*◌, ◌/◌, ◌<◌, ◌≤◌, min, List, [], ◌++◌, All, length, take, drop, get_or, refl, sym, ap, subst, ◌∙◌, inl, inr, arith}
 use Rattle.std.proofs.Math.Nat.{div-mul-le_self, lt-div-mul-add}
 use Rattle.std.proofs.lemmas.List.{append_assoc, take-append-drop, length-take-le, length-drop, get_or-take, take-take, drop-drop}
 use Rattle.rec_words.specs.declared.rec.Rec.{Rec}
@@ -117,21 +117,20 @@ module _ {T : Type 0} (is_value : T → Type 0) (words : T → List ℕ) where
   pub none_past : (n : ℕ) (records : List Rec) → length records ≤ n → IsNoValueAt is_value words n records
   none_past n records past = subst (λ o. IfSome o (λ r. (x : T) → is_value x → words x ≢ r.w)) (sym (slice_get_past records n past)) tt
 
-  -- where none of the records that were read is that of a value, the first one is damaged
-  pub fill_damage : (k j place wanted n : ℕ) (window : List Rec) (bytes : List ℕ) → j ≡ k → 0 < wanted → DidLoad j place wanted n window bytes → IsNoValueAt is_value words 0 (take n window)
-      → IsDamaged is_value words k place bytes
-  fill_damage k j place wanted n window bytes width some did none = elim (cases_lt 0 n) [
+  -- behind the records of values that were read the next one is damaged, where more were wanted
+  pub fill_damage : (k j place wanted m n : ℕ) (window : List Rec) (bytes : List ℕ) → j ≡ k → n ≤ m → n < wanted → DidLoad j place wanted m window bytes → IsNoValueAt is_value words n (take m window)
+      → IsDamaged is_value words k (place + n) bytes
+  fill_damage k j place wanted m n window bytes width within some did none = elim (cases_lt n m) [
     | inl read ↦
         let d : Rec = record { w = [] } in
-        let first : slice_get (take n window) 0 ≡ Some (get_or (take n window) 0 d) = slice_get-get_or (take n window) 0 d (longer read) in
-        let here : place + 0 ≡ place = omega arith in
-        gives_damage is_value words k j place place n 0 window bytes (get_or (take n window) 0 d) d did.held width read here (get_or-take n window 0 d read)
-        (subst (λ o. IfSome o (λ r. (x : T) → is_value x → words x ≢ r.w)) first none)
+        let next : slice_get (take m window) n ≡ Some (get_or (take m window) n d) = slice_get-get_or (take m window) n d (longer read) in
+        gives_damage is_value words k j (place + n) place m n window bytes (get_or (take m window) n d) d did.held width read refl (get_or-take m window n d read)
+        (subst (λ o. IfSome o (λ r. (x : T) → is_value x → words x ≢ r.w)) next none)
     | inr nothing ↦
-        let short : length bytes < (place + n + 1) * (8 * j) = did.short (omega (arith, nothing)) in
-        let zero_n : place + n + 1 ≡ place + 1 = omega (arith, nothing) in
-        torn_damage is_value words k place bytes (subst (λ i. length bytes < i) ((λ t. zero_n t * (8 * width t))) short)
+        let all : m ≡ n = omega (arith, within, nothing) in
+        let short : length bytes < (place + m + 1) * (8 * j) = did.short (omega (arith, all, some)) in
+        torn_damage is_value words k (place + n) bytes (subst (λ i. length bytes < i) (λ t. (place + all t + 1) * (8 * width t)) short)
   ]
     where
-      longer : 0 < n → 0 < length (take n window)
-      longer read = omega (arith, ap length did.held.same, length-records_of j n (from_place j place bytes))
+      longer : n < m → n < length (take m window)
+      longer read = omega (arith, ap length did.held.same, length-records_of j m (from_place j place bytes), read)

@@ -1,5 +1,5 @@
 -- What reading leaves of the folder, and what it gives of the records of a file.
-use Rattle.std.specs.Prelude.{◌≡◌, ◌≢◌, ℕ, ◌+◌, ◌-◌, ◌*◌, ◌/◌, ◌^◌, ◌<◌, ◌≤◌, Bool, true, false, List, length, take, Result, Option, Ok, Err, Some, None, All, IfSome, slice_get}
+use Rattle.std.specs.Prelude.{◌≡◌, ◌≢◌, ℕ, ◌+◌, ◌-◌, ◌*◌, ◌/◌, ◌^◌, ◌<◌, ◌≤◌, min, Bool, true, false, List, length, take, Result, Option, Ok, Err, Some, None, All, IfSome, slice_get}
 use Rattle.rec_words.specs.declared.rec.Rec.{Rec}
 use Rattle.shelf_model.specs.declared.file_no.FileNo.{FileNo}
 use Rattle.shelf_model.specs.declared.fault.StreamFault.{StreamFault}
@@ -7,7 +7,7 @@ use Rattle.shelf_model.specs.declared.fault.StreamFault.TheVariants.{Shelf, Dama
 use Rattle.shelf_model.specs.World.{World, now}
 use Rattle.shelf_model.specs.Moments.{Ran, Stays}
 use Rattle.block_stream.specs.declared.reading.Reading.{Reading}
-use Rattle.block_stream.specs.Records.{most_words, records_of, from_place, record_at, IsWhole}
+use Rattle.block_stream.specs.Records.{most_words, piece_records, records_of, from_place, record_at, IsWhole}
 
 -- at most n calls were made, and no file changed at any moment
 pub record Looked (n : ℕ) (old new : World) : Type 0 where
@@ -72,6 +72,21 @@ IsAnswer is_value words k place bytes (Err (Damaged f at)) = IsDamaged is_value 
 abbrev pub place_of : Reading → ℕ
 place_of r = r.base + r.at
 
+-- how many records wait in the window of a stream that goes forward
+abbrev pub waits_ahead : Reading → ℕ
+waits_ahead r = r.loaded - r.at
+
+-- how many records wait in the window of a stream that comes from behind
+abbrev pub waits_behind : Reading → ℕ
+waits_behind r = r.at
+
+-- how many records such a stream reads at once: as many as a window of that room, a piece and what is left of the range allow
+abbrev pub refill_ahead : ℕ → Reading → ℕ
+refill_ahead room r = min (piece_records r.words room) (r.bound - place_of r)
+
+abbrev pub refill_behind : ℕ → Reading → ℕ
+refill_behind room r = min (piece_records r.words room) (place_of r - r.bound)
+
 -- where a stream goes on is behind what it has given: the file, the width and the end of the range stay
 pub record SameRange (old new : Reading) : Type 0 where
   pub file_is : new.file ≡ old.file
@@ -120,11 +135,51 @@ Waits old new (Ok true) = (new.at < new.loaded) × (place_of old < old.bound)
 Waits old new (Ok false) = place_of old ≡ old.bound
 Waits old new (Err e) = (place_of old < old.bound) × IsDamageAt old.file old.words (place_of old) e
 
+-- a window in which a record waits is left; else as many records were read as window, piece and range allow, or fewer
+abbrev pub FillsAhead : ℕ → Reading → Reading → Result Bool StreamFault → Type 0
+FillsAhead room old new (Ok true) = (0 < waits_ahead old → new ≡ old) × (waits_ahead old ≡ 0 → waits_ahead new ≤ refill_ahead room old)
+FillsAhead room old new (Ok false) = Unit
+FillsAhead room old new (Err e) = Unit
+
 -- the same of the record before the place
 abbrev pub WaitsBehind : Reading → Reading → Result Bool StreamFault → Type 0
 WaitsBehind old new (Ok true) = (0 < new.at) × (old.bound < place_of old)
 WaitsBehind old new (Ok false) = place_of old ≡ old.bound
 WaitsBehind old new (Err e) = (old.bound < place_of old) × IsDamageAt old.file old.words (place_of old - 1) e
+
+-- a window in which a record waits is left; else as many records were read as window, piece and range allow
+abbrev pub FillsBehind : ℕ → Reading → Reading → Result Bool StreamFault → Type 0
+FillsBehind room old new (Ok true) = (0 < waits_behind old → new ≡ old) × (waits_behind old ≡ 0 → waits_behind new ≡ refill_behind room old)
+FillsBehind room old new (Ok false) = Unit
+FillsBehind room old new (Err e) = Unit
+
+-- of the records that waited one is given; where none did, of as many as window, piece and range allow, or fewer
+abbrev pub TakesAhead : {T : Type 0} → ℕ → Reading → Reading → Result (Option T) StreamFault → Type 0
+TakesAhead room old new (Ok (Some x)) = (0 < waits_ahead old → waits_ahead new + 1 ≡ waits_ahead old)
+    × (waits_ahead old ≡ 0 → waits_ahead new + 1 ≤ refill_ahead room old)
+TakesAhead room old new (Ok None) = Unit
+TakesAhead room old new (Err e) = Unit
+
+-- fewer were read only where the record behind them isn't whole
+abbrev pub StopsAhead : ℕ → Reading → Reading → List ℕ → Result Bool StreamFault → Type 0
+StopsAhead room old new bytes (Ok true) = waits_ahead old ≡ 0 → waits_ahead new < refill_ahead room old →
+    length bytes < (place_of new + waits_ahead new + 1) * (8 * old.words)
+StopsAhead room old new bytes (Ok false) = Unit
+StopsAhead room old new bytes (Err e) = Unit
+
+-- the same where one of them was given
+abbrev pub EndsAhead : {T : Type 0} → ℕ → Reading → Reading → List ℕ → Result (Option T) StreamFault → Type 0
+EndsAhead room old new bytes (Ok (Some x)) = waits_ahead old ≡ 0 → waits_ahead new + 1 < refill_ahead room old →
+    length bytes < (place_of new + waits_ahead new + 1) * (8 * old.words)
+EndsAhead room old new bytes (Ok None) = Unit
+EndsAhead room old new bytes (Err e) = Unit
+
+-- of the records that waited one is given; where none did, of as many as window, piece and range allow
+abbrev pub TakesBehind : {T : Type 0} → ℕ → Reading → Reading → Result (Option T) StreamFault → Type 0
+TakesBehind room old new (Ok (Some x)) = (0 < waits_behind old → waits_behind new + 1 ≡ waits_behind old)
+    × (waits_behind old ≡ 0 → waits_behind new + 1 ≡ refill_behind room old)
+TakesBehind room old new (Ok None) = Unit
+TakesBehind room old new (Err e) = Unit
 
 -- no damage is found but where the record at a place isn't whole
 abbrev pub IsTorn : {X : Type 0} → ℕ → ℕ → List ℕ → Result X StreamFault → Type 0

@@ -1,12 +1,17 @@
 -- Records in the bytes of a file: one behind the other, each of so many words, and each word in eight bytes, the highest first.
-use Rattle.std.specs.Prelude.{ℕ, zero, suc, ◌+◌, ◌-◌, ◌*◌, ◌^◌, ◌≤◌, List, [], ◌∷◌, ◌++◌, length, take, drop, replicate}
+use Rattle.std.specs.Prelude.{ℕ, zero, suc, ◌+◌, ◌-◌, ◌*◌, ◌/◌, ◌^◌, ◌≤◌, min, List, [], ◌∷◌, ◌++◌, length, take, drop, replicate}
 use Rattle.std.specs.List.{flat_map}
 use Rattle.std.specs.Int.{w64, to_be_bytes, from_be_bytes}
 use Rattle.rec_words.specs.declared.rec.Rec.{Rec}
+use Rattle.shelf_model.specs.Calls.{most_piece}
 
 -- no file has more words: its 2^50 bytes are eight for each
 abbrev pub most_words : ℕ
 most_words = 2 ^ 47
+
+-- how many records of k words one call moves: as many as a window of that room has, but no more than a piece
+unfoldable pub piece_records : ℕ → ℕ → ℕ
+piece_records k room = min room (most_piece / 8 / k)
 
 -- the k words with which the bytes begin
 abbrev pub words_of : ℕ → List ℕ → List ℕ

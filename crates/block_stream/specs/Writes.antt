@@ -1,5 +1,5 @@
 -- What writing leaves of the folder, and what a writer's file is to hold.
-use Rattle.std.specs.Prelude.{◌≡◌, ℕ, ◌+◌, ◌*◌, ◌≤◌, List, ◌++◌, length, take}
+use Rattle.std.specs.Prelude.{◌≡◌, ℕ, ◌+◌, ◌*◌, ◌<◌, ◌≤◌, List, ◌++◌, length, take}
 use Rattle.rec_words.specs.declared.rec.Rec.{Rec}
 use Rattle.shelf_model.specs.declared.file_no.FileNo.{FileNo}
 use Rattle.shelf_model.specs.File.{IsKept}
@@ -8,7 +8,7 @@ use Rattle.shelf_model.specs.World.{Moment, World, now, file}
 use Rattle.shelf_model.specs.Calls.{longest, most_piece}
 use Rattle.shelf_model.specs.Moments.{Ran, OnlyChanged}
 use Rattle.block_stream.specs.declared.filling.Filling.{Filling}
-use Rattle.block_stream.specs.Records.{records_bytes}
+use Rattle.block_stream.specs.Records.{piece_records, records_bytes}
 
 -- at each moment every other file is as it was, and what was sure of this one is sure
 pub record DuringWrite (f : FileNo) (old m : Moment) : Type 0 where
@@ -43,6 +43,11 @@ pub record IsFilling (w : Filling) (room : ℕ) : Type 0 where
 pub record HasRoom (w : Filling) (room : ℕ) : Type 0 where
   pub in_room : w.waiting + 1 ≤ room
   pub in_piece : (w.waiting + 1) * (8 * w.words) ≤ most_piece
+
+-- where a piece of records waits they are put into the file and one waits after them; else one more waits
+pub record Fills (room : ℕ) (old new : Filling) : Type 0 where
+  pub more : old.waiting < piece_records old.words room → new.waiting ≡ old.waiting + 1
+  pub flushed : piece_records old.words room ≤ old.waiting → new.waiting ≡ 1
 
 -- how many records a writer holds: those in its file, and those that wait
 abbrev pub count_of : Filling → ℕ

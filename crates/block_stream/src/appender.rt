@@ -7,7 +7,7 @@ use rec_words::{Rec, Spill};
 use shelf_model::{FileNo, Shelf, StreamFault};
 use std::marker::PhantomData;
 
-/// Puts values at the end of a file, whose records wait in a window until it is full.
+/// Puts values at the end of a file, whose records wait in a window until they fill a piece or the window.
 ///
 /// No other call changes the file meanwhile. After a refusal it isn't used again.
 #[derive(Drop)]
@@ -19,14 +19,15 @@ pub struct Appender<'r, T> {
 }
 
 impl<'r, T: Spill> Appender<'r, T> {
-    ghost use Rattle.std.specs.Prelude.{◌≡◌, ◌+◌, ◌*◌, ◌≤◌, ◌++◌, [], IsTrue, ◌∷◌, OnOk, IfOk, IfErr, List, take};
+    ghost use Rattle.std.specs.Prelude.{◌≡◌, ◌+◌, ◌*◌, ◌<◌, ◌≤◌, ◌++◌, [], IsTrue, ◌∷◌, OnOk, IfOk, IfErr, List, take};
     ghost use Rattle.shelf_model.specs.File.{firm_file};
     ghost use Rattle.shelf_model.specs.World.{file};
     ghost use Rattle.shelf_model.specs.Calls.{Told, longest};
     ghost use Rattle.shelf_model.specs.Faults.{OnlyShelf};
     ghost use Rattle.block_stream.specs.Reads.{IsDamageOf, IsShort};
-    ghost use Rattle.block_stream.specs.Writes.{Wrote, Cut, InStep, SameFile, count_of};
+    ghost use Rattle.block_stream.specs.Writes.{Wrote, Cut, Fills, InStep, SameFile, count_of};
     ghost use Rattle.block_stream.specs.Appenders.{filling_of, room_of, written_of, Holds, HoldsItems};
+    ghost use Rattle.block_stream.specs.Records.{piece_records};
     ghost use Rattle.block_stream.specs.Items.{item_bytes};
 
     /// Begins with an empty file.
@@ -98,6 +99,9 @@ impl<'r, T: Spill> Appender<'r, T> {
         ensures items { OnOk result (IsTrue (S.tells shelf.new) → (filling_of self.old).words ≡ T.WORDS →
             (xs : List T) → HoldsItems T.is_value T.words self.old (S.world shelf.old) xs →
             HoldsItems T.is_value T.words self.new (S.world shelf.new) (xs ++ item ∷ [])) }
+        ensures waits { OnOk result (Fills (room_of self.old) (filling_of self.old) (filling_of self.new)) }
+        ensures calls { IsTrue (S.tells shelf.new) → let w = filling_of self.old in
+            w.waiting < piece_records w.words (room_of self.old) → (S.world shelf.new).clock ≡ (S.world shelf.old).clock }
         ensures cause { IfErr result (λ e. e ≡ StreamFault.Shelf) }
         ensures content { Told S.tells shelf.old shelf.new
             (Wrote 1 (filling_of self.old).file (S.world shelf.old) (S.world shelf.new)) }

@@ -1,9 +1,9 @@
 //! A range of records from its end on.
-ghost use Rattle.std.specs.Prelude.{◌≡◌, ℕ, ◌*◌, ◌-◌, ◌≤◌, IsTrue, IfOk, List, length};
+ghost use Rattle.std.specs.Prelude.{◌≡◌, ℕ, ◌*◌, ◌-◌, ◌<◌, ◌≤◌, IsTrue, IfOk, List, length};
 ghost use Rattle.shelf_model.specs.World.{file};
 ghost use Rattle.shelf_model.specs.Calls.{Told, longest};
 ghost use Rattle.shelf_model.specs.Faults.{OnlyShelf};
-ghost use Rattle.block_stream.specs.Reads.{Looked, IsBackward, SameRange, AreLoaded, WaitsBehind, GoesBack, IsAnswer, IsTorn, place_of};
+ghost use Rattle.block_stream.specs.Reads.{Looked, IsBackward, SameRange, AreLoaded, WaitsBehind, FillsBehind, GoesBack, TakesBehind, IsAnswer, IsTorn, place_of, waits_behind};
 
 use crate::read::load;
 use crate::reading::Reading;
@@ -14,7 +14,8 @@ use std::marker::PhantomData;
 
 /// The values of a range of a file's records, the last one first.
 ///
-/// It reads as many records at once as its window holds. After a refusal it isn't used again.
+/// It reads only where none waits in its window, and then as many records as the window, a piece and what
+/// is left of the range allow. After a refusal it isn't used again.
 #[derive(Drop)]
 pub struct Backward<'r, T> {
     window: &'r mut [Rec],
@@ -24,7 +25,7 @@ pub struct Backward<'r, T> {
 }
 
 impl<'r, T: Spill> Backward<'r, T> {
-    ghost use Rattle.block_stream.specs.Backwards.{reading_of, Reads};
+    ghost use Rattle.block_stream.specs.Backwards.{reading_of, room_of, Reads};
     ghost use Rattle.block_stream.specs.Items.{AreBehind, GivesLast};
 
     /// The stream of the records from one place up to another. The one before the second place is the first to be given.
@@ -36,6 +37,8 @@ impl<'r, T: Spill> Backward<'r, T> {
         ensures words { (reading_of result).words ≡ T.WORDS }
         ensures place { place_of (reading_of result) ≡ to }
         ensures bound { (reading_of result).bound ≡ from }
+        ensures waits { waits_behind (reading_of result) ≡ 0 }
+        ensures room { room_of result ≡ length window.entry.now }
         ensures reads { (bytes : List ℕ) → Reads result bytes }
     {
         let reading = Reading {
@@ -72,7 +75,11 @@ impl<'r, T: Spill> Backward<'r, T> {
             Reads self.old bytes → (xs : List T) → AreBehind T.is_value T.words r bytes xs →
             GivesLast (AreBehind T.is_value T.words (reading_of self.new) bytes) xs result }
 
-        // what the call leaves
+        // what waits afterwards, what the call leaves and what it costs
+        ensures room { room_of self.new ≡ room_of self.old }
+        ensures waits { TakesBehind (room_of self.old) (reading_of self.old) (reading_of self.new) result }
+        ensures calls { IsTrue (S.tells shelf.new) → 0 < waits_behind (reading_of self.old) →
+            (S.world shelf.new).clock ≡ (S.world shelf.old).clock }
         ensures content { Told S.tells shelf.old shelf.new (Looked 1 (S.world shelf.old) (S.world shelf.new)) }
         ensures faults { OnlyShelf (S.faults shelf.old) (S.faults shelf.new) result }
     {
@@ -105,6 +112,9 @@ fn wait_backward<S: Shelf>(
     ensures same { SameRange reading.old reading.new }
     ensures place { place_of reading.new ≡ place_of reading.old }
     ensures waits { WaitsBehind reading.old reading.new result }
+    ensures fills { FillsBehind (length window.old) reading.old reading.new result }
+    ensures calls { IsTrue (S.tells shelf.new) → 0 < waits_behind reading.old →
+        (S.world shelf.new).clock ≡ (S.world shelf.old).clock }
     ensures loaded { IsTrue (S.tells shelf.new) → let bytes = (file (S.world shelf.old) reading.old.file).bytes in
         AreLoaded reading.old window.old bytes → IfOk result (λ _. AreLoaded reading.new window.new bytes) }
     ensures torn { IsTrue (S.tells shelf.new) → let bytes = (file (S.world shelf.old) reading.old.file).bytes in
@@ -147,6 +157,9 @@ fn next_backward<T: Spill, S: Shelf>(
     ensures stands { IsBackward reading.new (length window.new) }
     ensures same { SameRange reading.old reading.new }
     ensures place { GoesBack T.is_value reading.old reading.new result }
+    ensures takes { TakesBehind (length window.old) reading.old reading.new result }
+    ensures calls { IsTrue (S.tells shelf.new) → 0 < waits_behind reading.old →
+        (S.world shelf.new).clock ≡ (S.world shelf.old).clock }
     ensures loaded { IsTrue (S.tells shelf.new) → let bytes = (file (S.world shelf.old) reading.old.file).bytes in
         AreLoaded reading.old window.old bytes → IfOk result (λ _. AreLoaded reading.new window.new bytes) }
     ensures value { IsTrue (S.tells shelf.new) → let bytes = (file (S.world shelf.old) reading.old.file).bytes in

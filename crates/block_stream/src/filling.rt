@@ -4,9 +4,9 @@ ghost use Rattle.shelf_model.specs.File.{firm_file};
 ghost use Rattle.shelf_model.specs.World.{file};
 ghost use Rattle.shelf_model.specs.Calls.{Told, longest};
 ghost use Rattle.shelf_model.specs.Faults.{OnlyFolder, OnlyShelf};
-ghost use Rattle.block_stream.specs.Records.{record_bytes};
+ghost use Rattle.block_stream.specs.Records.{piece_records, record_bytes};
 ghost use Rattle.block_stream.specs.Reads.{IsDamageOf, IsShort};
-ghost use Rattle.block_stream.specs.Writes.{Wrote, Cut, IsFilling, HasRoom, InStep, IsWriting, SameFile, count_of, written};
+ghost use Rattle.block_stream.specs.Writes.{Wrote, Cut, IsFilling, Fills, HasRoom, InStep, IsWriting, SameFile, count_of, written};
 
 use crate::reading::byte_place;
 use crate::record::{piece_len, write_records};
@@ -123,6 +123,12 @@ fn make_room<S: Shelf>(window: &[Rec], filling: &mut Filling, shelf: &mut S) -> 
     ensures counted { OnOk result (count_of filling.new ≡ count_of filling.old) }
     ensures fills { IsFilling filling.new (length window.now) }
     ensures room { OnOk result (let room = length window.now in HasRoom filling.new room) }
+    ensures stays { OnOk result (filling.old.waiting < piece_records filling.old.words (length window.now) →
+        filling.new ≡ filling.old) }
+    ensures flushed { OnOk result (piece_records filling.old.words (length window.now) ≤ filling.old.waiting →
+        filling.new.waiting ≡ 0) }
+    ensures calls { IsTrue (S.tells shelf.new) → filling.old.waiting < piece_records filling.old.words (length window.now) →
+        (S.world shelf.new).clock ≡ (S.world shelf.old).clock }
     ensures bytes { OnOk result (IsTrue (S.tells shelf.new) →
         IsWriting filling.new window.now (S.world shelf.new) (written filling.old window.now (S.world shelf.old))) }
     ensures content { Told S.tells shelf.old shelf.new (Wrote 1 filling.old.file (S.world shelf.old) (S.world shelf.new)) }
@@ -148,6 +154,9 @@ pub fn put_record<S: Shelf>(
     ensures counted { OnOk result (count_of filling.new ≡ count_of filling.old + 1) }
     ensures bytes { OnOk result (IsTrue (S.tells shelf.new) → IsWriting filling.new window.new (S.world shelf.new)
         (written filling.old window.old (S.world shelf.old) ++ record_bytes filling.old.words item)) }
+    ensures waits { OnOk result (Fills (length window.old) filling.old filling.new) }
+    ensures calls { IsTrue (S.tells shelf.new) → filling.old.waiting < piece_records filling.old.words (length window.old) →
+        (S.world shelf.new).clock ≡ (S.world shelf.old).clock }
     ensures cause { IfErr result (λ e. e ≡ StreamFault.Shelf) }
     ensures content { Told S.tells shelf.old shelf.new (Wrote 1 filling.old.file (S.world shelf.old) (S.world shelf.new)) }
     ensures faults { OnlyShelf (S.faults shelf.old) (S.faults shelf.new) result }

@@ -1,9 +1,9 @@
 //! A range of records from its front on.
-ghost use Rattle.std.specs.Prelude.{◌≡◌, ℕ, ◌*◌, ◌≤◌, IsTrue, IfOk, List, length};
+ghost use Rattle.std.specs.Prelude.{◌≡◌, ℕ, ◌*◌, ◌<◌, ◌≤◌, IsTrue, IfOk, List, length};
 ghost use Rattle.shelf_model.specs.World.{file};
 ghost use Rattle.shelf_model.specs.Calls.{Told, longest};
 ghost use Rattle.shelf_model.specs.Faults.{OnlyShelf};
-ghost use Rattle.block_stream.specs.Reads.{Looked, IsForward, SameRange, AreLoaded, Waits, GoesOn, IsAnswer, IsTorn, place_of};
+ghost use Rattle.block_stream.specs.Reads.{Looked, IsForward, SameRange, AreLoaded, Waits, FillsAhead, StopsAhead, GoesOn, TakesAhead, EndsAhead, IsAnswer, IsTorn, place_of, waits_ahead};
 
 use crate::read::load;
 use crate::reading::Reading;
@@ -14,7 +14,8 @@ use std::marker::PhantomData;
 
 /// The values of a range of a file's records, the first one first.
 ///
-/// It reads as many records at once as its window holds. After a refusal it isn't used again.
+/// It reads only where none waits in its window, and then as many records as the window, a piece and what
+/// is left of the range allow. After a refusal it isn't used again.
 #[derive(Drop)]
 pub struct Forward<'r, T> {
     window: &'r mut [Rec],
@@ -24,7 +25,7 @@ pub struct Forward<'r, T> {
 }
 
 impl<'r, T: Spill> Forward<'r, T> {
-    ghost use Rattle.block_stream.specs.Forwards.{reading_of, Reads};
+    ghost use Rattle.block_stream.specs.Forwards.{reading_of, room_of, Reads};
     ghost use Rattle.block_stream.specs.Items.{AreAhead, GivesFirst};
 
     /// The stream of the records from one place up to another.
@@ -36,6 +37,8 @@ impl<'r, T: Spill> Forward<'r, T> {
         ensures words { (reading_of result).words ≡ T.WORDS }
         ensures place { place_of (reading_of result) ≡ from }
         ensures bound { (reading_of result).bound ≡ to }
+        ensures waits { waits_ahead (reading_of result) ≡ 0 }
+        ensures room { room_of result ≡ length window.entry.now }
         ensures reads { (bytes : List ℕ) → Reads result bytes }
     {
         let reading = Reading {
@@ -72,7 +75,13 @@ impl<'r, T: Spill> Forward<'r, T> {
             Reads self.old bytes → (xs : List T) → AreAhead T.is_value T.words r bytes xs →
             GivesFirst (AreAhead T.is_value T.words (reading_of self.new) bytes) xs result }
 
-        // what the call leaves
+        // what waits afterwards, what the call leaves and what it costs
+        ensures room { room_of self.new ≡ room_of self.old }
+        ensures waits { TakesAhead (room_of self.old) (reading_of self.old) (reading_of self.new) result }
+        ensures ends { IsTrue (S.tells shelf.new) → let r = reading_of self.old in
+            EndsAhead (room_of self.old) r (reading_of self.new) (file (S.world shelf.old) r.file).bytes result }
+        ensures calls { IsTrue (S.tells shelf.new) → 0 < waits_ahead (reading_of self.old) →
+            (S.world shelf.new).clock ≡ (S.world shelf.old).clock }
         ensures content { Told S.tells shelf.old shelf.new (Looked 1 (S.world shelf.old) (S.world shelf.new)) }
         ensures faults { OnlyShelf (S.faults shelf.old) (S.faults shelf.new) result }
     {
@@ -105,6 +114,11 @@ fn wait_forward<S: Shelf>(
     ensures same { SameRange reading.old reading.new }
     ensures place { place_of reading.new ≡ place_of reading.old }
     ensures waits { Waits reading.old reading.new result }
+    ensures fills { FillsAhead (length window.old) reading.old reading.new result }
+    ensures stops { IsTrue (S.tells shelf.new) →
+        StopsAhead (length window.old) reading.old reading.new (file (S.world shelf.old) reading.old.file).bytes result }
+    ensures calls { IsTrue (S.tells shelf.new) → 0 < waits_ahead reading.old →
+        (S.world shelf.new).clock ≡ (S.world shelf.old).clock }
     ensures loaded { IsTrue (S.tells shelf.new) → let bytes = (file (S.world shelf.old) reading.old.file).bytes in
         AreLoaded reading.old window.old bytes → IfOk result (λ _. AreLoaded reading.new window.new bytes) }
     ensures torn { IsTrue (S.tells shelf.new) → let bytes = (file (S.world shelf.old) reading.old.file).bytes in
@@ -140,6 +154,11 @@ fn next_forward<T: Spill, S: Shelf>(
     ensures stands { IsForward reading.new (length window.new) }
     ensures same { SameRange reading.old reading.new }
     ensures place { GoesOn T.is_value reading.old reading.new result }
+    ensures takes { TakesAhead (length window.old) reading.old reading.new result }
+    ensures ends { IsTrue (S.tells shelf.new) →
+        EndsAhead (length window.old) reading.old reading.new (file (S.world shelf.old) reading.old.file).bytes result }
+    ensures calls { IsTrue (S.tells shelf.new) → 0 < waits_ahead reading.old →
+        (S.world shelf.new).clock ≡ (S.world shelf.old).clock }
     ensures loaded { IsTrue (S.tells shelf.new) → let bytes = (file (S.world shelf.old) reading.old.file).bytes in
         AreLoaded reading.old window.old bytes → IfOk result (λ _. AreLoaded reading.new window.new bytes) }
     ensures value { IsTrue (S.tells shelf.new) → let bytes = (file (S.world shelf.old) reading.old.file).bytes in

@@ -1,9 +1,10 @@
 //! The front of a range of records, in one call.
-ghost use Rattle.std.specs.Prelude.{◌≡◌, ℕ, ◌+◌, ◌-◌, ◌*◌, ◌<◌, ◌≤◌, IsTrue, IfOk, IfErr, length};
+ghost use Rattle.std.specs.Prelude.{◌≡◌, ℕ, ◌+◌, ◌-◌, ◌*◌, ◌<◌, ◌≤◌, min, IsTrue, IfOk, IfErr, length};
 ghost use Rattle.shelf_model.specs.World.{file};
 ghost use Rattle.shelf_model.specs.Calls.{Told, longest};
 ghost use Rattle.shelf_model.specs.Faults.{OnlyShelf};
-ghost use Rattle.block_stream.specs.Reads.{Looked, HoldsRecords, AreValues, IsNoValueAt, IsDamageAt, IsFillDamage};
+ghost use Rattle.block_stream.specs.Records.{piece_records};
+ghost use Rattle.block_stream.specs.Reads.{Looked, HoldsRecords, AreValues, IsNoValueAt, IsDamageAt, IsDamaged, IsFillDamage};
 
 use crate::read::load;
 use crate::reading::byte_place;
@@ -13,8 +14,8 @@ use shelf_model::{FileNo, Shelf, StreamFault};
 
 /// Reads the first records of a range into the window, with one call, and answers how many there are.
 ///
-/// It ends before a record that isn't whole or that no value is stored as, and refuses where that is
-/// the first one.
+/// These are as many as the window, a piece and the range allow, but it ends before a record that isn't
+/// whole or that no value is stored as, and refuses where that is the first one.
 pub fn fill<T: Spill, S: Shelf>(
     f: FileNo,
     from: u64,
@@ -29,6 +30,9 @@ pub fn fill<T: Spill, S: Shelf>(
     ensures values { IfOk result (λ n. AreValues T.is_value T.words n window.new) }
     ensures loaded { IfOk result (λ n. IsTrue (S.tells shelf.new) →
         HoldsRecords T.WORDS from n window.new (file (S.world shelf.old) f).bytes) }
+    ensures full { IfOk result (λ n. IsTrue (S.tells shelf.new) →
+        n < min (piece_records T.WORDS (length window.old)) (to - from) →
+        IsDamaged T.is_value T.words T.WORDS (from + n) (file (S.world shelf.old) f).bytes) }
     ensures damage { IfErr result (IsDamageAt f T.WORDS from) }
     ensures damaged { IfErr result (λ e. IsTrue (S.tells shelf.new) →
         IsFillDamage T.is_value T.words T.WORDS from (file (S.world shelf.old) f).bytes e) }

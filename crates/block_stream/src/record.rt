@@ -2,15 +2,17 @@
 ghost use Rattle.std.specs.Prelude.{◌≡◌, ◌+◌, ◌*◌, ◌≤◌, ◌++◌, length, take, drop};
 ghost use Rattle.std.specs.Int.{w64, from_be_bytes};
 ghost use Rattle.shelf_model.specs.Calls.{most_piece};
-ghost use Rattle.block_stream.specs.Records.{record_of, records_of, record_bytes, records_bytes};
+ghost use Rattle.block_stream.specs.Records.{piece_records, record_of, records_of, record_bytes, records_bytes};
 
 use rec_words::Rec;
 use shelf_model::PIECE;
 
 /// How many records one call of the folder moves: no more than there is room for, and than a piece has.
+#[tactic(auto, unfolding(crate::specs::Records::piece_records))]
 pub(crate) fn piece_len(room: usize, words: usize) -> usize
     requires words { (1 ≤ words) × (words ≤ 8) }
     requires room { 8 ≤ room }
+    ensures value { result ≡ piece_records words room }
     ensures some { 8 ≤ result }
     ensures in_room { result ≤ room }
     ensures in_piece { result * (8 * words) ≤ most_piece }

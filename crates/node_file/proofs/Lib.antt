@@ -1,4 +1,5 @@
 mod TrailerLaws
 mod NodeLaws
 mod SkipLaws
-pub mod FileLaws
+mod FileLaws
+mod CanonFiles

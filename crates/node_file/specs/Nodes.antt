@@ -25,14 +25,22 @@ pub record IsNodeAt (n place : ℕ) (bytes : List ℕ) (x : Node) : Type 0 where
   pub proper : IsProper n x
   pub record_is : IsRecordOf node_words 3 place bytes x
 
--- at that place stands no whole record of such a node, or one whose identifier isn't below that of the record before it
-abbrev pub IsDamagedNode : ℕ → ℕ → List ℕ → Type 0
-IsDamagedNode n place bytes = ((x : Node) → ¬ IsNodeAt n place bytes x) ⊎ ((1 ≤ place) × (identifier_at (place - 1) bytes ≤ identifier_at place bytes))
+-- where so many nodes are left, the damage is that of the next one, at whose place stands no whole record of such a node,
+-- or that of the one behind it, whose identifier isn't below that of the next one
+abbrev pub IsNodeDamage : ℕ → ℕ → List ℕ → StreamFault → Type 0
+IsNodeDamage n left bytes Shelf = Unit
+IsNodeDamage n left bytes (Damaged f at) =
+    ((at ≡ (left - 1) * node_size) × ((x : Node) → ¬ IsNodeAt n (left - 1) bytes x))
+    ⊎ ((at ≡ left * node_size) × (identifier_at (left - 1) bytes ≤ identifier_at left bytes))
 
--- the damage is that of a node, at its place in bytes
-abbrev pub IsNodeDamage : ℕ → List ℕ → StreamFault → Type 0
-IsNodeDamage n bytes Shelf = Unit
-IsNodeDamage n bytes (Damaged f at) = (place : ℕ) × (at ≡ place * node_size) × IsDamagedNode n place bytes
+-- such damage was met with more nodes left than the first number, and no more than the second
+abbrev pub IsMetBetween : ℕ → ℕ → ℕ → List ℕ → StreamFault → Type 0
+IsMetBetween n from to bytes e = (left : ℕ) × (from < left) × (left ≤ to) × IsNodeDamage n left bytes e
+
+-- the root of so many nodes is that of a node, or a truth value where there is none
+pub record IsRoot (count root : ℕ) : Type 0 where
+  pub none : count ≡ 0 → IsTerminal root
+  pub some : 0 < count → IsNodeWord root
 
 -- a trailer is a root, how many nodes there are, and n; the root is the identifier of the last node, or a truth value where there
 -- is none

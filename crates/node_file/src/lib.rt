@@ -2,6 +2,7 @@
 //! nodes and that of the variables.
 #![tactic(auto)]
 
+pub mod laws;
 mod node;
 mod reader;
 mod trailer;

@@ -35,8 +35,8 @@ impl<'r> NodeReader<'r> {
     ghost use Rattle.rec_words.specs.declared.node.Node.{Node};
     ghost use Rattle.block_stream.specs.Reads.{Looked, IsDamageOf};
     ghost use Rattle.block_stream.specs.Items.{GivesLast};
-    ghost use Rattle.node_file.specs.Nodes.{HasTrailer, HasNodes, IsTrailerDamage, IsNodeDamage};
-    ghost use Rattle.node_file.specs.Readers.{file_of, trailer_of, left_of, given_of, Reads, AreLeft, GoesUp, IsNodeAnswer};
+    ghost use Rattle.node_file.specs.Nodes.{HasTrailer, HasNodes, IsRoot, IsTrailerDamage, IsMetBetween};
+    ghost use Rattle.node_file.specs.Readers.{file_of, trailer_of, left_of, given_of, waiting_of, room_of, Takes, Reads, AreLeft, GoesUp, IsNodePlace, IsNodeAnswer};
 
     /// Begins with the root of a file for n variables.
     pub fn start<S: Shelf>(
@@ -50,6 +50,8 @@ impl<'r> NodeReader<'r> {
         ensures variables { IfOk result (λ r. (trailer_of r).n ≡ n) }
         ensures place { IfOk result (λ r. left_of r ≡ (trailer_of r).count) }
         ensures given { IfOk result (λ r. given_of r ≡ None) }
+        ensures waits { IfOk result (λ r. (waiting_of r ≡ 0) × (room_of r ≡ length window.entry.now)) }
+        ensures root { IfOk result (λ r. IsRoot (trailer_of r).count (trailer_of r).root) }
         ensures trailer { IfOk result (λ r. IsTrue (S.tells shelf.new) →
             let bytes = (file (S.world shelf.old) f).bytes in
             HasTrailer n (trailer_of r).root bytes × ((trailer_of r).count ≡ length bytes / node_size - 1)) }
@@ -99,7 +101,7 @@ impl<'r> NodeReader<'r> {
         ensures damage { IfErr result (IsDamageOf f) }
         ensures damaged { IfErr result (λ e. IsTrue (S.tells shelf.new) →
             let bytes = (file (S.world shelf.old) f).bytes in
-            IsTrailerDamage n bytes e ⊎ IsNodeDamage n bytes e) }
+            IsTrailerDamage n bytes e ⊎ IsMetBetween n place (length bytes / node_size - 1) bytes e) }
         ensures content { Told S.tells shelf.old shelf.new
             (Looked (2 + (length (file (S.world shelf.old) f).bytes / node_size - 1 - place)) (S.world shelf.old) (S.world shelf.new)) }
         ensures faults { OnlyShelf (S.faults shelf.old) (S.faults shelf.new) result }
@@ -128,7 +130,7 @@ impl<'r> NodeReader<'r> {
         ensures damage { IfErr result (IsDamageOf (file_of self.old)) }
         ensures damaged { IsTrue (S.tells shelf.new) →
             let bytes = (file (S.world shelf.old) (file_of self.old)).bytes in
-            Reads self.old bytes → IfErr result (IsNodeDamage (trailer_of self.old).n bytes) }
+            Reads self.old bytes → IfErr result (IsMetBetween (trailer_of self.old).n place (left_of self.old) bytes) }
         ensures content { Told S.tells shelf.old shelf.new
             (Looked (left_of self.old - place) (S.world shelf.old) (S.world shelf.new)) }
         ensures faults { OnlyShelf (S.faults shelf.old) (S.faults shelf.new) result }
@@ -144,6 +146,7 @@ impl<'r> NodeReader<'r> {
         ensures file { file_of self.new ≡ file_of self.old }
         ensures trailer { trailer_of self.new ≡ trailer_of self.old }
         ensures place { GoesUp self.old self.new result }
+        ensures damage { IfErr result (IsNodePlace (file_of self.old) (left_of self.old) (given_of self.old)) }
 
         // of bytes that didn't change since the start
         ensures reads { IsTrue (S.tells shelf.new) →
@@ -157,7 +160,10 @@ impl<'r> NodeReader<'r> {
             Reads self.old bytes → (xs : List Node) → AreLeft self.old bytes xs →
             GivesLast (AreLeft self.new bytes) xs result }
 
-        // what the call leaves
+        // what waits afterwards, what the call leaves and what it costs
+        ensures waits { Takes self.old self.new result }
+        ensures calls { IsTrue (S.tells shelf.new) → 0 < waiting_of self.old →
+            (S.world shelf.new).clock ≡ (S.world shelf.old).clock }
         ensures content { Told S.tells shelf.old shelf.new (Looked 1 (S.world shelf.old) (S.world shelf.new)) }
         ensures faults { OnlyShelf (S.faults shelf.old) (S.faults shelf.new) result }
     {

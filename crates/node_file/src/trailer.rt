@@ -6,7 +6,7 @@ ghost use Rattle.shelf_model.specs.Faults.{OnlyShelf};
 ghost use Rattle.rec_words.specs.Words.{node_size};
 ghost use Rattle.rec_words.specs.declared.rec.Rec.{Rec};
 ghost use Rattle.block_stream.specs.Reads.{Looked, IsDamageOf};
-ghost use Rattle.node_file.specs.Nodes.{IsTrailer, HasTrailer, IsTrailerDamage};
+ghost use Rattle.node_file.specs.Nodes.{IsRoot, IsTrailer, HasTrailer, IsTrailerDamage};
 
 use block_stream::load;
 use rec_words::{NODE_SIZE, Node, Ptr, Rec, Spill};
@@ -32,6 +32,7 @@ pub(crate) fn read_trailer<S: Shelf>(
     ensures variables { IfOk result (λ t. t.n ≡ n) }
     ensures count { IfOk result (λ t. IsTrue (S.tells shelf.new) →
         t.count ≡ length (file (S.world shelf.old) f).bytes / node_size - 1) }
+    ensures root { IfOk result (λ t. IsRoot t.count t.root) }
     ensures trailer { IfOk result (λ t. IsTrue (S.tells shelf.new) →
         HasTrailer n t.root (file (S.world shelf.old) f).bytes) }
     ensures damage { IfErr result (IsDamageOf f) }
@@ -64,6 +65,7 @@ pub(crate) fn read_trailer<S: Shelf>(
 fn trailer_of(trailer: Rec, last: Rec, count: u64, n: u32) -> Option<Trailer>
     ensures found { IfSome result (λ t. IsTrailer n count t.root trailer last) }
     ensures count { IfSome result (λ t. t.count ≡ count) }
+    ensures root { IfSome result (λ t. IsRoot t.count t.root) }
     ensures variables { IfSome result (λ t. t.n ≡ n) }
     ensures none { IfNone result ((root : ℕ) → ¬ IsTrailer n count root trailer last) }
 {

@@ -1,14 +1,14 @@
 //! The writing of a node file.
-ghost use Rattle.std.specs.Prelude.{◌≡◌, ◌+◌, ◌*◌, ◌≤◌, ◌++◌, [], ◌∷◌, IsTrue, OnOk, IfOk, IfErr, length, take};
+ghost use Rattle.std.specs.Prelude.{◌≡◌, ◌+◌, ◌*◌, ◌<◌, ◌≤◌, ◌++◌, [], ◌∷◌, IsTrue, OnOk, IfOk, IfErr, length, take};
 ghost use Rattle.shelf_model.specs.File.{firm_file};
 ghost use Rattle.shelf_model.specs.World.{file};
 ghost use Rattle.shelf_model.specs.Calls.{Told, longest};
 ghost use Rattle.shelf_model.specs.Faults.{OnlyShelf};
 ghost use Rattle.rec_words.specs.Words.{node_size};
 ghost use Rattle.canon_file.specs.Canon.{node_bytes, trailer_bytes};
-ghost use Rattle.block_stream.specs.Records.{record_bytes};
+ghost use Rattle.block_stream.specs.Records.{piece_records, record_bytes};
 ghost use Rattle.block_stream.specs.Reads.{IsDamageOf, IsShort};
-ghost use Rattle.block_stream.specs.Writes.{Wrote, Cut, IsFilling, InStep, SameFile, count_of, written};
+ghost use Rattle.block_stream.specs.Writes.{Wrote, Cut, IsFilling, Fills, InStep, SameFile, count_of, written};
 
 use block_stream::{Filling, put_record, settle_records};
 use rec_words::{Node, Ptr, Rec, Spill};
@@ -87,6 +87,9 @@ impl<'r> NodeWriter<'r> {
         ensures room { room_of self.new ≡ room_of self.old }
         ensures holds { OnOk result (IsTrue (S.tells shelf.new) → Holds self.new (S.world shelf.new)
             (written_of self.old (S.world shelf.old) ++ node_bytes (node ∷ []))) }
+        ensures waits { OnOk result (Fills (room_of self.old) (filling_of self.old) (filling_of self.new)) }
+        ensures calls { IsTrue (S.tells shelf.new) → let w = filling_of self.old in
+            w.waiting < piece_records w.words (room_of self.old) → (S.world shelf.new).clock ≡ (S.world shelf.old).clock }
         ensures cause { IfErr result (λ e. e ≡ StreamFault.Shelf) }
         ensures content { Told S.tells shelf.old shelf.new
             (Wrote 1 (filling_of self.old).file (S.world shelf.old) (S.world shelf.new)) }

@@ -4,6 +4,8 @@
 #[cfg(test)]
 mod arcs;
 #[cfg(test)]
+mod calls;
+#[cfg(test)]
 mod nodes;
 #[cfg(test)]
 mod streams;

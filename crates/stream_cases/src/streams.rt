@@ -11,7 +11,11 @@ const FILE: FileNo = FileNo { step: 1, part: 3 };
 
 const EMPTY: Rec = Rec { w: [0; 8] };
 
-fn write_all<S: Shelf>(count: u64, window: &mut [Rec], shelf: &mut S) -> Result<(), StreamFault>
+pub(crate) fn write_all<S: Shelf>(
+    count: u64,
+    window: &mut [Rec],
+    shelf: &mut S,
+) -> Result<(), StreamFault>
     requires { 8 ≤ length window.old }
 {
     let mut out = Appender::<Rec>::start(FILE, window, shelf)?;
@@ -24,7 +28,7 @@ fn write_all<S: Shelf>(count: u64, window: &mut [Rec], shelf: &mut S) -> Result<
     out.settle(shelf)
 }
 
-fn reads_forward<S: Shelf>(
+pub(crate) fn reads_forward<S: Shelf>(
     count: u64,
     window: &mut [Rec],
     shelf: &mut S,
@@ -44,7 +48,7 @@ fn reads_forward<S: Shelf>(
     Ok(records.next(shelf)?.is_none())
 }
 
-fn reads_backward<S: Shelf>(
+pub(crate) fn reads_backward<S: Shelf>(
     count: u64,
     window: &mut [Rec],
     shelf: &mut S,

@@ -1,8 +1,8 @@
 use Rattle.std.proofs.Common.{◌≡◌, ℕ, ◌+◌, ◌-◌, List, subst, arith}
 use Rattle.std.specs.Prelude.{Ok, Some}
 use Rattle.shelf_model.specs.World.{file}
-use Rattle.block_stream.specs.Backwards.{reading_of}
-use Rattle.block_stream.specs.Reads.{IsAnswer, IsRecordOf, GoesBack, place_of}
+use Rattle.block_stream.specs.Backwards.{reading_of, room_of}
+use Rattle.block_stream.specs.Reads.{IsAnswer, IsRecordOf, GoesBack, TakesBehind, place_of}
 use Rattle.block_stream.specs.Items.{AreBehind, GivesLast}
 use Rattle.arc_file.specs.Arcs.{arc_words, IsArc}
 use Rattle.arc_file.specs.Streams.{file_of}
@@ -66,3 +66,8 @@ returns-clause-items g c t reads xs left =
         ordered = front_ordered c.args.kind xs gives.0 c.in-Some.arc c.args.self.now.given gives.1 left.ordered;
       },
     )
+
+pub returns-clause-waits : goal.returns-clause-waits
+returns-clause-waits g c =
+    let r = reading_of c.args.self.now.arcs in
+    (c.in_ok-arc.ensures.room, subst (λ o. TakesBehind (room_of c.args.self.now.arcs) r (reading_of c.next.new.self) (Ok o)) c.in-Some.is c.in_ok-arc.ensures.waits)

@@ -19,3 +19,9 @@ returns-in-None-clause-arcs g c =
     let stays = wrote_leaves _ _ w.inner.filling.file _ _ (files_apart w) (c.put-in-None.ensures.content.did t) in
     put_end w _ _ _ xs ys c.args.arc (omega (arith, c.in-None.ensures.level)) refl stays (items t w.ends_width ys held.ends_are) count held)
     c.put-in-None.ensures.count c.put-in-None.ensures.items
+
+pub returns-in-Some-clause-calls : goal.returns-in-Some-clause-calls
+returns-in-Some-clause-calls g c t space = c.put.ensures.calls t (space.inner c.in-Some.ensures.level.0)
+
+pub returns-in-None-clause-calls : goal.returns-in-None-clause-calls
+returns-in-None-clause-calls g c t space = c.put-in-None.ensures.calls t (space.ends (omega (arith, c.in-None.ensures.level)))

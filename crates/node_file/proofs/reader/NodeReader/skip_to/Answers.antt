@@ -3,6 +3,8 @@ use Rattle.std.specs.Prelude.{Ok, Err}
 use Rattle.std.proofs.lemmas.Result.{err_from_is_err_and}
 use Rattle.shelf_model.specs.World.{file}
 use Rattle.block_stream.specs.Items.{GivesLast}
+use Rattle.node_file.specs.declared.trailer.Trailer.{Trailer}
+use Rattle.node_file.specs.Nodes.{IsNodeDamage}
 use Rattle.node_file.specs.Readers.{file_of, left_of, Reads, AreLeft}
 use Rattle.node_file.proofs.FileLaws.{of_err}
 use Rattle.node_file.proofs.SkipLaws.{goes_down, same_bytes, looked_within, as_many_left, all_left, fewer_left, left_before, no_damage}
@@ -65,6 +67,21 @@ returns-in_err-next-clause-sound g c t r xs left =
     of_err _ c.from_residual.result c.in_err-next.field-0.0 (out.1 ∙ ap Err out.2)
     (no_damage (AreLeft c.next.new.self (file (g.S.Shelf.world c.skip.shelf) (file_of c.skip.self)).bytes) (take (left_of c.skip.self) xs) c.in_err-next.field-0.0 (c.in_err-next.ensures.items t (subst (Reads c.skip.self) (sym same) (c.skip.invariant.reads before r)) (take (left_of c.skip.self) xs)
     (subst (λ b. AreLeft c.skip.self b (take (left_of c.skip.self) xs)) (sym same) (c.skip.invariant.nodes before r xs left))))
+
+pub returns-in_err-next-clause-damaged : goal.returns-in_err-next-clause-damaged
+returns-in_err-next-clause-damaged g c t r =
+    let out = err_from_is_err_and c.from_residual.result c.from_residual.ensures.1 in
+    let before = c.in_err-next.ensures.content.before t in
+    let same : (file (g.S.Shelf.world c.skip.shelf) (file_of c.skip.self)).bytes ≡ (file (g.S.Shelf.world c.args.shelf.now) (file_of c.args.self.now)).bytes =
+    same_bytes _ (file_of c.args.self.now) (file_of c.skip.self) (g.S.Shelf.world c.args.shelf.now) (g.S.Shelf.world c.skip.shelf) (c.skip.invariant.looked.did before) c.skip.invariant.file_is in
+    let fewer : left_of c.skip.self ≤ left_of c.args.self.now = c.skip.invariant.fewer in
+    of_err _ c.from_residual.result c.in_err-next.field-0.0 (out.1 ∙ ap Err out.2) (
+      left_of c.skip.self,
+      omega arith,
+      fewer,
+      subst (λ v. v) (λ j. IsNodeDamage (ap (λ (trailer : Trailer). trailer.n) c.skip.invariant.trailer_is j) (left_of c.skip.self) (same j) c.in_err-next.field-0.0)
+          (c.in_err-next.ensures.value t (subst (Reads c.skip.self) (sym same) (c.skip.invariant.reads before r))),
+    )
 
 pub returns-clause-nodes : goal.returns-clause-nodes
 returns-clause-nodes g c t r xs left =
