@@ -65,6 +65,7 @@ pub fn commit<S: Shelf>(entry: &Entry, shelf: &mut S) -> Result<(), Failed>
     ensures faults { OnlyFolder (S.faults shelf.old) (S.faults shelf.new) result }
 {
     let number = entry.number as u64;
-    replace_from(CATALOGUE, ENTRY_SIZE as u64 * number, &entry.to_bytes(), shelf)?;
+    let at = ENTRY_SIZE as u64 * number;
+    replace_from(CATALOGUE, at, &entry.to_bytes(), shelf)?;
     lengthen(STEP_GATE, number, shelf)
 }
