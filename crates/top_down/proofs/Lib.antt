@@ -9,3 +9,6 @@ pub mod OrderLaws
 pub mod TurnLaws
 pub mod GrownLaws
 pub mod OperationDiagrams
+pub mod VariableLaws
+pub mod RestrictLaws
+pub mod QuantifyLaws

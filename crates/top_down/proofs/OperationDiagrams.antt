@@ -1,17 +1,21 @@
 -- what the rules make of canonical diagrams
-use Rattle.std.specs.Prelude.{◌≡◌, ◌≤◌, ℕ, Bool, false, List, [], ◌++◌}
+use Rattle.std.specs.Prelude.{◌≡◌, ◌-◌, ◌≤◌, ℕ, Bool, false, List, [], ◌∷◌, ◌++◌}
 use Rattle.std.proofs.Common.{refl, sym, ◌∙◌, subst, arith}
-use Rattle.bool_tables.specs.Steps.{op_value}
+use Rattle.bool_tables.specs.Steps.{op_value, step_table}
+use Rattle.bool_tables.specs.declared.steps.Step.TheVariants.{Quantify, Restrict}
+use Rattle.canon_file.specs.Laws.{HasForm}
 use Rattle.arc_diagrams.specs.Arcs.{StandFor}
 use Rattle.arc_diagrams.specs.Laws.{IsDiagramOf}
-use Rattle.top_down.specs.Tuples.{Tuple, Targets, joined_by}
+use Rattle.top_down.specs.Tuples.{Tuple, Targets, AreDeepening, canon_targets, joined_by}
 use Rattle.top_down.specs.Rules.{Rule, IsAsked, IsRule, table_for}
-use Rattle.top_down.specs.Operations.{product_rule, choice_rule}
-use Rattle.top_down.specs.Laws.{Makes, roots_of_two, targets_of_two, roots_of_three, targets_of_three, ProductStands, ChoiceStands}
+use Rattle.top_down.specs.Operations.{product_rule, choice_rule, quantify_rule, restrict_rule}
+use Rattle.top_down.specs.Laws.{Makes, roots_of_one, root_twice, targets_of_one, roots_of_two, targets_of_two, roots_of_three, targets_of_three, ProductStands, ChoiceStands, QuantifyStands, RestrictStands}
 use Rattle.top_down.proofs.TupleLaws.{from_terminal, from_root, canon-deep, root-table}
 use Rattle.top_down.proofs.GrownLaws.{open_stands, closed_stands}
 use Rattle.top_down.proofs.ProductLaws.{product_is_rule}
 use Rattle.top_down.proofs.ChoiceLaws.{choice_is_rule}
+use Rattle.top_down.proofs.QuantifyLaws.{above_is, may_one, quantify_is_rule}
+use Rattle.top_down.proofs.RestrictLaws.{not_below, restrict_is_rule}
 
 -- a rule makes the table that its roots stand for
 pub makes : (n : ℕ) (rule : Rule) (targets : Targets) (roots : Tuple) (made : List Bool) → n ≤ 65535 → IsRule n rule targets → IsAsked n rule 0 roots
@@ -42,3 +46,38 @@ choice_stands n t u v form_t form_u form_v =
   where
     table_for_three : List Bool → List Bool → List Bool → List Bool
     table_for_three a b c = choice_rule.table n 0 a b c
+
+one_deep : (n : ℕ) (t : List Bool) → HasForm n t → AreDeepening n (targets_of_one n t)
+one_deep n t form = record { first = canon-deep n t form; second = canon-deep n t form; third = canon-deep n t form }
+
+pub quantify_stands : (n : ℕ) → QuantifyStands n
+quantify_stands n kind variable t form low =
+    makes n (quantify_rule kind variable) (targets_of_one n t) (root_twice n t) _ form.few
+    (quantify_is_rule n variable kind low form.few (canon_targets n t) (canon_targets n t) (one_deep n t form))
+    (record {
+      from = record { first = from_root n t form; second = from_root n t form; third = from_terminal n 0 false (omega arith) form.few };
+      may = may_one n variable kind low form.few (canon_targets n t) (canon_targets n t) 0 (root_twice n t) refl;
+    })
+    (above_is n variable kind low form.few (canon_targets n t) (canon_targets n t) n 0 (root_twice n t) (omega arith)
+    ∙ (λ j. step_table n (root-table n t form j ∷ []) (Quantify kind 0 (same j))))
+  where
+    same : variable - 0 ≡ variable
+    same = omega arith
+
+pub restrict_stands : (n : ℕ) → RestrictStands n
+restrict_stands n variable value t form low =
+    makes n (restrict_rule variable value) (targets_of_one n t) (roots_of_one n t) _ form.few
+    (restrict_is_rule n variable value low form.few (targets_of_one n t) (one_deep n t form))
+    (record {
+      from = record {
+        first = from_root n t form;
+        second = from_terminal n 0 false (omega arith) form.few;
+        third = from_terminal n 0 false (omega arith) form.few;
+      };
+      may = refl;
+    })
+    (not_below n variable value low form.few (targets_of_one n t) n 0 (roots_of_one n t) (omega arith)
+    ∙ (λ j. step_table n (root-table n t form j ∷ []) (Restrict 0 (same j) value)))
+  where
+    same : variable - 0 ≡ variable
+    same = omega arith

@@ -5,7 +5,8 @@ use Rattle.std.specs.List.Sorted.{IsPermutation}
 use Rattle.rec_words.specs.Words.{node_word, level_of}
 use Rattle.bool_tables.specs.Steps.{step_table}
 use Rattle.bool_tables.specs.declared.steps.Bin.{Bin}
-use Rattle.bool_tables.specs.declared.steps.Step.TheVariants.{Pair, Ite}
+use Rattle.bool_tables.specs.declared.steps.Quant.{Quant}
+use Rattle.bool_tables.specs.declared.steps.Step.TheVariants.{Pair, Ite, Quantify, Restrict}
 use Rattle.canon_file.specs.Members.{Has}
 use Rattle.canon_file.specs.Canon.{canon_root}
 use Rattle.canon_file.specs.Laws.{HasForm}
@@ -16,7 +17,7 @@ use Rattle.arc_diagrams.specs.Laws.{IsDiagramOf}
 use Rattle.top_down.specs.Tuples.{Tuple, Targets, unused, canon_targets, level_of_tuple}
 use Rattle.top_down.specs.Rules.{End, Go, Rule, IsAsked, IsRule, table_for}
 use Rattle.top_down.specs.Asks.{Ask, IsUpTo, AreNumbered, next_identifier, Grows, answer, new_arcs, new_asks, with_tuple, Completes}
-use Rattle.top_down.specs.Operations.{product_rule, choice_rule}
+use Rattle.top_down.specs.Operations.{product_rule, choice_rule, quantify_rule, restrict_rule}
 
 -- at first the root answers its tuple, and its two sides are ends or are asked for
 abbrev pub FirstGrows : ℕ → Rule → Targets → Type 0
@@ -62,6 +63,16 @@ ClosedStands n rule targets = (roots : Tuple) (root : ℕ) (inner ends : List Ar
     → IsAsked n rule 0 roots → rule.goal roots ≡ Go (tuple root) → Grows n root rule targets inner ends [] used tuple
     → IsDiagramOf n root (inner ++ ends) (table_for rule targets n 0 roots)
 
+-- the root of a canonical diagram, once and twice, and its nodes
+abbrev pub roots_of_one : ℕ → List Bool → Tuple
+roots_of_one n t = record { first = canon_root n t; second = unused; third = unused }
+
+abbrev pub root_twice : ℕ → List Bool → Tuple
+root_twice n t = record { first = canon_root n t; second = canon_root n t; third = unused }
+
+abbrev pub targets_of_one : ℕ → List Bool → Targets
+targets_of_one n t = record { first = canon_targets n t; second = canon_targets n t; third = canon_targets n t }
+
 -- the roots of two canonical diagrams, and their nodes
 abbrev pub roots_of_two : ℕ → List Bool → List Bool → Tuple
 roots_of_two n t u = record { first = canon_root n t; second = canon_root n u; third = unused }
@@ -98,3 +109,13 @@ ProductStands n = (op : Bin) (t u : List Bool) → HasForm n t → HasForm n u
 abbrev pub ChoiceStands : ℕ → Type 0
 ChoiceStands n = (t u v : List Bool) → HasForm n t → HasForm n u → HasForm n v
     → Makes n choice_rule (targets_of_three n t u v) (roots_of_three n t u v) (step_table n (t ∷ u ∷ v ∷ []) (Ite 0 1 2))
+
+-- that of a quantifier makes the quantified table of one, whose root stands twice
+abbrev pub QuantifyStands : ℕ → Type 0
+QuantifyStands n = (kind : Quant) (variable : ℕ) (t : List Bool) → HasForm n t → variable < n
+    → Makes n (quantify_rule kind variable) (targets_of_one n t) (root_twice n t) (step_table n (t ∷ []) (Quantify kind 0 variable))
+
+-- that of a restriction makes the restricted table of one
+abbrev pub RestrictStands : ℕ → Type 0
+RestrictStands n = (variable : ℕ) (value : Bool) (t : List Bool) → HasForm n t → variable < n
+    → Makes n (restrict_rule variable value) (targets_of_one n t) (roots_of_one n t) (step_table n (t ∷ []) (Restrict 0 variable value))

@@ -2,7 +2,7 @@
 ghost use Rattle.std.specs.Prelude.{◌≤◌, ℕ};
 ghost use Rattle.top_down.specs.Tuples.{Targets};
 ghost use Rattle.top_down.specs.Rules.{Rule, IsRule};
-ghost use Rattle.top_down.specs.Laws.{FirstGrows, KnownGrows, NewGrows, AsksInAnyOrder, NumbersAreFull, OpenStands, ClosedStands, ProductStands, ChoiceStands};
+ghost use Rattle.top_down.specs.Laws.{FirstGrows, KnownGrows, NewGrows, AsksInAnyOrder, NumbersAreFull, OpenStands, ClosedStands, ProductStands, ChoiceStands, QuantifyStands, RestrictStands};
 
 /// What a sweep has made grows by answering asks: the first is that of the root, and each further one is
 /// answered by the newest identifier, where it has the ask's tuple, or by the next. The asks may stand in
@@ -31,4 +31,15 @@ pub fn pairs_make_a_diagram()
 /// So does the rule of the choice between two diagrams by a third.
 pub fn triples_make_a_diagram()
     ensures { (n : ℕ) → ChoiceStands n }
+{}
+
+/// So does a quantifier's rule of one diagram: on its variable's level a node's two pointers become one
+/// tuple, and below that level the two are quantified value by value.
+pub fn quantified_pairs_make_a_diagram()
+    ensures { (n : ℕ) → QuantifyStands n }
+{}
+
+/// So does a restriction's rule of one diagram.
+pub fn restricted_pointers_make_a_diagram()
+    ensures { (n : ℕ) → RestrictStands n }
 {}
