@@ -10,6 +10,3 @@ mod source_row;
 pub use final_arc::FinalArc;
 pub use name::Name;
 pub use source_row::SourceRow;
-
-#[cfg(test)]
-mod tests;

@@ -8,6 +8,3 @@ mod row;
 
 pub use plain::plain_canon;
 pub use row::Row;
-
-#[cfg(test)]
-mod tests;

@@ -11,6 +11,3 @@ pub use node::{NODE_SIZE, Node};
 pub use ptr::{DEEPEST_LEVEL, LEVEL_NUMBERS, MOST_VARIABLES, Ptr, Uid};
 pub use rec::Rec;
 pub use spill::Spill;
-
-#[cfg(test)]
-mod tests;
