@@ -2,9 +2,12 @@
 use Rattle.std.proofs.Common.{◌≡◌, ◌⊎◌, inl, inr, ⊎_elim, ℕ, ◌+◌, ◌<◌, Bool, true, false, cond, ◌||◌, List, [], ◌∷◌, ◌++◌, length, get_or, take, map, Option, Some, None, is_some, Vec, refl, sym, ap, ◌∙◌, subst, arith, add-zero, zero-add}
 use Rattle.std.specs.List.{position_from}
 use Rattle.std.specs.Str.{bytes_eq}
-use Rattle.std.specs.HashMap as hash
+use Rattle.std.specs.BTreeMap as tree
+use Rattle.std.specs.Ordering.{is_eq, nat_cmp}
 use Rattle.std.specs.Map.{lookup, KeepsOthers, IsKeyTest, AreApart}
-use Rattle.std.specs.Cmp.Lexicographic.{bytes_decides, nat_list_eq_equiv}
+use Rattle.std.specs.Cmp.Lexicographic.{slice_cmp, bytes_decides, nat_list_eq_equiv}
+use Rattle.std.proofs.lemmas.Cmp.{eq_by_cmp_equiv, nat_list_cmp_total}
+use Rattle.std.proofs.lemmas.Map.Text.{is_eq-slice_cmp}
 use Rattle.std.specs.declared.alloc.Global.{Global}
 use Rattle.std.proofs.lemmas.List.{map_push, take_more, length-map, length-take-le}
 use Rattle.std.proofs.lemmas.List.Folds.{list_any-append}
@@ -22,15 +25,19 @@ other_entries eq test old new h = h
 apart : (bs cs ks : List ℕ) → bytes_eq bs cs ≡ false → bytes_eq bs ks ≡ true → bytes_eq cs ks ≡ false
 apart bs cs ks n y = nat_list_eq_equiv.symm cs ks ∙ sym (nat_list_eq_equiv.congr bs ks cs y) ∙ n
 
+apart_in_order : (bs cs ks : List ℕ) → bytes_eq bs cs ≡ false → is_eq (slice_cmp nat_cmp bs ks) ≡ true → is_eq (slice_cmp nat_cmp cs ks) ≡ false
+apart_in_order bs cs ks n y = is_eq-slice_cmp cs ks ∙ apart bs cs ks n (sym (is_eq-slice_cmp bs ks) ∙ y)
+
 -- what an index has after a word was put
-pub puts_word : (old new : Index) (key : Vec ℕ Global) (word : List ℕ) (n : ℕ) → key.items ≡ word → hash.UpdatesBy (λ (x y : Vec ℕ Global). bytes_eq x.items y.items) (λ k. bytes_eq key.items k.items) old new (Some n) → Puts old new word n
+pub puts_word : (old new : Index) (key : Vec ℕ Global) (word : List ℕ) (n : ℕ) → key.items ≡ word → tree.UpdatesBy (λ (x y : Vec ℕ Global). slice_cmp nat_cmp x.items y.items) (λ k. slice_cmp nat_cmp key.items k.items) old new (Some n) → Puts old new word n
+unfolding found_in
 puts_word old new key word n e h q = ⊎_elim
     (λ (y : bytes_eq word q ≡ true).
     let same : key.items ≡ q = e ∙ (bytes_decides word q).0 y in
     subst (λ l. found_in new l ≡ Some n) same h.1 ∙ sym (ap (λ b. cond b (Some n) (found_in old q)) y))
     (λ (no : bytes_eq word q ≡ false).
     let away : bytes_eq key.items q ≡ false = ap (λ l. bytes_eq l q) e ∙ no in
-    other_entries _ _ _ _ h.3 (λ k. bytes_eq q k.items) (λ x y. nat_list_eq_equiv.congr q x.items y.items) (λ k. apart key.items q k.items away) ∙ sym (ap (λ b. cond b (Some n) (found_in old q)) no))
+    other_entries _ _ _ _ h.3 (λ k. is_eq (slice_cmp nat_cmp q k.items)) (λ x y. (eq_by_cmp_equiv nat_list_cmp_total).congr q x.items y.items) (λ k. apart_in_order key.items q k.items away) ∙ sym (ap (λ b. cond b (Some n) (found_in old q)) no))
     (cases_bool (bytes_eq word q))
 
 -- the place of a word among names with one more

@@ -15,6 +15,7 @@ use Rattle.blif_reader.specs.Statements.{Statement, statement_of}
 use Rattle.blif_reader.specs.Parts.{Use, input_words, output_words, block_words, read_words, part_of, uses_in, words_in, first_again, first_missing, lists_inputs}
 use Rattle.blif_reader.specs.Index.{signal_of}
 use Rattle.blif_reader.specs.Netlist.{Cover, IsTables, names_of, net_of_text, covers_of, block_cover, cover_before, reads_of, rows_behind, row_before, begins_block, is_names, sound, unless_on}
+use Rattle.blif_reader.proofs.Apart.{names_differ}
 
 cases_bool : (b : Bool) → (b ≡ true) ⊎ (b ≡ false)
 cases_bool true = inl refl
@@ -144,17 +145,17 @@ driven_some [] [] none some = absurd (omega arith)
 driven_some [] (u ∷ us) none some = absurd (cc)
 
 -- what sound statements keep
-unpack : (a b : Bool) (f g : BlifFault) (o p : Option ℕ) (k l : BlifKind) (ss ts : List Statement) → cond a (Err f) (cond b (Err g) (unless_on o k (unless_on p l (Ok ss)))) ≡ Ok ts → (b ≡ false) × (p ≡ None)
+unpack : (a b : Bool) (f g : BlifFault) (o p : Option ℕ) (k l : BlifKind) (ss ts : List Statement) → cond a (Err f) (cond b (Err g) (unless_on o k (unless_on p l (Ok ss)))) ≡ Ok ts → (b ≡ false) × (p ≡ None) × (o ≡ None)
 unpack true b f g o p k l ss ts e = absurd (cc)
 unpack false true f g o p k l ss ts e = absurd (cc)
 unpack false false f g (Some n) p k l ss ts e = absurd (cc)
 unpack false false f g None (Some n) k l ss ts e = absurd (cc)
-unpack false false f g None None k l ss ts e = (refl, refl)
+unpack false false f g None None k l ss ts e = (refl, refl, refl)
 
-sound_ok : (ss ts : List Statement) → sound ss ≡ Ok ts → (length (words_in Inputs ss) ≤ 65535) × (first_missing (words_in Drivers ss) (uses_in Uses ss) ≡ None)
+sound_ok : (ss ts : List Statement) → sound ss ≡ Ok ts → (length (words_in Inputs ss) ≤ 65535) × (first_missing (words_in Drivers ss) (uses_in Uses ss) ≡ None) × (first_again [] (uses_in Drivers ss) ≡ None)
 sound_ok ss ts e =
     let u = unpack (not (list_any lists_inputs ss)) (nat_lt 65535 (length (words_in Inputs ss))) _ _ (first_again [] (uses_in Drivers ss)) (first_missing (words_in Drivers ss) (uses_in Uses ss)) _ _ ss ts e in
-    (ltb-false _ _ u.0, u.1)
+    (ltb-false _ _ u.0, u.1, u.2)
 
 -- tables of sound statements
 pub tables_sound : (ds : List declared.Statement) → length ds ≤ 4194305 → sound (map statement_of ds) ≡ Ok (map statement_of ds) → IsTables (net_of_text (map statement_of ds))
@@ -180,6 +181,8 @@ tables_sound ds few e =
     let low : (s : ℕ) → s < n → get_or (outer ++ inner) s [] ≡ [] = (λ s lt. get_or_append_left outer inner [] s (omega arith) ∙ get_or-replicate n s [] [] lt) in
     record {
       few = omega arith;
+      few_inputs = inputs;
+      apart = names_differ ss ok.2;
       signals = omega arith;
       blocks = omega arith;
       graph = λ s i lt less. ⊎_elim

@@ -3,6 +3,7 @@ pub mod Joins
 pub mod Reading
 pub mod Windows
 pub mod Indexing
+pub mod Apart
 pub mod Netlists
 pub mod Lengths
 pub mod Accepting

@@ -2,18 +2,18 @@
 use Rattle.std.specs.Prelude.{◌≡◌, ℕ, List, Option, Some, None, is_some, cond, Vec, unwrap_or, if◌then◌else◌}
 use Rattle.std.specs.List.{position_from}
 use Rattle.std.specs.Str.{bytes_eq}
-use Rattle.std.specs.HashMap.{HashMap, get_by}
+use Rattle.std.specs.BTreeMap.{BTreeMap, get_by}
+use Rattle.std.specs.Cmp.Lexicographic.{slice_cmp}
+use Rattle.std.specs.Ordering.{nat_cmp}
 use Rattle.std.specs.declared.alloc.Global.{Global}
-use Rattle.std.specs.declared.hash.FoldHasher.{FoldHasher}
-use Rattle.std.specs.declared.hash.BuildHasherDefault.{BuildHasherDefault}
 
 -- an index from words to numbers
 abbrev pub Index : Type 0
-Index = HashMap (Vec ℕ Global) ℕ (BuildHasherDefault FoldHasher)
+Index = BTreeMap (Vec ℕ Global) ℕ
 
 -- the number of a word
-abbrev pub found_in : Index → List ℕ → Option ℕ
-found_in index word = get_by (λ k. bytes_eq word k.items) index
+unfoldable pub found_in : Index → List ℕ → Option ℕ
+found_in index word = get_by (λ k. slice_cmp nat_cmp word k.items) index
 
 -- the place of a word among names, counted from 0
 abbrev pub place_of : List (List ℕ) → List ℕ → Option ℕ

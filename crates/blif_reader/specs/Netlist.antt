@@ -11,7 +11,7 @@ use Rattle.blif_reader.specs.declared.parts.Part.TheVariants.{Inputs, Outputs, B
 use Rattle.blif_reader.specs.Grammar.{word_at}
 use Rattle.blif_reader.specs.Statements.{Statement, ◌>>=◌, parsed}
 use Rattle.blif_reader.specs.Parts.{block_inputs, words_in, uses_in, lists_inputs, first_again, first_missing}
-use Rattle.blif_reader.specs.Index.{signal_of}
+use Rattle.blif_reader.specs.Index.{place_of, signal_of}
 
 -- the cover of a block: the line of the block, the output of its rows, and their characters
 pub record Cover : Type 0 where
@@ -147,9 +147,11 @@ Settles (Ok net) result = IsSettled net result
 abbrev pub IsReading : List ℕ → Result Net BlifFault → Type 0
 IsReading bytes result = Settles (reading bytes) result
 
--- what every netlist keeps, but for cycles
+-- what every netlist keeps, but for cycles: its inputs are few, its names differ, and its numbers are those of signals
 pub record IsTables (net : Net) : Type 0 where
   pub few : length net.names < 4294967294
+  pub few_inputs : net.inputs ≤ 65535
+  pub apart : (s : ℕ) → s < length net.names → place_of net.names (slice_index_or net.names s []) ≡ Some s
   pub signals : length net.edges ≡ length net.names
   pub blocks : net.inputs + length net.covers ≡ length net.names
   pub graph : IsGraph net.edges

@@ -1,4 +1,5 @@
-//! An index from words to numbers.
+//! An index from words to numbers. The words are kept in order, since a hash leaves a reader to whoever picks
+//! the words.
 
 ghost use Rattle.std.specs.Prelude.{◌≡◌, ℕ, ◌<◌, ◌^◌, [], List, None, map, length, is_some, not, option_map, find as prelude_find, IfOk, OnOk};
 ghost use Rattle.blif_reader.specs.Index.{found_in, place_of, Puts, PutsNew};
@@ -7,11 +8,20 @@ ghost use Rattle.blif_reader.specs.Words.{use_of};
 
 use crate::parts::Use;
 use std::alloc::{AllocError, Global};
-use std::collections::HashMap;
+use std::collections::BTreeMap;
 
-pub(crate) type Index = HashMap<Vec<u8>, u32>;
+pub(crate) type Index = BTreeMap<Vec<u8>, u32>;
+
+/// An index without words.
+#[tactic(auto, unfolding(crate::specs::Index::found_in))]
+pub(crate) fn no_words(alloc: Global) -> Index
+    ensures { (q : List ℕ) → found_in result q ≡ None }
+{
+    BTreeMap::new(alloc)
+}
 
 /// The number of a word.
+#[tactic(auto, unfolding(crate::specs::Index::found_in))]
 pub(crate) fn find(index: &Index, word: &[u8]) -> Option<u32>
     ensures { result ≡ found_in index.now word.now }
 {
@@ -73,7 +83,7 @@ pub(crate) fn index_of(alloc: Global, names: &[Vec<u8>]) -> Result<Index, AllocE
     requires { length names.now < 2 ^ 32 }
     ensures { IfOk result (λ index. (q : List ℕ) → found_in index q ≡ place_of (map (λ n. n.items) names.now) q) }
 {
-    let mut index = HashMap::new(alloc);
+    let mut index = no_words(alloc);
     for (place, name) in names.iter().enumerate() {
         put_new(alloc, &mut index, name.as_slice(), place as u32)?;
     }

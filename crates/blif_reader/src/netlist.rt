@@ -1,6 +1,6 @@
 //! A netlist that was accepted.
 
-ghost use Rattle.std.specs.Prelude.{◌≡◌, ℕ, ◌<◌, ◌≤◌, [], List, length, slice_index, IfOk};
+ghost use Rattle.std.specs.Prelude.{◌≡◌, ℕ, ◌<◌, ◌≤◌, Some, [], List, length, slice_index, IfOk};
 ghost use Rattle.std.specs.List.{slice_index_or};
 ghost use Rattle.depth_first.specs.Graph.{IsTopological, visits};
 ghost use Rattle.blif_reader.specs.Index.{found_in, place_of};
@@ -28,7 +28,8 @@ impl Netlist {
 
     /// The number of inputs.
     pub fn input_count(&self) -> u32
-        ensures { result ≡ (net_of self.now).inputs }
+        ensures count { result ≡ (net_of self.now).inputs }
+        ensures few { result ≤ 65535 }
     {
         self.tables.inputs
     }
@@ -48,10 +49,11 @@ impl Netlist {
         find(&self.tables.index, name)
     }
 
-    /// The name of a signal.
+    /// The name of a signal. No other signal has it.
     pub fn name(&self, signal: u32) -> &[u8]
         requires { signal < length (net_of self.now).names }
-        ensures { result.now ≡ slice_index_or (net_of self.now).names signal [] }
+        ensures name { result.now ≡ slice_index_or (net_of self.now).names signal [] }
+        ensures back { place_of (net_of self.now).names result.now ≡ Some signal }
     {
         self.tables.names[signal as usize].as_slice()
     }

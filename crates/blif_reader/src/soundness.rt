@@ -9,11 +9,10 @@ ghost use Rattle.blif_reader.specs.Netlist.{driven_once, sound};
 
 use crate::fault::{BlifFault, BlifKind, Refusal};
 use crate::grammar::Kind;
-use crate::index::{line_again, line_missing};
+use crate::index::{line_again, line_missing, no_words};
 use crate::parts::{Part, collect};
 use crate::statement::Statement;
 use std::alloc::Global;
-use std::collections::HashMap;
 
 /// A netlist has at most so many inputs.
 const MOST_INPUTS: usize = 65535;
@@ -36,7 +35,7 @@ fn drive(alloc: Global, statements: &[Statement]) -> Result<(), Refusal>
     ensures { Gives (λ _. map statement_of statements.now) result (driven_once (map statement_of statements.now)) }
 {
     let drivers = collect(alloc, Part::Drivers, statements)?;
-    let mut driven = HashMap::new(alloc);
+    let mut driven = no_words(alloc);
     if let Some(line) = line_again(alloc, drivers.as_slice(), &mut driven)? {
         return Err(Refusal::Fault(BlifFault {
             line,

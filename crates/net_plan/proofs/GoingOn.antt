@@ -1,5 +1,5 @@
 -- The steps of signals go on with any well-formed plan.
-use Rattle.std.proofs.Common.{◌≡◌, ◌⊎◌, inl, inr, ⊎_elim, ℕ, zero, suc, ◌+◌, ◌<◌, Bool, true, false, cond, List, [], ◌∷◌, ◌++◌, length, get_or, take, map, set, nat_lt, refl, sym, ap, ◌∙◌, subst, arith, append_assoc}
+use Rattle.std.proofs.Common.{◌≡◌, ◌⊎◌, inl, inr, ⊎_elim, ℕ, zero, suc, ◌+◌, ◌<◌, ◌≤◌, Bool, true, false, cond, List, [], ◌∷◌, ◌++◌, length, get_or, take, map, set, nat_lt, refl, sym, ap, ◌∙◌, subst, arith, append_assoc}
 use Rattle.std.specs.List.{list_all, flat_map}
 use Rattle.std.proofs.lemmas.Bool.{cond_both, cases_eq, cases_Bool, ltb-true, and_from, and_parts, or_cases, eqb-true, true≢false}
 use Rattle.std.proofs.lemmas.List.{append-nil, length-set, length-replicate, map-append, get_or-map, length-map, get_or-set_same, get_or-set_other}
@@ -16,7 +16,7 @@ use Rattle.net_plan.specs.WellFormed.{StaysWellFormed}
 use Rattle.net_plan.proofs.Blocks.{has_head, has_tail}
 use Rattle.net_plan.proofs.Visits.{has_place, roots_visited}
 use Rattle.net_plan.proofs.Distinct.{IsDistinct, distinct_head, distinct_rest, visits_distinct}
-use Rattle.net_plan.proofs.Follows.{live, live_is, follows, all_follow, IsBelow, below_follows, may_from, follow_from, below_none, follow_none}
+use Rattle.net_plan.proofs.Follows.{live, live_is, live_inside, follows, all_follow, IsBelow, below_follows, may_from, follow_from, below_none, follow_none}
 use Rattle.net_plan.proofs.Lives.{Fits, IsLive, Adds, lives_inside, adds_one, block_adds, drop_fits, drop_stays}
 
 -- the signals that were seen are live, and have numbers of their own
@@ -25,6 +25,8 @@ pub record IsLivePlanning (n : ℕ) (text : List ℕ) (base : List Step) (net : 
   pub fits : Fits n text base p.steps
   pub lives : (s : ℕ) → has seen s ≡ true → IsLive base p.steps (get_or p.made s 0)
   pub apart : (s t : ℕ) → has seen s ≡ true → has seen t ≡ true → get_or p.made s 0 ≡ get_or p.made t 0 → s ≡ t
+  pub late : (s : ℕ) → has seen s ≡ true → length base ≤ get_or p.made s 0
+  pub early : (k : ℕ) → live base k ≡ true → IsLive base p.steps k
 
 module _ (n : ℕ) (text : List ℕ) (base : List Step) (below : IsBelow base) (first : ℕ) (size : length base ≡ first) (net : Net) (levels : List ℕ) (few : (i : ℕ) → i < length levels → nat_lt (get_or levels i 0) n ≡ true) (each : length levels ≡ net.inputs) where
   input_adds : (p : Planning) (s : ℕ) → Fits n text base p.steps → s < net.inputs → Adds n text base p.steps (put first p.steps (Var (get_or levels s 0))).steps (put first p.steps (Var (get_or levels s 0))).at (first + length p.steps)
@@ -67,6 +69,11 @@ module _ (n : ℕ) (text : List ℕ) (base : List Step) (below : IsBelow base) (
         (λ (b : s ≡ u → ⊥). is.apart t u (old t a h) (old u b k) (sym (there t a) ∙ e ∙ there u b))
         (cases_eq s u))
         (cases_eq s t);
+    late = λ t h. ⊎_elim
+        (λ (e : s ≡ t). subst (λ u. length base ≤ get_or (set p.made s d.at) u 0) e (subst (λ k. length base ≤ k) (sym here) (omega (arith, adds.low, size))))
+        (λ (e : s ≡ t → ⊥). subst (λ k. length base ≤ k) (sym (there t e)) (is.late t (old t e h)))
+        (cases_eq s t);
+    early = λ k l. adds.stays k (omega (arith, live_inside base k l, size)) (is.early k l);
   } where
     here : get_or (set p.made s d.at) s 0 ≡ d.at
     here = get_or-set_same p.made s d.at 0 (omega (arith, is.size))
@@ -132,6 +139,21 @@ module _ (n : ℕ) (text : List ℕ) (base : List Step) (below : IsBelow base) (
       (lives t v (⊎_elim (λ (a : has ss t ≡ true). inl (has_tail s ss t a)) (λ (a : has wanted t ≡ true). inr a) h))))))
       (cases_Bool (has wanted s))
 
+  -- what was live before stays
+  drops_keep : (made wanted : List ℕ) (k : ℕ) → k < length base → (ss : List ℕ) (xs : List Step) → ((s : ℕ) → has ss s ≡ true → length base ≤ get_or made s 0) → IsLive base xs k → IsLive base (xs ++ flat_map (drop_one wanted made) ss) k
+  drops_keep made wanted k lt [] xs late l = subst (λ zs. IsLive base zs k) (sym (append-nil xs)) l
+  drops_keep made wanted k lt (s ∷ ss) xs late l =
+      let rest : List Step = flat_map (drop_one wanted made) ss in
+      let gone : ℕ = get_or made s 0 in
+      ⊎_elim
+      (λ (e : has wanted s ≡ true). subst (λ b. IsLive base (xs ++ (cond b [] (Drop gone ∷ []) ++ rest)) k) (sym e) (drops_keep made wanted k lt ss xs (λ t h. late t (has_tail s ss t h)) l))
+      (λ (e : has wanted s ≡ false).
+      let behind : length base ≤ gone = late s (has_head s ss) in
+      subst (λ b. IsLive base (xs ++ (cond b [] (Drop gone ∷ []) ++ rest)) k) (sym e)
+      (subst (λ zs. IsLive base zs k) (append_assoc xs (Drop gone ∷ []) rest)
+      (drops_keep made wanted k lt ss (xs ++ Drop gone ∷ []) (λ t h. late t (has_tail s ss t h)) (drop_stays n text base below first size xs gone k (λ same. absurd (omega (arith, behind, same))) l))))
+      (cases_Bool (has wanted s))
+
 -- each number of a list passes a test that all pass
 each_passes : (p : ℕ → Bool) (xs : List ℕ) → list_all p xs ≡ true → (i : ℕ) → i < length xs → p (get_or xs i 0) ≡ true
 each_passes p [] h i b = absurd (omega arith)
@@ -141,7 +163,7 @@ each_passes p (x ∷ xs) h (suc i) b = each_passes p xs (and_parts (p x) (list_a
 -- the steps of a plan go on with any plan
 pub plan_goes_on : (net : Net) (levels wanted : List ℕ) (first : ℕ) (order : List ℕ) → IsNet net → length levels ≡ net.inputs → order ≡ visits net.edges wanted → IsTopological net.edges order
     → ((k : ℕ) → k < length order → get_or order k 0 < length net.names) → ((i : ℕ) → i < length wanted → get_or wanted i 0 < length net.names)
-    → StaysWellFormed levels first (plan_steps net levels wanted first) (plan_made net levels wanted first)
+    → StaysWellFormed levels wanted first (plan_steps net levels wanted first) (plan_made net levels wanted first)
 plan_goes_on net levels wanted first order sound each same above inside exist n text before planned size ok steps names few =
     let base : List Step = steps_of before in
     let size2 : length base ≡ first = length-map before (λ (s : Planned). s.step) ∙ size in
@@ -156,19 +178,28 @@ plan_goes_on net levels wanted first order sound each same above inside exist n 
       fits = record { ok = follow_none n text base };
       lives = λ s h. absurd (true≢false (sym h));
       apart = λ s t h k e. absurd (true≢false (sym h));
+      late = λ s h. absurd (true≢false (sym h));
+      early = λ k l. record { ok = ap (λ zs. live zs k) (append-nil base) ∙ l };
     })
     inside above (subst IsDistinct (sym same) distinct) (λ t h. refl)) in
     let made : List ℕ = (made_signals net levels wanted first).made in
     let ps : List Step = (made_signals net levels wanted first).steps in
     let drops : List Step = flat_map (drop_one wanted made) visited in
     let ends = drops_fit n text base below first size2 net levels (each_passes (λ level. nat_lt level n) levels few) each made wanted visited planning.apart visited ps distinct (λ s h. h) planning.fits (λ s v h. planning.lives s v) in
+    let place : (i : ℕ) → i < length (plan_made net levels wanted first) → i < length wanted = λ i b. subst (λ m. i < m) (length-map wanted (λ s. get_or made s 0)) b in
+    let at : (i : ℕ) → i < length wanted → get_or (map (λ s. get_or made s 0) wanted) i 0 ≡ get_or made (get_or wanted i 0) 0 = λ i within. get_or-map (λ s. get_or made s 0) wanted i 0 0 within in
+    let seen : (i : ℕ) → i < length wanted → has visited (get_or wanted i 0) ≡ true = λ i within. roots_visited net.edges wanted i within (subst (λ m. get_or wanted i 0 < m) (sym sound.tables.signals) (exist i within)) in
     let joined : steps_of (before ++ planned) ≡ base ++ (ps ++ drops) = map-append (λ (s : Planned). s.step) before planned ∙ ap (λ ss. base ++ ss) steps in
     record {
       in_order = may_from n text before planned (ap (all_follow n text base) steps ∙ ends.0.ok) names;
       live = λ i b.
-          let within : i < length wanted = subst (λ m. i < m) (length-map wanted (λ s. get_or made s 0)) b in
-          let at : get_or (map (λ s. get_or made s 0) wanted) i 0 ≡ get_or made (get_or wanted i 0) 0 = get_or-map (λ s. get_or made s 0) wanted i 0 0 within in
-          let seen : has visited (get_or wanted i 0) ≡ true = roots_visited net.edges wanted i within (subst (λ m. get_or wanted i 0 < m) (sym sound.tables.signals) (exist i within)) in
-          live_is (before ++ planned) (get_or (map (λ s. get_or made s 0) wanted) i 0) ∙ ap (λ ss. live ss (get_or (map (λ s. get_or made s 0) wanted) i 0)) joined ∙ ap (live (base ++ (ps ++ drops))) at
-          ∙ (ends.1 (get_or wanted i 0) seen (has_at wanted i within)).ok;
+          let within = place i b in
+          live_is (before ++ planned) (get_or (map (λ s. get_or made s 0) wanted) i 0) ∙ ap (λ ss. live ss (get_or (map (λ s. get_or made s 0) wanted) i 0)) joined ∙ ap (live (base ++ (ps ++ drops))) (at i within)
+          ∙ (ends.1 (get_or wanted i 0) (seen i within) (has_at wanted i within)).ok;
+      apart = λ i j b c e.
+          planning.apart (get_or wanted i 0) (get_or wanted j 0) (seen i (place i b)) (seen j (place j c)) (sym (at i (place i b)) ∙ e ∙ at j (place j c));
+      stays = λ k l.
+          let before_live : live base k ≡ true = sym (live_is before k) ∙ l in
+          live_is (before ++ planned) k ∙ ap (λ ss. live ss k) joined
+          ∙ (drops_keep n text base below first size2 net levels (each_passes (λ level. nat_lt level n) levels few) each made wanted k (live_inside base k before_live) visited ps planning.late (planning.early k before_live)).ok;
     }

@@ -143,7 +143,7 @@ pub fn plan_signals(
     requires wanted { (i : ℕ) → i < length wanted.now → slice_index wanted.now i < length (net_of net.now).names }
     requires first { first ≤ 1048576 }
     ensures tables { IfOk result (λ plan. MakeTables (net_of net.now) levels.now wanted.now first plan.steps plan.made) }
-    ensures goes_on { IfOk result (λ plan. StaysWellFormed levels.now first plan.steps plan.made) }
+    ensures goes_on { IfOk result (λ plan. StaysWellFormed levels.now wanted.now first plan.steps plan.made) }
     ensures steps { IfOk result (λ plan. plan.steps ≡ plan_steps (net_of net.now) levels.now wanted.now first) }
     ensures made { IfOk result (λ plan. plan.made ≡ plan_made (net_of net.now) levels.now wanted.now first) }
     ensures few { IfOk result (λ plan. first + length plan.steps ≤ 1048576) }

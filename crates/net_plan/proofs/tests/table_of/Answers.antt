@@ -19,8 +19,8 @@ names_stand : (steps : List Step) → list_all (has_name []) (map unnamed steps)
 names_stand [] = refl
 names_stand (s ∷ ss) = names_stand ss
 
-well_formed : (levels made : List ℕ) (steps : List Step) → StaysWellFormed levels 0 steps made → list_all (λ level. nat_lt level 2) levels ≡ true → 0 + length steps ≤ 1048576 → IsWellFormed 2 [] (map unnamed steps)
-well_formed levels made steps goes_on few short = record {
+well_formed : (levels wanted made : List ℕ) (steps : List Step) → StaysWellFormed levels wanted 0 steps made → list_all (λ level. nat_lt level 2) levels ≡ true → 0 + length steps ≤ 1048576 → IsWellFormed 2 [] (map unnamed steps)
+well_formed levels wanted made steps goes_on few short = record {
   few_variables = omega arith;
   few_steps = omega (arith, length-map steps unnamed);
   in_order = (goes_on 2 [] [] (map unnamed steps) refl refl (steps_back steps) (names_stand steps) few).in_order;
@@ -29,4 +29,4 @@ well_formed levels made steps goes_on few short = record {
 pub eval_steps-requires : goal.eval_steps-requires
 eval_steps-requires c =
     subst (IsWellFormed 2 []) (sym (c.as_slice-3.ensures.value ∙ c.in_ok-planned.ensures ∙ ap (map unnamed) c.items.ensures))
-    (well_formed c.args.levels.now c.in_ok-plan.plan.made c.in_ok-plan.plan.steps c.in_ok-plan.ensures.goes_on c.requires c.in_ok-plan.ensures.few)
+    (well_formed c.args.levels.now _ c.in_ok-plan.plan.made c.in_ok-plan.plan.steps c.in_ok-plan.ensures.goes_on c.requires c.in_ok-plan.ensures.few)
