@@ -1,7 +1,7 @@
 -- How many signals, blocks and rows statements have.
 use Rattle.std.proofs.Common.{◌≡◌, ◌⊎◌, inl, inr, ⊎_elim, ℕ, zero, suc, ◌+◌, ◌-◌, ◌<◌, ◌≤◌, Bool, true, false, not, List, [], ◌∷◌, ◌++◌, length, get_or, map, replicate, filter, cond, Option, Some, None, unwrap_or, Ok, Err, refl, sym, ap, ◌∙◌, subst, arith, length-append, length-drop}
 use Rattle.std.specs.Prelude.{nat_lt}
-use Rattle.std.specs.List.{position_from, list_any}
+use Rattle.std.specs.List.{position_from, list_any, All}
 use Rattle.std.proofs.lemmas.List.{length-map, length-replicate, get_or-replicate, get_or_append_left, get_or-append_right, get_or-map}
 use Rattle.std.proofs.lemmas.Bool.{cases_lt, ltb-false}
 use Rattle.std.specs.Str.{bytes_eq}
@@ -11,11 +11,14 @@ use Rattle.blif_reader.specs.declared.grammar.Kind.{Kind}
 use Rattle.blif_reader.specs.declared.grammar.Kind.TheVariants as kind
 use Rattle.blif_reader.specs.declared.parts.Part.TheVariants.{Inputs, Outputs, Blocks, Drivers, Uses}
 use Rattle.blif_reader.specs.declared.statement.Statement as declared
-use Rattle.blif_reader.specs.Statements.{Statement, statement_of}
+use Rattle.blif_reader.specs.Statements.{Statement, statement_of, Follows}
 use Rattle.blif_reader.specs.Parts.{Use, input_words, output_words, block_words, read_words, part_of, uses_in, words_in, first_again, first_missing, lists_inputs}
 use Rattle.blif_reader.specs.Index.{signal_of}
-use Rattle.blif_reader.specs.Netlist.{Cover, IsTables, names_of, net_of_text, covers_of, block_cover, cover_before, reads_of, rows_behind, row_before, begins_block, is_names, sound, unless_on}
+use Rattle.blif_reader.specs.declared.grammar.Context.TheVariants.{Start}
+use Rattle.blif_reader.specs.Netlist.{Cover, IsRow, IsTables, names_of, net_of_text, covers_of, block_cover, cover_before, reads_of, rows_behind, row_before, begins_block, is_names, sound, unless_on}
 use Rattle.blif_reader.proofs.Apart.{names_differ}
+use Rattle.blif_reader.proofs.Rows.{covers_fit}
+use Rattle.std.proofs.lemmas.List.Elements.{All-from_recursion}
 
 cases_bool : (b : Bool) → (b ≡ true) ⊎ (b ≡ false)
 cases_bool true = inl refl
@@ -158,8 +161,8 @@ sound_ok ss ts e =
     (ltb-false _ _ u.0, u.1, u.2)
 
 -- tables of sound statements
-pub tables_sound : (ds : List declared.Statement) → length ds ≤ 4194305 → sound (map statement_of ds) ≡ Ok (map statement_of ds) → IsTables (net_of_text (map statement_of ds))
-tables_sound ds few e =
+pub tables_sound : (ds : List declared.Statement) → length ds ≤ 4194305 → Follows Start (map statement_of ds) → sound (map statement_of ds) ≡ Ok (map statement_of ds) → IsTables (net_of_text (map statement_of ds))
+tables_sound ds few follows e =
     let ss : List Statement = map statement_of ds in
     let ok = sound_ok ss ss e in
     let n : ℕ = length (words_in Inputs ss) in
@@ -179,6 +182,8 @@ tables_sound ds few e =
     let outer_len : length outer ≡ n = length-replicate n [] in
     let edges : length (outer ++ inner) ≡ length outer + length inner = length-append outer inner in
     let low : (s : ℕ) → s < n → get_or (outer ++ inner) s [] ≡ [] = (λ s lt. get_or_append_left outer inner [] s (omega arith) ∙ get_or-replicate n s [] [] lt) in
+    let at_block : (s : ℕ) → n ≤ s → s < length (outer ++ inner) → get_or (outer ++ inner) s [] ≡ map (signal_of ns) (get_or (reads_of ss) (s - n) []) =
+    λ s l lt. get_or-append_right outer inner n s [] outer_len l ∙ get_or-map (λ ws. map (signal_of ns) ws) (reads_of ss) (s - n) [] [] (omega arith) in
     record {
       few = omega arith;
       few_inputs = inputs;
@@ -204,5 +209,11 @@ tables_sound ds few e =
           let some : 0 < length (words_in Drivers ss) = driven_some (words_in Drivers ss) (uses_in Uses ss) ok.1 (omega arith) in
           let driven : length (uses_in Drivers ss) ≡ length (uses_in Inputs ss) + length (uses_in Blocks ss) = drivers_count ss in
           numbers_inside ns (words_in Outputs ss) i (omega arith) lt;
+      cells = λ k lt.
+          let d : Cover = record { line = 0; value = true; rows = [] } in
+          let k_is : n + k - n ≡ k = omega arith in
+          let width : length (get_or (outer ++ inner) (n + k) []) ≡ length (get_or (reads_of ss) k []) =
+          ap length (at_block (n + k) (omega arith) (omega arith)) ∙ length-map (get_or (reads_of ss) (n + k - n) []) _ ∙ ap (λ j. length (get_or (reads_of ss) j [])) k_is in
+          subst (λ w. All (IsRow w) (get_or (covers_of ss) k d).rows) (sym width) (All-from_recursion _ _ (covers_fit Start ss follows k d lt));
       rows = λ k lt. let h = cover_rows ss k (record { line = 0; value = true; rows = [] }) lt in omega (arith, h);
     }

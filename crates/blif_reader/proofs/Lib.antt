@@ -4,6 +4,7 @@ pub mod Reading
 pub mod Windows
 pub mod Indexing
 pub mod Apart
+pub mod Rows
 pub mod Netlists
 pub mod Lengths
 pub mod Accepting

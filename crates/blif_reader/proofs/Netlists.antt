@@ -1,12 +1,12 @@
 -- Netlists made from statements.
-use Rattle.std.proofs.Common.{◌≡◌, ℕ, Bool, not, List, [], ◌∷◌, ◌++◌, length, map, replicate, cond, Option, Some, None, is_some, option_map, unwrap_or, Ok, Err, refl, sym, ap, ap₂, ◌∙◌}
+use Rattle.std.proofs.Common.{◌≡◌, ℕ, Bool, not, List, [], ◌∷◌, ◌++◌, length, map, replicate, cond, Option, Some, None, is_some, option_map, unwrap_or, Ok, Err, refl, sym, ap, ap₂, ◌∙◌, ◌+◌, ◌-◌, ◌<◌, get_or, subst, arith}
 use Rattle.std.specs.Prelude.{find}
 use Rattle.blif_reader.specs.declared.fault.BlifKind.TheVariants as fault
 use Rattle.blif_reader.specs.declared.parts.Part.TheVariants.{Inputs, Outputs, Drivers, Uses}
 use Rattle.blif_reader.specs.Statements.{Statement}
 use Rattle.blif_reader.specs.Parts.{Use, is_one, uses_in, words_in, first_again, first_missing}
 use Rattle.blif_reader.specs.Index.{Index, found_in, place_of, signal_of}
-use Rattle.blif_reader.specs.Netlist.{Cover, names_of, net_of_text, covers_of, reads_of, driven_once, unless_on}
+use Rattle.blif_reader.specs.Netlist.{Cover, Net, IsTables, IsBlock, IsRow, cover_at, names_of, net_of_text, covers_of, reads_of, driven_once, unless_on}
 use Rattle.blif_reader.specs.Views.{number_in}
 
 -- tests that agree find the same
@@ -52,3 +52,9 @@ makes_tables ss inputs names index edges covers outputs i n has e c o =
     e ∙ ap₂ (λ k es. replicate k [] ++ es) i (numbers_all index names (reads_of ss) has ∙ ap (λ ns. map (λ ws. map (signal_of ns) ws) (reads_of ss)) n) in
     let outputs_same : outputs ≡ map (signal_of (names_of ss)) (words_in Outputs ss) = o ∙ numbers_same index names (words_in Outputs ss) has ∙ ap (λ ns. map (signal_of ns) (words_in Outputs ss)) n in
     rw (i, n, edges_same, c, outputs_same) refl
+
+-- a row of a block has a character for each signal that the block reads
+pub row_fits : (net : Net) (s r : ℕ) → IsTables net → IsBlock net s → r < length (cover_at net s).rows → IsRow (length (get_or net.edges s [])) (get_or (cover_at net s).rows r [])
+row_fits net s r tables block lt =
+    let place : net.inputs + (s - net.inputs) ≡ s = omega (arith, block.behind) in
+    subst (λ k. IsRow (length (get_or net.edges k [])) (get_or (cover_at net s).rows r [])) place (tables.cells (s - net.inputs) (omega (arith, block.behind, block.inside, tables.blocks)) r [] lt)

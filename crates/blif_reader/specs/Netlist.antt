@@ -1,6 +1,6 @@
 -- What an accepted netlist is: named signals, the inputs first, each block's inputs and cover, and the outputs.
 use Rattle.std.specs.Prelude.{◌≡◌, ℕ, ◌+◌, ◌-◌, ◌<◌, ◌≤◌, ◌^◌, ◌==◌, Bool, true, false, List, [], ◌∷◌, ◌++◌, length, map, replicate, slice_index, nat_lt, not, Option, Some, None, Result, Ok, Err, if◌then◌else◌}
-use Rattle.std.specs.List.{slice_index_or, list_any, filter}
+use Rattle.std.specs.List.{slice_index_or, list_any, list_all, filter, All}
 use Rattle.depth_first.specs.Graph.{IsGraph, IsAcyclic, IsFirstOnCycle}
 use Rattle.blif_reader.specs.declared.fault.BlifFault.{BlifFault}
 use Rattle.blif_reader.specs.declared.fault.BlifKind.{BlifKind}
@@ -8,7 +8,7 @@ use Rattle.blif_reader.specs.declared.fault.BlifKind.TheVariants as fault
 use Rattle.blif_reader.specs.declared.grammar.Kind.{Kind}
 use Rattle.blif_reader.specs.declared.grammar.Kind.TheVariants as kind
 use Rattle.blif_reader.specs.declared.parts.Part.TheVariants.{Inputs, Outputs, Blocks, Drivers, Uses}
-use Rattle.blif_reader.specs.Grammar.{word_at}
+use Rattle.blif_reader.specs.Grammar.{word_at, is_cell}
 use Rattle.blif_reader.specs.Statements.{Statement, ◌>>=◌, parsed}
 use Rattle.blif_reader.specs.Parts.{block_inputs, words_in, uses_in, lists_inputs, first_again, first_missing}
 use Rattle.blif_reader.specs.Index.{place_of, signal_of}
@@ -147,7 +147,12 @@ Settles (Ok net) result = IsSettled net result
 abbrev pub IsReading : List ℕ → Result Net BlifFault → Type 0
 IsReading bytes result = Settles (reading bytes) result
 
--- what every netlist keeps, but for cycles: its inputs are few, its names differ, and its numbers are those of signals
+-- a row has one character for each input of its block, each a 0, a 1 or a hyphen
+pub record IsRow (inputs : ℕ) (cells : List ℕ) : Type 0 where
+  pub size : length cells ≡ inputs
+  pub characters : list_all is_cell cells ≡ true
+
+-- what every netlist keeps, but for cycles: its inputs are few, its names differ, its numbers are those of signals, and its rows have a character for each input
 pub record IsTables (net : Net) : Type 0 where
   pub few : length net.names < 4294967294
   pub few_inputs : net.inputs ≤ 65535
@@ -158,6 +163,7 @@ pub record IsTables (net : Net) : Type 0 where
   pub leaves : (s : ℕ) → s < net.inputs → length (slice_index_or net.edges s []) ≡ 0
   pub outputs : (i : ℕ) → i < length net.outputs → slice_index net.outputs i < length net.names
   pub rows : (k : ℕ) → k < length net.covers → length (slice_index_or net.covers k (record { line = 0; value = true; rows = [] })).rows < 2 ^ 32
+  pub cells : (k : ℕ) → k < length net.covers → All (IsRow (length (slice_index_or net.edges (net.inputs + k) []))) (slice_index_or net.covers k (record { line = 0; value = true; rows = [] })).rows
 
 -- a netlist: its signals are numbered, and no block depends on itself
 pub record IsNet (net : Net) : Type 0 where

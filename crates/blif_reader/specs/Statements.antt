@@ -53,6 +53,11 @@ statements context (l ∷ ls) = statement context l >>= λ s. statements (after_
 abbrev pub parsed : List ℕ → Result (List Statement) BlifFault
 parsed bytes = statements Start (lines_of bytes)
 
+-- each statement has the kind that its words have behind what stands before it
+abbrev pub Follows : Context → List Statement → Type 0
+Follows context [] = Unit {0}
+Follows context (s ∷ ss) = (kind_of context s.words ≡ Ok s.kind) × Follows (after_statement context s) ss
+
 -- a statement of the reader, as the grammar has it
 abbrev pub statement_of : declared.Statement → Statement
 statement_of s = record { line = s.line; kind = s.kind; words = map (λ w. w.now) s.words.items }

@@ -4,7 +4,7 @@ ghost use Rattle.std.specs.Prelude.{◌≡◌, ℕ, ◌<◌, ◌≤◌, Some, []
 ghost use Rattle.std.specs.List.{slice_index_or};
 ghost use Rattle.depth_first.specs.Graph.{IsTopological, visits};
 ghost use Rattle.blif_reader.specs.Index.{found_in, place_of};
-ghost use Rattle.blif_reader.specs.Netlist.{IsNet, IsBlock, cover_at};
+ghost use Rattle.blif_reader.specs.Netlist.{IsNet, IsBlock, IsRow, cover_at};
 ghost use Rattle.blif_reader.specs.Views.{cover_of};
 ghost use Rattle.blif_reader.specs.Tables.{net_in};
 
@@ -88,11 +88,12 @@ impl Netlist {
         self.cover(signal).rows.len() as u32
     }
 
-    /// The characters of a row, one for each input of its block.
+    /// The characters of a row, one for each input of its block: `0`, `1` or `-`.
     pub fn row(&self, signal: u32, row: u32) -> &[u8]
         requires block { IsBlock (net_of self.now) signal }
         requires inside { row < length (cover_at (net_of self.now) signal).rows }
-        ensures { result.now ≡ slice_index_or (cover_at (net_of self.now) signal).rows row [] }
+        ensures row { result.now ≡ slice_index_or (cover_at (net_of self.now) signal).rows row [] }
+        ensures cells { IsRow (length (slice_index_or (net_of self.now).edges signal [])) result.now }
     {
         self.cover(signal).rows[row as usize].as_slice()
     }

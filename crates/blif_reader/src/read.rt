@@ -2,7 +2,8 @@
 
 ghost use Rattle.std.specs.Prelude.{◌≡◌, ◌⊎◌, ℕ, ◌<◌, ◌≤◌, List, map, length, IfOk, IfErr, Ok, Err};
 ghost use Rattle.blif_reader.specs.declared.fault.BlifKind.TheVariants.{Memory};
-ghost use Rattle.blif_reader.specs.Statements.{statement_of};
+ghost use Rattle.blif_reader.specs.declared.grammar.Context.TheVariants.{Start};
+ghost use Rattle.blif_reader.specs.Statements.{statement_of, Follows};
 ghost use Rattle.blif_reader.specs.Index.{found_in, place_of};
 ghost use Rattle.blif_reader.specs.Netlist.{IsTables, IsSettled, Settles, IsReading, netlist_of};
 ghost use Rattle.blif_reader.specs.Tables.{net_in};
@@ -45,7 +46,8 @@ fn settle(alloc: Global, tables: Tables) -> Result<Netlist, Refusal>
 
 /// The netlist of statements.
 fn build(alloc: Global, statements: &[Statement]) -> Result<Netlist, Refusal>
-    requires { length statements.now ≤ 4194305 }
+    requires few { length statements.now ≤ 4194305 }
+    requires follow { Follows Start (map statement_of statements.now) }
     ensures { Answers (Settles (netlist_of (map statement_of statements.now))) result }
 {
     let inputs = collect(alloc, Part::Inputs, statements)?;

@@ -1,8 +1,11 @@
-use Rattle.std.proofs.Common.{map, subst}
-use Rattle.blif_reader.specs.Statements.{statement_of}
+use Rattle.std.proofs.Common.{map, subst, sym}
+use Rattle.blif_reader.specs.Statements.{statement_of, Follows}
 use Rattle.blif_reader.specs.Netlist.{Settles, netlist_of}
 use Rattle.blif_reader.specs.Answers.{Answers}
 use Rattle.blif_reader.proofs.Accepting.{too_long, parses_badly, parses_well}
+use Rattle.blif_reader.specs.declared.grammar.Context.TheVariants.{Start}
+use Rattle.blif_reader.specs.Text.{lines_of}
+use Rattle.blif_reader.proofs.Rows.{read_follows}
 use Rattle.blif_reader.proofs.read.read.Goals as goal
 
 pub returns-then-bytes-gt-MOST_BYTES : goal.returns-then-bytes-gt-MOST_BYTES
@@ -15,3 +18,7 @@ pub returns : goal.returns
 returns c =
     parses_well c.args.bytes.now (map statement_of c.in_ok-statements.statements.items) c.build.result c.if-bytes-gt-MOST_BYTES.false c.in_ok-statements.ensures.read
     (subst (λ ss. Answers (Settles (netlist_of (map statement_of ss))) c.build.result) c.as_slice.ensures.value c.build.ensures)
+
+pub build-requires-clause-follow : goal.build-requires-clause-follow
+build-requires-clause-follow c =
+    subst (λ ss. Follows Start (map statement_of ss)) (sym c.as_slice.ensures.value) (read_follows Start (lines_of c.args.bytes.now) (map statement_of c.in_ok-statements.statements.items) c.in_ok-statements.ensures.read)
