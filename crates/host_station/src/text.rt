@@ -1,14 +1,15 @@
+//! The text that was fetched last.
 ghost use Rattle.std.specs.Prelude.{◌≤◌, IfOk, length};
 
-use super::bytes::read_full;
+use crate::bytes::read_full;
 use std::alloc::Global;
-use std::io::{Read, Seek, SeekFrom};
+use std::io::{ErrorKind, Read, Seek, SeekFrom};
 use std::rt::Files;
 use std::{fs, io};
 
 /// The text that was fetched last, held open, and where its handle stands.
 #[derive(Drop)]
-pub(super) struct OpenText<F> {
+pub(crate) struct OpenText<F> {
     alloc: Global,
     path: String,
     file: Option<F>,
@@ -16,7 +17,7 @@ pub(super) struct OpenText<F> {
 }
 
 impl<F: Read + Seek + Drop> OpenText<F> {
-    pub(super) fn new(alloc: Global) -> OpenText<F> {
+    pub(crate) fn new(alloc: Global) -> OpenText<F> {
         OpenText {
             alloc,
             path: String::new(alloc),
@@ -26,7 +27,7 @@ impl<F: Read + Seek + Drop> OpenText<F> {
     }
 
     /// Reads from a byte of the text at a path on.
-    pub(super) fn fetch<R: Files<File = F>>(
+    pub(crate) fn fetch<R: Files<File = F>>(
         &mut self,
         rt: &R,
         path: &str,
@@ -35,8 +36,13 @@ impl<F: Read + Seek + Drop> OpenText<F> {
     ) -> io::Result<usize>
         ensures { IfOk result (λ count. count ≤ length buf.old) }
     {
-        let same = self.path.as_str() == path;
-        let held = if same { self.file.take() } else { None };
+        // A file that was opened for another path is given up even where this path has no text.
+        let last = self.file.take();
+        let held = if self.path.as_str() == path {
+            last
+        } else {
+            None
+        };
         let (mut file, stands) = match held {
             Some(file) => (file, self.at),
             None => {
@@ -44,12 +50,21 @@ impl<F: Read + Seek + Drop> OpenText<F> {
                 (fs::open(rt, path)?, 0)
             }
         };
-        if stands != at {
-            file.seek(SeekFrom::Start(at))?;
+        if stands != at && !has_place(&mut file, at)? {
+            return Ok(0);
         }
         let count = read_full(&mut file, buf)?;
         self.at = at.saturating_add(count as u64);
         self.file = Some(file);
         Ok(count)
+    }
+}
+
+// Goes to a place, unless no file can be so long.
+fn has_place<F: Seek>(file: &mut F, at: u64) -> io::Result<bool> {
+    match file.seek(SeekFrom::Start(at)) {
+        Ok(_) => Ok(true),
+        Err(e) if e.kind() == ErrorKind::InvalidInput => Ok(false),
+        Err(e) => Err(e),
     }
 }

@@ -1,27 +1,22 @@
-//! The real outside: a folder of files, texts at paths, and standard output.
-
-mod bytes;
-mod folder;
-mod text;
-
-use bytes::write_full;
-use folder::Folder;
+//! The station over the real outside.
+use crate::bytes::write_full;
+use crate::folder::Folder;
+use crate::text::OpenText;
 use shelf_model::{Failed, FileNo, Shelf, Station};
 use std::alloc::Global;
 use std::io;
 use std::rt::Files;
-use text::OpenText;
 
 /// The length of the longest file.
-const LONGEST: u64 = 1 << 50;
+pub(crate) const LONGEST: u64 = 1 << 50;
 
-/// The real folder, texts and standard output. It tells nothing of their content: this is the edge where
-/// the outside is trusted.
+/// The real folder, texts and standard output. It tells nothing of their content: this is the edge
+/// where the outside is trusted.
 ///
 /// Want of memory in a call counts as a fault of that call. A count that has reached its last value
 /// stays there.
 #[derive(Drop)]
-pub(crate) struct HostStation<R: Files> {
+pub struct HostStation<R: Files> {
     rt: R,
     folder: Folder<R::File>,
     text: OpenText<R::File>,
@@ -31,7 +26,8 @@ pub(crate) struct HostStation<R: Files> {
 }
 
 impl<R: Files + Print + Clone + Drop> HostStation<R> {
-    pub(crate) fn new(rt: R, alloc: Global) -> HostStation<R> {
+    /// A station that hasn't entered a folder. It takes no memory.
+    pub fn new(rt: R, alloc: Global) -> HostStation<R> {
         HostStation {
             rt,
             folder: Folder::new(alloc),
@@ -46,7 +42,7 @@ impl<R: Files + Print + Clone + Drop> HostStation<R> {
 impl<R: Files + Print + Clone + Drop> Shelf for HostStation<R> {
     ghost use Rattle.std.specs.Prelude.{false};
     ghost use Rattle.std.proofs.lemmas.Bool.{false≢true};
-    ghost use Rattle.adiar_cli.specs.Untold.{nothing};
+    ghost use Rattle.host_station.specs.Untold.{nothing};
 
     ghost tells = { λ s. false };
 
@@ -74,7 +70,7 @@ impl<R: Files + Print + Clone + Drop> Shelf for HostStation<R> {
         if at > LONGEST - bytes.len() as u64 {
             return Err(self.folder_failed(f));
         }
-        match self.folder.append(&self.rt, f, bytes) {
+        match self.folder.append(&self.rt, f, at, bytes) {
             Ok(()) => Ok(()),
             Err(_) => Err(self.folder_failed(f)),
         }
@@ -130,7 +126,8 @@ impl<R: Files + Print + Clone + Drop> Station for HostStation<R> {
 impl<R: Files + Print + Clone + Drop> HostStation<R> {
     ghost use Rattle.std.specs.Prelude.{◌≡◌, ◌≤◌, min, ◌+◌, ◌-◌, ◌^◌};
 
-    /// Counts a fault of the folder, and lets go of the file, whose handle doesn't tell where it stands.
+    /// Counts a fault of the folder, and lets go of the file, whose handle doesn't tell where it
+    /// stands.
     fn folder_failed(&mut self, f: FileNo) -> Failed
         ensures later { self.old.folder_faults ≤ self.new.folder_faults }
         ensures folder { min (self.old.folder_faults + 1) (2 ^ 64 - 1) ≤ self.new.folder_faults }

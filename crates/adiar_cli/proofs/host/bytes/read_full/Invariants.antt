@@ -1,9 +1,0 @@
-use Rattle.std.proofs.Common.{length, ◌-◌, ◌≤◌}
-use Rattle.adiar_cli.proofs.host.bytes.read_full.Given as goal
-
--- no more was read than the buffer takes
-abbrev pub invariant-loop-done : goal.invariant-loop-done
-invariant-loop-done g l = l.done ≤ length l.buf
-
-abbrev pub decreases-loop-done : goal.decreases-loop-done
-decreases-loop-done g l = length l.initial.buf - l.done

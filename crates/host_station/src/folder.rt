@@ -1,0 +1,260 @@
+//! A real folder of numbered files.
+ghost use Rattle.std.specs.Prelude.{◌^◌, ◌<◌, ◌≤◌, IfOk, IfSome, length, vec_len};
+
+use crate::handle::Handle;
+use crate::handles::Handles;
+use crate::station::LONGEST;
+use catalogue::JOB_GATE;
+use shelf_model::FileNo;
+use std::alloc::Global;
+use std::fs::{Metadata, OpenFile, OpenOptions};
+use std::io::{ErrorKind, Read, Seek, Write};
+use std::rt::Files;
+use std::{fs, io};
+
+/// A real folder, whose file `(step, part)` is `sSTEPpPART`. A file that isn't there is empty, and
+/// nothing but an append makes one. Only regular files are files of the folder.
+///
+/// Names that were made are synced with the first sync after them, for a power cut could take away
+/// a name as well as bytes.
+#[derive(Drop)]
+pub(crate) struct Folder<F> {
+    alloc: Global,
+    path: String,
+    is_entered: bool,
+    handles: Handles<F>,
+    /// Whether a file's name may not be synced.
+    unsure_names: bool,
+    /// Whether the folder's own name may not be synced.
+    unsure_folder: bool,
+}
+
+impl<F: Read + Write + Seek + OpenFile + Drop> Folder<F> {
+    pub(crate) fn new(alloc: Global) -> Folder<F> {
+        Folder {
+            alloc,
+            path: String::new(alloc),
+            is_entered: false,
+            handles: Handles::new(alloc),
+            unsure_names: false,
+            unsure_folder: false,
+        }
+    }
+
+    /// Makes the folder where it isn't there.
+    ///
+    /// A run that was stopped may have left names unsynced, so none counts as synced at first. The
+    /// folder's own name is synced where a job is stored, for that needed a sync.
+    pub(crate) fn enter<R: Files<File = F>>(&mut self, rt: &R, path: &str) -> io::Result<()> {
+        self.is_entered = false;
+        self.handles.give_up_all()?;
+        let is_made = make_folder(rt, path)?;
+        self.path = String::from_str(self.alloc, path)?;
+        self.is_entered = true;
+        self.unsure_names = true;
+        self.unsure_folder = true;
+        if !is_made && self.stores_job(rt)? {
+            self.unsure_folder = false;
+        }
+        Ok(())
+    }
+
+    pub(crate) fn len<R: Files<File = F>>(&mut self, rt: &R, f: FileNo) -> io::Result<u64>
+        ensures { IfOk result (λ n. n ≤ 2 ^ 50) }
+    {
+        let Some(i) = self.find(rt, f)? else {
+            return Ok(0);
+        };
+        let len = self.handles.all[i].len;
+        if len > LONGEST {
+            return Err(io::Error::from(ErrorKind::FileTooLarge));
+        }
+        Ok(len)
+    }
+
+    pub(crate) fn read_at<R: Files<File = F>>(
+        &mut self,
+        rt: &R,
+        f: FileNo,
+        at: u64,
+        buf: &mut [u8],
+    ) -> io::Result<usize>
+        ensures { IfOk result (λ count. count ≤ length buf.old) }
+    {
+        let Some(i) = self.find(rt, f)? else {
+            return Ok(0);
+        };
+        self.handles.all[i].read_at(at, buf)
+    }
+
+    pub(crate) fn append<R: Files<File = F>>(
+        &mut self,
+        rt: &R,
+        f: FileNo,
+        at: u64,
+        bytes: &[u8],
+    ) -> io::Result<()> {
+        let i = match self.find(rt, f)? {
+            Some(i) => i,
+            None if at == 0 => self.make(rt, f)?,
+            None => return Err(io::Error::from(ErrorKind::InvalidInput)),
+        };
+        self.handles.all[i].append(at, bytes)
+    }
+
+    pub(crate) fn cut<R: Files<File = F>>(&mut self, rt: &R, f: FileNo, to: u64) -> io::Result<()> {
+        let Some(i) = self.find(rt, f)? else {
+            return Ok(());
+        };
+        self.handles.all[i].cut(to)
+    }
+
+    /// Syncs a file, and the names that may not be synced. After one that failed all later ones
+    /// fail: the system may take for written what it dropped.
+    pub(crate) fn sync<R: Files<File = F>>(&mut self, rt: &R, f: FileNo) -> io::Result<()> {
+        if self.handles.is_lost {
+            return Err(io::Error::from(ErrorKind::Other));
+        }
+        let synced = self.sync_with_names(rt, f);
+        self.handles.is_lost = self.handles.is_lost || synced.is_err();
+        synced
+    }
+
+    /// Lets go of a file's handle, which doesn't tell where it stands after a call that failed.
+    pub(crate) fn forget(&mut self, f: FileNo) {
+        self.handles.forget(f);
+    }
+
+    fn sync_with_names<R: Files<File = F>>(&mut self, rt: &R, f: FileNo) -> io::Result<()> {
+        if let Some(i) = self.find(rt, f)? {
+            self.handles.all[i].sync()?;
+        }
+        if self.unsure_names {
+            self.sync_folder(rt, "")?;
+            self.unsure_names = false;
+        }
+        if self.unsure_folder {
+            self.sync_folder(rt, "/..")?;
+            self.unsure_folder = false;
+        }
+        Ok(())
+    }
+
+    // Syncs the folder at the end of that way from this one.
+    fn sync_folder<R: Files<File = F>>(&mut self, rt: &R, way: &str) -> io::Result<()> {
+        let path = format!(in self.alloc; "{}{way}", self.path)?;
+        let mut how = OpenOptions::new();
+        how.read(true);
+        self.open(rt, &how, path.as_str())?.sync_all()
+    }
+
+    // The place of a file's handle, opened where it wasn't open. There is none where the file isn't
+    // there.
+    fn find<R: Files<File = F>>(&mut self, rt: &R, f: FileNo) -> io::Result<Option<usize>>
+        ensures { IfOk result (λ found. IfSome found (λ i. i < vec_len self.new.handles.all)) }
+    {
+        if let Some(i) = self.handles.place_of(f) {
+            return Ok(Some(i));
+        }
+        let path = self.path_of(f)?;
+        match fs::symlink_metadata(rt, path.as_str()) {
+            Ok(seen) => {
+                let handle = self.open_seen(rt, f, path.as_str(), &seen)?;
+                Ok(Some(self.handles.add(handle)?))
+            }
+            Err(e) if e.kind() == ErrorKind::NotFound => Ok(None),
+            Err(e) => Err(e),
+        }
+    }
+
+    // Opens a regular file that was seen at its name. Links aren't followed: one that was put there
+    // since leads to another file. A file's number may change with its first opening for writing,
+    // so the name is looked at once more.
+    fn open_seen<R: Files<File = F>>(
+        &mut self,
+        rt: &R,
+        f: FileNo,
+        path: &str,
+        seen: &Metadata,
+    ) -> io::Result<Handle<F>> {
+        if !seen.is_file() {
+            return Err(io::Error::from(ErrorKind::InvalidInput));
+        }
+        let mut how = OpenOptions::new();
+        how.read(true).write(true);
+        let handle = Handle::of(f, self.open(rt, &how, path)?)?;
+        if handle.is_that(seen)? || handle.is_that(&fs::symlink_metadata(rt, path)?)? {
+            Ok(handle)
+        } else {
+            Err(io::Error::from(ErrorKind::InvalidInput))
+        }
+    }
+
+    // Makes a file that isn't there, and answers the place of its handle.
+    fn make<R: Files<File = F>>(&mut self, rt: &R, f: FileNo) -> io::Result<usize>
+        ensures { IfOk result (λ i. i < vec_len self.new.handles.all) }
+    {
+        let path = self.path_of(f)?;
+        let mut how = OpenOptions::new();
+        how.read(true).write(true).create_new(true);
+        self.unsure_names = true;
+        let file = self.open(rt, &how, path.as_str())?;
+        self.handles.add(Handle::of(f, file)?)
+    }
+
+    // Opens a file. Where the process may have no more open, others are given up.
+    fn open<R: Files<File = F>>(&mut self, rt: &R, how: &OpenOptions, path: &str) -> io::Result<F> {
+        if self.handles.are_full() {
+            self.handles.give_up()?;
+        }
+        for _ in 0..self.handles.all.len() {
+            match how.open(rt, path) {
+                Err(e) if are_spent(&e) => {}
+                opened => return opened,
+            }
+            self.handles.give_up()?;
+        }
+        how.open(rt, path)
+    }
+
+    // Whether the folder stores a job.
+    fn stores_job<R: Files<File = F>>(&self, rt: &R) -> io::Result<bool> {
+        let path = self.path_of(JOB_GATE)?;
+        match fs::symlink_metadata(rt, path.as_str()) {
+            Ok(gate) => Ok(gate.is_file() && gate.len() > 0),
+            Err(_) => Ok(false),
+        }
+    }
+
+    fn path_of(&self, f: FileNo) -> io::Result<String> {
+        if !self.is_entered {
+            return Err(io::Error::from(ErrorKind::Other));
+        }
+        let step = f.step;
+        let part = f.part;
+        Ok(format!(in self.alloc; "{}/s{step}p{part}", self.path)?)
+    }
+}
+
+/// Makes a folder where there is none, and answers whether it did.
+fn make_folder<R: Files>(rt: &R, path: &str) -> io::Result<bool> {
+    match fs::create_dir(rt, path) {
+        Ok(()) => Ok(true),
+        Err(e) if e.kind() == ErrorKind::AlreadyExists => {
+            if fs::metadata(rt, path)?.is_dir() {
+                Ok(false)
+            } else {
+                Err(io::Error::from(ErrorKind::NotADirectory))
+            }
+        }
+        Err(e) => Err(e),
+    }
+}
+
+// Whether the process, or the system, may have no more files open.
+fn are_spent(e: &io::Error) -> bool {
+    match e.raw_os_error() {
+        Some(code) => code == 23 || code == 24,
+        None => false,
+    }
+}

@@ -1,0 +1,123 @@
+//! An open file of a folder.
+ghost use Rattle.std.specs.Prelude.{◌≤◌, IfOk, length};
+
+use crate::bytes::{read_full, write_full};
+use shelf_model::FileNo;
+use std::fs::{Metadata, OpenFile};
+use std::io;
+use std::io::{ErrorKind, Read, Seek, SeekFrom, Write};
+use std::os::unix::fs::MetadataExt;
+
+/// The most bytes that are written again by one sync.
+const PIECE: u64 = 2048;
+
+/// An open file of a folder: where it stands, its length, and what of it isn't synced.
+#[derive(Drop)]
+pub(crate) struct Handle<F> {
+    pub(crate) number: FileNo,
+    file: F,
+    at: u64,
+    pub(crate) len: u64,
+    /// How many of the bytes still stand that stood when it was opened. 0 once it was synced.
+    older: u64,
+    /// Whether it was changed since it was opened or synced.
+    pub(crate) is_changed: bool,
+    /// The call that used it last.
+    pub(crate) used: u64,
+}
+
+impl<F: Read + Write + Seek + OpenFile + Drop> Handle<F> {
+    /// A handle of a file that was just opened. Only regular files have one.
+    pub(crate) fn of(number: FileNo, file: F) -> io::Result<Handle<F>> {
+        let opened = file.metadata()?;
+        if !opened.is_file() {
+            return Err(io::Error::from(ErrorKind::InvalidInput));
+        }
+        let len = opened.len();
+        Ok(Handle {
+            number,
+            file,
+            at: 0,
+            len,
+            older: len,
+            is_changed: false,
+            used: 0,
+        })
+    }
+
+    /// Whether the open file is the one that was seen at a name, which was no link then.
+    pub(crate) fn is_that(&self, seen: &Metadata) -> io::Result<bool> {
+        let opened = self.file.metadata()?;
+        Ok(seen.ino() == opened.ino() && seen.dev() == opened.dev())
+    }
+
+    /// Reads from a byte on. Behind the file's end there is nothing to read.
+    pub(crate) fn read_at(&mut self, at: u64, buf: &mut [u8]) -> io::Result<usize>
+        ensures { IfOk result (λ count. count ≤ length buf.old) }
+    {
+        if self.len <= at {
+            return Ok(0);
+        }
+        self.stand_at(at)?;
+        let count = read_full(&mut self.file, buf)?;
+        self.at = at.saturating_add(count as u64);
+        Ok(count)
+    }
+
+    /// Writes behind the last byte, which has to be the one before that place.
+    pub(crate) fn append(&mut self, at: u64, bytes: &[u8]) -> io::Result<()> {
+        if at != self.len {
+            return Err(io::Error::from(ErrorKind::InvalidInput));
+        }
+        self.stand_at(at)?;
+        self.is_changed = true;
+        write_full(&mut self.file, bytes)?;
+        self.len = at.saturating_add(bytes.len() as u64);
+        self.at = self.len;
+        Ok(())
+    }
+
+    pub(crate) fn cut(&mut self, to: u64) -> io::Result<()> {
+        if to < self.len {
+            self.is_changed = true;
+            self.file.set_len(to)?;
+            self.len = to;
+            self.older = self.older.min(to);
+        }
+        Ok(())
+    }
+
+    pub(crate) fn sync(&mut self) -> io::Result<()> {
+        if self.older > 0 {
+            self.write_again()?;
+        }
+        self.file.sync_all()?;
+        self.older = 0;
+        self.is_changed = false;
+        Ok(())
+    }
+
+    // Writes the end again of what stood in the file when it was opened. Where a sync of an earlier
+    // process failed, the system may have dropped that end and take it for written.
+    fn write_again(&mut self) -> io::Result<()> {
+        let mut piece = [0u8; PIECE as usize];
+        let len = PIECE.min(self.older) as usize;
+        let from = self.older - len as u64;
+        self.stand_at(from)?;
+        if read_full(&mut self.file, &mut piece[..len])? < len {
+            return Err(io::Error::from(ErrorKind::UnexpectedEof));
+        }
+        self.file.seek(SeekFrom::Start(from))?;
+        write_full(&mut self.file, &piece[..len])?;
+        self.at = self.older;
+        Ok(())
+    }
+
+    fn stand_at(&mut self, at: u64) -> io::Result<()> {
+        if self.at != at {
+            self.file.seek(SeekFrom::Start(at))?;
+            self.at = at;
+        }
+        Ok(())
+    }
+}
