@@ -202,8 +202,14 @@ impl<F: Read + Write + Seek + OpenFile + Drop> Folder<F> {
         self.handles.add(Handle::of(f, file)?)
     }
 
-    // Opens a file. Where the process may have no more open, others are given up.
-    fn open<R: Files<File = F>>(&mut self, rt: &R, how: &OpenOptions, path: &str) -> io::Result<F> {
+    /// Opens a file at a path. Where the process may have no more open, files of the folder are given
+    /// up.
+    pub(crate) fn open<R: Files<File = F>>(
+        &mut self,
+        rt: &R,
+        how: &OpenOptions,
+        path: &str,
+    ) -> io::Result<F> {
         if self.handles.are_full() {
             self.handles.give_up()?;
         }

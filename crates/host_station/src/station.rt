@@ -103,7 +103,7 @@ impl<R: Files + Print + Clone + Drop> Station for HostStation<R> {
     }
 
     fn fetch(&mut self, path: &str, at: u64, buf: &mut [u8]) -> Result<usize, Failed> {
-        match self.text.fetch(&self.rt, path, at, buf) {
+        match self.text.fetch(&self.rt, &mut self.folder, path, at, buf) {
             Ok(count) => Ok(count),
             Err(_) => {
                 self.text_faults = self.text_faults.saturating_add(1);

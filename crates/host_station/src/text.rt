@@ -2,10 +2,12 @@
 ghost use Rattle.std.specs.Prelude.{◌≤◌, IfOk, length};
 
 use crate::bytes::read_full;
+use crate::folder::Folder;
 use std::alloc::Global;
-use std::io::{ErrorKind, Read, Seek, SeekFrom};
+use std::fs::{OpenFile, OpenOptions};
+use std::io;
+use std::io::{ErrorKind, Read, Seek, SeekFrom, Write};
 use std::rt::Files;
-use std::{fs, io};
 
 /// The text that was fetched last, held open, and where its handle stands.
 #[derive(Drop)]
@@ -16,7 +18,7 @@ pub(crate) struct OpenText<F> {
     at: u64,
 }
 
-impl<F: Read + Seek + Drop> OpenText<F> {
+impl<F: Read + Write + Seek + OpenFile + Drop> OpenText<F> {
     pub(crate) fn new(alloc: Global) -> OpenText<F> {
         OpenText {
             alloc,
@@ -26,10 +28,11 @@ impl<F: Read + Seek + Drop> OpenText<F> {
         }
     }
 
-    /// Reads from a byte of the text at a path on.
+    /// Reads from a byte of the text at a path on. To open it, a file of the folder may be given up.
     pub(crate) fn fetch<R: Files<File = F>>(
         &mut self,
         rt: &R,
+        folder: &mut Folder<F>,
         path: &str,
         at: u64,
         buf: &mut [u8],
@@ -47,7 +50,9 @@ impl<F: Read + Seek + Drop> OpenText<F> {
             Some(file) => (file, self.at),
             None => {
                 self.path = String::from_str(self.alloc, path)?;
-                (fs::open(rt, path)?, 0)
+                let mut how = OpenOptions::new();
+                how.read(true);
+                (folder.open(rt, &how, path)?, 0)
             }
         };
         if stands != at && !has_place(&mut file, at)? {
