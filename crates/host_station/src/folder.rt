@@ -3,9 +3,8 @@ ghost use Rattle.std.specs.Prelude.{◌^◌, ◌<◌, ◌≤◌, IfOk, IfSome, l
 
 use crate::handle::Handle;
 use crate::handles::Handles;
-use crate::station::LONGEST;
 use catalogue::JOB_GATE;
-use shelf_model::FileNo;
+use shelf_model::{FileNo, LONGEST};
 use std::alloc::Global;
 use std::fs::{Metadata, OpenFile, OpenOptions};
 use std::io::{ErrorKind, Read, Seek, Write};

@@ -2,14 +2,11 @@
 ghost use Rattle.std.specs.Prelude.{◌≤◌, IfOk, length};
 
 use crate::bytes::{read_full, write_full};
-use shelf_model::FileNo;
+use shelf_model::{FileNo, PIECE};
 use std::fs::{Metadata, OpenFile};
 use std::io;
 use std::io::{ErrorKind, Read, Seek, SeekFrom, Write};
 use std::os::unix::fs::MetadataExt;
-
-/// The most bytes that are written again by one sync.
-const PIECE: u64 = 2048;
 
 /// An open file of a folder: where it stands, its length, and what of it isn't synced.
 #[derive(Drop)]
@@ -100,8 +97,8 @@ impl<F: Read + Write + Seek + OpenFile + Drop> Handle<F> {
     // Writes the end again of what stood in the file when it was opened. Where a sync of an earlier
     // process failed, the system may have dropped that end and take it for written.
     fn write_again(&mut self) -> io::Result<()> {
-        let mut piece = [0u8; PIECE as usize];
-        let len = PIECE.min(self.older) as usize;
+        let mut piece = [0u8; PIECE];
+        let len = self.older.min(PIECE as u64) as usize;
         let from = self.older - len as u64;
         self.stand_at(from)?;
         if read_full(&mut self.file, &mut piece[..len])? < len {

@@ -2,13 +2,10 @@
 use crate::bytes::write_full;
 use crate::folder::Folder;
 use crate::text::OpenText;
-use shelf_model::{Failed, FileNo, Shelf, Station};
+use shelf_model::{Failed, FileNo, LONGEST, Shelf, Station};
 use std::alloc::Global;
 use std::io;
 use std::rt::Files;
-
-/// The length of the longest file.
-pub(crate) const LONGEST: u64 = 1 << 50;
 
 /// The real folder, texts and standard output. It tells nothing of their content: this is the edge
 /// where the outside is trusted.

@@ -3,10 +3,7 @@ ghost use Rattle.std.specs.Prelude.{◌≤◌, ◌<◌, length};
 
 use host_station::HostStation;
 use shelf_memory::Bench;
-use shelf_model::{FileNo, Shelf, Station};
-
-/// The most bytes that a call moves.
-pub(crate) const PIECE: usize = 2048;
+use shelf_model::{FileNo, PIECE, Shelf, Station};
 
 /// A real station.
 pub(crate) type Real<'r> = HostStation<&'r HostRuntime>;

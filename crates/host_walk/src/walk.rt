@@ -1,10 +1,10 @@
 //! A walk of calls that a seed chooses, over a real folder and one in memory.
 use crate::dice::Dice;
 use crate::pair;
-use crate::pair::{PIECE, Real};
+use crate::pair::Real;
 use host_station::HostStation;
 use shelf_memory::Bench;
-use shelf_model::{FileNo, Shelf, Station};
+use shelf_model::{FileNo, PIECE, Shelf, Station};
 use std::alloc::Global;
 use std::test::Fail;
 
