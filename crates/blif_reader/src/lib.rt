@@ -19,6 +19,3 @@ mod tables;
 pub use fault::{BlifFault, BlifKind};
 pub use netlist::Netlist;
 pub use read::read_netlist;
-
-#[cfg(test)]
-mod tests;

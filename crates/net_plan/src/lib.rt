@@ -10,6 +10,3 @@ mod planner;
 pub use fault::PlanFault;
 pub use laws::{values_are_unique, values_exist};
 pub use plan::{NetPlan, plan_signals};
-
-#[cfg(test)]
-mod tests;

@@ -1,6 +1,6 @@
 use Rattle.std.proofs.Common.{ℕ, ◌<◌, length, get_or}
 use Rattle.blif_reader.specs.Answers.{net_of}
-use Rattle.net_plan.proofs.tests.signals.Given as goal
+use Rattle.netlist_cases.proofs.plans.signals.Given as goal
 
 -- what was found is a signal
 abbrev pub invariant-loop-name : goal.invariant-loop-name

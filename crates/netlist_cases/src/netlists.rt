@@ -1,7 +1,7 @@
-//! Small netlists, each accepted or refused as the grammar says.
-
-use crate::{BlifKind, read_netlist};
-use std::alloc::AllocError;
+// Small netlists, each accepted or refused as the grammar says.
+use crate::slashed::text;
+use blif_reader::{BlifKind, read_netlist};
+use std::alloc::{AllocError, Global};
 
 /// Refused texts, with the line and the kind of the first fault. A slash stands for a line feed.
 const REFUSED: [(&str, u32, BlifKind); 62] = [
@@ -180,45 +180,46 @@ const ACCEPTED: [(&str, u32); 22] = [
     (".model m/.inputs a/.names a y/1 \\/1/", 2),
 ];
 
-/// The text with line feeds for slashes.
-fn text(rt: &HostRuntime, slashed: &str) -> Result<Vec<u8>, AllocError> {
-    let mut bytes = Vec::new(rt.alloc());
-    for b in slashed.as_bytes() {
-        bytes.push(if *b == b'/' { b'\n' } else { *b })?;
+/// Whether the first fault of a text has this line and this kind.
+fn refuses(alloc: Global, bytes: &[u8], line: u32, kind: BlifKind) -> bool {
+    match read_netlist(alloc, bytes) {
+        Ok(_) => false,
+        Err(fault) => fault.line == line && fault.kind == kind,
     }
-    Ok(bytes)
 }
 
 #[test]
 fn refuses_each_fault(rt: HostRuntime) -> Result<(), AllocError> {
     for (slashed, line, kind) in REFUSED {
-        let bytes = text(&rt, slashed)?;
-        match read_netlist(rt.alloc(), bytes.as_slice()) {
-            Ok(_) => assert!(rt; false, "{slashed}"),
-            Err(fault) => {
-                assert_eq!(rt; fault.line, line, "{slashed}");
-                assert!(rt; fault.kind == kind, "{slashed}");
-            }
-        }
+        let bytes = text(rt.alloc(), slashed)?;
+        assert!(rt;
+            refuses(rt.alloc(), bytes.as_slice(), line, kind),
+            "{slashed}"
+        );
     }
     Ok(())
+}
+
+/// Whether a text is accepted with so many signals.
+fn accepts(alloc: Global, bytes: &[u8], signals: u32) -> bool {
+    match read_netlist(alloc, bytes) {
+        Ok(net) => net.signal_count() == signals,
+        Err(_) => false,
+    }
 }
 
 #[test]
 fn accepts_each_form(rt: HostRuntime) -> Result<(), AllocError> {
     for (slashed, signals) in ACCEPTED {
-        let bytes = text(&rt, slashed)?;
-        match read_netlist(rt.alloc(), bytes.as_slice()) {
-            Ok(net) => assert_eq!(rt; net.signal_count(), signals, "{slashed}"),
-            Err(_) => assert!(rt; false, "{slashed}"),
-        }
+        let bytes = text(rt.alloc(), slashed)?;
+        assert!(rt; accepts(rt.alloc(), bytes.as_slice(), signals), "{slashed}");
     }
     Ok(())
 }
 
-#[test]
-fn refuses_what_is_too_large(rt: HostRuntime) -> Result<(), AllocError> {
-    let mut bytes = text(&rt, ".model m/.inputs")?;
+/// A model of 65,536 inputs, whose names are their numbers.
+fn too_many_inputs(alloc: Global) -> Result<Vec<u8>, AllocError> {
+    let mut bytes = text(alloc, ".model m/.inputs")?;
     for number in 0..65536u32 {
         bytes.push(b' ')?;
         for digit in [
@@ -231,42 +232,53 @@ fn refuses_what_is_too_large(rt: HostRuntime) -> Result<(), AllocError> {
             bytes.push(b'0' + (digit % 10) as u8)?;
         }
     }
-    let fault = read_netlist(rt.alloc(), bytes.as_slice()).err();
-    assert!(rt; matches!(&fault, Some(f) if f.line == 0 && f.kind == BlifKind::TooManyVariables));
+    Ok(bytes)
+}
 
+#[test]
+fn refuses_what_is_too_large(rt: HostRuntime) -> Result<(), AllocError> {
+    let many = too_many_inputs(rt.alloc())?;
     let full = vec![in rt.alloc(); b'\n'; 4194304]?;
-    let fault = read_netlist(rt.alloc(), full.as_slice()).err();
-    assert!(rt; matches!(&fault, Some(f) if f.line == 0 && f.kind == BlifKind::NoModel));
     let more = vec![in rt.alloc(); b'\n'; 4194305]?;
-    let fault = read_netlist(rt.alloc(), more.as_slice()).err();
-    assert!(rt; matches!(&fault, Some(f) if f.line == 0 && f.kind == BlifKind::TooLong));
+    assert!(rt;
+        refuses(rt.alloc(), many.as_slice(), 0, BlifKind::TooManyVariables)
+            && refuses(rt.alloc(), full.as_slice(), 0, BlifKind::NoModel)
+            && refuses(rt.alloc(), more.as_slice(), 0, BlifKind::TooLong)
+    );
     Ok(())
+}
+
+/// Whether a half adder has its parts. Its signals are a, b, s, c, t.
+fn gives_each_part(alloc: Global, bytes: &[u8]) -> Result<bool, AllocError> {
+    let Ok(net) = read_netlist(alloc, bytes) else {
+        return Ok(false);
+    };
+    if net.input_count() != 2 || net.signal_count() != 5 {
+        return Ok(false);
+    }
+    if net.row_count(4) != 2 {
+        return Ok(false);
+    }
+    let visits = net.visits(alloc, &[2])?;
+    Ok(
+        net.signal(b"t".as_slice()) == Some(4)
+            && net.signal(b"half".as_slice()).is_none()
+            && net.name(3) == b"c".as_slice()
+            && net.outputs() == [2, 3].as_slice()
+            && net.block_inputs(2) == [4, 3].as_slice()
+            && net.row(4, 1) == b"-1".as_slice()
+            && !net.row_output(2)
+            && net.row_output(4)
+            && visits.as_slice() == [0, 1, 4, 3, 2].as_slice(),
+    )
 }
 
 #[test]
 fn gives_each_part_of_a_half_adder(rt: HostRuntime) -> Result<(), AllocError> {
     let bytes = text(
-        &rt,
+        rt.alloc(),
         ".model half # adder/.inputs a b/.outputs s c/.names t c s/10 0/.names a b c/11 1/.names a b t/1- 1/-1 1/.end/",
     )?;
-    match read_netlist(rt.alloc(), bytes.as_slice()) {
-        Ok(net) => {
-            // The signals are a, b, s, c, t.
-            assert_eq!(rt; net.input_count(), 2);
-            assert_eq!(rt; net.signal_count(), 5);
-            assert_eq!(rt; net.signal(b"t".as_slice()), Some(4));
-            assert_eq!(rt; net.signal(b"half".as_slice()), None);
-            assert_eq!(rt; net.name(3), b"c".as_slice());
-            assert_eq!(rt; net.outputs(), [2, 3].as_slice());
-            assert_eq!(rt; net.block_inputs(2), [4, 3].as_slice());
-            assert_eq!(rt; net.row_count(4), 2);
-            assert_eq!(rt; net.row(4, 1), b"-1".as_slice());
-            assert!(rt; !net.row_output(2));
-            assert!(rt; net.row_output(4));
-            let visits = net.visits(rt.alloc(), &[2])?;
-            assert_eq!(rt; visits.as_slice(), [0, 1, 4, 3, 2].as_slice());
-        }
-        Err(_) => assert!(rt; false),
-    }
+    assert!(rt; gives_each_part(rt.alloc(), bytes.as_slice())?);
     Ok(())
 }

@@ -1,6 +1,6 @@
 use Rattle.std.proofs.Common.{◌≡◌, map, take}
 use Rattle.bool_tables.specs.declared.steps.Step.{Step}
-use Rattle.net_plan.proofs.tests.unnamed.Given as goal
+use Rattle.netlist_cases.proofs.plans.unnamed.Given as goal
 
 -- the steps so far
 abbrev pub invariant-loop-step : goal.invariant-loop-step

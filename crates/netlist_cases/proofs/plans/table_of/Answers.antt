@@ -6,7 +6,7 @@ use Rattle.bool_tables.specs.declared.steps.Step.{Step}
 use Rattle.bool_tables.specs.declared.steps.Planned.{Planned}
 use Rattle.net_plan.specs.Values.{steps_of}
 use Rattle.net_plan.specs.WellFormed.{StaysWellFormed}
-use Rattle.net_plan.proofs.tests.table_of.Goals as goal
+use Rattle.netlist_cases.proofs.plans.table_of.Goals as goal
 
 abbrev unnamed : Step → Planned
 unnamed s = record { step = s; name_at = 0; name_len = 0 }

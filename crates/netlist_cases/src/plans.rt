@@ -1,13 +1,12 @@
-//! Plans of small netlists, and of one that has too many steps.
-
+// Plans of small netlists, and of one that has too many steps.
 ghost use Rattle.std.specs.Prelude.{◌≡◌, ℕ, ◌<◌, length, map, slice_index, nat_lt, IsTrue, IfOk};
 ghost use Rattle.std.specs.List.{list_all};
 ghost use Rattle.blif_reader.specs.Answers.{net_of};
 
-use crate::planner::{BOTH, EITHER, LEFT_ALONE, NOT_BOTH};
-use crate::{NetPlan, PlanFault, plan_signals};
+use crate::slashed::text;
 use blif_reader::{Netlist, read_netlist};
 use bool_tables::{Bin, Planned, Step, eval_steps};
+use net_plan::{NetPlan, PlanFault, plan_signals};
 use std::alloc::{AllocError, Global};
 use std::test::Fail;
 
@@ -23,6 +22,35 @@ const NEITHER: &str = ".model m/.inputs a b/.names a b y/1- 0/-1 0/";
 
 const HYPHEN: &str = ".model m/.inputs a b/.names b a a y/0-1 1/.outputs y/";
 
+/// What is true where both operands are, where the left one alone is, where one is, and where not both are.
+const BOTH: Bin = Bin {
+    v00: false,
+    v01: false,
+    v10: false,
+    v11: true,
+};
+
+const LEFT_ALONE: Bin = Bin {
+    v00: false,
+    v01: false,
+    v10: true,
+    v11: false,
+};
+
+const EITHER: Bin = Bin {
+    v00: false,
+    v01: true,
+    v10: true,
+    v11: true,
+};
+
+const NOT_BOTH: Bin = Bin {
+    v00: true,
+    v01: true,
+    v10: true,
+    v11: false,
+};
+
 fn constant(value: bool) -> Step {
     Step::Const { value }
 }
@@ -37,15 +65,6 @@ fn pair(op: Bin, left: u32, right: u32) -> Step {
 
 fn gone(gone: u32) -> Step {
     Step::Drop { gone }
-}
-
-/// The text with line feeds for slashes.
-fn text(alloc: Global, slashed: &str) -> Result<Vec<u8>, AllocError> {
-    let mut bytes = Vec::new(alloc);
-    for b in slashed.as_bytes() {
-        bytes.push(if *b == b'/' { b'\n' } else { *b })?;
-    }
-    Ok(bytes)
 }
 
 /// The signals with some names, in order.
@@ -79,6 +98,20 @@ fn planned(
     Ok(plan_signals(alloc, &net, levels, wanted.as_slice(), first))
 }
 
+/// Whether the plan of these signals over two inputs has so many steps, and makes them in these.
+fn numbers_so(
+    alloc: Global,
+    slashed: &str,
+    names: &[&str],
+    first: u32,
+    count: usize,
+    made: &[u32],
+) -> Result<bool, Fail> {
+    let bytes = text(alloc, slashed)?;
+    let plan = planned(alloc, bytes.as_slice(), &[0, 1], names, first)??;
+    Ok(plan.steps.items().len() == count && plan.made.items() == made)
+}
+
 #[test]
 fn numbers_the_steps_of_what_is_wanted(rt: HostRuntime) -> Result<(), Fail> {
     let cases: [(&str, &[&str], u32, usize, &[u32]); 7] = [
@@ -91,12 +124,24 @@ fn numbers_the_steps_of_what_is_wanted(rt: HostRuntime) -> Result<(), Fail> {
         (JOINED, &[], 1048576, 0, &[]),
     ];
     for (slashed, names, first, count, made) in cases {
-        let bytes = text(rt.alloc(), slashed)?;
-        let plan = planned(rt.alloc(), bytes.as_slice(), &[0, 1], names, first)??;
-        assert_eq!(rt; plan.steps.items().len(), count, "{slashed}");
-        assert_eq!(rt; plan.made.items(), made, "{slashed}");
+        let numbered = numbers_so(rt.alloc(), slashed, names, first, count, made)?;
+        assert!(rt; numbered, "{slashed} {names:?}");
     }
     Ok(())
+}
+
+/// Whether the plan of these signals has these steps.
+fn plans_so(
+    alloc: Global,
+    slashed: &str,
+    levels: &[u32],
+    names: &[&str],
+    first: u32,
+    steps: &[Step],
+) -> Result<bool, Fail> {
+    let bytes = text(alloc, slashed)?;
+    let plan = planned(alloc, bytes.as_slice(), levels, names, first)??;
+    Ok(plan.steps.items() == steps)
 }
 
 #[test]
@@ -122,9 +167,7 @@ fn plans_a_complement_step_by_step(rt: HostRuntime) -> Result<(), Fail> {
         gone(6),
         gone(7),
     ];
-    let bytes = text(rt.alloc(), CONSTANTS)?;
-    let plan = planned(rt.alloc(), bytes.as_slice(), &[3, 2], &["y"], 6)??;
-    assert_eq!(rt; plan.steps.items(), steps.as_slice());
+    assert!(rt; plans_so(rt.alloc(), CONSTANTS, &[3, 2], &["y"], 6, &steps)?);
     Ok(())
 }
 
@@ -146,9 +189,7 @@ fn plans_each_character_of_a_row(rt: HostRuntime) -> Result<(), Fail> {
         gone(0),
     ];
     // The second column of the row asks for nothing, and the block reads `a` twice.
-    let bytes = text(rt.alloc(), HYPHEN)?;
-    let plan = planned(rt.alloc(), bytes.as_slice(), &[0, 1], &["y", "a"], 0)??;
-    assert_eq!(rt; plan.steps.items(), steps.as_slice());
+    assert!(rt; plans_so(rt.alloc(), HYPHEN, &[0, 1], &["y", "a"], 0, &steps)?);
     Ok(())
 }
 
@@ -161,22 +202,36 @@ fn wide(alloc: Global, rows: u32) -> Result<Vec<u8>, AllocError> {
     Ok(bytes)
 }
 
+/// Whether the plan of a signal from this step on would have too many.
+fn has_too_many(
+    alloc: Global,
+    bytes: &[u8],
+    levels: &[u32],
+    name: &str,
+    first: u32,
+) -> Result<bool, Fail> {
+    let plan = planned(alloc, bytes, levels, &[name], first)?;
+    Ok(matches!(plan.err(), Some(PlanFault::TooManySteps)))
+}
+
+/// Whether a plan may end with the last step and not behind it. Its steps are the input, the first sum, four for each
+/// row, and the drop of the input.
+fn ends_with_the_last_step(alloc: Global) -> Result<bool, Fail> {
+    let bytes = wide(alloc, 262143)?;
+    let plan = planned(alloc, bytes.as_slice(), &[0], &["y"], 1)??;
+    let most = plan.steps.items().len() == 1048575;
+    Ok(most && has_too_many(alloc, bytes.as_slice(), &[0], "y", 2)?)
+}
+
 #[test]
 fn refuses_too_many_steps(rt: HostRuntime) -> Result<(), Fail> {
-    let bytes = text(rt.alloc(), JOINED)?;
-    let plan = planned(rt.alloc(), bytes.as_slice(), &[0, 1], &["a"], 1048576)?;
-    assert!(rt; matches!(plan.err(), Some(PlanFault::TooManySteps)));
-
-    // The input, the first sum, four steps for each row, and the input is dropped.
-    let bytes = wide(rt.alloc(), 262143)?;
-    let plan = planned(rt.alloc(), bytes.as_slice(), &[0], &["y"], 1)??;
-    assert_eq!(rt; plan.steps.items().len(), 1048575);
-    let plan = planned(rt.alloc(), bytes.as_slice(), &[0], &["y"], 2)?;
-    assert!(rt; matches!(plan.err(), Some(PlanFault::TooManySteps)));
-
-    let bytes = wide(rt.alloc(), 262144)?;
-    let plan = planned(rt.alloc(), bytes.as_slice(), &[0], &["y"], 0)?;
-    assert!(rt; matches!(plan.err(), Some(PlanFault::TooManySteps)));
+    let joined = text(rt.alloc(), JOINED)?;
+    let wider = wide(rt.alloc(), 262144)?;
+    assert!(rt;
+        has_too_many(rt.alloc(), joined.as_slice(), &[0, 1], "a", 1048576)?
+            && ends_with_the_last_step(rt.alloc())?
+            && has_too_many(rt.alloc(), wider.as_slice(), &[0], "y", 0)?
+    );
     Ok(())
 }
 
@@ -227,10 +282,14 @@ fn makes_the_tables_of_signals(rt: HostRuntime) -> Result<(), Fail> {
     ];
     for (slashed, name, values) in cases {
         let table = table_of(rt.alloc(), slashed, &[0, 1], name)?;
-        assert_eq!(rt; table.as_slice(), values.as_slice(), "{slashed}");
+        assert!(rt; table.as_slice() == values.as_slice(), "{slashed} {name}");
     }
-    // The second input is the variable that is asked first.
+    Ok(())
+}
+
+#[test]
+fn asks_the_second_input_first(rt: HostRuntime) -> Result<(), Fail> {
     let table = table_of(rt.alloc(), HYPHEN, &[1, 0], "y")?;
-    assert_eq!(rt; table.as_slice(), [false, true, false, false].as_slice());
+    assert!(rt; table.as_slice() == [false, true, false, false].as_slice());
     Ok(())
 }
