@@ -15,8 +15,6 @@ mod piece;
 mod shelf;
 mod station;
 mod stop;
-#[cfg(test)]
-mod tests;
 mod texts;
 
 pub use bench::Bench;

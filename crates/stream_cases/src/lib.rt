@@ -1,10 +1,12 @@
-//! Cases of streams, node files and arc files over a folder in memory.
+//! Cases of a folder in memory, and of streams, node files and arc files over it.
 #![tactic(auto)]
 
 #[cfg(test)]
 mod arcs;
 #[cfg(test)]
 mod calls;
+#[cfg(test)]
+mod disks;
 #[cfg(test)]
 mod nodes;
 #[cfg(test)]

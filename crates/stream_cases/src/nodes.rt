@@ -5,6 +5,7 @@ use node_file::{NodeReader, NodeWriter};
 use rec_words::{Node, Ptr, Rec, Uid};
 use shelf_memory::Bench;
 use shelf_model::{FileNo, Shelf, StreamFault};
+use std::alloc::Global;
 use std::test::Fail;
 
 const FILE: FileNo = FileNo { step: 1, part: 0 };
@@ -44,37 +45,57 @@ fn reads_all<S: Shelf>(window: &mut [Rec], shelf: &mut S) -> Result<u64, StreamF
     Ok(count)
 }
 
-#[test]
-fn reads_the_node_file_of_a_variable(rt: HostRuntime) -> Result<(), Fail> {
+// Whether the file of a variable is read back, and is damaged for another number of variables.
+fn reads_a_variable_back(bench: &mut Bench) -> Result<bool, Fail> {
     let mut window = [EMPTY; 8];
-    let mut bench = Bench::empty(rt.alloc());
     let root = Ptr::node(1, (1 << 47) - 1);
     let Some(uid) = Uid::of(root) else {
-        return Ok(());
+        return Ok(false);
     };
     let node = Node {
         uid,
         low: Ptr::terminal(false),
         high: Ptr::terminal(true),
     };
-    let mut writer = NodeWriter::start(FILE, 3, &mut window, &mut bench)?;
-    writer.put(node, &mut bench)?;
-    assert_eq!(rt; writer.finish(root, &mut bench)?, 1);
-    assert_eq!(rt; bench.file(FILE).len(), 48);
-    let mut reader = NodeReader::start(FILE, 3, &mut window, &mut bench)?;
-    assert_eq!(rt; reader.trailer().count, 1);
-    assert_eq!(rt; reader.next(&mut bench)?, Some(node));
-    assert_eq!(rt; reader.next(&mut bench)?, None);
-    assert_eq!(rt; reads_all(&mut window, &mut bench)?, 1);
-    let other = NodeReader::start(FILE, 4, &mut window, &mut bench).err();
+    let mut writer = NodeWriter::start(FILE, 3, &mut window, bench)?;
+    writer.put(node, bench)?;
+    let written = writer.finish(root, bench)?;
+    let len = bench.file(FILE).len();
+    let mut reader = NodeReader::start(FILE, 3, &mut window, bench)?;
+    let count = reader.trailer().count;
+    let first = reader.next(bench)?;
+    let next = reader.next(bench)?;
+    let all = reads_all(&mut window, bench)?;
+    let other = NodeReader::start(FILE, 4, &mut window, bench).err();
     let damage = StreamFault::Damaged { file: FILE, at: 24 };
-    assert_eq!(rt; other, Some(damage));
+    Ok(
+        written == 1
+            && len == 48
+            && count == 1
+            && first == Some(node)
+            && next.is_none()
+            && all == 1
+            && other == Some(damage),
+    )
+}
+
+#[test]
+fn reads_the_node_file_of_a_variable(rt: HostRuntime) -> Result<(), Fail> {
+    let mut bench = Bench::empty(rt.alloc());
+    assert!(rt; reads_a_variable_back(&mut bench)?);
     Ok(())
+}
+
+// Where the file of the first bytes of two nodes and a trailer is damaged, or that it isn't.
+fn damage_in(alloc: Global, words: [u64; 9], len: usize) -> Result<Option<StreamFault>, Fail> {
+    let mut window = [EMPTY; 8];
+    let mut bench = Bench::empty(alloc);
+    bench.put_file(FILE, &bytes_of(words)[..len.min(72)])?;
+    Ok(reads_all(&mut window, &mut bench).err())
 }
 
 #[test]
 fn refuses_nodes_that_cannot_stand_in_a_file(rt: HostRuntime) -> Result<(), Fail> {
-    let mut window = [EMPTY; 8];
     // Two nodes and a trailer, how many bytes of them the file has, and the place of the damage.
     let cases: [([u64; 9], usize, Option<u64>); 11] = [
         ([DEEP, ZERO, ONE, ROOT, ZERO, DEEP, ROOT, 2, 3], 72, None),
@@ -132,18 +153,24 @@ fn refuses_nodes_that_cannot_stand_in_a_file(rt: HostRuntime) -> Result<(), Fail
         ),
     ];
     for (words, len, place) in cases {
-        let mut bench = Bench::empty(rt.alloc());
-        bench.put_file(FILE, &bytes_of(words)[..len.min(72)])?;
-        let fault = reads_all(&mut window, &mut bench).err();
+        let fault = damage_in(rt.alloc(), words, len)?;
         let wanted = place.map(|at| StreamFault::Damaged { file: FILE, at });
-        assert_eq!(rt; fault, wanted, "{words:?} {len}");
+        assert!(rt; fault == wanted, "{words:?} {len}: {fault:?}");
     }
     Ok(())
 }
 
+// Whether a reading that goes on at this place has so many nodes behind it, and gives this node next.
+fn goes_on_with(bench: &mut Bench, place: u64, left: u64, word: Option<u64>) -> Result<bool, Fail> {
+    let mut window = [EMPTY; 8];
+    let mut reader = NodeReader::resume(FILE, 3, place, &mut window, bench)?;
+    let stands = reader.place() == left;
+    let next = reader.next(bench)?.map(|node| node.uid.ptr().word());
+    Ok(stands && next == word)
+}
+
 #[test]
 fn goes_on_at_a_place(rt: HostRuntime) -> Result<(), Fail> {
-    let mut window = [EMPTY; 8];
     let mut bench = Bench::empty(rt.alloc());
     let words = [DEEP, ZERO, ONE, ROOT, ZERO, DEEP, ROOT, 2, 3];
     bench.put_file(FILE, &bytes_of(words))?;
@@ -154,16 +181,23 @@ fn goes_on_at_a_place(rt: HostRuntime) -> Result<(), Fail> {
         (9, 2, Some(ROOT)),
     ];
     for (place, left, word) in cases {
-        let mut reader = NodeReader::resume(FILE, 3, place, &mut window, &mut bench)?;
-        assert_eq!(rt; reader.place(), left, "{place}");
-        let next = reader.next(&mut bench)?.map(|node| node.uid.ptr().word());
-        assert_eq!(rt; next, word, "{place}");
+        assert!(rt; goes_on_with(&mut bench, place, left, word)?, "{place}");
     }
-    let calls = bench.clock();
-    if calls < 1000 {
-        bench.fail_at(calls + 2)?;
-    }
-    let failed = reads_all(&mut window, &mut bench).err();
-    assert_eq!(rt; failed, Some(StreamFault::Shelf));
+    Ok(())
+}
+
+// Whether the third call of a reading fails it.
+fn a_failing_call_ends(alloc: Global, words: [u64; 9]) -> Result<bool, Fail> {
+    let mut window = [EMPTY; 8];
+    let mut bench = Bench::empty(alloc);
+    bench.put_file(FILE, &bytes_of(words))?;
+    bench.fail_at(2)?;
+    Ok(reads_all(&mut window, &mut bench).err() == Some(StreamFault::Shelf))
+}
+
+#[test]
+fn a_failing_call_ends_a_reading(rt: HostRuntime) -> Result<(), Fail> {
+    let words = [DEEP, ZERO, ONE, ROOT, ZERO, DEEP, ROOT, 2, 3];
+    assert!(rt; a_failing_call_ends(rt.alloc(), words)?);
     Ok(())
 }

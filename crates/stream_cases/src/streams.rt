@@ -68,6 +68,15 @@ pub(crate) fn reads_backward<S: Shelf>(
     Ok(records.next(shelf)?.is_none())
 }
 
+// Whether so many records are given back from the front and from behind.
+fn gives_back<S: Shelf>(count: u64, window: &mut [Rec], shelf: &mut S) -> Result<bool, StreamFault>
+    requires few { count < 2 ^ 20 }
+    requires room { 8 ≤ length window.old }
+{
+    write_all(count, window, shelf)?;
+    Ok(reads_forward(count, window, shelf)? && reads_backward(count, window, shelf)?)
+}
+
 #[test]
 fn gives_what_was_put(rt: HostRuntime) -> Result<(), Fail> {
     let mut room = [EMPTY; 40];
@@ -89,19 +98,43 @@ fn gives_what_was_put(rt: HostRuntime) -> Result<(), Fail> {
     ];
     for (size, count) in cases {
         let window = &mut room[..size.max(8).min(40)];
-        let count = count.min(100);
         let mut bench = Bench::empty(rt.alloc());
-        write_all(count, window, &mut bench)?;
         assert!(rt;
-            reads_forward(count, window, &mut bench)?,
-            "forward {size} {count}"
-        );
-        assert!(rt;
-            reads_backward(count, window, &mut bench)?,
-            "backward {size} {count}"
+            gives_back(count.min(100), window, &mut bench)?,
+            "{size} {count}"
         );
     }
     Ok(())
+}
+
+// Whether the second call of a reading fails it, from the front and from behind.
+fn a_failing_call_ends_both(window: &mut [Rec], bench: &mut Bench) -> Result<bool, Fail>
+    requires { 8 ≤ length window.old }
+{
+    let calls = bench.clock();
+    if calls > 1000 {
+        return Ok(false);
+    }
+    bench.fail_at(calls + 1)?;
+    let forward = reads_forward(20, window, bench).err();
+    bench.fail_at(calls + 3)?;
+    let backward = reads_backward(20, window, bench).err();
+    Ok(forward == Some(StreamFault::Shelf) && backward == Some(StreamFault::Shelf))
+}
+
+// Whether a record of 20 bytes behind twenty whole ones is where both readings end.
+fn a_torn_record_ends_both(window: &mut [Rec], bench: &mut Bench) -> Result<bool, Fail>
+    requires { 8 ≤ length window.old }
+{
+    let len = bench.len(FILE)?;
+    bench.append(FILE, len, &[7; 20])?;
+    let torn = StreamFault::Damaged {
+        file: FILE,
+        at: 1280,
+    };
+    let forward = reads_forward(21, window, bench).err();
+    let backward = reads_backward(21, window, bench).err();
+    Ok(forward == Some(torn) && backward == Some(torn))
 }
 
 #[test]
@@ -109,29 +142,9 @@ fn a_failing_call_and_a_torn_record_end_a_stream(rt: HostRuntime) -> Result<(), 
     let mut window = [EMPTY; 8];
     let mut bench = Bench::empty(rt.alloc());
     write_all(20, &mut window, &mut bench)?;
-    let calls = bench.clock();
-    if calls > 1000 {
-        return Ok(());
-    }
-    bench.fail_at(calls + 1)?;
-    let failed = reads_forward(20, &mut window, &mut bench).err();
-    assert_eq!(rt; failed, Some(StreamFault::Shelf));
-    bench.fail_at(calls + 3)?;
-    let failed = reads_backward(20, &mut window, &mut bench).err();
-    assert_eq!(rt; failed, Some(StreamFault::Shelf));
-    let len = bench.len(FILE)?;
-    bench.append(FILE, len, &[7; 20])?;
-    let torn = StreamFault::Damaged {
-        file: FILE,
-        at: 1280,
-    };
-    assert_eq!(rt;
-        reads_forward(21, &mut window, &mut bench).err(),
-        Some(torn)
-    );
-    assert_eq!(rt;
-        reads_backward(21, &mut window, &mut bench).err(),
-        Some(torn)
+    assert!(rt;
+        a_failing_call_ends_both(&mut window, &mut bench)?
+            && a_torn_record_ends_both(&mut window, &mut bench)?
     );
     Ok(())
 }
