@@ -71,6 +71,7 @@ placing e old m ready replacing = record {
       (sure_stored job_gate (file_in old.folder job_gate) m.folder image (replacing.others job_gate job_gate_not_catalogue) ready.stored is_image)
       (ap length (sure_length step_gate (file_in old.folder step_gate).bytes m.folder image (replacing.others step_gate step_gate_not_catalogue ∙ ready.gate) is_image) ∙ ready.count));
   kept = replacing.kept;
+  reads = replacing.reads;
 }
 
 -- the entry is sure in its place, and the gates are as before
@@ -105,6 +106,7 @@ counting e old mid m ready placed lengthening = record {
   others = λ q not_catalogue not_gate. lengthening.others q not_gate ∙ placed.replacing.others q not_catalogue;
   images = λ image is_image. counting_image e old mid m image ready placed lengthening is_image;
   kept = λ front behind kept. subst (IsKept front) (sym (lengthening.others catalogue catalogue_not_step_gate)) (placed.replacing.kept front behind kept);
+  reads = ap (λ (x : File). take (128 * e.number) x.bytes) (lengthening.others catalogue catalogue_not_step_gate) ∙ placed.replacing.reads;
 }
 
 -- the gate is sure with one byte more

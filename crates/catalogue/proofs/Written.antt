@@ -1,8 +1,8 @@
 -- What holds of a file at each moment while it is written.
-use Rattle.std.proofs.Common.{◌≡◌, ◌≢◌, ℕ, ◌+◌, ◌-◌, ◌≤◌, min, max, Bool, List, ◌++◌, length, take, drop, refl, sym, ap, ◌∙◌, inl, inr, append_assoc, arith}
+use Rattle.std.proofs.Common.{◌≡◌, ◌≢◌, ℕ, ◌+◌, ◌-◌, ◌≤◌, min, max, Bool, List, [], ◌++◌, length, take, drop, refl, sym, ap, ◌∙◌, inl, inr, append_assoc, arith}
 use Rattle.std.specs.Prelude.{IsTrue, Result, Ok, Err, OnOk}
 use Rattle.std.proofs.Math.Seq.{take-add}
-use Rattle.std.proofs.lemmas.List.{length-take, length-drop, length-append}
+use Rattle.std.proofs.lemmas.List.{length-take, length-drop, length-append, length-take-le, append-nil, take-take, take-append-le, take_all}
 use Rattle.shelf_model.specs.declared.file_no.FileNo.{FileNo}
 use Rattle.shelf_model.specs.declared.fault.Failed.{Failed}
 use Rattle.shelf_model.specs.File.{File, IsKept}
@@ -11,7 +11,7 @@ use Rattle.shelf_model.specs.World.{Moment, World, now, file}
 use Rattle.shelf_model.specs.Calls.{Told, Appended, WasCut, Synced}
 use Rattle.shelf_model.specs.Moments.{Ran}
 use Rattle.shelf_model.proofs.Files.{kept_append, kept_cut, kept_sync, append_failed, same_files}
-use Rattle.shelf_model.proofs.Runs.{told_then, ran_call, ran_on, ran_joins, ran_weakens, ran_end}
+use Rattle.shelf_model.proofs.Runs.{told, told_then, ran_call, ran_on, ran_joins, ran_weakens, ran_end}
 use Rattle.catalogue.specs.Writes.{Growing, Replacing}
 
 -- how far an append reaches, whatever the answer
@@ -25,13 +25,27 @@ append_reach f piece (Err e) old new did = elim (append_failed f piece e old new
 
 -- nothing was put at the end yet
 pub growing_here : (f : FileNo) (n : ℕ) (m : Moment) → Growing f n m m
-growing_here f n m = record { others = λ q differ. refl; kept = λ front kept. kept; reach = omega arith }
+growing_here f n m = record { others = λ q differ. refl; reads = ([], sym (append-nil (file_in m.folder f).bytes)); kept = λ front kept. kept; reach = omega arith }
+
+-- what an append puts at the end, whatever the answer
+append_reads : (f : FileNo) (piece : List ℕ) (result : Result Unit Failed) (old new : World) → Appended f piece result old new
+    → (more : List ℕ) × ((file new f).bytes ≡ (file old f).bytes ++ more)
+append_reads f piece (Ok x) old new did = (piece, ap (λ (y : File). y.bytes) did.ok)
+append_reads f piece (Err e) old new did = elim (append_failed f piece e old new did) [
+  | inl torn ↦ (torn.piece, torn.bytes_are)
+  | inr same ↦ ([], ap (λ (y : File). y.bytes) (same_files f old new same) ∙ sym (append-nil (file old f).bytes))
+]
 
 -- a piece more
 growing_on : (f : FileNo) (n : ℕ) (piece : List ℕ) (result : Result Unit Failed) (w v u : World) → length (file v f).bytes + length piece ≤ length (file w f).bytes + n
     → Growing f n (now w) (now v) → Appended f piece result v u → Growing f n (now w) (now u)
 growing_on f n piece result w v u fits so_far did = record {
   others = λ q differ. did.others q differ ∙ so_far.others q differ;
+  reads =
+      let puts = append_reads f piece result v u did in (
+        so_far.reads.0 ++ puts.0,
+        puts.1 ∙ ap (λ xs. xs ++ puts.0) so_far.reads.1 ∙ append_assoc (file w f).bytes so_far.reads.0 puts.0,
+      );
   kept = λ front kept. kept_append f piece result v u front did (so_far.kept front kept);
   reach =
       let before : (file v f).reach ≤ max (file w f).reach (length (file w f).bytes + n) = so_far.reach in
@@ -87,12 +101,15 @@ cut_away f at w v did = record {
 
 -- nothing was replaced yet
 pub replacing_here : (f : FileNo) (at n : ℕ) (m : Moment) → Replacing f at n m m
-replacing_here f at n m = record { others = λ q differ. refl; kept = λ front behind kept. kept; reach = omega arith }
+replacing_here f at n m = record { others = λ q differ. refl; reads = refl; kept = λ front behind kept. kept; reach = omega arith }
 
 -- while the bytes are put behind the cut
 replacing_grows : (f : FileNo) (at n : ℕ) (w v : World) (m : Moment) → at ≤ length (file w f).bytes → CutAway f at w v → Growing f n (now v) m → Replacing f at n (now w) m
 replacing_grows f at n w v m within cut growing = record {
   others = λ q differ. growing.others q differ ∙ cut.others q differ;
+  reads =
+      let long : length (file v f).bytes ≡ at = ap length cut.bytes_are ∙ length-take-le at (file w f).bytes within in
+      ap (take at) growing.reads.1 ∙ take-append-le at (file v f).bytes growing.reads.0 (omega (arith, long)) ∙ take_all at (file v f).bytes (omega (arith, long)) ∙ cut.bytes_are;
   kept = λ front behind kept. growing.kept front (cut.kept front behind kept);
   reach =
       let grown : (file_in m.folder f).reach ≤ max (file v f).reach (length (file v f).bytes + n) = growing.reach in
@@ -105,13 +122,35 @@ replacing_grows f at n w v m within cut growing = record {
 replacing_synced : (f : FileNo) (at n : ℕ) (result : Result Unit Failed) (w v u : World) → length (file v f).bytes ≤ at + n → Replacing f at n (now w) (now v) → Synced f result v u → Replacing f at n (now w) (now u)
 replacing_synced f at n result w v u long so_far did = record {
   others = λ q differ. did.others q differ ∙ so_far.others q differ;
+  reads = ap (take at) (synced_reads f result v u did) ∙ so_far.reads;
   kept = λ front behind kept. kept_sync f result v u front did (so_far.kept front behind kept);
   reach = let before : (file v f).reach ≤ max (file w f).reach (at + n) = so_far.reach in synced_reach f at n result w v u long before did;
 }
   where
+    synced_reads : (f : FileNo) (result : Result Unit Failed) (v u : World) → Synced f result v u → (file u f).bytes ≡ (file v f).bytes
+    synced_reads f (Ok x) v u did = ap (λ (y : File). y.bytes) did.ok
+    synced_reads f (Err e) v u did = ap (λ (y : File). y.bytes) (same_files f v u did.failed)
+
     synced_reach : (f : FileNo) (at n : ℕ) (result : Result Unit Failed) (w v u : World) → length (file v f).bytes ≤ at + n → (file v f).reach ≤ max (file w f).reach (at + n) → Synced f result v u → (file u f).reach ≤ max (file w f).reach (at + n)
     synced_reach f at n (Ok x) w v u long before did = let reach : (file u f).reach ≡ length (file v f).bytes = ap (λ (y : File). y.reach) did.ok in omega arith
     synced_reach f at n (Err e) w v u long before did = let reach : (file u f).reach ≡ (file v f).reach = ap (λ (y : File). y.reach) (same_files f v u did.failed) in omega arith
+
+-- a cut that failed
+cut_reads : (f : FileNo) (at : ℕ) (e : Failed) (w v : World) → WasCut f at (Err e) w v → take at (file v f).bytes ≡ take at (file w f).bytes
+cut_reads f at e w v did = elim did.failed.which [
+  | inl same ↦ ap (take at) same
+  | inr cut ↦ ap (take at) cut ∙ take-take at at (file w f).bytes (omega arith)
+]
+
+pub not_cut : {S : Type 0} (tells : S → Bool) (world : S → World) (f : FileNo) (at n : ℕ) (e : Failed) (old s : S)
+    → Told tells old s (WasCut f at (Err e) (world old) (world s)) → Told tells old s (Ran (Replacing f at n (now (world old))) (world old) (world s))
+not_cut tells world f at n e old s cut = told tells old s _ _ cut (λ _ did.
+    ran_call (world old) (world s) (Replacing f at n (now (world old))) did.shelf (replacing_here f at n (now (world old))) (record {
+      others = did.others;
+      reads = cut_reads f at e (world old) (world s) did;
+      kept = λ front behind kept. kept_cut f at (Err e) (world old) (world s) front behind did kept;
+      reach = let same : (file (world s) f).reach ≡ (file (world old) f).reach = did.failed.reach_is in omega (arith, same);
+    }))
 
 -- a cut, and the bytes put behind it
 pub replaced_so_far : {S : Type 0} (tells : S → Bool) (world : S → World) (f : FileNo) (at n : ℕ) (old s t : S) → (IsTrue (tells old) → at ≤ length (file (world old) f).bytes)
