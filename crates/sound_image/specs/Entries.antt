@@ -59,7 +59,8 @@ count_of job k (Size operand) = nodes_at job operand
 abbrev pub name_of : Job → Planned → List ℕ
 name_of job planned = if makes_diagram planned.step then take planned.name_len (drop planned.name_at job.text) else []
 
--- 16 turns for each node of the operands, and for one more
+-- 16 turns for each node of the operands, and for one more: the work of a step that compares no nodes level by level, which are a
+-- constant, a variable, a drop, a size, an equality and a value. Of the other steps it lacks the tuples of nodes that their sweeps visit
 abbrev pub work_of : Job → Step → ℕ
 work_of job step = 16 * (sum_by (nodes_at job) (operands step) + 1)
 

@@ -1,9 +1,8 @@
 -- A folder whose every image is sound with a count, said file by file.
-use Rattle.std.specs.Prelude.{◌≡◌, ◌≢◌, ℕ, ◌*◌, ◌<◌, ◌≤◌, IsTrue, List, length, take, drop}
+use Rattle.std.specs.Prelude.{◌≡◌, ℕ, ◌*◌, ◌<◌, ◌≤◌, IsTrue, List, length, take, drop}
 use Rattle.bool_tables.specs.Plans.{is_live, makes_diagram}
-use Rattle.shelf_model.specs.declared.file_no.FileNo.{FileNo}
 use Rattle.shelf_model.specs.File.{firm_file, no_file, IsKept}
-use Rattle.shelf_model.specs.Folder.{Folder, Image, file_in, bytes_in, IsImage}
+use Rattle.shelf_model.specs.Folder.{Folder, Image, file_in, bytes_in, IsImage, OnlyChanges}
 use Rattle.catalogue.specs.declared.layout.Entry.{Entry}
 use Rattle.catalogue.specs.Files.{job_file, catalogue}
 use Rattle.catalogue.specs.Commits.{IsReady}
@@ -36,9 +35,9 @@ IsMade job k folder = IsTrue (makes_diagram (step_at job k).step) → file_in fo
 
 -- every file but the node file of a step is as it was
 abbrev pub OnlyNodeFile : ℕ → Folder → Folder → Type 0
-OnlyNodeFile step old new = (q : FileNo) → q ≢ node_file step → file_in new q ≡ file_in old q
+OnlyNodeFile step = OnlyChanges (λ q. q ≡ node_file step)
 
--- each image of a folder is sound, with one of two counts
+-- each image of a folder is sound for the job
 abbrev pub AreSound : Job → Folder → Type 0
 AreSound job folder = (image : Image) → IsImage folder image → IsSound job (bytes_in image)
 
