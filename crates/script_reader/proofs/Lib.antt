@@ -7,3 +7,4 @@ pub mod Accepted
 pub mod Front
 pub mod Places
 pub mod Steps
+pub mod PlanReads

@@ -3,3 +3,4 @@ pub mod Plans
 pub mod Lines
 pub mod Built
 pub mod Reading
+pub mod Reads

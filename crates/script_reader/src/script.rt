@@ -1,7 +1,7 @@
-ghost use Rattle.std.specs.Prelude.{◌≡◌, IfOk, IsErrOf, IsTrue};
+ghost use Rattle.std.specs.Prelude.{◌≡◌, List, ℕ, IfOk, IsErrOf, IsTrue};
 ghost use Rattle.bool_tables.specs.Plans.{IsWellFormed};
-ghost use Rattle.script_reader.specs.Script.{Script, IsAccepted};
-ghost use Rattle.script_reader.specs.Plans.{plan_of};
+ghost use Rattle.script_reader.specs.declared.plan.Plan.{Plan};
+ghost use Rattle.script_reader.specs.Reads.{Reads};
 ghost use Rattle.script_reader.specs.Lines.{AreLines};
 ghost use Rattle.script_reader.specs.Built.{are_built};
 ghost use Rattle.script_reader.specs.declared.script.ScriptRefusal.TheVariants.{Memory};
@@ -42,8 +42,8 @@ impl<T: Drop> From<AllocFailed<T>> for ScriptRefusal {
 
 /// The plan that a script stands for.
 pub fn read_script(alloc: Global, bytes: &[u8]) -> Result<Plan, ScriptRefusal>
-    ensures read { IfOk result (λ plan. (s : Script) × IsAccepted bytes.now s × (plan ≡ plan_of s)) }
-    ensures refused { IsErrOf result ScriptRefusal.Word → (s : Script) → ¬ (IsAccepted bytes.now s) }
+    ensures read { IfOk result (λ plan. Reads bytes.now plan) }
+    ensures refused { IsErrOf result ScriptRefusal.Word → (plan : Plan) → ¬ (Reads bytes.now plan) }
 
     // what every plan that is given keeps
     ensures well_formed { IfOk result (λ plan. IsWellFormed plan.n bytes.now plan.steps) }

@@ -13,15 +13,16 @@ use Rattle.script_runner.specs.declared.ending.Ending.{Ending}
 use Rattle.script_runner.specs.declared.ending.Ending.TheVariants.{SayFault}
 use Rattle.script_runner.specs.declared.ending.Ending.TheVariants as refusal
 use Rattle.script_runner.specs.Words.{Reading, reading_of}
-use Rattle.script_reader.specs.Script.{Script, IsAccepted}
-use Rattle.script_reader.specs.Plans.{plan_of}
+use Rattle.script_reader.specs.Reads.{Reads}
+use Rattle.script_reader.proofs.PlanReads.{text_is_short}
 use Rattle.script_runner.specs.Status.{status_of}
 use Rattle.script_runner.specs.Text.{refused_line}
 use Rattle.script_runner.specs.Running.{IsSaying, SaysOnly}
 use Rattle.script_runner.specs.Fetching.{OnlyFetched, IsText}
 use Rattle.script_runner.specs.JobOf.{job_bytes, job_of}
 use Rattle.script_runner.specs.Entered.{RunsFrom, RunsIn}
-use Rattle.script_runner.specs.Outcome.{Accepts, Refuses, SaysLine, Ends}
+use Rattle.script_runner.specs.Calls.{most_calls, fetch_calls}
+use Rattle.script_runner.specs.Outcome.{Accepts, Refuses, SaysLine, Ends, MakesFewCalls}
 use Rattle.script_runner.proofs.Saying.{says_nothing}
 use Rattle.script_runner.proofs.EnteredRuns.{earlier}
 
@@ -32,11 +33,11 @@ whole_text text bytes read short =
     let fits : length text ≤ 1048576 + 1 = omega arith in
     read ∙ take_all (1048576 + 1) text fits
 
-refused_text : (text bytes : List ℕ) → bytes ≡ take (1048576 + 1) text → ((script : Script) → ¬ (IsAccepted bytes script)) → (script : Script) → ¬ (IsAccepted text script)
-refused_text text bytes read refused script accepted =
-    let short : length text ≤ 1048576 = accepted.short in
+refused_text : (text bytes : List ℕ) → bytes ≡ take (1048576 + 1) text → ((plan : Plan) → ¬ (Reads bytes plan)) → (plan : Plan) → ¬ (Reads text plan)
+refused_text text bytes read refused plan accepted =
+    let short : length text ≤ 1048576 = text_is_short text plan accepted in
     let fits : length text ≤ 1048576 + 1 = omega arith in
-    refused script (subst (λ t. IsAccepted t script) (sym (read ∙ take_all (1048576 + 1) text fits)) accepted)
+    refused plan (subst (λ t. Reads t plan) (sym (read ∙ take_all (1048576 + 1) text fits)) accepted)
 
 still_there : (old mid : World) → OnlyFetched old mid → now mid ≡ now old
 still_there old mid looked = at_end old mid (λ m. m ≡ now old) looked.moments
@@ -66,10 +67,33 @@ fetched_runs folder job lines status old mid new looked run = record {
   strays_are = λ home. run.strays_are (home ∙ sym looked.home_is) ∙ looked.strays_are;
 }
 
+-- the words ask for the plan of the text that was read
+abbrev accepts_read : (words : List (List ℕ)) (reading : Reading) (bytes : List ℕ) (plan : Plan) (w : World) → reading_of words ≡ Some reading → Reads bytes plan
+    → IsText reading.script 1048576 bytes w → Accepts w words plan
+accepts_read words reading bytes plan w words_are accepted read = record {
+  reading = reading;
+  words_are = words_are;
+  text = bytes;
+  there = read.there ∙ ap Some (sym (whole_text read.text bytes read.bytes_are (text_is_short bytes plan accepted)));
+  accepted = accepted;
+}
+
 module _ {S : Type 0} (tells : S → Bool) (world : S → World) where
+  -- the calls of a run of the script that was read
+  pub few_run : (words : List (List ℕ)) (reading : Reading) (bytes job : List ℕ) (plan : Plan) (old s t : S) → reading_of words ≡ Some reading → Reads bytes plan → job ≡ job_bytes bytes
+      → (IsTrue (tells s) → IsText reading.script 1048576 bytes (world old)) → (IsTrue (tells s) → (world s).clock ≤ (world old).clock + fetch_calls 1048576)
+      → (IsTrue (tells t) → IsTrue (tells s)) → (IsTrue (tells t) → (world t).clock ≤ (world s).clock + 2 + most_calls (length plan.steps) (length plan.lines) (length job))
+      → IsTrue (tells t) → MakesFewCalls words (world old) (world t)
+  few_run words reading bytes job plan old s t words_are accepted job_is fetched first before second tells_t =
+      let tells_s : IsTrue (tells s) = before tells_t in
+      let a = first tells_s in
+      let b : (world t).clock ≤ (world s).clock + 2 + most_calls (length plan.steps) (length plan.lines) (length (job_bytes bytes)) =
+      subst (λ (x : List ℕ). (world t).clock ≤ (world s).clock + 2 + most_calls (length plan.steps) (length plan.lines) (length x)) job_is (second tells_t) in
+      inr (plan, accepts_read words reading bytes plan (world old) words_are accepted (fetched tells_s), omega (arith, a, b))
+
   -- the script that was read is refused
   pub answers_refused : (words : List (List ℕ)) (reading : Reading) (bytes : List ℕ) (ending : Ending) (old s t : S) → reading_of words ≡ Some reading
-      → (ending ≡ refusal.Script) ⊎ (ending ≡ SayFault) → ((script : Script) → ¬ (IsAccepted bytes script))
+      → (ending ≡ refusal.Script) ⊎ (ending ≡ SayFault) → ((plan : Plan) → ¬ (Reads bytes plan))
       → (IsTrue (tells s) → IsText reading.script 1048576 bytes (world old))
       → Told tells old s (OnlyFetched (world old) (world s)) → Told tells s t (SaysOnly refused_line (world s) (world t))
       → (ending ≡ refusal.Script → IsTrue (tells t) → said (world t) ≡ said (world s) ++ refused_line)
@@ -105,7 +129,7 @@ module _ {S : Type 0} (tells : S → Bool) (world : S → World) where
 
   -- the script that was read is run
   pub answers_run : (words : List (List ℕ)) (reading : Reading) (bytes text job : List ℕ) (plan : Plan) (status : ℕ) (old s t : S) → reading_of words ≡ Some reading
-      → (script : Script) × IsAccepted bytes script × (plan ≡ plan_of script) → text ≡ bytes → job ≡ job_bytes bytes
+      → Reads bytes plan → text ≡ bytes → job ≡ job_bytes bytes
       → (IsTrue (tells s) → IsText reading.script 1048576 bytes (world old))
       → Told tells old s (OnlyFetched (world old) (world s))
       → Told tells s t (RunsIn reading.folder (record { n = plan.n; text = text; steps = plan.steps; bytes = job }) plan.lines status (world s) (world t))
@@ -115,22 +139,14 @@ module _ {S : Type 0} (tells : S → Bool) (world : S → World) where
     did = λ tells_t.
         let tells_s : IsTrue (tells s) = run.before tells_t in
         let read : IsText reading.script 1048576 bytes (world old) = fetched tells_s in
-        let accepts : Accepts (world old) words accepted.0 = record {
-          reading = reading;
-          words_are = words_are;
-          text = bytes;
-          there = read.there ∙ ap Some (sym (whole_text read.text bytes read.bytes_are accepted.1.short));
-          accepted = accepted.1;
-        } in
-        let by_plan : RunsIn reading.folder (record { n = (plan_of accepted.0).n; text = text; steps = (plan_of accepted.0).steps; bytes = job }) (plan_of accepted.0).lines status (world s) (world t) =
-        subst (λ (p : Plan). RunsIn reading.folder (record { n = p.n; text = text; steps = p.steps; bytes = job }) p.lines status (world s) (world t)) accepted.2 (run.did tells_t) in
-        let by_text : RunsIn reading.folder (record { n = (plan_of accepted.0).n; text = bytes; steps = (plan_of accepted.0).steps; bytes = job }) (plan_of accepted.0).lines status (world s) (world t) =
-        subst (λ (x : List ℕ). RunsIn reading.folder (record { n = (plan_of accepted.0).n; text = x; steps = (plan_of accepted.0).steps; bytes = job }) (plan_of accepted.0).lines status (world s) (world t)) text_is by_plan in
-        let by_job : RunsIn reading.folder (job_of bytes accepted.0) (plan_of accepted.0).lines status (world s) (world t) =
-        subst (λ (x : List ℕ). RunsIn reading.folder (record { n = (plan_of accepted.0).n; text = bytes; steps = (plan_of accepted.0).steps; bytes = x }) (plan_of accepted.0).lines status (world s) (world t)) job_is by_text in
+        let accepts : Accepts (world old) words plan = accepts_read words reading bytes plan (world old) words_are accepted read in
+        let by_text : RunsIn reading.folder (record { n = plan.n; text = bytes; steps = plan.steps; bytes = job }) plan.lines status (world s) (world t) =
+        subst (λ (x : List ℕ). RunsIn reading.folder (record { n = plan.n; text = x; steps = plan.steps; bytes = job }) plan.lines status (world s) (world t)) text_is (run.did tells_t) in
+        let by_job : RunsIn reading.folder (job_of bytes plan) plan.lines status (world s) (world t) =
+        subst (λ (x : List ℕ). RunsIn reading.folder (record { n = plan.n; text = bytes; steps = plan.steps; bytes = x }) plan.lines status (world s) (world t)) job_is by_text in
         inr (inr (inr (record {
-          script = accepted.0;
+          plan = plan;
           accepts = accepts;
-          run = fetched_runs reading.folder (job_of bytes accepted.0) (plan_of accepted.0).lines status (world old) (world s) (world t) (looked.did tells_s) by_job;
+          run = fetched_runs reading.folder (job_of bytes plan) plan.lines status (world old) (world s) (world t) (looked.did tells_s) by_job;
         })));
   }

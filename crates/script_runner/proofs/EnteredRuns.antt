@@ -1,8 +1,8 @@
 -- A run of a job in a folder, from entering it on.
-use Rattle.std.proofs.Common.{◌≡◌, ◌∙◌, ◌⊎◌, ℕ, Bool, List, [], ◌++◌, length, refl, sym, ap, subst, inl, inr, arith}
+use Rattle.std.proofs.Common.{◌≡◌, ◌∙◌, ◌⊎◌, ℕ, Bool, List, [], ◌++◌, refl, sym, ap, subst, inl, inr, arith, append_assoc}
 use Rattle.std.specs.Prelude.{IsTrue, Result, Ok, nat_eq}
 use Rattle.std.specs.List.{common_prefix_len}
-use Rattle.std.proofs.lemmas.List.{append-nil}
+use Rattle.std.proofs.lemmas.List.{append-nil, append_cancel_left}
 use Rattle.shelf_model.specs.declared.file_no.FileNo.{FileNo}
 use Rattle.shelf_model.specs.declared.fault.Failed.{Failed}
 use Rattle.shelf_model.specs.Folder.{Folder, Image, IsImage}
@@ -22,8 +22,10 @@ use Rattle.script_runner.specs.declared.ending.Ending.TheVariants as ending
 use Rattle.script_runner.specs.Status.{status_of}
 use Rattle.script_runner.specs.Said.{whole_lines, said_count}
 use Rattle.script_runner.specs.Text.{run_text, other_job_line, damaged_line}
-use Rattle.script_runner.specs.Running.{SaysFront, IsSaying, SaysOnly, OthersAre, IsSafeRun, IsRunning, StaysThere, IsOther, HasOtherJob, IsEntryDamage, RefusesFolder, IsStill, RunsSteps}
-use Rattle.script_runner.specs.Entered.{EndsRun, Refused, RefusesOther, RunsFrom, RunsIn}
+use Rattle.script_runner.specs.Shapes.{AreWhole, IsRefusal}
+use Rattle.script_runner.specs.Running.{SaysFront, IsSaying, SaysOnly, HasSaid, IsRunning, StaysThere, IsOther, HasOtherJob, RefusesFolder, IsStill, MeetsDamage, RunsSteps}
+use Rattle.script_runner.specs.Entered.{EndsRun, Refused, RefusesOther, IsMoment, RunsFrom, RunsIn}
+use Rattle.script_runner.proofs.Shown.{says_no_shape}
 use Rattle.script_runner.proofs.Saying.{says_nothing}
 
 -- the status of a run that didn't refuse its folder
@@ -56,18 +58,46 @@ ends_run SayFault = inr (inr (inr (inl refl)))
 ends_run (Damaged f at) = inr (inr (inr (inr refl)))
 
 -- a run that has only begun
-safe_first : (job : Job) (lines : List LineEnd) (start : Moment) → AreSound job start.folder → IsSafeRun job lines start start
-safe_first job lines start sound = record {
-  says = record { front = []; rest = run_text job lines (present start.folder); text_is = refl; said_is = sym (append-nil start.said) };
-  safe = λ image is_image.
-      let none : said_count (count_in (present start.folder)) lines [] ≡ 0 = refl in
-      let no_lines : whole_lines [] ≡ 0 = refl in
-      record {
-        sound = sound image is_image;
-        has_said = omega (arith, none);
-        has_old = λ count reaches. reaches image is_image;
-        stored = λ some. absurd (omega (arith, some, no_lines));
-      };
+running_first : (job : Job) (lines : List LineEnd) (start : Folder) → IsRunning job lines start [] start
+running_first job lines start = record {
+  shape = says_no_shape job.steps lines (present start) (present start);
+  others = λ f apart. refl;
+  keeps = λ count front long begins. begins;
+  waits = λ image is_image. inl is_image;
+  safe_run = λ sound. record {
+    rest = run_text job lines (present start);
+    text_is = refl;
+    safe = λ image is_image.
+        let none : said_count (count_in (present start)) lines [] ≡ 0 = refl in
+        let no_lines : whole_lines [] ≡ 0 = refl in
+        record {
+          sound = sound image is_image;
+          has_said = omega (arith, none);
+          has_old = λ count reaches. reaches image is_image;
+          stored = λ some. absurd (omega (arith, some, no_lines));
+        };
+  };
+}
+
+moment_first : (job : Job) (lines : List LineEnd) (start : Moment) → IsMoment job lines start start
+moment_first job lines start = record {
+  front = [];
+  tail = [];
+  said_is = sym (append-nil start.said);
+  running = running_first job lines start.folder;
+  tail_is = inl refl;
+  no_tail = λ sound. refl;
+}
+
+-- a moment at which no status has said its line
+going_moment : (job : Job) (lines : List LineEnd) (start m : Moment) → HasSaid (IsRunning job lines start.folder) start m → IsMoment job lines start m
+going_moment job lines start m going = record {
+  front = going.front;
+  tail = [];
+  said_is = going.said_is ∙ ap (λ b. start.said ++ b) (sym (append-nil going.front));
+  running = going.holds;
+  tail_is = inl refl;
+  no_tail = λ sound. refl;
 }
 
 -- nothing was done before
@@ -77,11 +107,12 @@ before P start old mid new stay here after = joins old mid new P (weakens old mi
 pub earlier : (job : Job) (lines : List LineEnd) (status : ℕ) (start : Moment) (old mid new : World) → Throughout old mid (λ m. m ≡ start)
     → RunsFrom job lines status start mid new → RunsFrom job lines status start old new
 earlier job lines status start old mid new stay run = record {
-  others = before (λ m. OthersAre (length job.steps) start.folder m.folder) start old mid new stay (λ f apart. refl) run.others;
-  running = λ sound. before (IsSafeRun job lines start) start old mid new stay (safe_first job lines start sound) (run.running sound);
+  moments = before (IsMoment job lines start) start old mid new stay (moment_first job lines start) run.moments;
   goes_on = run.goes_on;
   whole = run.whole;
+  says = run.says;
   all = run.all;
+  emptied = run.emptied;
   other = λ other.
       let refuses = run.other other in
       record {
@@ -100,6 +131,7 @@ earlier job lines status start old mid new stay run = record {
         at = names.at;
         before = names.before;
         said_is = names.said_is;
+        whole = names.whole;
         place = elim names.place [
           | inl first ↦ inl (first.0, first.1, before (OnlyOldImages start) start old mid new stay (λ image is_image. is_image) first.2)
           | inr later ↦ inr later
@@ -124,11 +156,12 @@ stood job old new other still = record {
 -- a run that met a fault before it did anything
 nothing_ran : (job : Job) (lines : List LineEnd) (w : World) → RunsFrom job lines 7 (now w) w w
 nothing_ran job lines w = record {
-  others = stands w (λ m. OthersAre (length job.steps) (now w).folder m.folder) (λ f apart. refl);
-  running = λ sound. stands w (IsSafeRun job lines (now w)) (safe_first job lines (now w) sound);
+  moments = stands w (IsMoment job lines (now w)) (moment_first job lines (now w));
   goes_on = λ sound. not_refused FolderFault (λ x. x);
   whole = λ sound x. absurd (omega (arith, x));
+  says = λ x. absurd (omega (arith, x));
   all = λ x. absurd (omega (arith, x));
+  emptied = λ x. absurd (omega (arith, x));
   other = λ other. stood job.bytes w w other (stands w (IsStill (now w)) (record { said_is = refl; images = λ image is_image. is_image }));
   only_other = λ x. absurd (omega (arith, x));
   damaged = λ x. absurd (omega (arith, x));
@@ -138,11 +171,12 @@ nothing_ran job lines w = record {
 ran_from : (job : Job) (lines : List LineEnd) (finish : Finish) (old new : World) → ¬ (RefusesFolder finish) → RunsSteps job lines finish old new
     → RunsFrom job lines (status_for finish) (now old) old new
 ran_from job lines finish old new none run = record {
-  others = weakens old new (IsRunning job lines (now old)) (λ m. OthersAre (length job.steps) (now old).folder m.folder) (λ m running. running.others) run.moments;
-  running = λ sound. weakens old new (IsRunning job lines (now old)) (IsSafeRun job lines (now old)) (λ m running. running.safe_run sound) run.moments;
+  moments = weakens old new (HasSaid (IsRunning job lines (now old).folder) (now old)) (IsMoment job lines (now old)) (going_moment job lines (now old)) run.moments;
   goes_on = λ sound. not_refused finish none;
   whole = λ sound zero. run.whole sound (was_done finish zero);
+  says = λ zero. run.says (was_done finish zero);
   all = λ zero. run.all (was_done finish zero);
+  emptied = λ zero. run.emptied (was_done finish zero);
   other = λ other. elim (run.refuses_other other).1 [
     | inl named ↦ absurd (none (subst RefusesFolder (sym named.1) tt))
     | inr fault ↦ subst (λ f. RefusesOther job.bytes (status_for f) (now old) old new) (sym fault) (stood job.bytes old new other (run.refuses_other other).0)
@@ -155,14 +189,29 @@ ran_from job lines finish old new none run = record {
 abbrev pub SaidOr : ℕ → ℕ → Type 0
 SaidOr good status = (status ≡ good) ⊎ (status ≡ 8)
 
--- other files stay while a line is said
-others_said : (job : Job) (lines : List LineEnd) (finish : Finish) (line : List ℕ) (old mid new : World) → RunsSteps job lines finish old mid → SaysOnly line mid new
-    → Throughout old new (λ m. OthersAre (length job.steps) (now old).folder m.folder)
-others_said job lines finish line old mid new run says =
-    joins old mid new (λ m. OthersAre (length job.steps) (now old).folder m.folder)
-    (weakens old mid (IsRunning job lines (now old)) (λ m. OthersAre (length job.steps) (now old).folder m.folder) (λ m running. running.others) run.moments)
-    (weakens mid new (IsSaying line (now mid)) (λ m. OthersAre (length job.steps) (now old).folder m.folder)
-    (λ m saying. subst (OthersAre (length job.steps) (now old).folder) (sym saying.folder_is) (at_end old mid (IsRunning job lines (now old)) run.moments).others) says.moments)
+-- a status's line is said behind whole lines, or a front part of it
+moments_said : (job : Job) (lines : List LineEnd) (line front : List ℕ) (old mid new : World) → Throughout old mid (HasSaid (IsRunning job lines (now old).folder) (now old))
+    → SaysOnly line mid new → IsRefusal line → said mid ≡ said old ++ front → AreWhole job.steps lines (present (now old).folder) (present (now mid).folder) front
+    → ¬ (AreSound job (now old).folder) → Throughout old new (IsMoment job lines (now old))
+moments_said job lines line front old mid new run says refusal said_mid whole none =
+    joins old mid new (IsMoment job lines (now old))
+    (weakens old mid (HasSaid (IsRunning job lines (now old).folder) (now old)) (IsMoment job lines (now old)) (going_moment job lines (now old)) run)
+    (weakens mid new (IsSaying line (now mid)) (IsMoment job lines (now old)) (λ m saying. record {
+      front = front;
+      tail = saying.says.front;
+      said_is = saying.says.said_is ∙ ap (λ b. b ++ saying.says.front) said_mid ∙ append_assoc (said old) front saying.says.front;
+      running = subst (IsRunning job lines (now old).folder front) (sym saying.folder_is)
+          (subst (λ f. IsRunning job lines (now old).folder f (now mid).folder) (append_cancel_left (said old) end.front front (sym end.said_is ∙ said_mid)) end.holds);
+      tail_is = inr (record {
+        whole = subst (λ (folder : Folder). AreWhole job.steps lines (present (now old).folder) (present folder) front) (sym saying.folder_is) whole;
+        rest = saying.says.rest;
+        refusal = subst IsRefusal saying.says.text_is refusal;
+      });
+      no_tail = λ sound. absurd (none sound);
+    }) says.moments)
+  where
+    end : HasSaid (IsRunning job lines (now old).folder) (now old) (now mid)
+    end = at_end old mid (HasSaid (IsRunning job lines (now old).folder) (now old)) run
 
 -- no image is new while a line is said
 images_said : (line : List ℕ) (start : Moment) (old mid new : World) → Throughout old mid (OnlyOldImages start) → SaysOnly line mid new → Throughout old new (OnlyOldImages start)
@@ -175,11 +224,13 @@ images_said line start old mid new kept says =
 refused_other : (job : Job) (lines : List LineEnd) (at status : ℕ) (old mid new : World) → SaidOr 5 status → RunsSteps job lines (OtherJob at) old mid
     → SaysOnly (other_job_line at) mid new → (status ≡ 5 → said new ≡ said mid ++ other_job_line at) → RunsFrom job lines status (now old) old new
 refused_other job lines at status old mid new which run says whole = record {
-  others = others_said job lines (OtherJob at) (other_job_line at) old mid new run says;
-  running = λ sound. absurd (run.goes_on sound tt);
+  moments = moments_said job lines (other_job_line at) [] old mid new run.moments says (inl (at, refl)) (end.said_is ∙ sym (append-nil (said old))) (inl refl)
+      (λ sound. run.goes_on sound tt);
   goes_on = λ sound. absurd (run.goes_on sound tt);
   whole = λ sound. absurd (run.goes_on sound tt);
+  says = λ zero. absurd (elim which [ inl x ↦ omega (arith, x, zero) | inr x ↦ omega (arith, x, zero) ]);
   all = λ zero. absurd (elim which [ inl x ↦ omega (arith, x, zero) | inr x ↦ omega (arith, x, zero) ]);
+  emptied = λ zero. absurd (elim which [ inl x ↦ omega (arith, x, zero) | inr x ↦ omega (arith, x, zero) ]);
   other = λ differs. record {
     at = at;
     place = has;
@@ -210,29 +261,36 @@ refused_other job lines at status old mid new which run says whole = record {
 refused_damage : (job : Job) (lines : List LineEnd) (f : FileNo) (at status : ℕ) (old mid new : World) → SaidOr 10 status → RunsSteps job lines (Damaged f at) old mid
     → SaysOnly (damaged_line f at) mid new → (status ≡ 10 → said new ≡ said mid ++ damaged_line f at) → RunsFrom job lines status (now old) old new
 refused_damage job lines f at status old mid new which run says whole = record {
-  others = others_said job lines (Damaged f at) (damaged_line f at) old mid new run says;
-  running = λ sound. absurd (run.goes_on sound tt);
+  moments = moments_said job lines (damaged_line f at) meets.front old mid new run.moments says (inr (f, at, refl)) meets.said_is meets.whole (λ sound. run.goes_on sound tt);
   goes_on = λ sound. absurd (run.goes_on sound tt);
   whole = λ sound. absurd (run.goes_on sound tt);
+  says = λ zero. absurd (elim which [ inl x ↦ omega (arith, x, zero) | inr x ↦ omega (arith, x, zero) ]);
   all = λ zero. absurd (elim which [ inl x ↦ omega (arith, x, zero) | inr x ↦ omega (arith, x, zero) ]);
+  emptied = λ zero. absurd (elim which [ inl x ↦ omega (arith, x, zero) | inr x ↦ omega (arith, x, zero) ]);
   other = λ differs. absurd (not_other (run.refuses_other differs).1);
   only_other = λ five. absurd (elim which [ inl x ↦ omega (arith, x, five) | inr x ↦ omega (arith, x, five) ]);
   damaged = λ ten. record {
     file = f;
     at = at;
-    before = said mid;
-    said_is = whole ten;
-    place = elim (run.damaged f at refl) [
+    before = meets.front;
+    said_is = whole ten ∙ ap (λ b. b ++ damaged_line f at) meets.said_is ∙ append_assoc (said old) meets.front (damaged_line f at);
+    whole = subst (λ (folder : Folder). AreWhole job.steps lines (present (now old).folder) (present folder) meets.front)
+        (sym (at_end mid new (IsSaying (damaged_line f at) (now mid)) says.moments).folder_is) meets.whole;
+    place = elim meets.place [
       | inl first ↦ inl (
         first.0,
-        (at_end old mid (IsStill (now old)) first.1).said_is,
+        append_cancel_left (said old) meets.front []
+            (sym meets.said_is ∙ (at_end old mid (IsStill (now old)) first.1).said_is ∙ sym (append-nil (said old))),
         images_said (damaged_line f at) (now old) old mid new (weakens old mid (IsStill (now old)) (OnlyOldImages (now old)) (λ m still. still.images) first.1) says,
       )
-      | inr later ↦ inr (subst (λ (folder : Folder). IsEntryDamage job.steps f at (present folder)) (sym (at_end mid new (IsSaying (damaged_line f at) (now mid)) says.moments).folder_is) later)
+      | inr later ↦ inr later
     ];
   };
 }
   where
+    meets : MeetsDamage job.steps lines f at old mid
+    meets = run.damaged f at refl
+
     not_other : ((a : ℕ) × (Damaged f at ≡ OtherJob a)) ⊎ (Damaged f at ≡ FolderFault) → ⊥
     not_other (inl x) = let other = x.1 in cc
     not_other (inr x) = cc

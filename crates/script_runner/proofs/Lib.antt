@@ -3,6 +3,7 @@ pub mod FetchRuns
 pub mod LineOrder
 pub mod Saying
 pub mod SaidLaws
+pub mod Shown
 pub mod Standing
 pub mod RunSteps
 pub mod StepByStep

@@ -1,8 +1,8 @@
 -- The order of said lines.
-use Rattle.std.proofs.Common.{◌≡◌, ◌∙◌, ℕ, zero, suc, ◌+◌, ◌<◌, ◌≤◌, Bool, true, false, ◌&&◌, nat_le, nat_lt, List, [], ◌∷◌, ◌++◌, length, get_or, take, drop, refl, sym, ap, ap₂, subst, arith}
+use Rattle.std.proofs.Common.{◌≡◌, ◌∙◌, ℕ, zero, suc, ◌+◌, ◌<◌, ◌≤◌, min, Bool, true, false, ◌&&◌, nat_le, nat_lt, List, [], ◌∷◌, ◌++◌, length, get_or, take, drop, refl, sym, ap, ap₂, subst, arith}
 use Rattle.std.specs.Prelude.{IsTrue, cond, filter}
 use Rattle.std.specs.List.{list_all}
-use Rattle.std.proofs.lemmas.List.{drop_more, take_more, take-append-drop, length-take-le}
+use Rattle.std.proofs.lemmas.List.{drop_more, take_more, take-append-drop, length-take-le, length-take}
 use Rattle.std.proofs.lemmas.List.Sums.{sum_by-cons, sum_by-append}
 use Rattle.std.proofs.lemmas.List.Folds.{list_all-append}
 use Rattle.script_reader.specs.declared.plan.LineEnd.{LineEnd}
@@ -65,7 +65,7 @@ front_more step lines i d within before front =
     (both_true (test (get_or lines i d)) true (to_lt (get_or lines i d).last step before) refl)))
 
 -- of lines that rise from a step none comes before it
-none_before : (step : ℕ) (lines : List LineEnd) → IsTrue (rise_from step lines) → (ended_before step lines ≡ 0) × (lines_from_step step lines ≡ lines)
+pub none_before : (step : ℕ) (lines : List LineEnd) → IsTrue (rise_from step lines) → (ended_before step lines ≡ 0) × (lines_from_step step lines ≡ lines)
 none_before step [] rise = (refl, refl)
 none_before step (line ∷ lines) rise =
     let up : step ≤ line.last = from_le step line.last (first_true (nat_le step line.last) (rise_from line.last lines) rise) in
@@ -149,3 +149,44 @@ front_passes p lines zero all = refl
 front_passes p [] (suc count) all = refl
 front_passes p (line ∷ lines) (suc count) all =
     both_true (p line) (list_all p (take count lines)) (first_true (p line) (list_all p lines) all) (front_passes p lines count (second_true (p line) (list_all p lines) all))
+
+-- no fewer lines come before a later step
+pub ended_rises : (a b : ℕ) (lines : List LineEnd) → a ≤ b → ended_before a lines ≤ ended_before b lines
+ended_rises a b [] up = omega arith
+ended_rises a b (line ∷ lines) up =
+    let first : ended_before a (line ∷ lines) ≡ cond (nat_lt line.last a) 1 0 + ended_before a lines = sum_by-cons (λ (l : LineEnd). cond (nat_lt l.last a) 1 0) line lines in
+    let second : ended_before b (line ∷ lines) ≡ cond (nat_lt line.last b) 1 0 + ended_before b lines = sum_by-cons (λ (l : LineEnd). cond (nat_lt l.last b) 1 0) line lines in
+    let rest : ended_before a lines ≤ ended_before b lines = ended_rises a b lines up in
+    let here : cond (nat_lt line.last a) 1 0 ≤ cond (nat_lt line.last b) 1 0 = by_test (nat_lt line.last a) refl in
+    omega (arith, first, second, rest, here)
+  where
+    by_test : (t : Bool) → nat_lt line.last a ≡ t → cond t 1 0 ≤ cond (nat_lt line.last b) 1 0
+    by_test true is =
+        let below : line.last < a = from_lt line.last a is in
+        subst (λ u. 1 ≤ cond u 1 0) (sym (to_lt line.last b (omega (arith, below, up)))) (omega arith)
+    by_test false is = omega arith
+
+-- no more lines come before a step than stand before those that rise from it
+pub ended_most : (step : ℕ) (lines : List LineEnd) (place : ℕ) → IsTrue (rise_from step (drop place lines)) → ended_before step lines ≤ place
+ended_most step lines place rise =
+    let both : ended_before step lines ≡ ended_before step (take place lines) + ended_before step (drop place lines) =
+    ap (ended_before step) (sym (take-append-drop place lines)) ∙ sum_by-append (λ (l : LineEnd). cond (nat_lt l.last step) 1 0) (take place lines) (drop place lines) in
+    let none : ended_before step (drop place lines) ≡ 0 = (none_before step (drop place lines) rise).0 in
+    let few : ended_before step (take place lines) ≤ length (take place lines) = ended_few (take place lines) in
+    let short : length (take place lines) ≡ min place (length lines) = length-take place lines in
+    omega (arith, both, none, few, short)
+  where
+    ended_few : (ls : List LineEnd) → ended_before step ls ≤ length ls
+    ended_few [] = omega arith
+    ended_few (l ∷ ls) =
+        let first : ended_before step (l ∷ ls) ≡ cond (nat_lt l.last step) 1 0 + ended_before step ls = sum_by-cons (λ (x : LineEnd). cond (nat_lt x.last step) 1 0) l ls in
+        let rest : ended_before step ls ≤ length ls = ended_few ls in
+        let one : cond (nat_lt l.last step) 1 0 ≤ 1 = by_bit (nat_lt l.last step) in
+        more (length ls) (omega (arith, first, rest, one))
+      where
+        by_bit : (b : Bool) → cond b 1 0 ≤ 1
+        by_bit true = omega arith
+        by_bit false = omega arith
+
+        more : (n : ℕ) → ended_before step (l ∷ ls) ≤ n + 1 → ended_before step (l ∷ ls) ≤ suc n
+        more n h = omega (arith, h)

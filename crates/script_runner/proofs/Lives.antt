@@ -1,32 +1,38 @@
--- What any list of stops leaves.
-use Rattle.std.proofs.Common.{◌≡◌, ◌∙◌, ℕ, ◌≤◌, List, [], ◌∷◌, length, refl, sym, ap, subst, inl, inr, arith}
-use Rattle.std.specs.Prelude.{Some, None, nat_lt}
-use Rattle.std.specs.List.{AllByRecursion}
-use Rattle.std.proofs.lemmas.List.{append-nil, append_cancel_left}
+-- What any list of calls in one folder leaves.
+use Rattle.std.proofs.Common.{◌≡◌, ◌∙◌, ◌⊎◌, ℕ, ◌+◌, ◌≤◌, Bool, true, false, List, [], ◌∷◌, ◌++◌, length, drop, replicate, refl, sym, ap, subst, inl, inr, arith}
+use Rattle.std.specs.Prelude.{IsTrue, Some, None, codes, nat_lt, bytes_eq}
+use Rattle.std.proofs.lemmas.List.{append-nil, append_cancel_left, drop_at, length-append}
+use Rattle.std.proofs.lemmas.Slice.Eq.{bytes_eq-Decides}
+use Rattle.byteorder.specs.Endian.{big_bytes}
+use Rattle.byteorder.specs.Numbers.{length-bytes_high_first}
 use Rattle.shelf_model.specs.declared.file_no.FileNo.{FileNo}
 use Rattle.shelf_model.specs.File.{no_file, IsLeft}
 use Rattle.shelf_model.specs.Folder.{Folder, Image, IsImage, file_in, bytes_in}
 use Rattle.shelf_model.proofs.Files.{only_image}
-use Rattle.shelf_model.specs.World.{Moment, World, now, said}
+use Rattle.shelf_model.proofs.Images.{chosen, standing_image}
 use Rattle.shelf_model.proofs.Lives.{next_life}
-use Rattle.catalogue.specs.Files.{job_gate, step_gate}
-use Rattle.catalogue.specs.Counts.{present, count_in}
+use Rattle.shelf_model.specs.World.{Moment, World, now, said}
+use Rattle.shelf_model.specs.Moments.{OnlyOldImages}
+use Rattle.shelf_model.specs.Faults.{Faults}
+use Rattle.catalogue.specs.Files.{job_file, job_gate, step_gate}
+use Rattle.catalogue.specs.Counts.{present, is_stored, count_in}
 use Rattle.sound_image.specs.Files.{checkpoint_gate}
 use Rattle.sound_image.specs.Jobs.{Job}
 use Rattle.sound_image.specs.Sound.{IsSound}
 use Rattle.sound_image.specs.Holds.{AreSound}
-use Rattle.script_reader.specs.declared.plan.LineEnd.{LineEnd}
+use Rattle.sound_image.proofs.AttachLaws.{standing}
+use Rattle.script_reader.specs.declared.plan.Plan.{Plan}
+use Rattle.script_reader.specs.Reads.{Reads}
+use Rattle.script_reader.proofs.PlanReads.{one_plan}
 use Rattle.script_runner.specs.Words.{Reading, reading_of}
-use Rattle.script_reader.specs.Script.{Script, IsAccepted}
-use Rattle.script_reader.specs.Plans.{plan_of}
-use Rattle.script_runner.specs.Said.{said_count}
-use Rattle.script_runner.specs.Running.{IsSafe, IsSafeRun}
+use Rattle.script_runner.specs.Said.{whole_lines, said_count}
+use Rattle.script_runner.specs.Running.{SaysOnly, IsSafe}
 use Rattle.script_runner.specs.Fetching.{OnlyFetched}
-use Rattle.script_runner.specs.JobOf.{job_of}
-use Rattle.script_runner.specs.Entered.{RunsIn}
-use Rattle.script_runner.specs.Outcome.{Accepts, Refuses, EndsRan}
-use Rattle.script_runner.specs.Lives.{Life, IsLife, AreLives, LifeKeeps}
-use Rattle.script_reader.proofs.OneScript.{one_script}
+use Rattle.script_runner.specs.JobOf.{job_bytes, job_of}
+use Rattle.script_runner.specs.Entered.{EndsRun, RefusesOther, IsMoment, RunsIn}
+use Rattle.script_runner.specs.Text.{usage_line, refused_line, run_text}
+use Rattle.script_runner.specs.Outcome.{Accepts, Refuses, EndsRan, Ends, StatusHasCause, NoneRose}
+use Rattle.script_runner.specs.Lives.{Life, SameFiles, IsLeftOf, IsLife, RunsPlan, StaysOut, AreStored, AreLives, LifeKeeps, LivesKeep}
 
 -- an image without bytes is sound for every job
 pub empty_is_sound : (job : Job) (r : FileNo → List ℕ) → ((f : FileNo) → r f ≡ []) → IsSound job r
@@ -41,92 +47,254 @@ new_folder_is_sound job folder empty image is_image =
     empty_is_sound job (bytes_in image) (λ f. only_image [] (bytes_in image f) (subst (λ x. IsLeft x (bytes_in image f)) (empty f) (is_image f)))
 
 -- the words have one reading at most
-one_reading : (words : List (List ℕ)) (a b : Reading) → reading_of words ≡ Some a → reading_of words ≡ Some b → a ≡ b
+pub one_reading : (words : List (List ℕ)) (a b : Reading) → reading_of words ≡ Some a → reading_of words ≡ Some b → a ≡ b
 one_reading words a b x y = cc
 
-reads_something : (words : List (List ℕ)) (a : Reading) → reading_of words ≡ None → reading_of words ≡ Some a → ⊥
+pub reads_something : (words : List (List ℕ)) (a : Reading) → reading_of words ≡ None → reading_of words ≡ Some a → ⊥
 reads_something words a x y = cc
 
 same_some : (x y : List ℕ) → Some x ≡ Some y → x ≡ y
 same_some x y e = cc
 
 -- a path has one text at most
-one_text : (w : World) (words : List (List ℕ)) (a b : Reading) (x y : List ℕ) → reading_of words ≡ Some a → reading_of words ≡ Some b
+pub one_text : (w : World) (words : List (List ℕ)) (a b : Reading) (x y : List ℕ) → reading_of words ≡ Some a → reading_of words ≡ Some b
     → w.texts a.script ≡ Some x → w.texts b.script ≡ Some y → x ≡ y
 one_text w words a b x y reads_a reads_b there_a there_b =
     let readings : a ≡ b = one_reading words a b reads_a reads_b in
     same_some x y (sym (subst (λ (r : Reading). w.texts r.script ≡ Some x) readings there_a) ∙ there_b)
 
--- a script that is accepted isn't refused
-not_both : (w : World) (words : List (List ℕ)) (s : Script) → Accepts w words s → Refuses w words → ⊥
-not_both w words s a b =
-    b.refused s (subst (λ text. IsAccepted text s) (one_text w words a.reading b.reading a.text b.text a.words_are b.words_are a.there b.there) a.accepted)
+-- a text that asks for a plan isn't refused
+pub not_both : (w : World) (words : List (List ℕ)) (p : Plan) → Accepts w words p → Refuses w words → ⊥
+not_both w words p a b =
+    b.refused p (subst (λ text. Reads text p) (one_text w words a.reading b.reading a.text b.text a.words_are b.words_are a.there b.there) a.accepted)
 
--- nothing was done before the stop
-keeps_silent : (job : Job) (lines : List LineEnd) (words : List (List ℕ)) (script : Script) (text : List ℕ) (life : Life) → IsSound job (bytes_in life.begun)
-    → IsLife words script text life → OnlyFetched life.old life.new → LifeKeeps job lines life
-keeps_silent job lines words script text life sound is looked =
-    let same : life.new.moment is.stop.at ≡ now life.old = looked.moments.each is.stop.at is.stop.since is.stop.until in
-    let is_image : IsImage (now life.old).folder life.left = subst (λ (m : Moment). IsImage m.folder life.left) same is.stop.image_then in
-    let told_nothing : life.told ≡ [] = append_cancel_left (said life.old) life.told []
-    (sym is.stop.said_then ∙ ap (λ (m : Moment). m.said) same ∙ sym (append-nil (said life.old))) in
-    let none : said_count (count_in (bytes_in life.begun)) lines [] ≡ 0 = refl in
-    let nothing : said_count (count_in (bytes_in life.begun)) lines life.told ≡ 0 = ap (λ t. said_count (count_in (bytes_in life.begun)) lines t) told_nothing ∙ none in
-    record {
-      sound = next_life (IsSound job) (now life.old).folder life.begun life.left is.entered sound is_image;
-      has_old = next_life (λ r. count_in (bytes_in life.begun) ≤ count_in r) (now life.old).folder life.begun life.left is.entered (omega arith) is_image;
-      has_said = omega (arith, nothing);
-    }
+-- the words ask for one text and one plan at most
+pub same_plan : (w : World) (words : List (List ℕ)) (p q : Plan) (a : Accepts w words p) (b : Accepts w words q) → (a.text ≡ b.text) × (p ≡ q)
+same_plan w words p q a b =
+    let texts : a.text ≡ b.text = one_text w words a.reading b.reading a.text b.text a.words_are b.words_are a.there b.there in
+    (texts, one_plan b.text p q (subst (λ text. Reads text p) texts a.accepted) b.accepted)
 
--- the job was run until the stop
-keeps_run : (job : Job) (lines : List LineEnd) (words : List (List ℕ)) (script : Script) (text folder : List ℕ) (life : Life) → IsSound job (bytes_in life.begun)
-    → IsLife words script text life → RunsIn folder job lines life.status life.old life.new → LifeKeeps job lines life
-keeps_run job lines words script text folder life sound is run =
-    let are_sound : AreSound job (now life.old).folder = λ image is_image. next_life (IsSound job) (now life.old).folder life.begun image is.entered sound is_image in
-    let running : IsSafeRun job lines (now life.old) (life.new.moment is.stop.at) = (run.leaves.running are_sound).each is.stop.at is.stop.since is.stop.until in
-    let safe : IsSafe job lines (now life.old).folder running.says.front (bytes_in life.left) = running.safe life.left is.stop.image_then in
-    let told : running.says.front ≡ life.told = append_cancel_left (said life.old) running.says.front life.told (sym running.says.said_is ∙ is.stop.said_then) in
-    let reads : present (now life.old).folder ≡ bytes_in life.begun = λ i f. ap (λ file. file.bytes) (is.entered f) i in
-    record {
-      sound = safe.sound;
-      has_old = safe.has_old (count_in (bytes_in life.begun)) (λ image is_image.
-          next_life (λ r. count_in (bytes_in life.begun) ≤ count_in r) (now life.old).folder life.begun image is.entered (omega arith) is_image);
-      has_said = subst (λ r. said_count (count_in r) lines life.told ≤ count_in (bytes_in life.left)) reads
-          (subst (λ t. said_count (count_in (present (now life.old).folder)) lines t ≤ count_in (bytes_in life.left)) told safe.has_said);
-    }
+-- one job has one text
+behind_head : (text : List ℕ) → drop 20 (job_bytes text) ≡ text
+unfolding job_bytes
+behind_head text = drop_at head text 20 size
+  where
+    head : List ℕ
+    head = codes "ADIARJ01" ++ big_bytes 4 262144 ++ big_bytes 4 (length text) ++ replicate 4 255
 
--- one life on a sound image
-pub life_keeps : (words : List (List ℕ)) (script : Script) (text : List ℕ) (life : Life) → IsSound (job_of text script) (bytes_in life.begun)
-    → IsLife words script text life → LifeKeeps (job_of text script) (plan_of script).lines life
-life_keeps words script text life sound is =
-    elim is.ends [
-      | inl usage ↦ absurd (reads_something words is.accepts.reading usage.unread is.accepts.words_are)
+    size : length head ≡ 20
+    size =
+        length-append (codes "ADIARJ01" ++ big_bytes 4 262144 ++ big_bytes 4 (length text)) (replicate 4 255)
+        ∙ ap (λ n. n + 4) (length-append (codes "ADIARJ01" ++ big_bytes 4 262144) (big_bytes 4 (length text)) ∙ ap (λ n. 12 + n) (length-bytes_high_first 4 (length text)))
+
+text_of_job : (a b : List ℕ) → job_bytes a ≡ job_bytes b → a ≡ b
+text_of_job a b same = sym (behind_head a) ∙ ap (drop 20) same ∙ behind_head b
+
+-- what holds of each image of a folder holds of each image of what is left of it
+of_left : (P : (FileNo → List ℕ) → Type 0) (folder left : Folder) → IsLeftOf folder left → ((image : Image) → IsImage folder image → P (bytes_in image))
+    → (image : Image) → IsImage left image → P (bytes_in image)
+of_left P folder left (inl same) all image is_image = all image (λ f. subst (λ x. IsLeft x (bytes_in image f)) (same f) (is_image f))
+of_left P folder left (inr cut) all image is_image = next_life P left cut.0 image cut.2 (all cut.0 cut.1) is_image
+
+-- the images of a folder that another one is like
+alike : (a b : Folder) → SameFiles a b → (image : Image) → IsImage a image → IsImage b image
+alike a b same image is_image f = subst (λ x. IsLeft x (bytes_in image f)) (same f) (is_image f)
+
+alike_back : (a b : Folder) → SameFiles a b → (image : Image) → IsImage b image → IsImage a image
+alike_back a b same image is_image f = subst (λ x. IsLeft x (bytes_in image f)) (sym (same f)) (is_image f)
+
+module _ (text : List ℕ) (plan : Plan) (reads : Reads text plan) (folder : Folder) (life : Life) (sound : AreSound (job_of text plan) folder) (is : IsLife folder life) where
+  abbrev then : Moment
+  then = life.new.moment life.at
+
+  -- a call that left only images that were there, and ran this job only as far as it said nothing
+  keeps_images : OnlyOldImages (now life.old) then → (RunsPlan text plan life → life.told ≡ []) → LifeKeeps text plan folder life
+  keeps_images old_images silent = record {
+    sound = of_left (IsSound (job_of text plan)) then.folder life.left is.leaves (λ image is_image. sound image (was_there image is_image));
+    has_old = λ count reaches. of_left (λ r. count ≤ count_in r) then.folder life.left is.leaves (λ image is_image. reaches image (was_there image is_image));
+    still_stored = λ stored. of_left (λ r. IsTrue (is_stored r)) then.folder life.left is.leaves (λ image is_image. stored image (was_there image is_image));
+    has_said = λ runs image is_image.
+        let none : said_count (count_in (present folder)) plan.lines [] ≡ 0 = refl in
+        let nothing : said_count (count_in (present folder)) plan.lines life.told ≡ 0 = ap (λ t. said_count (count_in (present folder)) plan.lines t) (silent runs) ∙ none in
+        omega (arith, nothing);
+    has_job = λ runs some.
+        let none : whole_lines [] ≡ 0 = refl in
+        let nothing : whole_lines life.told ≡ 0 = ap whole_lines (silent runs) ∙ none in
+        absurd (omega (arith, some, nothing));
+  }
+    where
+      was_there : (image : Image) → IsImage then.folder image → IsImage folder image
+      was_there image is_image = alike (now life.old).folder folder is.found image (old_images image is_image)
+
+  -- a line was said and no file touched
+  keeps_saying : (line : List ℕ) → SaysOnly line life.old life.new → ¬ (RunsPlan text plan life) → LifeKeeps text plan folder life
+  keeps_saying line says none = keeps_images
+      (λ image is_image. subst (λ (f : Folder). IsImage f image) (says.moments.each life.at is.since is.until).folder_is is_image)
+      (λ runs. absurd (none runs))
+
+  -- nothing was said and no file touched
+  keeps_silent : OnlyFetched life.old life.new → LifeKeeps text plan folder life
+  keeps_silent looked =
+      let same : then ≡ now life.old = looked.moments.each life.at is.since is.until in
+      keeps_images (λ image is_image. subst (λ (m : Moment). IsImage m.folder image) same is_image) (λ runs.
+      append_cancel_left (said life.old) life.told [] (sym is.said_is ∙ ap (λ (m : Moment). m.said) same ∙ sym (append-nil (said life.old))))
+
+  found_sound : AreSound (job_of text plan) (now life.old).folder
+  found_sound image is_image = sound image (alike (now life.old).folder folder is.found image is_image)
+
+  -- this job was run
+  keeps_run : (path : List ℕ) → RunsIn path (job_of text plan) plan.lines life.status life.old life.new → LifeKeeps text plan folder life
+  keeps_run path run = record {
+    sound = of_left (IsSound (job_of text plan)) then.folder life.left is.leaves (λ image is_image. (safe image is_image).sound);
+    has_old = λ count reaches. of_left (λ r. count ≤ count_in r) then.folder life.left is.leaves (λ image is_image.
+        (safe image is_image).has_old count (λ first is_first. reaches first (alike (now life.old).folder folder is.found first is_first)));
+    still_stored = λ stored. of_left (λ r. IsTrue (is_stored r)) then.folder life.left is.leaves (λ image is_image.
+        (moment.running.keeps 0 [] refl (λ first is_first. record {
+          stored = stored first (alike (now life.old).folder folder is.found first is_first);
+          counts = omega arith;
+          begins = refl;
+        }) image is_image).stored);
+    has_said = λ runs. of_left (λ r. said_count (count_in (present folder)) plan.lines life.told ≤ count_in r) then.folder life.left is.leaves (λ image is_image.
+        subst (λ r. said_count (count_in r) plan.lines life.told ≤ count_in (bytes_in image)) same_reads
+        (subst (λ t. said_count (count_in (present (now life.old).folder)) plan.lines t ≤ count_in (bytes_in image)) told_is (safe image is_image).has_said));
+    has_job = λ runs some. of_left (λ r. IsTrue (is_stored r)) then.folder life.left is.leaves (λ image is_image.
+        (safe image is_image).stored (subst (λ t. 1 ≤ whole_lines t) (sym told_is) some));
+  }
+    where
+      moment : IsMoment (job_of text plan) plan.lines (now life.old) then
+      moment = run.leaves.moments.each life.at is.since is.until
+
+      safe : (image : Image) → IsImage then.folder image → IsSafe (job_of text plan) plan.lines (now life.old).folder moment.front (bytes_in image)
+      safe = (moment.running.safe_run found_sound).safe
+
+      told_is : moment.front ≡ life.told
+      told_is = append_cancel_left (said life.old) moment.front life.told (
+          ap (λ b. said life.old ++ b) (sym (append-nil moment.front) ∙ ap (λ t. moment.front ++ t) (sym (moment.no_tail found_sound)))
+          ∙ sym moment.said_is ∙ is.said_is)
+
+      same_reads : present (now life.old).folder ≡ present folder
+      same_reads = λ i f. ap (λ file. file.bytes) (is.found f) i
+
+  -- another job was to be run, where this one is stored in every image
+  keeps_other : (other : List ℕ) (p : Plan) (path : List ℕ) → ¬ (other ≡ text) → AreStored folder → ¬ (RunsPlan text plan life)
+      → RunsIn path (job_of other p) p.lines life.status life.old life.new → LifeKeeps text plan folder life
+  keeps_other other p path differ stored none run = keeps_images (refuses.moments.each life.at is.since is.until).1 (λ runs. absurd (none runs))
+    where
+      first : Image
+      first = chosen (λ _ x. x.bytes) (now life.old).folder
+
+      is_first : IsImage (now life.old).folder first
+      is_first = standing_image (now life.old).folder is.files
+
+      standing_reads : (f : FileNo) → bytes_in first f ≡ present (now life.old).folder f
+      standing_reads = standing (now life.old).folder is.files
+
+      stored_here : IsTrue (is_stored (present (now life.old).folder))
+      stored_here = subst (λ a. IsTrue (nat_lt 0 (length a))) (standing_reads job_gate) (stored first (alike (now life.old).folder folder is.found first is_first))
+
+      job_here : present (now life.old).folder job_file ≡ job_bytes text
+      job_here = elim (found_sound first is_first).shown [
+        | inl unstored ↦ absurd (both (bytes_in first) (present (now life.old).folder) (standing_reads job_gate) stored_here unstored.0)
+        | inr shown ↦ sym (standing_reads job_file) ∙ shown.job_is
+      ]
+        where
+          both : (r q : FileNo → List ℕ) → r job_gate ≡ q job_gate → IsTrue (is_stored q) → is_stored r ≡ false → ⊥
+          both r q same x y = let e : is_stored r ≡ is_stored q = ap (λ bytes. nat_lt 0 (length bytes)) same in cc
+
+      refuses : RefusesOther (job_bytes other) life.status (now life.old) life.old life.new
+      refuses = run.leaves.other (record { stored = stored_here; other = λ same. differ (text_of_job other text (sym same ∙ job_here)) })
+
+  -- this text or another one
+  keeps_ran : RunsPlan text plan life ⊎ StaysOut life ⊎ AreStored folder → EndsRan life.words life.status life.old life.new → LifeKeeps text plan folder life
+  keeps_ran which ran = by_text (bytes_eq ran.accepts.text text) refl
+    where
+      same_text : RunsPlan text plan life → ran.accepts.text ≡ text
+      same_text runs = (same_plan life.old life.words ran.plan plan ran.accepts runs.accepts).0 ∙ runs.text_is
+
+      other_text : ¬ (ran.accepts.text ≡ text) → LifeKeeps text plan folder life
+      other_text differ = elim which [
+        | inl runs ↦ absurd (differ (same_text runs))
+        | inr rest ↦ elim rest [
+          | inl out ↦ absurd (out ran)
+          | inr stored ↦ keeps_other ran.accepts.text ran.plan ran.accepts.reading.folder differ stored (λ runs. differ (same_text runs)) ran.run
+        ]
+      ]
+
+      this_text : ran.accepts.text ≡ text → LifeKeeps text plan folder life
+      this_text same =
+          let plans : ran.plan ≡ plan = one_plan text ran.plan plan (subst (λ t. Reads t ran.plan) same ran.accepts.accepted) reads in
+          let by_text : RunsIn ran.accepts.reading.folder (job_of text ran.plan) ran.plan.lines life.status life.old life.new =
+          subst (λ t. RunsIn ran.accepts.reading.folder (job_of t ran.plan) ran.plan.lines life.status life.old life.new) same ran.run in
+          keeps_run ran.accepts.reading.folder (subst (λ (p : Plan). RunsIn ran.accepts.reading.folder (job_of text p) p.lines life.status life.old life.new) plans by_text)
+
+      by_text : (b : Bool) → bytes_eq ran.accepts.text text ≡ b → LifeKeeps text plan folder life
+      by_text true e = this_text ((bytes_eq-Decides ran.accepts.text text).0 e)
+      by_text false e = other_text (λ same. (let equal : bytes_eq ran.accepts.text text ≡ true = (bytes_eq-Decides ran.accepts.text text).1 same in no_both (bytes_eq ran.accepts.text text) equal e))
+        where
+          no_both : (b : Bool) → b ≡ true → b ≡ false → ⊥
+          no_both b x y = cc
+
+  -- one call
+  pub life_keeps : RunsPlan text plan life ⊎ StaysOut life ⊎ AreStored folder → LifeKeeps text plan folder life
+  life_keeps which = elim is.ends [
+    | inl usage ↦ keeps_saying usage_line usage.says.only (λ runs. reads_something life.words runs.accepts.reading usage.unread runs.accepts.words_are)
+    | inr other ↦ elim other [
+      | inl silent ↦ keeps_silent silent.fetched
+      | inr more ↦ elim more [
+        | inl refused ↦ keeps_saying refused_line refused.says.only (λ runs. not_both life.old life.words plan runs.accepts refused.refuses)
+        | inr ran ↦ keeps_ran which ran
+      ]
+    ]
+  ]
+
+-- any list of calls, each on what the one before left
+pub lives_keep : (text : List ℕ) (plan : Plan) (folder : Folder) (lives : List Life) → Reads text plan → AreSound (job_of text plan) folder
+    → AreLives text plan folder lives → LivesKeep text plan folder lives
+lives_keep text plan folder [] reads sound are = tt
+lives_keep text plan folder (life ∷ lives) reads sound are =
+    let keeps : LifeKeeps text plan folder life = life_keeps text plan reads folder life sound are.0 are.1 in
+    (keeps, lives_keep text plan life.left lives reads keeps.sound are.2)
+
+-- a run of an accepted text in a sound folder, without a fault
+pub accepted_runs_end : (words : List (List ℕ)) (plan : Plan) (status : ℕ) (old new : World) (before after : Faults) → (accepts : Accepts old words plan)
+    → AreSound (job_of accepts.text plan) (now old).folder → Ends words status old new → StatusHasCause words status before after → NoneRose words before after
+    → ((status ≡ 0) × (said new ≡ said old ++ run_text (job_of accepts.text plan) plan.lines (present (now old).folder))) ⊎ ((status ≡ 9) × OnlyFetched old new)
+accepted_runs_end words plan status old new before after accepts sound ends causes none =
+    elim ends [
+      | inl usage ↦ absurd (reads_something words accepts.reading usage.unread accepts.words_are)
       | inr other ↦ elim other [
-        | inl silent ↦ keeps_silent (job_of text script) (plan_of script).lines words script text life sound is silent.fetched
+        | inl silent ↦ elim silent.status_is [
+          | inl six ↦ absurd (let fault = causes.text_fault six in none.text_same fault.0 fault.1 fault.2)
+          | inr nine ↦ inr (nine, silent.fetched)
+        ]
         | inr more ↦ elim more [
-          | inl refused ↦ absurd (not_both life.old words script is.accepts refused.refuses)
-          | inr ran ↦ ran_keeps ran
+          | inl refused ↦ absurd (not_both old words plan accepts refused.refuses)
+          | inr ran ↦ inl (by_run ran)
         ]
       ]
     ]
   where
-    ran_keeps : EndsRan words life.status life.old life.new → LifeKeeps (job_of text script) (plan_of script).lines life
-    ran_keeps ran =
-        let texts : ran.accepts.text ≡ text = one_text life.old words ran.accepts.reading is.accepts.reading ran.accepts.text is.accepts.text ran.accepts.words_are is.accepts.words_are
-        ran.accepts.there is.accepts.there ∙ is.text_is in
-        let scripts : ran.script ≡ script = one_script text ran.script script (subst (λ t. IsAccepted t ran.script) texts ran.accepts.accepted)
-        (subst (λ t. IsAccepted t script) is.text_is is.accepts.accepted) in
-        let by_text : RunsIn ran.accepts.reading.folder (job_of text ran.script) (plan_of ran.script).lines life.status life.old life.new =
-        subst (λ t. RunsIn ran.accepts.reading.folder (job_of t ran.script) (plan_of ran.script).lines life.status life.old life.new) texts ran.run in
-        let by_script : RunsIn ran.accepts.reading.folder (job_of text script) (plan_of script).lines life.status life.old life.new =
-        subst (λ s. RunsIn ran.accepts.reading.folder (job_of text s) (plan_of s).lines life.status life.old life.new) scripts by_text in
-        keeps_run (job_of text script) (plan_of script).lines words script text ran.accepts.reading.folder life sound is by_script
-
--- any list of lives, each on what a stop left of the one before: no stop loses a step, and each image is sound
-pub lives_keep : (words : List (List ℕ)) (script : Script) (text : List ℕ) (image : Image) (lives : List Life) → IsSound (job_of text script) (bytes_in image)
-    → AreLives words script text image lives → AllByRecursion (LifeKeeps (job_of text script) (plan_of script).lines) lives
-lives_keep words script text image [] sound are = tt
-lives_keep words script text image (life ∷ lives) sound are =
-    let keeps : LifeKeeps (job_of text script) (plan_of script).lines life =
-    life_keeps words script text life (subst (λ i. IsSound (job_of text script) (bytes_in i)) (sym are.0) sound) are.1 in
-    (keeps, lives_keep words script text life.left lives keeps.sound are.2)
+    by_run : EndsRan words status old new → (status ≡ 0) × (said new ≡ said old ++ run_text (job_of accepts.text plan) plan.lines (present (now old).folder))
+    by_run ran =
+        let same = same_plan old words ran.plan plan ran.accepts accepts in
+        let by_text : RunsIn ran.accepts.reading.folder (job_of accepts.text ran.plan) ran.plan.lines status old new =
+        subst (λ t. RunsIn ran.accepts.reading.folder (job_of t ran.plan) ran.plan.lines status old new) same.0 ran.run in
+        let run : RunsIn ran.accepts.reading.folder (job_of accepts.text plan) plan.lines status old new =
+        subst (λ (p : Plan). RunsIn ran.accepts.reading.folder (job_of accepts.text p) p.lines status old new) same.1 by_text in
+        by_status run run.status_is
+      where
+        by_status : RunsIn ran.accepts.reading.folder (job_of accepts.text plan) plan.lines status old new → EndsRun status
+            → (status ≡ 0) × (said new ≡ said old ++ run_text (job_of accepts.text plan) plan.lines (present (now old).folder))
+        by_status run which = elim which [
+          | inl zero ↦ (zero, run.leaves.whole sound zero)
+          | inr rest ↦ elim rest [
+            | inl five ↦ absurd (run.leaves.goes_on sound (inl five))
+            | inr more ↦ elim more [
+              | inl seven ↦ absurd (none.folder_same (causes.folder_fault seven))
+              | inr last ↦ elim last [
+                | inl eight ↦ absurd (none.say_same (causes.say_fault eight))
+                | inr ten ↦ absurd (run.leaves.goes_on sound (inr ten))
+              ]
+            ]
+          ]
+        ]

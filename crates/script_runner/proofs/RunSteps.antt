@@ -1,40 +1,54 @@
 -- A run of steps: what stays true at every moment.
-use Rattle.std.proofs.Common.{◌≡◌, ◌∙◌, ℕ, ◌+◌, ◌-◌, ◌<◌, ◌≤◌, List, [], ◌++◌, length, drop, get_or, refl, sym, ap, ap₂, subst, inl, inr, arith, append_assoc}
-use Rattle.std.specs.Prelude.{IsTrue, Result, Ok, nat_lt, if◌then◌else◌}
-use Rattle.std.specs.List.{flat_map}
-use Rattle.std.proofs.lemmas.List.{append-nil}
-use Rattle.bool_tables.specs.Plans.{IsWellFormed}
+use Rattle.std.proofs.Common.{◌≡◌, ◌∙◌, ℕ, ◌+◌, ◌-◌, ◌*◌, ◌<◌, ◌≤◌, Bool, true, false, cond, nat_lt, List, [], ◌∷◌, ◌++◌, length, take, drop, get_or, refl, sym, ap, ap₂, subst, inl, inr, arith, append_assoc}
+use Rattle.std.specs.Prelude.{IsTrue, Result, Ok, if◌then◌else◌}
+use Rattle.std.specs.List.{flat_map, list_all}
+use Rattle.std.proofs.lemmas.Bool.{cases_lt}
+use Rattle.std.proofs.lemmas.List.{append-nil, take-take}
+use Rattle.bool_tables.specs.declared.steps.Step.TheVariants as step
+use Rattle.bool_tables.specs.declared.steps.Planned.{Planned}
+use Rattle.bool_tables.specs.Plans.{IsWellFormed, is_live, operands}
 use Rattle.shelf_model.specs.declared.file_no.FileNo.{FileNo}
-use Rattle.shelf_model.specs.Folder.{Folder, Image, bytes_in, IsImage, AreFiles}
+use Rattle.shelf_model.specs.File.{IsKept}
+use Rattle.shelf_model.specs.Folder.{Folder, Image, file_in, bytes_in, IsImage, AreFiles}
 use Rattle.shelf_model.specs.World.{Moment, World, now, said}
 use Rattle.shelf_model.specs.Calls.{SameStation}
 use Rattle.shelf_model.specs.Moments.{Throughout, Quiet, Ran, Stays}
-use Rattle.shelf_model.proofs.Images.{chosen, standing_image}
-use Rattle.shelf_model.proofs.Runs.{joins, weakens, at_end}
+use Rattle.shelf_model.proofs.Files.{kept_left}
+use Rattle.shelf_model.proofs.Images.{chosen, standing_image, all_kept}
+use Rattle.shelf_model.proofs.Runs.{joins, weakens, at_end, ran_end}
 use Rattle.catalogue.specs.declared.layout.Entry.{Entry}
-use Rattle.catalogue.specs.Files.{job_gate, step_gate}
-use Rattle.catalogue.specs.Counts.{present, count_in}
+use Rattle.catalogue.specs.Files.{job_gate, catalogue, step_gate}
+use Rattle.catalogue.specs.Counts.{present, is_stored, count_in, entry_at}
 use Rattle.catalogue.specs.Commits.{IsReady}
-use Rattle.catalogue.specs.Standings.{DuringAttach}
+use Rattle.catalogue.specs.Standings.{IsBeginning, DuringAttach}
 use Rattle.catalogue.proofs.Counted.{ready_counts}
-use Rattle.sound_image.specs.Jobs.{Job}
+use Rattle.sound_image.specs.Jobs.{Job, no_step}
 use Rattle.sound_image.specs.Entries.{IsEntryOfStep}
 use Rattle.sound_image.specs.Holds.{Holds, AreSound}
 use Rattle.sound_image.proofs.HoldsLaws.{holds_sound, holds_count}
 use Rattle.sound_image.proofs.AttachLaws.{standing, sound_while_attached, count_while_attached}
+use Rattle.sound_image.proofs.Live.{live_below}
+use Rattle.step_engine.proofs.PlanLaws.{first_true, operands_live, follows_at}
 use Rattle.script_reader.specs.declared.plan.LineEnd.{LineEnd}
 use Rattle.script_reader.specs.Lines.{AreLines}
 use Rattle.script_reader.specs.Built.{are_built}
 use Rattle.script_runner.specs.declared.finish.Finish.{Finish}
-use Rattle.script_runner.specs.Text.{said_line, done_line, ended_before, run_text}
-use Rattle.script_runner.specs.Said.{whole_lines, said_count, no_line}
-use Rattle.script_runner.specs.Running.{SaysFront, ReachesCount, IsSafe, OthersAre, IsRunning, StaysThere}
-use Rattle.script_runner.specs.StepRuns.{HasSteps, HoldsStep, TakesStep}
-use Rattle.script_runner.proofs.SaidLaws.{said_below}
+use Rattle.script_runner.specs.Text.{said_line, done_line, ended_before, lines_from_step, banner_line, start_line, resume_line, run_text}
+use Rattle.script_runner.specs.Shapes.{AreShown, IsShape, IsShapeFront}
+use Rattle.script_runner.specs.Said.{whole_lines, acknowledged, said_count, no_line}
+use Rattle.script_runner.specs.Running.{ReachesCount, IsSafe, Begins, AllBegin, WaitsNot, OthersAre, IsRunning, HasSaid, StaysThere, AreEmptied, IsEntryDamage}
+use Rattle.script_runner.specs.StepRuns.{CountsAbout, IsTaking, HasEntry, HasSteps, HoldsStep, TakesStep}
+use Rattle.script_runner.proofs.LineOrder.{none_before, ended_rises}
+use Rattle.script_runner.proofs.SaidLaws.{whole_lines-append, start_line_is_one, resume_line_is_one, said_below, acknowledged_least}
+use Rattle.script_runner.proofs.Shown.{same_entries, still_shown, shown_lines, below_later, says_no_shape}
 
 -- how many steps were committed when the run began, as reads show
 abbrev pub done_at : World → ℕ
 done_at old = count_in (present (now old).folder)
+
+-- the banner of a run that begins there
+abbrev pub banner_at : List LineEnd → World → List ℕ
+banner_at lines old = banner_line (present (now old).folder) lines
 
 -- the whole text of a run that begins there
 abbrev pub text_at : Job → List LineEnd → World → List ℕ
@@ -50,9 +64,13 @@ pub record IsPlan (job : Job) (lines : List LineEnd) : Type 0 where
   pub are_lines : AreLines job.steps lines
   pub built : IsTrue (are_built job.steps)
 
+-- what holds at a moment of a run that began there
+abbrev pub IsGoing : Job → List LineEnd → World → Moment → Type 0
+IsGoing job lines old m = HasSaid (IsRunning job lines (now old).folder) (now old) m
+
 -- a run so far
 pub record Ongoing (job : Job) (lines : List LineEnd) (old new : World) : Type 0 where
-  pub moments : Throughout old new (IsRunning job lines (now old))
+  pub moments : Throughout old new (IsGoing job lines old)
   pub stays : StaysThere old new
 
 pub stays_then : (old mid new : World) → StaysThere old mid → StaysThere mid new → StaysThere old new
@@ -66,13 +84,18 @@ stays_then old mid new first second = record {
 pub stays_on_shelf : (old new : World) → SameStation old new → StaysThere old new
 stays_on_shelf old new same = record { texts_are = same.texts_are; home_is = same.home_is; inside_is = same.inside_is; strays_are = same.strays_are }
 
--- a sound run so far: so many steps are held, these bytes were said since, and this remains
-pub record Sounds (job : Job) (lines : List LineEnd) (count place : ℕ) (todo : List ℕ) (old new : World) : Type 0 where
-  pub since : List ℕ
-  pub said_is : said new ≡ said old ++ since
+-- a sound run so far: this was said since, that remains, and so many steps are held
+pub record Sounds (job : Job) (lines : List LineEnd) (count : ℕ) (since todo : List ℕ) (old new : World) : Type 0 where
   pub text_is : text_at job lines old ≡ since ++ todo
   pub holds : Holds job count (now new).folder
-  pub feeds : whole_lines since ≤ 1 + (place - ended_before (done_at old) lines)
+
+-- the catalogue so far: the entries that were there at first stay, as they are sure and as they are read, each step since has its entry,
+-- and what these steps drop is empty
+pub record HasMade (steps : List Planned) (done step : ℕ) (old new : Folder) : Type 0 where
+  pub kept : (front : List ℕ) → length front ≤ 128 * done → IsKept front (file_in old catalogue) → IsKept front (file_in new catalogue)
+  pub reads : take (128 * done) (file_in new catalogue).bytes ≡ take (128 * done) (file_in old catalogue).bytes
+  pub made : (k : ℕ) → done ≤ k → k < step → (e : Entry) × HasEntry steps k e (present new)
+  pub emptied : AreEmptied steps done step new
 
 -- where a run stands between two steps: so many are committed, and these lines remain to be said
 pub record AtStep (job : Job) (lines : List LineEnd) (step : ℕ) (rest : List LineEnd) (old new : World) : Type 0 where
@@ -80,17 +103,20 @@ pub record AtStep (job : Job) (lines : List LineEnd) (step : ℕ) (rest : List L
   pub ready : IsReady step (now new).folder
   pub reached : done_at old ≤ step
   pub upto : step ≤ length job.steps
+  pub spoken : List LineEnd
+  pub parts : lines_from_step (done_at old) lines ≡ spoken ++ rest
   pub place : ℕ
-  pub begun : ended_before (done_at old) lines ≤ place
+  pub place_is : place ≡ ended_before (done_at old) lines + length spoken
   pub within : place ≤ length lines
   pub rest_is : rest ≡ drop place lines
   pub earlier : (i : ℕ) → i < place → (get_or lines i no_line).last < step
-  pub sound : AreSound job (now old).folder → Sounds job lines step place (remains job rest) old new
-
--- what was said since stands for no more steps than are held
-pub few_said : (job : Job) (lines rest : List LineEnd) (step : ℕ) (old new : World) (at : AtStep job lines step rest old new) (sound : AreSound job (now old).folder)
-    → said_count (done_at old) lines (at.sound sound).since ≤ step
-few_said job lines rest step old new at sound = said_below (done_at old) lines (at.sound sound).since at.place step at.begun (inl (at.sound sound).feeds) at.earlier
+  pub waits : ended_before (step - 1) lines ≤ place
+  pub body : List ℕ
+  pub said_is : said new ≡ said old ++ (banner_at lines old ++ body)
+  pub shown : AreShown job.steps (present (now new).folder) spoken body
+  pub below : IsTrue (list_all (λ (l : LineEnd). nat_lt l.shows step) spoken)
+  pub made : HasMade job.steps (done_at old) step (now old).folder (now new).folder
+  pub sound : AreSound job (now old).folder → Sounds job lines step (banner_at lines old ++ body) (remains job rest) old new
 
 -- every image of a folder reaches no more than reads show
 pub reaches_present : (folder : Folder) (count : ℕ) → AreFiles folder → ReachesCount count folder → count ≤ count_in (present folder)
@@ -139,134 +165,327 @@ held_steps job count folder image holds is_image =
 pub others_then : (steps : ℕ) (old mid new : Folder) → OthersAre steps old mid → OthersAre steps mid new → OthersAre steps old new
 others_then steps old mid new first second f apart = second f apart ∙ first f apart
 
--- a sound run before a piece of its text
-pub record SoundPiece (job : Job) (lines : List LineEnd) (count : ℕ) (piece more : List ℕ) (old mid : World) : Type 0 where
-  pub since : List ℕ
-  pub said_is : said mid ≡ said old ++ since
-  pub text_is : text_at job lines old ≡ since ++ (piece ++ more)
-  pub holds : Holds job count (now mid).folder
-  pub few : (front back : List ℕ) → piece ≡ front ++ back → said_count (done_at old) lines (since ++ front) ≤ count
+-- where every image of a folder begins with entries, so does what is read of it, and they are no more than it counts
+begun_few : (folder : Folder) (count : ℕ) (front : List ℕ) → AreFiles folder → AllBegin count front folder → IsTrue (is_stored (present folder)) × (count ≤ count_in (present folder))
+begun_few folder count front files begins =
+    let image : Image = chosen (λ _ x. x.bytes) folder in
+    both (bytes_in image) (present folder) (standing folder files job_gate) (standing folder files step_gate) (begins image (standing_image folder files))
+  where
+    both : (r q : FileNo → List ℕ) → r job_gate ≡ q job_gate → r step_gate ≡ q step_gate → Begins count front r → IsTrue (is_stored q) × (count ≤ count_in q)
+    both r q jobs steps has =
+        let stored : IsTrue (is_stored q) = subst (λ a. IsTrue (nat_lt 0 (length a))) jobs has.stored in
+        (stored, subst (λ b. count ≤ cond b (length (q step_gate)) 0) (sym stored) (subst (λ a. count ≤ length a) steps has.counts))
 
--- a run before a piece of its text, with so many steps committed
-pub record BeforePiece (job : Job) (lines : List LineEnd) (count : ℕ) (piece more : List ℕ) (old mid : World) : Type 0 where
-  pub run : Ongoing job lines old mid
-  pub reached : done_at old ≤ count
-  pub sound : AreSound job (now old).folder → SoundPiece job lines count piece more old mid
+-- the same of each image where its catalogue keeps them, a job is stored, and no step is lost
+still_begins : (old new : Folder) (count : ℕ) (front : List ℕ) → AreFiles old → AllBegin count front old → IsKept front (file_in new catalogue)
+    → ((image : Image) → IsImage new image → IsTrue (is_stored (bytes_in image)) × (count_in (present old) ≤ count_in (bytes_in image))) → AllBegin count front new
+still_begins old new count front files begins kept has image is_image = record {
+  stored = (has image is_image).0;
+  counts = gated (bytes_in image) (has image is_image).0 (has image is_image).1;
+  begins = kept_left front (file_in new catalogue) (bytes_in image catalogue) kept (is_image catalogue);
+}
+  where
+    low : count ≤ count_in (present old)
+    low = (begun_few old count front files begins).1
 
--- once a piece is said whole
-pub said_more : (job : Job) (lines : List LineEnd) (count : ℕ) (piece more : List ℕ) (old mid new : World) (so_far : SoundPiece job lines count piece more old mid)
-    → said new ≡ said mid ++ piece → (said new ≡ said old ++ (so_far.since ++ piece)) × (text_at job lines old ≡ (so_far.since ++ piece) ++ more)
-said_more job lines count piece more old mid new so_far whole = (
-  whole ∙ ap (λ bytes. bytes ++ piece) so_far.said_is ∙ append_assoc (said old) so_far.since piece,
-  so_far.text_is ∙ sym (append_assoc so_far.since piece more),
-)
+    gated : (r : FileNo → List ℕ) → IsTrue (is_stored r) → count_in (present old) ≤ count_in r → count ≤ length (r step_gate)
+    gated r stored more = let gate : count_in r ≡ length (r step_gate) = ap (λ b. cond b (length (r step_gate)) 0) stored in omega (arith, low, more, gate)
+
+-- the entries that all images had at first are sure
+front_kept : (old : Folder) (count : ℕ) (front : List ℕ) → AreFiles old → AllBegin count front old → IsKept front (file_in old catalogue)
+front_kept old count front files begins = all_kept old catalogue front files (λ image is_image. (begins image is_image).begins)
+
+-- the lines of all committed steps but the last were said
+pub none_waits : (lines : List LineEnd) (old : Folder) (place most : ℕ) (bytes : List ℕ) (image : Image) → place ≤ length lines → ended_before most lines ≤ place
+    → count_in (bytes_in image) - 1 ≤ most → 1 + (place - ended_before (count_in (present old)) lines) ≤ whole_lines bytes → WaitsNot lines old bytes image
+none_waits lines old place most bytes image within said_them few feeds =
+    let a : ended_before (count_in (bytes_in image) - 1) lines ≤ ended_before most lines = ended_rises (count_in (bytes_in image) - 1) most lines few in
+    let b : place ≤ acknowledged (count_in (present old)) lines bytes = acknowledged_least (count_in (present old)) lines bytes place within feeds in
+    inr (omega (arith, a, b, said_them))
+
+pub banner_is_one : (lines : List LineEnd) (old : World) → whole_lines (banner_at lines old) ≡ 1
+banner_is_one lines old = by_stored (is_stored (present (now old).folder))
+  where
+    by_stored : (b : Bool) → whole_lines (if b then resume_line (ended_before (done_at old) lines) (length lines) else start_line (length lines)) ≡ 1
+    by_stored true = resume_line_is_one (ended_before (done_at old) lines) (length lines)
+    by_stored false = start_line_is_one (length lines)
+
+-- the step that a step drops comes before it
+pub drop_below : (job : Job) (k gone : ℕ) → IsWellFormed job.n job.text job.steps → k < length job.steps → (get_or job.steps k no_step).step ≡ step.Drop gone → gone < k
+drop_below job k gone plan within drops_it =
+    let live : IsTrue (list_all (is_live (take k job.steps)) (gone ∷ [])) =
+    subst (λ s. IsTrue (list_all (is_live (take k job.steps)) (operands s))) drops_it
+    (operands_live job.n job.text (take k job.steps) (get_or job.steps k no_step) (follows_at job.n job.text job.steps k no_step within plan)) in
+    live_below job.steps k gone (first_true (is_live (take k job.steps) gone) true live)
+
+-- what a part of a text that is said next needs to be
+pub record PartSaid (job : Job) (lines : List LineEnd) (count : ℕ) (since part : List ℕ) (old mid : World) : Type 0 where
+  pub shape : IsShapeFront job.steps lines (present (now old).folder) (present (now mid).folder) (since ++ part)
+  pub waits : (image : Image) → IsImage (now mid).folder image → WaitsNot lines (now old).folder (since ++ part) image
+  pub sound : AreSound job (now old).folder → (rest : List ℕ) × (text_at job lines old ≡ (since ++ part) ++ rest) × (said_count (done_at old) lines (since ++ part) ≤ count)
+
+-- such a part was said
+abbrev pub SaysPart : Job → List LineEnd → ℕ → List ℕ → World → World → Moment → Type 0
+SaysPart job lines count since old mid m = (part : List ℕ) × (m.said ≡ said mid ++ part) × PartSaid job lines count since part old mid
 
 module _ (job : Job) (lines : List LineEnd) (plan : IsPlan job lines) (old : World) (files : AreFiles (now old).folder) where
-  others_so_far : (mid : World) → Ongoing job lines old mid → OthersAre (length job.steps) (now old).folder (now mid).folder
-  others_so_far mid run = (at_end old mid (IsRunning job lines (now old)) run.moments).others
+  abbrev so_far_at : (mid : World) (run : Ongoing job lines old mid) → IsGoing job lines old (now mid)
+  so_far_at mid run = at_end old mid (IsGoing job lines old) run.moments
+
+  -- each image of an attach is one of the start, or counts nothing
+  pub attach_waits : (m : Moment) → DuringAttach job.bytes (now old) m → (image : Image) → IsImage m.folder image → (bytes : List ℕ) → WaitsNot lines (now old).folder bytes image
+  attach_waits m during image is_image bytes = elim (during.images image is_image) [
+    | inl first ↦ inl first
+    | inr new ↦ inr (no_line_yet (count_in (bytes_in image)) (counts_none new.1))
+  ]
+    where
+      counts_none : IsBeginning job.bytes (length (present (now old).folder step_gate)) (bytes_in image) → count_in (bytes_in image) ≡ 0
+      counts_none (inl unstored) = ap (λ b. cond b (length (bytes_in image step_gate)) 0) unstored.unstored
+      counts_none (inr stored) = stored.counts.count
+
+      no_line_yet : (count : ℕ) → count ≡ 0 → ended_before (count - 1) lines ≤ acknowledged (done_at old) lines bytes
+      no_line_yet count none =
+          let first : count - 1 ≡ 0 = omega (arith, none) in
+          subst (λ k. ended_before k lines ≤ acknowledged (done_at old) lines bytes) (sym first)
+          (let zero_lines : ended_before 0 lines ≡ 0 = (none_before 0 lines plan.are_lines.in_order).0 in omega (arith, zero_lines))
 
   -- while the job is attached nothing is said
   pub attaching : (new : World) → Ran (DuringAttach job.bytes (now old)) old new → Ongoing job lines old new
   attaching new run = record {
-    moments = weakens old new (Quiet (said old) (DuringAttach job.bytes (now old))) (IsRunning job lines (now old)) (λ m quiet. record {
-      others = λ f apart. quiet.holds.others f
-          (λ e. apart (inr (ap (λ (q : FileNo). q.step) e))) (λ e. apart (inr (ap (λ (q : FileNo). q.step) e))) (λ e. apart (inr (ap (λ (q : FileNo). q.step) e)));
-      safe_run = λ sound. record {
-        says = record { front = []; rest = text_at job lines old; text_is = refl; said_is = quiet.said_is ∙ sym (append-nil (said old)) };
-        safe = λ image is_image. record {
-          sound = sound_while_attached job (now old) m files plan.well_formed.few_steps sound quiet.holds image is_image;
-          has_said = omega arith;
-          has_old = λ least reaches. count_while_attached job.bytes least (now old) m files reaches quiet.holds image is_image;
-          stored = λ some. absurd (omega (arith, some));
+    moments = weakens old new (Quiet (said old) (DuringAttach job.bytes (now old))) (IsGoing job lines old) (λ m quiet. record {
+      front = [];
+      said_is = quiet.said_is ∙ sym (append-nil (said old));
+      holds = record {
+        shape = says_no_shape job.steps lines (present (now old).folder) (present m.folder);
+        others = λ f apart. quiet.holds.others f
+            (λ e. apart (inr (ap (λ (q : FileNo). q.step) e))) (λ e. apart (inr (ap (λ (q : FileNo). q.step) e))) (λ e. apart (inr (ap (λ (q : FileNo). q.step) e)));
+        keeps = λ count front long begins image is_image. elim (quiet.holds.images image is_image) [
+          | inl first ↦ begins image first
+          | inr new ↦ absurd (stored_and_not (is_stored (present (now old).folder)) (begun_few (now old).folder count front files begins).0 new.0)
+        ];
+        waits = λ image is_image. attach_waits m quiet.holds image is_image [];
+        safe_run = λ sound. record {
+          rest = text_at job lines old;
+          text_is = refl;
+          safe = λ image is_image. record {
+            sound = sound_while_attached job (now old) m files plan.well_formed.few_steps sound quiet.holds image is_image;
+            has_said = omega arith;
+            has_old = λ least reaches. count_while_attached job.bytes least (now old) m files reaches quiet.holds image is_image;
+            stored = λ some. absurd (omega (arith, some));
+          };
         };
       };
     }) run.moments;
     stays = stays_on_shelf old new run.station;
   }
-
-  -- a step is taken
-  pub taking : (step : ℕ) (rest : List LineEnd) (result : Result Entry Finish) (mid new : World) → AtStep job lines step rest old mid
-      → TakesStep job.n job.text job.steps step result mid new → Ongoing job lines old new
-  taking step rest result mid new at takes = record {
-    moments = joins old mid new (IsRunning job lines (now old)) at.run.moments (both_hold mid new (λ m quiet. λ held. record {
-      others = others_then (length job.steps) (now old).folder (now mid).folder m.folder (others_so_far mid at.run) quiet.holds;
-      safe_run = λ sound. record {
-        says = record {
-          front = (at.sound sound).since;
-          rest = remains job rest;
-          text_is = (at.sound sound).text_is;
-          said_is = quiet.said_is ∙ (at.sound sound).said_is;
-        };
-        safe = λ image is_image. safe_with job lines step (now old).folder (at.sound sound).since (bytes_in image) files (held sound image is_image)
-            (few_said job lines rest step old mid at sound) at.reached;
-      };
-    }) takes.others.moments (λ sound. (takes.holds job (record { n_is = refl; text_is = refl; steps_are = refl }) (at.sound sound).holds).images));
-    stays = stays_then old mid new at.run.stays (stays_on_shelf mid new takes.others.station);
-  }
     where
-      -- what holds throughout, and what does where the run is sound
-      both_hold : (mid new : World) {P Q : Moment → Type 0} {X : Type 0} → ((m : Moment) → P m → (X → (image : Image) → IsImage m.folder image → HasSteps job step (bytes_in image)) → Q m)
-          → Throughout mid new P → (X → Throughout mid new (λ m. (image : Image) → IsImage m.folder image → HasSteps job step (bytes_in image))) → Throughout mid new Q
-      both_hold mid new f first second = record {
-        later = first.later;
-        past = first.past;
-        each = λ k since until. f (new.moment k) (first.each k since until) (λ x. (second x).each k since until);
-      }
-
-  pub has_taken : (step : ℕ) (rest : List LineEnd) (e : Entry) (mid new : World) → step < length job.steps → AtStep job lines step rest old mid
-      → TakesStep job.n job.text job.steps step (Ok e) mid new
-      → AtStep job lines (step + 1) rest old new × (AreSound job (now old).folder → IsEntryOfStep job step e)
-  has_taken step rest e mid new within at takes = (
-    record {
-      run = taking step rest (Ok e) mid new at takes;
-      ready = takes.ready;
-      reached = let reached = at.reached in omega (arith, reached);
-      upto = omega (arith, within);
-      place = at.place;
-      begun = at.begun;
-      within = at.within;
-      rest_is = at.rest_is;
-      earlier = λ i inside. let before : (get_or lines i no_line).last < step = at.earlier i inside in omega (arith, before);
-      sound = λ sound. record {
-        since = (at.sound sound).since;
-        said_is = takes.others.station.said_is ∙ (at.sound sound).said_is;
-        text_is = (at.sound sound).text_is;
-        holds = (held sound).ok.0;
-        feeds = (at.sound sound).feeds;
-      };
-    },
-    λ sound. (held sound).ok.1,
-  )
-    where
-      held : AreSound job (now old).folder → HoldsStep job step (Ok e) mid new
-      held sound = takes.holds job (record { n_is = refl; text_is = refl; steps_are = refl }) (at.sound sound).holds
+      stored_and_not : (b : Bool) → IsTrue b → b ≡ false → ⊥
+      stored_and_not b x y = cc
 
   -- a piece of what remains is said, or a front part of it
-  pub saying : (count : ℕ) (piece more : List ℕ) (mid new : World) → BeforePiece job lines count piece more old mid
-      → Throughout mid new (Stays (now mid)) → StaysThere mid new → (AreSound job (now old).folder → Throughout mid new (λ m. SaysFront (said mid) piece m.said))
-      → Ongoing job lines old new
-  saying count piece more mid new before same stays fronts = record {
-    moments = joins old mid new (IsRunning job lines (now old)) before.run.moments (record {
+  pub saying : (count : ℕ) (since : List ℕ) (mid new : World) → Ongoing job lines old mid → done_at old ≤ count → said mid ≡ said old ++ since
+      → (AreSound job (now old).folder → Holds job count (now mid).folder) → Throughout mid new (Stays (now mid)) → StaysThere mid new
+      → Throughout mid new (SaysPart job lines count since old mid) → Ongoing job lines old new
+  saying count since mid new run reached said_mid holds same stays says = record {
+    moments = joins old mid new (IsGoing job lines old) run.moments (record {
       later = same.later;
       past = same.past;
-      each = λ k since until. record {
-        others = subst (OthersAre (length job.steps) (now old).folder) (sym (same.each k since until)) (others_so_far mid before.run);
-        safe_run = λ sound.
-            let so_far = before.sound sound in
-            let now_says : SaysFront (said mid) piece (new.moment k).said = (fronts sound).each k since until in
-            record {
-              says = record {
-                front = so_far.since ++ now_says.front;
-                rest = now_says.rest ++ more;
-                text_is = so_far.text_is ∙ ap (λ p. so_far.since ++ (p ++ more)) now_says.text_is ∙ ap (λ p. so_far.since ++ p) (append_assoc now_says.front now_says.rest more)
-                    ∙ sym (append_assoc so_far.since now_says.front (now_says.rest ++ more));
-                said_is = now_says.said_is ∙ ap (λ bytes. bytes ++ now_says.front) so_far.said_is ∙ append_assoc (said old) so_far.since now_says.front;
-              };
-              safe = λ image is_image. safe_with job lines count (now old).folder (so_far.since ++ now_says.front) (bytes_in image) files
-                  (held_steps job count (new.moment k).folder image (subst (Holds job count) (sym (same.each k since until)) so_far.holds) is_image)
-                  (so_far.few now_says.front now_says.rest now_says.text_is) before.reached;
-            };
-      };
+      each = λ k from until.
+          let part = says.each k from until in
+          record {
+            front = since ++ part.0;
+            said_is = part.1 ∙ ap (λ bytes. bytes ++ part.0) said_mid ∙ append_assoc (said old) since part.0;
+            holds = subst (IsRunning job lines (now old).folder (since ++ part.0)) (sym (same.each k from until)) (running part.0 part.2);
+          };
     });
-    stays = stays_then old mid new before.run.stays stays;
+    stays = stays_then old mid new run.stays stays;
   }
+    where
+      running : (part : List ℕ) → PartSaid job lines count since part old mid → IsRunning job lines (now old).folder (since ++ part) (now mid).folder
+      running part is = record {
+        shape = is.shape;
+        others = (so_far_at mid run).holds.others;
+        keeps = (so_far_at mid run).holds.keeps;
+        waits = is.waits;
+        safe_run = λ sound. record {
+          rest = (is.sound sound).0;
+          text_is = (is.sound sound).1;
+          safe = λ image is_image. safe_with job lines count (now old).folder (since ++ part) (bytes_in image) files
+              (held_steps job count (now mid).folder image (holds sound) is_image) (is.sound sound).2 reached;
+        };
+      }
+
+  -- where a run stands between two steps
+  module _ (step : ℕ) (rest : List LineEnd) (mid : World) (at : AtStep job lines step rest old mid) where
+    abbrev pub since : List ℕ
+    since = banner_at lines old ++ at.body
+
+    pub feeds : whole_lines since ≡ 1 + (at.place - ended_before (done_at old) lines)
+    feeds =
+        let both : whole_lines since ≡ whole_lines (banner_at lines old) + whole_lines at.body = whole_lines-append (banner_at lines old) at.body in
+        let one : whole_lines (banner_at lines old) ≡ 1 = banner_is_one lines old in
+        let body_lines : whole_lines at.body ≡ length at.spoken = shown_lines job.steps (present (now mid).folder) at.spoken at.body at.shown in
+        let place = at.place_is in
+        omega (arith, both, one, body_lines, place)
+
+    -- what was said since stands for no more steps than are held
+    pub few_said : said_count (done_at old) lines since ≤ step
+    few_said =
+        let place = at.place_is in
+        said_below (done_at old) lines since at.place step (omega (arith, place)) (inl (omega (arith, feeds))) at.earlier
+
+    -- what was said are whole lines, also where the entries of the steps so far stay
+    pub shape_of : (here : FileNo → List ℕ) → ((k : ℕ) → k < step → entry_at k here ≡ entry_at k (present (now mid).folder))
+        → IsShape job.steps lines (present (now old).folder) here since
+    shape_of here same = record {
+      spoken = at.spoken;
+      later = rest;
+      parts = at.parts;
+      body = at.body;
+      shown = still_shown job.steps step (present (now mid).folder) here at.spoken at.body same at.below at.shown;
+      end = [];
+      ends = inl refl;
+      text_is = ap (λ b. banner_at lines old ++ b) (sym (append-nil at.body));
+    }
+
+    -- a damaged entry that is met was damaged at first
+    pub damaged_at_first : (f : FileNo) (place : ℕ) → count_in (present (now mid).folder) ≡ step → IsEntryDamage job.steps f place (present (now mid).folder)
+        → IsEntryDamage job.steps f place (present (now old).folder)
+    damaged_at_first f place count damage = elim (cases_lt damage.step (done_at old)) [
+      | inl early ↦ record {
+        step = damage.step;
+        counted = early;
+        file_is = damage.file_is;
+        at_is = damage.at_is;
+        none_there = λ e is kind. damage.none_there e (record {
+          entry = is.entry;
+          number = is.number;
+          bytes = same_entries (done_at old) (file_in (now old).folder catalogue).bytes (file_in (now mid).folder catalogue).bytes at.made.reads damage.step early ∙ is.bytes;
+        }) kind;
+      }
+      | inr late ↦
+          let counted = damage.counted in
+          let made = at.made.made damage.step late (omega (arith, counted, count)) in
+          absurd (damage.none_there made.0 made.1.stands made.1.kind_is)
+    ]
+
+    -- a step is taken
+    module _ (new : World) (result : Result Entry Finish) (all_said : ended_before step lines ≤ at.place) (takes : TakesStep job.n job.text job.steps step result mid new) where
+      abbrev Takes : Moment → Type 0
+      Takes m = IsTaking (length job.steps) step (now mid).folder m.folder
+
+      pub same_at : (m : Moment) → Takes m → (k : ℕ) → k < step → entry_at k (present m.folder) ≡ entry_at k (present (now mid).folder)
+      same_at m is k below = same_entries step (file_in (now mid).folder catalogue).bytes (file_in m.folder catalogue).bytes is.reads k below
+
+      held : AreSound job (now old).folder → HoldsStep job step result mid new
+      held sound = takes.holds job (record { n_is = refl; text_is = refl; steps_are = refl }) (at.sound sound).holds
+
+      pub taking : Ongoing job lines old new
+      taking = record {
+        moments = joins old mid new (IsGoing job lines old) at.run.moments (record {
+          later = takes.run.moments.later;
+          past = takes.run.moments.past;
+          each = λ k from until.
+              let m : Moment = new.moment k in
+              let quiet = takes.run.moments.each k from until in
+              let is : Takes m = quiet.holds in
+              record {
+                front = since;
+                said_is = quiet.said_is ∙ at.said_is;
+                holds = record {
+                  shape = record {
+                    rest = [];
+                    shape = subst (IsShape job.steps lines (present (now old).folder) (present m.folder)) (sym (append-nil since)) (shape_of (present m.folder) (same_at m is));
+                  };
+                  others = others_then (length job.steps) (now old).folder (now mid).folder m.folder (so_far_at mid at.run).holds.others is.others;
+                  keeps = λ count front long begins. still_begins (now old).folder m.folder count front files begins
+                      (is.kept front (few_bytes count front long begins) (at.made.kept front (first_bytes count front long begins) (front_kept (now old).folder count front files begins)))
+                      (λ image is_image. ((is.counts image is_image).stored, no_fewer image (is.counts image is_image)));
+                  waits = λ image is_image. none_waits lines (now old).folder at.place step since image at.within all_said
+                      (less image (is.counts image is_image)) (omega (arith, feeds));
+                  safe_run = λ sound. record {
+                    rest = remains job rest;
+                    text_is = (at.sound sound).text_is;
+                    safe = λ image is_image. safe_with job lines step (now old).folder since (bytes_in image) files
+                        ((held sound).images.each k from until image is_image) few_said at.reached;
+                  };
+                };
+              };
+        });
+        stays = stays_then old mid new at.run.stays (stays_on_shelf mid new takes.run.station);
+      }
+        where
+          first_bytes : (count : ℕ) (front : List ℕ) → length front ≡ 128 * count → AllBegin count front (now old).folder → length front ≤ 128 * done_at old
+          first_bytes count front long begins = let low = (begun_few (now old).folder count front files begins).1 in omega (arith, long, low)
+
+          few_bytes : (count : ℕ) (front : List ℕ) → length front ≡ 128 * count → AllBegin count front (now old).folder → length front ≤ 128 * step
+          few_bytes count front long begins = let low = (begun_few (now old).folder count front files begins).1 in let reached = at.reached in omega (arith, long, low, reached)
+
+          no_fewer : (image : Image) → CountsAbout step (bytes_in image) → done_at old ≤ count_in (bytes_in image)
+          no_fewer image about = let low = about.no_fewer in let reached = at.reached in omega (arith, low, reached)
+
+          less : (image : Image) → CountsAbout step (bytes_in image) → count_in (bytes_in image) - 1 ≤ step
+          less image about = let high = about.no_more in omega (arith, high)
+
+    pub has_taken : (e : Entry) (new : World) → step < length job.steps → ended_before step lines ≤ at.place → TakesStep job.n job.text job.steps step (Ok e) mid new
+        → AtStep job lines (step + 1) rest old new × (AreSound job (now old).folder → IsEntryOfStep job step e)
+    has_taken e new within all_said takes = (
+      record {
+        run = taking new (Ok e) all_said takes;
+        ready = takes.ready;
+        reached = let reached = at.reached in omega (arith, reached);
+        upto = omega (arith, within);
+        spoken = at.spoken;
+        parts = at.parts;
+        place = at.place;
+        place_is = at.place_is;
+        within = at.within;
+        rest_is = at.rest_is;
+        earlier = λ i inside. let before : (get_or lines i no_line).last < step = at.earlier i inside in omega (arith, before);
+        waits = let back : step + 1 - 1 ≡ step = omega arith in subst (λ k. ended_before k lines ≤ at.place) (sym back) all_said;
+        body = at.body;
+        said_is = takes.run.station.said_is ∙ at.said_is;
+        shown = still_shown job.steps step (present (now mid).folder) (present (now new).folder) at.spoken at.body (same_at new (Ok e) all_said takes (now new) last) at.below at.shown;
+        below = below_later step at.spoken at.below;
+        made = record {
+          kept = λ front short kept. last.kept front (let reached = at.reached in omega (arith, short, reached)) (at.made.kept front short kept);
+          reads = shorter (done_at old) (file_in (now mid).folder catalogue).bytes (file_in (now new).folder catalogue).bytes at.reached last.reads ∙ at.made.reads;
+          made = λ k from until. elim (cases_lt k step) [
+            | inl below ↦
+                let found = at.made.made k from below in (
+                  found.0,
+                  record {
+                    stands = record {
+                      entry = found.1.stands.entry;
+                      number = found.1.stands.number;
+                      bytes = same_at new (Ok e) all_said takes (now new) last k below ∙ found.1.stands.bytes;
+                    };
+                    kind_is = found.1.kind_is;
+                  },
+                )
+            | inr beyond ↦
+                let here : k ≡ step = omega (arith, until, beyond) in
+                (e, subst (λ j. HasEntry job.steps j e (present (now new).folder)) (sym here) takes.made)
+          ];
+          emptied = λ k from until gone drops_it. elim (cases_lt k step) [
+            | inl below ↦
+                let gone_below : gone < k = drop_below job k gone plan.well_formed (omega (arith, below, within)) drops_it in
+                takes.still_empty gone (omega (arith, gone_below, below)) (at.made.emptied k from below gone drops_it)
+            | inr beyond ↦ takes.emptied k (omega (arith, beyond)) until gone drops_it
+          ];
+        };
+        sound = λ sound. record { text_is = (at.sound sound).text_is; holds = (holds_it sound).ok.0 };
+      },
+      λ sound. (holds_it sound).ok.1,
+    )
+      where
+        last : IsTaking (length job.steps) step (now mid).folder (now new).folder
+        last = ran_end mid new (λ m. IsTaking (length job.steps) step (now mid).folder m.folder) takes.run
+
+        holds_it : AreSound job (now old).folder → HoldsStep job step (Ok e) mid new
+        holds_it sound = takes.holds job (record { n_is = refl; text_is = refl; steps_are = refl }) (at.sound sound).holds
+
+        shorter : (done : ℕ) (xs ys : List ℕ) → done ≤ step → take (128 * step) ys ≡ take (128 * step) xs → take (128 * done) ys ≡ take (128 * done) xs
+        shorter done xs ys low same =
+            let room : 128 * done ≤ 128 * step = omega (arith, low) in
+            sym (take-take (128 * done) (128 * step) ys room) ∙ ap (take (128 * done)) same ∙ take-take (128 * done) (128 * step) xs room

@@ -8,9 +8,11 @@ use Rattle.script_runner.proofs.LineOrder.{to_lt}
 use Rattle.script_reader.specs.declared.plan.LineEnd.{LineEnd}
 use Rattle.bool_tables.specs.declared.steps.Step.{Step}
 use Rattle.bool_tables.specs.declared.steps.Step.TheVariants.{Const, Var, Pair, Ite, Quantify, Restrict, Drop, Same, Leq, Eval, Size}
-use Rattle.sound_image.specs.Jobs.{Job, step_at}
+use Rattle.bool_tables.specs.declared.steps.Planned.{Planned}
+use Rattle.catalogue.specs.declared.layout.Entry.{Entry}
+use Rattle.sound_image.specs.Jobs.{Job, no_step, step_at}
 use Rattle.sound_image.specs.Entries.{answer_of, count_of}
-use Rattle.script_runner.specs.Text.{line_of, start_line, resume_line, nodes_line, dropped_line, truth_line, value_line, answer_line, said_line, ended_before}
+use Rattle.script_runner.specs.Text.{line_of, start_line, resume_line, nodes_line, dropped_line, truth_line, value_line, answer_line, said_line, entry_line, ended_before}
 use Rattle.script_runner.specs.Said.{whole_lines, acknowledged, no_line, said_count}
 
 -- the whole lines of two parts
@@ -101,6 +103,9 @@ answer_line_is_one line (Leq left right) answer count = truth_line_is_one line a
 answer_line_is_one line (Eval operand at) answer count = value_line_is_one line answer
 answer_line_is_one line (Size operand) answer count = nodes_line_is_one line count
 
+pub entry_line_is_one : (steps : List Planned) (line : LineEnd) (e : Entry) → whole_lines (entry_line steps line e) ≡ 1
+entry_line_is_one steps line e = answer_line_is_one line.line (get_or steps line.shows no_step).step e.answer e.count
+
 -- so many lines are so many
 pub lines_are : (job : Job) (lines : List LineEnd) → whole_lines (flat_map (said_line job) lines) ≡ length lines
 lines_are job [] = refl
@@ -138,3 +143,12 @@ said_below done lines bytes place bound begun few earlier = counted (acknowledge
 
             one_less : (m : ℕ) → suc m - 1 ≡ m
             one_less m = omega arith
+
+-- with the banner and so many whole lines behind it, so many lines are acknowledged
+pub acknowledged_least : (done : ℕ) (lines : List LineEnd) (bytes : List ℕ) (place : ℕ) → place ≤ length lines → 1 + (place - ended_before done lines) ≤ whole_lines bytes
+    → place ≤ acknowledged done lines bytes
+acknowledged_least done lines bytes place within feeds =
+    subst (λ b. place ≤ cond b 0 (ended_before done lines + min (whole_lines bytes - 1) (length lines - ended_before done lines))) (sym (some (whole_lines bytes) feeds)) (omega arith)
+  where
+    some : (n : ℕ) → 1 + (place - ended_before done lines) ≤ n → (n == 0) ≡ false
+    some n h = let above : 0 < n = omega (arith, h) in search (arith, above)

@@ -1,5 +1,5 @@
 -- What the answer of an attach says of the files.
-use Rattle.std.proofs.Common.{◌≡◌, ℕ, ◌+◌, ◌*◌, ◌/◌, ◌<◌, ◌≤◌, Bool, true, false, not, cond, List, length, refl, sym, ap, subst, inl, inr, arith}
+use Rattle.std.proofs.Common.{◌≡◌, ℕ, ◌*◌, ◌/◌, ◌<◌, ◌≤◌, Bool, true, false, not, cond, List, length, refl, sym, ap, subst, inl, inr, arith}
 use Rattle.std.specs.Prelude.{IsTrue, Result, Ok, Err, nat_eq, nat_lt, bytes_eq}
 use Rattle.std.specs.List.{common_prefix_len}
 use Rattle.std.proofs.lemmas.Slice.Eq.{bytes_eq-Decides}
@@ -42,16 +42,10 @@ counted_says job steps r stored same =
 
     by_size : length (r step_gate) ≤ steps → (b : Bool) → nat_lt (length (r catalogue)) (128 * length (r step_gate)) ≡ b
         → Says job steps r (cond b (Err (Damaged catalogue (128 * (length (r catalogue) / 128)))) (Ok (record { fresh = false; done = length (r step_gate) })))
-    by_size short true e = record { damage = inr (refl, least (length (r catalogue)), past (length (r catalogue)), lacks (length (r catalogue)) (length (r step_gate)) e); stored = stored; same = same }
+    by_size short true e = record { damage = inr (refl, refl, lacks (length (r catalogue)) (length (r step_gate)) e); stored = stored; same = same }
       where
-        least : (a : ℕ) → 128 * (a / 128) ≤ a
-        least a = omega arith
-
-        past : (a : ℕ) → a < 128 * (a / 128) + 128
-        past a = omega arith
-
-        lacks : (a b : ℕ) → nat_lt a (128 * b) ≡ true → 128 * (a / 128) + 128 ≤ 128 * b
-        lacks a b h = let short : a < 128 * b = search (arith, h) in omega (arith, short)
+        lacks : (a b : ℕ) → nat_lt a (128 * b) ≡ true → a < 128 * b
+        lacks a b h = search (arith, h)
     by_size short false e = record { fresh = ap not (sym stored); done = count; few = short; same = λ _. same }
 
     by_gate : (b : Bool) → nat_lt steps (length (r step_gate)) ≡ b

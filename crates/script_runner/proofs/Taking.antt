@@ -1,5 +1,5 @@
 -- One step of a run, from its file to its commit and what it drops.
-use Rattle.std.proofs.Common.{◌≡◌, ◌≢◌, ◌∙◌, ℕ, ◌+◌, ◌*◌, ◌<◌, ◌≤◌, Bool, true, ◌&&◌, nat_lt, List, length, get_or, refl, sym, ap, subst, inl, inr, arith}
+use Rattle.std.proofs.Common.{◌≡◌, ◌≢◌, ◌∙◌, ℕ, ◌+◌, ◌*◌, ◌<◌, ◌≤◌, Bool, true, cond, ◌&&◌, nat_lt, List, [], length, take, drop, get_or, refl, sym, ap, ap₂, subst, inl, inr, arith}
 use Rattle.std.specs.Prelude.{IsTrue, Ok, Err}
 use Rattle.std.specs.List.{list_all}
 use Rattle.bool_tables.specs.declared.steps.Step.{Step}
@@ -14,68 +14,135 @@ use Rattle.shelf_model.specs.declared.sort_fault.SortFault.TheVariants as sort
 use Rattle.shelf_model.specs.SortFaults.{handed_on}
 use Rattle.shelf_model.specs.File.{File, firm_file, IsKept}
 use Rattle.shelf_model.specs.Folder.{Folder, Image, file_in, bytes_in, IsImage, AreFiles}
-use Rattle.shelf_model.specs.World.{Moment, World, now}
+use Rattle.shelf_model.specs.World.{Moment, World, now, file}
 use Rattle.shelf_model.specs.Calls.{Told}
 use Rattle.shelf_model.specs.Moments.{Throughout, Quiet, Ran}
-use Rattle.shelf_model.proofs.Runs.{joins, weakens, ran_weakens, ran_joins, ran_end, told}
+use Rattle.shelf_model.proofs.Numbers.{cases_file}
+use Rattle.shelf_model.proofs.Runs.{joins, weakens, ran_weakens, ran_joins, ran_end}
 use Rattle.catalogue.specs.declared.layout.Entry.{Entry}
 use Rattle.catalogue.specs.Files.{job_gate, catalogue, step_gate}
-use Rattle.catalogue.specs.Counts.{present, count_in}
+use Rattle.catalogue.specs.Counts.{HasCount, present, count_in, entry_at}
+use Rattle.catalogue.specs.Entries.{entry_bytes}
 use Rattle.catalogue.specs.Commits.{IsReady, DuringCommit, IsCommitted}
+use Rattle.catalogue.proofs.Counted.{ready_counts, entry_placed}
+use Rattle.catalogue.proofs.Places.{length_entry}
 use Rattle.sound_image.specs.Files.{node_file, checkpoint_gate}
 use Rattle.sound_image.specs.Jobs.{Job, no_step, step_at}
-use Rattle.sound_image.specs.Entries.{IsEntryOfStep}
+use Rattle.sound_image.specs.Entries.{IsEntryOfStep, kind_of}
 use Rattle.sound_image.specs.Holds.{Holds, IsMade}
+use Rattle.sound_image.proofs.Numbers.{IsOfStep, node_of_step, not_catalogue, not_step_gate, other_node}
 use Rattle.sound_image.proofs.StepLaws.{AreFew, holds_while_made, holds_while_cut, sound_while_committed, holds_after_commit}
 use Rattle.step_engine.specs.Simple.{IsStepOf}
-use Rattle.step_engine.specs.OneFile.{OnlyFile, DropsFile, OnlyDropped}
+use Rattle.step_engine.specs.OneFile.{OnlyFile, OnlyMade, DropsFile, OnlyDropped}
+use Rattle.step_engine.specs.StepEntries.{IsEntryFor}
 use Rattle.script_runner.specs.declared.finish.Finish.{Finish}
 use Rattle.script_runner.specs.declared.finish.Finish.TheVariants.{FolderFault, Damaged}
 use Rattle.step_engine.specs.StepFaults.{IsKindFault, IsStepFault, IsOfFolder}
 use Rattle.step_engine.proofs.EntryLaws.{operand_kind}
-use Rattle.script_runner.specs.Running.{OthersAre, IsEntryDamage, RefusesFolder}
-use Rattle.script_runner.specs.StepRuns.{IsJobOf, HasSteps, HoldsStep, TakesStep, stopped_by}
-use Rattle.script_runner.proofs.RunSteps.{others_then, held_steps, present_count}
+use Rattle.script_runner.specs.Running.{OthersAre, AreEmptied, IsEntryDamage, RefusesFolder}
+use Rattle.script_runner.specs.StepRuns.{IsJobOf, CountsAbout, IsTaking, HasEntry, HasSteps, HoldsStep, StaysEmpty, TakesStep, stopped_by}
+use Rattle.script_runner.proofs.RunSteps.{held_steps, present_count}
 
 -- each image has so many steps
 abbrev AllHave : Job → ℕ → Moment → Type 0
 AllHave job count m = (image : Image) → IsImage m.folder image → HasSteps job count (bytes_in image)
 
--- a folder is as ready after a change of a step's file
-ready_still : (k : ℕ) (before after : Folder) → k < 4294967295 → ((q : FileNo) → q ≢ node_file k → file_in after q ≡ file_in before q) → (count : ℕ) → IsReady count before → IsReady count after
-ready_still k before after early only count ready = record {
-  stored = subst (λ (x : File). 0 < x.firm) (sym (only job_gate (apart job_gate refl))) ready.stored;
-  gate = only step_gate (apart step_gate refl) ∙ ready.gate ∙ ap (λ (x : File). firm_file x.bytes) (sym (only step_gate (apart step_gate refl)));
-  count = ap (λ (x : File). length x.bytes) (only step_gate (apart step_gate refl)) ∙ ready.count;
-  covers = subst (λ (x : File). 128 * count ≤ length x.bytes) (sym (only catalogue (apart catalogue refl))) ready.covers;
+-- the job's files are as they were
+abbrev JobStays : Folder → Folder → Type 0
+JobStays before after = (f : FileNo) → f.step ≡ 4294967295 → file_in after f ≡ file_in before f
+
+ready_same : (count : ℕ) (before after : Folder) → JobStays before after → IsReady count before → IsReady count after
+ready_same count before after same ready = record {
+  stored = subst (λ (x : File). 0 < x.firm) (sym (same job_gate refl)) ready.stored;
+  gate = same step_gate refl ∙ ready.gate ∙ ap (λ (x : File). firm_file x.bytes) (sym (same step_gate refl));
+  count = ap (λ (x : File). length x.bytes) (same step_gate refl) ∙ ready.count;
+  covers = subst (λ (x : File). 128 * count ≤ length x.bytes) (sym (same catalogue refl)) ready.covers;
+}
+
+-- an entry that is damaged was damaged before, where the job's files stay
+damage_before : (steps : List Planned) (f : FileNo) (at : ℕ) (before after : Folder) → JobStays before after → IsEntryDamage steps f at (present after)
+    → IsEntryDamage steps f at (present before)
+damage_before steps f at before after same damage = record {
+  step = damage.step;
+  counted = subst (λ c. damage.step < c)
+      (ap₂ (λ (a b : File). cond (nat_lt 0 (length a.bytes)) (length b.bytes) 0) (same job_gate refl) (same step_gate refl)) damage.counted;
+  file_is = damage.file_is;
+  at_is = damage.at_is;
+  none_there = λ e is. damage.none_there e (record {
+    entry = is.entry;
+    number = is.number;
+    bytes = ap (λ (x : File). take 128 (drop (128 * damage.step) x.bytes)) (same catalogue refl) ∙ is.bytes;
+  });
+}
+
+-- a step's node file is none of the job's
+job_apart : (k : ℕ) (f : FileNo) → k < 4294967295 → f.step ≡ 4294967295 → f ≢ node_file k
+job_apart k f early job_step same = let steps : f.step ≡ k = ap (λ (q : FileNo). q.step) same in omega (arith, job_step, steps, early)
+
+-- each image of a folder that is ready has its count
+counts_about : (step count : ℕ) (folder : Folder) → step ≤ count → count ≤ step + 1 → IsReady count folder → (image : Image) → IsImage folder image
+    → CountsAbout step (bytes_in image)
+counts_about step count folder low high ready image is_image =
+    let has : HasCount count (bytes_in image) = ready_counts count folder image ready is_image in
+    let same : count_in (bytes_in image) ≡ count = has.count in
+    record { stored = has.stored; no_fewer = omega (arith, same, low); no_more = omega (arith, same, high) }
+
+-- a step that has only begun
+taking_first : (steps step : ℕ) (folder : Folder) → IsReady step folder → IsTaking steps step folder folder
+taking_first steps step folder ready = record {
+  others = λ f apart. refl;
+  counts = counts_about step step folder (omega arith) (omega arith) ready;
+  kept = λ front short kept. kept;
+  reads = refl;
+}
+
+-- the job's files stay while a step is taken
+taking_same : (steps step count : ℕ) (old before after : Folder) → step ≤ count → count ≤ step + 1 → IsReady count before → JobStays before after
+    → OthersAre steps before after → IsTaking steps step old before → IsTaking steps step old after
+taking_same steps step count old before after low high ready same others so_far = record {
+  others = λ f apart. others f apart ∙ so_far.others f apart;
+  counts = counts_about step count after low high (ready_same count before after same ready);
+  kept = λ front short kept. subst (IsKept front) (sym (same catalogue refl)) (so_far.kept front short kept);
+  reads = ap (λ (x : File). take (128 * step) x.bytes) (same catalogue refl) ∙ so_far.reads;
+}
+
+-- while the step is committed
+taking_commits : (steps step : ℕ) (e : Entry) (old : Folder) (mid m : Moment) → e.number ≡ step → IsTaking steps step old mid.folder → DuringCommit e mid m
+    → IsTaking steps step old m.folder
+taking_commits steps step e old mid m number so_far during = record {
+  others = λ f apart.
+      during.others f (λ same. apart (inr (ap (λ (q : FileNo). q.step) same))) (λ same. apart (inr (ap (λ (q : FileNo). q.step) same))) ∙ so_far.others f apart;
+  counts = λ image is_image. elim (during.images image is_image) [
+    | inl before ↦ about image (e.number) (omega arith) (omega arith) before
+    | inr after ↦ about image (e.number + 1) (omega arith) (omega arith) after.counts
+  ];
+  kept = λ front short kept. during.kept front (subst (λ k. length front ≤ 128 * k) (sym number) short) (so_far.kept front short kept);
+  reads = subst (λ k. take (128 * k) (file_in m.folder catalogue).bytes ≡ take (128 * k) (file_in mid.folder catalogue).bytes) number during.reads ∙ so_far.reads;
 }
   where
-    apart : (f : FileNo) → f.step ≡ 4294967295 → f ≢ node_file k
-    apart f job_step same = let steps : f.step ≡ k = ap (λ (q : FileNo). q.step) same in omega (arith, job_step, steps, early)
+    about : (image : Image) (count : ℕ) → e.number ≤ count → count ≤ e.number + 1 → HasCount count (bytes_in image) → CountsAbout step (bytes_in image)
+    about image count low high has =
+        let same : count_in (bytes_in image) ≡ count = has.count in
+        record { stored = has.stored; no_fewer = omega (arith, same, low, number); no_more = omega (arith, same, high, number) }
 
 module _ (n : ℕ) (text : List ℕ) (steps : List Planned) (k : ℕ) (few : length steps ≤ 1048576) (within : k < length steps) where
-  -- only files of the plan's steps change
-  own_file : (old m : Moment) (j : ℕ) → j < length steps → ((q : FileNo) → q ≢ node_file j → file_in m.folder q ≡ file_in old.folder q) → OthersAre (length steps) old.folder m.folder
-  own_file old m j inside only f apart = only f (λ same. apart (inl (subst (λ (q : FileNo). q.step < length steps) (sym same) inside)))
+  early : k < 4294967295
+  early = omega (arith, few, within)
 
-  own_commit : (e : Entry) (old m : Moment) → DuringCommit e old m → OthersAre (length steps) old.folder m.folder
-  own_commit e old m during f apart =
-      during.others f (λ same. apart (inr (ap (λ (q : FileNo). q.step) same))) (λ same. apart (inr (ap (λ (q : FileNo). q.step) same)))
+  abbrev Takes : World → Moment → Type 0
+  Takes old m = IsTaking (length steps) k (now old).folder m.folder
 
-  abbrev Others : World → Moment → Type 0
-  Others old m = OthersAre (length steps) (now old).folder m.folder
+  pub run_made : (old new : World) → IsReady k (now old).folder → Ran (OnlyFile (node_file k) (now old)) old new → Ran (Takes old) old new
+  run_made old new ready run = ran_weakens old new (OnlyFile (node_file k) (now old)) (Takes old) (λ m only.
+      taking_same (length steps) k k (now old).folder (now old).folder m.folder (omega arith) (omega arith) ready
+      (λ f job_step. only f (job_apart k f early job_step))
+      (λ f apart. only f (λ same. apart (inl (subst (λ (q : FileNo). q.step < length steps) (sym same) within))))
+      (taking_first (length steps) k (now old).folder ready)) run
 
-  others_join : (old mid new : World) → Ran (Others old) old mid → Ran (Others mid) mid new → Ran (Others old) old new
-  others_join old mid new first second =
-      ran_joins old mid new (Others old) first
-      (ran_weakens mid new (Others mid) (Others old) (λ m others. others_then (length steps) (now old).folder (now mid).folder m.folder (ran_end old mid (Others old) first) others) second)
-
-  pub others_made : (old new : World) → Ran (OnlyFile (node_file k) (now old)) old new → Ran (Others old) old new
-  others_made old new run = ran_weakens old new (OnlyFile (node_file k) (now old)) (Others old) (λ m only. own_file (now old) m k within only) run
-
-  pub others_committed : (e : Entry) (old mid new : World) → Ran (OnlyFile (node_file k) (now old)) old mid → Ran (DuringCommit e (now mid)) mid new → Ran (Others old) old new
-  others_committed e old mid new made commits =
-      others_join old mid new (others_made old mid made) (ran_weakens mid new (DuringCommit e (now mid)) (Others mid) (λ m during. own_commit e (now mid) m during) commits)
+  pub run_committed : (e : Entry) (old mid new : World) → e.number ≡ k → Ran (Takes old) old mid → Ran (DuringCommit e (now mid)) mid new → Ran (Takes old) old new
+  run_committed e old mid new number first second = ran_joins old mid new (Takes old) first
+      (ran_weakens mid new (DuringCommit e (now mid)) (Takes old)
+      (λ m during. taking_commits (length steps) k e (now old).folder (now mid) m number (ran_end old mid (Takes old) first) during) second)
 
   below_all : (a : ℕ) → IsTrue (nat_lt a k && true) → a < length steps
   below_all a h = let less : a < k = search (arith, h) in omega (arith, less, within)
@@ -93,28 +160,82 @@ module _ (n : ℕ) (text : List ℕ) (steps : List Planned) (k : ℕ) (few : len
   its_file (Eval operand at) f earlier dropped = absurd dropped
   its_file (Size operand) f earlier dropped = absurd dropped
 
-  pub others_tidied : (s : Step) (e : Entry) (old mid last new : World) → IsTrue (list_all (λ j. nat_lt j k) (operands s))
-      → Ran (OnlyFile (node_file k) (now old)) old mid → Ran (DuringCommit e (now mid)) mid last → Ran (OnlyDropped s (now last)) last new → Ran (Others old) old new
-  others_tidied s e old mid last new earlier made commits tidies =
-      others_join old last new (others_committed e old mid last made commits)
-      (ran_weakens last new (OnlyDropped s (now last)) (Others last) (λ m only f apart. only f (λ dropped. apart (inl (its_file s f earlier dropped)))) tidies)
+  -- the job's files stay while what a step drops is cut
+  job_tidied : (s : Step) (last m : Moment) → IsTrue (list_all (λ j. nat_lt j k) (operands s)) → OnlyDropped s last m → JobStays last.folder m.folder
+  job_tidied s last m earlier only f job_step =
+      only f (λ dropped. let own : f.step < length steps = its_file s f earlier dropped in omega (arith, own, job_step, few))
+
+  pub run_tidied : (s : Step) (old last new : World) → IsTrue (list_all (λ j. nat_lt j k) (operands s)) → IsReady (k + 1) (now last).folder
+      → Ran (Takes old) old last → Ran (OnlyDropped s (now last)) last new → Ran (Takes old) old new
+  run_tidied s old last new earlier ready first second = ran_joins old last new (Takes old) first
+      (ran_weakens last new (OnlyDropped s (now last)) (Takes old) (λ m only.
+      taking_same (length steps) k (k + 1) (now old).folder (now last).folder m.folder (omega arith) (omega arith) ready (job_tidied s (now last) m earlier only)
+      (λ f apart. only f (λ dropped. apart (inl (its_file s f earlier dropped)))) (ran_end old last (Takes old) first)) second)
+
+  -- the job's files stay while a step's file is made
+  pub job_made : (old new : World) → Ran (OnlyFile (node_file k) (now old)) old new → JobStays (now old).folder (now new).folder
+  job_made old new made f job_step = ran_end old new (OnlyFile (node_file k) (now old)) made f (job_apart k f early job_step)
 
   -- the folder is as ready once what a step drops is cut
   pub ready_tidied : (s : Step) (count : ℕ) (last new : World) → IsTrue (list_all (λ j. nat_lt j k) (operands s)) → Ran (OnlyDropped s (now last)) last new
       → IsReady count (now last).folder → IsReady count (now new).folder
-  ready_tidied s count last new earlier tidies ready = record {
-    stored = subst (λ (x : File). 0 < x.firm) (sym (same job_gate refl)) ready.stored;
-    gate = same step_gate refl ∙ ready.gate ∙ ap (λ (x : File). firm_file x.bytes) (sym (same step_gate refl));
-    count = ap (λ (x : File). length x.bytes) (same step_gate refl) ∙ ready.count;
-    covers = subst (λ (x : File). 128 * count ≤ length x.bytes) (sym (same catalogue refl)) ready.covers;
-  }
-    where
-      same : (f : FileNo) → f.step ≡ 4294967295 → file_in (now new).folder f ≡ file_in (now last).folder f
-      same f job_step = ran_end last new (OnlyDropped s (now last)) tidies f (λ dropped. let own : f.step < length steps = its_file s f earlier dropped in omega (arith, own, job_step, few))
+  ready_tidied s count last new earlier tidies ready =
+      ready_same count (now last).folder (now new).folder (job_tidied s (now last) (now new) earlier (ran_end last new (OnlyDropped s (now last)) tidies)) ready
 
   pub ready_made : (count : ℕ) (old new : World) → Ran (OnlyFile (node_file k) (now old)) old new → IsReady count (now old).folder → IsReady count (now new).folder
   ready_made count old new made ready =
-      ready_still k (now old).folder (now new).folder (omega (arith, few, within)) (ran_end old new (OnlyFile (node_file k) (now old)) made) count ready
+      ready_same count (now old).folder (now new).folder (job_made old new made) ready
+
+  -- the entry of the step stands at its place, once it is committed and tidied up
+  pub entry_made : (s : Step) (e : Entry) (mid last new : World) → (get_or steps k no_step).step ≡ s → IsTrue (list_all (λ j. nat_lt j k) (operands s)) → IsEntryFor s k e
+      → IsReady e.number (now mid).folder → IsCommitted e (now mid).folder (now last).folder → Ran (OnlyDropped s (now last)) last new
+      → HasEntry steps k e (present (now new).folder)
+  entry_made s e mid last new step earlier is ready committed tidies = record {
+    stands = record {
+      entry = is.entry_is;
+      number = is.number_is;
+      bytes = subst (λ j. entry_at j (present (now new).folder) ≡ entry_bytes e) is.number_is
+          (entry_placed e.number (file_in (now mid).folder catalogue).bytes (entry_bytes e) (present (now new).folder) ready.covers (length_entry e is.entry_is.fits)
+          (ap (λ (x : File). x.bytes) (job_tidied s (now last) (now new) earlier (ran_end last new (OnlyDropped s (now last)) tidies) catalogue refl ∙ committed.catalogue_is)));
+    };
+    kind_is = is.kind_is ∙ ap kind_of (sym step);
+  }
+
+  -- what the step drops is empty
+  pub emptied_here : (s : Step) (folder : Folder) → (get_or steps k no_step).step ≡ s
+      → ((gone : ℕ) → s ≡ Drop gone → (file_in folder (node_file gone)).bytes ≡ []) → AreEmptied steps k (k + 1) folder
+  emptied_here s folder step empty j from until gone drops_it =
+      let same : j ≡ k = omega (arith, from, until) in
+      empty gone (sym step ∙ ap (λ i. (get_or steps i no_step).step) (sym same) ∙ drops_it)
+
+  -- an empty file stays empty while what a step drops is cut
+  tidied_empty : (s : Step) (f : FileNo) (last m : Moment) → OnlyDropped s last m → ((gone : ℕ) → s ≡ Drop gone → (file_in m.folder (node_file gone)).bytes ≡ [])
+      → StaysEmpty f last.folder m.folder
+  tidied_empty (Const value) f last m only empty before = ap (λ (x : File). x.bytes) (only f (λ x. x)) ∙ before
+  tidied_empty (Var level) f last m only empty before = ap (λ (x : File). x.bytes) (only f (λ x. x)) ∙ before
+  tidied_empty (Pair op left right) f last m only empty before = ap (λ (x : File). x.bytes) (only f (λ x. x)) ∙ before
+  tidied_empty (Ite test if_one if_zero) f last m only empty before = ap (λ (x : File). x.bytes) (only f (λ x. x)) ∙ before
+  tidied_empty (Quantify kind operand level) f last m only empty before = ap (λ (x : File). x.bytes) (only f (λ x. x)) ∙ before
+  tidied_empty (Restrict operand level value) f last m only empty before = ap (λ (x : File). x.bytes) (only f (λ x. x)) ∙ before
+  tidied_empty (Drop gone) f last m only empty before = elim (cases_file f (node_file gone)) [
+    | inl same ↦ ap (λ q. (file_in m.folder q).bytes) same ∙ empty gone refl
+    | inr differ ↦ ap (λ (x : File). x.bytes) (only f differ) ∙ before
+  ]
+  tidied_empty (Same left right) f last m only empty before = ap (λ (x : File). x.bytes) (only f (λ x. x)) ∙ before
+  tidied_empty (Leq left right) f last m only empty before = ap (λ (x : File). x.bytes) (only f (λ x. x)) ∙ before
+  tidied_empty (Eval operand at) f last m only empty before = ap (λ (x : File). x.bytes) (only f (λ x. x)) ∙ before
+  tidied_empty (Size operand) f last m only empty before = ap (λ (x : File). x.bytes) (only f (λ x. x)) ∙ before
+
+  -- an earlier diagram's file that was empty is empty after the step
+  pub still_empty : (s : Step) (e : Entry) (old mid last new : World) → Ran (OnlyFile (node_file k) (now old)) old mid → Ran (DuringCommit e (now mid)) mid last
+      → Ran (OnlyDropped s (now last)) last new → ((gone : ℕ) → s ≡ Drop gone → (file_in (now new).folder (node_file gone)).bytes ≡ [])
+      → (j : ℕ) → j < k → StaysEmpty (node_file j) (now old).folder (now new).folder
+  still_empty s e old mid last new made commits tidies empty j below before =
+      let of_step : IsOfStep (node_file j) = node_of_step j (omega (arith, below, early)) in
+      tidied_empty s (node_file j) (now last) (now new) (ran_end last new (OnlyDropped s (now last)) tidies) empty
+      (ap (λ (x : File). x.bytes) (
+      (ran_end mid last (DuringCommit e (now mid)) commits).others (node_file j) (not_catalogue (node_file j) of_step) (not_step_gate (node_file j) of_step)
+      ∙ ran_end old mid (OnlyFile (node_file k) (now old)) made (node_file j) (other_node j k below)) ∙ before)
 
   -- the entry that a size couldn't use
   pub step_damage : (plan : IsWellFormed n text steps) (s : Step) (f : FileNo) (at : ℕ) (r : FileNo → List ℕ) → (get_or steps k no_step).step ≡ s → IsTrue (list_all (λ j. nat_lt j k) (operands s))
@@ -279,40 +400,58 @@ module _ {S : Type 0} (tells : S → Bool) (world : S → World) (law : (s : S) 
   the_place : (job : Job) → IsJobOf job n text steps → (step_at job k).step ≡ p.step
   the_place job is = ap (λ (q : Planned). q.step) (the_step job is).step_is
 
+  -- at most the step's own file was changed
+  filed : (old s : S) → Told tells old s (Ran (OnlyMade p.step k (now (world old))) (world old) (world s)) → IsTrue (tells s)
+      → Ran (OnlyFile (node_file k) (now (world old))) (world old) (world s)
+  filed old s made tells_s = ran_weakens (world old) (world s) (OnlyMade p.step k (now (world old))) (OnlyFile (node_file k) (now (world old)))
+      (λ m only q differ. only q (λ own. differ own.1)) (made.did tells_s)
+
   -- the step's file couldn't be made
-  pub folder_failed : (old s : S) → Told tells old s (Ran (OnlyFile (node_file k) (now (world old))) (world old) (world s))
+  pub folder_failed : (old s : S) → (IsTrue (tells old) → IsReady k (now (world old)).folder) → Told tells old s (Ran (OnlyMade p.step k (now (world old))) (world old) (world s))
       → Told tells old s (TakesStep n text steps k (Err FolderFault) (world old) (world s))
-  folder_failed old s made = told tells old s _ _ made (λ _ ran. record {
-    others = others_made n text steps k plan.few_steps within (world old) (world s) ran;
-    ready = tt;
-    stops = tt;
-    damaged = λ f at e. cc;
-    holds = λ job is holds. stopped_making job k (job_few job n text steps is plan) (the_step job is).within FolderFault (world old) (world s) holds ran (λ x. x);
-  })
+  folder_failed old s ready made = record {
+    before = made.before;
+    did = λ tells_s.
+        let ran = filed old s made tells_s in
+        record {
+          run = run_made n text steps k plan.few_steps within (world old) (world s) (ready (made.before tells_s)) ran;
+          ready = tt;
+          made = tt;
+          emptied = tt;
+          still_empty = tt;
+          stops = tt;
+          damaged = λ f at e. cc;
+          holds = λ job is holds. stopped_making job k (job_few job n text steps is plan) (the_step job is).within FolderFault (world old) (world s) holds ran (λ x. x);
+        };
+  }
 
   -- the entry that its answer is found in is damaged
   pub entry_damaged : (f : FileNo) (at : ℕ) (old s : S) → (IsTrue (tells old) → IsReady k (now (world old)).folder)
-      → Told tells old s (Ran (OnlyFile (node_file k) (now (world old))) (world old) (world s))
+      → Told tells old s (Ran (OnlyMade p.step k (now (world old))) (world old) (world s))
       → (IsTrue (tells s) → (job : Job) → IsStepOf job n text k p → Holds job k (now (world old)).folder → sort.Damaged f at ≡ sort.Shelf)
       → (IsTrue (tells s) → IsStepFault p.step (present (now (world s)).folder) (sort.Damaged f at))
       → Told tells old s (TakesStep n text steps k (Err (Damaged f at)) (world old) (world s))
   entry_damaged f at old s ready made sound damaged = record {
     before = made.before;
     did = λ tells_s.
-        let ran = made.did tells_s in
+        let ran = filed old s made tells_s in
         let count : count_in (present (now (world s)).folder) ≡ k =
         present_count (now (world s)).folder k (law s tells_s) (ready_made n text steps k plan.few_steps within k (world old) (world s) ran (ready (made.before tells_s))) in
-        let found : IsEntryDamage steps f at (present (now (world s)).folder) =
-        step_damage n text steps k plan.few_steps within plan p.step f at (present (now (world s)).folder) (ap (λ (q : Planned). q.step) (sym p_is)) earlier count
-        (damaged tells_s) in
+        let found : IsEntryDamage steps f at (present (now (world old)).folder) =
+        damage_before steps f at (now (world old)).folder (now (world s)).folder (job_made n text steps k plan.few_steps within (world old) (world s) ran)
+        (step_damage n text steps k plan.few_steps within plan p.step f at (present (now (world s)).folder) (ap (λ (q : Planned). q.step) (sym p_is)) earlier count
+        (damaged tells_s)) in
         record {
-          others = others_made n text steps k plan.few_steps within (world old) (world s) ran;
+          run = run_made n text steps k plan.few_steps within (world old) (world s) (ready (made.before tells_s)) ran;
           ready = tt;
+          made = tt;
+          emptied = tt;
+          still_empty = tt;
           stops = tt;
           damaged = λ g b e.
               let files_are : f ≡ g = cc in
               let places : at ≡ b = cc in
-              subst (λ h. IsEntryDamage steps h b (present (now (world s)).folder)) files_are (subst (λ c. IsEntryDamage steps f c (present (now (world s)).folder)) places found);
+              subst (λ h. IsEntryDamage steps h b (present (now (world old)).folder)) files_are (subst (λ c. IsEntryDamage steps f c (present (now (world old)).folder)) places found);
           holds = λ job is holds. stopped_making job k (job_few job n text steps is plan) (the_step job is).within (Damaged f at) (world old) (world s) holds ran
               (λ _. let both : sort.Damaged f at ≡ sort.Shelf = sound tells_s job (the_step job is) holds in cc);
         };
@@ -320,7 +459,7 @@ module _ {S : Type 0} (tells : S → Bool) (world : S → World) (law : (s : S) 
 
   -- the step couldn't be run
   pub was_stopped : (fault : SortFault) (finish : Finish) (old s : S) → finish ≡ stopped_by fault → IsOfFolder fault → (IsTrue (tells old) → IsReady k (now (world old)).folder)
-      → Told tells old s (Ran (OnlyFile (node_file k) (now (world old))) (world old) (world s))
+      → Told tells old s (Ran (OnlyMade p.step k (now (world old))) (world old) (world s))
       → (IsTrue (tells s) → (job : Job) → IsStepOf job n text k p → Holds job k (now (world old)).folder → fault ≡ sort.Shelf)
       → (IsTrue (tells s) → IsStepFault p.step (present (now (world s)).folder) fault)
       → Told tells old s (TakesStep n text steps k (Err finish) (world old) (world s))
@@ -329,19 +468,26 @@ module _ {S : Type 0} (tells : S → Bool) (world : S → World) (law : (s : S) 
     where
       by_fault : (x : SortFault) → IsOfFolder x → (IsTrue (tells s) → (job : Job) → IsStepOf job n text k p → Holds job k (now (world old)).folder → x ≡ sort.Shelf)
           → (IsTrue (tells s) → IsStepFault p.step (present (now (world s)).folder) x) → Told tells old s (TakesStep n text steps k (Err (stopped_by x)) (world old) (world s))
-      by_fault sort.Shelf of_folder sound damaged = folder_failed old s made
+      by_fault sort.Shelf of_folder sound damaged = folder_failed old s ready made
       by_fault (sort.Damaged f at) of_folder sound damaged = entry_damaged f at old s ready made sound damaged
       by_fault sort.RunsSpent of_folder sound damaged = absurd of_folder
       by_fault sort.RoomFull of_folder sound damaged = absurd of_folder
 
   -- what a step that was made leaves for its commit
-  module _ (e : Entry) (number : e.number ≡ k) (old s : S) (made : Told tells old s (Ran (OnlyFile (node_file k) (now (world old))) (world old) (world s)))
+  module _ (e : Entry) (is_for : IsEntryFor p.step k e) (old s : S) (ready : IsTrue (tells old) → IsReady k (now (world old)).folder) (made : Told tells old s (Ran (OnlyMade p.step k (now (world old))) (world old) (world s)))
       (entry : IsTrue (tells s) → (job : Job) → IsStepOf job n text k p → Holds job k (now (world old)).folder → IsEntryOfStep job k e)
       (is_made : IsTrue (tells s) → (job : Job) → IsStepOf job n text k p → IsMade job k (now (world s)).folder) where
-    pub made_ready : (IsTrue (tells old) → IsReady k (now (world old)).folder) → IsTrue (tells s) → IsReady e.number (now (world s)).folder
-    made_ready ready tells_s =
-        subst (λ c. IsReady c (now (world s)).folder) (sym number)
-        (ready_made n text steps k plan.few_steps within k (world old) (world s) (made.did tells_s) (ready (made.before tells_s)))
+    pub made_ready : IsTrue (tells s) → IsReady e.number (now (world s)).folder
+    made_ready tells_s =
+        subst (λ c. IsReady c (now (world s)).folder) (sym is_for.number_is)
+        (ready_made n text steps k plan.few_steps within k (world old) (world s) (filed old s made tells_s) (ready (made.before tells_s)))
+
+    -- the run up to the commit, and within it
+    to_commit : (t : S) → IsTrue (tells s) → Ran (DuringCommit e (now (world s))) (world s) (world t)
+        → Ran (λ m. IsTaking (length steps) k (now (world old)).folder m.folder) (world old) (world t)
+    to_commit t tells_s commits =
+        run_committed n text steps k plan.few_steps within e (world old) (world s) (world t) is_for.number_is
+        (run_made n text steps k plan.few_steps within (world old) (world s) (ready (made.before tells_s)) (filed old s made tells_s)) commits
 
     pub commit_failed : (t : S) → Told tells s t (Ran (DuringCommit e (now (world s))) (world s) (world t)) → Told tells old t (TakesStep n text steps k (Err FolderFault) (world old) (world t))
     commit_failed t commits = record {
@@ -349,11 +495,14 @@ module _ {S : Type 0} (tells : S → Bool) (world : S → World) (law : (s : S) 
       did = λ tells_t.
           let tells_s : IsTrue (tells s) = commits.before tells_t in
           record {
-            others = others_committed n text steps k plan.few_steps within e (world old) (world s) (world t) (made.did tells_s) (commits.did tells_t);
+            run = to_commit t tells_s (commits.did tells_t);
             ready = tt;
+            made = tt;
+            emptied = tt;
+            still_empty = tt;
             stops = tt;
             damaged = λ f at d. cc;
-            holds = λ job is holds. stopped_committing job k (job_few job n text steps is plan) (the_step job is).within FolderFault e (world old) (world s) (world t) holds (made.did tells_s)
+            holds = λ job is holds. stopped_committing job k (job_few job n text steps is plan) (the_step job is).within FolderFault e (world old) (world s) (world t) holds (filed old s made tells_s)
                 (is_made tells_s job (the_step job is)) (entry tells_s job (the_step job is) holds) (commits.did tells_t) (λ x. x);
           };
     }
@@ -361,6 +510,9 @@ module _ {S : Type 0} (tells : S → Bool) (world : S → World) (law : (s : S) 
     module _ (t u : S) (commits : Told tells s t (Ran (DuringCommit e (now (world s))) (world s) (world t)))
         (committed : IsTrue (tells t) → IsCommitted e (now (world s)).folder (now (world t)).folder)
         (tidies : Told tells t u (Ran (OnlyDropped p.step (now (world t))) (world t) (world u))) where
+      ready_last : IsTrue (tells t) → IsReady (k + 1) (now (world t)).folder
+      ready_last tells_t = subst (λ c. IsReady (c + 1) (now (world t)).folder) is_for.number_is (committed tells_t).ready
+
       pub tidy_failed : Told tells old u (TakesStep n text steps k (Err FolderFault) (world old) (world u))
       tidy_failed = record {
         before = λ tells_u. made.before (commits.before (tidies.before tells_u));
@@ -368,30 +520,40 @@ module _ {S : Type 0} (tells : S → Bool) (world : S → World) (law : (s : S) 
             let tells_t : IsTrue (tells t) = tidies.before tells_u in
             let tells_s : IsTrue (tells s) = commits.before tells_t in
             record {
-              others = others_tidied n text steps k plan.few_steps within p.step e (world old) (world s) (world t) (world u) earlier (made.did tells_s) (commits.did tells_t) (tidies.did tells_u);
+              run = run_tidied n text steps k plan.few_steps within p.step (world old) (world t) (world u) earlier (ready_last tells_t)
+                  (to_commit t tells_s (commits.did tells_t)) (tidies.did tells_u);
               ready = tt;
+              made = tt;
+              emptied = tt;
+              still_empty = tt;
               stops = tt;
               damaged = λ f at d. cc;
               holds = λ job is holds. stopped_tidying job k (job_few job n text steps is plan) (the_step job is).within p.step (the_place job is) earlier e
-                  (world old) (world s) (world t) (world u) holds (made.did tells_s) (is_made tells_s job (the_step job is)) (entry tells_s job (the_step job is) holds)
+                  (world old) (world s) (world t) (world u) holds (filed old s made tells_s) (is_made tells_s job (the_step job is)) (entry tells_s job (the_step job is) holds)
                   (commits.did tells_t) (committed tells_t) (tidies.did tells_u) FolderFault (λ x. x);
             };
       }
 
-      pub took : Told tells old u (TakesStep n text steps k (Ok e) (world old) (world u))
-      took = record {
+      pub took : (IsTrue (tells u) → (gone : ℕ) → p.step ≡ Drop gone → (file (world u) (node_file gone)).bytes ≡ [])
+          → Told tells old u (TakesStep n text steps k (Ok e) (world old) (world u))
+      took empty = record {
         before = λ tells_u. made.before (commits.before (tidies.before tells_u));
         did = λ tells_u.
             let tells_t : IsTrue (tells t) = tidies.before tells_u in
             let tells_s : IsTrue (tells s) = commits.before tells_t in
             record {
-              others = others_tidied n text steps k plan.few_steps within p.step e (world old) (world s) (world t) (world u) earlier (made.did tells_s) (commits.did tells_t) (tidies.did tells_u);
-              ready = ready_tidied n text steps k plan.few_steps within p.step (k + 1) (world t) (world u) earlier (tidies.did tells_u)
-                  (subst (λ c. IsReady (c + 1) (now (world t)).folder) number (committed tells_t).ready);
+              run = run_tidied n text steps k plan.few_steps within p.step (world old) (world t) (world u) earlier (ready_last tells_t)
+                  (to_commit t tells_s (commits.did tells_t)) (tidies.did tells_u);
+              ready = ready_tidied n text steps k plan.few_steps within p.step (k + 1) (world t) (world u) earlier (tidies.did tells_u) (ready_last tells_t);
+              made = entry_made n text steps k plan.few_steps within p.step e (world s) (world t) (world u) (ap (λ (q : Planned). q.step) (sym p_is)) earlier is_for
+                  (made_ready tells_s) (committed tells_t) (tidies.did tells_u);
+              emptied = emptied_here n text steps k plan.few_steps within p.step (now (world u)).folder (ap (λ (q : Planned). q.step) (sym p_is)) (empty tells_u);
+              still_empty = still_empty n text steps k plan.few_steps within p.step e (world old) (world s) (world t) (world u) (filed old s made tells_s) (commits.did tells_t)
+                  (tidies.did tells_u) (empty tells_u);
               stops = tt;
               damaged = tt;
               holds = λ job is holds. was_taken job k (job_few job n text steps is plan) (the_step job is).within p.step (the_place job is) earlier e
-                  (world old) (world s) (world t) (world u) holds (made.did tells_s) (is_made tells_s job (the_step job is)) (entry tells_s job (the_step job is) holds)
+                  (world old) (world s) (world t) (world u) holds (filed old s made tells_s) (is_made tells_s job (the_step job is)) (entry tells_s job (the_step job is) holds)
                   (commits.did tells_t) (committed tells_t) (tidies.did tells_u);
             };
       }

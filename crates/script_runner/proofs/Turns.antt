@@ -1,8 +1,8 @@
 -- The parts of a run over a station, whether it tells its content or not.
-use Rattle.std.proofs.Common.{◌≡◌, ◌∙◌, ℕ, zero, suc, ◌+◌, ◌-◌, ◌*◌, ◌<◌, ◌≤◌, min, Bool, true, false, not, cond, nat_lt, List, [], ◌++◌, length, take, drop, refl, sym, ap, subst, inl, inr, arith}
+use Rattle.std.proofs.Common.{◌≡◌, ◌∙◌, ℕ, ◌+◌, ◌-◌, ◌*◌, ◌/◌, ◌<◌, ◌≤◌, min, Bool, true, false, not, cond, nat_lt, List, [], ◌++◌, length, take, drop, refl, sym, ap, subst, inl, inr, arith}
 use Rattle.std.specs.Prelude.{IsTrue, Result, Ok, Err, OnOk, if◌then◌else◌}
 use Rattle.std.specs.List.{list_all}
-use Rattle.std.proofs.lemmas.List.{length-take, length-drop}
+use Rattle.std.proofs.lemmas.List.{append-nil, length-take, length-drop}
 use Rattle.shelf_model.specs.declared.fault.Failed.{Failed}
 use Rattle.shelf_model.specs.declared.file_no.FileNo.{FileNo}
 use Rattle.shelf_model.specs.Folder.{Image, AreFiles, bytes_in}
@@ -10,14 +10,15 @@ use Rattle.shelf_model.specs.World.{Moment, World, now, said}
 use Rattle.shelf_model.specs.Calls.{Told, Said}
 use Rattle.shelf_model.specs.Moments.{Quiet, Ran, OnlyOldImages}
 use Rattle.shelf_model.proofs.Images.{chosen, standing_image}
-use Rattle.shelf_model.proofs.Runs.{told, told_then, weakens}
+use Rattle.shelf_model.proofs.Runs.{told, told_then, weakens, ran_end}
 use Rattle.catalogue.specs.declared.layout.Entry.{Entry}
 use Rattle.catalogue.specs.declared.standing.Standing.{Standing}
 use Rattle.catalogue.specs.declared.fault.AttachFault.{AttachFault}
 use Rattle.catalogue.specs.declared.fault.AttachFault.TheVariants as attach
 use Rattle.catalogue.specs.Files.{job_file, job_gate, catalogue, step_gate}
 use Rattle.catalogue.specs.Counts.{present, is_stored, count_in, entry_at}
-use Rattle.catalogue.specs.Entries.{entry_bytes}
+use Rattle.bool_tables.specs.declared.steps.Planned.{Planned}
+use Rattle.catalogue.specs.Entries.{IsEntryOf, entry_bytes}
 use Rattle.catalogue.specs.Commits.{IsReady}
 use Rattle.catalogue.specs.Standings.{standing_of, DuringAttach, IsAttached}
 use Rattle.catalogue.proofs.Places.{length_entry}
@@ -31,12 +32,13 @@ use Rattle.script_reader.specs.Lines.{rise_from}
 use Rattle.script_runner.specs.declared.finish.Finish.{Finish}
 use Rattle.script_runner.specs.declared.finish.Finish.TheVariants.{Done, OtherJob, FolderFault, SayFault, Damaged}
 use Rattle.script_runner.specs.Text.{done_line, banner_line, ended_before, start_line, resume_line}
-use Rattle.script_runner.specs.Running.{HasOtherJob, IsOther, IsDamage, RefusesFolder, IsStop, IsStill, StoodStill, RunsSteps}
-use Rattle.script_runner.specs.StepRuns.{NamesEntry, TakesStep, SaysLines}
-use Rattle.script_runner.proofs.LineOrder.{ended_is}
+use Rattle.script_runner.specs.Shapes.{IsWholeShape}
+use Rattle.script_runner.specs.Running.{HasSaid, HasOtherJob, IsOther, IsDamage, RefusesFolder, IsStop, IsStill, StoodStill, MeetsDamage, AreEmptied, RunsSteps}
+use Rattle.script_runner.specs.StepRuns.{IsTaking, TakesStep, SaysLines}
+use Rattle.script_runner.proofs.LineOrder.{ended_is, ended_most}
 use Rattle.script_runner.proofs.Standing.{IsStanding, IsDamaged, standing_says}
-use Rattle.script_runner.proofs.RunSteps.{done_at, text_at, IsPlan, Ongoing, AtStep, attaching, taking, has_taken}
-use Rattle.script_runner.proofs.StepByStep.{begun, says_lines, has_said_lines, ends}
+use Rattle.script_runner.proofs.RunSteps.{done_at, text_at, present_count, IsPlan, Ongoing, AtStep, attaching, since, shape_of, damaged_at_first, same_at, taking, has_taken}
+use Rattle.script_runner.proofs.StepByStep.{begun, says_lines, whole_behind, has_said_lines, ends}
 
 -- where a job is stored it is this one
 abbrev pub IsThisJob : Job → World → Type 0
@@ -55,16 +57,19 @@ not_other job old same other = other.other (same other.stored)
 
 -- a run that was stopped by one of its parts
 by_stop : (job : Job) (lines : List LineEnd) (finish : Finish) (old new : World) → Ongoing job lines old new → IsThisJob job old → IsStop finish
-    → (AreSound job (now old).folder → ¬ (RefusesFolder finish)) → NamesEntry job.steps new finish → RunsSteps job lines finish old new
+    → (AreSound job (now old).folder → ¬ (RefusesFolder finish)) → ((f : FileNo) (at : ℕ) → finish ≡ Damaged f at → MeetsDamage job.steps lines f at old new)
+    → RunsSteps job lines finish old new
 by_stop job lines finish old new run same stop goes_on names = record {
   moments = run.moments;
   stays = run.stays;
   goes_on = goes_on;
   whole = λ sound e. absurd (not_done finish stop e);
+  says = λ e. absurd (not_done finish stop e);
   all = λ e. absurd (not_done finish stop e);
+  emptied = λ e. absurd (not_done finish stop e);
   other_job = λ at e. absurd (not_job finish at stop e);
   refuses_other = λ other. absurd (not_other job old same other);
-  damaged = λ f at e. inr (names f at e);
+  damaged = names;
 }
   where
     not_done : (x : Finish) → IsStop x → x ≡ Done → ⊥
@@ -78,13 +83,17 @@ by_saying job lines old new run same = by_stop job lines SayFault old new run sa
 
 -- a run that came to its end
 to_the_end : (job : Job) (lines : List LineEnd) (old new : World) → Ongoing job lines old new → IsThisJob job old
-    → (AreSound job (now old).folder → said new ≡ said old ++ text_at job lines old) → HaveCount (length job.steps) (now new).folder → RunsSteps job lines Done old new
-to_the_end job lines old new run same whole all = record {
+    → (AreSound job (now old).folder → said new ≡ said old ++ text_at job lines old) → HaveCount (length job.steps) (now new).folder
+    → AreEmptied job.steps (done_at old) (length job.steps) (now new).folder
+    → HasSaid (λ text folder. IsWholeShape job.steps lines (present (now old).folder) (present folder) text) (now old) (now new) → RunsSteps job lines Done old new
+to_the_end job lines old new run same whole all emptied says = record {
   moments = run.moments;
   stays = run.stays;
   goes_on = λ sound none. none;
   whole = λ sound e. whole sound;
+  says = λ e. says;
   all = λ e. all;
+  emptied = λ e. emptied;
   other_job = λ at e. cc;
   refuses_other = λ other. absurd (not_other job old same other);
   damaged = λ f at e. cc;
@@ -124,7 +133,9 @@ module _ (job : Job) (lines : List LineEnd) (plan : IsPlan job lines) (old new :
     stays = (attaching job lines plan old files new run).stays;
     goes_on = λ sound none. none;
     whole = λ sound e. cc;
+    says = λ e. cc;
     all = λ e. cc;
+    emptied = λ e. cc;
     other_job = λ at e. cc;
     refuses_other = λ other. (stands_still job old new other.stored run, inr refl);
     damaged = λ f at e. cc;
@@ -137,7 +148,9 @@ module _ (job : Job) (lines : List LineEnd) (plan : IsPlan job lines) (old new :
     stays = (attaching job lines plan old files new run).stays;
     goes_on = λ sound _. let shows = present_shows job old files sound other.is_other.stored in other.is_other.other (sym (shows.2 job_file) ∙ shows.1.job_is);
     whole = λ sound e. cc;
+    says = λ e. cc;
     all = λ e. cc;
+    emptied = λ e. cc;
     other_job = λ place e. let same : at ≡ place = cc in subst (λ k. HasOtherJob job.bytes k (present (now old).folder)) same other;
     refuses_other = λ differs. (stands_still job old new differs.stored run, inl (at, refl));
     damaged = λ f place e. cc;
@@ -155,20 +168,28 @@ module _ (job : Job) (lines : List LineEnd) (plan : IsPlan job lines) (old new :
         let size : length (r catalogue) ≡ length (present (now old).folder catalogue) = ap length (shows.2 catalogue) in
         elim damage.damage [
           | inl longer ↦ let few_shown = shows.1.few in let more = longer.2 in omega (arith, few_shown, more, counted, gate)
-          | inr lacks ↦ no_lack (count_in r) (r catalogue) (λ k within. whole_entry r k (shows.1.entries k within)) at
-              (subst (λ c. at ≤ c) (sym size) lacks.1) (subst (λ c. c < at + 128) (sym size) lacks.2) (subst (λ c. at + 128 ≤ 128 * c) (sym (counted ∙ gate)) lacks.3)
+          | inr lacks ↦ no_lack (count_in r) (r catalogue) (λ k within. whole_entry r k (shows.1.entries k within))
+              (let short = lacks.2 in omega (arith, short, counted, gate, size))
         ];
     whole = λ sound e. cc;
+    says = λ e. cc;
     all = λ e. cc;
+    emptied = λ e. cc;
     other_job = λ place e. cc;
     refuses_other = λ differs. absurd (differs.other damage.same);
     damaged = λ g place e.
         let files_are : f ≡ g = cc in
         let places : at ≡ place = cc in
-        inl (
-          subst (λ k. IsDamage (length job.steps) g k (present (now old).folder)) places (subst (λ h. IsDamage (length job.steps) h at (present (now old).folder)) files_are damage.damage),
-          stands_still job old new damage.stored run,
-        );
+        record {
+          front = [];
+          said_is = run.station.said_is ∙ sym (append-nil (said old));
+          whole = inl refl;
+          place = inl (
+            subst (λ k. IsDamage (length job.steps) g k (present (now old).folder)) places
+                (subst (λ h. IsDamage (length job.steps) h at (present (now old).folder)) files_are damage.damage),
+            stands_still job old new damage.stored run,
+          );
+        };
   }
     where
       whole_entry : (r : FileNo → List ℕ) (k : ℕ) → (e : Entry) × IsEntryOfStep job k e × (entry_at k r ≡ entry_bytes e) → 128 * k + 128 ≤ length (r catalogue)
@@ -177,9 +198,9 @@ module _ (job : Job) (lines : List LineEnd) (plan : IsPlan job lines) (old new :
           let counted : length (take 128 (drop (128 * k) (r catalogue))) ≡ min 128 (length (r catalogue) - 128 * k) = simp (length-take, length-drop) in
           omega (arith, long, counted)
 
-      no_lack : (count : ℕ) (bytes : List ℕ) → ((k : ℕ) → k < count → 128 * k + 128 ≤ length bytes) → (at : ℕ) → at ≤ length bytes → length bytes < at + 128 → at + 128 ≤ 128 * count → ⊥
-      no_lack zero bytes there at a b c = omega (arith, c)
-      no_lack (suc count) bytes there at a b c = let last : 128 * count + 128 ≤ length bytes = there count (omega arith) in omega (arith, last, a, b, c)
+      no_lack : (count : ℕ) (bytes : List ℕ) → ((k : ℕ) → k < count → 128 * k + 128 ≤ length bytes) → length bytes < 128 * count → ⊥
+      no_lack count bytes there short =
+          let last : 128 * (length bytes / 128) + 128 ≤ length bytes = there (length bytes / 128) (omega (arith, short)) in omega (arith, last)
 
 module _ {S : Type 0} (tells : S → Bool) (world : S → World) (law : (s : S) → IsTrue (tells s) → AreFiles (now (world s)).folder)
     (job : Job) (lines : List LineEnd) (plan : IsPlan job lines) where
@@ -256,43 +277,85 @@ module _ {S : Type 0} (tells : S → Bool) (world : S → World) (law : (s : S) 
   pub stopped_saying : {X : Type 0} (old t : S) → Told tells old t ((Ongoing job lines (world old) (world t) × IsThisJob job (world old)) × X) → Told tells old t (RunsSteps job lines SayFault (world old) (world t))
   stopped_saying old t so_far = told tells old t _ _ so_far (λ _ both. by_saying job lines (world old) (world t) both.0.0 both.0.1)
 
-  -- a step is taken, or stops the run
-  pub stops_step : (step : ℕ) (rest : List LineEnd) (finish : Finish) (old s t : S) → Told tells old s (Turn job lines step rest (world old) (world s))
-      → Told tells s t (TakesStep job.n job.text job.steps step (Err finish) (world s) (world t)) → Told tells old t (RunsSteps job lines finish (world old) (world t))
-  stops_step step rest finish old s t so_far takes = told_then tells old s t _ _ _ so_far takes (λ tells_old turn took.
-      by_stop job lines finish (world old) (world t) (taking job lines plan (world old) (law old tells_old) step rest (Err finish) (world s) (world t) turn.0 took) turn.1 took.stops
-      (λ sound. (took.holds job (record { n_is = refl; text_is = refl; steps_are = refl }) (turn.0.sound sound).holds).err) took.damaged)
+  -- where the lines that remain rise from a step all lines before it were said
+  all_said : (step : ℕ) (rest : List LineEnd) (a b : World) → IsTrue (rise_from step rest) → (at : AtStep job lines step rest a b) → ended_before step lines ≤ at.place
+  all_said step rest a b rise at = ended_most step lines at.place (subst (λ ls. IsTrue (rise_from step ls)) at.rest_is rise)
 
-  pub takes_step : (step : ℕ) (rest : List LineEnd) (e : Entry) (old s t : S) → step < length job.steps → Told tells old s (Turn job lines step rest (world old) (world s))
+  -- a step is taken, or stops the run
+  pub stops_step : (step : ℕ) (rest : List LineEnd) (finish : Finish) (old s t : S) → IsTrue (rise_from step rest) → Told tells old s (Turn job lines step rest (world old) (world s))
+      → Told tells s t (TakesStep job.n job.text job.steps step (Err finish) (world s) (world t)) → Told tells old t (RunsSteps job lines finish (world old) (world t))
+  stops_step step rest finish old s t rise so_far takes = record {
+    before = λ tells_t. so_far.before (takes.before tells_t);
+    did = λ tells_t.
+        let tells_s : IsTrue (tells s) = takes.before tells_t in
+        let tells_old : IsTrue (tells old) = so_far.before tells_s in
+        let turn = so_far.did tells_s in
+        let took = takes.did tells_t in
+        let said_all : ended_before step lines ≤ turn.0.place = all_said step rest (world old) (world s) rise turn.0 in
+        by_stop job lines finish (world old) (world t) (taking job lines plan (world old) (law old tells_old) step rest (world s) turn.0 (world t) (Err finish) said_all took) turn.1 took.stops
+        (λ sound. (took.holds job (record { n_is = refl; text_is = refl; steps_are = refl }) (turn.0.sound sound).holds).err)
+        (λ f at e. record {
+          front = since job lines plan (world old) (law old tells_old) step rest (world s) turn.0;
+          said_is = took.run.station.said_is ∙ turn.0.said_is;
+          whole = inr (shape_of job lines plan (world old) (law old tells_old) step rest (world s) turn.0 (present (now (world t)).folder)
+              (same_at job lines plan (world old) (law old tells_old) step rest (world s) turn.0 (world t) (Err finish) said_all took (now (world t))
+              (ran_end (world s) (world t) (λ m. IsTaking (length job.steps) step (now (world s)).folder m.folder) took.run)));
+          place = inr (damaged_at_first job lines plan (world old) (law old tells_old) step rest (world s) turn.0 f at
+              (present_count (now (world s)).folder step (law s tells_s) turn.0.ready) (took.damaged f at e));
+        });
+  }
+
+  pub takes_step : (step : ℕ) (rest : List LineEnd) (e : Entry) (old s t : S) → step < length job.steps → IsTrue (rise_from step rest)
+      → Told tells old s (Turn job lines step rest (world old) (world s))
       → Told tells s t (TakesStep job.n job.text job.steps step (Ok e) (world s) (world t)) → Told tells old t (Taken job lines step rest e (world old) (world t))
-  takes_step step rest e old s t within so_far takes = told_then tells old s t _ _ _ so_far takes (λ tells_old turn took.
-      let both = has_taken job lines plan (world old) (law old tells_old) step rest e (world s) (world t) within turn.0 took in ((both.0, turn.1), both.1))
+  takes_step step rest e old s t within rise so_far takes = told_then tells old s t _ _ _ so_far takes (λ tells_old turn took.
+      let both = has_taken job lines plan (world old) (law old tells_old) step rest (world s) turn.0 e (world t) within (all_said step rest (world old) (world s) rise turn.0) took in
+      ((both.0, turn.1), both.1))
 
   pub is_ready : (step : ℕ) (rest : List LineEnd) (old s : S) → Told tells old s (Turn job lines step rest (world old) (world s)) → IsTrue (tells s) → IsReady step (now (world s)).folder
   is_ready step rest old s so_far tells_s = (so_far.did tells_s).0.ready
 
   -- lines are said, or stop the run
   module _ (step count : ℕ) (rest : List LineEnd) (e : Entry) (number : e.number ≡ step) (old s t : S) (inside : count ≤ length rest)
-      (front : IsTrue (list_all (λ (l : LineEnd). nat_lt l.last (step + 1)) (take count rest))) (so_far : Told tells old s (Taken job lines step rest e (world old) (world s))) where
+      (front : IsTrue (list_all (λ (l : LineEnd). nat_lt l.last (step + 1)) (take count rest)))
+      (shows : IsTrue (list_all (λ (l : LineEnd). nat_lt l.shows (step + 1)) (take count rest))) (so_far : Told tells old s (Taken job lines step rest e (world old) (world s))) where
     entry : (a b : World) → Taken job lines step rest e a b → AreSound job (now a).folder → IsEntryOfStep job e.number e
     entry a b taken sound = subst (λ k. IsEntryOfStep job k e) (sym number) (taken.1 sound)
 
     pub stops_lines : (finish : Finish) → Told tells s t (SaysLines job.steps (e.number + 1) (take count rest) e (Err finish) (world s) (world t))
         → Told tells old t (RunsSteps job lines finish (world old) (world t))
-    stops_lines finish says = told_then tells old s t _ _ _ so_far says (λ tells_old taken said_them.
-        let by_step : SaysLines job.steps (step + 1) (take count rest) e (Err finish) (world s) (world t) =
-        subst (λ k. SaysLines job.steps (k + 1) (take count rest) e (Err finish) (world s) (world t)) number said_them in
-        by_stop job lines finish (world old) (world t)
-        (says_lines job lines plan (world old) (law old tells_old) (step + 1) count rest e (world s) (world t) (Err finish) taken.0.0 inside front (entry (world old) (world s) taken) by_step)
-        taken.0.1 by_step.stops
-        (λ sound. (by_step.holds job plan.well_formed refl (taken.0.0.sound sound).holds (entry (world old) (world s) taken sound)).err) by_step.damaged)
+    stops_lines finish says = record {
+      before = λ tells_t. so_far.before (says.before tells_t);
+      did = λ tells_t.
+          let tells_s : IsTrue (tells s) = says.before tells_t in
+          let tells_old : IsTrue (tells old) = so_far.before tells_s in
+          let taken = so_far.did tells_s in
+          let at = taken.0.0 in
+          let by_step : SaysLines job.steps (step + 1) (take count rest) e (Err finish) (world s) (world t) =
+          subst (λ k. SaysLines job.steps (k + 1) (take count rest) e (Err finish) (world s) (world t)) number (says.did tells_t) in
+          by_stop job lines finish (world old) (world t)
+          (says_lines job lines plan (world old) (law old tells_old) (step + 1) count rest e (world s) (world t) (Err finish) at inside front shows (entry (world old) (world s) taken) by_step)
+          taken.0.1 by_step.stops
+          (λ sound. (by_step.holds job plan.well_formed refl (at.sound sound).holds (entry (world old) (world s) taken sound)).err)
+          (λ f place same.
+          let stopped = by_step.damaged f place same in
+          let behind = whole_behind job lines plan (world old) (law old tells_old) (step + 1) count rest e (world s) (world t) (Err finish) at inside front shows
+          (entry (world old) (world s) taken) by_step stopped.1 in
+          record {
+            front = behind.0;
+            said_is = behind.1;
+            whole = inr behind.2;
+            place = inr (damaged_at_first job lines plan (world old) (law old tells_old) (step + 1) rest (world s) at f place
+                (present_count (now (world s)).folder (step + 1) (law s tells_s) at.ready) stopped.0);
+          });
+    }
 
     pub said_lines : (x : Unit) → Told tells s t (SaysLines job.steps (e.number + 1) (take count rest) e (Ok x) (world s) (world t))
         → Told tells old t (Turn job lines (step + 1) (drop count rest) (world old) (world t))
     said_lines x says = told_then tells old s t _ _ _ so_far says (λ tells_old taken said_them.
         let by_step : SaysLines job.steps (step + 1) (take count rest) e (Ok x) (world s) (world t) =
         subst (λ k. SaysLines job.steps (k + 1) (take count rest) e (Ok x) (world s) (world t)) number said_them in (
-          has_said_lines job lines plan (world old) (law old tells_old) (step + 1) count rest e (world s) (world t) (Ok x) taken.0.0 inside front (entry (world old) (world s) taken) by_step x refl,
+          has_said_lines job lines plan (world old) (law old tells_old) (step + 1) count rest e (world s) (world t) (Ok x) taken.0.0 inside front shows (entry (world old) (world s) taken) by_step x refl,
           taken.0.1,
         ))
 
@@ -300,7 +363,9 @@ module _ {S : Type 0} (tells : S → Bool) (world : S → World) (law : (s : S) 
   pub says_done : (step : ℕ) (rest : List LineEnd) (piece : List ℕ) (result : Result Unit Failed) (old s t : S) → length job.steps ≤ step → rest ≡ [] → piece ≡ done_line
       → Told tells old s (Turn job lines step rest (world old) (world s)) → Told tells s t (Said piece result (world s) (world t))
       → Told tells old t ((Ongoing job lines (world old) (world t) × IsThisJob job (world old))
-      × OnOk result ((AreSound job (now (world old)).folder → said (world t) ≡ said (world old) ++ text_at job lines (world old)) × HaveCount (length job.steps) (now (world t)).folder))
+      × OnOk result ((AreSound job (now (world old)).folder → said (world t) ≡ said (world old) ++ text_at job lines (world old)) × HaveCount (length job.steps) (now (world t)).folder
+      × AreEmptied job.steps (done_at (world old)) (length job.steps) (now (world t)).folder
+      × HasSaid (λ text folder. IsWholeShape job.steps lines (present (now (world old)).folder) (present folder) text) (now (world old)) (now (world t))))
   says_done step rest piece result old s t all none piece_is so_far call = told_then tells old s t _ _ _ so_far call (λ tells_old turn did.
       let upto : step ≤ length job.steps = turn.0.upto in
       let same : step ≡ length job.steps = omega (arith, all, upto) in
@@ -309,6 +374,15 @@ module _ {S : Type 0} (tells : S → Bool) (world : S → World) (law : (s : S) 
       ((both.0, turn.1), both.1))
 
   pub is_done : (old t : S) → Told tells old t ((Ongoing job lines (world old) (world t) × IsThisJob job (world old))
-      × ((AreSound job (now (world old)).folder → said (world t) ≡ said (world old) ++ text_at job lines (world old)) × HaveCount (length job.steps) (now (world t)).folder))
+      × ((AreSound job (now (world old)).folder → said (world t) ≡ said (world old) ++ text_at job lines (world old)) × HaveCount (length job.steps) (now (world t)).folder
+      × AreEmptied job.steps (done_at (world old)) (length job.steps) (now (world t)).folder
+      × HasSaid (λ text folder. IsWholeShape job.steps lines (present (now (world old)).folder) (present folder) text) (now (world old)) (now (world t))))
       → Told tells old t (RunsSteps job lines Done (world old) (world t))
-  is_done old t so_far = told tells old t _ _ so_far (λ _ both. to_the_end job lines (world old) (world t) both.0.0 both.0.1 both.1.0 both.1.1)
+  is_done old t so_far = told tells old t _ _ so_far (λ _ both. to_the_end job lines (world old) (world t) both.0.0 both.0.1 both.1.0 both.1.1 both.1.2 both.1.3)
+
+module _ {S : Type 0} (tells : S → Bool) (world : S → World) where
+  -- the entry of a step that was taken stands at its place
+  pub made_stands : (n : ℕ) (text : List ℕ) (steps : List Planned) (step : ℕ) (e : Entry) (s t : S) → e.number ≡ step
+      → Told tells s t (TakesStep n text steps step (Ok e) (world s) (world t)) → IsTrue (tells t) → IsEntryOf e.number (present (now (world t)).folder) e
+  made_stands n text steps step e s t number takes tells_t =
+      subst (λ k. IsEntryOf k (present (now (world t)).folder) e) (sym number) (takes.did tells_t).made.stands

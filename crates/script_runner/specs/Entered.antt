@@ -1,17 +1,18 @@
 -- What a run of a job in a folder leaves, from entering it on.
-use Rattle.std.specs.Prelude.{◌≡◌, ℕ, ◌⊎◌, List, ◌++◌, length}
+use Rattle.std.specs.Prelude.{◌≡◌, ℕ, ◌⊎◌, List, [], ◌++◌, length}
 use Rattle.shelf_model.specs.declared.file_no.FileNo.{FileNo}
 use Rattle.shelf_model.specs.World.{Moment, World, now, said}
 use Rattle.shelf_model.specs.Moments.{Throughout, OnlyOldImages}
 use Rattle.shelf_model.specs.Faults.{Faults, Rose}
-use Rattle.catalogue.specs.Counts.{present}
+use Rattle.catalogue.specs.Counts.{present, count_in}
 use Rattle.sound_image.specs.Jobs.{Job}
 use Rattle.sound_image.specs.Holds.{AreSound, HaveCount}
 use Rattle.script_reader.specs.declared.plan.LineEnd.{LineEnd}
 use Rattle.script_runner.specs.declared.ending.Ending.{Ending}
 use Rattle.script_runner.specs.declared.ending.Ending.TheVariants.{FolderFault, SayFault}
 use Rattle.script_runner.specs.Text.{run_text, other_job_line, damaged_line}
-use Rattle.script_runner.specs.Running.{SaysFront, OthersAre, IsSafeRun, IsOther, HasOtherJob, IsDamage, IsEntryDamage}
+use Rattle.script_runner.specs.Shapes.{AreWhole, IsWholeShape, IsTail}
+use Rattle.script_runner.specs.Running.{SaysFront, IsRunning, HasSaid, IsOther, HasOtherJob, IsDamage, IsEntryDamage, AreEmptied}
 
 -- the statuses of a run that was done, refused its folder, or met a fault of the folder or of saying
 abbrev pub EndsRun : ℕ → Type 0
@@ -29,30 +30,41 @@ pub record RefusesOther (job : List ℕ) (status : ℕ) (start : Moment) (old ne
   pub status_is : (status ≡ 5) ⊎ (status ≡ 7) ⊎ (status ≡ 8)
   pub whole : status ≡ 5 → said new ≡ start.said ++ other_job_line at
 
--- a damaged place was named at the end of what was said: it was met before anything was done, or where an entry was read
-pub record NamesDamage (job : Job) (start : Moment) (old new : World) : Type 0 where
+-- a damaged place of the old folder was named behind whole lines: it was met before anything was done, or where an entry was read
+pub record NamesDamage (job : Job) (lines : List LineEnd) (start : Moment) (old new : World) : Type 0 where
   pub file : FileNo
   pub at : ℕ
   pub before : List ℕ
-  pub said_is : said new ≡ before ++ damaged_line file at
-  pub place : (IsDamage (length job.steps) file at (present start.folder) × (before ≡ start.said) × Throughout old new (OnlyOldImages start))
-      ⊎ IsEntryDamage job.steps file at (present (now new).folder)
+  pub said_is : said new ≡ start.said ++ (before ++ damaged_line file at)
+  pub whole : AreWhole job.steps lines (present start.folder) (present (now new).folder) before
+  pub place : (IsDamage (length job.steps) file at (present start.folder) × (before ≡ []) × Throughout old new (OnlyOldImages start))
+      ⊎ IsEntryDamage job.steps file at (present start.folder)
+
+-- a moment of a run: what was said since is a front part of its lines and a front part of a status's line behind whole ones, and where
+-- each image was sound at first no status has a line so far
+pub record IsMoment (job : Job) (lines : List LineEnd) (start m : Moment) : Type 0 where
+  pub front : List ℕ
+  pub tail : List ℕ
+  pub said_is : m.said ≡ start.said ++ (front ++ tail)
+  pub running : IsRunning job lines start.folder front m.folder
+  pub tail_is : IsTail job.steps lines (present start.folder) (present m.folder) front tail
+  pub no_tail : AreSound job start.folder → tail ≡ []
 
 -- what a run of a job leaves by the moment at which it was started
 pub record RunsFrom (job : Job) (lines : List LineEnd) (status : ℕ) (start : Moment) (old new : World) : Type 0 where
-  pub others : Throughout old new (λ m. OthersAre (length job.steps) start.folder m.folder)
-  -- where each image was sound for the job at first: a front part of its text was said at each moment and each image is safe, the
-  -- folder isn't refused, and with 0 the whole text was said
-  pub running : AreSound job start.folder → Throughout old new (IsSafeRun job lines start)
+  pub moments : Throughout old new (IsMoment job lines start)
+  -- where each image was sound for the job at first the folder isn't refused, and with 0 the whole text was said
   pub goes_on : AreSound job start.folder → ¬ (Refused status)
   pub whole : AreSound job start.folder → status ≡ 0 → said new ≡ start.said ++ run_text job lines (present start.folder)
-  -- with 0 every image has all steps
+  -- with 0 all lines were said, every image has all steps, and what was dropped since is empty
+  pub says : status ≡ 0 → HasSaid (λ text folder. IsWholeShape job.steps lines (present start.folder) (present folder) text) start (now new)
   pub all : status ≡ 0 → HaveCount (length job.steps) (now new).folder
+  pub emptied : status ≡ 0 → AreEmptied job.steps (count_in (present start.folder)) (length job.steps) (now new).folder
   -- a folder that stores another job is refused, and with 5 it is such a one
   pub other : IsOther job.bytes (present start.folder) → RefusesOther job.bytes status start old new
   pub only_other : status ≡ 5 → IsOther job.bytes (present start.folder)
   -- with 10 a damaged place is named
-  pub damaged : status ≡ 10 → NamesDamage job start old new
+  pub damaged : status ≡ 10 → NamesDamage job lines start old new
 
 -- a job was run in the folder of that path
 pub record RunsIn (folder : List ℕ) (job : Job) (lines : List LineEnd) (status : ℕ) (old new : World) : Type 0 where

@@ -2,13 +2,12 @@
 use Rattle.std.specs.Prelude.{ℕ, List, ◌++◌, length, replicate, codes}
 use Rattle.byteorder.specs.Endian.{big_bytes}
 use Rattle.sound_image.specs.Jobs.{Job}
-use Rattle.script_reader.specs.Script.{Script}
-use Rattle.script_reader.specs.Plans.{plan_of}
+use Rattle.script_reader.specs.declared.plan.Plan.{Plan}
 
 -- the version of the layout, the records of the run's room, the length of the script, no netlist, and the script
 unfoldable pub job_bytes : List ℕ → List ℕ
 job_bytes script = codes "ADIARJ01" ++ big_bytes 4 262144 ++ big_bytes 4 (length script) ++ replicate 4 255 ++ script
 
--- the job that a text stands for, which is accepted as this script
-abbrev pub job_of : List ℕ → Script → Job
-job_of text script = let plan = plan_of script in record { n = plan.n; text = text; steps = plan.steps; bytes = job_bytes text }
+-- the job of a text that asks for this plan
+abbrev pub job_of : List ℕ → Plan → Job
+job_of text plan = record { n = plan.n; text = text; steps = plan.steps; bytes = job_bytes text }

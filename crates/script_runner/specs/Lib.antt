@@ -1,9 +1,11 @@
 pub mod Words
 pub mod Text
+pub mod Shapes
 pub mod Said
 pub mod Causes
 pub mod Running
 pub mod StepRuns
+pub mod Calls
 pub mod Fetching
 pub mod JobOf
 pub mod Status

@@ -1,42 +1,77 @@
--- Runs of one script, each on what a stop left of the one before.
-use Rattle.std.specs.Prelude.{◌≡◌, ℕ, ◌≤◌, List, [], ◌∷◌, ◌++◌}
+-- Calls of the program in one folder, one after the other, each ended by its status, by a kill or by a power cut.
+use Rattle.std.specs.Prelude.{◌≡◌, ◌⊎◌, ℕ, ◌<◌, ◌≤◌, IsTrue, List, [], ◌∷◌, ◌++◌}
 use Rattle.shelf_model.specs.declared.file_no.FileNo.{FileNo}
 use Rattle.shelf_model.specs.File.{firm_file}
-use Rattle.shelf_model.specs.Folder.{Image, file_in, bytes_in}
+use Rattle.shelf_model.specs.Folder.{Folder, Image, file_in, bytes_in, IsImage, AreFiles}
 use Rattle.shelf_model.specs.World.{World, now, said}
-use Rattle.shelf_model.specs.Moments.{Left}
-use Rattle.catalogue.specs.Counts.{count_in}
-use Rattle.sound_image.specs.Jobs.{Job}
-use Rattle.sound_image.specs.Sound.{IsSound}
-use Rattle.script_reader.specs.declared.plan.LineEnd.{LineEnd}
-use Rattle.script_runner.specs.Said.{said_count}
-use Rattle.script_reader.specs.Script.{Script}
-use Rattle.script_runner.specs.Outcome.{Accepts, Ends}
+use Rattle.catalogue.specs.Counts.{present, is_stored, count_in}
+use Rattle.sound_image.specs.Holds.{AreSound}
+use Rattle.script_reader.specs.declared.plan.Plan.{Plan}
+use Rattle.script_runner.specs.Said.{whole_lines, said_count}
+use Rattle.script_runner.specs.Running.{ReachesCount}
+use Rattle.script_runner.specs.JobOf.{job_of}
+use Rattle.script_runner.specs.Outcome.{Accepts, EndsRan, Ends}
 
--- a call of the program, the image that it began on, what it said until a stop, and the image that the stop left
+-- a call of the program, the moment at which it was ended, what it had said by then, and the folder that was left
 pub record Life : Type 0 where
-  pub begun : Image
+  pub words : List (List ℕ)
   pub status : ℕ
   pub old : World
   pub new : World
+  pub at : ℕ
   pub told : List ℕ
-  pub left : Image
+  pub left : Folder
 
--- the folder held that image and nothing pending, the words name this text, and at some moment of the call a stop may leave what was left
-pub record IsLife (words : List (List ℕ)) (script : Script) (text : List ℕ) (life : Life) : Type 0 where
-  pub entered : (f : FileNo) → file_in (now life.old).folder f ≡ firm_file (bytes_in life.begun f)
-  pub accepts : Accepts life.old words script
+-- the files of both folders are alike
+abbrev pub SameFiles : Folder → Folder → Type 0
+SameFiles a b = (f : FileNo) → file_in a f ≡ file_in b f
+
+-- the folder was left as it stood, what was pending with it, or as one of its images, with nothing pending
+abbrev pub IsLeftOf : Folder → Folder → Type 0
+IsLeftOf folder left =
+    SameFiles left folder ⊎ ((image : Image) × IsImage folder image × ((f : FileNo) → file_in left f ≡ firm_file (bytes_in image f)))
+
+-- the call found that folder, in which every file is one that can be, and was ended at a moment of it, which is its last where it came
+-- to its end
+pub record IsLife (folder : Folder) (life : Life) : Type 0 where
+  pub found : SameFiles (now life.old).folder folder
+  pub files : AreFiles (now life.old).folder
+  pub ends : Ends life.words life.status life.old life.new
+  pub since : life.old.clock ≤ life.at
+  pub until : life.at ≤ life.new.clock
+  pub said_is : (life.new.moment life.at).said ≡ said life.old ++ life.told
+  pub leaves : IsLeftOf (life.new.moment life.at).folder life.left
+
+-- the words name this text, which asks for this plan
+pub record RunsPlan (text : List ℕ) (plan : Plan) (life : Life) : Type 0 where
+  pub accepts : Accepts life.old life.words plan
   pub text_is : accepts.text ≡ text
-  pub ends : Ends words life.status life.old life.new
-  pub stop : Left life.new life.old.clock (said life.old ++ life.told) life.left
 
--- the first life begins on an image, and each further one on what the one before left
-abbrev pub AreLives : List (List ℕ) → Script → List ℕ → Image → List Life → Type 0
-AreLives words script text image [] = Unit
-AreLives words script text image (life ∷ lives) = (life.begun ≡ image) × IsLife words script text life × AreLives words script text life.left lives
+-- the call ended before it entered the folder
+abbrev pub StaysOut : Life → Type 0
+StaysOut life = ¬ (EndsRan life.words life.status life.old life.new)
 
--- what a life leaves is sound, and has each step that the image had that it began on, and each step whose line it said
-pub record LifeKeeps (job : Job) (lines : List LineEnd) (life : Life) : Type 0 where
-  pub sound : IsSound job (bytes_in life.left)
-  pub has_old : count_in (bytes_in life.begun) ≤ count_in (bytes_in life.left)
-  pub has_said : said_count (count_in (bytes_in life.begun)) lines life.told ≤ count_in (bytes_in life.left)
+-- every image of the folder stores a job
+abbrev pub AreStored : Folder → Type 0
+AreStored folder = (image : Image) → IsImage folder image → IsTrue (is_stored (bytes_in image))
+
+-- each call found what the one before left; its words are those of one job, or it stayed out, or every image stored a job already
+abbrev pub AreLives : List ℕ → Plan → Folder → List Life → Type 0
+AreLives text plan folder [] = Unit
+AreLives text plan folder (life ∷ lives) =
+    IsLife folder life × (RunsPlan text plan life ⊎ StaysOut life ⊎ AreStored folder) × AreLives text plan life.left lives
+
+-- what a call leaves of a folder: each image is sound for the job, no step that all images had is lost, and a job that all of them
+-- store stays; where it ran the job each image has each step whose line it said, and stores the job where it said its banner
+pub record LifeKeeps (text : List ℕ) (plan : Plan) (folder : Folder) (life : Life) : Type 0 where
+  pub sound : AreSound (job_of text plan) life.left
+  pub has_old : (count : ℕ) → ReachesCount count folder → ReachesCount count life.left
+  pub still_stored : AreStored folder → AreStored life.left
+  pub has_said : RunsPlan text plan life → (image : Image) → IsImage life.left image
+      → said_count (count_in (present folder)) plan.lines life.told ≤ count_in (bytes_in image)
+  pub has_job : RunsPlan text plan life → 0 < whole_lines life.told → AreStored life.left
+
+-- each call of the list does
+abbrev pub LivesKeep : List ℕ → Plan → Folder → List Life → Type 0
+LivesKeep text plan folder [] = Unit
+LivesKeep text plan folder (life ∷ lives) = LifeKeeps text plan folder life × LivesKeep text plan life.left lives

@@ -1,32 +1,33 @@
 -- What a call of the program leaves, by its words and the texts of its station.
-use Rattle.std.specs.Prelude.{◌≡◌, ℕ, ◌⊎◌, List, [], ◌∷◌, ◌++◌, ◌==◌, Some, None, IsTrue}
+use Rattle.std.specs.Prelude.{◌≡◌, ℕ, ◌+◌, ◌≤◌, ◌⊎◌, List, [], ◌∷◌, ◌++◌, length, ◌==◌, Some, None, IsTrue}
 use Rattle.std.specs.List.{list_any}
 use Rattle.shelf_model.specs.World.{World, said}
 use Rattle.shelf_model.specs.Faults.{Faults, Rose}
 use Rattle.script_runner.specs.Words.{Reading, reading_of}
-use Rattle.script_reader.specs.Script.{Script, IsAccepted}
-use Rattle.script_reader.specs.Plans.{plan_of}
+use Rattle.script_reader.specs.declared.plan.Plan.{Plan}
+use Rattle.script_reader.specs.Reads.{Reads}
 use Rattle.script_runner.specs.Text.{usage_line, refused_line}
 use Rattle.script_runner.specs.Fetching.{OnlyFetched}
 use Rattle.script_runner.specs.Running.{SaysOnly}
-use Rattle.script_runner.specs.JobOf.{job_of}
+use Rattle.script_runner.specs.Calls.{most_calls, fetch_calls}
+use Rattle.script_runner.specs.JobOf.{job_bytes, job_of}
 use Rattle.script_runner.specs.Entered.{RunsIn}
 
--- the words name a script, and the text at its path is accepted as this one
-pub record Accepts (w : World) (words : List (List ℕ)) (script : Script) : Type 0 where
+-- the words name a script, and the text at its path asks for this plan
+pub record Accepts (w : World) (words : List (List ℕ)) (plan : Plan) : Type 0 where
   pub reading : Reading
   pub words_are : reading_of words ≡ Some reading
   pub text : List ℕ
   pub there : w.texts reading.script ≡ Some text
-  pub accepted : IsAccepted text script
+  pub accepted : Reads text plan
 
--- the words name a script, and the text at its path isn't accepted
+-- the words name a script, and the text at its path asks for no plan
 pub record Refuses (w : World) (words : List (List ℕ)) : Type 0 where
   pub reading : Reading
   pub words_are : reading_of words ≡ Some reading
   pub text : List ℕ
   pub there : w.texts reading.script ≡ Some text
-  pub refused : (script : Script) → ¬ (IsAccepted text script)
+  pub refused : (plan : Plan) → ¬ (Reads text plan)
 
 -- a line was said, or with 8 a front part of it, and nothing else was done
 pub record SaysLine (line : List ℕ) (good status : ℕ) (old new : World) : Type 0 where
@@ -53,9 +54,9 @@ pub record EndsRefused (words : List (List ℕ)) (status : ℕ) (old new : World
 
 -- the script is accepted, and its job was run in the folder that the words name
 pub record EndsRan (words : List (List ℕ)) (status : ℕ) (old new : World) : Type 0 where
-  pub script : Script
-  pub accepts : Accepts old words script
-  pub run : RunsIn accepts.reading.folder (job_of accepts.text script) (plan_of script).lines status old new
+  pub plan : Plan
+  pub accepts : Accepts old words plan
+  pub run : RunsIn accepts.reading.folder (job_of accepts.text plan) plan.lines status old new
 
 -- the program ended in one of four ways
 abbrev pub Ends : List (List ℕ) → ℕ → World → World → Type 0
@@ -73,3 +74,17 @@ pub record StatusHasCause (words : List (List ℕ)) (status : ℕ) (old new : Fa
   pub text_fault : status ≡ 6 → (reading : Reading) × (reading_of words ≡ Some reading) × Rose (old.text reading.script) (new.text reading.script)
   pub folder_fault : status ≡ 7 → Rose old.folder new.folder
   pub say_fault : status ≡ 8 → Rose old.say new.say
+
+-- no call failed: neither the count of the script's path rose, nor that of the folder or of saying
+pub record NoneRose (words : List (List ℕ)) (old new : Faults) : Type 0 where
+  pub text_same : (reading : Reading) → reading_of words ≡ Some reading → ¬ (Rose (old.text reading.script) (new.text reading.script))
+  pub folder_same : ¬ (Rose old.folder new.folder)
+  pub say_same : ¬ (Rose old.say new.say)
+
+-- the calls of the station: those of reading the text of at most 1,048,576 bytes and saying a line, or, where a job was run, those of
+-- entering the folder and of a run of its steps and lines besides
+abbrev pub MakesFewCalls : List (List ℕ) → World → World → Type 0
+MakesFewCalls words old new =
+    (new.clock ≤ old.clock + fetch_calls 1048576 + 1)
+    ⊎ ((plan : Plan) × (accepts : Accepts old words plan)
+    × (new.clock ≤ old.clock + fetch_calls 1048576 + 2 + most_calls (length plan.steps) (length plan.lines) (length (job_bytes accepts.text))))

@@ -1,15 +1,17 @@
 -- What holds at every moment of a run, and what a run leaves.
-use Rattle.std.specs.Prelude.{◌≡◌, ◌≢◌, ◌⊎◌, ℕ, ◌+◌, ◌*◌, ◌<◌, ◌≤◌, IsTrue, List, ◌++◌, length, get_or, nat_eq}
+use Rattle.std.specs.Prelude.{◌≡◌, ◌≢◌, ◌⊎◌, ℕ, ◌-◌, ◌*◌, ◌/◌, ◌<◌, ◌≤◌, IsTrue, List, [], ◌++◌, length, take, get_or, nat_eq}
 use Rattle.std.specs.List.{common_prefix_len}
 use Rattle.shelf_model.specs.declared.file_no.FileNo.{FileNo}
-use Rattle.shelf_model.specs.Folder.{Folder, Image, file_in, bytes_in, IsImage}
+use Rattle.shelf_model.specs.Folder.{Folder, Image, file_in, bytes_in, IsImage, OnlyChanges}
 use Rattle.shelf_model.specs.World.{Moment, World, now, said}
 use Rattle.shelf_model.specs.Moments.{Throughout, OnlyOldImages}
+use Rattle.bool_tables.specs.declared.steps.Step.TheVariants as step
 use Rattle.bool_tables.specs.declared.steps.Planned.{Planned}
 use Rattle.catalogue.specs.declared.layout.Entry.{Entry}
 use Rattle.catalogue.specs.Entries.{IsEntryOf}
 use Rattle.catalogue.specs.Files.{job_file, catalogue, step_gate}
 use Rattle.catalogue.specs.Counts.{present, is_stored, count_in}
+use Rattle.sound_image.specs.Files.{node_file}
 use Rattle.sound_image.specs.Jobs.{Job, no_step}
 use Rattle.sound_image.specs.Entries.{kind_of}
 use Rattle.sound_image.specs.Sound.{IsSound}
@@ -17,8 +19,9 @@ use Rattle.sound_image.specs.Holds.{AreSound, HaveCount}
 use Rattle.script_reader.specs.declared.plan.LineEnd.{LineEnd}
 use Rattle.script_runner.specs.declared.finish.Finish.{Finish}
 use Rattle.script_runner.specs.declared.finish.Finish.TheVariants.{Done, OtherJob, FolderFault, SayFault, Damaged}
-use Rattle.script_runner.specs.Text.{run_text}
-use Rattle.script_runner.specs.Said.{whole_lines, said_count}
+use Rattle.script_runner.specs.Text.{ended_before, run_text}
+use Rattle.script_runner.specs.Shapes.{IsShapeFront, AreWhole, IsWholeShape}
+use Rattle.script_runner.specs.Said.{whole_lines, acknowledged, said_count}
 
 -- after what was said before, a front part of the text was said
 pub record SaysFront (before text bytes : List ℕ) : Type 0 where
@@ -52,23 +55,53 @@ pub record IsSafe (job : Job) (lines : List LineEnd) (old : Folder) (bytes : Lis
   pub has_old : (count : ℕ) → ReachesCount count old → count ≤ count_in r
   pub stored : 0 < whole_lines bytes → IsTrue (is_stored r)
 
+-- a job is stored, so many steps are counted at least, and the catalogue begins with these bytes
+pub record Begins (count : ℕ) (front : List ℕ) (r : FileNo → List ℕ) : Type 0 where
+  pub stored : IsTrue (is_stored r)
+  pub counts : count ≤ length (r step_gate)
+  pub begins : take (length front) (r catalogue) ≡ front
+
+-- each image of the folder does
+abbrev pub AllBegin : ℕ → List ℕ → Folder → Type 0
+AllBegin count front folder = (image : Image) → IsImage folder image → Begins count front (bytes_in image)
+
+-- what all images of the old folder had of committed steps, all images have
+abbrev pub KeepsSteps : Folder → Folder → Type 0
+KeepsSteps old new = (count : ℕ) (front : List ℕ) → length front ≡ 128 * count → AllBegin count front old → AllBegin count front new
+
+-- no line waits: the image is one of the old folder, or the lines of all its committed steps but the last were said, or were before
+abbrev pub WaitsNot : List LineEnd → Folder → List ℕ → Image → Type 0
+WaitsNot lines old front image =
+    IsImage old image ⊎ (ended_before (count_in (bytes_in image) - 1) lines ≤ acknowledged (count_in (present old)) lines front)
+
 -- a file of one of so many steps, or of the job
 abbrev pub IsJobs : ℕ → FileNo → Type 0
 IsJobs steps f = (f.step < steps) ⊎ (f.step ≡ 4294967295)
 
 -- every file of no step and not of the job is as it was
 abbrev pub OthersAre : ℕ → Folder → Folder → Type 0
-OthersAre steps old new = (f : FileNo) → ¬ (IsJobs steps f) → file_in new f ≡ file_in old f
+OthersAre steps = OnlyChanges (IsJobs steps)
 
--- a moment of a run that began where each image was sound for the job: a front part of its text was said, and each image is safe
-pub record IsSafeRun (job : Job) (lines : List LineEnd) (old m : Moment) : Type 0 where
-  pub says : SaysFront old.said (run_text job lines (present old.folder)) m.said
-  pub safe : (image : Image) → IsImage m.folder image → IsSafe job lines old.folder says.front (bytes_in image)
+-- where each image was sound for the job at first: a front part of its text was said, and each image is safe
+pub record IsSafeRun (job : Job) (lines : List LineEnd) (old : Folder) (front : List ℕ) (new : Folder) : Type 0 where
+  pub rest : List ℕ
+  pub text_is : run_text job lines (present old) ≡ front ++ rest
+  pub safe : (image : Image) → IsImage new image → IsSafe job lines old front (bytes_in image)
 
--- a moment of a run: other files are as they were, and where each image was sound at first it is safe
-pub record IsRunning (job : Job) (lines : List LineEnd) (old m : Moment) : Type 0 where
-  pub others : OthersAre (length job.steps) old.folder m.folder
-  pub safe_run : AreSound job old.folder → IsSafeRun job lines old m
+-- a run that began in the old folder and has said this: a front part of whole lines, other files are as they were, no image lost a
+-- committed step, no line waits, and where each image was sound at first it is safe
+pub record IsRunning (job : Job) (lines : List LineEnd) (old : Folder) (front : List ℕ) (new : Folder) : Type 0 where
+  pub shape : IsShapeFront job.steps lines (present old) (present new) front
+  pub others : OthersAre (length job.steps) old new
+  pub keeps : KeepsSteps old new
+  pub waits : (image : Image) → IsImage new image → WaitsNot lines old front image
+  pub safe_run : AreSound job old → IsSafeRun job lines old front new
+
+-- a moment at which P holds of what was said since, and of the folder
+pub record HasSaid (P : List ℕ → Folder → Type 0) (old m : Moment) : Type 0 where
+  pub front : List ℕ
+  pub said_is : m.said ≡ old.said ++ front
+  pub holds : P front m.folder
 
 -- the texts and the folder's path stay, and in its folder the station strays nowhere
 pub record StaysThere (old new : World) : Type 0 where
@@ -87,11 +120,11 @@ pub record HasOtherJob (job : List ℕ) (at : ℕ) (r : FileNo → List ℕ) : T
   pub is_other : IsOther job r
   pub place : at ≡ common_prefix_len nat_eq (r job_file) job
 
--- the step gate counts more than the steps, or the catalogue lacks an entry that it counts, the first one there
+-- the step gate counts more than the steps, or the catalogue lacks an entry that it counts: its first entry that isn't whole
 abbrev pub IsDamage : ℕ → FileNo → ℕ → (FileNo → List ℕ) → Type 0
 IsDamage steps f at r =
     ((f ≡ step_gate) × (at ≡ steps) × (steps < length (r step_gate)))
-    ⊎ ((f ≡ catalogue) × (at ≤ length (r catalogue)) × (length (r catalogue) < at + 128) × (at + 128 ≤ 128 * length (r step_gate)))
+    ⊎ ((f ≡ catalogue) × (at ≡ 128 * (length (r catalogue) / 128)) × (length (r catalogue) < 128 * length (r step_gate)))
 
 -- no entry of a committed step, of the kind of that step, stands whole at its place
 pub record IsEntryDamage (steps : List Planned) (f : FileNo) (at : ℕ) (r : FileNo → List ℕ) : Type 0 where
@@ -126,18 +159,31 @@ pub record IsStill (old m : Moment) : Type 0 where
 abbrev pub StoodStill : World → World → Type 0
 StoodStill old new = Throughout old new (IsStill (now old))
 
+-- a damaged place of the old folder was met: before anything was done, or where an entry was read, behind whole lines
+pub record MeetsDamage (steps : List Planned) (lines : List LineEnd) (f : FileNo) (at : ℕ) (old new : World) : Type 0 where
+  pub front : List ℕ
+  pub said_is : said new ≡ said old ++ front
+  pub whole : AreWhole steps lines (present (now old).folder) (present (now new).folder) front
+  pub place : (IsDamage (length steps) f at (present (now old).folder) × StoodStill old new) ⊎ IsEntryDamage steps f at (present (now old).folder)
+
+-- the file of each diagram that a step from that one on drops is empty
+abbrev pub AreEmptied : List Planned → ℕ → ℕ → Folder → Type 0
+AreEmptied steps from until folder =
+    (k : ℕ) → from ≤ k → k < until → (gone : ℕ) → (get_or steps k no_step).step ≡ step.Drop gone → (file_in folder (node_file gone)).bytes ≡ []
+
 -- a run of the steps of a job
 pub record RunsSteps (job : Job) (lines : List LineEnd) (finish : Finish) (old new : World) : Type 0 where
-  pub moments : Throughout old new (IsRunning job lines (now old))
+  pub moments : Throughout old new (HasSaid (IsRunning job lines (now old).folder) (now old))
   pub stays : StaysThere old new
   -- where each image was sound at first the folder is refused for nothing, and where all was done the whole text was said
   pub goes_on : AreSound job (now old).folder → ¬ (RefusesFolder finish)
   pub whole : AreSound job (now old).folder → finish ≡ Done → said new ≡ said old ++ run_text job lines (present (now old).folder)
-  -- where all was done every image has all steps
+  -- where all was done all lines were said, every image has all steps, and what was dropped since is empty
+  pub says : finish ≡ Done → HasSaid (λ text folder. IsWholeShape job.steps lines (present (now old).folder) (present folder) text) (now old) (now new)
   pub all : finish ≡ Done → HaveCount (length job.steps) (now new).folder
+  pub emptied : finish ≡ Done → AreEmptied job.steps (count_in (present (now old).folder)) (length job.steps) (now new).folder
   -- another job is refused exactly where one is stored, unless a call of the folder failed, and then nothing was done
   pub other_job : (at : ℕ) → finish ≡ OtherJob at → HasOtherJob job.bytes at (present (now old).folder)
   pub refuses_other : IsOther job.bytes (present (now old).folder) → StoodStill old new × (((at : ℕ) × (finish ≡ OtherJob at)) ⊎ (finish ≡ FolderFault))
-  -- damage is met before anything is done, or where an entry is read
-  pub damaged : (f : FileNo) (at : ℕ) → finish ≡ Damaged f at
-      → (IsDamage (length job.steps) f at (present (now old).folder) × StoodStill old new) ⊎ IsEntryDamage job.steps f at (present (now new).folder)
+  -- damage is named where the old folder has it
+  pub damaged : (f : FileNo) (at : ℕ) → finish ≡ Damaged f at → MeetsDamage job.steps lines f at old new

@@ -1,5 +1,5 @@
 -- What one step of a run leaves, and what saying its lines leaves.
-use Rattle.std.specs.Prelude.{◌≡◌, ℕ, ◌+◌, ◌≤◌, IsTrue, List, ◌++◌, length, Result, OnOk, IfOk, IfErr}
+use Rattle.std.specs.Prelude.{◌≡◌, ℕ, ◌+◌, ◌*◌, ◌<◌, ◌≤◌, IsTrue, List, [], ◌++◌, length, take, get_or, Result, OnOk, IfOk, IfErr}
 use Rattle.std.specs.List.{flat_map}
 use Rattle.bool_tables.specs.declared.steps.Planned.{Planned}
 use Rattle.bool_tables.specs.Plans.{IsWellFormed}
@@ -7,14 +7,18 @@ use Rattle.shelf_model.specs.declared.file_no.FileNo.{FileNo}
 use Rattle.shelf_model.specs.declared.fault.StreamFault.TheVariants as stream
 use Rattle.shelf_model.specs.declared.sort_fault.SortFault.{SortFault}
 use Rattle.shelf_model.specs.declared.sort_fault.SortFault.TheVariants as sort
-use Rattle.shelf_model.specs.Folder.{Image, bytes_in, IsImage}
+use Rattle.shelf_model.specs.File.{IsKept}
+use Rattle.shelf_model.specs.Folder.{Folder, Image, file_in, bytes_in, IsImage}
 use Rattle.shelf_model.specs.World.{World, now, said}
 use Rattle.shelf_model.specs.Moments.{Throughout, Stays, Ran}
 use Rattle.catalogue.specs.declared.layout.Entry.{Entry}
+use Rattle.catalogue.specs.Files.{catalogue}
+use Rattle.catalogue.specs.Entries.{IsEntryOf}
 use Rattle.catalogue.specs.Counts.{present, is_stored, count_in}
 use Rattle.catalogue.specs.Commits.{IsReady}
-use Rattle.sound_image.specs.Jobs.{Job}
-use Rattle.sound_image.specs.Entries.{IsEntryOfStep}
+use Rattle.sound_image.specs.Files.{node_file}
+use Rattle.sound_image.specs.Jobs.{Job, no_step}
+use Rattle.sound_image.specs.Entries.{IsEntryOfStep, kind_of}
 use Rattle.sound_image.specs.Sound.{IsSound}
 use Rattle.sound_image.specs.Holds.{Holds}
 use Rattle.step_engine.specs.StepFaults.{IsKindFault}
@@ -22,7 +26,8 @@ use Rattle.script_reader.specs.declared.plan.LineEnd.{LineEnd}
 use Rattle.script_runner.specs.declared.finish.Finish.{Finish}
 use Rattle.script_runner.specs.declared.finish.Finish.TheVariants.{Done, OtherJob, FolderFault, SayFault, Damaged}
 use Rattle.script_runner.specs.Text.{said_line}
-use Rattle.script_runner.specs.Running.{SaysFront, StaysThere, OthersAre, IsEntryDamage, RefusesFolder, IsStop}
+use Rattle.script_runner.specs.Shapes.{AreShown}
+use Rattle.script_runner.specs.Running.{SaysFront, StaysThere, OthersAre, AreEmptied, IsEntryDamage, RefusesFolder, IsStop}
 
 -- the job whose plan this is
 pub record IsJobOf (job : Job) (n : ℕ) (text : List ℕ) (steps : List Planned) : Type 0 where
@@ -36,22 +41,49 @@ pub record HasSteps (job : Job) (count : ℕ) (r : FileNo → List ℕ) : Type 0
   pub counts : count ≤ count_in r
   pub stored : IsTrue (is_stored r)
 
+-- a job is stored, with that many steps or one more
+pub record CountsAbout (step : ℕ) (r : FileNo → List ℕ) : Type 0 where
+  pub stored : IsTrue (is_stored r)
+  pub no_fewer : step ≤ count_in r
+  pub no_more : count_in r ≤ step + 1
+
 -- a step in a folder that holds the steps before it: each image keeps them, and where the step is done the folder holds it too
 pub record HoldsStep (job : Job) (step : ℕ) (result : Result Entry Finish) (old new : World) : Type 0 where
   pub images : Throughout old new (λ m. (image : Image) → IsImage m.folder image → HasSteps job step (bytes_in image))
   pub ok : IfOk result (λ e. Holds job (step + 1) (now new).folder × IsEntryOfStep job step e)
   pub err : IfErr result (λ finish. ¬ (RefusesFolder finish))
 
--- an entry that was met is damaged
+-- an entry that was met is damaged, as it stood before
 abbrev pub NamesEntry : List Planned → World → Finish → Type 0
-NamesEntry steps new finish = (f : FileNo) (at : ℕ) → finish ≡ Damaged f at → IsEntryDamage steps f at (present (now new).folder)
+NamesEntry steps old finish = (f : FileNo) (at : ℕ) → finish ≡ Damaged f at → IsEntryDamage steps f at (present (now old).folder)
+
+-- while a step is taken in a folder with so many steps: files of other steps and of others stay, in each image a job is stored with
+-- the steps before and at most this one, and the entries before it stay, as they are sure and as they are read
+pub record IsTaking (steps step : ℕ) (old new : Folder) : Type 0 where
+  pub others : OthersAre steps old new
+  pub counts : (image : Image) → IsImage new image → CountsAbout step (bytes_in image)
+  pub kept : (front : List ℕ) → length front ≤ 128 * step → IsKept front (file_in old catalogue) → IsKept front (file_in new catalogue)
+  pub reads : take (128 * step) (file_in new catalogue).bytes ≡ take (128 * step) (file_in old catalogue).bytes
+
+-- the entry of a step stands at its place, and is of the step's kind
+pub record HasEntry (steps : List Planned) (step : ℕ) (e : Entry) (r : FileNo → List ℕ) : Type 0 where
+  pub stands : IsEntryOf step r e
+  pub kind_is : e.kind ≡ kind_of (get_or steps step no_step).step
+
+-- a file that was empty is empty
+abbrev pub StaysEmpty : FileNo → Folder → Folder → Type 0
+StaysEmpty f old new = (file_in old f).bytes ≡ [] → (file_in new f).bytes ≡ []
 
 -- a step was made, committed and tidied up, or the run stopped there
 pub record TakesStep (n : ℕ) (text : List ℕ) (steps : List Planned) (step : ℕ) (result : Result Entry Finish) (old new : World) : Type 0 where
-  pub others : Ran (λ m. OthersAre (length steps) (now old).folder m.folder) old new
+  pub run : Ran (λ m. IsTaking (length steps) step (now old).folder m.folder) old new
   pub ready : OnOk result (IsReady (step + 1) (now new).folder)
+  pub made : IfOk result (λ e. HasEntry steps step e (present (now new).folder))
+  -- what the step drops is empty, and so are earlier diagrams' files that were
+  pub emptied : OnOk result (AreEmptied steps step (step + 1) (now new).folder)
+  pub still_empty : OnOk result ((k : ℕ) → k < step → StaysEmpty (node_file k) (now old).folder (now new).folder)
   pub stops : IfErr result IsStop
-  pub damaged : IfErr result (NamesEntry steps new)
+  pub damaged : IfErr result (NamesEntry steps old)
   pub holds : (job : Job) → IsJobOf job n text steps → Holds job step (now old).folder → HoldsStep job step result old new
 
 -- the lines that are right for a job were said, or a front part of them
@@ -60,12 +92,45 @@ pub record SaysRight (job : Job) (lines : List LineEnd) (result : Result Unit Fi
   pub ok : OnOk result (said new ≡ said old ++ flat_map (said_line job) lines)
   pub err : IfErr result (λ finish. ¬ (RefusesFolder finish))
 
--- lines were said that show entries, where the folder holds them the right ones, or the run stopped there
+-- the first of the lines, by the entries that stand at their steps' places
+pub record SpokenLines (steps : List Planned) (lines : List LineEnd) (r : FileNo → List ℕ) (bytes : List ℕ) : Type 0 where
+  pub spoken : List LineEnd
+  pub later : List LineEnd
+  pub parts : lines ≡ spoken ++ later
+  pub shown : AreShown steps r spoken bytes
+
+-- a front part of them was said
+pub record SpeaksLines (steps : List Planned) (lines : List LineEnd) (r : FileNo → List ℕ) (before bytes : List ℕ) : Type 0 where
+  pub part : List ℕ
+  pub said_is : bytes ≡ before ++ part
+  pub rest : List ℕ
+  pub lines_are : SpokenLines steps lines r (part ++ rest)
+
+-- they were said whole
+pub record SpokeWhole (steps : List Planned) (lines : List LineEnd) (r : FileNo → List ℕ) (before bytes : List ℕ) : Type 0 where
+  pub part : List ℕ
+  pub said_is : bytes ≡ before ++ part
+  pub lines_are : SpokenLines steps lines r part
+
+-- all of them were
+pub record SpokeAll (steps : List Planned) (lines : List LineEnd) (r : FileNo → List ℕ) (before bytes : List ℕ) : Type 0 where
+  pub part : List ℕ
+  pub said_is : bytes ≡ before ++ part
+  pub shown : AreShown steps r lines part
+
+-- the entry that was met is damaged, behind whole lines
+abbrev pub StopsBehind : List Planned → List LineEnd → World → World → Finish → Type 0
+StopsBehind steps lines old new finish = (f : FileNo) (at : ℕ) → finish ≡ Damaged f at
+    → IsEntryDamage steps f at (present (now old).folder) × SpokeWhole steps lines (present (now old).folder) (said old) (said new)
+
+-- lines were said, each with what the entry of its step shows, where the folder holds them the right ones, or the run stopped there
 pub record SaysLines (steps : List Planned) (count : ℕ) (lines : List LineEnd) (e : Entry) (result : Result Unit Finish) (old new : World) : Type 0 where
   pub files : Throughout old new (Stays (now old))
   pub stays : StaysThere old new
+  pub speaks : Throughout old new (λ m. SpeaksLines steps lines (present (now old).folder) (said old) m.said)
+  pub ok : OnOk result (SpokeAll steps lines (present (now old).folder) (said old) (said new))
   pub stops : IfErr result IsStop
-  pub damaged : IfErr result (NamesEntry steps new)
+  pub damaged : IfErr result (StopsBehind steps lines old new)
   pub holds : (job : Job) → IsWellFormed job.n job.text job.steps → job.steps ≡ steps → Holds job count (now old).folder → IsEntryOfStep job e.number e
       → SaysRight job lines result old new
 

@@ -1,12 +1,14 @@
 -- What the program says.
-use Rattle.std.specs.Prelude.{ℕ, List, [], ◌∷◌, ◌++◌, length, filter, count_by, nat_le, nat_lt, codes, ◌==◌, if◌then◌else◌}
+use Rattle.std.specs.Prelude.{ℕ, List, [], ◌∷◌, ◌++◌, length, filter, get_or, count_by, nat_le, nat_lt, codes, ◌==◌, if◌then◌else◌}
 use Rattle.std.specs.List.{flat_map}
 use Rattle.std.specs.Fmt.{decimal}
 use Rattle.shelf_model.specs.declared.file_no.FileNo.{FileNo}
 use Rattle.catalogue.specs.Counts.{is_stored, count_in}
 use Rattle.bool_tables.specs.declared.steps.Step.{Step}
 use Rattle.bool_tables.specs.declared.steps.Step.TheVariants.{Const, Var, Pair, Ite, Quantify, Restrict, Drop, Same, Leq, Eval, Size}
-use Rattle.sound_image.specs.Jobs.{Job, step_at}
+use Rattle.bool_tables.specs.declared.steps.Planned.{Planned}
+use Rattle.catalogue.specs.declared.layout.Entry.{Entry}
+use Rattle.sound_image.specs.Jobs.{Job, no_step, step_at}
 use Rattle.sound_image.specs.Entries.{answer_of, count_of}
 use Rattle.script_reader.specs.declared.plan.LineEnd.{LineEnd}
 
@@ -83,6 +85,10 @@ lines_from_step step lines = filter (λ (line : LineEnd). nat_le step line.last)
 abbrev pub said_line : Job → LineEnd → List ℕ
 said_line job line =
     let step = (step_at job line.shows).step in answer_line line.line step (answer_of job step) (count_of job line.shows step)
+
+-- the line that shows what an entry says of its step
+abbrev pub entry_line : List Planned → LineEnd → Entry → List ℕ
+entry_line steps line e = answer_line line.line (get_or steps line.shows no_step).step e.answer e.count
 
 -- the first line of a run of so many lines that begins where the files show what they show
 abbrev pub banner_line : (FileNo → List ℕ) → List LineEnd → List ℕ

@@ -1,6 +1,7 @@
 ghost use Rattle.std.specs.Prelude.{◌≡◌, ◌+◌, ◌^◌, ◌<◌, ◌≤◌, IsTrue, IfOk, IsErrOf, vec_len};
 ghost use Rattle.shelf_model.specs.Calls.{Told};
 ghost use Rattle.shelf_model.specs.Faults.{Rose};
+ghost use Rattle.script_runner.specs.Calls.{fetch_calls};
 ghost use Rattle.script_runner.specs.Fetching.{OnlyFetched, IsText, OnlyTexts};
 ghost use Rattle.script_runner.specs.declared.fetch.FetchFault.TheVariants.{Memory, Text};
 
@@ -37,6 +38,8 @@ pub(crate) fn fetch_text<W: Station>(
     ensures text { IfOk result (λ bytes. IsTrue (W.tells station.new) → IsText path.now most bytes.items (W.world station.old)) }
     ensures within { IfOk result (λ bytes. vec_len bytes ≤ most + 1) }
     ensures cause { IsErrOf result FetchFault.Text → Rose ((W.faults station.old).text path.now) ((W.faults station.new).text path.now) }
+    ensures calls { IsTrue (W.tells station.new)
+        → (W.world station.new).clock ≤ (W.world station.old).clock + fetch_calls most }
     ensures faults { OnlyTexts (W.faults station.old) (W.faults station.new) }
 {
     let mut bytes = Vec::new(alloc);

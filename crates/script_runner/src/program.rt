@@ -1,4 +1,4 @@
-ghost use Rattle.std.specs.Prelude.{◌≡◌, ◌≢◌, ◌⊎◌, ◌<◌, ◌≤◌, ◌++◌, length, map, string_bytes, IsTrue, IfOk};
+ghost use Rattle.std.specs.Prelude.{◌≡◌, ◌≢◌, ◌⊎◌, ◌+◌, ◌<◌, ◌≤◌, ◌++◌, length, map, string_bytes, IsTrue, IfOk};
 ghost use Rattle.bool_tables.specs.Plans.{IsWellFormed};
 ghost use Rattle.shelf_model.specs.World.{said};
 ghost use Rattle.shelf_model.specs.Calls.{Told};
@@ -6,7 +6,8 @@ ghost use Rattle.script_reader.specs.Lines.{AreLines};
 ghost use Rattle.script_reader.specs.Built.{are_built};
 ghost use Rattle.script_runner.specs.Running.{SaysOnly};
 ghost use Rattle.script_runner.specs.Status.{status_of};
-ghost use Rattle.script_runner.specs.Outcome.{Ends, ByWords, StatusHasCause};
+ghost use Rattle.script_runner.specs.Calls.{most_calls};
+ghost use Rattle.script_runner.specs.Outcome.{Ends, ByWords, StatusHasCause, MakesFewCalls};
 ghost use Rattle.script_runner.specs.Entered.{RunsIn, EndsRun, EndingHasCause};
 
 use crate::ending::Ending;
@@ -35,6 +36,8 @@ fn say_refusal<W: Station>(line: &[u8], ending: Ending, station: &mut W) -> Endi
     requires small { (0 < length line.now) × (length line.now ≤ 2048) }
     requires refusal { (ending ≢ Ending.FolderFault) × (ending ≢ Ending.SayFault) }
     ensures content { Told W.tells station.old station.new (SaysOnly line.now (W.world station.old) (W.world station.new)) }
+    ensures calls { IsTrue (W.tells station.new)
+        → (W.world station.new).clock ≤ (W.world station.old).clock + 1 }
     ensures whole { result ≡ ending → IsTrue (W.tells station.new) → said (W.world station.new) ≡ said (W.world station.old) ++ line.now }
     ensures which { (result ≡ ending) ⊎ (result ≡ Ending.SayFault) }
     ensures cause { EndingHasCause (W.faults station.old) (W.faults station.new) result }
@@ -61,6 +64,8 @@ fn run_plan<W: Station>(
     ensures content { Told W.tells station.old station.new
         (RunsIn folder.now (record { n = plan.now.n; text = text.now; steps = plan.now.steps; bytes = job.now }) plan.now.lines
         (status_of result) (W.world station.old) (W.world station.new)) }
+    ensures calls { IsTrue (W.tells station.new) → (W.world station.new).clock ≤ (W.world station.old).clock + 2
+        + most_calls (length plan.now.steps) (length plan.now.lines) (length job.now) }
     ensures which { EndsRun (status_of result) }
     ensures cause { EndingHasCause (W.faults station.old) (W.faults station.new) result }
 {
@@ -97,6 +102,8 @@ fn run_plan<W: Station>(
 fn answer<W: Station>(alloc: Global, words: &[String], station: &mut W) -> Ending
     ensures content { Told W.tells station.old station.new
         (Ends (map string_bytes words.now) (status_of result) (W.world station.old) (W.world station.new)) }
+    ensures calls { IsTrue (W.tells station.new)
+        → MakesFewCalls (map string_bytes words.now) (W.world station.old) (W.world station.new) }
     ensures by_words { ByWords (map string_bytes words.now) (status_of result) }
     ensures causes { StatusHasCause (map string_bytes words.now) (status_of result) (W.faults station.old) (W.faults station.new) }
 {
@@ -150,6 +157,8 @@ fn take_room(alloc: Global) -> Result<Vec<Rec>, AllocError>
 pub fn adiar<W: Station>(alloc: Global, words: &[String], station: &mut W) -> u8
     ensures content { Told W.tells station.old station.new
         (Ends (map string_bytes words.now) result (W.world station.old) (W.world station.new)) }
+    ensures calls { IsTrue (W.tells station.new)
+        → MakesFewCalls (map string_bytes words.now) (W.world station.old) (W.world station.new) }
     ensures by_words { ByWords (map string_bytes words.now) result }
     ensures causes { StatusHasCause (map string_bytes words.now) result (W.faults station.old) (W.faults station.new) }
 {

@@ -1,10 +1,11 @@
-ghost use Rattle.std.specs.Prelude.{◌≡◌, ◌≤◌, IsTrue, length};
+ghost use Rattle.std.specs.Prelude.{◌≡◌, ◌+◌, ◌≤◌, IsTrue, length};
 ghost use Rattle.bool_tables.specs.Plans.{IsWellFormed};
 ghost use Rattle.shelf_model.specs.Calls.{Told};
 ghost use Rattle.script_reader.specs.Lines.{AreLines};
 ghost use Rattle.script_reader.specs.Built.{are_built};
 ghost use Rattle.script_runner.specs.Running.{RunsSteps};
 ghost use Rattle.script_runner.specs.Causes.{FinishHasCause};
+ghost use Rattle.script_runner.specs.Calls.{most_calls};
 
 use crate::Finish;
 use crate::banner::banner_line;
@@ -37,6 +38,8 @@ pub fn run_steps<W: Station>(
     ensures content { Told W.tells station.old station.new
         (RunsSteps (record { n = n; text = text.now; steps = steps.now; bytes = job.now }) lines.now result
         (W.world station.old) (W.world station.new)) }
+    ensures calls { IsTrue (W.tells station.new) → (W.world station.new).clock
+        ≤ (W.world station.old).clock + most_calls (length steps.now) (length lines.now) (length job.now) }
     ensures causes { FinishHasCause (W.faults station.old) (W.faults station.new) result }
 {
     let standing = match attach(job, steps.len() as u32, station) {

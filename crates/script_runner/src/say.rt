@@ -1,5 +1,5 @@
 //! The lines that a run says.
-ghost use Rattle.std.specs.Prelude.{◌≡◌, ◌⊎◌, ◌+◌, ◌<◌, ◌≤◌, [], ◌∷◌, IsTrue, IfOk, IfErr, length, take, drop, get_or, nat_le, nat_lt};
+ghost use Rattle.std.specs.Prelude.{◌≡◌, ◌⊎◌, ◌+◌, ◌*◌, ◌<◌, ◌≤◌, [], ◌∷◌, IsTrue, IfOk, IfErr, length, take, drop, get_or, nat_le, nat_lt};
 ghost use Rattle.std.specs.List.{list_all};
 ghost use Rattle.shelf_model.specs.World.{now};
 ghost use Rattle.shelf_model.specs.Calls.{Told};
@@ -47,6 +47,8 @@ fn shown_entry<S: Shelf>(
     requires committed { IsTrue (S.tells shelf.old) → k < count_in (present (now (S.world shelf.old)).folder) }
     ensures content { Told S.tells shelf.old shelf.new
         (Ran (Stays (now (S.world shelf.old))) (S.world shelf.old) (S.world shelf.new)) }
+    ensures calls { IsTrue (S.tells shelf.new)
+        → (S.world shelf.new).clock ≤ (S.world shelf.old).clock + 1 }
     ensures shown { IfOk result (λ e. (k ≡ made.now.number × (e ≡ made.now))
         ⊎ (IsTrue (S.tells shelf.new) → IsEntryOf k (present (now (S.world shelf.old)).folder) e)) }
     ensures damaged { IfErr result (λ finish. IsTrue (S.tells shelf.new) →
@@ -72,9 +74,13 @@ fn say_line<W: Station>(
 ) -> Result<(), Finish>
     requires within { line.now.shows < length steps.now }
     requires ready { IsTrue (W.tells station.old) → IsReady (made.now.number + 1) (now (W.world station.old)).folder }
+    requires stands { IsTrue (W.tells station.old)
+        → IsEntryOf made.now.number (present (now (W.world station.old)).folder) made.now }
     requires shown { line.now.shows ≤ made.now.number }
     ensures content { Told W.tells station.old station.new
         (SaysLines steps.now (made.now.number + 1) (line.now ∷ []) made.now result (W.world station.old) (W.world station.new)) }
+    ensures calls { IsTrue (W.tells station.new)
+        → (W.world station.new).clock ≤ (W.world station.old).clock + 2 }
     ensures causes { StopHasCause (W.faults station.old) (W.faults station.new) result }
 {
     let entry = shown_entry(steps, line.shows, made, station)?;
@@ -99,9 +105,13 @@ pub(crate) fn say_lines<W: Station>(
 ) -> Result<(), Finish>
     requires within { made.now.number < length steps.now }
     requires ready { IsTrue (W.tells station.old) → IsReady (made.now.number + 1) (now (W.world station.old)).folder }
+    requires stands { IsTrue (W.tells station.old)
+        → IsEntryOf made.now.number (present (now (W.world station.old)).folder) made.now }
     requires shown { IsTrue (list_all (λ line. nat_le line.shows made.now.number) lines.now) }
     ensures content { Told W.tells station.old station.new
         (SaysLines steps.now (made.now.number + 1) lines.now made.now result (W.world station.old) (W.world station.new)) }
+    ensures calls { IsTrue (W.tells station.new)
+        → (W.world station.new).clock ≤ (W.world station.old).clock + 2 * length lines.now }
     ensures causes { StopHasCause (W.faults station.old) (W.faults station.new) result }
 {
     for line in lines {

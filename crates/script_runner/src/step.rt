@@ -1,5 +1,5 @@
 //! One step of a run: it is made, committed and tidied up.
-ghost use Rattle.std.specs.Prelude.{◌≡◌, ◌≤◌, ◌<◌, IsTrue, IfOk, length};
+ghost use Rattle.std.specs.Prelude.{◌≡◌, ◌+◌, ◌≤◌, ◌<◌, IsTrue, IfOk, length};
 ghost use Rattle.bool_tables.specs.Plans.{IsWellFormed};
 ghost use Rattle.shelf_model.specs.World.{now};
 ghost use Rattle.shelf_model.specs.Calls.{Told};
@@ -32,6 +32,8 @@ pub(crate) fn take_step<S: Shelf>(
     requires ready { IsTrue (S.tells shelf.old) → IsReady number (now (S.world shelf.old)).folder }
     ensures content { Told S.tells shelf.old shelf.new
         (TakesStep n text.now steps.now number result (S.world shelf.old) (S.world shelf.new)) }
+    ensures calls { IsTrue (S.tells shelf.new)
+        → (S.world shelf.new).clock ≤ (S.world shelf.old).clock + 11 }
     ensures number { IfOk result (λ e. e.number ≡ number) }
     ensures causes { StopHasCause (S.faults shelf.old) (S.faults shelf.new) result }
 {

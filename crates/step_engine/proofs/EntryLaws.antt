@@ -16,12 +16,12 @@ use Rattle.shelf_model.specs.SortFaults.{handed_on}
 use Rattle.shelf_model.specs.Folder.{Folder}
 use Rattle.catalogue.specs.declared.layout.Entry.{Entry}
 use Rattle.catalogue.specs.Counts.{present}
-use Rattle.catalogue.specs.Entries.{IsEntryOf}
+use Rattle.catalogue.specs.Entries.{IsEntry, IsEntryOf}
 use Rattle.sound_image.specs.Jobs.{Job, no_step, step_at, nodes_at}
 use Rattle.sound_image.specs.Entries.{IsEntryOfStep, kind_of, answer_of, count_of, name_of, work_of}
 use Rattle.sound_image.specs.Holds.{Holds}
 use Rattle.sound_image.proofs.EntryLaws.{entry_stands, held_entry}
-use Rattle.step_engine.specs.StepEntries.{diagram_entry, nameless_entry}
+use Rattle.step_engine.specs.StepEntries.{diagram_entry, nameless_entry, IsEntryFor}
 use Rattle.step_engine.specs.StepFaults.{IsKindFault}
 use Rattle.step_engine.proofs.PlanLaws.{first_true, second_true, follows_at, operands_live}
 
@@ -37,34 +37,66 @@ filled n h = omega arith
 one_turn : (job : Job) (step : Step) → (◌≤◌ 1 1) × (1 ≤ work_of job step)
 one_turn job step = (omega arith, omega arith)
 
+-- the fields of a diagram's entry fit their places
+pub diagram_fits : (k nodes : ℕ) (text : List ℕ) (p : Planned) → k < 1048576 → IsTrue (has_name text p) → nodes < 2 ^ 64 → IsEntry (diagram_entry text p k nodes)
+diagram_fits k nodes text p few named small =
+    let within : p.name_at + p.name_len ≤ length text = from_le (p.name_at + p.name_len) (length text) (first_true (nat_le (p.name_at + p.name_len) (length text)) (nat_le p.name_len 63) named) in
+    let short : p.name_len ≤ 63 = from_le p.name_len 63 (second_true (nat_le (p.name_at + p.name_len) (length text)) (nat_le p.name_len 63) named) in
+    let name : List ℕ = take p.name_len (drop p.name_at text) in
+    let size : length name ≡ p.name_len = length-take-le p.name_len (drop p.name_at text) (omega (arith, length-drop p.name_at text, within)) in
+    record {
+      fits = record {
+        number = omega (arith, few);
+        count = small;
+        turns = omega arith;
+        parts = omega arith;
+        name = length-append name (replicate (63 - p.name_len) 0) ∙ ap₂ (λ a b. a + b) size (length-replicate (63 - p.name_len) 0) ∙ filled p.name_len short;
+      };
+      layout = record {
+        kind = (omega arith, omega arith);
+        answer = inl refl;
+        named = inr (short, refl);
+        padded = subst (λ xs. All (λ (b : ℕ). b ≡ 0) xs) (sym (drop_at name (replicate (63 - p.name_len) 0) p.name_len size)) (all_zero (63 - p.name_len));
+        worked = omega arith;
+      };
+    }
+
+-- and those of the entry of a drop or an answer
+pub nameless_fits : (k kind count : ℕ) → k < 1048576 → (1 ≤ kind) × (kind ≤ 3) → count < 2 ^ 64 → IsEntry (nameless_entry k kind count)
+nameless_fits k kind count few kinds small = record {
+  fits = record { number = omega (arith, few); count = small; turns = omega arith; parts = omega arith; name = length-replicate {A = ℕ} 63 0 };
+  layout = record {
+    kind = kinds;
+    answer = inl refl;
+    named = inl refl;
+    padded = all_zero 63;
+    worked = omega arith;
+  };
+}
+
+-- the entries that can be committed for their steps
+pub for_diagram : (k nodes : ℕ) (text : List ℕ) (p : Planned) (e : Entry) → e ≡ diagram_entry text p k nodes → k < 1048576 → IsTrue (has_name text p) → nodes < 2 ^ 64 → kind_of p.step ≡ 1
+    → IsEntryFor p.step k e
+for_diagram k nodes text p e e_is few named small kind =
+    subst (IsEntryFor p.step k) (sym e_is) (record { entry_is = diagram_fits k nodes text p few named small; number_is = refl; kind_is = sym kind })
+
+pub for_nameless : (k kind count : ℕ) (p : Planned) (e : Entry) → e ≡ nameless_entry k kind count → k < 1048576 → (1 ≤ kind) × (kind ≤ 3) → count < 2 ^ 64 → kind_of p.step ≡ kind
+    → IsEntryFor p.step k e
+for_nameless k kind count p e e_is few kinds small kind_is =
+    subst (IsEntryFor p.step k) (sym e_is) (record { entry_is = nameless_fits k kind count few kinds small; number_is = refl; kind_is = sym kind_is })
+
 -- a diagram's entry
 pub diagram_entry_is : (job : Job) (k nodes : ℕ) (text : List ℕ) (p : Planned) → k < 1048576 → IsTrue (has_name text p) → job.text ≡ text → step_at job k ≡ p
     → kind_of p.step ≡ 1 → makes_diagram p.step ≡ true → answer_of job p.step ≡ 0 → count_of job k p.step ≡ nodes → nodes < 2 ^ 64
     → IsEntryOfStep job k (diagram_entry text p k nodes)
 diagram_entry_is job k nodes text p few named text_is p_is kind diagram answer count small =
     let within : p.name_at + p.name_len ≤ length text = from_le (p.name_at + p.name_len) (length text) (first_true (nat_le (p.name_at + p.name_len) (length text)) (nat_le p.name_len 63) named) in
-    let short : p.name_len ≤ 63 = from_le p.name_len 63 (second_true (nat_le (p.name_at + p.name_len) (length text)) (nat_le p.name_len 63) named) in
     let name : List ℕ = take p.name_len (drop p.name_at text) in
     let size : length name ≡ p.name_len = length-take-le p.name_len (drop p.name_at text) (omega (arith, length-drop p.name_at text, within)) in
     let name_is : name_of job (step_at job k) ≡ name =
     ap (name_of job) p_is ∙ ap (λ b. cond b (take p.name_len (drop p.name_at job.text)) []) diagram ∙ ap (λ t. take p.name_len (drop p.name_at t)) text_is in
     record {
-      entry_is = record {
-        fits = record {
-          number = omega (arith, few);
-          count = small;
-          turns = omega arith;
-          parts = omega arith;
-          name = length-append name (replicate (63 - p.name_len) 0) ∙ ap₂ (λ a b. a + b) size (length-replicate (63 - p.name_len) 0) ∙ filled p.name_len short;
-        };
-        layout = record {
-          kind = (omega arith, omega arith);
-          answer = inl refl;
-          named = inr (short, refl);
-          padded = subst (λ xs. All (λ (b : ℕ). b ≡ 0) xs) (sym (drop_at name (replicate (63 - p.name_len) 0) p.name_len size)) (all_zero (63 - p.name_len));
-          worked = omega arith;
-        };
-      };
+      entry_is = diagram_fits k nodes text p few named small;
       number_is = refl;
       kind_is = sym kind ∙ ap (λ (q : Planned). kind_of q.step) (sym p_is);
       answer_is = sym answer ∙ ap (λ (q : Planned). answer_of job q.step) (sym p_is);
@@ -81,16 +113,7 @@ pub nameless_entry_is : (job : Job) (k kind count : ℕ) (p : Planned) → k < 1
 nameless_entry_is job k kind count p few p_is kind_is kinds diagram answer count_is small =
     let none : name_of job (step_at job k) ≡ [] = ap (name_of job) p_is ∙ ap (λ b. cond b (take p.name_len (drop p.name_at job.text)) []) diagram in
     record {
-      entry_is = record {
-        fits = record { number = omega (arith, few); count = small; turns = omega arith; parts = omega arith; name = length-replicate {A = ℕ} 63 0 };
-        layout = record {
-          kind = kinds;
-          answer = inl refl;
-          named = inl refl;
-          padded = all_zero 63;
-          worked = omega arith;
-        };
-      };
+      entry_is = nameless_fits k kind count few kinds small;
       number_is = refl;
       kind_is = sym kind_is ∙ ap (λ (q : Planned). kind_of q.step) (sym p_is);
       answer_is = sym answer ∙ ap (λ (q : Planned). answer_of job q.step) (sym p_is);

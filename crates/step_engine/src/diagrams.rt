@@ -1,5 +1,5 @@
 //! The node files of constants and of variables.
-ghost use Rattle.std.specs.Prelude.{◌≡◌, ◌<◌, ◌≤◌, IsTrue, OnOk, IfOk, IfErr, length};
+ghost use Rattle.std.specs.Prelude.{◌≡◌, ◌+◌, ◌<◌, ◌≤◌, IsTrue, OnOk, IfOk, IfErr, length};
 ghost use Rattle.shelf_model.specs.File.{firm_file};
 ghost use Rattle.shelf_model.specs.World.{now, file};
 ghost use Rattle.shelf_model.specs.Calls.{Told};
@@ -13,9 +13,6 @@ ghost use Rattle.step_engine.specs.OneFile.{OnlyFile};
 use node_file::NodeWriter;
 use rec_words::{Node, Ptr, Rec, Uid};
 use shelf_model::{FileNo, Shelf, StreamFault};
-
-/// The number of the first node of a level.
-const TOP: u64 = (1 << 47) - 1;
 
 /// Makes a file that of a constant of `n` variables, and answers how many nodes it has.
 pub(crate) fn write_constant<S: Shelf>(
@@ -31,6 +28,8 @@ pub(crate) fn write_constant<S: Shelf>(
         file (S.world shelf.new) f ≡ firm_file (canon_bytes n (const_table n value))) }
     ensures content { Told S.tells shelf.old shelf.new
         (Ran (OnlyFile f (now (S.world shelf.old))) (S.world shelf.old) (S.world shelf.new)) }
+    ensures calls { IsTrue (S.tells shelf.new)
+        → (S.world shelf.new).clock ≤ (S.world shelf.old).clock + 4 }
     ensures cause { IfErr result (λ e. e ≡ StreamFault.Shelf) }
     ensures faults { OnlyShelf (S.faults shelf.old) (S.faults shelf.new) result }
 {
@@ -54,12 +53,14 @@ pub(crate) fn write_variable<S: Shelf>(
         file (S.world shelf.new) f ≡ firm_file (canon_bytes n (var_table n level))) }
     ensures content { Told S.tells shelf.old shelf.new
         (Ran (OnlyFile f (now (S.world shelf.old))) (S.world shelf.old) (S.world shelf.new)) }
+    ensures calls { IsTrue (S.tells shelf.new)
+        → (S.world shelf.new).clock ≤ (S.world shelf.old).clock + 5 }
     ensures cause { IfErr result (λ e. e ≡ StreamFault.Shelf) }
     ensures faults { OnlyShelf (S.faults shelf.old) (S.faults shelf.new) result }
 {
     let mut writer = NodeWriter::start(f, n, window, shelf)?;
     writer.put(variable_node(level), shelf)?;
-    writer.finish(Ptr::node(level, TOP), shelf)
+    writer.finish(Ptr::of_row(level, 0), shelf)
 }
 
 /// The one node of a variable: the first of its level.
@@ -67,7 +68,7 @@ fn variable_node(level: u16) -> Node
     requires level { level ≤ 65534 }
     ensures { result ≡ var_node level }
 {
-    let Some(uid) = Uid::of(Ptr::node(level, TOP)) else {
+    let Some(uid) = Uid::of(Ptr::of_row(level, 0)) else {
         unreachable!();
     };
     Node {

@@ -1,4 +1,4 @@
-ghost use Rattle.std.specs.Prelude.{◌≡◌, ℕ, IsTrue, OnOk, []};
+ghost use Rattle.std.specs.Prelude.{◌≡◌, ℕ, ◌+◌, ◌≤◌, IsTrue, OnOk, []};
 ghost use Rattle.bool_tables.specs.declared.steps.Step.TheVariants as variants;
 ghost use Rattle.shelf_model.specs.World.{now, file};
 ghost use Rattle.shelf_model.specs.Calls.{Told};
@@ -14,6 +14,8 @@ use shelf_model::{Failed, FileNo, Shelf};
 pub fn tidy<S: Shelf>(planned: &Planned, shelf: &mut S) -> Result<(), Failed>
     ensures content { Told S.tells shelf.old shelf.new
         (Ran (OnlyDropped planned.now.step (now (S.world shelf.old))) (S.world shelf.old) (S.world shelf.new)) }
+    ensures calls { IsTrue (S.tells shelf.new)
+        → (S.world shelf.new).clock ≤ (S.world shelf.old).clock + 1 }
     ensures empty { OnOk result (IsTrue (S.tells shelf.new) → (gone : ℕ) → planned.now.step ≡ variants.Drop gone →
         (file (S.world shelf.new) (node_file gone)).bytes ≡ []) }
     ensures faults { OnlyFolder (S.faults shelf.old) (S.faults shelf.new) result }

@@ -1,5 +1,5 @@
 //! The kinds of entries.
-ghost use Rattle.std.specs.Prelude.{◌≡◌, ◌<◌, IsTrue, IfOk, IfErr};
+ghost use Rattle.std.specs.Prelude.{◌≡◌, ◌+◌, ◌<◌, ◌≤◌, IsTrue, IfOk, IfErr};
 ghost use Rattle.shelf_model.specs.World.{now};
 ghost use Rattle.shelf_model.specs.Calls.{Told};
 ghost use Rattle.shelf_model.specs.Moments.{Ran, Stays};
@@ -10,14 +10,8 @@ ghost use Rattle.sound_image.specs.Entries.{kind_of};
 ghost use Rattle.step_engine.specs.StepFaults.{IsKindFault};
 
 use bool_tables::Step;
-use catalogue::{Entry, entry};
-use shelf_model::{FileNo, Shelf, StreamFault};
-
-/// The file that holds the entries.
-const CATALOGUE: FileNo = FileNo {
-    step: u32::MAX,
-    part: 2,
-};
+use catalogue::{CATALOGUE, ENTRY_SIZE, Entry, entry};
+use shelf_model::{Shelf, StreamFault};
 
 /// The kind of the entry of a step: 1 for a diagram, 2 for a drop, 3 for an answer.
 pub fn kind_of(step: Step) -> u8
@@ -41,6 +35,8 @@ pub fn entry_of_kind<S: Shelf>(k: u32, kind: u8, shelf: &mut S) -> Result<Entry,
         → k < count_in (present (now (S.world shelf.old)).folder) }
     ensures content { Told S.tells shelf.old shelf.new
         (Ran (Stays (now (S.world shelf.old))) (S.world shelf.old) (S.world shelf.new)) }
+    ensures calls { IsTrue (S.tells shelf.new)
+        → (S.world shelf.new).clock ≤ (S.world shelf.old).clock + 1 }
     ensures kind { IfOk result (λ e. e.kind ≡ kind) }
     ensures ok { IfOk result (λ e. IsTrue (S.tells shelf.new)
         → IsEntryOf k (present (now (S.world shelf.old)).folder) e) }
@@ -52,7 +48,7 @@ pub fn entry_of_kind<S: Shelf>(k: u32, kind: u8, shelf: &mut S) -> Result<Entry,
     if found.kind != kind {
         return Err(StreamFault::Damaged {
             file: CATALOGUE,
-            at: 128 * k as u64,
+            at: ENTRY_SIZE as u64 * k as u64,
         });
     }
     Ok(found)

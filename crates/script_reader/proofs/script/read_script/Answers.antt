@@ -8,10 +8,10 @@ use Rattle.script_reader.proofs.Accepted.{is_planned, plan_keeps, IsReading, rea
 use Rattle.script_reader.proofs.script.read_script.Goals as goal
 
 pub returns-in_err-requests-clause-refused : goal.returns-in_err-requests-clause-refused
-returns-in_err-requests-clause-refused c = λ is s accepted.
+returns-in_err-requests-clause-refused c = λ is plan reads.
     let p = err_from_is_err_and c.from_residual-in_err-requests.result c.from_residual-in_err-requests.ensures.1 in
     refuses_lines c.args.bytes.now c.in_ok-names.rest.now (texts c.in_ok-names.names.items) c.in_ok-names.ensures.words c.in_ok-names.ensures.read
-    (c.in_err-requests.ensures.refused (cc)) s accepted
+    (c.in_err-requests.ensures.refused (cc)) reads.0 reads.1
 
 -- the names and requests that were read
 read_whole : (c : goal.After-drop-names-2) → IsReading c.args.bytes.now (script_of c.as_slice.result.now c.as_slice-2.result.now)
@@ -20,8 +20,8 @@ read_whole c = rw (c.as_slice.ensures.value, c.as_slice-2.ensures.value)
     c.in_ok-names.ensures.words c.in_ok-requests.ensures.words c.in_ok-names.ensures.read c.in_ok-requests.ensures.read)
 
 pub returns-clause-refused : goal.returns-clause-refused
-returns-clause-refused c = λ is s accepted.
-    c.plan_for.ensures.refused is (accepted_as_read c.args.bytes.now (script_of c.as_slice.result.now c.as_slice-2.result.now) s (read_whole c) accepted)
+returns-clause-refused c = λ is plan reads.
+    c.plan_for.ensures.refused is (accepted_as_read c.args.bytes.now (script_of c.as_slice.result.now c.as_slice-2.result.now) reads.0 (read_whole c) reads.1)
 
 pub returns-clause-well_formed : goal.returns-clause-well_formed
 returns-clause-well_formed c =

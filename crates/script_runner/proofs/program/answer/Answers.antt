@@ -1,11 +1,11 @@
-use Rattle.std.proofs.Common.{◌≡◌, ◌∙◌, map, sym, ap, subst, string_bytes, arith}
+use Rattle.std.proofs.Common.{◌≡◌, ◌∙◌, map, sym, ap, subst, string_bytes, inl, arith}
 use Rattle.std.specs.Prelude.{Err}
 use Rattle.bool_tables.specs.Plans.{IsWellFormed}
 use Rattle.script_runner.specs.Words.{Reading}
 use Rattle.script_runner.specs.Status.{status_of}
 use Rattle.script_runner.specs.Fetching.{IsText}
 use Rattle.script_runner.specs.JobOf.{job_bytes}
-use Rattle.script_runner.proofs.Endings.{answers_refused, answers_run}
+use Rattle.script_runner.proofs.Endings.{answers_refused, answers_run, few_run}
 use Rattle.script_runner.proofs.program.answer.Goals as goal
 
 pub returns-in-Err-Text-clause-causes : goal.returns-in-Err-Text-clause-causes
@@ -40,3 +40,22 @@ returns-clause-content g c =
     (sym c.in-Some.ensures) c.in-Ok-read_script.ensures.read same job
     (λ tells_now. subst (λ bytes. IsText reading.script 1048576 bytes (g.W.Shelf.world c.args.station.now)) (sym c.deref.ensures.value) (c.in-Ok.ensures.text tells_now))
     c.in-Ok.ensures.content c.run_plan.ensures.content
+
+pub returns-in-Err-Word-clause-calls : goal.returns-in-Err-Word-clause-calls
+returns-in-Err-Word-clause-calls g c t =
+    let fetched = c.in-Ok.ensures.calls (c.say_refusal-in-Err-Word.ensures.content.before t) in
+    let said = c.say_refusal-in-Err-Word.ensures.calls t in
+    inl (omega (arith, fetched, said))
+
+pub returns-clause-calls : goal.returns-clause-calls
+returns-clause-calls g c =
+    let reading : Reading = record { folder = c.in-Some.named.folder.now; script = c.in-Some.named.script.now } in
+    let again : c.deref-2.result.now ≡ c.deref.result.now = c.deref-2.ensures.value ∙ sym c.deref.ensures.value in
+    let job : c.deref-4.result.now ≡ job_bytes c.deref.result.now = c.deref-4.ensures.value ∙ c.in-Ok-job_bytes.ensures ∙ ap job_bytes again in
+    few_run g.W.Shelf.tells g.W.Shelf.world (map string_bytes c.args.words.now) reading c.deref.result.now c.deref-4.result.now c.in-Ok-read_script.plan _ _ _
+    (sym c.in-Some.ensures) c.in-Ok-read_script.ensures.read job
+    (λ tells_now. subst (λ bytes. IsText reading.script 1048576 bytes (g.W.Shelf.world c.args.station.now)) (sym c.deref.ensures.value) (c.in-Ok.ensures.text tells_now))
+    c.in-Ok.ensures.calls c.run_plan.ensures.content.before c.run_plan.ensures.calls
+
+pub returns-in_default-take_room-clause-calls : goal.returns-in_default-take_room-clause-calls
+returns-in_default-take_room-clause-calls g c t = let fetched = c.in-Ok.ensures.calls t in inl (omega (arith, fetched))

@@ -1,4 +1,4 @@
-use Rattle.std.proofs.Common.{◌∙◌, List, subst, arith}
+use Rattle.std.proofs.Common.{◌≡◌, ◌∙◌, List, length, ap, subst, arith}
 use Rattle.shelf_model.specs.Calls.{Told}
 use Rattle.bool_tables.specs.declared.steps.Planned.{Planned}
 use Rattle.sound_image.specs.Jobs.{Job}
@@ -79,3 +79,48 @@ returns-in-Damaged-clause-content g c =
     (said_or ending.Damaged c.say_refusal-in-Damaged.result c.say_refusal-in-Damaged.ensures.which) (c.as_bytes-in-Damaged.ensures.value ∙ c.as_str-in-Damaged.ensures.value ∙ c.damaged_line.ensures.text)
     c.in-Ok.ensures.content run c.say_refusal-in-Damaged.ensures.content
     (λ ten. c.say_refusal-in-Damaged.ensures.whole (whole_line ending.Damaged c.say_refusal-in-Damaged.result (λ x. omega (arith, x)) c.say_refusal-in-Damaged.ensures.which ten))
+
+pub returns-in-Done-clause-calls : goal.returns-in-Done-clause-calls
+returns-in-Done-clause-calls g c t =
+    let entered = (c.in-Ok.ensures.content.did (c.in-Done.ensures.content.before t)).ticks.clock_is in
+    let run = c.in-Done.ensures.calls t in
+    let steps : length c.items.result.now ≡ length c.args.plan.now.steps = ap length c.items.ensures in
+    let lines : length c.items-2.result.now ≡ length c.args.plan.now.lines = ap length c.items-2.ensures in
+    omega (arith, entered, run, steps, lines)
+
+pub returns-in-FolderFault-clause-calls : goal.returns-in-FolderFault-clause-calls
+returns-in-FolderFault-clause-calls g c t =
+    let entered = (c.in-Ok.ensures.content.did (c.in-FolderFault.ensures.content.before t)).ticks.clock_is in
+    let run = c.in-FolderFault.ensures.calls t in
+    let steps : length c.items.result.now ≡ length c.args.plan.now.steps = ap length c.items.ensures in
+    let lines : length c.items-2.result.now ≡ length c.args.plan.now.lines = ap length c.items-2.ensures in
+    omega (arith, entered, run, steps, lines)
+
+pub returns-in-SayFault-clause-calls : goal.returns-in-SayFault-clause-calls
+returns-in-SayFault-clause-calls g c t =
+    let entered = (c.in-Ok.ensures.content.did (c.in-SayFault.ensures.content.before t)).ticks.clock_is in
+    let run = c.in-SayFault.ensures.calls t in
+    let steps : length c.items.result.now ≡ length c.args.plan.now.steps = ap length c.items.ensures in
+    let lines : length c.items-2.result.now ≡ length c.args.plan.now.lines = ap length c.items-2.ensures in
+    omega (arith, entered, run, steps, lines)
+
+pub returns-in-OtherJob-clause-calls : goal.returns-in-OtherJob-clause-calls
+returns-in-OtherJob-clause-calls g c t =
+    let entered = (c.in-Ok.ensures.content.did (c.in-OtherJob.ensures.content.before (c.say_refusal.ensures.content.before t))).ticks.clock_is in
+    let run = c.in-OtherJob.ensures.calls (c.say_refusal.ensures.content.before t) in
+    let steps : length c.items.result.now ≡ length c.args.plan.now.steps = ap length c.items.ensures in
+    let lines : length c.items-2.result.now ≡ length c.args.plan.now.lines = ap length c.items-2.ensures in
+    let said = c.say_refusal.ensures.calls t in
+    omega (arith, entered, run, steps, lines, said)
+
+pub returns-in-Damaged-clause-calls : goal.returns-in-Damaged-clause-calls
+returns-in-Damaged-clause-calls g c t =
+    let entered = (c.in-Ok.ensures.content.did (c.in-Damaged.ensures.content.before (c.say_refusal-in-Damaged.ensures.content.before t))).ticks.clock_is in
+    let run = c.in-Damaged.ensures.calls (c.say_refusal-in-Damaged.ensures.content.before t) in
+    let steps : length c.items.result.now ≡ length c.args.plan.now.steps = ap length c.items.ensures in
+    let lines : length c.items-2.result.now ≡ length c.args.plan.now.lines = ap length c.items-2.ensures in
+    let said = c.say_refusal-in-Damaged.ensures.calls t in
+    omega (arith, entered, run, steps, lines, said)
+
+pub returns-in_default-clause-calls : goal.returns-in_default-clause-calls
+returns-in_default-clause-calls g c t = let entered = (c.in_default.ensures.content.did t).ticks.clock_is in omega (arith, entered)

@@ -1,8 +1,9 @@
-use Rattle.std.proofs.Common.{◌≡◌, ◌≤◌, ℕ, List, length}
+use Rattle.std.proofs.Common.{◌≡◌, ◌≤◌, ◌+◌, ◌*◌, ℕ, List, length}
 use Rattle.std.specs.Prelude.{IsTrue}
 use Rattle.std.specs.List.{list_all}
 use Rattle.shelf_model.specs.Calls.{Told}
 use Rattle.script_reader.specs.Lines.{rise_from, shows_past}
+use Rattle.catalogue.specs.Writes.{pieces}
 use Rattle.script_runner.proofs.Turns.{Turn}
 use Rattle.script_runner.proofs.run.run_steps.Given as goal
 
@@ -11,6 +12,8 @@ abbrev pub invariant-loop-step : goal.invariant-loop-step
 invariant-loop-step g l = record {
   so_far : Told g.W.Shelf.tells l.fn.station l.station
       (Turn (record { n = l.n; text = l.text; steps = l.steps; bytes = l.fn.job }) l.fn.lines l.step l.rest (g.W.Shelf.world l.fn.station) (g.W.Shelf.world l.station));
+  calls : IsTrue (g.W.Shelf.tells l.station) → (g.W.Shelf.world l.station).clock + 2 * length l.rest
+      ≤ (g.W.Shelf.world l.fn.station).clock + 10 + pieces (length l.fn.job) + 11 * l.step + 2 * length l.fn.lines;
   rise : IsTrue (rise_from l.step l.rest);
   shown : IsTrue (list_all (shows_past (length l.steps)) l.rest);
   folder_later : (g.W.Shelf.faults l.fn.station).folder ≤ (g.W.Shelf.faults l.station).folder;

@@ -13,10 +13,10 @@ returns-in_err-entry-clause-content g c =
 
 pub returns-in-Ok-clause-content : goal.returns-in-Ok-clause-content
 returns-in-Ok-clause-content g c =
-    line_said g.W.Shelf.tells g.W.Shelf.world (λ s told f. g.met.W.Shelf.files_are s told f) c.args.steps.now c.args.line.now c.args.made.now c.requires.shown c.in_ok-entry.entry _ _ _ _ _ c.in_ok-entry.ensures.content (λ t. elim c.in_ok-entry.ensures.shown [ inl made ↦ inl made | inr read ↦ inr (read t) ])
+    line_said g.W.Shelf.tells g.W.Shelf.world (λ s told f. g.met.W.Shelf.files_are s told f) c.args.steps.now c.args.line.now c.args.made.now c.requires.shown c.in_ok-entry.entry _ _ _ _ _ c.requires.stands c.in_ok-entry.ensures.content (λ t. elim c.in_ok-entry.ensures.shown [ inl made ↦ inl made | inr read ↦ inr (read t) ])
     (c.as_bytes.ensures.value ∙ c.as_str.ensures.value ∙ c.answer_line-text.ensures.text) c.in-Ok.ensures.content _ _ refl
 
 pub returns-in-Err-clause-content : goal.returns-in-Err-clause-content
 returns-in-Err-clause-content g c =
-    line_not_said g.W.Shelf.tells g.W.Shelf.world (λ s told f. g.met.W.Shelf.files_are s told f) c.args.steps.now c.args.line.now c.args.made.now c.requires.shown c.in_ok-entry.entry _ _ _ _ _ c.in_ok-entry.ensures.content (λ t. elim c.in_ok-entry.ensures.shown [ inl made ↦ inl made | inr read ↦ inr (read t) ])
+    line_not_said g.W.Shelf.tells g.W.Shelf.world (λ s told f. g.met.W.Shelf.files_are s told f) c.args.steps.now c.args.line.now c.args.made.now c.requires.shown c.in_ok-entry.entry _ _ _ _ _ c.requires.stands c.in_ok-entry.ensures.content (λ t. elim c.in_ok-entry.ensures.shown [ inl made ↦ inl made | inr read ↦ inr (read t) ])
     (c.as_bytes.ensures.value ∙ c.as_str.ensures.value ∙ c.answer_line-text.ensures.text) c.in-Err.ensures.content

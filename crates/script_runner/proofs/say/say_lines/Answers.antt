@@ -1,9 +1,17 @@
-use Rattle.std.proofs.Common.{◌∙◌, ◌<◌, ◌+◌, length, arith, sym, subst}
+use Rattle.std.proofs.Common.{◌∙◌, ◌<◌, ◌+◌, length, arith, refl, sym, subst}
 use Rattle.shelf_model.specs.Calls.{Told}
 use Rattle.script_runner.specs.Said.{no_line}
 use Rattle.script_runner.specs.StepRuns.{SaysLines}
-use Rattle.script_runner.proofs.SayingLines.{line_more, lines_stopped, err_is}
+use Rattle.script_runner.proofs.SayingLines.{none_said, line_more, lines_stopped, stands_after, err_is}
 use Rattle.script_runner.proofs.say.say_lines.Goals as goal
+
+pub loop-line-init : goal.loop-line-init
+loop-line-init g c = record {
+  said = none_said g.W.Shelf.tells g.W.Shelf.world c.args.steps.now c.args.made.now c.args.station.now;
+  stands = c.requires.stands;
+  calls = λ t. omega arith;
+  causes = record { folder_later = omega arith; say_later = omega arith; text_is = λ path. refl; folder_fault = tt; say_fault = tt };
+}
 
 pub returns-in_err-say_line-clause-content : goal.returns-in_err-say_line-clause-content
 returns-in_err-say_line-clause-content g c =
@@ -21,6 +29,11 @@ loop-line-preserved g c =
     let now = c.in_ok-say_line.ensures.causes in
     record {
       said = line_more g.W.Shelf.tells g.W.Shelf.world c.args.steps.now c.args.made.now c.args.lines.now c.loop-line.line-index no_line _ _ _ _ _ within c.loop-line.invariant.said c.in_ok-say_line.ensures.content;
+      stands = λ t. stands_after g.W.Shelf.tells g.W.Shelf.world c.args.steps.now c.args.made.now _ _ _ _ _ c.loop-line.invariant.stands c.in_ok-say_line.ensures.content t;
+      calls = λ t.
+          let so_far = c.loop-line.invariant.calls (c.in_ok-say_line.ensures.content.before t) in
+          let more = c.in_ok-say_line.ensures.calls t in
+          omega (arith, so_far, more);
       causes = record {
         folder_later = let a = before.folder_later in let b = now.folder_later in omega (arith, a, b);
         say_later = let a = before.say_later in let b = now.say_later in omega (arith, a, b);

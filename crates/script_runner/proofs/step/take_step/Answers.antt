@@ -21,18 +21,18 @@ pub returns-in_default-clause-content : goal.returns-in_default-clause-content
 returns-in_default-clause-content g c =
     let may : MayRun c.args.n c.args.text.now c.args.number (get_or c.args.steps.now c.args.number no_step) =
     may_run c.args.n c.args.text.now c.args.steps.now c.args.number no_step c.requires.within c.requires.plan (simple_at c.args.steps.now c.args.number c.requires.within c.requires.built) in
-    commit_failed g.S.Shelf.tells g.S.Shelf.world (λ s told f. g.met.S.Shelf.files_are s told f) c.args.n c.args.text.now c.args.steps.now c.args.number c.requires.plan c.requires.within (get_or c.args.steps.now c.args.number no_step) refl may.operands_are c.in-Ok.entry c.in-Ok.ensures.number _ _ c.in-Ok.ensures.content c.in-Ok.ensures.entry c.in-Ok.ensures.made _ c.in_default.ensures.content
+    commit_failed g.S.Shelf.tells g.S.Shelf.world (λ s told f. g.met.S.Shelf.files_are s told f) c.args.n c.args.text.now c.args.steps.now c.args.number c.requires.plan c.requires.within (get_or c.args.steps.now c.args.number no_step) refl may.operands_are c.in-Ok.entry c.in-Ok.ensures.fits _ _ c.requires.ready c.in-Ok.ensures.content (λ t job is holds. c.in-Ok.ensures.entry t job is (λ of size. holds)) c.in-Ok.ensures.made _ c.in_default.ensures.content
 
 pub returns-in_default-tidy-clause-content : goal.returns-in_default-tidy-clause-content
 returns-in_default-tidy-clause-content g c =
     let may : MayRun c.args.n c.args.text.now c.args.number (get_or c.args.steps.now c.args.number no_step) =
     may_run c.args.n c.args.text.now c.args.steps.now c.args.number no_step c.requires.within c.requires.plan (simple_at c.args.steps.now c.args.number c.requires.within c.requires.built) in
-    tidy_failed g.S.Shelf.tells g.S.Shelf.world (λ s told f. g.met.S.Shelf.files_are s told f) c.args.n c.args.text.now c.args.steps.now c.args.number c.requires.plan c.requires.within (get_or c.args.steps.now c.args.number no_step) refl may.operands_are c.in-Ok.entry c.in-Ok.ensures.number _ _ c.in-Ok.ensures.content c.in-Ok.ensures.entry c.in-Ok.ensures.made _ _
+    tidy_failed g.S.Shelf.tells g.S.Shelf.world (λ s told f. g.met.S.Shelf.files_are s told f) c.args.n c.args.text.now c.args.steps.now c.args.number c.requires.plan c.requires.within (get_or c.args.steps.now c.args.number no_step) refl may.operands_are c.in-Ok.entry c.in-Ok.ensures.fits _ _ c.requires.ready c.in-Ok.ensures.content (λ t job is holds. c.in-Ok.ensures.entry t job is (λ of size. holds)) c.in-Ok.ensures.made _ _
     c.in-Ok-commit.ensures.content c.in-Ok-commit.ensures.ok c.in_default-tidy.ensures.content
 
 pub returns-clause-content : goal.returns-clause-content
 returns-clause-content g c =
     let may : MayRun c.args.n c.args.text.now c.args.number (get_or c.args.steps.now c.args.number no_step) =
     may_run c.args.n c.args.text.now c.args.steps.now c.args.number no_step c.requires.within c.requires.plan (simple_at c.args.steps.now c.args.number c.requires.within c.requires.built) in
-    took g.S.Shelf.tells g.S.Shelf.world (λ s told f. g.met.S.Shelf.files_are s told f) c.args.n c.args.text.now c.args.steps.now c.args.number c.requires.plan c.requires.within (get_or c.args.steps.now c.args.number no_step) refl may.operands_are c.in-Ok.entry c.in-Ok.ensures.number _ _ c.in-Ok.ensures.content c.in-Ok.ensures.entry c.in-Ok.ensures.made _ _
-    c.in-Ok-commit.ensures.content c.in-Ok-commit.ensures.ok c.in-Ok-tidy.ensures.content
+    took g.S.Shelf.tells g.S.Shelf.world (λ s told f. g.met.S.Shelf.files_are s told f) c.args.n c.args.text.now c.args.steps.now c.args.number c.requires.plan c.requires.within (get_or c.args.steps.now c.args.number no_step) refl may.operands_are c.in-Ok.entry c.in-Ok.ensures.fits _ _ c.requires.ready c.in-Ok.ensures.content (λ t job is holds. c.in-Ok.ensures.entry t job is (λ of size. holds)) c.in-Ok.ensures.made _ _
+    c.in-Ok-commit.ensures.content c.in-Ok-commit.ensures.ok c.in-Ok-tidy.ensures.content c.in-Ok-tidy.ensures.empty

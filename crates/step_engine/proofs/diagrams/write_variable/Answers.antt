@@ -16,7 +16,7 @@ returns-clause-made g c =
     let told_start = c.put.ensures.content.before told_put in
     subst (λ (f : FileNo). file (g.S.Shelf.world c.finish.new.shelf) f ≡ firm_file (canon_bytes c.args.n (var_table c.args.n c.args.level))) (one.same.file_is ∙ begun.file)
     (firm t ∙ ap firm_file (variable_file c.args.n _ c.args.level _ _ c.variable_node.result _ _ c.requires.below (begun.holds told_start).bytes_are (one.holds told_put).bytes_are
-    c.variable_node.ensures c.node.ensures (one.count ∙ ap (λ k. k + 1) begun.count) (one.variables ∙ begun.variables))))
+    c.variable_node.ensures c.of_row.ensures (one.count ∙ ap (λ k. k + 1) begun.count) (one.variables ∙ begun.variables))))
     c.finish.ensures.firm
 
 pub returns-clause-content : goal.returns-clause-content

@@ -8,7 +8,8 @@ use Rattle.shelf_model.specs.SortFaults.{handed_on}
 use Rattle.shelf_model.specs.World.{now}
 use Rattle.sound_image.specs.Entries.{IsEntryOfStep, kind_of, answer_of, count_of}
 use Rattle.step_engine.proofs.TableLaws.{constant_is, variable_is, constant_nodes, variable_nodes}
-use Rattle.step_engine.proofs.EntryLaws.{diagram_entry_is, nameless_entry_is, size_entry_is, size_is_sound, place_step, only_below, handed}
+use Rattle.step_engine.proofs.EntryLaws.{for_diagram, for_nameless, diagram_entry_is, nameless_entry_is, size_entry_is, size_is_sound, place_step, only_below, handed}
+use Rattle.step_engine.proofs.Written.{made_only, changes_none}
 use Rattle.step_engine.proofs.step.run_step.Goals as goal
 
 pub returns-in_err-nodes-in-Size-clause-sound : goal.returns-in_err-nodes-in-Size-clause-sound
@@ -59,7 +60,7 @@ returns-in_ok-nodes-in-Size-clause-entry g c t job is holds =
     let below : c.in-Size.of < c.args.number = only_below c.args.number c.in-Size.of (subst (λ s. IsTrue (list_all (λ k. nat_lt k c.args.number) (operands s))) c.in-Size.is c.requires.step.operands_are) in
     subst (IsEntryOfStep job c.args.number) (sym c.nameless_entry.ensures)
     (size_entry_is job c.args.number c.in-Size.of c.args.planned.now c.in_ok-nodes-in-Size.field-0 (now (g.S.Shelf.world c.args.shelf.now)).folder
-    c.requires.step.few_steps is.step_is c.in-Size.is below holds (c.in_ok-nodes-in-Size.ensures.ok t) c.in_ok-nodes-in-Size.ensures.kind)
+    c.requires.step.few_steps is.step_is c.in-Size.is below (holds c.in-Size.of c.in-Size.is) (c.in_ok-nodes-in-Size.ensures.ok t) c.in_ok-nodes-in-Size.ensures.kind)
 
 pub returns-in-Drop-clause-entry : goal.returns-in-Drop-clause-entry
 returns-in-Drop-clause-entry g c t job is holds =
@@ -69,3 +70,52 @@ returns-in-Drop-clause-entry g c t job is holds =
     subst (IsEntryOfStep job k) (sym c.nameless_entry-in-Drop.ensures)
     (nameless_entry_is job k 2 _ c.args.planned.now c.requires.step.few_steps is.step_is (ap kind_of step) (omega arith, omega arith) (ap makes_diagram step) (ap (answer_of job) step)
     (ap (count_of job k) step ∙ sym c.from.ensures) (let few = c.requires.step.few_steps in omega (arith, few, below, c.from.ensures)))
+
+pub returns-in_ok-nodes-in-Const-clause-fits : goal.returns-in_ok-nodes-in-Const-clause-fits
+returns-in_ok-nodes-in-Const-clause-fits g c =
+    let none : c.in_ok-nodes-in-Const.nodes ≡ 0 = c.in_ok-nodes-in-Const.ensures.count in
+    for_diagram c.args.number c.in_ok-nodes-in-Const.nodes c.args.text.now c.args.planned.now _ c.diagram_entry.ensures c.requires.step.few_steps c.requires.step.named
+    (omega (arith, none)) (ap kind_of c.in-Const.is)
+
+pub returns-in_ok-nodes-in-Var-clause-fits : goal.returns-in_ok-nodes-in-Var-clause-fits
+returns-in_ok-nodes-in-Var-clause-fits g c =
+    let one : c.in_ok-nodes-in-Var.nodes ≡ 1 = c.in_ok-nodes-in-Var.ensures.count in
+    for_diagram c.args.number c.in_ok-nodes-in-Var.nodes c.args.text.now c.args.planned.now _ c.diagram_entry-in-Var.ensures c.requires.step.few_steps c.requires.step.named
+    (omega (arith, one)) (ap kind_of c.in-Var.is)
+
+pub returns-in_ok-nodes-in-Size-clause-fits : goal.returns-in_ok-nodes-in-Size-clause-fits
+returns-in_ok-nodes-in-Size-clause-fits g c =
+    for_nameless c.args.number 3 _ c.args.planned.now _ c.nameless_entry.ensures c.requires.step.few_steps (omega arith, omega arith) (search arith) (ap kind_of c.in-Size.is)
+
+pub returns-in-Drop-clause-fits : goal.returns-in-Drop-clause-fits
+returns-in-Drop-clause-fits g c =
+    let below : c.in-Drop.gone < c.args.number = only_below c.args.number c.in-Drop.gone
+    (subst (λ s. IsTrue (list_all (λ j. nat_lt j c.args.number) (operands s))) c.in-Drop.is c.requires.step.operands_are) in
+    for_nameless c.args.number 2 _ c.args.planned.now _ c.nameless_entry-in-Drop.ensures c.requires.step.few_steps (omega arith, omega arith)
+    (let few = c.requires.step.few_steps in omega (arith, few, below, c.from.ensures)) (ap kind_of c.in-Drop.is)
+
+-- a diagram's file alone changes while it is made
+pub returns-in_ok-nodes-in-Const-clause-content : goal.returns-in_ok-nodes-in-Const-clause-content
+returns-in_ok-nodes-in-Const-clause-content g c =
+    made_only g.S.Shelf.tells g.S.Shelf.world c.args.planned.now.step c.args.number _ _ (ap makes_diagram c.in-Const.is) c.in_ok-nodes-in-Const.ensures.content
+
+pub returns-in_err-nodes-in-Const-clause-content : goal.returns-in_err-nodes-in-Const-clause-content
+returns-in_err-nodes-in-Const-clause-content g c =
+    made_only g.S.Shelf.tells g.S.Shelf.world c.args.planned.now.step c.args.number _ _ (ap makes_diagram c.in-Const.is) c.in_err-nodes-in-Const.ensures.content
+
+pub returns-in_ok-nodes-in-Var-clause-content : goal.returns-in_ok-nodes-in-Var-clause-content
+returns-in_ok-nodes-in-Var-clause-content g c =
+    made_only g.S.Shelf.tells g.S.Shelf.world c.args.planned.now.step c.args.number _ _ (ap makes_diagram c.in-Var.is) c.in_ok-nodes-in-Var.ensures.content
+
+pub returns-in_err-nodes-in-Var-clause-content : goal.returns-in_err-nodes-in-Var-clause-content
+returns-in_err-nodes-in-Var-clause-content g c =
+    made_only g.S.Shelf.tells g.S.Shelf.world c.args.planned.now.step c.args.number _ _ (ap makes_diagram c.in-Var.is) c.in_err-nodes-in-Var.ensures.content
+
+-- and none where a size is read
+pub returns-in_ok-nodes-in-Size-clause-content : goal.returns-in_ok-nodes-in-Size-clause-content
+returns-in_ok-nodes-in-Size-clause-content g c =
+    changes_none g.S.Shelf.tells g.S.Shelf.world c.args.planned.now.step c.args.number _ _ c.in_ok-nodes-in-Size.ensures.content
+
+pub returns-in_err-nodes-in-Size-clause-content : goal.returns-in_err-nodes-in-Size-clause-content
+returns-in_err-nodes-in-Size-clause-content g c =
+    changes_none g.S.Shelf.tells g.S.Shelf.world c.args.planned.now.step c.args.number _ _ c.in_err-nodes-in-Size.ensures.content
