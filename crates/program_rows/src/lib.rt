@@ -5,6 +5,8 @@
 #[cfg(test)]
 mod bench_run;
 #[cfg(test)]
+mod between;
+#[cfg(test)]
 mod dropping;
 #[cfg(test)]
 mod failing_calls;
