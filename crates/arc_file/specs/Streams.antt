@@ -33,7 +33,8 @@ room_of s = stream.room_of s.arcs
 
 -- of the arcs that waited one is given; where none did, of as many as the window, a piece and what is left allow
 abbrev pub Takes : ArcStream → ArcStream → Result (Option Arc) StreamFault → Type 0
-Takes old new result = (room_of new ≡ room_of old) × TakesBehind (room_of old) (stream.reading_of old.arcs) (stream.reading_of new.arcs) result
+Takes old new result = (room_of new ≡ room_of old)
+    × TakesBehind (room_of old) (stream.reading_of old.arcs) (stream.reading_of new.arcs) result
 
 -- what it has read is as these bytes of its file say
 pub record Reads (kind : Kind) (s : ArcStream) (bytes : List ℕ) : Type 0 where

@@ -60,8 +60,10 @@ pub record HoldsArcs (w : ArcWriter) (world : World) (xs ys : List Arc) : Type 0
 
 -- less than a full piece waits in the window of the file that the arc's target chooses
 pub record HasSpace (w : ArcWriter) (a : Arc) : Type 0 where
-  pub inner : a.target < 2 ^ 63 → (filling_of w.inner).waiting < piece_records (filling_of w.inner).words (room_of w.inner)
-  pub ends : 2 ^ 63 ≤ a.target → (filling_of w.ends).waiting < piece_records (filling_of w.ends).words (room_of w.ends)
+  pub inner : a.target < 2 ^ 63
+      → (filling_of w.inner).waiting < piece_records (filling_of w.inner).words (room_of w.inner)
+  pub ends : 2 ^ 63 ≤ a.target
+      → (filling_of w.ends).waiting < piece_records (filling_of w.ends).words (room_of w.ends)
 
 -- what a stop leaves of a file are these arcs, so many of them, and nothing else
 pub record IsFileOf (xs : List Arc) (count : ℕ) (f : File) : Type 0 where

@@ -36,7 +36,7 @@ impl<'r> ArcWriter<'r> {
     ghost use Rattle.arc_file.specs.Pairs.{WroteBoth, CutBoth};
     ghost use Rattle.arc_file.specs.Writers.{inner_file, ends_file, inner_count, ends_count, made_of, SameFiles, AreInStep, HoldsArcs, HasSpace, IsFileOf, WereSettled, AreWhole, IsDamageOfEither, IsShortOfEither};
 
-    /// Begins with two empty files. The room is halved for them.
+    /// Cuts two files to nothing, and begins with no arc. The room is halved for them.
     pub fn start<S: Shelf>(
         inner: FileNo,
         ends: FileNo,
@@ -114,7 +114,8 @@ impl<'r> ArcWriter<'r> {
         ensures arcs { OnOk result (IsTrue (S.tells shelf.new) → (xs ys : List Arc) →
             HoldsArcs self.old (S.world shelf.old) xs ys →
             HoldsArcs self.new (S.world shelf.new) (xs ++ inner_arcs (arc ∷ [])) (ys ++ end_arcs (arc ∷ []))) }
-        ensures calls { IsTrue (S.tells shelf.new) → HasSpace self.old arc → (S.world shelf.new).clock ≡ (S.world shelf.old).clock }
+        ensures calls { IsTrue (S.tells shelf.new) → HasSpace self.old arc →
+            (S.world shelf.new).clock ≡ (S.world shelf.old).clock }
         ensures cause { IfErr result (λ e. e ≡ StreamFault.Shelf) }
         ensures content { Told S.tells shelf.old shelf.new
             (WroteBoth 1 (inner_file self.old) (ends_file self.old) (S.world shelf.old) (S.world shelf.new)) }

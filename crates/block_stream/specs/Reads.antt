@@ -80,7 +80,8 @@ waits_ahead r = r.loaded - r.at
 abbrev pub waits_behind : Reading → ℕ
 waits_behind r = r.at
 
--- how many records such a stream reads at once: as many as a window of that room, a piece and what is left of the range allow
+-- how many records such a stream reads at once: as many as a window of that room, a piece and what is left of the
+-- range allow
 abbrev pub refill_ahead : ℕ → Reading → ℕ
 refill_ahead room r = min (piece_records r.words room) (r.bound - place_of r)
 
@@ -137,7 +138,8 @@ Waits old new (Err e) = (place_of old < old.bound) × IsDamageAt old.file old.wo
 
 -- a window in which a record waits is left; else as many records were read as window, piece and range allow, or fewer
 abbrev pub FillsAhead : ℕ → Reading → Reading → Result Bool StreamFault → Type 0
-FillsAhead room old new (Ok true) = (0 < waits_ahead old → new ≡ old) × (waits_ahead old ≡ 0 → waits_ahead new ≤ refill_ahead room old)
+FillsAhead room old new (Ok true) = (0 < waits_ahead old → new ≡ old)
+    × (waits_ahead old ≡ 0 → waits_ahead new ≤ refill_ahead room old)
 FillsAhead room old new (Ok false) = Unit
 FillsAhead room old new (Err e) = Unit
 
@@ -149,7 +151,8 @@ WaitsBehind old new (Err e) = (old.bound < place_of old) × IsDamageAt old.file 
 
 -- a window in which a record waits is left; else as many records were read as window, piece and range allow
 abbrev pub FillsBehind : ℕ → Reading → Reading → Result Bool StreamFault → Type 0
-FillsBehind room old new (Ok true) = (0 < waits_behind old → new ≡ old) × (waits_behind old ≡ 0 → waits_behind new ≡ refill_behind room old)
+FillsBehind room old new (Ok true) = (0 < waits_behind old → new ≡ old)
+    × (waits_behind old ≡ 0 → waits_behind new ≡ refill_behind room old)
 FillsBehind room old new (Ok false) = Unit
 FillsBehind room old new (Err e) = Unit
 

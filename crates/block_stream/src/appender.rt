@@ -30,7 +30,7 @@ impl<'r, T: Spill> Appender<'r, T> {
     ghost use Rattle.block_stream.specs.Records.{piece_records};
     ghost use Rattle.block_stream.specs.Items.{item_bytes};
 
-    /// Begins with an empty file.
+    /// Cuts a file to nothing, and begins at its front.
     pub fn start<S: Shelf>(
         f: FileNo,
         window: &'r mut [Rec],
@@ -87,7 +87,7 @@ impl<'r, T: Spill> Appender<'r, T> {
         })
     }
 
-    /// Puts a value behind the others.
+    /// Puts a value behind the others. It makes a call only where a full piece waits.
     pub fn put<S: Shelf>(&mut self, item: T, shelf: &mut S) -> Result<(), StreamFault>
         requires in_step { IsTrue (S.tells shelf.old) → InStep (filling_of self.old) (S.world shelf.old) }
         ensures same { SameFile (filling_of self.old) (filling_of self.new) }
@@ -101,7 +101,8 @@ impl<'r, T: Spill> Appender<'r, T> {
             HoldsItems T.is_value T.words self.new (S.world shelf.new) (xs ++ item ∷ [])) }
         ensures waits { OnOk result (Fills (room_of self.old) (filling_of self.old) (filling_of self.new)) }
         ensures calls { IsTrue (S.tells shelf.new) → let w = filling_of self.old in
-            w.waiting < piece_records w.words (room_of self.old) → (S.world shelf.new).clock ≡ (S.world shelf.old).clock }
+            w.waiting < piece_records w.words (room_of self.old) →
+            (S.world shelf.new).clock ≡ (S.world shelf.old).clock }
         ensures cause { IfErr result (λ e. e ≡ StreamFault.Shelf) }
         ensures content { Told S.tells shelf.old shelf.new
             (Wrote 1 (filling_of self.old).file (S.world shelf.old) (S.world shelf.new)) }

@@ -28,7 +28,8 @@ impl<'r, T: Spill> Backward<'r, T> {
     ghost use Rattle.block_stream.specs.Backwards.{reading_of, room_of, Reads};
     ghost use Rattle.block_stream.specs.Items.{AreBehind, GivesLast};
 
-    /// The stream of the records from one place up to another. The one before the second place is the first to be given.
+    /// The stream of the records from one place up to another, from behind: the record before the second place
+    /// is given first.
     pub fn start(f: FileNo, from: u64, to: u64, window: &'r mut [Rec]) -> Backward<'r, T>
         requires order { from ≤ to }
         requires range { to * (8 * T.WORDS) ≤ longest }

@@ -27,7 +27,7 @@ pub struct Filling {
 }
 
 impl Filling {
-    /// Begins with an empty file.
+    /// Cuts a file to nothing, and begins at its front.
     pub fn start<S: Shelf>(f: FileNo, words: usize, shelf: &mut S) -> Result<Filling, Failed>
         requires words { (1 ≤ words) × (words ≤ 8) }
         ensures fresh { IfOk result (λ w. w ≡ record { file = f; words = words; stored = 0; waiting = 0 }) }
@@ -127,7 +127,8 @@ fn make_room<S: Shelf>(window: &[Rec], filling: &mut Filling, shelf: &mut S) -> 
         filling.new ≡ filling.old) }
     ensures flushed { OnOk result (piece_records filling.old.words (length window.now) ≤ filling.old.waiting →
         filling.new.waiting ≡ 0) }
-    ensures calls { IsTrue (S.tells shelf.new) → filling.old.waiting < piece_records filling.old.words (length window.now) →
+    ensures calls { IsTrue (S.tells shelf.new) →
+        filling.old.waiting < piece_records filling.old.words (length window.now) →
         (S.world shelf.new).clock ≡ (S.world shelf.old).clock }
     ensures bytes { OnOk result (IsTrue (S.tells shelf.new) →
         IsWriting filling.new window.now (S.world shelf.new) (written filling.old window.now (S.world shelf.old))) }
@@ -140,7 +141,8 @@ fn make_room<S: Shelf>(window: &[Rec], filling: &mut Filling, shelf: &mut S) -> 
     flush(window, filling, shelf)
 }
 
-/// Puts a record behind the others: into the window, whose records go to the file where it is full.
+/// Puts a record behind the others: into the window, whose records go to the file
+/// with one call where a full piece of them waits.
 pub fn put_record<S: Shelf>(
     window: &mut [Rec],
     filling: &mut Filling,
@@ -155,7 +157,8 @@ pub fn put_record<S: Shelf>(
     ensures bytes { OnOk result (IsTrue (S.tells shelf.new) → IsWriting filling.new window.new (S.world shelf.new)
         (written filling.old window.old (S.world shelf.old) ++ record_bytes filling.old.words item)) }
     ensures waits { OnOk result (Fills (length window.old) filling.old filling.new) }
-    ensures calls { IsTrue (S.tells shelf.new) → filling.old.waiting < piece_records filling.old.words (length window.old) →
+    ensures calls { IsTrue (S.tells shelf.new) →
+        filling.old.waiting < piece_records filling.old.words (length window.old) →
         (S.world shelf.new).clock ≡ (S.world shelf.old).clock }
     ensures cause { IfErr result (λ e. e ≡ StreamFault.Shelf) }
     ensures content { Told S.tells shelf.old shelf.new (Wrote 1 filling.old.file (S.world shelf.old) (S.world shelf.new)) }

@@ -116,7 +116,8 @@ fn wait_forward<S: Shelf>(
     ensures waits { Waits reading.old reading.new result }
     ensures fills { FillsAhead (length window.old) reading.old reading.new result }
     ensures stops { IsTrue (S.tells shelf.new) →
-        StopsAhead (length window.old) reading.old reading.new (file (S.world shelf.old) reading.old.file).bytes result }
+        StopsAhead (length window.old) reading.old reading.new
+        (file (S.world shelf.old) reading.old.file).bytes result }
     ensures calls { IsTrue (S.tells shelf.new) → 0 < waits_ahead reading.old →
         (S.world shelf.new).clock ≡ (S.world shelf.old).clock }
     ensures loaded { IsTrue (S.tells shelf.new) → let bytes = (file (S.world shelf.old) reading.old.file).bytes in

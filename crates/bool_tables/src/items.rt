@@ -15,12 +15,14 @@ impl<T> Model for Items<T> {
 }
 
 impl<T> Items<T> {
+    /// The list of a vector's items.
     pub fn of(list: Vec<T>) -> Items<T>
         ensures { result ≡ list.items }
     {
         Items { list }
     }
 
+    /// The items, in order.
     pub fn items(&self) -> &[T]
         ensures { result.now ≡ self.now }
     {

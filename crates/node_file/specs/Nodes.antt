@@ -25,8 +25,8 @@ pub record IsNodeAt (n place : ℕ) (bytes : List ℕ) (x : Node) : Type 0 where
   pub proper : IsProper n x
   pub record_is : IsRecordOf node_words 3 place bytes x
 
--- where so many nodes are left, the damage is that of the next one, at whose place stands no whole record of such a node,
--- or that of the one behind it, whose identifier isn't below that of the next one
+-- where so many nodes are left, the damage is that of the next one, at whose place stands no whole record of such a
+-- node, or that of the one behind it, whose identifier isn't below that of the next one
 abbrev pub IsNodeDamage : ℕ → ℕ → List ℕ → StreamFault → Type 0
 IsNodeDamage n left bytes Shelf = Unit
 IsNodeDamage n left bytes (Damaged f at) =

@@ -40,7 +40,8 @@ room_of r = stream.room_of r.nodes
 
 -- of the nodes that waited one is given; where none did, of as many as the window, a piece and what is left allow
 abbrev pub Takes : NodeReader → NodeReader → Result (Option Node) StreamFault → Type 0
-Takes old new result = (room_of new ≡ room_of old) × TakesBehind (room_of old) (stream.reading_of old.nodes) (stream.reading_of new.nodes) result
+Takes old new result = (room_of new ≡ room_of old)
+    × TakesBehind (room_of old) (stream.reading_of old.nodes) (stream.reading_of new.nodes) result
 
 -- what it has read is as these bytes of its file say
 pub record Reads (r : NodeReader) (bytes : List ℕ) : Type 0 where
@@ -63,7 +64,8 @@ GoesUp old new (Err e) = (0 < left_of old) × IsDamageOf (file_of old) e
 -- damage lies at the next node of the file, of which so many are left, or at the one that was given last
 abbrev pub IsNodePlace : FileNo → ℕ → Option ℕ → StreamFault → Type 0
 IsNodePlace file left given Shelf = Unit
-IsNodePlace file left given (Damaged f at) = (f ≡ file) × ((at ≡ (left - 1) * node_size) ⊎ ((at ≡ left * node_size) × IsSome given))
+IsNodePlace file left given (Damaged f at) = (f ≡ file)
+    × ((at ≡ (left - 1) * node_size) ⊎ ((at ≡ left * node_size) × IsSome given))
 
 -- the node that is answered is the one at its place, and damage is that of the next node or of the one behind it
 abbrev pub IsNodeAnswer : ℕ → ℕ → List ℕ → Result (Option Node) StreamFault → Type 0

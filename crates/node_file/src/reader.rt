@@ -38,7 +38,8 @@ impl<'r> NodeReader<'r> {
     ghost use Rattle.node_file.specs.Nodes.{HasTrailer, HasNodes, IsRoot, IsTrailerDamage, IsMetBetween};
     ghost use Rattle.node_file.specs.Readers.{file_of, trailer_of, left_of, given_of, waiting_of, room_of, Takes, Reads, AreLeft, GoesUp, IsNodePlace, IsNodeAnswer};
 
-    /// Begins with the root of a file for n variables.
+    /// Reads the trailer of a file for n variables, and begins with the root. A file without such a trailer is
+    /// refused, with the place at which it had to stand.
     pub fn start<S: Shelf>(
         f: FileNo,
         n: u32,
@@ -75,8 +76,9 @@ impl<'r> NodeReader<'r> {
         })
     }
 
-    /// Begins before the nodes that stand at a place and behind it, as after so many calls of `next`. Where
-    /// the file has fewer nodes it begins with the root.
+    /// Begins before the nodes that stand at a place and behind it. It reads each of these, as so many calls of
+    /// `next` do, and is refused where `start` or one of these is. Where the file has fewer nodes it begins with
+    /// the root.
     pub fn resume<S: Shelf>(
         f: FileNo,
         n: u32,

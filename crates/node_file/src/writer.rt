@@ -30,7 +30,7 @@ pub struct NodeWriter<'r> {
 impl<'r> NodeWriter<'r> {
     ghost use Rattle.node_file.specs.Writers.{filling_of, room_of, written_of, Holds};
 
-    /// Begins with an empty file.
+    /// Cuts a file to nothing, and begins with no node.
     pub fn start<S: Shelf>(
         f: FileNo,
         n: u32,
@@ -89,7 +89,8 @@ impl<'r> NodeWriter<'r> {
             (written_of self.old (S.world shelf.old) ++ node_bytes (node ∷ []))) }
         ensures waits { OnOk result (Fills (room_of self.old) (filling_of self.old) (filling_of self.new)) }
         ensures calls { IsTrue (S.tells shelf.new) → let w = filling_of self.old in
-            w.waiting < piece_records w.words (room_of self.old) → (S.world shelf.new).clock ≡ (S.world shelf.old).clock }
+            w.waiting < piece_records w.words (room_of self.old) →
+            (S.world shelf.new).clock ≡ (S.world shelf.old).clock }
         ensures cause { IfErr result (λ e. e ≡ StreamFault.Shelf) }
         ensures content { Told S.tells shelf.old shelf.new
             (Wrote 1 (filling_of self.old).file (S.world shelf.old) (S.world shelf.new)) }

@@ -34,6 +34,7 @@ impl Model for Ptr {
 }
 
 impl Ptr {
+    /// The pointer to a truth value.
     pub fn terminal(value: bool) -> Ptr
         ensures { result ≡ terminal value }
     {
@@ -42,6 +43,7 @@ impl Ptr {
         }
     }
 
+    /// The pointer to the node with that number in its level.
     pub fn node(level: u16, number: u64) -> Ptr
         requires level { level ≤ deepest_level }
         requires number { number < level_numbers }
