@@ -1,5 +1,5 @@
 // How many calls streams make: each moves as many records as the window and a piece of 2,048 bytes allow.
-ghost use Rattle.std.specs.Prelude.{◌≤◌, length};
+ghost use Rattle.std.specs.Prelude.{◌≤◌, ◌^◌, IfOk, length};
 
 use crate::streams::{reads_backward, reads_forward, write_all};
 use arc_file::{Arc, ArcReader, ArcWriter, Unreduced};
@@ -18,9 +18,11 @@ const ENDS: FileNo = FileNo { step: 2, part: 2 };
 const EMPTY: Rec = Rec { w: [0; 8] };
 
 // The calls that put 100 records of 64 bytes, and those that read them forward and backward.
-fn record_calls(window: &mut [Rec], bench: &mut Bench) -> Result<(u64, u64, u64), Fail>
-    requires { 8 ≤ length window.old }
+fn record_calls(size: usize, bench: &mut Bench) -> Result<(u64, u64, u64), Fail>
+    requires { (8 ≤ size) × (size ≤ 80) }
 {
+    let mut records = [EMPTY; 80];
+    let window = &mut records[..size];
     let before = bench.clock();
     write_all(100, window, bench)?;
     let written = bench.clock();
@@ -54,9 +56,11 @@ fn write_nodes<S: Shelf>(window: &mut [Rec], shelf: &mut S) -> Result<u64, Strea
 }
 
 // The calls that write 100 nodes and the trailer, 101 records of 24 bytes, and those that read them.
-fn node_calls(window: &mut [Rec], bench: &mut Bench) -> Result<(u64, u64), Fail>
-    requires { 8 ≤ length window.old }
+fn node_calls(size: usize, bench: &mut Bench) -> Result<(u64, u64), Fail>
+    requires { (8 ≤ size) × (size ≤ 80) }
 {
+    let mut records = [EMPTY; 80];
+    let window = &mut records[..size];
     let before = bench.clock();
     write_nodes(window, bench)?;
     let written = bench.clock();
@@ -71,6 +75,7 @@ fn node_calls(window: &mut [Rec], bench: &mut Bench) -> Result<(u64, u64), Fail>
 // Writes 100 arcs to nodes and 100 to truth values.
 fn write_arcs<S: Shelf>(room: &mut [Rec], shelf: &mut S) -> Result<Unreduced, StreamFault>
     requires { 16 ≤ length room.old }
+    ensures few { IfOk result (λ made. (made.inner_count ≤ 2 ^ 46) × (made.ends_count ≤ 2 ^ 46)) }
 {
     let mut out = ArcWriter::start(INNER, ENDS, room, shelf)?;
     for k in 0..100u64 {
@@ -100,9 +105,11 @@ fn write_arcs<S: Shelf>(room: &mut [Rec], shelf: &mut S) -> Result<Unreduced, St
 }
 
 // The calls that write 100 arcs of 16 bytes into each of two files, and those that read them.
-fn arc_calls(room: &mut [Rec], bench: &mut Bench) -> Result<(u64, u64), Fail>
-    requires { 16 ≤ length room.old }
+fn arc_calls(size: usize, bench: &mut Bench) -> Result<(u64, u64), Fail>
+    requires { (16 ≤ size) × (size ≤ 80) }
 {
+    let mut records = [EMPTY; 80];
+    let room = &mut records[..size];
     let before = bench.clock();
     let made = write_arcs(room, bench)?;
     let written = bench.clock();
@@ -119,15 +126,14 @@ fn arc_calls(room: &mut [Rec], bench: &mut Bench) -> Result<(u64, u64), Fail>
 // has more than the 32 records of 64 bytes that a call moves, and 40 records of 24 or of 16 bytes in a call.
 #[test]
 fn calls_are_full(rt: HostRuntime) -> Result<(), Fail> {
-    let mut room = [EMPTY; 80];
     let mut bench = Bench::empty(rt.alloc());
     assert!(rt;
-        record_calls(&mut room[..8], &mut bench)? == (15, 13, 13)
-            && record_calls(&mut room[..40], &mut bench)? == (6, 4, 4)
-            && node_calls(&mut room[..8], &mut bench)? == (15, 15)
-            && node_calls(&mut room[..40], &mut bench)? == (5, 5)
-            && arc_calls(&mut room[..16], &mut bench)? == (30, 26)
-            && arc_calls(&mut room[..80], &mut bench)? == (10, 6)
+        record_calls(8, &mut bench)? == (15, 13, 13)
+            && record_calls(40, &mut bench)? == (6, 4, 4)
+            && node_calls(8, &mut bench)? == (15, 15)
+            && node_calls(40, &mut bench)? == (5, 5)
+            && arc_calls(16, &mut bench)? == (30, 26)
+            && arc_calls(80, &mut bench)? == (10, 6)
     );
     Ok(())
 }
