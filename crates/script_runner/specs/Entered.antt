@@ -14,7 +14,8 @@ use Rattle.script_runner.specs.Text.{run_text, other_job_line, damaged_line}
 use Rattle.script_runner.specs.Shapes.{AreWhole, IsWholeShape, IsTail}
 use Rattle.script_runner.specs.Running.{SaysFront, IsRunning, HasSaid, IsOther, HasOtherJob, IsDamage, IsEntryDamage, AreEmptied}
 
--- the statuses of a run that was done, refused its folder, or met a fault of the folder or of saying
+-- the statuses of a run that was done, refused its folder, or met a fault of the folder or of
+-- saying
 abbrev pub EndsRun : ℕ → Type 0
 EndsRun status = (status ≡ 0) ⊎ (status ≡ 5) ⊎ (status ≡ 7) ⊎ (status ≡ 8) ⊎ (status ≡ 10)
 
@@ -22,26 +23,31 @@ EndsRun status = (status ≡ 0) ⊎ (status ≡ 5) ⊎ (status ≡ 7) ⊎ (statu
 abbrev pub Refused : ℕ → Type 0
 Refused status = (status ≡ 5) ⊎ (status ≡ 10)
 
--- a run in a folder that stores another job: no image is new, and the line that says so was said, or a front part of it
+-- a run in a folder that stores another job: no image is new, and the line that says so was said,
+-- or a front part of it
 pub record RefusesOther (job : List ℕ) (status : ℕ) (start : Moment) (old new : World) : Type 0 where
   pub at : ℕ
   pub place : HasOtherJob job at (present start.folder)
-  pub moments : Throughout old new (λ m. SaysFront start.said (other_job_line at) m.said × OnlyOldImages start m)
+  pub moments : Throughout old new (λ m. SaysFront start.said (other_job_line at) m.said
+      × OnlyOldImages start m)
   pub status_is : (status ≡ 5) ⊎ (status ≡ 7) ⊎ (status ≡ 8)
   pub whole : status ≡ 5 → said new ≡ start.said ++ other_job_line at
 
--- a damaged place of the old folder was named behind whole lines: it was met before anything was done, or where an entry was read
+-- a damaged place of the old folder was named behind whole lines: it was met before anything was
+-- done, or where an entry was read
 pub record NamesDamage (job : Job) (lines : List LineEnd) (start : Moment) (old new : World) : Type 0 where
   pub file : FileNo
   pub at : ℕ
   pub before : List ℕ
   pub said_is : said new ≡ start.said ++ (before ++ damaged_line file at)
   pub whole : AreWhole job.steps lines (present start.folder) (present (now new).folder) before
-  pub place : (IsDamage (length job.steps) file at (present start.folder) × (before ≡ []) × Throughout old new (OnlyOldImages start))
+  pub place : (IsDamage (length job.steps) file at (present start.folder) × (before ≡ [])
+      × Throughout old new (OnlyOldImages start))
       ⊎ IsEntryDamage job.steps file at (present start.folder)
 
--- a moment of a run: what was said since is a front part of its lines and a front part of a status's line behind whole ones, and where
--- each image was sound at first no status has a line so far
+-- a moment of a run: what was said since is a front part of its lines and a front part of a
+-- status's line behind whole ones, and where each image was sound at first no status has a line so
+-- far
 pub record IsMoment (job : Job) (lines : List LineEnd) (start m : Moment) : Type 0 where
   pub front : List ℕ
   pub tail : List ℕ
@@ -53,13 +59,17 @@ pub record IsMoment (job : Job) (lines : List LineEnd) (start m : Moment) : Type
 -- what a run of a job leaves by the moment at which it was started
 pub record RunsFrom (job : Job) (lines : List LineEnd) (status : ℕ) (start : Moment) (old new : World) : Type 0 where
   pub moments : Throughout old new (IsMoment job lines start)
-  -- where each image was sound for the job at first the folder isn't refused, and with 0 the whole text was said
+  -- where each image was sound for the job at first the folder isn't refused, and with 0 the whole
+  -- text was said
   pub goes_on : AreSound job start.folder → ¬ (Refused status)
-  pub whole : AreSound job start.folder → status ≡ 0 → said new ≡ start.said ++ run_text job lines (present start.folder)
+  pub whole : AreSound job start.folder → status ≡ 0
+      → said new ≡ start.said ++ run_text job lines (present start.folder)
   -- with 0 all lines were said, every image has all steps, and what was dropped since is empty
-  pub says : status ≡ 0 → HasSaid (λ text folder. IsWholeShape job.steps lines (present start.folder) (present folder) text) start (now new)
+  pub says : status ≡ 0
+      → HasSaid (λ text folder. IsWholeShape job.steps lines (present start.folder) (present folder) text) start (now new)
   pub all : status ≡ 0 → HaveCount (length job.steps) (now new).folder
-  pub emptied : status ≡ 0 → AreEmptied job.steps (count_in (present start.folder)) (length job.steps) (now new).folder
+  pub emptied : status ≡ 0
+      → AreEmptied job.steps (count_in (present start.folder)) (length job.steps) (now new).folder
   -- a folder that stores another job is refused, and with 5 it is such a one
   pub other : IsOther job.bytes (present start.folder) → RefusesOther job.bytes status start old new
   pub only_other : status ≡ 5 → IsOther job.bytes (present start.folder)

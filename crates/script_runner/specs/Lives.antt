@@ -1,4 +1,5 @@
--- Calls of the program in one folder, one after the other, each ended by its status, by a kill or by a power cut.
+-- Calls of the program in one folder, one after the other, each ended by its status, by a kill or
+-- by a power cut.
 use Rattle.std.specs.Prelude.{◌≡◌, ◌⊎◌, ℕ, ◌<◌, ◌≤◌, IsTrue, List, [], ◌∷◌, ◌++◌}
 use Rattle.shelf_model.specs.declared.file_no.FileNo.{FileNo}
 use Rattle.shelf_model.specs.File.{firm_file}
@@ -12,7 +13,8 @@ use Rattle.script_runner.specs.Running.{ReachesCount}
 use Rattle.script_runner.specs.JobOf.{job_of}
 use Rattle.script_runner.specs.Outcome.{Accepts, EndsRan, Ends}
 
--- a call of the program, the moment at which it was ended, what it had said by then, and the folder that was left
+-- a call of the program, the moment at which it was ended, what it had said by then, and the folder
+-- that was left
 pub record Life : Type 0 where
   pub words : List (List ℕ)
   pub status : ℕ
@@ -26,13 +28,16 @@ pub record Life : Type 0 where
 abbrev pub SameFiles : Folder → Folder → Type 0
 SameFiles a b = (f : FileNo) → file_in a f ≡ file_in b f
 
--- the folder was left as it stood, what was pending with it, or as one of its images, with nothing pending
+-- the folder was left as it stood, what was pending with it, or as one of its images, with nothing
+-- pending
 abbrev pub IsLeftOf : Folder → Folder → Type 0
 IsLeftOf folder left =
-    SameFiles left folder ⊎ ((image : Image) × IsImage folder image × ((f : FileNo) → file_in left f ≡ firm_file (bytes_in image f)))
+    SameFiles left folder
+    ⊎ ((image : Image) × IsImage folder image
+    × ((f : FileNo) → file_in left f ≡ firm_file (bytes_in image f)))
 
--- the call found that folder, in which every file is one that can be, and was ended at a moment of it, which is its last where it came
--- to its end
+-- the call found that folder, in which every file is one that can be, and was ended at a moment of
+-- it, which is its last where it came to its end
 pub record IsLife (folder : Folder) (life : Life) : Type 0 where
   pub found : SameFiles (now life.old).folder folder
   pub files : AreFiles (now life.old).folder
@@ -55,14 +60,17 @@ StaysOut life = ¬ (EndsRan life.words life.status life.old life.new)
 abbrev pub AreStored : Folder → Type 0
 AreStored folder = (image : Image) → IsImage folder image → IsTrue (is_stored (bytes_in image))
 
--- each call found what the one before left; its words are those of one job, or it stayed out, or every image stored a job already
+-- each call found what the one before left; its words are those of one job, or it stayed out, or
+-- every image stored a job already
 abbrev pub AreLives : List ℕ → Plan → Folder → List Life → Type 0
 AreLives text plan folder [] = Unit
 AreLives text plan folder (life ∷ lives) =
-    IsLife folder life × (RunsPlan text plan life ⊎ StaysOut life ⊎ AreStored folder) × AreLives text plan life.left lives
+    IsLife folder life × (RunsPlan text plan life ⊎ StaysOut life ⊎ AreStored folder)
+    × AreLives text plan life.left lives
 
--- what a call leaves of a folder: each image is sound for the job, no step that all images had is lost, and a job that all of them
--- store stays; where it ran the job each image has each step whose line it said, and stores the job where it said its banner
+-- what a call leaves of a folder: each image is sound for the job, no step that all images had is
+-- lost, and a job that all of them store stays; where it ran the job each image has each step whose
+-- line it said, and stores the job where it said its banner
 pub record LifeKeeps (text : List ℕ) (plan : Plan) (folder : Folder) (life : Life) : Type 0 where
   pub sound : AreSound (job_of text plan) life.left
   pub has_old : (count : ℕ) → ReachesCount count folder → ReachesCount count life.left
@@ -74,4 +82,5 @@ pub record LifeKeeps (text : List ℕ) (plan : Plan) (folder : Folder) (life : L
 -- each call of the list does
 abbrev pub LivesKeep : List ℕ → Plan → Folder → List Life → Type 0
 LivesKeep text plan folder [] = Unit
-LivesKeep text plan folder (life ∷ lives) = LifeKeeps text plan folder life × LivesKeep text plan life.left lives
+LivesKeep text plan folder (life ∷ lives) = LifeKeeps text plan folder life
+    × LivesKeep text plan life.left lives

@@ -61,7 +61,8 @@ pub record EndsRan (words : List (List ℕ)) (status : ℕ) (old new : World) : 
 -- the program ended in one of four ways
 abbrev pub Ends : List (List ℕ) → ℕ → World → World → Type 0
 Ends words status old new =
-    EndsUsage words status old new ⊎ EndsSilent words status old new ⊎ EndsRefused words status old new ⊎ EndsRan words status old new
+    EndsUsage words status old new ⊎ EndsSilent words status old new
+    ⊎ EndsRefused words status old new ⊎ EndsRan words status old new
 
 -- the words decide between the usage and a run, unless saying failed
 pub record ByWords (words : List (List ℕ)) (status : ℕ) : Type 0 where
@@ -71,20 +72,23 @@ pub record ByWords (words : List (List ℕ)) (status : ℕ) : Type 0 where
 
 -- 6, 7 and 8 come only where their count rose: that of the script's path, of the folder, of saying
 pub record StatusHasCause (words : List (List ℕ)) (status : ℕ) (old new : Faults) : Type 0 where
-  pub text_fault : status ≡ 6 → (reading : Reading) × (reading_of words ≡ Some reading) × Rose (old.text reading.script) (new.text reading.script)
+  pub text_fault : status ≡ 6 → (reading : Reading) × (reading_of words ≡ Some reading)
+      × Rose (old.text reading.script) (new.text reading.script)
   pub folder_fault : status ≡ 7 → Rose old.folder new.folder
   pub say_fault : status ≡ 8 → Rose old.say new.say
 
 -- no call failed: neither the count of the script's path rose, nor that of the folder or of saying
 pub record NoneRose (words : List (List ℕ)) (old new : Faults) : Type 0 where
-  pub text_same : (reading : Reading) → reading_of words ≡ Some reading → ¬ (Rose (old.text reading.script) (new.text reading.script))
+  pub text_same : (reading : Reading) → reading_of words ≡ Some reading
+      → ¬ (Rose (old.text reading.script) (new.text reading.script))
   pub folder_same : ¬ (Rose old.folder new.folder)
   pub say_same : ¬ (Rose old.say new.say)
 
--- the calls of the station: those of reading the text of at most 1,048,576 bytes and saying a line, or, where a job was run, those of
--- entering the folder and of a run of its steps and lines besides
+-- the calls of the station: those of reading the text of at most 1,048,576 bytes and saying a line,
+-- or, where a job was run, those of entering the folder and of a run of its steps and lines besides
 abbrev pub MakesFewCalls : List (List ℕ) → World → World → Type 0
 MakesFewCalls words old new =
     (new.clock ≤ old.clock + fetch_calls 1048576 + 1)
     ⊎ ((plan : Plan) × (accepts : Accepts old words plan)
-    × (new.clock ≤ old.clock + fetch_calls 1048576 + 2 + most_calls (length plan.steps) (length plan.lines) (length (job_bytes accepts.text))))
+    × (new.clock
+    ≤ old.clock + fetch_calls 1048576 + 2 + most_calls (length plan.steps) (length plan.lines) (length (job_bytes accepts.text))))

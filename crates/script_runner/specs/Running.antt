@@ -45,10 +45,12 @@ pub record SaysOnly (text : List ℕ) (old new : World) : Type 0 where
 
 -- every image of the folder has at least that count
 abbrev pub ReachesCount : ℕ → Folder → Type 0
-ReachesCount count folder = (image : Image) → IsImage folder image → count ≤ count_in (bytes_in image)
+ReachesCount count folder = (image : Image) → IsImage folder image
+    → count ≤ count_in (bytes_in image)
 
--- an image that a stop may leave where these bytes were said since a run of the job began in the old folder: it is sound,
--- has each step whose line was said and as many as each image of the old folder, and stores the job where the banner was said
+-- an image that a stop may leave where these bytes were said since a run of the job began in the
+-- old folder: it is sound, has each step whose line was said and as many as each image of the old
+-- folder, and stores the job where the banner was said
 pub record IsSafe (job : Job) (lines : List LineEnd) (old : Folder) (bytes : List ℕ) (r : FileNo → List ℕ) : Type 0 where
   pub sound : IsSound job r
   pub has_said : said_count (count_in (present old)) lines bytes ≤ count_in r
@@ -63,16 +65,21 @@ pub record Begins (count : ℕ) (front : List ℕ) (r : FileNo → List ℕ) : T
 
 -- each image of the folder does
 abbrev pub AllBegin : ℕ → List ℕ → Folder → Type 0
-AllBegin count front folder = (image : Image) → IsImage folder image → Begins count front (bytes_in image)
+AllBegin count front folder = (image : Image) → IsImage folder image
+    → Begins count front (bytes_in image)
 
 -- what all images of the old folder had of committed steps, all images have
 abbrev pub KeepsSteps : Folder → Folder → Type 0
-KeepsSteps old new = (count : ℕ) (front : List ℕ) → length front ≡ 128 * count → AllBegin count front old → AllBegin count front new
+KeepsSteps old new = (count : ℕ) (front : List ℕ) → length front ≡ 128 * count
+    → AllBegin count front old → AllBegin count front new
 
--- no line waits: the image is one of the old folder, or the lines of all its committed steps but the last were said, or were before
+-- no line waits: the image is one of the old folder, or the lines of all its committed steps but
+-- the last were said, or were before
 abbrev pub WaitsNot : List LineEnd → Folder → List ℕ → Image → Type 0
 WaitsNot lines old front image =
-    IsImage old image ⊎ (ended_before (count_in (bytes_in image) - 1) lines ≤ acknowledged (count_in (present old)) lines front)
+    IsImage old image
+    ⊎ (ended_before (count_in (bytes_in image) - 1) lines
+    ≤ acknowledged (count_in (present old)) lines front)
 
 -- a file of one of so many steps, or of the job
 abbrev pub IsJobs : ℕ → FileNo → Type 0
@@ -82,14 +89,16 @@ IsJobs steps f = (f.step < steps) ⊎ (f.step ≡ 4294967295)
 abbrev pub OthersAre : ℕ → Folder → Folder → Type 0
 OthersAre steps = OnlyChanges (IsJobs steps)
 
--- where each image was sound for the job at first: a front part of its text was said, and each image is safe
+-- where each image was sound for the job at first: a front part of its text was said, and each
+-- image is safe
 pub record IsSafeRun (job : Job) (lines : List LineEnd) (old : Folder) (front : List ℕ) (new : Folder) : Type 0 where
   pub rest : List ℕ
   pub text_is : run_text job lines (present old) ≡ front ++ rest
   pub safe : (image : Image) → IsImage new image → IsSafe job lines old front (bytes_in image)
 
--- a run that began in the old folder and has said this: a front part of whole lines, other files are as they were, no image lost a
--- committed step, no line waits, and where each image was sound at first it is safe
+-- a run that began in the old folder and has said this: a front part of whole lines, other files
+-- are as they were, no image lost a committed step, no line waits, and where each image was sound
+-- at first it is safe
 pub record IsRunning (job : Job) (lines : List LineEnd) (old : Folder) (front : List ℕ) (new : Folder) : Type 0 where
   pub shape : IsShapeFront job.steps lines (present old) (present new) front
   pub others : OthersAre (length job.steps) old new
@@ -120,11 +129,13 @@ pub record HasOtherJob (job : List ℕ) (at : ℕ) (r : FileNo → List ℕ) : T
   pub is_other : IsOther job r
   pub place : at ≡ common_prefix_len nat_eq (r job_file) job
 
--- the step gate counts more than the steps, or the catalogue lacks an entry that it counts: its first entry that isn't whole
+-- the step gate counts more than the steps, or the catalogue lacks an entry that it counts: its
+-- first entry that isn't whole
 abbrev pub IsDamage : ℕ → FileNo → ℕ → (FileNo → List ℕ) → Type 0
 IsDamage steps f at r =
     ((f ≡ step_gate) × (at ≡ steps) × (steps < length (r step_gate)))
-    ⊎ ((f ≡ catalogue) × (at ≡ 128 * (length (r catalogue) / 128)) × (length (r catalogue) < 128 * length (r step_gate)))
+    ⊎ ((f ≡ catalogue) × (at ≡ 128 * (length (r catalogue) / 128))
+    × (length (r catalogue) < 128 * length (r step_gate)))
 
 -- no entry of a committed step, of the kind of that step, stands whole at its place
 pub record IsEntryDamage (steps : List Planned) (f : FileNo) (at : ℕ) (r : FileNo → List ℕ) : Type 0 where
@@ -132,7 +143,8 @@ pub record IsEntryDamage (steps : List Planned) (f : FileNo) (at : ℕ) (r : Fil
   pub counted : step < count_in r
   pub file_is : f ≡ catalogue
   pub at_is : at ≡ 128 * step
-  pub none_there : (e : Entry) → IsEntryOf step r e → e.kind ≢ kind_of (get_or steps step no_step).step
+  pub none_there : (e : Entry) → IsEntryOf step r e
+      → e.kind ≢ kind_of (get_or steps step no_step).step
 
 -- the run ended because the folder holds another job, or is damaged
 abbrev pub RefusesFolder : Finish → Type 0
@@ -159,31 +171,43 @@ pub record IsStill (old m : Moment) : Type 0 where
 abbrev pub StoodStill : World → World → Type 0
 StoodStill old new = Throughout old new (IsStill (now old))
 
--- a damaged place of the old folder was met: before anything was done, or where an entry was read, behind whole lines
+-- a damaged place of the old folder was met: before anything was done, or where an entry was read,
+-- behind whole lines
 pub record MeetsDamage (steps : List Planned) (lines : List LineEnd) (f : FileNo) (at : ℕ) (old new : World) : Type 0 where
   pub front : List ℕ
   pub said_is : said new ≡ said old ++ front
   pub whole : AreWhole steps lines (present (now old).folder) (present (now new).folder) front
-  pub place : (IsDamage (length steps) f at (present (now old).folder) × StoodStill old new) ⊎ IsEntryDamage steps f at (present (now old).folder)
+  pub place : (IsDamage (length steps) f at (present (now old).folder) × StoodStill old new)
+      ⊎ IsEntryDamage steps f at (present (now old).folder)
 
 -- the file of each diagram that a step from that one on drops is empty
 abbrev pub AreEmptied : List Planned → ℕ → ℕ → Folder → Type 0
 AreEmptied steps from until folder =
-    (k : ℕ) → from ≤ k → k < until → (gone : ℕ) → (get_or steps k no_step).step ≡ step.Drop gone → (file_in folder (node_file gone)).bytes ≡ []
+    (k : ℕ) → from ≤ k → k < until → (gone : ℕ) → (get_or steps k no_step).step ≡ step.Drop gone
+    → (file_in folder (node_file gone)).bytes ≡ []
 
 -- a run of the steps of a job
 pub record RunsSteps (job : Job) (lines : List LineEnd) (finish : Finish) (old new : World) : Type 0 where
   pub moments : Throughout old new (HasSaid (IsRunning job lines (now old).folder) (now old))
   pub stays : StaysThere old new
-  -- where each image was sound at first the folder is refused for nothing, and where all was done the whole text was said
+  -- where each image was sound at first the folder is refused for nothing, and where all was done
+  -- the whole text was said
   pub goes_on : AreSound job (now old).folder → ¬ (RefusesFolder finish)
-  pub whole : AreSound job (now old).folder → finish ≡ Done → said new ≡ said old ++ run_text job lines (present (now old).folder)
-  -- where all was done all lines were said, every image has all steps, and what was dropped since is empty
-  pub says : finish ≡ Done → HasSaid (λ text folder. IsWholeShape job.steps lines (present (now old).folder) (present folder) text) (now old) (now new)
+  pub whole : AreSound job (now old).folder → finish ≡ Done
+      → said new ≡ said old ++ run_text job lines (present (now old).folder)
+  -- where all was done all lines were said, every image has all steps, and what was dropped since
+  -- is empty
+  pub says : finish ≡ Done
+      → HasSaid (λ text folder. IsWholeShape job.steps lines (present (now old).folder) (present folder) text) (now old) (now new)
   pub all : finish ≡ Done → HaveCount (length job.steps) (now new).folder
-  pub emptied : finish ≡ Done → AreEmptied job.steps (count_in (present (now old).folder)) (length job.steps) (now new).folder
-  -- another job is refused exactly where one is stored, unless a call of the folder failed, and then nothing was done
-  pub other_job : (at : ℕ) → finish ≡ OtherJob at → HasOtherJob job.bytes at (present (now old).folder)
-  pub refuses_other : IsOther job.bytes (present (now old).folder) → StoodStill old new × (((at : ℕ) × (finish ≡ OtherJob at)) ⊎ (finish ≡ FolderFault))
+  pub emptied : finish ≡ Done
+      → AreEmptied job.steps (count_in (present (now old).folder)) (length job.steps) (now new).folder
+  -- another job is refused exactly where one is stored, unless a call of the folder failed, and
+  -- then nothing was done
+  pub other_job : (at : ℕ) → finish ≡ OtherJob at
+      → HasOtherJob job.bytes at (present (now old).folder)
+  pub refuses_other : IsOther job.bytes (present (now old).folder) → StoodStill old new
+      × (((at : ℕ) × (finish ≡ OtherJob at)) ⊎ (finish ≡ FolderFault))
   -- damage is named where the old folder has it
-  pub damaged : (f : FileNo) (at : ℕ) → finish ≡ Damaged f at → MeetsDamage job.steps lines f at old new
+  pub damaged : (f : FileNo) (at : ℕ) → finish ≡ Damaged f at
+      → MeetsDamage job.steps lines f at old new

@@ -12,10 +12,12 @@ use Rattle.script_runner.specs.Text.{entry_line, banner_line, lines_from_step, d
 abbrev pub AreShown : List Planned → (FileNo → List ℕ) → List LineEnd → List ℕ → Type 0
 AreShown steps r [] bytes = bytes ≡ []
 AreShown steps r (line ∷ lines) bytes =
-    (e : Entry) × (rest : List ℕ) × IsEntryOf line.shows r e × (bytes ≡ entry_line steps line e ++ rest) × AreShown steps r lines rest
+    (e : Entry) × (rest : List ℕ) × IsEntryOf line.shows r e
+    × (bytes ≡ entry_line steps line e ++ rest) × AreShown steps r lines rest
 
--- whole lines of a run: the banner of what was there at first, the first of the plan's lines that weren't said before, by the
--- entries that are there now, and, behind all of them, that all was done
+-- whole lines of a run: the banner of what was there at first, the first of the plan's lines that
+-- weren't said before, by the entries that are there now, and, behind all of them, that all was
+-- done
 pub record IsShape (steps : List Planned) (lines : List LineEnd) (first here : FileNo → List ℕ) (text : List ℕ) : Type 0 where
   pub spoken : List LineEnd
   pub later : List LineEnd
@@ -32,10 +34,12 @@ pub record IsShapeFront (steps : List Planned) (lines : List LineEnd) (first her
   pub shape : IsShape steps lines first here (front ++ rest)
 
 -- nothing, or whole lines of a run
-abbrev pub AreWhole : List Planned → List LineEnd → (FileNo → List ℕ) → (FileNo → List ℕ) → List ℕ → Type 0
+abbrev pub AreWhole : List Planned → List LineEnd → (FileNo → List ℕ) → (FileNo → List ℕ) → List ℕ
+    → Type 0
 AreWhole steps lines first here text = (text ≡ []) ⊎ IsShape steps lines first here text
 
--- all that a run says: its banner, each of the plan's lines that weren't said before, and that all was done
+-- all that a run says: its banner, each of the plan's lines that weren't said before, and that all
+-- was done
 pub record IsWholeShape (steps : List Planned) (lines : List LineEnd) (first here : FileNo → List ℕ) (text : List ℕ) : Type 0 where
   pub body : List ℕ
   pub shown : AreShown steps here (lines_from_step (count_in first) lines) body
@@ -43,7 +47,8 @@ pub record IsWholeShape (steps : List Planned) (lines : List LineEnd) (first her
 
 -- the line of a status that a run ends with: its folder stores another job, or is damaged
 abbrev pub IsRefusal : List ℕ → Type 0
-IsRefusal line = ((at : ℕ) × (line ≡ other_job_line at)) ⊎ ((f : FileNo) × (at : ℕ) × (line ≡ damaged_line f at))
+IsRefusal line = ((at : ℕ) × (line ≡ other_job_line at))
+    ⊎ ((f : FileNo) × (at : ℕ) × (line ≡ damaged_line f at))
 
 -- a front part of such a line, behind whole lines
 pub record IsRefusing (steps : List Planned) (lines : List LineEnd) (first here : FileNo → List ℕ) (front tail : List ℕ) : Type 0 where
@@ -52,5 +57,7 @@ pub record IsRefusing (steps : List Planned) (lines : List LineEnd) (first here 
   pub refusal : IsRefusal (tail ++ rest)
 
 -- what was said behind a front part of the lines: nothing, or a front part of a status's line
-abbrev pub IsTail : List Planned → List LineEnd → (FileNo → List ℕ) → (FileNo → List ℕ) → List ℕ → List ℕ → Type 0
-IsTail steps lines first here front tail = (tail ≡ []) ⊎ IsRefusing steps lines first here front tail
+abbrev pub IsTail : List Planned → List LineEnd → (FileNo → List ℕ) → (FileNo → List ℕ) → List ℕ
+    → List ℕ → Type 0
+IsTail steps lines first here front tail = (tail ≡ [])
+    ⊎ IsRefusing steps lines first here front tail

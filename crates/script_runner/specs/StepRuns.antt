@@ -47,23 +47,29 @@ pub record CountsAbout (step : ℕ) (r : FileNo → List ℕ) : Type 0 where
   pub no_fewer : step ≤ count_in r
   pub no_more : count_in r ≤ step + 1
 
--- a step in a folder that holds the steps before it: each image keeps them, and where the step is done the folder holds it too
+-- a step in a folder that holds the steps before it: each image keeps them, and where the step is
+-- done the folder holds it too
 pub record HoldsStep (job : Job) (step : ℕ) (result : Result Entry Finish) (old new : World) : Type 0 where
-  pub images : Throughout old new (λ m. (image : Image) → IsImage m.folder image → HasSteps job step (bytes_in image))
+  pub images : Throughout old new (λ m. (image : Image) → IsImage m.folder image
+      → HasSteps job step (bytes_in image))
   pub ok : IfOk result (λ e. Holds job (step + 1) (now new).folder × IsEntryOfStep job step e)
   pub err : IfErr result (λ finish. ¬ (RefusesFolder finish))
 
 -- an entry that was met is damaged, as it stood before
 abbrev pub NamesEntry : List Planned → World → Finish → Type 0
-NamesEntry steps old finish = (f : FileNo) (at : ℕ) → finish ≡ Damaged f at → IsEntryDamage steps f at (present (now old).folder)
+NamesEntry steps old finish = (f : FileNo) (at : ℕ) → finish ≡ Damaged f at
+    → IsEntryDamage steps f at (present (now old).folder)
 
--- while a step is taken in a folder with so many steps: files of other steps and of others stay, in each image a job is stored with
--- the steps before and at most this one, and the entries before it stay, as they are sure and as they are read
+-- while a step is taken in a folder with so many steps: files of other steps and of others stay, in
+-- each image a job is stored with the steps before and at most this one, and the entries before it
+-- stay, as they are sure and as they are read
 pub record IsTaking (steps step : ℕ) (old new : Folder) : Type 0 where
   pub others : OthersAre steps old new
   pub counts : (image : Image) → IsImage new image → CountsAbout step (bytes_in image)
-  pub kept : (front : List ℕ) → length front ≤ 128 * step → IsKept front (file_in old catalogue) → IsKept front (file_in new catalogue)
-  pub reads : take (128 * step) (file_in new catalogue).bytes ≡ take (128 * step) (file_in old catalogue).bytes
+  pub kept : (front : List ℕ) → length front ≤ 128 * step → IsKept front (file_in old catalogue)
+      → IsKept front (file_in new catalogue)
+  pub reads : take (128 * step) (file_in new catalogue).bytes
+      ≡ take (128 * step) (file_in old catalogue).bytes
 
 -- the entry of a step stands at its place, and is of the step's kind
 pub record HasEntry (steps : List Planned) (step : ℕ) (e : Entry) (r : FileNo → List ℕ) : Type 0 where
@@ -81,10 +87,12 @@ pub record TakesStep (n : ℕ) (text : List ℕ) (steps : List Planned) (step : 
   pub made : IfOk result (λ e. HasEntry steps step e (present (now new).folder))
   -- what the step drops is empty, and so are earlier diagrams' files that were
   pub emptied : OnOk result (AreEmptied steps step (step + 1) (now new).folder)
-  pub still_empty : OnOk result ((k : ℕ) → k < step → StaysEmpty (node_file k) (now old).folder (now new).folder)
+  pub still_empty : OnOk result ((k : ℕ) → k < step
+      → StaysEmpty (node_file k) (now old).folder (now new).folder)
   pub stops : IfErr result IsStop
   pub damaged : IfErr result (NamesEntry steps old)
-  pub holds : (job : Job) → IsJobOf job n text steps → Holds job step (now old).folder → HoldsStep job step result old new
+  pub holds : (job : Job) → IsJobOf job n text steps → Holds job step (now old).folder
+      → HoldsStep job step result old new
 
 -- the lines that are right for a job were said, or a front part of them
 pub record SaysRight (job : Job) (lines : List LineEnd) (result : Result Unit Finish) (old new : World) : Type 0 where
@@ -121,9 +129,11 @@ pub record SpokeAll (steps : List Planned) (lines : List LineEnd) (r : FileNo �
 -- the entry that was met is damaged, behind whole lines
 abbrev pub StopsBehind : List Planned → List LineEnd → World → World → Finish → Type 0
 StopsBehind steps lines old new finish = (f : FileNo) (at : ℕ) → finish ≡ Damaged f at
-    → IsEntryDamage steps f at (present (now old).folder) × SpokeWhole steps lines (present (now old).folder) (said old) (said new)
+    → IsEntryDamage steps f at (present (now old).folder)
+    × SpokeWhole steps lines (present (now old).folder) (said old) (said new)
 
--- lines were said, each with what the entry of its step shows, where the folder holds them the right ones, or the run stopped there
+-- lines were said, each with what the entry of its step shows, where the folder holds them the
+-- right ones, or the run stopped there
 pub record SaysLines (steps : List Planned) (count : ℕ) (lines : List LineEnd) (e : Entry) (result : Result Unit Finish) (old new : World) : Type 0 where
   pub files : Throughout old new (Stays (now old))
   pub stays : StaysThere old new
@@ -131,10 +141,12 @@ pub record SaysLines (steps : List Planned) (count : ℕ) (lines : List LineEnd)
   pub ok : OnOk result (SpokeAll steps lines (present (now old).folder) (said old) (said new))
   pub stops : IfErr result IsStop
   pub damaged : IfErr result (StopsBehind steps lines old new)
-  pub holds : (job : Job) → IsWellFormed job.n job.text job.steps → job.steps ≡ steps → Holds job count (now old).folder → IsEntryOfStep job e.number e
+  pub holds : (job : Job) → IsWellFormed job.n job.text job.steps → job.steps ≡ steps
+      → Holds job count (now old).folder → IsEntryOfStep job e.number e
       → SaysRight job lines result old new
 
--- reading the entry of step k ended a run: its folder failed, or no entry of that kind stands whole at its place
+-- reading the entry of step k ended a run: its folder failed, or no entry of that kind stands whole
+-- at its place
 abbrev pub IsReadFault : ℕ → ℕ → (FileNo → List ℕ) → Finish → Type 0
 IsReadFault k kind r Done = ⊥
 IsReadFault k kind r (OtherJob at) = ⊥
