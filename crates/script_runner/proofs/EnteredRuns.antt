@@ -12,6 +12,7 @@ use Rattle.shelf_model.specs.Moments.{Throughout, OnlyOldImages}
 use Rattle.shelf_model.proofs.Runs.{stands, one_call, joins, weakens, at_end, told, told_then}
 use Rattle.catalogue.specs.Files.{job_file}
 use Rattle.catalogue.specs.Counts.{present, count_in}
+use Rattle.bool_tables.specs.declared.steps.Planned.{Planned}
 use Rattle.sound_image.specs.Jobs.{Job}
 use Rattle.sound_image.specs.Holds.{AreSound}
 use Rattle.script_reader.specs.declared.plan.LineEnd.{LineEnd}
@@ -336,6 +337,14 @@ whole_line good end other (inl same) is = same
 whole_line good end other (inr fault) is = absurd (other (sym is ∙ ap status_of fault))
 
 module _ {S : Type 0} (tells : S → Bool) (world : S → World) where
+  -- a run of steps and lines that are those of a plan
+  pub of_items : (n : ℕ) (text bytes : List ℕ) (given steps : List Planned) (spoken lines : List LineEnd) (finish : Finish) (s t : S) → given ≡ steps → spoken ≡ lines
+      → Told tells s t (RunsSteps (record { n = n; text = text; steps = given; bytes = bytes }) spoken finish (world s) (world t))
+      → Told tells s t (RunsSteps (record { n = n; text = text; steps = steps; bytes = bytes }) lines finish (world s) (world t))
+  of_items n text bytes given steps spoken lines finish s t steps_are lines_are run =
+      subst (λ (ls : List LineEnd). Told tells s t (RunsSteps (record { n = n; text = text; steps = steps; bytes = bytes }) ls finish (world s) (world t))) lines_are
+      (subst (λ (ss : List Planned). Told tells s t (RunsSteps (record { n = n; text = text; steps = ss; bytes = bytes }) spoken finish (world s) (world t))) steps_are run)
+
   pub enter_failed : (folder : List ℕ) (job : Job) (lines : List LineEnd) (result : Result Unit Failed) (old s : S)
       → Told tells old s (Entered folder result (world old) (world s)) → Told tells old s (RunsIn folder job lines 7 (world old) (world s))
   enter_failed folder job lines result old s entered = told tells old s _ _ entered (λ _ e. not_entered folder job lines result (world old) (world s) e)

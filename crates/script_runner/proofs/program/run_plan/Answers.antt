@@ -6,7 +6,7 @@ use Rattle.script_reader.specs.declared.plan.LineEnd.{LineEnd}
 use Rattle.script_runner.specs.declared.finish.Finish.TheVariants.{Done, OtherJob, FolderFault, SayFault, Damaged}
 use Rattle.script_runner.specs.declared.ending.Ending.TheVariants as ending
 use Rattle.script_runner.specs.Running.{RunsSteps}
-use Rattle.script_runner.proofs.EnteredRuns.{enter_failed, entered_runs, entered_other, entered_damage, said_or, whole_line}
+use Rattle.script_runner.proofs.EnteredRuns.{of_items, enter_failed, entered_runs, entered_other, entered_damage, said_or, whole_line}
 use Rattle.script_runner.proofs.program.run_plan.Goals as goal
 
 pub returns-in_default-clause-content : goal.returns-in_default-clause-content
@@ -17,49 +17,25 @@ returns-in_default-clause-content g c =
 pub returns-in-Done-clause-content : goal.returns-in-Done-clause-content
 returns-in-Done-clause-content g c =
     let job : Job = record { n = c.args.plan.now.n; text = c.args.text.now; steps = c.args.plan.now.steps; bytes = c.args.job.now } in
-    let run : Told g.W.Shelf.tells c.enter.new.self c.run_steps-finish.new.station
-    (RunsSteps job c.args.plan.now.lines Done (g.W.Shelf.world c.enter.new.self) (g.W.Shelf.world c.run_steps-finish.new.station)) =
-    subst (λ (ls : List LineEnd). Told g.W.Shelf.tells c.enter.new.self c.run_steps-finish.new.station
-    (RunsSteps job ls Done (g.W.Shelf.world c.enter.new.self) (g.W.Shelf.world c.run_steps-finish.new.station))) c.items-2.ensures
-    (subst (λ (ss : List Planned). Told g.W.Shelf.tells c.enter.new.self c.run_steps-finish.new.station
-    (RunsSteps (record { n = c.args.plan.now.n; text = c.args.text.now; steps = ss; bytes = c.args.job.now }) c.items-2.result.now Done (g.W.Shelf.world c.enter.new.self) (g.W.Shelf.world c.run_steps-finish.new.station))) c.items.ensures
-    c.in-Done.ensures.content) in
+    let run = of_items g.W.Shelf.tells g.W.Shelf.world c.args.plan.now.n c.args.text.now c.args.job.now _ _ _ _ Done _ _ c.items.ensures c.items-2.ensures c.in-Done.ensures.content in
     entered_runs g.W.Shelf.tells g.W.Shelf.world c.args.folder.now job c.args.plan.now.lines Done c.in-Ok.field-0 _ _ _ (λ x. x) c.in-Ok.ensures.content run
 
 pub returns-in-FolderFault-clause-content : goal.returns-in-FolderFault-clause-content
 returns-in-FolderFault-clause-content g c =
     let job : Job = record { n = c.args.plan.now.n; text = c.args.text.now; steps = c.args.plan.now.steps; bytes = c.args.job.now } in
-    let run : Told g.W.Shelf.tells c.enter.new.self c.run_steps-finish.new.station
-    (RunsSteps job c.args.plan.now.lines FolderFault (g.W.Shelf.world c.enter.new.self) (g.W.Shelf.world c.run_steps-finish.new.station)) =
-    subst (λ (ls : List LineEnd). Told g.W.Shelf.tells c.enter.new.self c.run_steps-finish.new.station
-    (RunsSteps job ls FolderFault (g.W.Shelf.world c.enter.new.self) (g.W.Shelf.world c.run_steps-finish.new.station))) c.items-2.ensures
-    (subst (λ (ss : List Planned). Told g.W.Shelf.tells c.enter.new.self c.run_steps-finish.new.station
-    (RunsSteps (record { n = c.args.plan.now.n; text = c.args.text.now; steps = ss; bytes = c.args.job.now }) c.items-2.result.now FolderFault (g.W.Shelf.world c.enter.new.self) (g.W.Shelf.world c.run_steps-finish.new.station))) c.items.ensures
-    c.in-FolderFault.ensures.content) in
+    let run = of_items g.W.Shelf.tells g.W.Shelf.world c.args.plan.now.n c.args.text.now c.args.job.now _ _ _ _ FolderFault _ _ c.items.ensures c.items-2.ensures c.in-FolderFault.ensures.content in
     entered_runs g.W.Shelf.tells g.W.Shelf.world c.args.folder.now job c.args.plan.now.lines FolderFault c.in-Ok.field-0 _ _ _ (λ x. x) c.in-Ok.ensures.content run
 
 pub returns-in-SayFault-clause-content : goal.returns-in-SayFault-clause-content
 returns-in-SayFault-clause-content g c =
     let job : Job = record { n = c.args.plan.now.n; text = c.args.text.now; steps = c.args.plan.now.steps; bytes = c.args.job.now } in
-    let run : Told g.W.Shelf.tells c.enter.new.self c.run_steps-finish.new.station
-    (RunsSteps job c.args.plan.now.lines SayFault (g.W.Shelf.world c.enter.new.self) (g.W.Shelf.world c.run_steps-finish.new.station)) =
-    subst (λ (ls : List LineEnd). Told g.W.Shelf.tells c.enter.new.self c.run_steps-finish.new.station
-    (RunsSteps job ls SayFault (g.W.Shelf.world c.enter.new.self) (g.W.Shelf.world c.run_steps-finish.new.station))) c.items-2.ensures
-    (subst (λ (ss : List Planned). Told g.W.Shelf.tells c.enter.new.self c.run_steps-finish.new.station
-    (RunsSteps (record { n = c.args.plan.now.n; text = c.args.text.now; steps = ss; bytes = c.args.job.now }) c.items-2.result.now SayFault (g.W.Shelf.world c.enter.new.self) (g.W.Shelf.world c.run_steps-finish.new.station))) c.items.ensures
-    c.in-SayFault.ensures.content) in
+    let run = of_items g.W.Shelf.tells g.W.Shelf.world c.args.plan.now.n c.args.text.now c.args.job.now _ _ _ _ SayFault _ _ c.items.ensures c.items-2.ensures c.in-SayFault.ensures.content in
     entered_runs g.W.Shelf.tells g.W.Shelf.world c.args.folder.now job c.args.plan.now.lines SayFault c.in-Ok.field-0 _ _ _ (λ x. x) c.in-Ok.ensures.content run
 
 pub returns-in-OtherJob-clause-content : goal.returns-in-OtherJob-clause-content
 returns-in-OtherJob-clause-content g c =
     let job : Job = record { n = c.args.plan.now.n; text = c.args.text.now; steps = c.args.plan.now.steps; bytes = c.args.job.now } in
-    let run : Told g.W.Shelf.tells c.enter.new.self c.run_steps-finish.new.station
-    (RunsSteps job c.args.plan.now.lines (OtherJob c.in-OtherJob.at) (g.W.Shelf.world c.enter.new.self) (g.W.Shelf.world c.run_steps-finish.new.station)) =
-    subst (λ (ls : List LineEnd). Told g.W.Shelf.tells c.enter.new.self c.run_steps-finish.new.station
-    (RunsSteps job ls (OtherJob c.in-OtherJob.at) (g.W.Shelf.world c.enter.new.self) (g.W.Shelf.world c.run_steps-finish.new.station))) c.items-2.ensures
-    (subst (λ (ss : List Planned). Told g.W.Shelf.tells c.enter.new.self c.run_steps-finish.new.station
-    (RunsSteps (record { n = c.args.plan.now.n; text = c.args.text.now; steps = ss; bytes = c.args.job.now }) c.items-2.result.now (OtherJob c.in-OtherJob.at) (g.W.Shelf.world c.enter.new.self) (g.W.Shelf.world c.run_steps-finish.new.station))) c.items.ensures
-    c.in-OtherJob.ensures.content) in
+    let run = of_items g.W.Shelf.tells g.W.Shelf.world c.args.plan.now.n c.args.text.now c.args.job.now _ _ _ _ (OtherJob c.in-OtherJob.at) _ _ c.items.ensures c.items-2.ensures c.in-OtherJob.ensures.content in
     entered_other g.W.Shelf.tells g.W.Shelf.world c.args.folder.now job c.args.plan.now.lines c.in-OtherJob.at _ c.as_bytes.result.now c.in-Ok.field-0 _ _ _ _
     (said_or ending.OtherJob c.say_refusal.result c.say_refusal.ensures.which) (c.as_bytes.ensures.value ∙ c.as_str.ensures.value ∙ c.other_job_line.ensures.text)
     c.in-Ok.ensures.content run c.say_refusal.ensures.content
@@ -68,13 +44,7 @@ returns-in-OtherJob-clause-content g c =
 pub returns-in-Damaged-clause-content : goal.returns-in-Damaged-clause-content
 returns-in-Damaged-clause-content g c =
     let job : Job = record { n = c.args.plan.now.n; text = c.args.text.now; steps = c.args.plan.now.steps; bytes = c.args.job.now } in
-    let run : Told g.W.Shelf.tells c.enter.new.self c.run_steps-finish.new.station
-    (RunsSteps job c.args.plan.now.lines (Damaged c.in-Damaged.file c.in-Damaged.at) (g.W.Shelf.world c.enter.new.self) (g.W.Shelf.world c.run_steps-finish.new.station)) =
-    subst (λ (ls : List LineEnd). Told g.W.Shelf.tells c.enter.new.self c.run_steps-finish.new.station
-    (RunsSteps job ls (Damaged c.in-Damaged.file c.in-Damaged.at) (g.W.Shelf.world c.enter.new.self) (g.W.Shelf.world c.run_steps-finish.new.station))) c.items-2.ensures
-    (subst (λ (ss : List Planned). Told g.W.Shelf.tells c.enter.new.self c.run_steps-finish.new.station
-    (RunsSteps (record { n = c.args.plan.now.n; text = c.args.text.now; steps = ss; bytes = c.args.job.now }) c.items-2.result.now (Damaged c.in-Damaged.file c.in-Damaged.at) (g.W.Shelf.world c.enter.new.self) (g.W.Shelf.world c.run_steps-finish.new.station))) c.items.ensures
-    c.in-Damaged.ensures.content) in
+    let run = of_items g.W.Shelf.tells g.W.Shelf.world c.args.plan.now.n c.args.text.now c.args.job.now _ _ _ _ (Damaged c.in-Damaged.file c.in-Damaged.at) _ _ c.items.ensures c.items-2.ensures c.in-Damaged.ensures.content in
     entered_damage g.W.Shelf.tells g.W.Shelf.world c.args.folder.now job c.args.plan.now.lines c.in-Damaged.file c.in-Damaged.at _ c.as_bytes-in-Damaged.result.now c.in-Ok.field-0 _ _ _ _
     (said_or ending.Damaged c.say_refusal-in-Damaged.result c.say_refusal-in-Damaged.ensures.which) (c.as_bytes-in-Damaged.ensures.value ∙ c.as_str-in-Damaged.ensures.value ∙ c.damaged_line.ensures.text)
     c.in-Ok.ensures.content run c.say_refusal-in-Damaged.ensures.content
