@@ -6,9 +6,12 @@ use Rattle.std.proofs.lemmas.List.{append-nil}
 use Rattle.blif_reader.specs.declared.fault.BlifFault.{BlifFault}
 use Rattle.blif_reader.specs.declared.fault.Refusal.{Refusal}
 use Rattle.blif_reader.specs.declared.fault.Refusal.TheVariants as refusals
+use Rattle.blif_reader.specs.declared.fault.BlifKind.{BlifKind}
+use Rattle.blif_reader.specs.declared.grammar.Kind.{Kind}
 use Rattle.blif_reader.specs.declared.grammar.Context.{Context}
+use Rattle.blif_reader.specs.Grammar.{kind_of}
 use Rattle.blif_reader.specs.Text.{Line, has_words, joined, pieces_of}
-use Rattle.blif_reader.specs.Statements.{◌>>=◌, Fails, Gives, Statement, statement, after_statement, at_end, statements}
+use Rattle.blif_reader.specs.Statements.{◌>>=◌, on_line, Fails, Gives, Statement, statement, after_statement, at_end, statements}
 
 -- statements that were read, before those that are still read
 abbrev pub with_front : List Statement → Result (List Statement) BlifFault → Result (List Statement) BlifFault
@@ -78,3 +81,10 @@ pub passes_on : {X : Type 0} (view : X → List Statement) (r : Result X Refusal
 passes_on view r e total exits fails =
     let p = err_from_is_err_and r exits in
     rw (p.1, p.2) fails
+
+-- a statement has the words of its line
+pub words_stay : (context : Context) (l : Line) (s : Statement) → statement context l ≡ Ok s → s.words ≡ l.words
+words_stay context l s h = by_kind l s (kind_of context l.words) h where
+  by_kind : (l : Line) (s : Statement) (r : Result Kind BlifKind) → (on_line l.number r >>= λ k. Ok (record { line = l.number; kind = k; words = l.words })) ≡ Ok s → s.words ≡ l.words
+  by_kind l s (Ok k) q = let e : record { line = l.number; kind = k; words = l.words } ≡ s = cc in sym (ap (λ (t : Statement). t.words) e)
+  by_kind l s (Err k) q = absurd (cc)

@@ -9,7 +9,7 @@ use Rattle.blif_reader.specs.declared.grammar.Kind.{Kind}
 use Rattle.blif_reader.specs.declared.grammar.Context.{Context}
 use Rattle.blif_reader.specs.declared.grammar.Context.TheVariants.{Start, Between, Block, Ended}
 use Rattle.blif_reader.specs.declared.statement.Statement as declared
-use Rattle.blif_reader.specs.Text.{Line, lines_of}
+use Rattle.blif_reader.specs.Text.{Line, lines_of, words_at}
 use Rattle.blif_reader.specs.Grammar.{kind_of, after}
 
 -- a line with its kind; the words begin with the keyword, where it has one
@@ -60,7 +60,7 @@ Follows context (s ∷ ss) = (kind_of context s.words ≡ Ok s.kind) × Follows 
 
 -- a statement of the reader, as the grammar has it
 abbrev pub statement_of : declared.Statement → Statement
-statement_of s = record { line = s.line; kind = s.kind; words = map (λ w. w.now) s.words.items }
+statement_of s = record { line = s.line; kind = s.kind; words = words_at s.line s.text.now }
 
 -- the fault is the one that reading gives, unless memory ran out
 abbrev pub Fails : {Y : Type 0} → Refusal → Result Y BlifFault → Type 0

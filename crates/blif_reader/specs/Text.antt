@@ -55,6 +55,15 @@ joined n (l ∷ ls) =
     if goes_on (code_of l) then onto n (words_of (text_of (code_of l))) (joined (n + 1) ls)
     else record { number = n; words = words_of (text_of (code_of l)) } ∷ joined (n + 1) ls
 
+-- the words of the first of some lines
+abbrev pub first_words : List Line → List (List ℕ)
+first_words [] = []
+first_words (l ∷ ls) = l.words
+
+-- the words of the line that a text begins with, where it has the number n
+abbrev pub words_at : ℕ → List ℕ → List (List ℕ)
+words_at n text = first_words (joined n (slice_split is_feed text))
+
 -- the lines of a text, which has none where it is absent
 abbrev pub pieces_of : Option (List ℕ) → List (List ℕ)
 pieces_of None = []

@@ -15,11 +15,11 @@ use crate::statement::Statement;
 use std::alloc::{AllocError, Global};
 
 /// The characters of a row.
-fn cells(alloc: Global, words: &[&[u8]]) -> Result<Vec<u8>, AllocError>
-    requires { 0 < length words.now }
-    ensures { IfOk result (λ v. v.items ≡ cells_of (texts words.now)) }
+fn cells(alloc: Global, statement: &Statement) -> Result<Vec<u8>, AllocError>
+    ensures { IfOk result (λ v. v.items ≡ cells_of (statement_of statement.now).words) }
 {
-    if words.len() == 1 {
+    let words = statement.words(alloc)?;
+    if words.len() <= 1 {
         return Ok(Vec::new(alloc));
     }
     Vec::from_slice(alloc, words[0])
@@ -32,7 +32,7 @@ fn rows(alloc: Global, statements: &[Statement]) -> Result<Vec<Vec<u8>>, AllocEr
     let mut rows = Vec::new(alloc);
     for statement in statements {
         match statement.kind {
-            Kind::Row(_) => rows.push(cells(alloc, statement.words.as_slice())?)?,
+            Kind::Row(_) => rows.push(cells(alloc, statement)?)?,
             _ => return Ok(rows),
         }
     }
@@ -105,13 +105,13 @@ pub(crate) fn numbers(alloc: Global, index: &Index, uses: &[Use]) -> Result<Vec<
 /// The numbers of the words that a block reads.
 #[tactic(auto, using(crate::proofs::Windows::reads_numbers))]
 fn read_numbers(alloc: Global, index: &Index, statement: &Statement) -> Result<Vec<u32>, AllocError>
-    ensures { IfOk result (λ v. v.items ≡ map (number_in index.now) (block_inputs (texts statement.now.words.items))) }
+    ensures { IfOk result (λ v. v.items ≡ map (number_in index.now) (block_inputs (statement_of statement.now).words)) }
 {
-    let words = statement.words.as_slice();
+    let words = statement.words(alloc)?;
     let mut uses = Vec::new(alloc);
     push_uses(
         statement.line,
-        words,
+        words.as_slice(),
         1,
         (words.len() - 1).saturating_sub(1),
         &mut uses,

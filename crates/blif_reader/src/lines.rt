@@ -137,6 +137,7 @@ pub(crate) fn next_line<'a>(alloc: Global, cursor: &mut Cursor<'a>) -> Result<Li
     requires left { IsSome cursor.old.rest }
     requires few { cursor.old.number + rest_len (left_of cursor.old) < 2 ^ 32 }
     ensures line { IfOk result (λ l. joined cursor.old.number (pieces_of (left_of cursor.old)) ≡ line_of l ∷ joined cursor.new.number (pieces_of (left_of cursor.new))) }
+    ensures number { IfOk result (λ l. l.number ≡ cursor.old.number) }
     ensures few { cursor.new.number + rest_len (left_of cursor.new) < 2 ^ 32 }
     ensures less { IfOk result (λ _. rest_len (left_of cursor.new) < rest_len (left_of cursor.old)) }
 {

@@ -55,25 +55,41 @@ fn push_last<'a>(line: u32, words: &[&'a [u8]], uses: &mut Vec<Use<'a>>) -> Resu
     Ok(())
 }
 
+/// Adds what the words of a line say of one part.
+fn push_words<'a>(
+    part: Part,
+    line: u32,
+    kind: Kind,
+    words: &[&'a [u8]],
+    uses: &mut Vec<Use<'a>>,
+) -> Result<(), AllocError>
+    requires { 0 < length words.now }
+    ensures { OnOk result (map use_of uses.new.items ≡ map use_of uses.old.items ++ on_each line (part_words part kind (texts words.now))) }
+{
+    let last = words.len() - 1;
+    match (part, kind) {
+        (Part::Inputs | Part::Drivers, Kind::Inputs)
+        | (Part::Outputs | Part::Uses, Kind::Outputs) => { push_uses(line, words, 1, last, uses) }
+        (Part::Blocks | Part::Drivers, Kind::Names) => push_last(line, words, uses),
+        (Part::Uses, Kind::Names) => push_uses(line, words, 1, last.saturating_sub(1), uses),
+        _ => Ok(()),
+    }
+}
+
 /// Adds what a line says of one part.
 fn push_part<'a>(
+    alloc: Global,
     part: Part,
     statement: &Statement<'a>,
     uses: &mut Vec<Use<'a>>,
 ) -> Result<(), AllocError>
     ensures { OnOk result (map use_of uses.new.items ≡ map use_of uses.old.items ++ part_of part (statement_of statement.now)) }
 {
-    let words = statement.words.as_slice();
-    let line = statement.line;
-    if words.is_empty() {
-        return Ok(());
-    }
-    let last = words.len() - 1;
-    match (part, statement.kind) {
-        (Part::Inputs | Part::Drivers, Kind::Inputs)
-        | (Part::Outputs | Part::Uses, Kind::Outputs) => { push_uses(line, words, 1, last, uses) }
-        (Part::Blocks | Part::Drivers, Kind::Names) => push_last(line, words, uses),
-        (Part::Uses, Kind::Names) => push_uses(line, words, 1, last.saturating_sub(1), uses),
+    match statement.kind {
+        Kind::Inputs | Kind::Outputs | Kind::Names => {
+            let words = statement.words(alloc)?;
+            push_words(part, statement.line, statement.kind, words.as_slice(), uses)
+        }
         _ => Ok(()),
     }
 }
@@ -88,7 +104,7 @@ pub(crate) fn collect<'a>(
 {
     let mut uses = Vec::new(alloc);
     for statement in statements {
-        push_part(part, statement, &mut uses)?;
+        push_part(alloc, part, statement, &mut uses)?;
     }
     Ok(uses)
 }

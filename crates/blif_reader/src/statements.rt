@@ -1,7 +1,7 @@
 //! The lines of a netlist as statements, or the first line that is none.
 
-ghost use Rattle.std.specs.Prelude.{◌<◌, ◌≤◌, ◌+◌, [], IfOk, map, length};
-ghost use Rattle.blif_reader.specs.Text.{lines_of, has_words};
+ghost use Rattle.std.specs.Prelude.{◌≡◌, ◌<◌, ◌≤◌, ◌+◌, ◌^◌, [], IfOk, map, length};
+ghost use Rattle.blif_reader.specs.Text.{lines_of, has_words, words_at};
 ghost use Rattle.blif_reader.specs.Cursor.{line_of};
 ghost use Rattle.blif_reader.specs.Statements.{Gives, Fails, statement_of, statement, after_statement, at_end, statements, parsed};
 
@@ -11,16 +11,22 @@ use crate::lines::{Cursor, Line, next_line};
 use crate::statement::Statement;
 use std::alloc::Global;
 
-/// The line as a statement, behind what stands before it.
-fn read_line<'a>(context: Context, line: Line<'a>) -> Result<Statement<'a>, Refusal>
-    requires { 0 < length line.words.items }
-    ensures { Gives statement_of result (statement context (line_of line.entry)) }
+/// The line of a text as a statement, behind what stands before it.
+fn read_line<'a>(
+    context: Context,
+    line: &Line<'a>,
+    text: &'a [u8],
+) -> Result<Statement<'a>, Refusal>
+    requires worded { 0 < length line.now.words.items }
+    requires same { words_at line.now.number text.now ≡ (line_of line.now).words }
+    requires small { line.now.number + length text.now + 1 < 2 ^ 32 }
+    ensures { Gives statement_of result (statement context (line_of line.now)) }
 {
     match line_kind(context, line.words.as_slice()) {
         Ok(kind) => Ok(Statement {
             line: line.number,
             kind,
-            words: line.words,
+            text,
         }),
         Err(kind) => Err(Refusal::Fault(BlifFault {
             line: line.number,
@@ -57,13 +63,13 @@ pub(crate) fn read_statements<'a>(
         number: 1,
     };
     let mut context = Context::Start;
-    'lines: while cursor.rest.is_some() {
+    'lines: while let Some(text) = cursor.rest {
         let line = next_line(alloc, &mut cursor)?;
         if line.words.is_empty() {
             continue;
         }
-        let next = read_line(context, line)?;
-        context = context_after(context, next.kind, next.words.len());
+        let next = read_line(context, &line, text)?;
+        context = context_after(context, next.kind, line.words.len());
         found.push(next)?;
     }
     read_end(context)?;

@@ -19,7 +19,7 @@ returns-in_err-sum-2 c =
     let rs : List (List ℕ) = (cover_at (net_of c.args.net.now) c.args.signal).rows in
     let start : Draft = put c.args.first c.args.steps.now.items (Const false) in
     let inside : c.loop-place.place < length rs = omega (arith, c.loop-place-test.true, c.row_count-place-end.ensures) in
-    let split : drop c.loop-place.place rs ≡ c.row.result.now ∷ drop (c.loop-place.place + 1) rs = drop_more rs c.loop-place.place [] inside ∙ ap (λ r. r ∷ drop (c.loop-place.place + 1) rs) (sym c.row.ensures) in
+    let split : drop c.loop-place.place rs ≡ c.row.result.now ∷ drop (c.loop-place.place + 1) rs = drop_more rs c.loop-place.place [] inside ∙ ap (λ r. r ∷ drop (c.loop-place.place + 1) rs) (sym c.row.ensures.row) in
     passes_on c.args.first c.loop-place.steps.items c.push_row.new.steps.items _ (row c.args.first d c.row.result.now c.args.signals.now) (rows c.args.first start rs c.args.signals.now)
     c.from_residual-in_err-sum-2.result c.in_err-sum-2.field-0.0 c.from_residual-in_err-sum-2.ensures.1 c.in_err-sum-2.ensures
     (rows_below c.args.first c.row.result.now d _ _ _ c.args.signals.now split c.loop-place.invariant.same)
