@@ -12,3 +12,5 @@ pub mod OperationDiagrams
 pub mod VariableLaws
 pub mod RestrictLaws
 pub mod QuantifyLaws
+pub mod VerdictLaws
+pub mod ImplicationLaws

@@ -28,7 +28,7 @@ asked_at n rule targets laws (suc k) i x end asked =
     asked_at n rule targets laws k (suc i) x (omega arith)
     (record { from = are_later n i x asked.from (omega arith); may = laws.later i x asked (omega arith) })
 
-tuple_deep : (n i : ℕ) (x : Tuple) → AreFrom n i x → i ≤ level_of_tuple x
+pub tuple_deep : (n i : ℕ) (x : Tuple) → AreFrom n i x → i ≤ level_of_tuple x
 tuple_deep n i x from = omega (arith, from.first.deep, from.second.deep, from.third.deep)
 
 -- what the rule says for a side of an identifier

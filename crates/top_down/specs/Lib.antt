@@ -3,3 +3,4 @@ pub mod Rules
 pub mod Asks
 pub mod Operations
 pub mod Laws
+pub mod Verdicts

@@ -2,6 +2,7 @@
 ghost use Rattle.std.specs.Prelude.{◌≤◌, ℕ};
 ghost use Rattle.top_down.specs.Tuples.{Targets};
 ghost use Rattle.top_down.specs.Rules.{Rule, IsRule};
+ghost use Rattle.top_down.specs.Verdicts.{FirstAwaits, KnownAwaits, NewAwaits, RefutesAtZero, HoldsAtLast, ImplicationAnswers};
 ghost use Rattle.top_down.specs.Laws.{FirstGrows, KnownGrows, NewGrows, AsksInAnyOrder, NumbersAreFull, OpenStands, ClosedStands, ProductStands, ChoiceStands, QuantifyStands, RestrictStands};
 
 /// What a sweep has made grows by answering asks: the first is that of the root, and each further one is
@@ -42,4 +43,19 @@ pub fn quantified_pairs_make_a_diagram()
 /// So does a restriction's rule of one diagram.
 pub fn restricted_pointers_make_a_diagram()
     ensures { (n : ℕ) → RestrictStands n }
+{}
+
+/// A sweep that makes no arcs tells whether the table of the roots is 1 at each place: it is exactly where the
+/// function of each open ask is. So a side that ends in 0 refutes it, and it holds once nothing is asked for.
+pub fn open_asks_decide_a_table_of_ones()
+    ensures first { (n : ℕ) (rule : Rule) (targets : Targets) → IsRule n rule targets → FirstAwaits n rule targets }
+    ensures known { (n : ℕ) (rule : Rule) (targets : Targets) → IsRule n rule targets → KnownAwaits n rule targets }
+    ensures renewed { (n : ℕ) (rule : Rule) (targets : Targets) → IsRule n rule targets → NewAwaits n rule targets }
+    ensures refuted { (n : ℕ) (rule : Rule) (targets : Targets) → IsRule n rule targets → RefutesAtZero n rule targets }
+    ensures holds { (n : ℕ) (rule : Rule) (targets : Targets) → IsRule n rule targets → HoldsAtLast n rule targets }
+{}
+
+/// One table is nowhere above another exactly where that of the implication is 1 at each place.
+pub fn implications_compare_tables()
+    ensures { (n : ℕ) → ImplicationAnswers n }
 {}
