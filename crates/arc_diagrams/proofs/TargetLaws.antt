@@ -13,7 +13,7 @@ same_bit-self : (b : Bool) → same_bit b b ≡ true
 same_bit-self true = refl
 same_bit-self false = refl
 
-bit_same : (b c : Bool) → same_bit b c ≡ true → b ≡ c
+pub bit_same : (b c : Bool) → same_bit b c ≡ true → b ≡ c
 bit_same true c e = sym e
 bit_same false true e = absurd (true≢false (sym e))
 bit_same false false e = refl

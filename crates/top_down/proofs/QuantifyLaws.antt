@@ -1,6 +1,7 @@
 -- the rule of a quantifier
 use Rattle.std.specs.Prelude.{◌≡◌, ◌+◌, ◌-◌, ◌^◌, ◌<◌, ◌≤◌, ◌==◌, ◌||◌, nat_lt, nat_le, ℕ, suc, Bool, true, false, cond, List, [], ◌∷◌, ◌++◌, replicate}
 use Rattle.std.proofs.Common.{refl, sym, ◌∙◌, ap, subst, arith}
+use Rattle.std.proofs.lemmas.Bool.{lt-ltb}
 use Rattle.std.proofs.lemmas.Bool.Decides.{nat_tests}
 use Rattle.bool_tables.specs.Tables.{low_half, high_half, value_at, same_bit}
 use Rattle.bool_tables.specs.Steps.{quant_value, step_table}
@@ -15,6 +16,7 @@ use Rattle.canon_file.specs.declared.row.Row.{Row}
 use Rattle.canon_file.specs.Walks.{table_of}
 use Rattle.canon_file.proofs.PieceLaws.{joined}
 use Rattle.arc_diagrams.specs.Arcs.{onward}
+use Rattle.arc_diagrams.proofs.TargetLaws.{bit_same}
 use Rattle.arc_diagrams.proofs.LevelReduction.{low-met, high-met}
 use Rattle.top_down.specs.Tuples.{Tuple, Targets, unused, level_of_tuple, parts, joined_by, IsFrom, AreFrom, AreDeepening}
 use Rattle.top_down.specs.Rules.{Goal, End, Go, Rule, IsAsked, IsRule, table_for, below_on}
@@ -22,7 +24,7 @@ use Rattle.top_down.specs.Operations.{is_end, is_one, ends_or, two, strong, sort
 use Rattle.top_down.proofs.TupleLaws.{table-end, low_node, from_terminal}
 use Rattle.top_down.proofs.PointwiseLaws.{of_members, joined_same, joined_one, constant_at, parts_from, on_side}
 use Rattle.top_down.proofs.GoalLaws.{end_value, go_tuple, end_go, ends_or-end, ends_or-go}
-use Rattle.top_down.proofs.VariableLaws.{place_of_level, At, Above, Below, lt-true, lt-false, same-true, IsDeepStep, constant_step, constant_table, table-below, table-above, below-at, below-off, variable_splits, variable_passes}
+use Rattle.top_down.proofs.VariableLaws.{place_of_level, At, Above, Below, lt-false, same-true, IsDeepStep, constant_step, constant_table, table-below, table-above, below-at, below-off, variable_splits, variable_passes}
 
 abbrev value_of : Quant → Bool → Bool → Bool → Bool
 value_of kind b c d = quant_value kind b c
@@ -68,14 +70,6 @@ quant_swap Forall true true = refl
 quant_swap Forall true false = refl
 quant_swap Forall false true = refl
 quant_swap Forall false false = refl
-
-is_strong : (b c : Bool) → same_bit b c ≡ true → b ≡ c
-is_strong true c e = sym e
-is_strong false true e = absurd (apart e)
-  where
-    apart : false ≡ true → ⊥
-    apart wrong = cc
-is_strong false false e = refl
 
 quantifies_deep : (kind : Quant) → IsDeepStep (quantification kind)
 quantifies_deep kind = record {
@@ -124,7 +118,7 @@ module _ (n variable : ℕ) (kind : Quant) (below : variable < n) (top : n ≤ 6
       grind (arith, nat_tests)
 
   may_below : (i : ℕ) (x : Tuple) → variable < i → may variable i x ≡ true
-  may_below i x more = ap (λ b. b || (x.first == x.second)) (lt-true variable i more)
+  may_below i x more = ap (λ b. b || (x.first == x.second)) (lt-ltb variable i more)
 
   pub may_one : (i : ℕ) (x : Tuple) → x.first ≡ x.second → may variable i x ≡ true
   may_one i x same = ap (λ b. nat_lt variable i || b) (same-true x.first x.second same) ∙ either (nat_lt variable i)
@@ -192,7 +186,7 @@ module _ (n variable : ℕ) (kind : Quant) (below : variable < n) (top : n ≤ 6
       by : (a d c e : Bool) → is_end x.first ≡ a → same_bit (is_one x.first) (strong kind) ≡ d → is_end x.second ≡ c → same_bit (is_one x.second) (strong kind) ≡ e
           → says_of kind a d c e x ≡ End b → table_for rule operand h i x ≡ replicate (2 ^ h) b
       by true true c e first decides second other says =
-          let one : is_one x.first ≡ strong kind = is_strong (is_one x.first) (strong kind) decides in
+          let one : is_one x.first ≡ strong kind = bit_same (is_one x.first) (strong kind) decides in
           let value : strong kind ≡ b = end_value (strong kind) b says in
           from_both (first, one ∙ value) (λ more. deep_constant h i x b more
           (λ p less. (λ j. quant_value kind ((known h i x.first p end less first ∙ one) j) (value_at (table_of rows h i x.second) p))
@@ -203,7 +197,7 @@ module _ (n variable : ℕ) (kind : Quant) (below : variable < n) (top : n ≤ 6
           (λ p less. (λ j. quant_value kind (known h i x.first p end less first j) (known h i x.second p end less is_value j))
           ∙ quant_other kind (is_one x.first) (is_one x.second) decides ∙ one))
       by false d true true first decides second other says =
-          let one : is_one x.second ≡ strong kind = is_strong (is_one x.second) (strong kind) other in
+          let one : is_one x.second ≡ strong kind = bit_same (is_one x.second) (strong kind) other in
           let value : strong kind ≡ b = end_value (strong kind) b says in
           from_second (second, one ∙ value) (λ more. deep_constant h i x b more
           (λ p less. (λ j. quant_value kind (value_at (table_of rows h i x.first) p) ((known h i x.second p end less second ∙ one) j))

@@ -2,6 +2,7 @@
 use Rattle.std.specs.Prelude.{◌≡◌, ◌+◌, ◌-◌, ◌^◌, ◌<◌, ◌≤◌, ◌==◌, nat_lt, ℕ, zero, suc, Bool, true, false, cond, List, [], ◌∷◌, ◌++◌, replicate}
 use Rattle.std.proofs.Common.{refl, sym, ◌∙◌, ap, arith}
 use Rattle.std.proofs.lemmas.List.{replicate-append-replicate}
+use Rattle.std.proofs.lemmas.Bool.{lt-ltb}
 use Rattle.std.proofs.lemmas.Bool.Decides.{nat_tests}
 use Rattle.bool_tables.specs.Tables.{low_half, high_half}
 use Rattle.bool_tables.specs.Steps.{step_table}
@@ -27,9 +28,6 @@ place_of_level variable i = by (nat_lt variable i) (i == variable) refl refl
     by true c e f = Below (grind (arith, nat_tests))
     by false true e f = At (grind (arith, nat_tests))
     by false false e f = Above (grind (arith, nat_tests))
-
-pub lt-true : (a b : ℕ) → a < b → nat_lt a b ≡ true
-lt-true a b less = grind (arith, nat_tests)
 
 pub lt-false : (a b : ℕ) → b ≤ a → nat_lt a b ≡ false
 lt-false a b most = grind (arith, nat_tests)
@@ -80,7 +78,7 @@ module _ (n variable : ℕ) (below : variable < n) (f : Bool → Bool → Bool �
 
   -- the table below the variable, and down to it
   pub table-below : (h i : ℕ) (x : Tuple) → variable < i → table_for rule targets h i x ≡ joined_table h i x
-  table-below h i x more = ap (λ b. cond b (joined_table h i x) (step_on (variable - i) h i x)) (lt-true variable i more)
+  table-below h i x more = ap (λ b. cond b (joined_table h i x) (step_on (variable - i) h i x)) (lt-ltb variable i more)
 
   pub table-above : (h i : ℕ) (x : Tuple) → i ≤ variable → table_for rule targets h i x ≡ step_on (variable - i) h i x
   table-above h i x most = ap (λ b. cond b (joined_table h i x) (step_on (variable - i) h i x)) (lt-false variable i most)
