@@ -2,7 +2,7 @@
 use Rattle.std.specs.Prelude.{◌≡◌, ◌<◌, ◌^◌, ℕ, Bool, false, List, [], ◌∷◌, ◌++◌, length, replicate}
 use Rattle.std.specs.Ordering.{is_lt}
 use Rattle.std.specs.List.Sorted.{IsPermutation}
-use Rattle.rec_words.specs.Words.{node_word, level_of}
+use Rattle.rec_words.specs.Words.{level_numbers, node_word, level_of}
 use Rattle.bool_tables.specs.Steps.{step_table}
 use Rattle.bool_tables.specs.declared.steps.Bin.{Bin}
 use Rattle.bool_tables.specs.declared.steps.Quant.{Quant}
@@ -37,7 +37,7 @@ KnownGrows n rule targets = (root : ℕ) (inner ends : List Arc) (e : Ask) (asks
 abbrev pub NewGrows : ℕ → Rule → Targets → Type 0
 NewGrows n rule targets = (root : ℕ) (inner ends : List Arc) (e : Ask) (asks : List Ask) (used : List ℕ) (tuple : ℕ → Tuple)
     → Grows n root rule targets inner ends (e ∷ asks) used tuple
-    → IsUpTo used (level_of_tuple e.tuple) → length used < 2 ^ 47 → ((t : ℕ) → Has t used → tuple t ≡ e.tuple → ⊥)
+    → IsUpTo used (level_of_tuple e.tuple) → length used < level_numbers → ((t : ℕ) → Has t used → tuple t ≡ e.tuple → ⊥)
     → (let s : ℕ = next_identifier used (level_of_tuple e.tuple) in
     Grows n root rule targets (inner ++ answer e s ∷ []) (ends ++ new_arcs rule targets s e.tuple) (new_asks rule targets s e.tuple ++ asks)
     (s ∷ used) (with_tuple s e.tuple tuple))

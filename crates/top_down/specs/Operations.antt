@@ -1,5 +1,6 @@
 -- the rules of the operations
-use Rattle.std.specs.Prelude.{ℕ, ◌+◌, ◌-◌, ◌^◌, ◌==◌, nat_lt, nat_le, ◌&&◌, ◌||◌, Bool, true, false, cond, [], ◌∷◌}
+use Rattle.std.specs.Prelude.{ℕ, ◌-◌, ◌==◌, nat_lt, nat_le, ◌&&◌, ◌||◌, Bool, true, false, cond, [], ◌∷◌}
+use Rattle.rec_words.specs.Words.{terminal}
 use Rattle.bool_tables.specs.Tables.{same_bit}
 use Rattle.bool_tables.specs.Steps.{op_value, quant_value, step_table}
 use Rattle.bool_tables.specs.declared.steps.Bin.{Bin}
@@ -12,11 +13,11 @@ use Rattle.top_down.specs.Rules.{Goal, End, Go, Rule}
 
 -- the pointer is a truth value
 abbrev pub is_end : ℕ → Bool
-is_end w = nat_le (2 ^ 63) w
+is_end w = nat_le (terminal false) w
 
 -- the pointer is the truth value 1
 abbrev pub is_one : ℕ → Bool
-is_one w = w == 2 ^ 63 + 1
+is_one w = w == terminal true
 
 -- the tuple of one side's pointers
 abbrev pub same_side : ℕ → Bool → Tuple → Tuple → Tuple

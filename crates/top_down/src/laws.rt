@@ -1,5 +1,6 @@
 //! The laws of sweeps from the root to the leaves. Each function does nothing: what it ensures is the law.
 ghost use Rattle.std.specs.Prelude.{◌≤◌, ℕ};
+ghost use Rattle.rec_words.specs.Words.{most_variables};
 ghost use Rattle.top_down.specs.Tuples.{Targets};
 ghost use Rattle.top_down.specs.Rules.{Rule, IsRule};
 ghost use Rattle.top_down.specs.Verdicts.{FirstAwaits, KnownAwaits, NewAwaits, RefutesAtZero, HoldsAtLast, ImplicationAnswers};
@@ -19,8 +20,8 @@ pub fn answering_an_ask_keeps_what_is_made()
 /// What is made, completed by what stands for the open asks, stands for the table of the roots, and with no
 /// ask open it is a diagram of that table.
 pub fn what_is_made_stands_for_the_roots()
-    ensures opened { (n : ℕ) (rule : Rule) (targets : Targets) → n ≤ 65535 → IsRule n rule targets → OpenStands n rule targets }
-    ensures closed { (n : ℕ) (rule : Rule) (targets : Targets) → n ≤ 65535 → IsRule n rule targets → ClosedStands n rule targets }
+    ensures opened { (n : ℕ) (rule : Rule) (targets : Targets) → n ≤ most_variables → IsRule n rule targets → OpenStands n rule targets }
+    ensures closed { (n : ℕ) (rule : Rule) (targets : Targets) → n ≤ most_variables → IsRule n rule targets → ClosedStands n rule targets }
 {}
 
 /// An operation's rule makes the operation's table of two canonical diagrams, pair of pointers by pair of
