@@ -5,7 +5,7 @@ use crate::reducing::{ENDS, INNER, LEAST_ROOM, OUT, reduce, write_arcs};
 use canon_file::plain_canon;
 use rec_words::Rec;
 use shelf_memory::Bench;
-use shelf_model::SortFault;
+use shelf_model::{FileNo, SortFault};
 use std::test::Fail;
 
 const EMPTY: Rec = Rec { w: [0; 8] };
@@ -13,65 +13,91 @@ const EMPTY: Rec = Rec { w: [0; 8] };
 // The level of 4,096 sources is wider than the room of its rows, which is less than a quarter of the least room. The
 // levels below it have 2, 12 and 240 nodes, all that functions of three variables have, and the file has the first of
 // these.
-#[test]
-fn refuses_a_level_that_is_wider_than_the_room(rt: HostRuntime) -> Result<(), Fail> {
-    const BELOW: usize = 254 * 24;
-    const LEVEL_12: u64 = 0x0006_7fff_ffff_ffff;
+const BELOW: usize = 254 * 24;
+
+const LEVEL_12: u64 = 0x0006_7fff_ffff_ffff;
+
+fn refuses_a_wide_level(rt: HostRuntime) -> Result<bool, Fail> {
     let mut random = Random::new(1);
     let table = random.table(rt.alloc(), 16, usize::MAX)?;
     let wanted = plain_canon(rt.alloc(), 16, table.as_slice())?;
     let next = wanted.as_slice().get(BELOW..BELOW + 8);
-    assert_eq!(rt; next, Some(LEVEL_12.to_be_bytes().as_slice()));
     let (root, arcs) = diagram_of(rt.alloc(), table.as_slice(), Sharing::Below(12), random)?;
     let mut bench = Bench::empty(rt.alloc());
     let made = write_arcs(root, arcs.as_slice(), &mut bench)?;
     let mut room = vec![in rt.alloc(); EMPTY; LEAST_ROOM]?;
     let refused = reduce(16, made, room.as_mut_slice(), &mut bench).err();
-    assert_eq!(rt; refused, Some(SortFault::RoomFull));
-    assert!(rt; wanted.starts_with(bench.file(OUT)));
-    assert!(rt; !bench.file(OUT).is_empty() && bench.file(OUT).len() <= BELOW);
+    let left = bench.file(OUT);
+    let begun = !left.is_empty() && left.len() <= BELOW && wanted.starts_with(left);
     let mut wider = vec![in rt.alloc(); EMPTY; 2 * LEAST_ROOM]?;
     let count = reduce(16, made, wider.as_mut_slice(), &mut bench)?;
-    assert_eq!(rt; bench.file(OUT), wanted.as_slice());
-    assert_eq!(rt; count, Some((wanted.len() as u64 / 24).saturating_sub(1)));
+    Ok(next == Some(LEVEL_12.to_be_bytes().as_slice())
+        && refused == Some(SortFault::RoomFull)
+        && begun
+        && bench.file(OUT) == wanted.as_slice()
+        && count == Some((wanted.len() as u64 / 24).saturating_sub(1)))
+}
+
+#[test]
+fn refuses_a_level_that_is_wider_than_the_room(rt: HostRuntime) -> Result<(), Fail> {
+    let refuses = refuses_a_wide_level(rt)?;
+    assert!(rt; refuses);
     Ok(())
+}
+
+// The reduction of an exclusive or ends where so many calls succeed, or with the fault of the next one.
+fn ends_at(rt: HostRuntime, call: u64) -> Result<Option<bool>, Fail> {
+    let table = [false, true, true, false];
+    let (root, arcs) = diagram_of(rt.alloc(), &table, Sharing::Below(0), Random::new(1))?;
+    let mut bench = Bench::empty(rt.alloc());
+    let made = write_arcs(root, arcs.as_slice(), &mut bench)?;
+    bench.fail_at(bench.clock().saturating_add(call))?;
+    let before = bench.clock();
+    let mut room = vec![in rt.alloc(); EMPTY; LEAST_ROOM]?;
+    match reduce(2, made, room.as_mut_slice(), &mut bench) {
+        Ok(count) => Ok(Some(
+            count == Some(3) && bench.clock() <= before.saturating_add(call),
+        )),
+        Err(SortFault::Shelf) => Ok(None),
+        Err(_) => Ok(Some(false)),
+    }
+}
+
+// Each of the first calls that fails ends it, and later ones are never made.
+fn each_call_ends(rt: HostRuntime) -> Result<bool, Fail> {
+    let mut ended = false;
+    for call in 0..100 {
+        match ends_at(rt, call)? {
+            Some(false) => return Ok(false),
+            Some(true) => ended = true,
+            None => {}
+        }
+    }
+    Ok(ended)
 }
 
 #[test]
 fn each_failing_call_ends_a_reduction(rt: HostRuntime) -> Result<(), Fail> {
+    let ends = each_call_ends(rt)?;
+    assert!(rt; ends);
+    Ok(())
+}
+
+// The reduction tells that the last arc of a file is damaged.
+fn tells_damage_in(rt: HostRuntime, file: FileNo, at: u64) -> Result<bool, Fail> {
     let table = [false, true, true, false];
     let (root, arcs) = diagram_of(rt.alloc(), &table, Sharing::Below(0), Random::new(1))?;
-    let mut ended = false;
-    for call in 0..100 {
-        let mut bench = Bench::empty(rt.alloc());
-        let made = write_arcs(root, arcs.as_slice(), &mut bench)?;
-        bench.fail_at(bench.clock().saturating_add(call))?;
-        let before = bench.clock();
-        let mut room = vec![in rt.alloc(); EMPTY; LEAST_ROOM]?;
-        match reduce(2, made, room.as_mut_slice(), &mut bench) {
-            Ok(count) => {
-                assert_eq!(rt; count, Some(3));
-                assert!(rt; bench.clock() <= before.saturating_add(call));
-                ended = true;
-            }
-            Err(fault) => assert_eq!(rt; fault, SortFault::Shelf, "{call}"),
-        }
-    }
-    assert!(rt; ended);
-    Ok(())
+    let mut bench = Bench::empty(rt.alloc());
+    let made = write_arcs(root, arcs.as_slice(), &mut bench)?;
+    bench.put_file(file, &[0xff; 64])?;
+    let mut room = vec![in rt.alloc(); EMPTY; LEAST_ROOM]?;
+    let refused = reduce(2, made, room.as_mut_slice(), &mut bench).err();
+    Ok(refused == Some(SortFault::Damaged { file, at }))
 }
 
 #[test]
 fn tells_where_an_arc_is_damaged(rt: HostRuntime) -> Result<(), Fail> {
-    let table = [false, true, true, false];
-    let (root, arcs) = diagram_of(rt.alloc(), &table, Sharing::Below(0), Random::new(1))?;
-    for (file, at) in [(INNER, 16), (ENDS, 48)] {
-        let mut bench = Bench::empty(rt.alloc());
-        let made = write_arcs(root, arcs.as_slice(), &mut bench)?;
-        bench.put_file(file, &[0xff; 64])?;
-        let mut room = vec![in rt.alloc(); EMPTY; LEAST_ROOM]?;
-        let refused = reduce(2, made, room.as_mut_slice(), &mut bench).err();
-        assert_eq!(rt; refused, Some(SortFault::Damaged { file, at }));
-    }
+    let tells = tells_damage_in(rt, INNER, 16)? && tells_damage_in(rt, ENDS, 48)?;
+    assert!(rt; tells);
     Ok(())
 }

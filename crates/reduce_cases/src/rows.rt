@@ -61,6 +61,32 @@ fn reduced(
     Ok((words, count))
 }
 
+// A reduction leaves these words and answers how many nodes they are.
+fn leaves(
+    rt: HostRuntime,
+    root: u64,
+    arcs: &[(u64, bool, u64)],
+    wanted: &[u64],
+) -> Result<bool, Fail> {
+    let (words, count) = reduced(rt, root, arcs)?;
+    Ok(words.as_slice() == wanted && count == Some((wanted.len() as u64 / 3).saturating_sub(1)))
+}
+
+const EXCLUSIVE_OR: [u64; 12] = [
+    LEVEL_1,
+    ZERO,
+    ONE,
+    LEVEL_1_NEXT,
+    ONE,
+    ZERO,
+    LEVEL_0,
+    LEVEL_1,
+    LEVEL_1_NEXT,
+    LEVEL_0,
+    3,
+    2,
+];
+
 #[test]
 fn keeps_the_nodes_of_an_exclusive_or(rt: HostRuntime) -> Result<(), Fail> {
     let arcs = [
@@ -71,23 +97,8 @@ fn keeps_the_nodes_of_an_exclusive_or(rt: HostRuntime) -> Result<(), Fail> {
         (RIGHT, LOW, ONE),
         (RIGHT, HIGH, ZERO),
     ];
-    let (words, count) = reduced(rt, ROOT, &arcs)?;
-    let wanted = [
-        LEVEL_1,
-        ZERO,
-        ONE,
-        LEVEL_1_NEXT,
-        ONE,
-        ZERO,
-        LEVEL_0,
-        LEVEL_1,
-        LEVEL_1_NEXT,
-        LEVEL_0,
-        3,
-        2,
-    ];
-    assert_eq!(rt; words.as_slice(), wanted.as_slice());
-    assert_eq!(rt; count, Some(3));
+    let keeps = leaves(rt, ROOT, &arcs, &EXCLUSIVE_OR)?;
+    assert!(rt; keeps);
     Ok(())
 }
 
@@ -101,18 +112,15 @@ fn leaves_one_node_of_two_equal_ones(rt: HostRuntime) -> Result<(), Fail> {
         (RIGHT, LOW, ZERO),
         (RIGHT, HIGH, ONE),
     ];
-    let (words, count) = reduced(rt, ROOT, &arcs)?;
-    let wanted = [LEVEL_1, ZERO, ONE, LEVEL_1, 1, 2];
-    assert_eq!(rt; words.as_slice(), wanted.as_slice());
-    assert_eq!(rt; count, Some(1));
+    let one = leaves(rt, ROOT, &arcs, &[LEVEL_1, ZERO, ONE, LEVEL_1, 1, 2])?;
+    assert!(rt; one);
     Ok(())
 }
 
 #[test]
 fn leaves_no_node_of_a_truth_value(rt: HostRuntime) -> Result<(), Fail> {
-    let (words, count) = reduced(rt, ONE, &[])?;
-    assert_eq!(rt; words.as_slice(), [ONE, 0, 2].as_slice());
-    assert_eq!(rt; count, Some(0));
+    let none = leaves(rt, ONE, &[], &[ONE, 0, 2])?;
+    assert!(rt; none);
     Ok(())
 }
 
@@ -126,22 +134,7 @@ fn takes_zero_for_an_arc_that_is_missing(rt: HostRuntime) -> Result<(), Fail> {
         (RIGHT, LOW, ZERO),
         (RIGHT, LOW, ONE),
     ];
-    let (words, count) = reduced(rt, ROOT, &arcs)?;
-    let wanted = [
-        LEVEL_1,
-        ZERO,
-        ONE,
-        LEVEL_1_NEXT,
-        ONE,
-        ZERO,
-        LEVEL_0,
-        LEVEL_1,
-        LEVEL_1_NEXT,
-        LEVEL_0,
-        3,
-        2,
-    ];
-    assert_eq!(rt; words.as_slice(), wanted.as_slice());
-    assert_eq!(rt; count, Some(3));
+    let takes = leaves(rt, ROOT, &arcs, &EXCLUSIVE_OR)?;
+    assert!(rt; takes);
     Ok(())
 }

@@ -1,24 +1,27 @@
--- the forwarding of a name keeps what remains of a reduction
+-- The forwarding of a name keeps what remains of a reduction.
 use Rattle.std.proofs.lemmas.Bool.Decides.{nat_tests}
 use Rattle.std.proofs.lemmas.List.{length-append}
 use Rattle.std.proofs.lemmas.List.Sorted.{sorted_far}
 use Rattle.std.proofs.Math.Seq.{get_or-append_seam}
 use Rattle.std.proofs.Common.{◌≡◌, ◌≢◌, ℕ, ◌≤◌, ◌<◌, arith, refl, ap, sym, subst, ◌∙◌, inl, inr, List, ◌++◌}
-use Rattle.std.specs.Prelude.{◌+◌, ◌∷◌, [], ◌==◌, Bool, true, false, cond, Option, Some, None, Result, Ok, Err, OnOk, map, length}
 use Rattle.std.specs.Cmp.{IsStrictWeakOrder}
-use Rattle.std.specs.Ordering.{is_lt}
 use Rattle.std.specs.List.Sorted.{IsPermutation, IsSorted}
-use Rattle.shelf_model.specs.World.{World, file}
+use Rattle.std.specs.Ordering.{is_lt}
+use Rattle.std.specs.Prelude.{◌+◌, ◌∷◌, [], ◌==◌, Bool, true, false, cond, Option, Some, None, IfSome, Result, Ok, Err, OnOk, map, length}
+use Rattle.rec_words.specs.Words.{level_of}
 use Rattle.rec_words.specs.declared.node.Node.{Node}
+use Rattle.shelf_model.specs.World.{World, file}
+use Rattle.shelf_model.specs.declared.sort_fault.SortFault.{SortFault}
 use Rattle.canon_file.specs.Members.{Has, SameMembers}
 use Rattle.arc_file.specs.declared.arc.Arc.{Arc}
 use Rattle.arc_file.specs.declared.kind.Kind.TheVariants.{Inner}
-use Rattle.arc_file.specs.Files.{inner_cmp, IsInnerOrder}
-use Rattle.arc_file.specs.Streams.{IsInOrderBefore}
+use Rattle.arc_file.specs.declared.stream.ArcStream.{ArcStream}
+use Rattle.arc_file.specs.Files.{inner_cmp, IsInnerOrder, IsArcAt}
 use Rattle.arc_file.specs.Readers.{inner_of}
+use Rattle.arc_file.specs.Streams.{IsInOrderBefore, Reads, file_of, left_of}
 use Rattle.arc_diagrams.specs.Arcs.{IsComplete}
 use Rattle.arc_diagrams.specs.Items.{as_arc, name_cmp}
-use Rattle.arc_diagrams.specs.Reducing.{Remains, IsForwarding}
+use Rattle.arc_diagrams.specs.Reducing.{IsForwarding}
 use Rattle.arc_diagrams.specs.declared.final_arc.FinalArc.{FinalArc}
 use Rattle.arc_diagrams.specs.declared.name.Name.{Name}
 use Rattle.arc_diagrams.proofs.Forwarding.{forward-below}
@@ -27,10 +30,11 @@ use Rattle.arc_diagrams.proofs.ListViews.{same_permuted, same_self, same_map, sa
 use Rattle.arc_diagrams.proofs.Phases.{one_forwarded, name_done, root_done, level_done}
 use Rattle.arc_diagrams.proofs.RowPlaces.{has_right}
 use Rattle.arc_diagrams.proofs.SameLists.{forwards-same}
+use Rattle.reduce_sweep.specs.declared.phase.Phase.TheVariants.{Between, Forward}
+use Rattle.reduce_sweep.specs.declared.place.Place.{Place}
 use Rattle.reduce_sweep.specs.declared.reduce.ReduceSweep.{ReduceSweep}
-use Rattle.reduce_sweep.specs.Sweeps.{SamePlace, inner_file}
-use Rattle.reduce_sweep.specs.Remaining.{Diagram, Contents, Holds, IsOf, IsUnread, IsBetween, AreForwarded, to_collect}
-use Rattle.reduce_sweep.specs.Changes.{SameButInner, PassesInner, SameButKnown, known_with, LeavesNames, SameButQueue, JoinsQueue, IsForwardingIn}
+use Rattle.reduce_sweep.specs.Remaining.{Diagram, Contents, Holds, IsUnread, IsTakenTo, IsLeft, IsWorking, RemainsAt, IsForwarded, to_collect}
+use Rattle.reduce_sweep.specs.Changes.{known_with, JoinsQueue, PassesInner, ForwardsAlong}
 
 -- the order of arcs to nodes chains
 inner_weak : IsStrictWeakOrder (λ x y. is_lt (inner_cmp x y))
@@ -65,74 +69,6 @@ given_up n root i arcs queue unread names rest nodes known m false same taken no
     by : (x y : ℕ) → x ≡ y → (x == y) ≡ false → ⊥
     by x y is other = grind (arith, nat_tests)
 
--- the name is given up, and what remains is kept
-pub name_kept : (s u : ReduceSweep) (world : World) (k : Contents) (rest : List Name) (d : Diagram) (m : Name) → k.names ≡ m ∷ rest
-    → ((x : Arc) → Has x k.inner → x.target ≢ m.source) → AreForwarded s d k → SameButKnown s u → SamePlace s u → u.known ≡ known_with s m
-    → LeavesNames true u world k rest → IsForwardingIn u world d
-name_kept s u world k rest d m taken none are same place known left =
-    let members : SameMembers k.names (m ∷ rest) = subst (λ xs. SameMembers k.names xs) taken (same_self k.names) in
-    let kept = given_up s.writer.n s.root s.level d.arcs (to_collect k) k.inner k.names rest k.nodes s.known m (m.source == s.root) refl members none are.forwarding in
-    record {
-      contents = record k { names = rest };
-      holds = left;
-      forwarded = record {
-        forwarding = subst (λ v. v) (λ j. IsForwarding (sym same.writer_is j).n (sym same.root_is j) (sym place.level_is j) d.arcs (to_collect k) k.inner rest k.nodes (sym known j)) kept;
-        no_rows = are.no_rows;
-        no_source = same.source_is ∙ are.no_source;
-        unnumbered = record { number_is = same.number_is ∙ are.unnumbered.number_is; pair_is = same.pair_is ∙ are.unnumbered.pair_is };
-      };
-    }
-
--- where no arc to a node is left, none leads to the name's source
-pub none_left : (s : ReduceSweep) (world : World) (k : Contents) (source : ℕ) → s.inner ≡ None → Holds true s world k → (x : Arc) → Has x k.inner → x.target ≢ source
-none_left s world k source none holds x m =
-    let empty : IsUnread true Inner None (inner_of s.reader) (file world (inner_file s)).bytes k.inner =
-    subst (λ (o : Option Arc). IsUnread true Inner o (inner_of s.reader) (file world (inner_file s)).bytes k.inner) none holds.inner_is in
-    absurd (subst (λ xs. Has x xs) empty.0 m)
-
--- the arcs that aren't handled: that which was read last leads furthest
-record IsFurthest (k : Contents) (a : Arc) : Type 0 where
-  pub front : List Arc
-  pub is : k.inner ≡ front ++ a ∷ []
-  pub furthest : (x : Arc) → Has x k.inner → x.target ≤ a.target
-
-furthest_read : (s : ReduceSweep) (world : World) (k : Contents) (a : Arc) → s.inner ≡ Some a → Holds true s world k → IsFurthest k a
-furthest_read s world k a next holds =
-    let unread : IsUnread true Inner (Some a) (inner_of s.reader) (file world (inner_file s)).bytes k.inner =
-    subst (λ (o : Option Arc). IsUnread true Inner o (inner_of s.reader) (file world (inner_file s)).bytes k.inner) next holds.inner_is in
-    record {
-      front = unread.0;
-      is = unread.1;
-      furthest = read_furthest unread.0 k.inner a _ unread.1 unread.2.given unread.2.left.ordered;
-    }
-
--- where the next arc leads less far than to the name's source, none leads to it
-pub none_as_far : (s : ReduceSweep) (world : World) (k : Contents) (a : Arc) (source : ℕ) → s.inner ≡ Some a → Holds true s world k → a.target < source
-    → (x : Arc) → Has x k.inner → x.target ≢ source
-none_as_far s world k a source next holds less x m same =
-    let far : IsFurthest k a = furthest_read s world k a next holds in
-    omega (arith, far.furthest x m, less, same)
-
--- no name is left, and the level is done
-pub level_kept : (s u : ReduceSweep) (k : Contents) (d : Diagram) → k.names ≡ [] → AreForwarded s d k
-    → u.writer.n ≡ s.writer.n → u.root ≡ s.root → u.level ≡ s.level → u.known ≡ s.known → u.source ≡ s.source → u.number ≡ s.number → u.pair ≡ s.pair → IsBetween u d k
-level_kept s u k d none are n_is root_is level_is known_is source_is number_is pair_is =
-    let done = level_done s.writer.n s.root s.level d.arcs (to_collect k) k.inner k.nodes s.known
-    (subst (λ names. IsForwarding s.writer.n s.root s.level d.arcs (to_collect k) k.inner names k.nodes s.known) none are.forwarding) in
-    record {
-      within = omega (arith, are.forwarding.level, n_is, level_is);
-      remains = subst (λ v. v) (λ j. Remains (sym n_is j) (sym root_is j) (sym level_is j) d.arcs (to_collect k) k.inner k.nodes (sym known_is j)) done;
-      no_rows = are.no_rows;
-      no_names = none;
-      no_source = source_is ∙ are.no_source;
-      unnumbered = record { number_is = number_is ∙ are.unnumbered.number_is; pair_is = pair_is ∙ are.unnumbered.pair_is };
-    }
-
--- what two facts say together, where the call was Ok
-pub from_both : {T E A B C : Type 0} (r : Result T E) → (A → B → C) → OnOk r A → OnOk r B → OnOk r C
-from_both (Ok x) both a b = both a b
-from_both (Err e) both a b = tt
-
 -- the final pointer is forwarded along an arc
 one_along : (n root i : ℕ) (arcs ends unread front : List Arc) (queue more : List FinalArc) (names : List Name) (nodes : List Node) (known : Option ℕ) (a : Arc) (m : Name) (told : FinalArc)
     → IsComplete n root arcs → unread ≡ front ++ a ∷ [] → Has m names → m.source ≡ a.target → told.source ≡ a.source → told.high ≡ a.high → told.target ≡ m.pointer
@@ -150,43 +86,149 @@ one_along n root i arcs ends unread front queue more names nodes known a m told 
       root_found = along.root_found;
     }
 
--- the arc is handled with the name's pointer, and what remains is kept
-pub arc_kept : (s v u : ReduceSweep) (between now : World) (k : Contents) (rest : List Name) (d : Diagram) (m : Name) (a : Arc) (told : FinalArc) → IsOf s d → k.names ≡ m ∷ rest
-    → AreForwarded s d k → s.inner ≡ Some a → m.source ≡ a.target → told.source ≡ a.source → told.high ≡ a.high → told.target ≡ m.pointer
-    → SameButQueue s v → SamePlace s v → SameButInner v u → SamePlace v u → JoinsQueue true v between k told
-    → ((x : Contents) → Holds true v between x → PassesInner true v.inner u now x) → IsForwardingIn u now d
-arc_kept s v u between now k rest d m a told is_of named are next to_source source high target queue_same queue_place same place joined passes =
-    let more : List FinalArc = joined.0 in
-    let passed : PassesInner true (Some a) u now (record k { queue = more }) =
-    subst (λ (o : Option Arc). PassesInner true o u now (record k { queue = more })) (queue_same.inner_is ∙ next) (passes (record k { queue = more }) joined.2) in
-    let member : Has m k.names = subst (λ xs. Has m xs) (sym named) (inl refl) in
-    let kept = one_along s.writer.n s.root s.level d.arcs k.ends k.inner passed.0 k.queue more k.names k.nodes s.known a m told
-    is_of.diagram.complete passed.1 member to_source source high target joined.1 are.forwarding in
-    let writer = same.writer_is ∙ queue_same.writer_is in
-    let root = same.root_is ∙ queue_same.root_is in
-    let level = place.level_is ∙ queue_place.level_is in
-    let known = same.known_is ∙ queue_same.known_is in
+-- what remains while names are forwarded
+forwarded_at : (p : Place) (d : Diagram) (k : Contents) → p.phase ≡ Forward → IsLeft p d k → IsForwarded p.variables p.root p.level p.known d k
+forwarded_at p d k phase left = subst (λ f. RemainsAt f p.variables p.root p.level p.known d k) phase left.remains
+
+-- a name is one of a source of the level
+pub name_here : (p : Place) (d : Diagram) (k : Contents) (m : Name) (rest : List Name) → p.phase ≡ Forward → IsLeft p d k → k.names ≡ m ∷ rest → level_of m.source ≡ p.level
+name_here p d k m rest phase left is =
+    let (a, _, level, source, _) = (forwarded_at p d k phase left).forwarding.forwards.names_right m (subst (Has m) (sym is) (inl refl)) in
+    ap level_of (sym source) ∙ level
+
+-- no name is left, and the level is done
+pub names_done : (p : Place) (u : ReduceSweep) (world : World) (d : Diagram) (k : Contents) → p.phase ≡ Forward → u.place ≡ record p { phase = Between } → IsLeft p d k → k.names ≡ []
+    → Holds u.ahead u.lists u.writer world k → IsWorking u world d
+names_done p u world d k phase place left none holds =
+    let are = forwarded_at p d k phase left in
     record {
-      contents = record k { queue = more; inner = passed.0 };
-      holds = passed.2;
-      forwarded = record {
-        forwarding = subst (λ v. v) (λ j. IsForwarding (sym writer j).n (sym root j) (sym level j) d.arcs (map as_arc more ++ k.ends) passed.0 k.names k.nodes (sym known j)) kept;
-        no_rows = are.no_rows;
-        no_source = same.source_is ∙ queue_same.source_is ∙ are.no_source;
-        unnumbered = record {
-          number_is = same.number_is ∙ queue_same.number_is ∙ are.unnumbered.number_is;
-          pair_is = same.pair_is ∙ queue_same.pair_is ∙ are.unnumbered.pair_is;
+      contents = k;
+      holds = holds;
+      left = subst (λ (q : Place). IsLeft q d k) (sym place) (record {
+        is_of = left.is_of;
+        taken = left.taken;
+        remains = record {
+          within = omega (arith, are.forwarding.level);
+          remains = level_done p.variables p.root p.level d.arcs (to_collect k) k.inner k.nodes p.known
+              (subst (λ names. IsForwarding p.variables p.root p.level d.arcs (to_collect k) k.inner names k.nodes p.known) none are.forwarding);
+          no_rows = are.no_rows;
+          no_names = none;
         };
-      };
+      });
     }
 
+-- the name is given up, and what remains is kept
+pub name_given_up : (p : Place) (u : ReduceSweep) (world : World) (d : Diagram) (k : Contents) (m : Name) (rest : List Name) → p.phase ≡ Forward → u.place ≡ record p { known = known_with p m } → IsLeft p d k
+    → k.names ≡ m ∷ rest → ((x : Arc) → Has x k.inner → x.target ≢ m.source) → Holds u.ahead u.lists u.writer world (record k { names = rest }) → IsWorking u world d
+name_given_up p u world d k m rest phase place left taken none holds =
+    let are = forwarded_at p d k phase left in
+    let members : SameMembers k.names (m ∷ rest) = subst (λ xs. SameMembers k.names xs) taken (same_self k.names) in
+    record {
+      contents = record k { names = rest };
+      holds = holds;
+      left = subst (λ (q : Place). IsLeft q d (record k { names = rest })) (sym place) (record {
+        is_of = left.is_of;
+        taken = left.taken;
+        remains = subst (λ f. RemainsAt f p.variables p.root p.level (known_with p m) d (record k { names = rest })) (sym phase) (record {
+          forwarding = given_up p.variables p.root p.level d.arcs (to_collect k) k.inner k.names rest k.nodes p.known m (m.source == p.root) refl members none are.forwarding;
+          no_rows = are.no_rows;
+        });
+      });
+    }
+
+-- where no arc to a node is left, none leads to the name's source
+pub none_left : (s : ReduceSweep) (world : World) (k : Contents) (source : ℕ) → s.ahead.inner ≡ None → Holds s.ahead s.lists s.writer world k → (x : Arc) → Has x k.inner → x.target ≢ source
+none_left s world k source none holds x m =
+    let empty : IsUnread Inner None (inner_of s.ahead.reader) (file world (file_of (inner_of s.ahead.reader))).bytes k.inner =
+    subst (λ (o : Option Arc). IsUnread Inner o (inner_of s.ahead.reader) (file world (file_of (inner_of s.ahead.reader))).bytes k.inner) none holds.inner_is in
+    absurd (subst (λ xs. Has x xs) empty.0 m)
+
+-- the arcs that aren't handled: that which was read last leads furthest
+record IsFurthest (k : Contents) (a : Arc) : Type 0 where
+  pub front : List Arc
+  pub is : k.inner ≡ front ++ a ∷ []
+  pub furthest : (x : Arc) → Has x k.inner → x.target ≤ a.target
+
+furthest_read : (s : ReduceSweep) (world : World) (k : Contents) (a : Arc) → s.ahead.inner ≡ Some a → Holds s.ahead s.lists s.writer world k → IsFurthest k a
+furthest_read s world k a next holds =
+    let unread : IsUnread Inner (Some a) (inner_of s.ahead.reader) (file world (file_of (inner_of s.ahead.reader))).bytes k.inner =
+    subst (λ (o : Option Arc). IsUnread Inner o (inner_of s.ahead.reader) (file world (file_of (inner_of s.ahead.reader))).bytes k.inner) next holds.inner_is in
+    record {
+      front = unread.0;
+      is = unread.1;
+      furthest = read_furthest unread.0 k.inner a _ unread.1 unread.2.given unread.2.left.ordered;
+    }
+
+-- where the next arc leads less far than to the name's source, none leads to it
+pub none_as_far : (s : ReduceSweep) (world : World) (k : Contents) (a : Arc) (source : ℕ) → s.ahead.inner ≡ Some a → Holds s.ahead s.lists s.writer world k → a.target < source
+    → (x : Arc) → Has x k.inner → x.target ≢ source
+none_as_far s world k a source next holds less x m same =
+    let far : IsFurthest k a = furthest_read s world k a next holds in
+    omega (arith, far.furthest x m, less, same)
+
 -- the next arc leads no further than to the source of the first name
-pub leads_within : (s : ReduceSweep) (world : World) (k : Contents) (rest : List Name) (d : Diagram) (m : Name) (a : Arc) → k.names ≡ m ∷ rest → s.inner ≡ Some a
-    → Holds true s world k → AreForwarded s d k → a.target ≤ m.source
-leads_within s world k rest d m a named next holds are =
+pub leads_within : (s : ReduceSweep) (world : World) (d : Diagram) (k : Contents) (m : Name) (rest : List Name) (a : Arc) → s.place.phase ≡ Forward → IsLeft s.place d k → k.names ≡ m ∷ rest → s.ahead.inner ≡ Some a
+    → Holds s.ahead s.lists s.writer world k → a.target ≤ m.source
+leads_within s world d k m rest a phase left named next holds =
+    let p = s.place in
+    let are = forwarded_at p d k phase left in
     let far : IsFurthest k a = furthest_read s world k a next holds in
     let member : Has m k.names = subst (λ xs. Has m xs) (sym named) (inl refl) in
     let unread : Has a k.inner = subst (λ xs. Has a xs) (sym far.is) (has_right a far.front (a ∷ []) (inl refl)) in
-    forward-below s.writer.n s.level d.arcs (to_collect k) k.inner k.names m a member
-    (λ p in_names. elim (subst (λ xs. Has p xs) named in_names) [ inl same ↦ omega (arith, ap (λ (x : Name). x.source) same) | inr later ↦ names_greatest m rest (subst (λ xs. IsSorted name_cmp xs) named holds.names_is.ascends) p later ])
+    forward-below p.variables p.level d.arcs (to_collect k) k.inner k.names m a member
+    (λ q in_names. elim (subst (λ xs. Has q xs) named in_names) [ inl same ↦ omega (arith, ap (λ (x : Name). x.source) same) | inr later ↦ names_greatest m rest (subst (λ xs. IsSorted name_cmp xs) named holds.names_is.ascends) q later ])
     unread are.forwarding.forwards
+
+-- the next arc is from a shallower level than the one that it leads to
+pub arc_leads : (s : ReduceSweep) (world : World) (k : Contents) (a : Arc) → s.ahead.inner ≡ Some a → Reads Inner (inner_of s.ahead.reader) (file world (file_of (inner_of s.ahead.reader))).bytes
+    → Holds s.ahead s.lists s.writer world k → level_of a.source < level_of a.target
+arc_leads s world k a next reads holds =
+    let bytes = (file world (file_of (inner_of s.ahead.reader))).bytes in
+    let unread : IsUnread Inner (Some a) (inner_of s.ahead.reader) bytes k.inner = subst (λ (o : Option Arc). IsUnread Inner o (inner_of s.ahead.reader) bytes k.inner) next holds.inner_is in
+    let at : IsArcAt Inner (left_of (inner_of s.ahead.reader)) bytes a =
+    subst (λ (o : Option Arc). IfSome o (λ g. IsArcAt Inner (left_of (inner_of s.ahead.reader)) bytes g)) unread.2.given reads.last in
+    at.leads.1
+
+-- so it comes after what was taken
+pub comes_after : (p : Place) (d : Diagram) (k : Contents) (a : Arc) → IsLeft p d k → level_of a.source < level_of a.target → level_of a.target ≡ p.level → IsTakenTo (level_of a.source + 1) k.last
+comes_after p d k a left leads level = by k.last left.taken
+  where
+    by : (last : Option FinalArc) → IsTakenTo p.level last → IsTakenTo (level_of a.source + 1) last
+    by None taken = tt
+    by (Some x) taken = omega (arith, taken, leads, level)
+
+-- the arc is handled with the name's pointer, and what remains is kept
+pub arc_forwarded : (p : Place) (u : ReduceSweep) (world : World) (d : Diagram) (k : Contents) (m : Name) (rest : List Name) (a : Arc) (told : FinalArc) → p.phase ≡ Forward → u.place ≡ p → IsLeft p d k
+    → k.names ≡ m ∷ rest → m.source ≡ a.target → told.source ≡ a.source → told.high ≡ a.high → told.target ≡ m.pointer → ForwardsAlong (Some a) u world k told → IsWorking u world d
+arc_forwarded p u world d k m rest a told phase place left named to_source source high target (queue, front, joined, split, holds) =
+    let are = forwarded_at p d k phase left in
+    let member : Has m k.names = subst (λ xs. Has m xs) (sym named) (inl refl) in
+    let l : Contents = record k { queue = queue; inner = front } in
+    record {
+      contents = l;
+      holds = holds;
+      left = subst (λ (q : Place). IsLeft q d l) (sym place) (record {
+        is_of = left.is_of;
+        taken = left.taken;
+        remains = subst (λ f. RemainsAt f p.variables p.root p.level p.known d l) (sym phase) (record {
+          forwarding = one_along p.variables p.root p.level d.arcs k.ends k.inner front k.queue queue k.names k.nodes p.known a m told
+              left.is_of.diagram.complete split member to_source source high target joined are.forwarding;
+          no_rows = are.no_rows;
+        });
+      });
+    }
+
+-- an arc was pushed and the next one to a node passed over
+along : (o : Option Arc) (u : ReduceSweep) (new : World) (k : Contents) (queue : List FinalArc) (a : FinalArc) → IsPermutation (a ∷ k.queue) queue
+    → PassesInner o u new (record k { queue = queue }) → ForwardsAlong o u new k a
+along None u new k queue a joined passes = passes
+along (Some x) u new k queue a joined (front, split, holds) = (queue, front, joined, split, holds)
+
+pub passed_along : (inner : Option Arc) (s t u : ReduceSweep) (told later : Type 0) (old between new : World) (a : FinalArc) (result : Result Unit SortFault) → t.ahead.inner ≡ inner → (later → told)
+    → (told → (k : Contents) → Holds s.ahead s.lists s.writer old k → IsTakenTo (level_of a.source + 1) k.last → JoinsQueue t between k a)
+    → OnOk result (later → (k : Contents) → Holds t.ahead t.lists t.writer between k → PassesInner t.ahead.inner u new k)
+    → OnOk result (later → (k : Contents) → Holds s.ahead s.lists s.writer old k → IsTakenTo (level_of a.source + 1) k.last → ForwardsAlong inner u new k a)
+passed_along inner s t u told later old between new a (Err e) is before joined passed = tt
+passed_along inner s t u told later old between new a (Ok x) is before joined passed = λ tell k holds taken.
+    let (queue, permuted, held) = joined (before tell) k holds taken in
+    along inner u new k queue a permuted (subst (λ (o : Option Arc). PassesInner o u new (record k { queue = queue })) is (passed tell (record k { queue = queue }) held))

@@ -1,37 +1,34 @@
--- which arc is collected next, and what is left once it is
-use Rattle.std.proofs.Common.{◌≡◌, ℕ, ◌≤◌, arith, refl, ap, sym, subst, ◌∙◌, inl, inr, List, ◌++◌}
-use Rattle.std.proofs.lemmas.Bool.{false≢true, true≢false}
+-- Which arc is collected next, and what of the arcs is read on.
+use Rattle.std.proofs.Common.{◌≡◌, ◌≢◌, ℕ, ◌≤◌, arith, refl, ap, sym, subst, ◌∙◌, inl, inr, List, ◌++◌}
 use Rattle.std.proofs.lemmas.Bool.Decides.{nat_tests}
 use Rattle.std.proofs.lemmas.List.{same_from_push}
-use Rattle.std.specs.Prelude.{◌∷◌, [], false, true, Bool, IsSome, Option, Some, None, Ok, map}
+use Rattle.std.specs.Prelude.{◌∷◌, [], false, true, Bool, cond, Option, Some, None, IsSome, IfSome, Ok, map, length}
 use Rattle.std.specs.Cmp.{IsStrictWeakOrder}
 use Rattle.std.specs.List.Sorted.{IsSorted}
 use Rattle.std.specs.Ordering.{is_lt, is_ge, nat_cmp}
-use Rattle.shelf_model.specs.World.{World, now, file}
-use Rattle.shelf_model.specs.Moments.{Ran, Stays}
 use Rattle.block_stream.specs.Items.{GivesLast}
 use Rattle.canon_file.specs.Members.{Has}
 use Rattle.canon_file.proofs.MemberLaws.{map_has}
 use Rattle.canon_file.proofs.StandLaws.{has_append}
-use Rattle.run_merge.specs.Lists.{Shows}
+use Rattle.run_merge.specs.Lists.{Shows, Gives}
+use Rattle.level_queue.specs.Queues.{Reaches, held}
 use Rattle.arc_file.specs.declared.arc.Arc.{Arc}
 use Rattle.arc_file.specs.declared.kind.Kind.{Kind}
 use Rattle.arc_file.specs.declared.kind.Kind.TheVariants.{End}
 use Rattle.arc_file.specs.declared.stream.ArcStream.{ArcStream}
 use Rattle.arc_file.specs.Files.{end_cmp, IsEndOrder}
 use Rattle.arc_file.specs.Streams as streams
-use Rattle.arc_file.specs.Readers.{inner_of, ends_of}
 use Rattle.arc_diagrams.specs.Items.{as_arc, final_arc_cmp}
 use Rattle.arc_diagrams.specs.declared.final_arc.FinalArc.{FinalArc}
 use Rattle.arc_diagrams.proofs.ItemOrders.{arcs_greatest}
 use Rattle.arc_diagrams.proofs.ListViews.{none_before, sorted_rest}
 use Rattle.arc_diagrams.proofs.RowPlaces.{has_right}
+use Rattle.reduce_sweep.specs.Remaining.{Contents, IsUnread, to_collect}
+use Rattle.reduce_sweep.specs.Changes.{IsAt, IsGreatest, next_of, ComesNext, ShowsQueued}
 use Rattle.reduce_sweep.specs.declared.reduce.ReduceSweep.{ReduceSweep}
-use Rattle.reduce_sweep.specs.Sweeps.{ends_file, IsSound, IsNext}
-use Rattle.reduce_sweep.specs.Remaining.{Contents, Holds, IsUnread, to_collect}
-use Rattle.reduce_sweep.specs.Changes.{SameButAhead, IsAt, IsGreatest, Passes}
-use Rattle.reduce_sweep.proofs.Frames.{beside_stays, ends_changed}
-use Rattle.reduce_sweep.proofs.CallFrames.{read_on, unread_on}
+use Rattle.shelf_model.specs.World.{World}
+use Rattle.reduce_sweep.specs.declared.reduce.Ahead.{Ahead}
+use Rattle.reduce_sweep.specs.Sweeps.{IsNext}
 
 -- a list whose first item is shown stays
 pub shown_stays : {T : Type 0} (Now : List T → Type 0) (xs : List T) (o : Option T) → Shows Now xs (Ok o) → Now xs
@@ -51,9 +48,9 @@ shown_none {T} Now xs o is shows =
     none.0
 
 -- no arc is unread where none was read last
-pub none_unread : (kind : Kind) (next : Option Arc) (s : ArcStream) (bytes : List ℕ) (xs : List Arc) → next ≡ None → IsUnread true kind next s bytes xs → xs ≡ []
+pub none_unread : (kind : Kind) (next : Option Arc) (s : ArcStream) (bytes : List ℕ) (xs : List Arc) → next ≡ None → IsUnread kind next s bytes xs → xs ≡ []
 none_unread kind next s bytes xs is unread =
-    let none : IsUnread true kind None s bytes xs = subst (λ (o : Option Arc). IsUnread true kind o s bytes xs) is unread in
+    let none : IsUnread kind None s bytes xs = subst (λ (o : Option Arc). IsUnread kind o s bytes xs) is unread in
     none.0
 
 -- the order of arcs to truth values chains
@@ -72,16 +69,15 @@ last_greatest (y ∷ ys) a up x (inl e) =
 last_greatest (y ∷ ys) a up x (inr m) = last_greatest ys a (sorted_rest (λ p q. is_lt (end_cmp p q)) y (ys ++ a ∷ []) up) x m
 
 -- the arc to a truth value that was read last is the last of those that aren't handled
-pub at_end : (whole : Bool) (k : Contents) (next : Option Arc) (s : ArcStream) (bytes : List ℕ) (a : FinalArc) → next ≡ Some (as_arc a) → IsUnread whole End next s bytes k.ends → IsAt whole false k a
-at_end false k next s bytes a is unread = tt
-at_end true k next s bytes a is unread =
-    let some : IsUnread true End (Some (as_arc a)) s bytes k.ends = subst (λ (o : Option Arc). IsUnread true End o s bytes k.ends) is unread in
+pub at_end : (k : Contents) (next : Option Arc) (s : ArcStream) (bytes : List ℕ) (a : FinalArc) → next ≡ Some (as_arc a) → IsUnread End next s bytes k.ends → IsAt false k a
+at_end k next s bytes a is unread =
+    let some : IsUnread End (Some (as_arc a)) s bytes k.ends = subst (λ (o : Option Arc). IsUnread End o s bytes k.ends) is unread in
     (some.0, some.1)
 
 -- none of them has a greater source
-pub ends_below : (next : Option Arc) (s : ArcStream) (bytes : List ℕ) (xs : List Arc) (a : Arc) → next ≡ Some a → IsUnread true End next s bytes xs → (x : Arc) → Has x xs → x.source ≤ a.source
+pub ends_below : (next : Option Arc) (s : ArcStream) (bytes : List ℕ) (xs : List Arc) (a : Arc) → next ≡ Some a → IsUnread End next s bytes xs → (x : Arc) → Has x xs → x.source ≤ a.source
 ends_below next s bytes xs a is unread x m =
-    let some : IsUnread true End (Some a) s bytes xs = subst (λ (o : Option Arc). IsUnread true End o s bytes xs) is unread in
+    let some : IsUnread End (Some a) s bytes xs = subst (λ (o : Option Arc). IsUnread End o s bytes xs) is unread in
     let up : IsEndOrder (some.0 ++ a ∷ []) = subst (λ (o : Option Arc). streams.IsInOrderBefore End some.0 o) some.2.given some.2.left.ordered in
     elim (has_append x some.0 (a ∷ []) (subst (λ (ys : List Arc). Has x ys) some.1 m)) [
       | inl k ↦ last_greatest some.0 a up x k
@@ -122,25 +118,80 @@ greatest_read k a end test queue ends =
 pub none_first : (k : Contents) → k.queue ≡ [] → k.ends ≡ [] → to_collect k ≡ []
 none_first k queue ends = λ j. map as_arc (queue j) ++ ends j
 
--- an arc to a truth value is handled
-pub passes_end : (whole queued : Bool) (s t : ReduceSweep) (old new : World) (k : Contents) (arc : FinalArc) (end : Option Arc) → queued ≡ false → s.end ≡ end → IsNext s queued → IsSound s
-    → SameButAhead s t → t.queue ≡ s.queue → t.step ≡ s.step → t.next ≡ s.next → inner_of t.reader ≡ inner_of s.reader → ends_file t ≡ ends_file s → Ran (Stays (now old)) old new
-    → streams.GoesUp End (ends_of s.reader) (ends_of t.reader) (Ok t.end)
-    → (streams.Reads End (ends_of s.reader) (file old (ends_file s)).bytes → streams.Reads End (ends_of t.reader) (file old (ends_file s)).bytes)
-    → (streams.Reads End (ends_of s.reader) (file old (ends_file s)).bytes → (xs : List Arc) → streams.AreLeft End (ends_of s.reader) (file old (ends_file s)).bytes xs
-    → GivesLast (streams.AreLeft End (ends_of t.reader) (file old (ends_file s)).bytes) xs (Ok t.end))
-    → IsAt whole queued k arc → Holds whole s old k → Passes whole queued t new k arc
-passes_end whole true s t old new k arc end ended is some sound same queue step next inner place ran up reads left at holds = absurd (true≢false ended)
-passes_end false false s t old new k arc end ended is some sound same queue step next inner place ran up reads left at holds =
-    ends_changed s t old new k k.ends sound (beside_stays s t old new step next ran) place inner same.inner_is queue same.rows_is same.names_is same.writer_is (read_on End (ends_of s.reader) (ends_of t.reader) (file old (ends_file s)).bytes t.end up (reads holds.ends_is.reads)) holds
-passes_end true false s t old new k arc None ended is some sound same queue step next inner place ran up reads left at holds =
-    absurd (false≢true (subst (λ (o : Option Arc). IsSome o) is some))
-passes_end true false s t old new k arc (Some a) ended is some sound same queue step next inner place ran up reads left at holds =
-    let unread : IsUnread true End (Some a) (ends_of s.reader) (file old (ends_file s)).bytes k.ends =
-    subst (λ (o : Option Arc). IsUnread true End o (ends_of s.reader) (file old (ends_file s)).bytes k.ends) is holds.ends_is in
-    let behind = unread_on End (ends_of s.reader) (ends_of t.reader) (file old (ends_file s)).bytes unread.0 t.end up (reads unread.2.reads) (left unread.2.reads unread.0 unread.2.left) in
-    let last : a ≡ as_arc arc = (same_from_push unread.0 at.0 a (as_arc arc) (sym unread.1 ∙ at.1)).1 in (
-      unread.0,
-      unread.1 ∙ ap (λ (x : Arc). unread.0 ++ x ∷ []) last,
-      ends_changed s t old new k unread.0 sound (beside_stays s t old new step next ran) place inner same.inner_is queue same.rows_is same.names_is same.writer_is behind holds,
+-- what is none of the items is None
+pub none_from : {A : Type 0} (o : Option A) → ((x : A) → o ≢ Some x) → o ≡ None
+none_from None never = refl
+none_from (Some x) never = absurd (never x refl)
+
+-- the items behind the first
+abbrev tail_of : {T : Type 0} → List T → List T
+tail_of [] = []
+tail_of (x ∷ xs) = xs
+
+-- the first item was taken: the others are left
+pub rest_is : {T : Type 0} (Now : List T → Type 0) (xs rest : List T) (x : T) (o : Option T) → xs ≡ x ∷ rest → Gives Now xs (Ok o) → Now rest
+rest_is Now xs rest x None is given = absurd (omega (arith, ap length (sym given.0 ∙ is)))
+rest_is Now xs rest x (Some y) is given = subst Now (ap tail_of (sym given.1 ∙ is)) given.2
+
+-- the first item, where there is one
+abbrev head_of : {T : Type 0} → List T → Option T
+head_of [] = None
+head_of (x ∷ xs) = Some x
+
+-- it is the last one taken from then on
+pub first_reached : {T : Type 0} (Now : List T → Type 0) (xs rest : List T) (x : T) (old new o : Option T) → xs ≡ x ∷ rest → Gives Now xs (Ok o) → Reaches old new (Ok o) → new ≡ Some x
+first_reached Now xs rest x old new None is given reached = absurd (omega (arith, ap length (sym given.0 ∙ is)))
+first_reached Now xs rest x old new (Some y) is given reached = reached ∙ ap head_of (sym given.1 ∙ is)
+
+-- what a reader answers is the next arc, and those before it are unread
+pub unread_on : (kind : Kind) (s t : ArcStream) (bytes : List ℕ) (front : List Arc) (next : Option Arc) → streams.GoesUp kind s t (Ok next)
+    → GivesLast (streams.AreLeft kind t bytes) front (Ok next) → IsUnread kind next t bytes front
+unread_on kind s t bytes front None up left = (left, up.1)
+unread_on kind s t bytes front (Some a) up left = (left.0, left.1, record { given = up.4; left = left.2 })
+
+-- once the next arc of a file is handled, those before it are unread
+pub read_on : (kind : Kind) (s t : ArcStream) (bytes : List ℕ) (xs : List Arc) (next : Option Arc) (a : Arc) → streams.GoesUp kind s t (Ok next)
+    → ((ys : List Arc) → streams.AreLeft kind s bytes ys → GivesLast (streams.AreLeft kind t bytes) ys (Ok next)) → IsUnread kind (Some a) s bytes xs
+    → (front : List Arc) × (xs ≡ front ++ a ∷ []) × IsUnread kind next t bytes front
+read_on kind s t bytes xs next a up left unread = (unread.0, unread.1, unread_on kind s t bytes unread.0 next up (left unread.0 unread.2.left))
+
+-- the last of two lists that are the same
+pub last_same : (xs ys : List Arc) (a b : Arc) → xs ++ a ∷ [] ≡ ys ++ b ∷ [] → a ≡ b
+last_same xs ys a b same = (same_from_push xs ys a b same).1
+
+-- the arc that comes next has the greatest source
+pub comes_next : (k : Contents) (queued : Option FinalArc) (end : Option Arc) (s : ArcStream) (bytes : List ℕ) → IfSome queued (λ a. (rest : List FinalArc) × (k.queue ≡ a ∷ rest)) → (queued ≡ None → k.queue ≡ [])
+    → IsSorted final_arc_cmp k.queue → IsUnread End end s bytes k.ends → ComesNext k (next_of queued end)
+comes_next k None None s bytes some none up unread = none_first k (none refl) unread.0
+comes_next k (Some a) None s bytes (rest, is) none up unread = (
+  (rest, is),
+  greatest_of k a (queue_below k.queue rest a is up) (λ x m. absurd (subst (λ (xs : List Arc). Has x xs) unread.0 m)),
+)
+comes_next k None (Some e) s bytes some none up unread =
+    let read : FinalArc = record { source = e.source; high = e.high; target = e.target } in (
+      at_end k (Some e) s bytes read refl unread,
+      greatest_of k read (λ x m. absurd (subst (λ (xs : List FinalArc). Has x (map as_arc xs)) (none refl) m)) (ends_below (Some e) s bytes k.ends e refl unread),
     )
+comes_next k (Some a) (Some e) s bytes (rest, is) none up unread = by (is_ge (nat_cmp a.source e.source)) refl
+  where
+    read : FinalArc
+    read = record { source = e.source; high = e.high; target = e.target }
+
+    by : (b : Bool) → is_ge (nat_cmp a.source e.source) ≡ b → ComesNext k (cond b (Some (a, true)) (Some (read, false)))
+    by true test = ((rest, is), greatest_queued k a e test (queue_below k.queue rest a is up) (ends_below (Some e) s bytes k.ends e refl unread))
+    by false test = (at_end k (Some e) s bytes read refl unread, greatest_read k a read test (queue_below k.queue rest a is up) (ends_below (Some e) s bytes k.ends e refl unread))
+
+-- and it is there to be taken
+pub next_there : (a : Ahead) (queued : Option FinalArc) (end : Option Arc) → a.end ≡ end → (IsSome queued → 1 ≤ held a.queue) → IsNext a (next_of queued end)
+next_there a None None is there = tt
+next_there a (Some x) None is there = there refl
+next_there a None (Some e) is there = subst (λ (o : Option Arc). IsSome o) (sym is) refl
+next_there a (Some x) (Some e) is there = by (is_ge (nat_cmp x.source e.source))
+  where
+    by : (b : Bool) → IsNext a (cond b (Some (x, true)) (Some (record { source = e.source; high = e.high; target = e.target }, false)))
+    by true = there refl
+    by false = subst (λ (o : Option Arc). IsSome o) (sym is) refl
+
+pub shown_comes : (t : ReduceSweep) (new : World) (k : Contents) (queued : Option FinalArc) → ShowsQueued t new k queued → ComesNext k (next_of queued t.ahead.end)
+shown_comes t new k None (none, holds) = comes_next k None t.ahead.end _ _ tt (λ _. none) holds.queue_is.sorter.ascends holds.ends_is
+shown_comes t new k (Some a) (rest, is, holds) = comes_next k (Some a) t.ahead.end _ _ (rest, is) (λ e. cc) holds.queue_is.sorter.ascends holds.ends_is

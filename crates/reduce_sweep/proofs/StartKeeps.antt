@@ -1,4 +1,4 @@
--- a reduction begins with what is to remain
+-- The beginning of a reduction.
 use Rattle.std.proofs.Common.{◌≡◌, ◌≢◌, ℕ, ◌≤◌, ◌<◌, ◌+◌, ◌-◌, ◌*◌, arith, refl, ap, sym, subst, ◌∙◌, inl, inr, List, ◌++◌}
 use Rattle.std.specs.Prelude.{◌^◌, [], Bool, true, false, IsTrue, Option, Some, Ok, All, length, None, Result, Err, IfErr}
 use Rattle.std.proofs.lemmas.List.{length-append}
@@ -16,8 +16,10 @@ use Rattle.shelf_model.specs.SortFaults.{handed_on}
 use Rattle.shelf_model.specs.File.{File}
 use Rattle.shelf_model.specs.Folder.{Folder, file_in}
 use Rattle.shelf_model.specs.World.{World, now, file}
-use Rattle.shelf_model.specs.Moments.{Stays}
-use Rattle.shelf_model.proofs.Runs.{ran_end}
+use Rattle.shelf_model.specs.Moments.{Ran, Stays}
+use Rattle.shelf_model.specs.Calls.{Told}
+use Rattle.shelf_model.specs.File.{IsKept}
+use Rattle.shelf_model.proofs.Runs.{told, told_then, ran_end, ran_joins, ran_weakens}
 use Rattle.block_stream.specs.Items.{GivesLast}
 use Rattle.block_stream.specs.Reads.{Looked}
 use Rattle.block_stream.specs.Writes.{Cut, DuringCut}
@@ -37,15 +39,14 @@ use Rattle.arc_file.specs.declared.unreduced.Unreduced.{Unreduced}
 use Rattle.arc_file.specs.declared.reader.ArcReader.{ArcReader}
 use Rattle.arc_file.specs.Readers.{inner_of, ends_of}
 use Rattle.block_stream.specs.Writes.{count_of}
-use Rattle.run_merge.specs.Sorters as sorters
 use Rattle.level_queue.specs.Queues as queues
-use Rattle.arc_diagrams.specs.Items.{final_arc_words, IsFinalArc, final_arc_cmp, source_row_words, IsSourceRow, source_row_cmp, name_words, IsName, name_cmp}
-use Rattle.reduce_sweep.specs.declared.reduce.ReduceSweep.{ReduceSweep}
-use Rattle.reduce_sweep.specs.Sweeps.{out_of, CanBeTaken}
-use Rattle.reduce_sweep.specs.Remaining.{Contents, Holds, IsUnread, IsRun}
-use Rattle.reduce_sweep.specs.Held.{IsDamagedAt, IsDamageAtStart}
-use Rattle.reduce_sweep.proofs.Frames.{writer_kept}
-use Rattle.reduce_sweep.proofs.CallFrames.{unread_on, read_on}
+use Rattle.reduce_sweep.specs.declared.reduce.Ahead.{Ahead}
+use Rattle.reduce_sweep.specs.declared.reduce.Lists.{Lists}
+use Rattle.reduce_sweep.specs.Remaining.{Contents, Holds, IsUnread, QueueLists, RowLists, NameLists}
+use Rattle.reduce_sweep.specs.Damage.{IsDamagedAt, IsDamageAtStart}
+use Rattle.reduce_sweep.specs.Calls.{IsAtWork}
+use Rattle.reduce_sweep.proofs.Holding.{writer_kept}
+use Rattle.reduce_sweep.proofs.NextArcs.{unread_on}
 
 -- what is true of all items is true of each
 each_of : {X : Type 0} (P : X → Type 0) (xs : List X) (x : X) → All P xs → Has x xs → P x
@@ -100,13 +101,7 @@ nothing_written : (w : NodeWriter) (second third fourth : World) → Looked 1 se
 nothing_written w second third fourth looked again holds =
     let one : (now third).folder ≡ (now second).folder = ran_end second third (Stays (now second)) looked.run in
     let two : (now fourth).folder ≡ (now third).folder = ran_end third fourth (Stays (now third)) again.run in
-    writer_kept w second fourth [] (ap (λ (d : Folder). file_in d (writers.filling_of w).file) (two ∙ one)) holds
-
--- a first arc is unread, with those before it
-unread_first : (whole : Bool) (kind : Kind) (s t : ArcStream) (next : Option Arc) (xs : List Arc) (count : ℕ) (bytes : List ℕ) → streams.GoesUp kind s t (Ok next)
-    → streams.Reads kind t bytes → (IsTrue whole → GivesLast (streams.AreLeft kind t bytes) xs (Ok next)) → IsUnread whole kind next t bytes xs
-unread_first false kind s t next xs count bytes up reads left = read_on kind s t bytes next up reads
-unread_first true kind s t next xs count bytes up reads left = unread_on kind s t bytes xs next up reads (left refl)
+    writer_kept w second fourth [] (ap (λ (d : Folder). (file_in d (writers.filling_of w).file).bytes) (two ∙ one)) holds
 
 -- one arc was read of a file
 pub record ReadsOne (kind : Kind) (world : World) (s t : ArcStream) (next : Option Arc) : Type 0 where
@@ -122,70 +117,85 @@ pub record ReadsNothing (kind : Kind) (s : ArcStream) (f : FileNo) (count : ℕ)
   pub reads : (bytes : List ℕ) → streams.Reads kind s bytes
   pub arcs : (bytes : List ℕ) → (ys : List Arc) → HasArcs kind ys count bytes → streams.AreLeft kind s bytes ys
 
--- its arcs are unread where the file was as before when it was read, and is when all have begun
-unread_begun : (whole : Bool) (kind : Kind) (f : FileNo) (first read last : World) (s t u : ArcStream) (next : Option Arc) (xs : List Arc) (count : ℕ)
-    → ReadsNothing kind s f count → ReadsOne kind read s t next → u ≡ t → file read f ≡ file first f → file last f ≡ file first f
-    → (IsTrue whole → HasArcs kind xs count (file first f).bytes) → IsUnread whole kind next u (file last (file_of u)).bytes xs
-unread_begun whole kind f first read last s t u next xs count begun one same before after has =
+-- what was read is as the bytes say that the file had at first, and has when all have begun
+pub reads_begun : (kind : Kind) (f : FileNo) (first read last : World) (s t u : ArcStream) (next : Option Arc) (count : ℕ)
+    → ReadsNothing kind s f count → ReadsOne kind read s t next → u ≡ t → file read f ≡ file first f → file last f ≡ file first f → streams.Reads kind u (file last (file_of u)).bytes
+reads_begun kind f first read last s t u next count begun one same before after =
     let here : file read (file_of s) ≡ file first f = ap (file read) begun.place ∙ before in
     let there : file last (file_of u) ≡ file first f = ap (file last) (ap file_of same ∙ one.place ∙ begun.place) ∙ after in
-    let now_read = begun.reads (file read (file_of s)).bytes in
-    let unread : IsUnread whole kind next t (file read (file_of s)).bytes xs = unread_first whole kind s t next xs count (file read (file_of s)).bytes one.up (one.reads now_read)
-    (λ is_whole. one.arcs now_read xs (begun.arcs (file read (file_of s)).bytes xs (subst (λ (g : File). HasArcs kind xs count g.bytes) (sym here) (has is_whole)))) in
-    subst (λ v. v) (λ j. IsUnread whole kind next (sym same j) ((here ∙ sym there) j).bytes xs) unread
+    subst (λ v. v) (λ j. streams.Reads kind (sym same j) ((here ∙ sym there) j).bytes) (one.reads (begun.reads (file read (file_of s)).bytes))
 
--- the lists are empty, and hold no run of a file
-pub record AreEmpty (s : ReduceSweep) (world : World) : Type 0 where
-  pub queue_is : queues.Lists IsFinalArc final_arc_words final_arc_cmp s.queue world []
-  pub rows_is : sorters.Lists IsSourceRow source_row_words source_row_cmp s.rows world []
-  pub names_is : sorters.Lists IsName name_words name_cmp s.names world []
-  pub no_run : (f : FileNo) → ¬ IsRun s f
+-- and its arcs are unread
+pub unread_begun : (kind : Kind) (f : FileNo) (first read last : World) (s t u : ArcStream) (next : Option Arc) (xs : List Arc) (count : ℕ)
+    → ReadsNothing kind s f count → ReadsOne kind read s t next → u ≡ t → file read f ≡ file first f → file last f ≡ file first f
+    → HasArcs kind xs count (file first f).bytes → IsUnread kind next u (file last (file_of u)).bytes xs
+unread_begun kind f first read last s t u next xs count begun one same before after has =
+    let here : file read (file_of s) ≡ file first f = ap (file read) begun.place ∙ before in
+    let there : file last (file_of u) ≡ file first f = ap (file last) (ap file_of same ∙ one.place ∙ begun.place) ∙ after in
+    let left = one.arcs (begun.reads (file read (file_of s)).bytes) xs (begun.arcs (file read (file_of s)).bytes xs (subst (λ (g : File). HasArcs kind xs count g.bytes) (sym here) has)) in
+    subst (λ v. v) (λ j. IsUnread kind next (sym same j) ((here ∙ sym there) j).bytes xs) (unread_on kind s t (file read (file_of s)).bytes xs next one.up left)
+
+-- the lists are empty
+pub record AreEmpty (a : Ahead) (l : Lists) (world : World) : Type 0 where
+  pub queue_is : QueueLists a.queue world []
+  pub last_is : queues.last_of a.queue ≡ None
+  pub rows_is : RowLists l.rows world []
+  pub names_is : NameLists l.names world []
 
 -- what a sweep holds at first: all arcs, of which none is handled
 abbrev pub at_first : List Arc → List Arc → Contents
-at_first inner ends = record { queue = []; inner = inner; ends = ends; rows = []; names = []; nodes = [] }
+at_first inner ends = record { queue = []; last = None; inner = inner; ends = ends; rows = []; names = []; nodes = [] }
 
--- the two files of arcs differ from that of the nodes, which was emptied, and no part that can be taken is one of them
-pub record AreOthers (s : ReduceSweep) (made : Unreduced) (out : FileNo) : Type 0 where
-  pub out_is : out_of s ≡ out
+-- what was done at the beginning of a reduction: the file of the nodes was emptied, and an arc of each other file was read
+pub record HasBegun (a : Ahead) (w : NodeWriter) (made : Unreduced) (out : FileNo) (opened read : ArcReader) (first second third last : World) : Type 0 where
   pub apart_inner : out ≢ made.inner
   pub apart_ends : out ≢ made.ends
-  pub inner_made : ¬ CanBeTaken s.step s.next made.inner
-  pub ends_made : ¬ CanBeTaken s.step s.next made.ends
+  pub cut : Cut 1 out 0 first second
+  pub looked : Looked 1 second third
+  pub again : Looked 1 third last
+  pub no_inner : ReadsNothing Inner (inner_of opened) made.inner made.inner_count
+  pub no_end : ReadsNothing End (ends_of opened) made.ends made.ends_count
+  pub ends_kept : ends_of read ≡ ends_of opened
+  pub inner_kept : inner_of a.reader ≡ inner_of read
+  pub one_inner : ReadsOne Inner second (inner_of opened) (inner_of read) a.inner
+  pub one_end : ReadsOne End third (ends_of read) (ends_of a.reader) a.end
+  pub written : writers.Holds w second []
 
--- so a reduction begins
-pub held_at_first : (whole : Bool) (s : ReduceSweep) (made : Unreduced) (out : FileNo) (first second third last : World) (opened : ArcReader) (read : ArcReader) (inner ends : List Arc)
-    → AreOthers s made out → Cut 1 out 0 first second → Looked 1 second third → Looked 1 third last
-    → ReadsNothing Inner (inner_of opened) made.inner made.inner_count → ReadsNothing End (ends_of opened) made.ends made.ends_count
-    → ends_of read ≡ ends_of opened → inner_of s.reader ≡ inner_of read
-    → ReadsOne Inner second (inner_of opened) (inner_of read) s.inner → ReadsOne End third (ends_of read) (ends_of s.reader) s.end → AreEmpty s last
-    → writers.Holds s.writer second [] → count_of (writers.filling_of s.writer) ≡ 0
-    → (IsTrue whole → HasArcs Inner inner made.inner_count (file first made.inner).bytes) → (IsTrue whole → HasArcs End ends made.ends_count (file first made.ends).bytes)
-    → Holds whole s last (at_first inner ends)
-held_at_first whole s made out first second third last opened read inner ends others cut looked again no_inner no_end ends_kept inner_kept one_inner one_end empty written none has_inner has_ends =
-    let inner_stays = as_before out made.inner first second third last (λ e. others.apart_inner (sym e)) cut looked again in
-    let ends_stays = as_before out made.ends first second third last (λ e. others.apart_ends (sym e)) cut looked again in
-    let inner_place : file_of (inner_of s.reader) ≡ made.inner = ap file_of inner_kept ∙ one_inner.place ∙ no_inner.place in
-    let ends_place : file_of (ends_of s.reader) ≡ made.ends = one_end.place ∙ ap file_of ends_kept ∙ no_end.place in
-    let no_end_yet : ReadsNothing End (ends_of read) made.ends made.ends_count = subst (λ r. ReadsNothing End r made.ends made.ends_count) (sym ends_kept) no_end in
-    record {
-      apart = record {
-        out_inner = λ e. others.apart_inner (sym (sym inner_place ∙ e ∙ others.out_is));
-        out_ends = λ e. others.apart_ends (sym (sym ends_place ∙ e ∙ others.out_is));
-        inner_made = λ free. others.inner_made (subst (CanBeTaken s.step s.next) inner_place free);
-        ends_made = λ free. others.ends_made (subst (CanBeTaken s.step s.next) ends_place free);
-        no_run = empty.no_run (out_of s);
-      };
-      queue_is = empty.queue_is;
-      inner_is = unread_begun whole Inner made.inner first second last (inner_of opened) (inner_of read) (inner_of s.reader) s.inner inner made.inner_count no_inner one_inner inner_kept
-          inner_stays.0 (inner_stays.1.1 ∙ inner_stays.1.0 ∙ inner_stays.0) has_inner;
-      ends_is = unread_begun whole End made.ends first third last (ends_of read) (ends_of s.reader) (ends_of s.reader) s.end ends made.ends_count no_end_yet one_end refl
-          (ends_stays.1.0 ∙ ends_stays.0) (ends_stays.1.1 ∙ ends_stays.1.0 ∙ ends_stays.0) has_ends;
-      rows_is = empty.rows_is;
-      names_is = empty.names_is;
-      nodes_is = nothing_written s.writer second third last looked again written;
-      nodes_many = sym none;
-    }
+module _ (a : Ahead) (w : NodeWriter) (made : Unreduced) (out : FileNo) (opened read : ArcReader) (first second third last : World) (begun : HasBegun a w made out opened read first second third last) where
+  inner_stays : (file second made.inner ≡ file first made.inner) × ((file third made.inner ≡ file second made.inner) × (file last made.inner ≡ file third made.inner))
+  inner_stays = as_before out made.inner first second third last (λ e. begun.apart_inner (sym e)) begun.cut begun.looked begun.again
+
+  ends_stays : (file second made.ends ≡ file first made.ends) × ((file third made.ends ≡ file second made.ends) × (file last made.ends ≡ file third made.ends))
+  ends_stays = as_before out made.ends first second third last (λ e. begun.apart_ends (sym e)) begun.cut begun.looked begun.again
+
+  no_end_yet : ReadsNothing End (ends_of read) made.ends made.ends_count
+  no_end_yet = subst (λ r. ReadsNothing End r made.ends made.ends_count) (sym begun.ends_kept) begun.no_end
+
+  -- so its files hold what it takes them to hold
+  pub work_begins : IsAtWork a.reader w last
+  work_begins = record {
+    writes = (nothing_written w second third last begun.looked begun.again begun.written).in_step;
+    reads_inner = reads_begun Inner made.inner first second last (inner_of opened) (inner_of read) (inner_of a.reader) a.inner made.inner_count begun.no_inner begun.one_inner begun.inner_kept
+        inner_stays.0 (inner_stays.1.1 ∙ inner_stays.1.0 ∙ inner_stays.0);
+    reads_ends = reads_begun End made.ends first third last (ends_of read) (ends_of a.reader) (ends_of a.reader) a.end made.ends_count no_end_yet begun.one_end refl
+        (ends_stays.1.0 ∙ ends_stays.0) (ends_stays.1.1 ∙ ends_stays.1.0 ∙ ends_stays.0);
+  }
+
+  -- and it holds all arcs of whole files
+  pub held_at_first : (l : Lists) (inner ends : List Arc) → AreEmpty a l last → count_of (writers.filling_of w) ≡ 0
+      → HasArcs Inner inner made.inner_count (file first made.inner).bytes → HasArcs End ends made.ends_count (file first made.ends).bytes → Holds a l w last (at_first inner ends)
+  held_at_first l inner ends empty none has_inner has_ends = record {
+    queue_is = empty.queue_is;
+    last_is = empty.last_is;
+    inner_is = unread_begun Inner made.inner first second last (inner_of opened) (inner_of read) (inner_of a.reader) a.inner inner made.inner_count begun.no_inner begun.one_inner begun.inner_kept
+        inner_stays.0 (inner_stays.1.1 ∙ inner_stays.1.0 ∙ inner_stays.0) has_inner;
+    ends_is = unread_begun End made.ends first third last (ends_of read) (ends_of a.reader) (ends_of a.reader) a.end ends made.ends_count no_end_yet begun.one_end refl
+        (ends_stays.1.0 ∙ ends_stays.0) (ends_stays.1.1 ∙ ends_stays.1.0 ∙ ends_stays.0) has_ends;
+    rows_is = empty.rows_is;
+    names_is = empty.names_is;
+    nodes_is = nothing_written w second third last begun.looked begun.again begun.written;
+    nodes_many = sym none;
+  }
 
 -- what is damaged in a file of which nothing was read is its last arc
 damaged_last : (kind : Kind) (g : FileNo) (count : ℕ) (first read : World) (s t : ArcStream) (f : FileNo) (at : ℕ) → ReadsNothing kind s g count → left_of s ≡ count → given_of s ≡ None
@@ -211,3 +221,19 @@ pub ends_damaged : {A : Type 0} (told : Type 0) (made : Unreduced) (first read :
 ends_damaged told made first read s t r Shelf is begun left given before up answer = subst (λ q. IfErr q (λ fault. told → IsDamageAtStart made first fault)) (sym is) (λ tells. tt)
 ends_damaged told made first read s t r (Damaged f at) is begun left given before up answer =
     subst (λ q. IfErr q (λ fault. told → IsDamageAtStart made first fault)) (sym is) (λ tells. inr (damaged_last End made.ends made.ends_count first read s t f at begun left given (before tells) up (answer tells)))
+
+module _ {S : Type 0} (tells : S → Bool) (world : S → World) (out : FileNo) where
+  -- the file of the nodes was emptied
+  pub was_cut : (s t : S) → Told tells s t (Cut 1 out 0 (world s) (world t)) → Told tells s t (Ran (DuringCut out 0 (now (world s))) (world s) (world t))
+  was_cut s t did = told tells s t _ _ did (λ _ cut. cut.run)
+
+  -- and another file was looked at
+  pub then_looked : (s t u : S) → Told tells s t (Ran (DuringCut out 0 (now (world s))) (world s) (world t)) → Told tells t u (Looked 1 (world t) (world u))
+      → Told tells s u (Ran (DuringCut out 0 (now (world s))) (world s) (world u))
+  then_looked s t u first second = told_then tells s t u _ _ _ first second (λ _ a b.
+      let cut = ran_end (world s) (world t) (DuringCut out 0 (now (world s))) a in
+      ran_joins (world s) (world t) (world u) (DuringCut out 0 (now (world s))) a
+      (ran_weakens (world t) (world u) (Stays (now (world t))) (DuringCut out 0 (now (world s))) (λ m same. record {
+        others = λ q other. ap (λ (d : Folder). file_in d q) same ∙ cut.others q other;
+        kept = λ front short kept. subst (λ (d : Folder). IsKept front (file_in d out)) (sym same) (cut.kept front short kept);
+      }) b.run))

@@ -1,136 +1,123 @@
--- a turn more is made, and a level opens: what is held stays
-use Rattle.std.proofs.Common.{◌≡◌, ◌≢◌, ℕ, ◌≤◌, ◌∙◌, sym, subst, arith}
-use Rattle.std.specs.Prelude.{◌^◌, [], Bool, true, false, Option, Some, None, IfSome, Result, Ok, Err, OnOk, IfErr}
-use Rattle.rec_words.specs.Words.{level_of}
+-- The phases within a turn: what is true in each, and what goes on from one to the next.
+use Rattle.std.proofs.Common.{◌≡◌, ◌≢◌, ℕ, ◌≤◌, ◌<◌, arith, refl, ap, sym, subst, ◌∙◌}
+use Rattle.std.proofs.lemmas.Bool.{false≢true}
+use Rattle.std.specs.Prelude.{Bool, true, false, None, IsTrue, Result, Ok, Err, OnOk, IfOk}
+use Rattle.shelf_model.specs.World.{World, file}
 use Rattle.shelf_model.specs.declared.sort_fault.SortFault.{SortFault}
-use Rattle.shelf_model.specs.World.{World}
-use Rattle.canon_file.specs.Members.{Has}
-use Rattle.arc_diagrams.specs.declared.final_arc.FinalArc.{FinalArc}
-use Rattle.level_queue.specs.Queues.{last_of}
+use Rattle.sweep_core.specs.declared.turn.Turn.{Turn}
+use Rattle.sweep_core.specs.declared.turn.Turn.TheVariants as turn
+use Rattle.sweep_core.specs.Sweeps.{Falls, AtEnd, IsFirm}
 use Rattle.reduce_sweep.specs.declared.source.Source.{Source}
+use Rattle.reduce_sweep.specs.declared.phase.Numbered.{Numbered}
 use Rattle.reduce_sweep.specs.declared.phase.Phase.{Phase}
-use Rattle.reduce_sweep.specs.declared.phase.Phase.TheVariants.{Collect, Number, Forward, Ended}
+use Rattle.reduce_sweep.specs.declared.phase.Phase.TheVariants.{Between, Collect, Number, Forward, Ended}
 use Rattle.reduce_sweep.specs.declared.reduce.ReduceSweep.{ReduceSweep}
-use Rattle.reduce_sweep.specs.Remaining.{Diagram, Contents, Holds, IsWorking, IsOnTheWay, RemainsIn, RemainsOf}
-use Rattle.reduce_sweep.specs.Held.{AreGone, AreOfLevel, IsHeld, IsInStep}
+use Rattle.reduce_sweep.specs.Sweeps.{out_of, IsGoing, count_at, count_in, fuel_at, turns_left, CountsAtEnd, Handles}
+use Rattle.reduce_sweep.specs.Calls.{IsAtWork, IsStepAt, IsInStep}
+use Rattle.reduce_sweep.specs.Remaining.{Diagram, IsWorking, RemainsIn, RemainsOf}
+use Rattle.reduce_sweep.specs.Changes.{IsDoneAt}
 
--- what it holds has nothing to do with the number of its turns
-holds_turned : (whole : Bool) (s : ReduceSweep) (world : World) (k : Contents) (turns : ℕ) (low : s.level ≤ 65535)
-    → Holds whole s world k → Holds whole (record s { turns = turns; low = low }) world k
-holds_turned whole s world k turns low holds = record {
-  apart = record {
-    out_inner = holds.apart.out_inner;
-    out_ends = holds.apart.out_ends;
-    inner_made = holds.apart.inner_made;
-    ends_made = holds.apart.ends_made;
-    no_run = holds.apart.no_run;
-  };
-  queue_is = holds.queue_is;
-  inner_is = holds.inner_is;
-  ends_is = holds.ends_is;
-  rows_is = holds.rows_is;
-  names_is = holds.names_is;
-  nodes_is = holds.nodes_is;
-  nodes_many = holds.nodes_many;
-}
+-- until it has ended, its files hold what it takes them to hold, and it works on what remains
+pub going_at_work : (p : Phase) (s : ReduceSweep) (world : World) → IsGoing p → IsStepAt p s world → IsAtWork s.ahead.reader s.writer world
+going_at_work Between s world going step = step
+going_at_work (Collect x) s world going step = step
+going_at_work (Number x) s world going step = step
+going_at_work Forward s world going step = step
+going_at_work (Ended n) s world going step = absurd (going n refl)
 
--- nor has what isn't there
-gone_turned : (p : Phase) (opened : Bool) (s : ReduceSweep) (k : Contents) (turns : ℕ) (low : s.level ≤ 65535)
-    → AreGone p opened s k → AreGone p opened (record s { turns = turns; low = low }) k
-gone_turned Collect false s k turns low gone = gone
-gone_turned Collect true s k turns low gone = gone
-gone_turned Number opened s k turns low gone = gone
-gone_turned Forward opened s k turns low gone = gone
-gone_turned Ended opened s k turns low gone = gone
+pub going_works : (p : Phase) (s : ReduceSweep) (world : World) (d : Diagram) → IsGoing p → RemainsIn p s world d → IsWorking s world d
+going_works Between s world d going remains = remains
+going_works (Collect x) s world d going remains = remains
+going_works (Number x) s world d going remains = remains
+going_works Forward s world d going remains = remains
+going_works (Ended n) s world d going remains = absurd (going n refl)
 
-pub step_turned : (s : ReduceSweep) (world : World) (turns : ℕ) (low : s.level ≤ 65535)
-    → IsInStep s world → IsInStep (record s { turns = turns; low = low }) world
-step_turned s world turns low step = λ going.
-    let held = step going in
-    record {
-      contents = held.contents;
-      holds = holds_turned false s world held.contents turns low held.holds;
-      here = record { rows_here = held.here.rows_here; names_here = held.here.names_here; source_here = held.here.source_here; taken = held.here.taken };
-      gone = gone_turned s.phase s.«open» s held.contents turns low held.gone;
-    }
+-- then turns are left
+pub going_left : (p : Phase) (n : ℕ) → IsGoing p → 0 < fuel_at p n
+going_left Between n going = omega arith
+going_left (Collect x) n going = omega arith
+going_left (Number x) n going = omega arith
+going_left Forward n going = omega arith
+going_left (Ended count) n going = absurd (going count refl)
 
--- nor has what remains
-in_turned : (p : Phase) (opened : Bool) (s : ReduceSweep) (d : Diagram) (k : Contents) (turns : ℕ) (low : s.level ≤ 65535)
-    → RemainsIn p opened s d k → RemainsIn p opened (record s { turns = turns; low = low }) d k
-in_turned Collect false s d k turns low r = record {
-  within = r.within;
-  remains = r.remains;
-  no_rows = r.no_rows;
-  no_names = r.no_names;
-  no_source = r.no_source;
-  unnumbered = record { number_is = r.unnumbered.number_is; pair_is = r.unnumbered.pair_is };
-}
-in_turned Collect true s d k turns low r = record {
-  collecting = r.collecting;
-  one = r.one;
-  unnumbered = record { number_is = r.unnumbered.number_is; pair_is = r.unnumbered.pair_is };
-}
-in_turned Number opened s d k turns low r = (r.0, record { numbering = r.1.numbering; number_is = r.1.number_is; no_source = r.1.no_source })
-in_turned Forward opened s d k turns low r = record {
-  forwarding = r.forwarding;
-  no_rows = r.no_rows;
-  no_source = r.no_source;
-  unnumbered = record { number_is = r.unnumbered.number_is; pair_is = r.unnumbered.pair_is };
-}
-in_turned Ended opened s d k turns low r = absurd r
+-- and the other way round
+pub left_step : (p : Phase) (n : ℕ) (s : ReduceSweep) (world : World) → 0 < fuel_at p n → IsAtWork s.ahead.reader s.writer world → IsStepAt p s world
+left_step Between n s world left work = work
+left_step (Collect x) n s world left work = work
+left_step (Number x) n s world left work = work
+left_step Forward n s world left work = work
+left_step (Ended count) n s world left work = absurd (omega (arith, left))
 
-working_turned : (s : ReduceSweep) (world : World) (d : Diagram) (turns : ℕ) (low : s.level ≤ 65535)
-    → IsWorking s world d → IsWorking (record s { turns = turns; low = low }) world d
-working_turned s world d turns low w = record {
-  contents = w.contents;
-  holds = holds_turned true s world w.contents turns low w.holds;
-  remains = in_turned s.phase s.«open» s d w.contents turns low w.remains;
-}
+pub left_remains : (p : Phase) (n : ℕ) (s : ReduceSweep) (world : World) (d : Diagram) → 0 < fuel_at p n → IsWorking s world d → RemainsIn p s world d
+left_remains Between n s world d left working = working
+left_remains (Collect x) n s world d left working = working
+left_remains (Number x) n s world d left working = working
+left_remains Forward n s world d left working = working
+left_remains (Ended count) n s world d left working = absurd (omega (arith, left))
 
-way_turned : (p : Phase) (s : ReduceSweep) (world : World) (d : Diagram) (turns : ℕ) (low : s.level ≤ 65535)
-    → IsOnTheWay p s world d → IsOnTheWay p (record s { turns = turns; low = low }) world d
-way_turned Collect s world d turns low w = working_turned s world d turns low w
-way_turned Number s world d turns low w = working_turned s world d turns low w
-way_turned Forward s world d turns low w = working_turned s world d turns low w
-way_turned Ended s world d turns low w = record { firm = w.firm; count_is = w.count_is }
+pub left_counts : (p : Phase) (n : ℕ) → 0 < fuel_at p n → count_at p ≡ None
+left_counts Between n left = refl
+left_counts (Collect x) n left = refl
+left_counts (Number x) n left = refl
+left_counts Forward n left = refl
+left_counts (Ended count) n left = absurd (omega (arith, left))
 
-pub remains_turned : (s : ReduceSweep) (world : World) (d : Diagram) (turns : ℕ) (low : s.level ≤ 65535)
-    → RemainsOf s world d → RemainsOf (record s { turns = turns; low = low }) world d
-remains_turned s world d turns low r = record {
-  is_of = record { few = r.is_of.few; few_arcs = r.is_of.few_arcs; diagram = r.is_of.diagram };
-  on_the_way = way_turned s.phase s world d turns low r.on_the_way;
-}
+-- once the count of nodes is known, it has ended
+done_in : (p : Phase) (t : Turn) (s : ReduceSweep) (world : World) (d : Diagram) → p ≡ s.place.phase → CountsAtEnd t (count_at p) → RemainsIn p s world d → IsDoneAt t s world d
+done_in p turn.More s world d is counts remains = tt
+done_in Between turn.Ended s world d is counts remains = absurd (false≢true counts)
+done_in (Collect x) turn.Ended s world d is counts remains = absurd (false≢true counts)
+done_in (Number x) turn.Ended s world d is counts remains = absurd (false≢true counts)
+done_in Forward turn.Ended s world d is counts remains = absurd (false≢true counts)
+done_in (Ended n) turn.Ended s world d is counts remains = remains
 
--- between levels there are neither rows nor names nor a source, and an open level may have some
-gone_between : (opened : Bool) (s : ReduceSweep) (k : Contents) → k.rows ≡ [] → k.names ≡ [] → s.source ≡ None → AreGone Collect opened s k
-gone_between false s k rows names source = (rows, names, source)
-gone_between true s k rows names source = tt
+firm_in : (p : Phase) (s : ReduceSweep) (world : World) → CountsAtEnd turn.Ended (count_at p) → IsStepAt p s world → IsFirm (file world (out_of s))
+firm_in Between s world counts step = absurd (false≢true counts)
+firm_in (Collect x) s world counts step = absurd (false≢true counts)
+firm_in (Number x) s world counts step = absurd (false≢true counts)
+firm_in Forward s world counts step = absurd (false≢true counts)
+firm_in (Ended n) s world counts step = step
 
--- a shallower level opens, or none does: nothing else is there
-pub opens_held : (s t : ReduceSweep) (k : Contents) → t.phase ≡ Collect → t.source ≡ s.source → last_of t.queue ≡ last_of s.queue → t.level ≤ s.level
-    → AreGone Collect false s k → AreOfLevel s k → AreOfLevel t k × AreGone t.phase t.«open» t k
-opens_held s t k phase source last level gone here =
-    let none : t.source ≡ None = source ∙ gone.2 in (
-      record {
-        rows_here = λ r member. absurd (subst (λ rows. Has r rows) gone.0 member);
-        names_here = λ m member. absurd (subst (λ names. Has m names) gone.1 member);
-        source_here = subst (λ (o : Option Source). IfSome o (λ x. level_of x.uid ≡ t.level)) (sym none) tt;
-        taken = subst (λ (o : Option FinalArc). IfSome o (λ a. t.level ≤ level_of a.source)) (sym last) (deeper (last_of s.queue) here.taken);
-      },
-      subst (λ p. AreGone p t.«open» t k) (sym phase) (gone_between t.«open» t k gone.0 gone.1 none),
-    )
-  where
-    deeper : (o : Option FinalArc) → IfSome o (λ a. s.level ≤ level_of a.source) → IfSome o (λ a. t.level ≤ level_of a.source)
-    deeper None below = tt
-    deeper (Some a) below = omega (arith, below, level)
+-- so a turn that ends it leaves the canonical file, which stays whatever a stop leaves
+pub turn_reduces : (told : Type 0) (s t : ReduceSweep) (old new : World) (result : Result Turn SortFault) → IfOk result (λ turn. CountsAtEnd turn (count_in t))
+    → OnOk result (told → (d : Diagram) → RemainsOf s old d → RemainsOf t new d) → IfOk result (λ turn. told → (d : Diagram) → RemainsOf s old d → IsDoneAt turn t new d)
+turn_reduces told s t old new (Ok x) counts keeps = λ tell d remains. done_in t.place.phase x t new d refl counts (keeps tell d remains)
+turn_reduces told s t old new (Err e) counts keeps = tt
 
--- what goes on from a sweep that isn't at its end
-pub step_then : {A : Type 0} (told after before : Type 0) (s u t : ReduceSweep) (old mid new : World) (result : Result A SortFault) → s.phase ≢ Ended → (told → after) → (after → before)
-    → (before → IsInStep s old) → (after → IsHeld s old → IsHeld u mid) → OnOk result (told → IsHeld u mid → IsInStep t new) → OnOk result (told → IsInStep t new)
-step_then told after before s u t old mid new (Err e) going first second step held next = tt
-step_then told after before s u t old mid new (Ok x) going first second step held next = λ tell. next tell (held (first tell) (step (second (first tell)) going))
+pub turn_firm : (told : Type 0) (t : ReduceSweep) (new : World) (result : Result Turn SortFault) → IfOk result (λ turn. CountsAtEnd turn (count_in t)) → OnOk result (told → IsInStep t new)
+    → AtEnd result (told → IsFirm (file new (out_of t)))
+turn_firm told t new (Ok turn.More) counts step = tt
+turn_firm told t new (Ok turn.Ended) counts step = λ tell. firm_in t.place.phase t new counts (step tell)
+turn_firm told t new (Err e) counts step = tt
 
-pub step_damage : {A : Type 0} (told : Type 0) (P : Type 0) (Q : SortFault → Type 0) (result : Result A SortFault) → (told → P) → IfErr result (λ e. told → P → Q e)
-    → IfErr result (λ e. told → Q e)
-step_damage told P Q (Ok x) step damage = tt
-step_damage told P Q (Err e) step damage = λ tell. damage tell (step tell)
+-- what follows where the call was Ok
+pub on_ok_weaker : {T E P Q : Type 0} (result : Result T E) → (P → Q) → OnOk result P → OnOk result Q
+on_ok_weaker (Ok x) weaker p = weaker p
+on_ok_weaker (Err e) weaker p = tt
+
+pub on_ok_both : {T E P Q R : Type 0} (result : Result T E) → (P → Q → R) → OnOk result P → OnOk result Q → OnOk result R
+on_ok_both (Ok x) both p q = both p q
+on_ok_both (Err e) both p q = tt
+
+-- where the phase is over, the next one handles an item or is over too
+pub handles_then : (middle after : Phase) (s t u : ReduceSweep) (result : Result Bool SortFault) → Handles middle s t false → IfOk result (Handles after t u) → IfOk result (Handles after s u)
+handles_then middle after s t u (Ok true) first next = let one : turns_left t ≤ turns_left s = first.1 in let two : turns_left u < turns_left t = next.1 in (next.0, omega (arith, one, two))
+handles_then middle after s t u (Ok false) first next =
+    let one : turns_left t ≤ turns_left s = first.1 in
+    let two : turns_left u ≤ turns_left t = next.1 in
+    (next.0, omega (arith, one, two), next.2 ∙ first.2)
+handles_then middle after s t u (Err e) first next = tt
+
+-- and then the next level opens, or all is done
+pub falls_then : (middle : Phase) (s t u : ReduceSweep) (result : Result Turn SortFault) → Handles middle s t false → Falls (turns_left t) (turns_left u) result → Falls (turns_left s) (turns_left u) result
+falls_then middle s t u (Ok turn.More) first next = let one : turns_left t ≤ turns_left s = first.1 in let two : turns_left u < turns_left t = next.1 in (next.0, omega (arith, one, two))
+falls_then middle s t u (Ok turn.Ended) first next = next
+falls_then middle s t u (Err e) first next = tt
+
+-- a phase that is none of these is the one between levels
+pub between_where : (p : Phase) → ((x : Source) → p ≢ Collect x) → ((x : Numbered) → p ≢ Number x) → p ≢ Forward → IsGoing p → p ≡ Between
+between_where Between collect number forward going = refl
+between_where (Collect x) collect number forward going = absurd (collect x refl)
+between_where (Number x) collect number forward going = absurd (number x refl)
+between_where Forward collect number forward going = absurd (forward refl)
+between_where (Ended n) collect number forward going = absurd (going n refl)

@@ -1,4 +1,4 @@
--- files of arcs in order aren't damaged
+-- Files of arcs in order aren't damaged.
 use Rattle.std.proofs.Common.{All, ◌≡◌, ◌≢◌, ℕ, ◌+◌, ◌-◌, ◌<◌, Bool, true, false, List, [], ◌∷◌, ◌++◌, length, get_or, sym, ap, subst, ◌∙◌, inl, inr, arith}
 use Rattle.std.proofs.lemmas.Bool.{true≢false}
 use Rattle.std.specs.Prelude.{Option, Some, None, Result, Ok, Err, IfErr}
@@ -23,12 +23,10 @@ use Rattle.arc_file.specs.ArcLaws.{same_arc}
 use Rattle.arc_file.specs.Files.{Leads, HasArcs, IsArcAt, IsDamagedArc, IsInOrder, is_before}
 use Rattle.arc_file.specs.Streams.{left_of, given_of, IsInOrderBefore, AreLeft}
 use Rattle.arc_file.specs.Readers.{inner_of, ends_of}
-use Rattle.reduce_sweep.specs.declared.phase.Phase.TheVariants.{Ended}
 use Rattle.reduce_sweep.specs.declared.reduce.ReduceSweep.{ReduceSweep}
-use Rattle.reduce_sweep.specs.Remaining.{Diagram, Contents, Holds, IsUnread, RemainsOf}
+use Rattle.reduce_sweep.specs.Remaining.{Diagram, Contents, Holds, IsUnread, IsWorking, RemainsOf}
 use Rattle.sweep_core.specs.Sweeps.{IsNoDamage}
-use Rattle.reduce_sweep.specs.Held.{IsDamageOf, IsDamageAtStart}
-use Rattle.reduce_sweep.proofs.LevelKeeps.{working_from}
+use Rattle.reduce_sweep.specs.Damage.{IsDamageOf, IsDamageAtStart}
 
 -- what stands behind others in order doesn't come before the last of them
 last_first : {X : Type 0} (lt : X → X → Bool) (xs : List X) (m : ℕ) (d y : X) → length xs ≡ m + 1 → IsSortedBy lt (xs ++ y ∷ []) → lt y (get_or xs m d) ≡ false
@@ -97,26 +95,26 @@ begins_undamaged told made world (Ok x) damage = tt
 begins_undamaged told made world (Err e) damage = λ tells inner ends has_inner has_ends. none_in_files made world e inner ends has_inner has_ends (damage tells)
 
 -- where the arcs that aren't handled are known, the next record isn't damaged
-none_unhandled : (kind : Kind) (next : Option Arc) (s : ArcStream) (bytes : List ℕ) (xs : List Arc) → IsUnread true kind next s bytes xs → 0 < left_of s
+none_unhandled : (kind : Kind) (next : Option Arc) (s : ArcStream) (bytes : List ℕ) (xs : List Arc) → IsUnread kind next s bytes xs → 0 < left_of s
     → ¬ IsDamagedArc kind (left_of s - 1) bytes (given_of s)
 none_unhandled kind None s bytes xs unread some damaged = absurd (omega (arith, unread.1, some))
 none_unhandled kind (Some a) s bytes xs unread some damaged = none_next kind s bytes unread.0 unread.2.left some damaged
 
-none_held : (s : ReduceSweep) (world : World) (k : Contents) (e : SortFault) → Holds true s world k → IsDamageOf s world e → IsNoDamage e
+none_held : (s : ReduceSweep) (world : World) (k : Contents) (e : SortFault) → Holds s.ahead s.lists s.writer world k → IsDamageOf s.ahead.reader world e → IsNoDamage e
 none_held s world k Shelf holds damage = tt
 none_held s world k (Damaged f at) holds damage = elim damage [
-  | inl d ↦ none_unhandled Inner s.inner (inner_of s.reader) (file world f).bytes k.inner
-      (subst (λ (g : File). IsUnread true Inner s.inner (inner_of s.reader) g.bytes k.inner) (sym (ap (file world) d.file_is)) holds.inner_is) d.some d.damaged
-  | inr d ↦ none_unhandled End s.end (ends_of s.reader) (file world f).bytes k.ends
-      (subst (λ (g : File). IsUnread true End s.end (ends_of s.reader) g.bytes k.ends) (sym (ap (file world) d.file_is)) holds.ends_is) d.some d.damaged
+  | inl d ↦ none_unhandled Inner s.ahead.inner (inner_of s.ahead.reader) (file world f).bytes k.inner
+      (subst (λ (g : File). IsUnread Inner s.ahead.inner (inner_of s.ahead.reader) g.bytes k.inner) (sym (ap (file world) d.file_is)) holds.inner_is) d.some d.damaged
+  | inr d ↦ none_unhandled End s.ahead.end (ends_of s.ahead.reader) (file world f).bytes k.ends
+      (subst (λ (g : File). IsUnread End s.ahead.end (ends_of s.ahead.reader) g.bytes k.ends) (sym (ap (file world) d.file_is)) holds.ends_is) d.some d.damaged
 ]
 none_held s world k RunsSpent holds damage = tt
 none_held s world k RoomFull holds damage = tt
 
 -- so a turn of what remains of a diagram finds no damage
-pub turns_undamaged : {A : Type 0} (told : Type 0) (s : ReduceSweep) (world : World) (r : Result A SortFault) (e : SortFault) → r ≡ Err e → s.phase ≢ Ended → (told → IsDamageOf s world e)
-    → IfErr r (λ fault. told → (d : Diagram) → RemainsOf s world d → IsNoDamage fault)
-turns_undamaged told s world r e is going damage =
-    subst (λ q. IfErr q (λ fault. told → (d : Diagram) → RemainsOf s world d → IsNoDamage fault)) (sym is) (λ tells d remains.
-    let working = working_from s.phase s world d going remains.on_the_way in
-    none_held s world working.contents e working.holds (damage tells))
+pub turns_undamaged : {A : Type 0} (told : Type 0) (s : ReduceSweep) (world : World) (result : Result A SortFault) → ((d : Diagram) → RemainsOf s world d → IsWorking s world d)
+    → IfErr result (λ e. told → IsDamageOf s.ahead.reader world e) → IfErr result (λ e. told → (d : Diagram) → RemainsOf s world d → IsNoDamage e)
+turns_undamaged told s world (Ok x) works damage = tt
+turns_undamaged told s world (Err e) works damage = λ tell d remains.
+    let working = works d remains in
+    none_held s world working.contents e working.holds (damage tell)

@@ -1,5 +1,6 @@
 pub mod Sources
 pub mod Sweeps
+pub mod Damage
+pub mod Calls
 pub mod Remaining
 pub mod Changes
-pub mod Held

@@ -1,7 +1,7 @@
--- what a reduction holds as lists, and what remains of it
-use Rattle.std.specs.Prelude.{◌≡◌, ◌≢◌, ◌⊎◌, ℕ, ◌≤◌, ◌^◌, Bool, true, false, List, [], ◌∷◌, ◌++◌, map, length, Option, Some, None}
+-- What a reduction holds as lists, and what remains of it: a relation between its place and these lists.
+use Rattle.std.specs.Prelude.{◌≡◌, ℕ, ◌≤◌, ◌^◌, Bool, List, [], ◌∷◌, ◌++◌, map, length, Option, Some, None, IfSome}
+use Rattle.rec_words.specs.Words.{level_of}
 use Rattle.rec_words.specs.declared.node.Node.{Node}
-use Rattle.shelf_model.specs.declared.file_no.FileNo.{FileNo}
 use Rattle.shelf_model.specs.File.{firm_file}
 use Rattle.shelf_model.specs.World.{World, file}
 use Rattle.canon_file.specs.declared.row.Row.{Row}
@@ -19,155 +19,143 @@ use Rattle.arc_diagrams.specs.Reducing.{Remains, IsCollecting, IsNumbering, IsFo
 use Rattle.arc_diagrams.specs.declared.final_arc.FinalArc.{FinalArc}
 use Rattle.arc_diagrams.specs.declared.source_row.SourceRow.{SourceRow}
 use Rattle.arc_diagrams.specs.declared.name.Name.{Name}
+use Rattle.run_merge.specs.declared.sorter.Sorter.{Sorter}
 use Rattle.run_merge.specs.Sorters as sorters
+use Rattle.level_queue.specs.declared.queue.LevelQueue.{LevelQueue}
 use Rattle.level_queue.specs.Queues as queues
 use Rattle.block_stream.specs.Writes.{count_of}
+use Rattle.node_file.specs.declared.writer.NodeWriter.{NodeWriter}
 use Rattle.node_file.specs.Writers as writers
 use Rattle.reduce_sweep.specs.declared.source.Source.{Source}
+use Rattle.reduce_sweep.specs.declared.phase.Numbered.{Numbered}
 use Rattle.reduce_sweep.specs.declared.phase.Phase.{Phase}
-use Rattle.reduce_sweep.specs.declared.phase.Phase.TheVariants.{Collect, Number, Forward, Ended}
+use Rattle.reduce_sweep.specs.declared.phase.Phase.TheVariants.{Between, Collect, Number, Forward, Ended}
+use Rattle.reduce_sweep.specs.declared.place.Place.{Place}
+use Rattle.reduce_sweep.specs.declared.reduce.Ahead.{Ahead}
+use Rattle.reduce_sweep.specs.declared.reduce.Lists.{Lists}
 use Rattle.reduce_sweep.specs.declared.reduce.ReduceSweep.{ReduceSweep}
-use Rattle.reduce_sweep.specs.Sweeps.{out_of, inner_file, ends_file, CanBeTaken}
+use Rattle.reduce_sweep.specs.Sweeps.{out_of, count_in}
 
 -- a diagram that is to be reduced: its arcs, and the table that they stand for
 pub record Diagram : Type 0 where
   pub arcs : List Arc
   pub table : List Bool
 
--- the arc was read last, and these stand before it
-pub record IsReading (kind : Kind) (s : ArcStream) (bytes : List ℕ) (front : List Arc) (a : Arc) : Type 0 where
-  pub given : streams.given_of s ≡ Some a
-  pub reads : streams.Reads kind s bytes
-  pub left : streams.AreLeft kind s bytes front
-
--- what was read is as the bytes say, and the next arc is the one that was given last
-pub record IsReadOn (kind : Kind) (next : Option Arc) (s : ArcStream) (bytes : List ℕ) : Type 0 where
-  pub reads : streams.Reads kind s bytes
-  pub given : (a : Arc) → next ≡ Some a → streams.given_of s ≡ Some a
-
--- the arcs that aren't handled: the one that was read last, and those before it. Where the bytes needn't be those
--- of arcs it is only said what was read
-abbrev pub IsUnread : Bool → Kind → Option Arc → ArcStream → List ℕ → List Arc → Type 0
-IsUnread false kind next s bytes xs = IsReadOn kind next s bytes
-IsUnread true kind None s bytes xs = (xs ≡ []) × (streams.left_of s ≡ 0)
-IsUnread true kind (Some a) s bytes xs = (front : List Arc) × (xs ≡ front ++ a ∷ []) × IsReading kind s bytes front a
-
--- what the queue and the sorters hold, which arcs of either file aren't handled, and which nodes were put
+-- what the queue and the sorters hold, the last arc that was taken from the queue, which arcs of either file aren't handled,
+-- and which nodes were put
 pub record Contents : Type 0 where
   pub queue : List FinalArc
+  pub last : Option FinalArc
   pub inner : List Arc
   pub ends : List Arc
   pub rows : List SourceRow
   pub names : List Name
   pub nodes : List Node
 
--- the file is a run of one of the lists
-abbrev pub IsRun : ReduceSweep → FileNo → Type 0
-IsRun s f = queues.IsRunOf s.queue f ⊎ (sorters.IsRunOf s.rows f ⊎ sorters.IsRunOf s.names f)
-
--- the three files differ, the parts can't give those of arcs, and that of the nodes is no run
-pub record AreApart (s : ReduceSweep) : Type 0 where
-  pub out_inner : inner_file s ≢ out_of s
-  pub out_ends : ends_file s ≢ out_of s
-  pub inner_made : ¬ CanBeTaken s.step s.next (inner_file s)
-  pub ends_made : ¬ CanBeTaken s.step s.next (ends_file s)
-  pub no_run : ¬ IsRun s (out_of s)
-
--- in that world the sweep holds these; the arcs that aren't handled are those of `k` where both files are whole
-pub record Holds (whole : Bool) (s : ReduceSweep) (world : World) (k : Contents) : Type 0 where
-  pub apart : AreApart s
-  pub queue_is : queues.Lists IsFinalArc final_arc_words final_arc_cmp s.queue world k.queue
-  pub inner_is : IsUnread whole Inner s.inner (inner_of s.reader) (file world (inner_file s)).bytes k.inner
-  pub ends_is : IsUnread whole End s.end (ends_of s.reader) (file world (ends_file s)).bytes k.ends
-  pub rows_is : sorters.Lists IsSourceRow source_row_words source_row_cmp s.rows world k.rows
-  pub names_is : sorters.Lists IsName name_words name_cmp s.names world k.names
-  pub nodes_is : writers.Holds s.writer world (node_bytes k.nodes)
-  pub nodes_many : length k.nodes ≡ count_of (writers.filling_of s.writer)
-
--- the arcs of the source at hand that were noted
-abbrev pub noted : Option Source → List Arc
-noted None = []
-noted (Some source) = noted_arcs source.uid source.low source.high
-
--- the row that was numbered last
-abbrev pub last_row : Option (ℕ × ℕ) → Option Row
-last_row None = None
-last_row (Some (low, high)) = Some (record { low = low; high = high })
-
 -- the arcs that are to be collected: those of the queue with their final targets, and those to truth values that aren't handled
 abbrev pub to_collect : Contents → List Arc
 to_collect k = map as_arc k.queue ++ k.ends
 
--- no row has a number yet
-pub record AreUnnumbered (s : ReduceSweep) : Type 0 where
-  pub number_is : s.number ≡ 0
-  pub pair_is : s.pair ≡ None
+-- the arcs of the source at hand that were noted
+abbrev pub noted : Source → List Arc
+noted source = noted_arcs source.uid source.low source.high
 
--- the deeper levels are done, and no source is at hand
-pub record IsBetween (s : ReduceSweep) (d : Diagram) (k : Contents) : Type 0 where
-  pub within : s.level ≤ s.writer.n
-  pub remains : Remains s.writer.n s.root s.level d.arcs (to_collect k) k.inner k.nodes s.known
+-- the deeper levels are done
+pub record IsBetween (n root level : ℕ) (known : Option ℕ) (d : Diagram) (k : Contents) : Type 0 where
+  pub within : level ≤ n
+  pub remains : Remains n root level d.arcs (to_collect k) k.inner k.nodes known
   pub no_rows : k.rows ≡ []
   pub no_names : k.names ≡ []
-  pub no_source : s.source ≡ None
-  pub unnumbered : AreUnnumbered s
 
--- an arc of the source at hand was noted
-abbrev pub HasOne : Option Source → Type 0
-HasOne None = Unit
-HasOne (Some source) = (p : Arc) × Has p (noted_arcs source.uid source.low source.high)
-
--- the sources of the level are collected
-pub record AreCollected (s : ReduceSweep) (d : Diagram) (k : Contents) : Type 0 where
-  pub collecting : IsCollecting s.writer.n s.root s.level d.arcs (to_collect k) (noted s.source) k.inner k.rows k.names k.nodes s.known
-  pub one : HasOne s.source
-  pub unnumbered : AreUnnumbered s
+-- the sources of the level are collected, and an arc of the one at hand was noted
+pub record IsCollected (n root level : ℕ) (known : Option ℕ) (source : Source) (d : Diagram) (k : Contents) : Type 0 where
+  pub collecting : IsCollecting n root level d.arcs (to_collect k) (noted source) k.inner k.rows k.names k.nodes known
+  pub one : (p : Arc) × Has p (noted source)
 
 -- some rows have numbers: as many as were given, and the last of them is at hand
-pub record AreNumbered (s : ReduceSweep) (d : Diagram) (k : Contents) (done : List Row) : Type 0 where
-  pub numbering : IsNumbering s.writer.n s.root s.level d.arcs (to_collect k) k.inner done (last_row s.pair) k.rows k.names k.nodes s.known
-  pub number_is : s.number ≡ length done
-  pub no_source : s.source ≡ None
+pub record IsNumbered (n root level : ℕ) (known : Option ℕ) (numbered : Numbered) (d : Diagram) (k : Contents) : Type 0 where
+  pub done : List Row
+  pub numbering : IsNumbering n root level d.arcs (to_collect k) k.inner done numbered.last k.rows k.names k.nodes known
+  pub number_is : numbered.number ≡ length done
 
 -- names are forwarded
-pub record AreForwarded (s : ReduceSweep) (d : Diagram) (k : Contents) : Type 0 where
-  pub forwarding : IsForwarding s.writer.n s.root s.level d.arcs (to_collect k) k.inner k.names k.nodes s.known
+pub record IsForwarded (n root level : ℕ) (known : Option ℕ) (d : Diagram) (k : Contents) : Type 0 where
+  pub forwarding : IsForwarding n root level d.arcs (to_collect k) k.inner k.names k.nodes known
   pub no_rows : k.rows ≡ []
-  pub no_source : s.source ≡ None
-  pub unnumbered : AreUnnumbered s
 
--- what remains in each phase, of what the sweep holds
-abbrev pub RemainsIn : Phase → Bool → ReduceSweep → Diagram → Contents → Type 0
-RemainsIn Collect false s d k = IsBetween s d k
-RemainsIn Collect true s d k = AreCollected s d k
-RemainsIn Number opened s d k = (done : List Row) × AreNumbered s d k done
-RemainsIn Forward opened s d k = AreForwarded s d k
-RemainsIn Ended opened s d k = ⊥
+-- what remains in each phase
+abbrev pub RemainsAt : Phase → ℕ → ℕ → ℕ → Option ℕ → Diagram → Contents → Type 0
+RemainsAt Between n root level known d k = IsBetween n root level known d k
+RemainsAt (Collect source) n root level known d k = IsCollected n root level known source d k
+RemainsAt (Number numbered) n root level known d k = IsNumbered n root level known numbered d k
+RemainsAt Forward n root level known d k = IsForwarded n root level known d k
+RemainsAt (Ended count) n root level known d k = ⊥
 
--- while the sweep works: what it holds is what remains in its phase
+-- the diagram is one of so many variables and of that root, of at most 2 ^ 47 arcs
+pub record IsOf (n root : ℕ) (d : Diagram) : Type 0 where
+  pub few : n ≤ 65535
+  pub few_arcs : length d.arcs ≤ 2 ^ 47
+  pub diagram : IsDiagramOf n root d.arcs d.table
+
+-- what was taken last is of that level or a deeper one
+abbrev pub IsTakenTo : ℕ → Option FinalArc → Type 0
+IsTakenTo level last = IfSome last (λ a. level ≤ level_of a.source)
+
+-- what remains to be done from a place on, with these lists
+pub record IsLeft (p : Place) (d : Diagram) (k : Contents) : Type 0 where
+  pub is_of : IsOf p.variables p.root d
+  pub taken : IsTakenTo p.level k.last
+  pub remains : RemainsAt p.phase p.variables p.root p.level p.known d k
+
+-- the arc was read last, and these stand before it
+pub record IsReading (kind : Kind) (s : ArcStream) (bytes : List ℕ) (front : List Arc) (a : Arc) : Type 0 where
+  pub given : streams.given_of s ≡ Some a
+  pub left : streams.AreLeft kind s bytes front
+
+-- the arcs that aren't handled: the one that was read last, and those before it
+abbrev pub IsUnread : Kind → Option Arc → ArcStream → List ℕ → List Arc → Type 0
+IsUnread kind None s bytes xs = (xs ≡ []) × (streams.left_of s ≡ 0)
+IsUnread kind (Some a) s bytes xs = (front : List Arc) × (xs ≡ front ++ a ∷ []) × IsReading kind s bytes front a
+
+-- the lists of the queue, of the rows and of the names
+abbrev pub QueueLists : LevelQueue FinalArc → World → List FinalArc → Type 0
+QueueLists q world xs = queues.Lists IsFinalArc final_arc_words final_arc_cmp q world xs
+
+abbrev pub RowLists : Sorter SourceRow → World → List SourceRow → Type 0
+RowLists s world xs = sorters.Lists IsSourceRow source_row_words source_row_cmp s world xs
+
+abbrev pub NameLists : Sorter Name → World → List Name → Type 0
+NameLists s world xs = sorters.Lists IsName name_words name_cmp s world xs
+
+-- in that world they hold these
+pub record Holds (a : Ahead) (l : Lists) (w : NodeWriter) (world : World) (k : Contents) : Type 0 where
+  pub queue_is : QueueLists a.queue world k.queue
+  pub last_is : queues.last_of a.queue ≡ k.last
+  pub inner_is : IsUnread Inner a.inner (inner_of a.reader) (file world (streams.file_of (inner_of a.reader))).bytes k.inner
+  pub ends_is : IsUnread End a.end (ends_of a.reader) (file world (streams.file_of (ends_of a.reader))).bytes k.ends
+  pub rows_is : RowLists l.rows world k.rows
+  pub names_is : NameLists l.names world k.names
+  pub nodes_is : writers.Holds w world (node_bytes k.nodes)
+  pub nodes_many : length k.nodes ≡ count_of (writers.filling_of w)
+
+-- while the sweep works: what it holds is what remains from its place on
 pub record IsWorking (s : ReduceSweep) (world : World) (d : Diagram) : Type 0 where
   pub contents : Contents
-  pub holds : Holds true s world contents
-  pub remains : RemainsIn s.phase s.«open» s d contents
+  pub holds : Holds s.ahead s.lists s.writer world contents
+  pub left : IsLeft s.place d contents
 
 -- the file has the canonical bytes of the table, whatever a stop leaves, and its nodes are counted
 pub record IsReduced (s : ReduceSweep) (world : World) (d : Diagram) : Type 0 where
-  pub firm : file world (out_of s) ≡ firm_file (canon_bytes s.writer.n d.table)
-  pub count_is : s.count ≡ Some (length (canon_nodes s.writer.n d.table))
-
-abbrev pub IsOnTheWay : Phase → ReduceSweep → World → Diagram → Type 0
-IsOnTheWay Ended s world d = IsReduced s world d
-IsOnTheWay Collect s world d = IsWorking s world d
-IsOnTheWay Number s world d = IsWorking s world d
-IsOnTheWay Forward s world d = IsWorking s world d
-
--- the diagram is one of the sweep's variables and root, of at most 2 ^ 47 arcs
-pub record IsOf (s : ReduceSweep) (d : Diagram) : Type 0 where
-  pub few : s.writer.n ≤ 65535
-  pub few_arcs : length d.arcs ≤ 2 ^ 47
-  pub diagram : IsDiagramOf s.writer.n s.root d.arcs d.table
+  pub firm : file world (out_of s) ≡ firm_file (canon_bytes s.place.variables d.table)
+  pub count_is : count_in s ≡ Some (length (canon_nodes s.place.variables d.table))
 
 -- what remains of the reduction of a diagram leads to the canonical file of its table
-pub record RemainsOf (s : ReduceSweep) (world : World) (d : Diagram) : Type 0 where
-  pub is_of : IsOf s d
-  pub on_the_way : IsOnTheWay s.phase s world d
+abbrev pub RemainsIn : Phase → ReduceSweep → World → Diagram → Type 0
+RemainsIn Between s world d = IsWorking s world d
+RemainsIn (Collect source) s world d = IsWorking s world d
+RemainsIn (Number numbered) s world d = IsWorking s world d
+RemainsIn Forward s world d = IsWorking s world d
+RemainsIn (Ended count) s world d = IsReduced s world d
+
+abbrev pub RemainsOf : ReduceSweep → World → Diagram → Type 0
+RemainsOf s world d = RemainsIn s.place.phase s world d

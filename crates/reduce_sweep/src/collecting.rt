@@ -2,193 +2,113 @@
 ghost use Rattle.std.specs.Prelude.{◌≡◌, ◌≤◌};
 ghost use Rattle.rec_words.specs.Words.{level_of};
 
-use crate::phase::Phase;
+use crate::phase::{Numbered, Phase};
 use crate::reduce::ReduceSweep;
 use crate::source::Source;
-use arc_diagrams::{FinalArc, Name, SourceRow};
+use arc_diagrams::{FinalArc, Name};
+use rec_words::Uid;
 use shelf_model::{Shelf, SortFault};
 
 impl<'r> ReduceSweep<'r> {
-    ghost use Rattle.std.specs.Prelude.{◌≢◌, ◌+◌, Bool, IsTrue, false, true, OnOk, IfOk, IfErr, None, IsSome};
-    ghost use Rattle.shelf_model.specs.World.{now};
-    ghost use Rattle.shelf_model.specs.Calls.{Told};
-    ghost use Rattle.shelf_model.specs.Moments.{Ran};
-    ghost use Rattle.block_stream.specs.Writes.{InStep};
-    ghost use Rattle.node_file.specs.Writers.{filling_of};
-    ghost use Rattle.run_merge.specs.Faults.{OnlySortShelf};
-    ghost use Rattle.run_merge.specs.Parts.{Paid};
-    ghost use Rattle.sweep_core.specs.Sweeps.{OnlyOwn, IsNoDamage};
-    ghost use Rattle.reduce_sweep.specs.Remaining.{Diagram, Contents, Holds, IsOf, IsWorking};
-    ghost use Rattle.reduce_sweep.specs.Changes.{SameButNames, JoinsNames, SameButRows, JoinsRows, SameButCollected, Closes, going_on, closed_by, noted_with, IsToCollect, IsCollectingIn, IsAt, ReadsNone};
-    ghost use Rattle.reduce_sweep.specs.Held.{IsHeld, AreOfLevel, AreGone, MayBeTaken, IsDamageOf};
-    ghost use Rattle.reduce_sweep.specs.Sweeps.{Owns, credit_of, PaysParts, inner_file, ends_file, IsSound, SameTask, Refuses, SamePlace, SameArcs, IsNext, Lightens, weight, MovesOn};
+    ghost use Rattle.std.specs.Prelude.{◌+◌, ◌<◌, IsTrue, OnOk, IfOk, Some};
+    ghost use Rattle.reduce_sweep.specs.Sources.{closed_by, noted_with};
+    ghost use Rattle.reduce_sweep.specs.Sweeps.{Handles, IsThere, none_numbered, lists_weight, turns_left};
+    ghost use Rattle.reduce_sweep.specs.Remaining.{Diagram, Contents, Holds, IsLeft, IsWorking};
+    ghost use Rattle.reduce_sweep.specs.Changes.{IsAt, IsGreatest, Closes};
+    ghost use Rattle.reduce_sweep.specs.Calls.{Does, IsFit};
 
     /// Collects an arc of the level at hand, or ends the collecting where the next one is of a shallower level.
-    pub(crate) fn collect<S: Shelf>(&mut self, shelf: &mut S) -> Result<bool, SortFault>
-        requires open { self.old.open ≡ true }
-        requires phase { self.old.phase ≡ Phase.Collect }
-        requires sound { IsSound self.old }
-        requires in_step { IsTrue (S.tells shelf.old) → InStep (filling_of self.old.writer) (S.world shelf.old) }
-        ensures sound { OnOk result (IsSound self.new) }
-        ensures in_step { OnOk result (IsTrue (S.tells shelf.new) → InStep (filling_of self.new.writer) (S.world shelf.new)) }
-        ensures task { SameTask self.old self.new }
-        ensures lightens { IfOk result (Lightens self.old self.new) }
-        ensures next { IfOk result (MovesOn Phase.Number self.new.phase) }
-        ensures count { self.new.count ≡ self.old.count }
-
-        // what remains
-        ensures keeps { OnOk result (IsTrue (S.tells shelf.new) → (d : Diagram) → IsOf self.old d →
+    ///
+    /// An arc of a deeper level is passed over: no file that this program wrote has one.
+    pub(crate) fn collect<S: Shelf>(&mut self, source: Source, shelf: &mut S) -> Result<bool, SortFault>
+        requires phase { self.old.place.phase ≡ Phase.Collect source }
+        requires fit { IsFit S.tells S.world shelf.old self.old }
+        ensures does { Does S.tells S.world S.faults 32 1 shelf.old shelf.new self.old self.new result }
+        ensures fit { OnOk result (IsFit S.tells S.world shelf.new self.new) }
+        ensures handles { IfOk result (Handles (Phase.Number none_numbered) self.old self.new) }
+        ensures keeps { OnOk result (IsTrue (S.tells shelf.new) → (d : Diagram) →
             IsWorking self.old (S.world shelf.old) d → IsWorking self.new (S.world shelf.new) d) }
-        ensures still { IfOk result (ReadsNone self.old self.new) }
-        ensures held { OnOk result (IsTrue (S.tells shelf.new) → IsHeld self.old (S.world shelf.old) → IsHeld self.new (S.world shelf.new)) }
-        ensures damage { IfErr result (λ e. IsTrue (S.tells shelf.new) → IsHeld self.old (S.world shelf.old) →
-            IsDamageOf self.old (S.world shelf.old) e) }
-
-        // what the call leaves, and what it costs
-        ensures content { Told S.tells shelf.old shelf.new
-            (Ran (OnlyOwn (Owns self.old) (now (S.world shelf.old))) (S.world shelf.old) (S.world shelf.new)) }
-        ensures calls { IsTrue (S.tells shelf.new) →
-            Paid 32 (credit_of self.old) (credit_of self.new) (S.world shelf.old) (S.world shelf.new) }
-        ensures spent { PaysParts 1 self.old self.new }
-        ensures faults { OnlySortShelf (S.faults shelf.old) (S.faults shelf.new) result }
-        ensures refused { IfErr result (Refuses (inner_file self.old) (ends_file self.old) self.new) }
     {
         if let Some((arc, queued)) = self.next_arc(shelf)? {
-            let level = source_level(&arc);
-            if level >= self.level {
-                self.take_arc(&arc, queued, level == self.level, shelf)?;
+            let level = level_at(arc.source);
+            if level == self.place.level {
+                self.collect_arc(source, &arc, queued, shelf)?;
+                return Ok(true);
+            }
+            if level > self.place.level {
+                self.pass(queued, shelf)?;
                 return Ok(true);
             }
         }
-        self.close_source(shelf)?;
-        self.phase = Phase::Number;
+        self.close(source, shelf)?;
+        self.place.phase = Phase::Number(Numbered::NONE);
         Ok(false)
     }
 
-    /// Passes over the next arc, and notes it where it is of the level at hand.
-    pub(crate) fn take_arc<S: Shelf>(
+    // Collects an arc of the level at hand.
+    fn collect_arc<S: Shelf>(
         &mut self,
+        source: Source,
         arc: &FinalArc,
         queued: bool,
-        here: bool,
         shelf: &mut S,
     ) -> Result<(), SortFault>
-        requires next { IsNext self.old queued }
-        requires sound { IsSound self.old }
-        requires in_step { IsTrue (S.tells shelf.old) → InStep (filling_of self.old.writer) (S.world shelf.old) }
-        ensures sound { OnOk result (IsSound self.new) }
-        ensures in_step { OnOk result (IsTrue (S.tells shelf.new) → InStep (filling_of self.new.writer) (S.world shelf.new)) }
-        ensures task { SameTask self.old self.new }
-        ensures place { SamePlace self.old self.new }
-        ensures weight { OnOk result (weight self.new + 1 ≤ weight self.old) }
-
-        // what remains
-        ensures keeps { OnOk result (IsTrue (S.tells shelf.new) → (d : Diagram) → (k : Contents) → here ≡ true →
-            IsOf self.old d → Holds true self.old (S.world shelf.old) k → IsToCollect self.old d k queued arc.now →
-            IsCollectingIn self.new (S.world shelf.new) d) }
-        ensures held { OnOk result (IsTrue (S.tells shelf.new) → (k : Contents) → MayBeTaken self.old here arc.now →
-            IsAt false queued k arc.now → Holds false self.old (S.world shelf.old) k → AreOfLevel self.old k →
-            AreGone self.old.phase self.old.open self.old k → self.old.phase ≡ Phase.Collect → IsHeld self.new (S.world shelf.new)) }
-        ensures damage { IfErr result (λ e. IsTrue (S.tells shelf.new) → (k : Contents) →
-            Holds false self.old (S.world shelf.old) k → IsDamageOf self.old (S.world shelf.old) e) }
-
-        // what the call leaves, and what it costs
-        ensures content { Told S.tells shelf.old shelf.new
-            (Ran (OnlyOwn (Owns self.old) (now (S.world shelf.old))) (S.world shelf.old) (S.world shelf.new)) }
-        ensures calls { IsTrue (S.tells shelf.new) →
-            Paid 24 (credit_of self.old) (credit_of self.new) (S.world shelf.old) (S.world shelf.new) }
-        ensures spent { PaysParts 1 self.old self.new }
-        ensures faults { OnlySortShelf (S.faults shelf.old) (S.faults shelf.new) result }
-        ensures refused { IfErr result (Refuses (inner_file self.old) (ends_file self.old) self.new) }
+        requires phase { self.old.place.phase ≡ Phase.Collect source }
+        requires there { IsThere self.old.ahead queued }
+        requires fit { IsFit S.tells S.world shelf.old self.old }
+        ensures does { Does S.tells S.world S.faults 24 1 shelf.old shelf.new self.old self.new result }
+        ensures fit { OnOk result (IsFit S.tells S.world shelf.new self.new) }
+        ensures fewer { OnOk result ((0 < turns_left self.new) × (turns_left self.new < turns_left self.old)) }
+        ensures keeps { OnOk result (IsTrue (S.tells shelf.new) → (d : Diagram) → (k : Contents) →
+            Holds self.old.ahead self.old.lists self.old.writer (S.world shelf.old) k → IsLeft self.old.place d k →
+            IsAt queued k arc.now → IsGreatest k arc.now → level_of arc.now.source ≡ self.old.place.level →
+            IsWorking self.new (S.world shelf.new) d) }
     {
-        if here {
-            self.note(arc, shelf)?;
-        }
+        self.note(source, arc, shelf)?;
         self.pass(queued, shelf)
     }
 
     // Notes an arc of the level at hand. Another source is the one at hand from then on.
-    fn note<S: Shelf>(&mut self, arc: &FinalArc, shelf: &mut S) -> Result<(), SortFault>
-        requires sound { IsSound self.old }
-        requires in_step { IsTrue (S.tells shelf.old) → InStep (filling_of self.old.writer) (S.world shelf.old) }
-        ensures sound { OnOk result (IsSound self.new) }
-        ensures in_step { OnOk result (IsTrue (S.tells shelf.new) → InStep (filling_of self.new.writer) (S.world shelf.new)) }
-        ensures task { SameTask self.old self.new }
-        ensures place { SamePlace self.old self.new }
-        ensures arcs { SameArcs self.old self.new }
-        ensures weight { OnOk result (weight self.new ≤ weight self.old + 2) }
-
-        // what remains
-        ensures rest { SameButCollected self.old self.new }
-        ensures source { OnOk result (self.new.source ≡ Some (noted_with self.old.source arc.now)) }
-        ensures closed { OnOk result (IsTrue (S.tells shelf.new) → (whole : Bool) → (k : Contents) →
-            Holds whole self.old (S.world shelf.old) k →
-            Closes whole (closed_by self.old.source arc.now) self.new (S.world shelf.new) k) }
-        ensures damage { IfErr result (λ e. IsTrue (S.tells shelf.new) → (k : Contents) →
-            Holds false self.old (S.world shelf.old) k → IsNoDamage e) }
-
-        // what the call leaves, and what it costs
-        ensures content { Told S.tells shelf.old shelf.new
-            (Ran (OnlyOwn (Owns self.old) (now (S.world shelf.old))) (S.world shelf.old) (S.world shelf.new)) }
-        ensures calls { IsTrue (S.tells shelf.new) →
-            Paid 16 (credit_of self.old) (credit_of self.new) (S.world shelf.old) (S.world shelf.new) }
-        ensures spent { PaysParts 1 self.old self.new }
-        ensures faults { OnlySortShelf (S.faults shelf.old) (S.faults shelf.new) result }
-        ensures refused { IfErr result (Refuses (inner_file self.old) (ends_file self.old) self.new) }
+    fn note<S: Shelf>(
+        &mut self,
+        source: Source,
+        arc: &FinalArc,
+        shelf: &mut S,
+    ) -> Result<(), SortFault>
+        requires phase { self.old.place.phase ≡ Phase.Collect source }
+        requires fit { IsFit S.tells S.world shelf.old self.old }
+        ensures does { Does S.tells S.world S.faults 16 1 shelf.old shelf.new self.old self.new result }
+        ensures fit { OnOk result (IsFit S.tells S.world shelf.new self.new) }
+        ensures rest { self.new ≡ record self.old {
+            place = record self.old.place { phase = self.new.place.phase };
+            lists = self.new.lists; parts = self.new.parts } }
+        ensures phase { OnOk result (self.new.place.phase ≡ Phase.Collect (noted_with source arc.now)) }
+        ensures weight { OnOk result (lists_weight self.new.lists ≤ lists_weight self.old.lists + 2) }
+        ensures closed { OnOk result (IsTrue (S.tells shelf.new) → (k : Contents) →
+            Holds self.old.ahead self.old.lists self.old.writer (S.world shelf.old) k →
+            Closes (closed_by source arc.now) self.new (S.world shelf.new) k) }
     {
-        let Some(source) = self.noted(arc) else {
-            self.close_source(shelf)?;
-            self.source = Some(Source::new(arc.source).noted(arc.high, arc.target));
+        if source.uid == arc.source {
+            self.place.phase = Phase::Collect(source.noted(arc.high, arc.target));
             return Ok(());
-        };
-        self.source = Some(source);
+        }
+        self.close(source, shelf)?;
+        self.place.phase = Phase::Collect(Source::of(arc));
         Ok(())
     }
 
-    // The source at hand with the arc noted, where it is the arc's.
-    fn noted(&self, arc: &FinalArc) -> Option<Source>
-        ensures some { IsSome result → IsSome self.now.source }
-        ensures going { result ≡ going_on self.now.source arc.now }
+    // Makes a row of a source, or a name where its two pointers are equal.
+    fn close<S: Shelf>(&mut self, source: Source, shelf: &mut S) -> Result<(), SortFault>
+        requires fit { IsFit S.tells S.world shelf.old self.old }
+        ensures does { Does S.tells S.world S.faults 16 1 shelf.old shelf.new self.old self.new result }
+        ensures fit { OnOk result (IsFit S.tells S.world shelf.new self.new) }
+        ensures rest { self.new ≡ record self.old { lists = self.new.lists; parts = self.new.parts } }
+        ensures weight { OnOk result (lists_weight self.new.lists ≤ lists_weight self.old.lists + 2) }
+        ensures closed { OnOk result (IsTrue (S.tells shelf.new) → (k : Contents) →
+            Holds self.old.ahead self.old.lists self.old.writer (S.world shelf.old) k →
+            Closes (Some source) self.new (S.world shelf.new) k) }
     {
-        match &self.source {
-            Some(source) if source.uid == arc.source => Some(source.noted(arc.high, arc.target)),
-            _ => None,
-        }
-    }
-
-    // Makes a row of the source at hand, or a name where its two pointers are equal.
-    fn close_source<S: Shelf>(&mut self, shelf: &mut S) -> Result<(), SortFault>
-        requires sound { IsSound self.old }
-        requires in_step { IsTrue (S.tells shelf.old) → InStep (filling_of self.old.writer) (S.world shelf.old) }
-        ensures sound { OnOk result (IsSound self.new) }
-        ensures in_step { OnOk result (IsTrue (S.tells shelf.new) → InStep (filling_of self.new.writer) (S.world shelf.new)) }
-        ensures task { SameTask self.old self.new }
-        ensures place { SamePlace self.old self.new }
-        ensures arcs { SameArcs self.old self.new }
-        ensures none { OnOk result (self.new.source ≡ None) }
-        ensures weight { OnOk result (weight self.new ≤ weight self.old) }
-
-        // what remains
-        ensures rest { SameButCollected self.old self.new }
-        ensures closed { OnOk result (IsTrue (S.tells shelf.new) → (whole : Bool) → (k : Contents) →
-            Holds whole self.old (S.world shelf.old) k → Closes whole self.old.source self.new (S.world shelf.new) k) }
-        ensures damage { IfErr result (λ e. IsTrue (S.tells shelf.new) → (k : Contents) →
-            Holds false self.old (S.world shelf.old) k → IsNoDamage e) }
-
-        // what the call leaves, and what it costs
-        ensures content { Told S.tells shelf.old shelf.new
-            (Ran (OnlyOwn (Owns self.old) (now (S.world shelf.old))) (S.world shelf.old) (S.world shelf.new)) }
-        ensures calls { IsTrue (S.tells shelf.new) →
-            Paid 16 (credit_of self.old) (credit_of self.new) (S.world shelf.old) (S.world shelf.new) }
-        ensures spent { PaysParts 1 self.old self.new }
-        ensures faults { OnlySortShelf (S.faults shelf.old) (S.faults shelf.new) result }
-        ensures refused { IfErr result (Refuses (inner_file self.old) (ends_file self.old) self.new) }
-    {
-        let Some(source) = &self.source else {
-            return Ok(());
-        };
         let row = source.row();
-        self.source = None;
         if row.low == row.high {
             let name = Name {
                 source: row.source,
@@ -198,84 +118,14 @@ impl<'r> ReduceSweep<'r> {
         }
         self.push_row(row, shelf)
     }
-
-    // Puts a row into its list.
-    #[tactic(auto, using(crate::proofs::Owning::queue_lent, crate::proofs::Owning::sorter_lent, crate::proofs::Owning::queue_back, crate::proofs::Owning::sorter_back, crate::proofs::Owning::queue_later, crate::proofs::Owning::sorter_later))]
-    fn push_row<S: Shelf>(&mut self, row: SourceRow, shelf: &mut S) -> Result<(), SortFault>
-        requires sound { IsSound self.old }
-        requires in_step { IsTrue (S.tells shelf.old) → InStep (filling_of self.old.writer) (S.world shelf.old) }
-        ensures sound { OnOk result (IsSound self.new) }
-        ensures in_step { OnOk result (IsTrue (S.tells shelf.new) → InStep (filling_of self.new.writer) (S.world shelf.new)) }
-        ensures task { SameTask self.old self.new }
-        ensures place { SamePlace self.old self.new }
-        ensures arcs { SameArcs self.old self.new }
-        ensures source { self.new.source ≡ self.old.source }
-        ensures weight { OnOk result (weight self.new ≡ weight self.old + 2) }
-
-        // what remains
-        ensures rest { SameButRows self.old self.new }
-        ensures joined { OnOk result (IsTrue (S.tells shelf.new) → (whole : Bool) → (k : Contents) →
-            Holds whole self.old (S.world shelf.old) k → JoinsRows whole self.new (S.world shelf.new) k row) }
-        ensures damage { IfErr result (λ e. IsTrue (S.tells shelf.new) → (k : Contents) →
-            Holds false self.old (S.world shelf.old) k → IsNoDamage e) }
-
-        // what the call leaves, and what it costs
-        ensures content { Told S.tells shelf.old shelf.new
-            (Ran (OnlyOwn (Owns self.old) (now (S.world shelf.old))) (S.world shelf.old) (S.world shelf.new)) }
-        ensures calls { IsTrue (S.tells shelf.new) →
-            Paid 16 (credit_of self.old) (credit_of self.new) (S.world shelf.old) (S.world shelf.new) }
-        ensures spent { PaysParts 1 self.old self.new }
-        ensures faults { OnlySortShelf (S.faults shelf.old) (S.faults shelf.new) result }
-        ensures refused { IfErr result (Refuses (inner_file self.old) (ends_file self.old) self.new) }
-    {
-        let mut parts = self.parts();
-        let pushed = self.rows.push(row, &mut parts, shelf);
-        self.next = parts.next;
-        pushed
-    }
-
-    /// Puts a name into its list.
-    #[tactic(auto, using(crate::proofs::Owning::queue_lent, crate::proofs::Owning::sorter_lent, crate::proofs::Owning::queue_back, crate::proofs::Owning::sorter_back, crate::proofs::Owning::queue_later, crate::proofs::Owning::sorter_later))]
-    pub(crate) fn push_name<S: Shelf>(&mut self, name: Name, shelf: &mut S) -> Result<(), SortFault>
-        requires sound { IsSound self.old }
-        requires in_step { IsTrue (S.tells shelf.old) → InStep (filling_of self.old.writer) (S.world shelf.old) }
-        ensures sound { OnOk result (IsSound self.new) }
-        ensures in_step { OnOk result (IsTrue (S.tells shelf.new) → InStep (filling_of self.new.writer) (S.world shelf.new)) }
-        ensures task { SameTask self.old self.new }
-        ensures place { SamePlace self.old self.new }
-        ensures arcs { SameArcs self.old self.new }
-        ensures source { self.new.source ≡ self.old.source }
-        ensures weight { OnOk result (weight self.new ≡ weight self.old + 1) }
-
-        // what remains
-        ensures rest { SameButNames self.old self.new }
-        ensures joined { OnOk result (IsTrue (S.tells shelf.new) → (whole : Bool) → (k : Contents) →
-            Holds whole self.old (S.world shelf.old) k → JoinsNames whole self.new (S.world shelf.new) k name) }
-        ensures damage { IfErr result (λ e. IsTrue (S.tells shelf.new) → (k : Contents) →
-            Holds false self.old (S.world shelf.old) k → IsNoDamage e) }
-
-        // what the call leaves, and what it costs
-        ensures content { Told S.tells shelf.old shelf.new
-            (Ran (OnlyOwn (Owns self.old) (now (S.world shelf.old))) (S.world shelf.old) (S.world shelf.new)) }
-        ensures calls { IsTrue (S.tells shelf.new) →
-            Paid 16 (credit_of self.old) (credit_of self.new) (S.world shelf.old) (S.world shelf.new) }
-        ensures spent { PaysParts 1 self.old self.new }
-        ensures faults { OnlySortShelf (S.faults shelf.old) (S.faults shelf.new) result }
-        ensures refused { IfErr result (Refuses (inner_file self.old) (ends_file self.old) self.new) }
-    {
-        let mut parts = self.parts();
-        let pushed = self.names.push(name, &mut parts, shelf);
-        self.next = parts.next;
-        pushed
-    }
 }
 
-/// The level of an arc's source.
-pub(crate) fn source_level(arc: &FinalArc) -> u32
-    ensures level { result ≡ level_of arc.now.source }
+/// The level of a node.
+pub(crate) fn level_at(uid: Uid) -> u32
+    ensures level { result ≡ level_of uid }
     ensures below { result ≤ 65534 }
 {
-    match arc.source.ptr().level() {
+    match uid.ptr().level() {
         Some(level) => u32::from(level),
         None => unreachable!(),
     }

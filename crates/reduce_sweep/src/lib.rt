@@ -4,8 +4,11 @@
 mod ahead;
 mod collecting;
 mod forwarding;
+mod lists;
 mod numbering;
 mod phase;
+mod place;
+mod queued;
 mod reduce;
 mod source;
 mod start;

@@ -1,6 +1,6 @@
 ghost use Rattle.std.specs.Prelude.{◌≡◌};
 
-use arc_diagrams::SourceRow;
+use arc_diagrams::{FinalArc, SourceRow};
 use rec_words::{Ptr, Uid};
 
 /// A source whose arcs are being collected, and the final pointers of its sides, as far as they are known.
@@ -12,18 +12,18 @@ pub(crate) struct Source {
 }
 
 impl Source {
-    ghost use Rattle.std.specs.Prelude.{None};
-    ghost use Rattle.reduce_sweep.specs.Sources.{noted, row_of};
+    ghost use Rattle.reduce_sweep.specs.Sources.{noted, first_noted, row_of};
 
-    /// A source of which no side is known.
-    pub(crate) fn new(uid: Uid) -> Source
-        ensures { result ≡ record { uid = uid; low = None; high = None } }
+    /// The source of an arc, of which that one is noted.
+    pub(crate) fn of(arc: &FinalArc) -> Source
+        ensures { result ≡ first_noted arc.now }
     {
-        Source {
-            uid,
+        let none = Source {
+            uid: arc.source,
             low: None,
             high: None,
-        }
+        };
+        none.noted(arc.high, arc.target)
     }
 
     /// The source with the final pointer of a side, unless one was known.

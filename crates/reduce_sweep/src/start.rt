@@ -3,7 +3,8 @@ ghost use Rattle.std.specs.Prelude.{◌≡◌, Some};
 ghost use Rattle.rec_words.specs.Words.{IsTerminal};
 
 use crate::phase::Phase;
-use crate::reduce::ReduceSweep;
+use crate::place::Place;
+use crate::reduce::{Ahead, Lists, ReduceSweep};
 use arc_file::{ArcReader, Unreduced};
 use level_queue::LevelQueue;
 use node_file::NodeWriter;
@@ -24,15 +25,18 @@ impl<'r> ReduceSweep<'r> {
     ghost use Rattle.arc_file.specs.Files.{HasArcs};
     ghost use Rattle.arc_diagrams.specs.Laws.{IsDiagramOf};
     ghost use Rattle.reduce_sweep.specs.Remaining.{Diagram, RemainsOf};
-    ghost use Rattle.reduce_sweep.specs.Held.{IsInStep, IsDamageAtStart};
+    ghost use Rattle.reduce_sweep.specs.Damage.{IsDamageAtStart};
+    ghost use Rattle.reduce_sweep.specs.Calls.{IsInStep};
     ghost use Rattle.shelf_model.specs.Calls.{Told};
     ghost use Rattle.shelf_model.specs.Moments.{Ran};
     ghost use Rattle.run_merge.specs.Faults.{OnlySortShelf};
     ghost use Rattle.run_merge.specs.Parts.{Paid};
     ghost use Rattle.level_queue.specs.Queues as queues;
     ghost use Rattle.run_merge.specs.Sorters as sorters;
-    ghost use Rattle.sweep_core.specs.Sweeps.{OnlyOwn, IsNoDamage};
-    ghost use Rattle.reduce_sweep.specs.Sweeps.{credit_of, stock_of, out_of, inner_file, ends_file, HasParts, turns_of, turns_left, count_in, CanBeTaken, IsReady, IsOut, IsArcDamage};
+    ghost use Rattle.block_stream.specs.Writes.{DuringCut};
+    ghost use Rattle.sweep_core.specs.Accounts.{CanBeTaken};
+    ghost use Rattle.sweep_core.specs.Sweeps.{IsNoDamage};
+    ghost use Rattle.reduce_sweep.specs.Sweeps.{credit_of, stock_of, out_of, inner_file, ends_file, parts_of, turns_left, count_in, IsSound, IsArcDamage};
 
     /// Begins the reduction of a diagram of `n` variables into a file, with the part numbers that its lists may take.
     ///
@@ -57,17 +61,16 @@ impl<'r> ReduceSweep<'r> {
         requires out_made { ¬ CanBeTaken parts.step parts.next out }
         requires inner_made { ¬ CanBeTaken parts.step parts.next made.inner }
         requires ends_made { ¬ CanBeTaken parts.step parts.next made.ends }
-        ensures ready { IfOk result IsReady }
+        ensures ready { IfOk result IsSound }
         ensures in_step { IfOk result (λ r. IsTrue (S.tells shelf.new) → IsInStep r (S.world shelf.new)) }
         ensures files { IfOk result (λ r. (out_of r ≡ out) × (inner_file r ≡ made.inner) × (ends_file r ≡ made.ends)) }
-        ensures parts { IfOk result (λ r. HasParts r parts) }
+        ensures parts { IfOk result (λ r. parts_of r ≡ parts) }
         ensures left { IfOk result (λ r. turns_left r ≤ 4 * made.inner_count + 3 * made.ends_count + 1) }
         ensures bound { IfOk result (λ r. (sources : ℕ) → made.inner_count + made.ends_count ≡ 2 * sources →
             turns_left r ≤ 8 * sources + 8) }
-        ensures turns { IfOk result (λ r. turns_of r ≡ 0) }
         ensures count { IfOk result (λ r. count_in r ≡ None) }
-        ensures rooms { IfOk result (λ r. (3 * length room.entry.now ≤ 16 * queues.room_of r.queue)
-            × (length room.entry.now ≤ 16 * sorters.room_of r.rows) × (length room.entry.now ≤ 16 * sorters.room_of r.names)) }
+        ensures rooms { IfOk result (λ r. (3 * length room.entry.now ≤ 16 * queues.room_of r.ahead.queue)
+            × (length room.entry.now ≤ 16 * sorters.room_of r.lists.rows) × (length room.entry.now ≤ 16 * sorters.room_of r.lists.names)) }
 
         // what remains
         ensures remains { IfOk result (λ r. IsTrue (S.tells shelf.new) → (d : Diagram) → (inner ends : List Arc) →
@@ -81,7 +84,7 @@ impl<'r> ReduceSweep<'r> {
 
         // what the call leaves, and what it costs
         ensures content { Told S.tells shelf.old shelf.new
-            (Ran (OnlyOwn (IsOut out) (now (S.world shelf.old))) (S.world shelf.old) (S.world shelf.new)) }
+            (Ran (DuringCut out 0 (now (S.world shelf.old))) (S.world shelf.old) (S.world shelf.new)) }
         ensures calls { IfOk result (λ r. IsTrue (S.tells shelf.new) →
             Paid 3 0 (credit_of r) (S.world shelf.old) (S.world shelf.new)) }
         ensures stock { IfOk result (λ r. stock_of r ≡ 0) }
@@ -101,25 +104,25 @@ impl<'r> ReduceSweep<'r> {
         let root = reader.left_over().root;
         let known = final_from_start(root);
         Ok(ReduceSweep {
-            root,
-            reader,
-            inner,
-            end,
-            queue: LevelQueue::start(queue),
-            rows: Sorter::start(rows),
-            names: Sorter::start(names),
+            place: Place {
+                variables: n,
+                root,
+                known,
+                level: n,
+                phase: Phase::Between,
+            },
+            ahead: Ahead {
+                reader,
+                inner,
+                end,
+                queue: LevelQueue::start(queue),
+            },
+            lists: Lists {
+                rows: Sorter::start(rows),
+                names: Sorter::start(names),
+            },
             writer,
-            step: parts.step,
-            next: parts.next,
-            phase: Phase::Collect,
-            level: n,
-            open: false,
-            source: None,
-            number: 0,
-            pair: None,
-            known,
-            count: None,
-            turns: 0,
+            parts,
         })
     }
 }

@@ -1,1 +1,1 @@
-mod Driving
+pub mod Leaving

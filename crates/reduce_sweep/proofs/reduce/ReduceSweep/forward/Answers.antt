@@ -1,118 +1,62 @@
-use Rattle.std.proofs.Common.{rules, ◌∙◌, refl, sym, subst}
-use Rattle.std.specs.Prelude.{Option, Ok, None}
-use Rattle.run_merge.specs.Lists.{Shows}
-use Rattle.run_merge.specs.Sorters as sorters
-use Rattle.arc_diagrams.specs.Items.{name_words, IsName, name_cmp}
-use Rattle.arc_diagrams.specs.declared.name.Name.{Name}
-use Rattle.reduce_sweep.specs.Remaining.{RemainsIn}
-use Rattle.reduce_sweep.specs.Held.{AreGone}
-use Rattle.reduce_sweep.specs.Sweeps.{Owns, parts_at}
-use Rattle.reduce_sweep.proofs.Owning.{own_stays, stays_then}
-use Rattle.reduce_sweep.proofs.CallFrames.{names_left}
-use Rattle.reduce_sweep.proofs.NumberingKeeps.{none_from}
-use Rattle.reduce_sweep.proofs.ForwardingKeeps.{level_kept}
-use Rattle.reduce_sweep.proofs.HeldKeeps.{damage_before}
-use Rattle.reduce_sweep.proofs.HeldCollecting.{fault_handed}
+use Rattle.std.proofs.Common.{◌≡◌, ◌≤◌, ◌<◌, ◌∙◌, ap, sym, subst, refl, arith, rules, true, false, IsTrue}
+use Rattle.reduce_sweep.specs.declared.reduce.ReduceSweep.{ReduceSweep}
+use Rattle.reduce_sweep.proofs.Doing.{does_then, refused_second, then_ok, does_placed}
+use Rattle.std.specs.Prelude.{Some, None, Ok}
+use Rattle.std.proofs.lemmas.Bool.Decides.{nat_tests}
+use Rattle.rec_words.specs.Words.{level_of}
+use Rattle.reduce_sweep.specs.declared.phase.Phase.TheVariants.{Between}
+use Rattle.reduce_sweep.specs.declared.place.Place.{Place}
+use Rattle.reduce_sweep.specs.Remaining.{IsLeft}
+use Rattle.reduce_sweep.specs.Changes.{ShowsName}
+use Rattle.reduce_sweep.proofs.NextArcs.{none_from}
+use Rattle.reduce_sweep.proofs.ForwardingKeeps.{names_done, name_here}
 use Rattle.reduce_sweep.proofs.reduce.ReduceSweep.forward.Goals as goal
 
-pub returns-in_default-clause-sound : goal.returns-in_default-clause-sound
-returns-in_default-clause-sound g c = record { queue_values = c.requires.sound.queue_values; row_values = c.requires.sound.row_values; name_values = c.peek.ensures.values; queue_served = c.requires.sound.queue_served; rows_served = c.requires.sound.rows_served; names_served = c.peek.ensures.serves (parts_at c.args.self.now.step c.args.self.now.next) c.requires.sound.names_served; apart = c.requires.sound.apart; opened = search rules; numbering = search rules; numbered = c.requires.sound.numbered; paired = c.requires.sound.paired }
+pub returns-in_err-take_name-clause-does : goal.returns-in_err-take_name-clause-does
+returns-in_err-take_name-clause-does g c = refused_second g.S.Shelf.tells g.S.Shelf.world g.S.Shelf.faults 2 2 0 0 51 3 _ _ _ c.args.self.now c.first_name.new.self c.take_name.new.self c.first_name.result c.take_name.result c.from_residual-in_err-take_name.result c.in_err-take_name.field-0.0
+    (omega arith) (omega arith) c.requires.fit.sound (ap (λ (r : ReduceSweep). r.ahead.reader) c.first_name.ensures.rest)
+    c.first_name.ensures.does c.take_name.ensures.does c.from_residual-in_err-take_name.ensures.1 c.in_err-take_name.was
 
-pub forward_name-requires-clause-sound : goal.forward_name-requires-clause-sound
-forward_name-requires-clause-sound g c = record { queue_values = c.requires.sound.queue_values; row_values = c.requires.sound.row_values; name_values = c.peek.ensures.values; queue_served = c.requires.sound.queue_served; rows_served = c.requires.sound.rows_served; names_served = c.peek.ensures.serves (parts_at c.args.self.now.step c.args.self.now.next) c.requires.sound.names_served; apart = c.requires.sound.apart; opened = c.requires.sound.opened; numbering = c.requires.sound.numbering; numbered = c.requires.sound.numbered; paired = c.requires.sound.paired }
+pub returns-then-level_at-self-clause-does : goal.returns-then-level_at-self-clause-does
+returns-then-level_at-self-clause-does g c = then_ok g.S.Shelf.tells g.S.Shelf.world g.S.Shelf.faults 2 2 0 0 51 3 _ _ _ c.args.self.now c.first_name.new.self c.take_name.new.self c.first_name.result c.take_name.result true
+    (omega arith) (omega arith) c.requires.fit.sound (ap (λ (r : ReduceSweep). r.ahead.reader) c.first_name.ensures.rest)
+    c.first_name.ensures.does c.take_name.ensures.does
 
-pub returns-in_err-forward_name-clause-content : goal.returns-in_err-forward_name-clause-content
-returns-in_err-forward_name-clause-content g c = stays_then g.S.Shelf.tells g.S.Shelf.world _ _ _ _ c.peek.ensures.content c.forward_name.ensures.content
+pub returns-in_err-forward_name-clause-does : goal.returns-in_err-forward_name-clause-does
+returns-in_err-forward_name-clause-does g c = refused_second g.S.Shelf.tells g.S.Shelf.world g.S.Shelf.faults 2 49 0 3 51 3 _ _ _ c.args.self.now c.first_name.new.self c.forward_name.new.self c.first_name.result c.forward_name.result c.from_residual-in_err-forward_name.result c.in_err-forward_name.field-0.0
+    (omega arith) (omega arith) c.requires.fit.sound (ap (λ (r : ReduceSweep). r.ahead.reader) c.first_name.ensures.rest)
+    c.first_name.ensures.does c.forward_name.ensures.does c.from_residual-in_err-forward_name.ensures.1 c.in_err-forward_name.was
 
-pub returns-clause-content : goal.returns-clause-content
-returns-clause-content g c = stays_then g.S.Shelf.tells g.S.Shelf.world _ _ _ _ c.peek.ensures.content c.forward_name.ensures.content
+pub returns-clause-does : goal.returns-clause-does
+returns-clause-does g c = then_ok g.S.Shelf.tells g.S.Shelf.world g.S.Shelf.faults 2 49 0 3 51 3 _ _ _ c.args.self.now c.first_name.new.self c.forward_name.new.self c.first_name.result c.forward_name.result true
+    (omega arith) (omega arith) c.requires.fit.sound (ap (λ (r : ReduceSweep). r.ahead.reader) c.first_name.ensures.rest)
+    c.first_name.ensures.does c.forward_name.ensures.does
 
--- the level is done
+-- no name is left
 pub returns-in_default-clause-keeps : goal.returns-in_default-clause-keeps
-returns-in_default-clause-keeps g c = λ told d is_of working.
+returns-in_default-clause-keeps g c = λ told d working.
+    let k = working.contents in
+    let shown = subst (ShowsName c.first_name.new.self (g.S.Shelf.world c.first_name.new.shelf) k) (none_from _ c.in_default.not-Some) (c.in_ok-name.ensures.shown told k working.holds) in
+    names_done c.args.self.now.place _ _ d k c.requires.phase (λ j. record (c.first_name.ensures.rest j).place { phase = Between }) working.left shown.0 shown.1
+
+-- the first name is of the level
+pub returns-then-level_at-self-clause-keeps : goal.returns-then-level_at-self-clause-keeps
+returns-then-level_at-self-clause-keeps g c = λ told d working.
     let s = c.args.self.now in
     let k = working.contents in
-    let are = subst (λ p. RemainsIn p s.«open» s d k) c.requires.phase working.remains in
-    let shown : Shows (sorters.Lists IsName name_words name_cmp c.peek.new.self (g.S.Shelf.world c.peek.new.shelf)) k.names (Ok None) =
-    subst (λ (o : Option Name). Shows (sorters.Lists IsName name_words name_cmp c.peek.new.self (g.S.Shelf.world c.peek.new.shelf)) k.names (Ok o))
-    (none_from _ c.in_default.not-Some) (c.in_ok-name.ensures.list told k.names working.holds.names_is) in
-    record {
-      contents = k;
-      holds = names_left s _ _ _ k k.names c.requires.sound
-          (record { reader_is = refl; inner_is = refl; end_is = refl; queue_is = refl; rows_is = refl; writer_is = refl; step_is = refl; next_is = refl; root_is = refl; source_is = refl; number_is = refl; pair_is = refl })
-          (c.peek.ensures.content.did told) c.peek.ensures.runs shown.1 working.holds;
-      remains = level_kept s _ k d shown.0 are refl refl refl refl refl refl refl;
-    }
+    let shown = subst (ShowsName c.first_name.new.self (g.S.Shelf.world c.first_name.new.shelf) k) c.in-Some.is (c.in_ok-name.ensures.shown (c.take_name.ensures.does.leaves.content.before told) k working.holds) in
+    let here : level_of c.in-Some.name.source ≡ s.place.level = name_here s.place d k c.in-Some.name shown.0 c.requires.phase working.left shown.1 in
+    let same : c.first_name.new.self.place.level ≡ s.place.level = ap (λ (r : ReduceSweep). r.place.level) c.first_name.ensures.rest in
+    let level : c.level_at.result ≡ level_of c.in-Some.name.source = c.level_at.ensures.level in
+    let other = c.if-level_at-self.true in
+    absurd (grind (arith, nat_tests, here, same, level, other))
 
--- the first name is forwarded or given up
+-- it is forwarded or given up
 pub returns-clause-keeps : goal.returns-clause-keeps
-returns-clause-keeps g c = λ told d is_of working.
+returns-clause-keeps g c = λ told d working.
     let s = c.args.self.now in
     let k = working.contents in
-    let shown_told = c.forward_name.ensures.content.before told in
-    let are = subst (λ p. RemainsIn p s.«open» s d k) c.requires.phase working.remains in
-    let shown = subst (λ (o : Option Name). Shows (sorters.Lists IsName name_words name_cmp c.peek.new.self (g.S.Shelf.world c.peek.new.shelf)) k.names (Ok o))
-    c.in-Some.is (c.in_ok-name.ensures.list shown_told k.names working.holds.names_is) in
-    let held = names_left s _ _ _ k k.names c.requires.sound
-    (record { reader_is = refl; inner_is = refl; end_is = refl; queue_is = refl; rows_is = refl; writer_is = refl; step_is = refl; next_is = refl; root_is = refl; source_is = refl; number_is = refl; pair_is = refl })
-    (c.peek.ensures.content.did shown_told) c.peek.ensures.runs shown.2 working.holds in
-    let forwarding = c.in_ok-forward_name.ensures.keeps told d k shown.0 shown.1
-    (record { few = is_of.few; few_arcs = is_of.few_arcs; diagram = is_of.diagram }) held
-    (record { forwarding = are.forwarding; no_rows = are.no_rows; no_source = are.no_source; unnumbered = record { number_is = are.unnumbered.number_is; pair_is = are.unnumbered.pair_is } }) in
-    record {
-      contents = forwarding.contents;
-      holds = forwarding.holds;
-      remains = subst (λ p. RemainsIn p c.forward_name.new.self.«open» c.forward_name.new.self d forwarding.contents) (sym (c.forward_name.ensures.place.phase_is ∙ c.requires.phase)) forwarding.forwarded;
-    }
-
--- the level is done: neither rows nor names nor a source are left
-pub returns-in_default-clause-held : goal.returns-in_default-clause-held
-returns-in_default-clause-held g c = λ told held.
-    let s = c.args.self.now in
-    let k = held.contents in
-    let gone = subst (λ p. AreGone p s.«open» s k) c.requires.phase held.gone in
-    let shown : Shows (sorters.Lists IsName name_words name_cmp c.peek.new.self (g.S.Shelf.world c.peek.new.shelf)) k.names (Ok None) =
-    subst (λ (o : Option Name). Shows (sorters.Lists IsName name_words name_cmp c.peek.new.self (g.S.Shelf.world c.peek.new.shelf)) k.names (Ok o))
-    (none_from _ c.in_default.not-Some) (c.in_ok-name.ensures.list told k.names held.holds.names_is) in
-    record {
-      contents = k;
-      holds = names_left s _ _ _ k k.names c.requires.sound
-          (record { reader_is = refl; inner_is = refl; end_is = refl; queue_is = refl; rows_is = refl; writer_is = refl; step_is = refl; next_is = refl; root_is = refl; source_is = refl; number_is = refl; pair_is = refl })
-          (c.peek.ensures.content.did told) c.peek.ensures.runs shown.1 held.holds;
-      here = record { rows_here = held.here.rows_here; names_here = held.here.names_here; source_here = held.here.source_here; taken = held.here.taken };
-      gone = (gone.0, shown.0, gone.1);
-    }
-
--- what is held once the first name is forwarded or given up
-pub returns-clause-held : goal.returns-clause-held
-returns-clause-held g c = λ told held.
-    let s = c.args.self.now in
-    let k = held.contents in
-    let shown_told = c.forward_name.ensures.content.before told in
-    let gone = subst (λ p. AreGone p s.«open» s k) c.requires.phase held.gone in
-    let shown = subst (λ (o : Option Name). Shows (sorters.Lists IsName name_words name_cmp c.peek.new.self (g.S.Shelf.world c.peek.new.shelf)) k.names (Ok o))
-    c.in-Some.is (c.in_ok-name.ensures.list shown_told k.names held.holds.names_is) in
-    let holds = names_left s _ _ _ k k.names c.requires.sound
-    (record { reader_is = refl; inner_is = refl; end_is = refl; queue_is = refl; rows_is = refl; writer_is = refl; step_is = refl; next_is = refl; root_is = refl; source_is = refl; number_is = refl; pair_is = refl })
-    (c.peek.ensures.content.did shown_told) c.peek.ensures.runs shown.2 held.holds in
-    c.in_ok-forward_name.ensures.held told k shown.0 shown.1 holds
-    (record { rows_here = held.here.rows_here; names_here = held.here.names_here; source_here = held.here.source_here; taken = held.here.taken })
-    gone.0 gone.1 c.requires.phase
-
--- damage is that of the arc that was to be read
-pub returns-in_err-forward_name-clause-damage : goal.returns-in_err-forward_name-clause-damage
-returns-in_err-forward_name-clause-damage g c =
-    fault_handed _ c.from_residual-in_err-forward_name.result c.in_err-forward_name.field-0.0 c.from_residual-in_err-forward_name.ensures.1
-    (λ told held.
-    let s = c.args.self.now in
-    let k = held.contents in
-    let shown_told = c.forward_name.ensures.content.before told in
-    let shown = subst (λ (o : Option Name). Shows (sorters.Lists IsName name_words name_cmp c.peek.new.self (g.S.Shelf.world c.peek.new.shelf)) k.names (Ok o))
-    c.in-Some.is (c.in_ok-name.ensures.list shown_told k.names held.holds.names_is) in
-    let holds = names_left s _ _ _ k k.names c.requires.sound
-    (record { reader_is = refl; inner_is = refl; end_is = refl; queue_is = refl; rows_is = refl; writer_is = refl; step_is = refl; next_is = refl; root_is = refl; source_is = refl; number_is = refl; pair_is = refl })
-    (c.peek.ensures.content.did shown_told) c.peek.ensures.runs shown.2 held.holds in
-    damage_before s s _ _ c.in_err-forward_name.field-0.0 held.holds.apart refl
-    ((own_stays g.S.Shelf.tells g.S.Shelf.world (Owns s) _ _ c.peek.ensures.content).did shown_told)
-    (c.in_err-forward_name.ensures.damage told k shown.0 shown.1 holds
-    (record { rows_here = held.here.rows_here; names_here = held.here.names_here; source_here = held.here.source_here; taken = held.here.taken })))
+    let shown = subst (ShowsName c.first_name.new.self (g.S.Shelf.world c.first_name.new.shelf) k) c.in-Some.is (c.in_ok-name.ensures.shown (c.forward_name.ensures.does.leaves.content.before told) k working.holds) in
+    let here : level_of c.in-Some.name.source ≡ s.place.level = name_here s.place d k c.in-Some.name shown.0 c.requires.phase working.left shown.1 in
+    c.in_ok-forward_name.ensures.keeps told d k shown.0 shown.1 (here ∙ sym (ap (λ (r : ReduceSweep). r.place.level) c.first_name.ensures.rest)) shown.2
+    (subst (λ (p : Place). IsLeft p d k) (sym (ap (λ (r : ReduceSweep). r.place) c.first_name.ensures.rest)) working.left)

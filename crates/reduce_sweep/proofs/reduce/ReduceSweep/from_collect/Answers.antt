@@ -1,25 +1,23 @@
-use Rattle.reduce_sweep.proofs.HeldKeeps.{held_then, damage_then, closes_then, read_none}
-use Rattle.reduce_sweep.proofs.Owning.{own_more}
-use Rattle.reduce_sweep.proofs.LevelKeeps.{working_then}
+use Rattle.std.proofs.Common.{◌≡◌, ◌≤◌, ◌∙◌, refl, subst, arith, true, false, IsTrue}
+use Rattle.reduce_sweep.specs.Sweeps.{Handles, turns_left}
+use Rattle.reduce_sweep.specs.declared.phase.Phase.TheVariants.{Between, Number}
+use Rattle.reduce_sweep.specs.Sweeps.{none_numbered}
+use Rattle.reduce_sweep.proofs.Doing.{does_then}
+use Rattle.reduce_sweep.proofs.TurnKeeps.{handles_then, on_ok_weaker}
 use Rattle.reduce_sweep.proofs.reduce.ReduceSweep.from_collect.Goals as goal
 
-pub returns-clause-content : goal.returns-clause-content
-returns-clause-content g c = own_more g.S.Shelf.tells g.S.Shelf.world _ _ _ _ _ c.collect.ensures.task c.collect.ensures.content c.from_number.ensures.content
+-- the phase is over, and the next one begins
+pub from_number-requires-clause-phase : goal.from_number-requires-clause-phase
+from_number-requires-clause-phase g c = (subst (Handles (Number none_numbered) c.args.self.now c.collect.new.self) c.if-branch.false c.in_ok-collect.ensures.handles).0
 
--- the rows are numbered once no arc of the level is left
+pub returns-clause-does : goal.returns-clause-does
+returns-clause-does g c = does_then g.S.Shelf.tells g.S.Shelf.world g.S.Shelf.faults 32 70 1 4 _ _ _ c.args.self.now c.collect.new.self c.from_number.new.self c.collect.result c.from_number.result
+    c.requires.fit.sound (subst (Handles (Number none_numbered) c.args.self.now c.collect.new.self) c.if-branch.false c.in_ok-collect.ensures.handles).2 c.collect.ensures.does c.from_number.ensures.does
+
+pub returns-clause-handles : goal.returns-clause-handles
+returns-clause-handles g c = handles_then (Number none_numbered) Between c.args.self.now c.collect.new.self c.from_number.new.self c.from_number.result
+    (subst (Handles (Number none_numbered) c.args.self.now c.collect.new.self) c.if-branch.false c.in_ok-collect.ensures.handles) c.from_number.ensures.handles
+
 pub returns-clause-keeps : goal.returns-clause-keeps
-returns-clause-keeps g c = working_then g.S.Shelf.tells g.S.Shelf.world _ _ _ _ _ _ c.from_number.result c.collect.ensures.task
-    (λ told. c.from_number.ensures.content.before told) c.in_ok-collect.ensures.keeps c.from_number.ensures.keeps
-
--- so are the lists
-pub returns-clause-held : goal.returns-clause-held
-returns-clause-held g c = held_then g.S.Shelf.tells g.S.Shelf.world _ _ _ _ _ _ c.from_number.result
-    (λ told. c.from_number.ensures.content.before told) c.in_ok-collect.ensures.held c.from_number.ensures.held
-
-pub returns-clause-damage : goal.returns-clause-damage
-returns-clause-damage g c = damage_then g.S.Shelf.tells g.S.Shelf.world _ _ _ _ _ c.from_number.result
-    (read_none c.args.self.now c.collect.new.self _ c.if-branch.false c.in_ok-collect.ensures.still) c.collect.ensures.content
-    (λ told. c.from_number.ensures.content.before told) c.in_ok-collect.ensures.held c.from_number.ensures.damage
-
-pub returns-clause-closed : goal.returns-clause-closed
-returns-clause-closed g c = closes_then c.args.self.now c.collect.new.self c.from_number.new.self c.from_number.result (read_none c.args.self.now c.collect.new.self _ c.if-branch.false c.in_ok-collect.ensures.still) c.from_number.ensures.closed
+returns-clause-keeps g c = on_ok_weaker c.from_number.result
+    (λ keeps told d working. keeps told d (c.in_ok-collect.ensures.keeps (c.from_number.ensures.does.leaves.content.before told) d working)) c.from_number.ensures.keeps

@@ -1,24 +1,23 @@
-use Rattle.reduce_sweep.proofs.HeldKeeps.{held_then, damage_then, closes_then}
-use Rattle.reduce_sweep.proofs.Owning.{own_more}
-use Rattle.reduce_sweep.proofs.LevelKeeps.{working_then}
+use Rattle.std.proofs.Common.{◌≡◌, ◌≤◌, ◌∙◌, refl, subst, arith, true, false, IsTrue}
+use Rattle.reduce_sweep.specs.Sweeps.{Handles, turns_left}
+use Rattle.reduce_sweep.specs.declared.phase.Phase.TheVariants.{Between, Forward}
+use Rattle.reduce_sweep.specs.Sweeps.{none_numbered}
+use Rattle.reduce_sweep.proofs.Doing.{does_then}
+use Rattle.reduce_sweep.proofs.TurnKeeps.{handles_then, on_ok_weaker}
 use Rattle.reduce_sweep.proofs.reduce.ReduceSweep.from_number.Goals as goal
 
-pub returns-clause-content : goal.returns-clause-content
-returns-clause-content g c = own_more g.S.Shelf.tells g.S.Shelf.world _ _ _ _ _ c.give_number.ensures.task c.give_number.ensures.content c.forward.ensures.content
+-- the phase is over, and the next one begins
+pub forward-requires-clause-phase : goal.forward-requires-clause-phase
+forward-requires-clause-phase g c = (subst (Handles (Forward) c.args.self.now c.give_number.new.self) c.if-branch.false c.in_ok-give_number.ensures.handles).0
 
--- the names are forwarded once no row is left
+pub returns-clause-does : goal.returns-clause-does
+returns-clause-does g c = does_then g.S.Shelf.tells g.S.Shelf.world g.S.Shelf.faults 19 51 1 3 _ _ _ c.args.self.now c.give_number.new.self c.forward.new.self c.give_number.result c.forward.result
+    c.requires.fit.sound (subst (Handles (Forward) c.args.self.now c.give_number.new.self) c.if-branch.false c.in_ok-give_number.ensures.handles).2 c.give_number.ensures.does c.forward.ensures.does
+
+pub returns-clause-handles : goal.returns-clause-handles
+returns-clause-handles g c = handles_then (Forward) Between c.args.self.now c.give_number.new.self c.forward.new.self c.forward.result
+    (subst (Handles (Forward) c.args.self.now c.give_number.new.self) c.if-branch.false c.in_ok-give_number.ensures.handles) c.forward.ensures.handles
+
 pub returns-clause-keeps : goal.returns-clause-keeps
-returns-clause-keeps g c = working_then g.S.Shelf.tells g.S.Shelf.world _ _ _ _ _ _ c.forward.result c.give_number.ensures.task
-    (λ told. c.forward.ensures.content.before told) c.in_ok-give_number.ensures.keeps c.forward.ensures.keeps
-
--- so are the lists
-pub returns-clause-held : goal.returns-clause-held
-returns-clause-held g c = held_then g.S.Shelf.tells g.S.Shelf.world _ _ _ _ _ _ c.forward.result
-    (λ told. c.forward.ensures.content.before told) c.in_ok-give_number.ensures.held c.forward.ensures.held
-
-pub returns-clause-damage : goal.returns-clause-damage
-returns-clause-damage g c = damage_then g.S.Shelf.tells g.S.Shelf.world _ _ _ _ _ c.forward.result c.give_number.ensures.still c.give_number.ensures.content
-    (λ told. c.forward.ensures.content.before told) c.in_ok-give_number.ensures.held c.forward.ensures.damage
-
-pub returns-clause-closed : goal.returns-clause-closed
-returns-clause-closed g c = closes_then c.args.self.now c.give_number.new.self c.forward.new.self c.forward.result c.give_number.ensures.still c.forward.ensures.closed
+returns-clause-keeps g c = on_ok_weaker c.forward.result
+    (λ keeps told d working. keeps told d (c.in_ok-give_number.ensures.keeps (c.forward.ensures.does.leaves.content.before told) d working)) c.forward.ensures.keeps

@@ -1,37 +1,36 @@
-use Rattle.reduce_sweep.proofs.LevelKeeps.{is_of_on, working_from, working_to}
-use Rattle.reduce_sweep.proofs.HeldKeeps.{damage_then, closed_reads}
-use Rattle.reduce_sweep.proofs.TurnKeeps.{step_then, step_damage}
-use Rattle.std.proofs.Common.{rules}
-use Rattle.reduce_sweep.proofs.Owning.{own_more}
-use Rattle.reduce_sweep.proofs.LevelKeeps.{remains_then}
+use Rattle.std.proofs.Common.{◌≡◌, ◌≤◌, ◌∙◌, refl, subst, arith, true, false, IsTrue}
+use Rattle.reduce_sweep.specs.Sweeps.{Handles, turns_left}
+use Rattle.reduce_sweep.specs.declared.phase.Phase.TheVariants.{Between}
+use Rattle.reduce_sweep.proofs.Doing.{does_then, does_more}
+use Rattle.reduce_sweep.proofs.TurnKeeps.{falls_then, on_ok_weaker, left_step, left_remains, left_counts}
 use Rattle.reduce_sweep.proofs.reduce.ReduceSweep.handle.Goals as goal
 
-pub returns-clause-content : goal.returns-clause-content
-returns-clause-content g c = own_more g.S.Shelf.tells g.S.Shelf.world _ _ _ _ _ c.handle_level.ensures.task c.handle_level.ensures.content c.open_level.ensures.content
+-- an item of the level was handled
+pub returns-then-branch-clause-in_step : goal.returns-then-branch-clause-in_step
+returns-then-branch-clause-in_step g c = λ told. left_step c.handle_level.new.self.place.phase _ c.handle_level.new.self _
+    (subst (Handles Between c.args.self.now c.handle_level.new.self) c.if-branch.true c.in_ok-handle_level.ensures.handles).0 (c.in_ok-handle_level.ensures.fit.at_work told)
+
+pub returns-then-branch-clause-ends : goal.returns-then-branch-clause-ends
+returns-then-branch-clause-ends g c = left_counts c.handle_level.new.self.place.phase _
+    (subst (Handles Between c.args.self.now c.handle_level.new.self) c.if-branch.true c.in_ok-handle_level.ensures.handles).0
+
+pub returns-then-branch-clause-keeps : goal.returns-then-branch-clause-keeps
+returns-then-branch-clause-keeps g c = λ told d working. left_remains c.handle_level.new.self.place.phase _ c.handle_level.new.self _ d
+    (subst (Handles Between c.args.self.now c.handle_level.new.self) c.if-branch.true c.in_ok-handle_level.ensures.handles).0 (c.in_ok-handle_level.ensures.keeps told d working)
 
 -- the next level opens, or all is done
+pub open_level-requires-clause-phase : goal.open_level-requires-clause-phase
+open_level-requires-clause-phase g c = (subst (Handles Between c.args.self.now c.handle_level.new.self) c.if-branch.false c.in_ok-handle_level.ensures.handles).0
+
+pub returns-clause-does : goal.returns-clause-does
+returns-clause-does g c = does_more g.S.Shelf.tells g.S.Shelf.world g.S.Shelf.faults 118 134 5 6 _ _ _ _ c.open_level.result (omega arith) (omega arith)
+    (does_then g.S.Shelf.tells g.S.Shelf.world g.S.Shelf.faults 102 16 5 0 _ _ _ c.args.self.now c.handle_level.new.self c.open_level.new.self c.handle_level.result c.open_level.result
+    c.requires.fit.sound (subst (Handles Between c.args.self.now c.handle_level.new.self) c.if-branch.false c.in_ok-handle_level.ensures.handles).2 c.handle_level.ensures.does c.open_level.ensures.does)
+
+pub returns-clause-falls : goal.returns-clause-falls
+returns-clause-falls g c = falls_then Between c.args.self.now c.handle_level.new.self c.open_level.new.self c.open_level.result
+    (subst (Handles Between c.args.self.now c.handle_level.new.self) c.if-branch.false c.in_ok-handle_level.ensures.handles) c.open_level.ensures.falls
+
 pub returns-clause-keeps : goal.returns-clause-keeps
-returns-clause-keeps g c = remains_then g.S.Shelf.tells g.S.Shelf.world _ _ _ _ _ _ c.open_level.result (search rules) c.handle_level.ensures.task c.open_level.ensures.task
-    (λ told. c.open_level.ensures.content.before told) c.in_ok-handle_level.ensures.keeps c.open_level.ensures.keeps
-
--- an item of the level was handled
-pub returns-then-branch-clause-keeps : goal.returns-then-branch-clause-keeps
-returns-then-branch-clause-keeps g c = λ told d remains. record {
-  is_of = is_of_on _ _ d c.handle_level.ensures.task remains.is_of;
-  on_the_way = working_to c.handle_level.new.self.phase c.handle_level.new.self _ d c.in_ok-handle_level.ensures.next
-      (c.in_ok-handle_level.ensures.keeps told d remains.is_of (working_from c.args.self.now.phase c.args.self.now _ d (search rules) remains.on_the_way));
-}
-
--- its lists hold what they are to
-pub returns-clause-in_step : goal.returns-clause-in_step
-returns-clause-in_step g c = step_then _ _ _ c.args.self.now c.handle_level.new.self c.open_level.new.self _ _ _ c.open_level.result (search rules)
-    (λ told. c.open_level.ensures.content.before told) (λ told. c.handle_level.ensures.content.before told) c.requires.in_step
-    c.in_ok-handle_level.ensures.held c.open_level.ensures.held
-
--- what is damaged was so before
-pub returns-clause-damage : goal.returns-clause-damage
-returns-clause-damage g c = step_damage _ _ _ c.open_level.result
-    (λ told. c.requires.in_step (c.handle_level.ensures.content.before (c.open_level.ensures.content.before told)) (search rules))
-    (damage_then g.S.Shelf.tells g.S.Shelf.world c.args.self.now c.handle_level.new.self _ _ _ c.open_level.result
-    (closed_reads c.args.self.now c.handle_level.new.self _ c.if-branch.false c.in_ok-handle_level.ensures.closed) c.handle_level.ensures.content
-    (λ told. c.open_level.ensures.content.before told) c.in_ok-handle_level.ensures.held c.open_level.ensures.damage)
+returns-clause-keeps g c = on_ok_weaker c.open_level.result
+    (λ keeps told d working. keeps told d (c.in_ok-handle_level.ensures.keeps (c.open_level.ensures.does.leaves.content.before told) d working)) c.open_level.ensures.keeps

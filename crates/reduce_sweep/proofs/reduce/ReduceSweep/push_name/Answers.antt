@@ -1,15 +1,8 @@
-use Rattle.std.proofs.Common.{refl, arith, ◌≡◌, ◌≤◌}
-use Rattle.reduce_sweep.proofs.CallFrames.{names_join}
+use Rattle.std.proofs.Common.{IsTrue}
+use Rattle.reduce_sweep.proofs.Joining.{names_join}
 use Rattle.reduce_sweep.proofs.reduce.ReduceSweep.push_name.Goals as goal
 
 -- the name joined the list, and only parts were taken
 pub returns-clause-joined : goal.returns-clause-joined
-returns-clause-joined g c =
-    let next : c.parts-parts.result.next ≡ c.args.self.now.next = c.parts-parts.ensures.next_is in
-    let later : c.parts-parts.result.next ≤ c.push-pushed.new.parts.next = c.push-pushed.ensures.parts.later in
-    names_join c.args.self.now _ _ _ (g.S.Shelf.tells _) _ _ _ _ c.requires.sound
-    (record { reader_is = refl; inner_is = refl; end_is = refl; queue_is = refl; rows_is = refl; writer_is = refl; root_is = refl; number_is = refl; pair_is = refl; known_is = refl })
-    refl (omega (arith, next, later)) c.parts-parts.ensures
-    (λ told. c.push-pushed.ensures.content.did told)
-    c.push-pushed.ensures.runs
-    (λ told xs list. c.push-pushed.ensures.list told xs list)
+returns-clause-joined g c = names_join c.args.self.now c.push.new.self c.push.new.parts (IsTrue (g.S.Shelf.tells c.push.new.shelf)) _ _ c.args.name c.push.result
+    c.requires.fit.sound.served (λ told. c.push.ensures.content.did told) (λ told xs list. c.push.ensures.list told xs list)

@@ -1,10 +1,59 @@
-use Rattle.std.proofs.Common.{refl, ◌∙◌, sym}
-use Rattle.reduce_sweep.proofs.CallFrames.{puts_node}
+use Rattle.std.proofs.Common.{◌≡◌, ◌-◌, ◌^◌, ◌∙◌, ap, sym, subst, refl, arith, rules}
+use Rattle.rec_words.specs.Words.{node_word}
+use Rattle.reduce_sweep.specs.declared.phase.Numbered.{Numbered}
+use Rattle.block_stream.specs.Writes.{count_of}
+use Rattle.node_file.specs.Writers.{filling_of}
+use Rattle.reduce_sweep.specs.Sweeps.{IsNumberedAt}
+use Rattle.reduce_sweep.specs.Changes.{numbered_with}
+use Rattle.reduce_sweep.proofs.Joining.{puts_none, puts_node, numbered_next, served_put, work_put}
+use Rattle.reduce_sweep.proofs.Doing.{own_wrote}
+use Rattle.reduce_sweep.proofs.NumberingKeeps.{phase_numbered}
 use Rattle.reduce_sweep.proofs.reduce.ReduceSweep.put_node.Goals as goal
+
+-- no node is put for a pair that has one
+pub returns-then-has_last-clause-put : goal.returns-then-has_last-clause-put
+returns-then-has_last-clause-put g c = λ told k holds.
+    puts_none c.args.self.now.place.level c.args.numbered c.args.row.now _ _ _ _ k (sym c.has_last.ensures ∙ c.if-has_last.true) holds
 
 -- the node stands behind the others
 pub returns-clause-put : goal.returns-clause-put
-returns-clause-put g c = λ told whole k holds.
-    puts_node c.args.self.now _ c.args.row.now c.in-Some.uid 1 _ _ k c.requires.sound (sym c.has_last.ensures.last ∙ c.if-has_last.false) (c.in-Some.ensures.1 ∙ c.node.ensures.value)
-    (record { reader_is = refl; inner_is = refl; end_is = refl; queue_is = refl; rows_is = refl; names_is = refl; step_is = refl; next_is = refl; out_is = c.put.ensures.same.file_is; variables_are = c.put.ensures.variables; root_is = refl; source_is = refl; known_is = refl })
+returns-clause-put g c = λ told k holds.
+    puts_node c.args.self.now.place.level c.args.numbered c.args.row.now c.in-Some.uid 1 c.args.self.now _ _ _ k c.requires.fit.sound.served (sym c.has_last.ensures ∙ c.if-has_last.false)
+    (c.in-Some.ensures.1 ∙ c.node.ensures.value ∙ ap (λ (n : Numbered). node_word c.args.self.now.place.level (2 ^ 47 - n.number)) c.with-next.ensures)
     (c.put.ensures.content.did told) (c.in_ok-put.ensures.holds told) c.in_ok-put.ensures.count holds
+
+-- the row has a number and a node
+pub returns-clause-fit : goal.returns-clause-fit
+returns-clause-fit g c =
+    let s = c.args.self.now in
+    let sound = c.requires.fit.sound in
+    let are = phase_numbered s.place.level (count_of (filling_of s.writer)) s.place.phase c.args.numbered c.requires.phase sound.phase in
+    record {
+      sound = record {
+        served = served_put s.ahead s.lists s.writer c.put.new.self s.parts c.put.ensures.same.file_is sound.served;
+        variables = c.put.ensures.variables ∙ sound.variables;
+        phase = subst (IsNumberedAt s.place.level (count_of (filling_of c.put.new.self))) (sym c.with-next.ensures)
+            (subst (λ m. IsNumberedAt s.place.level m (numbered_with c.args.numbered c.args.row.now)) (sym c.in_ok-put.ensures.count)
+            (numbered_next s.place.level (count_of (filling_of s.writer)) c.args.numbered c.args.row.now (sym c.has_last.ensures ∙ c.if-has_last.false) are));
+      };
+      at_work = λ told. work_put s.ahead s.lists s.writer c.put.new.self s.parts 1 _ _ sound.served (c.put.ensures.content.did told) (c.in_ok-put.ensures.holds told).in_step
+          (c.requires.fit.at_work (c.put.ensures.content.before told));
+    }
+
+-- only the file of the nodes was written to
+pub returns-clause-does : goal.returns-clause-does
+returns-clause-does g c = record {
+  leaves = record {
+    made = λ f e. e ∙ c.put.ensures.same.file_is;
+    making = λ f e. e ∙ sym c.put.ensures.same.file_is;
+    step_is = refl;
+    later = omega arith;
+    content = own_wrote g.S.Shelf.tells g.S.Shelf.world g.S.Shelf.faults _ _ _ 1 _ _ c.put.ensures.content;
+    calls = λ told. (let few = (c.put.ensures.content.did told).few in omega (arith, few));
+    spent = omega arith;
+    faults = search rules;
+  };
+  same = record { out_is = c.put.ensures.same.file_is; inner_is = refl; ends_are = refl; variables_are = refl; root_is = refl };
+  refused = tt;
+  damage = tt;
+}

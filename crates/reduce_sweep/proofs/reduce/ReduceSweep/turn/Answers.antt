@@ -1,19 +1,31 @@
-use Rattle.std.proofs.Common.{ap, ◌∙◌}
-use Rattle.std.specs.Prelude.{Err}
-use Rattle.std.proofs.lemmas.Result.{err_from_is_err_and}
+use Rattle.std.proofs.Common.{◌≡◌, ◌<◌, ◌+◌, arith, IsTrue}
+use Rattle.reduce_sweep.specs.Sweeps.{turns_left, arcs_weight, lists_weight}
+use Rattle.reduce_sweep.proofs.Doing.{damage_after}
 use Rattle.reduce_sweep.proofs.Undamaged.{turns_undamaged}
-use Rattle.reduce_sweep.proofs.TurnKeeps.{step_turned, remains_turned}
+use Rattle.reduce_sweep.proofs.TurnKeeps.{going_left, going_works, turn_reduces, turn_firm, on_ok_weaker}
 use Rattle.reduce_sweep.proofs.reduce.ReduceSweep.turn.Goals as goal
 
--- a turn more was made
-pub returns-then-eq-clause-in_step : goal.returns-then-eq-clause-in_step
-returns-then-eq-clause-in_step g c = λ told. step_turned c.handle.new.self _ _ _ (c.in_ok-turn.ensures.in_step told)
-
-pub returns-then-eq-clause-keeps : goal.returns-then-eq-clause-keeps
-returns-then-eq-clause-keeps g c = λ told d remains. remains_turned c.handle.new.self _ d _ _ (c.in_ok-turn.ensures.keeps told d remains)
-
--- what remains of a diagram isn't damaged
-pub returns-in_err-turn-clause-undamaged : goal.returns-in_err-turn-clause-undamaged
-returns-in_err-turn-clause-undamaged g c =
-    let out = err_from_is_err_and c.from_residual.result c.from_residual.ensures.1 in
-    turns_undamaged _ c.args.self.now (g.S.Shelf.world c.args.shelf.now) c.from_residual.result c.in_err-turn.field-0.0 (out.1 ∙ ap Err out.2) c.in_err-turn.ensures.going c.in_err-turn.ensures.damage
+-- an item was handled, or the reduction ended
+pub returns : goal.returns
+returns g c =
+    let s = c.args.self.now in
+    let t = c.handle.new.self in
+    let old = g.S.Shelf.world c.args.shelf.now in
+    let new = g.S.Shelf.world c.handle.new.shelf in
+    let going = c.in_default.not-Ended in
+    let keeps = on_ok_weaker c.handle.result (λ keeps told d remains. keeps told d (going_works s.place.phase s old d going remains)) c.handle.ensures.keeps in
+    record {
+      ready = c.handle.ensures.sound;
+      in_step = c.handle.ensures.in_step;
+      falls = c.handle.ensures.falls;
+      ended = λ none. (let some : 0 < turns_left s = going_left s.place.phase (arcs_weight s.ahead + lists_weight s.lists) going in absurd (omega (arith, none, some)));
+      ends = c.handle.ensures.ends;
+      firm = turn_firm (IsTrue (g.S.Shelf.tells c.handle.new.shelf)) t new c.handle.result c.handle.ensures.ends c.handle.ensures.in_step;
+      keeps = keeps;
+      reduced = turn_reduces (IsTrue (g.S.Shelf.tells c.handle.new.shelf)) s t old new c.handle.result c.handle.ensures.ends keeps;
+      damage = c.handle.ensures.does.damage;
+      damaged = damage_after g.S.Shelf.tells g.S.Shelf.world g.S.Shelf.faults 134 6 _ _ s t c.handle.result c.requires.ready c.handle.ensures.does;
+      undamaged = turns_undamaged (IsTrue (g.S.Shelf.tells c.handle.new.shelf)) s old c.handle.result (λ d remains. going_works s.place.phase s old d going remains) c.handle.ensures.does.damage;
+      leaves = c.handle.ensures.does.leaves;
+      refused = c.handle.ensures.does.refused;
+    }

@@ -1,0 +1,199 @@
+-- Calls within a turn, one behind the other: what they leave and cost together, and what is damaged.
+use Rattle.std.proofs.Common.{◌≡◌, ℕ, ◌+◌, ◌-◌, ◌≤◌, ◌∙◌, Bool, refl, arith, subst, sym, ap, inl, inr}
+use Rattle.std.specs.Prelude.{Result, Ok, Err, IsErrAnd, IfErr, IsTrue, List}
+use Rattle.shelf_model.specs.declared.file_no.FileNo.{FileNo}
+use Rattle.shelf_model.specs.declared.sort_fault.SortFault.{SortFault}
+use Rattle.shelf_model.specs.declared.sort_fault.SortFault.TheVariants.{Shelf, Damaged, RunsSpent, RoomFull}
+use Rattle.shelf_model.specs.File.{File, IsKept}
+use Rattle.shelf_model.specs.Folder.{file_in}
+use Rattle.shelf_model.specs.Calls.{Told}
+use Rattle.shelf_model.specs.Moments.{Ran}
+use Rattle.block_stream.specs.Writes.{DuringWrite, Wrote}
+use Rattle.shelf_model.specs.Faults.{Faults}
+use Rattle.shelf_model.specs.World.{World, now, file}
+use Rattle.shelf_model.proofs.Runs.{told, ran_end, ran_weakens}
+use Rattle.arc_file.specs.declared.reader.ArcReader.{ArcReader}
+use Rattle.arc_file.specs.declared.kind.Kind.{Kind}
+use Rattle.arc_file.specs.declared.kind.Kind.TheVariants.{Inner, End}
+use Rattle.arc_file.specs.declared.stream.ArcStream.{ArcStream}
+use Rattle.arc_file.specs.Files.{IsDamagedArc}
+use Rattle.arc_file.specs.Streams.{file_of, left_of, given_of}
+use Rattle.arc_file.specs.Readers.{inner_of, ends_of}
+use Rattle.sweep_core.specs.Accounts.{OnlyOwn, Leaves}
+use Rattle.sweep_core.proofs.Leaving.{leaves_then, leaves_more, leaves_ok, leaves_err}
+use Rattle.reduce_sweep.specs.declared.place.Place.{Place}
+use Rattle.reduce_sweep.specs.declared.reduce.ReduceSweep.{ReduceSweep}
+use Rattle.reduce_sweep.specs.Sweeps.{out_of, inner_file, ends_file, accounts, IsSound, Refuses}
+use Rattle.reduce_sweep.specs.Damage.{IsDamagedIn, IsDamageOf, IsDamagedRecord, IsDamage}
+use Rattle.reduce_sweep.specs.Calls.{SameTask, Does}
+
+-- a task that stays, and stays again
+pub task_then : (p q r : ReduceSweep) → SameTask p q → SameTask q r → SameTask p r
+task_then p q r first second = record {
+  out_is = second.out_is ∙ first.out_is;
+  inner_is = second.inner_is ∙ first.inner_is;
+  ends_are = second.ends_are ∙ first.ends_are;
+  variables_are = second.variables_are ∙ first.variables_are;
+  root_is = second.root_is ∙ first.root_is;
+}
+
+-- what is damaged in a file was so while its bytes were the same
+damaged_before : (kind : Kind) (s : ArcStream) (old new : World) (f : FileNo) (at : ℕ) → (file new (file_of s)).bytes ≡ (file old (file_of s)).bytes
+    → IsDamagedIn kind s new f at → IsDamagedIn kind s old f at
+damaged_before kind s old new f at same d = record {
+  file_is = d.file_is;
+  some = d.some;
+  at_is = d.at_is;
+  damaged = subst (λ bytes. IsDamagedArc kind (left_of s - 1) bytes (given_of s)) (subst (λ g. (file new g).bytes ≡ (file old g).bytes) (sym d.file_is) same) d.damaged;
+}
+
+pub damage_before : (r : ArcReader) (old new : World) (e : SortFault) → (file new (file_of (inner_of r))).bytes ≡ (file old (file_of (inner_of r))).bytes
+    → (file new (file_of (ends_of r))).bytes ≡ (file old (file_of (ends_of r))).bytes → IsDamageOf r new e → IsDamageOf r old e
+damage_before r old new Shelf inner ends damage = tt
+damage_before r old new (Damaged f at) inner ends damage = elim damage [
+  | inl d ↦ inl (damaged_before Inner (inner_of r) old new f at inner d)
+  | inr d ↦ inr (damaged_before End (ends_of r) old new f at ends d)
+]
+damage_before r old new RunsSpent inner ends damage = tt
+damage_before r old new RoomFull inner ends damage = tt
+
+-- what is damaged now is a record that is damaged then, where the bytes of the file are the same
+damaged_after : (kind : Kind) (s t : ArcStream) (old new : World) (f : FileNo) (at : ℕ) → file_of t ≡ file_of s → (file new (file_of s)).bytes ≡ (file old (file_of s)).bytes
+    → IsDamagedIn kind s old f at → IsDamagedRecord kind (file_of t) new f at
+damaged_after kind s t old new f at place same d = record {
+  place = left_of s - 1;
+  given = given_of s;
+  file_is = d.file_is ∙ sym place;
+  at_is = d.at_is;
+  damaged = subst (λ bytes. IsDamagedArc kind (left_of s - 1) bytes (given_of s)) (sym (subst (λ g. (file new g).bytes ≡ (file old g).bytes) (sym d.file_is) same)) d.damaged;
+}
+
+-- what follows from a fact about why a call was refused
+pub if_err_weaker : {T E : Type 0} {P Q : E → Type 0} (result : Result T E) → ((e : E) → P e → Q e) → IfErr result P → IfErr result Q
+if_err_weaker (Ok x) weaker p = tt
+if_err_weaker (Err e) weaker p = weaker e p
+
+module _ {S : Type 0} (tells : S → Bool) (world : S → World) (counts : S → Faults) where
+  -- a call leaves the bytes of the arc files
+  pub arcs_stay : {T : Type 0} (m a : ℕ) (s t : S) (p q : ReduceSweep) (result : Result T SortFault) → IsSound p → Does tells world counts m a s t p q result → IsTrue (tells t)
+      → ((file (world t) (inner_file p)).bytes ≡ (file (world s) (inner_file p)).bytes) × ((file (world t) (ends_file p)).bytes ≡ (file (world s) (ends_file p)).bytes)
+  arcs_stay m a s t p q result sound x told =
+      let own = ran_end (world s) (world t) (OnlyOwn (accounts.makes p) p.parts.step p.parts.next (now (world s))) (x.leaves.content.did told) in (
+        ap (λ (f : File). f.bytes) (own.others (inner_file p) sound.served.out_inner sound.served.inner_made),
+        ap (λ (f : File). f.bytes) (own.others (ends_file p) sound.served.out_ends sound.served.ends_made),
+      )
+
+  -- one call after another that read no arc
+  pub does_then : {A B : Type 0} (m n a b : ℕ) (s t u : S) (p q r : ReduceSweep) (one : Result A SortFault) (two : Result B SortFault) → IsSound p → q.ahead.reader ≡ p.ahead.reader
+      → Does tells world counts m a s t p q one → Does tells world counts n b t u q r two → Does tells world counts (m + n) (a + b) s u p r two
+  does_then m n a b s t u p q r one two sound reader x y = record {
+    leaves = leaves_then tells world counts accounts m n a b s t u p q r one two x.leaves y.leaves;
+    same = task_then p q r x.same y.same;
+    refused = subst (λ v. v) (λ j. IfErr two (Refuses (x.same.inner_is j) (x.same.ends_are j) r)) y.refused;
+    damage = if_err_weaker two (λ e damage told.
+        let stay = arcs_stay m a s t p q one sound x (y.leaves.content.before told) in
+        damage_before p.ahead.reader (world s) (world t) e stay.0 stay.1 (subst (λ (v : ArcReader). IsDamageOf v (world t) e) reader (damage told))) y.damage;
+  }
+
+  -- a call costs no more than what is more
+  pub does_more : {T : Type 0} (m n a b : ℕ) (s t : S) (p q : ReduceSweep) (result : Result T SortFault) → m ≤ n → a ≤ b
+      → Does tells world counts m a s t p q result → Does tells world counts n b s t p q result
+  does_more m n a b s t p q result calls parts x = record {
+    leaves = leaves_more tells world counts accounts m n a b s t p q result calls parts x.leaves;
+    same = x.same;
+    refused = x.refused;
+    damage = x.damage;
+  }
+
+  -- what is answered instead where nothing failed
+  pub does_ok : {A B : Type 0} (m a : ℕ) (s t : S) (p q : ReduceSweep) (result : Result A SortFault) (x : B)
+      → Does tells world counts m a s t p q result → Does tells world counts m a s t p q (Ok x)
+  does_ok m a s t p q result x d = record {
+    leaves = leaves_ok tells world counts accounts m a s t p q result x d.leaves;
+    same = d.same;
+    refused = tt;
+    damage = tt;
+  }
+
+  -- a refusal that is handed on
+  pub does_err : {A B : Type 0} (m a : ℕ) (s t : S) (p q : ReduceSweep) (result : Result A SortFault) (before : Result B SortFault) (e : SortFault)
+      → IsErrAnd result (λ f. f ≡ e) → before ≡ Err e → Does tells world counts m a s t p q before → Does tells world counts m a s t p q result
+  does_err m a s t p q (Ok x) before e is was d = absurd is
+  does_err m a s t p q (Err f) before e is was d =
+      let same : before ≡ Err f = was ∙ ap Err (sym is) in
+      record {
+        leaves = leaves_err tells world counts accounts m a s t p q (Err f) before e is was d.leaves;
+        same = d.same;
+        refused = subst (λ r. IfErr r (Refuses (inner_file p) (ends_file p) q)) same d.refused;
+        damage = subst (λ r. IfErr r (λ g. IsTrue (tells t) → IsDamageOf p.ahead.reader (world s) g)) same d.damage;
+      }
+
+  -- two calls, of which the second one was refused, and two that succeeded
+  pub refused_second : {A B C : Type 0} (m n a b most parts : ℕ) (s t u : S) (p q r : ReduceSweep) (one : Result A SortFault) (two : Result B SortFault) (result : Result C SortFault) (e : SortFault)
+      → m + n ≤ most → a + b ≤ parts → IsSound p → q.ahead.reader ≡ p.ahead.reader → Does tells world counts m a s t p q one → Does tells world counts n b t u q r two
+      → IsErrAnd result (λ f. f ≡ e) → two ≡ Err e → Does tells world counts most parts s u p r result
+  refused_second m n a b most parts s t u p q r one two result e calls more sound reader x y is was =
+      does_more (m + n) most (a + b) parts s u p r result calls more (does_err (m + n) (a + b) s u p r result two e is was (does_then m n a b s t u p q r one two sound reader x y))
+
+  pub then_ok : {A B C : Type 0} (m n a b most parts : ℕ) (s t u : S) (p q r : ReduceSweep) (one : Result A SortFault) (two : Result B SortFault) (x : C)
+      → m + n ≤ most → a + b ≤ parts → IsSound p → q.ahead.reader ≡ p.ahead.reader → Does tells world counts m a s t p q one → Does tells world counts n b t u q r two
+      → Does tells world counts most parts s u p r (Ok x)
+  then_ok m n a b most parts s t u p q r one two x calls more sound reader first second =
+      does_more (m + n) most (a + b) parts s u p r (Ok x) calls more (does_ok (m + n) (a + b) s u p r two x (does_then m n a b s t u p q r one two sound reader first second))
+
+  -- the place within the task is another
+  pub does_placed : {T : Type 0} (m a : ℕ) (s t : S) (p q : ReduceSweep) (result : Result T SortFault) (place : Place) → place.variables ≡ q.place.variables → place.root ≡ q.place.root
+      → Does tells world counts m a s t p q result → Does tells world counts m a s t p (record q { place = place }) result
+  does_placed m a s t p q result place variables root d = record {
+    leaves = record {
+      made = d.leaves.made;
+      making = d.leaves.making;
+      step_is = d.leaves.step_is;
+      later = d.leaves.later;
+      content = d.leaves.content;
+      calls = d.leaves.calls;
+      spent = d.leaves.spent;
+      faults = d.leaves.faults;
+    };
+    same = record {
+      out_is = d.same.out_is;
+      inner_is = d.same.inner_is;
+      ends_are = d.same.ends_are;
+      variables_are = variables ∙ d.same.variables_are;
+      root_is = root ∙ d.same.root_is;
+    };
+    refused = by result d.refused;
+    damage = d.damage;
+  }
+    where
+      by : {X : Type 0} (r : Result X SortFault) → IfErr r (Refuses (inner_file p) (ends_file p) q) → IfErr r (Refuses (inner_file p) (ends_file p) (record q { place = place }))
+      by (Ok x) why = tt
+      by (Err Shelf) why = why
+      by (Err (Damaged f at)) why = why
+      by (Err RunsSpent) why = why
+      by (Err RoomFull) why = why
+
+  -- where damage is once a turn was refused
+  pub damage_after : {T : Type 0} (m a : ℕ) (s t : S) (p q : ReduceSweep) (result : Result T SortFault) → IsSound p → Does tells world counts m a s t p q result
+      → IfErr result (λ e. IsTrue (tells t) → IsDamage q (world t) e)
+  damage_after m a s t p q result sound x = if_err_weaker result (λ e damage told. by e (arcs_stay m a s t p q result sound x told) (damage told)) x.damage
+    where
+      by : (e : SortFault) → ((file (world t) (inner_file p)).bytes ≡ (file (world s) (inner_file p)).bytes) × ((file (world t) (ends_file p)).bytes ≡ (file (world s) (ends_file p)).bytes)
+          → IsDamageOf p.ahead.reader (world s) e → IsDamage q (world t) e
+      by Shelf stay damage = tt
+      by (Damaged f at) stay damage = elim damage [
+        | inl d ↦ inl (damaged_after Inner (inner_of p.ahead.reader) (inner_of q.ahead.reader) (world s) (world t) f at x.same.inner_is stay.0 d)
+        | inr d ↦ inr (damaged_after End (ends_of p.ahead.reader) (ends_of q.ahead.reader) (world s) (world t) f at x.same.ends_are stay.1 d)
+      ]
+      by RunsSpent stay damage = tt
+      by RoomFull stay damage = tt
+
+  -- a write to the file that is made
+  pub own_wrote : (out : FileNo) (step next n : ℕ) (s t : S) → Told tells s t (Wrote n out (world s) (world t))
+      → Told tells s t (Ran (OnlyOwn (λ f. f ≡ out) step next (now (world s))) (world s) (world t))
+  own_wrote out step next n s t did = told tells s t _ _ did (λ _ wrote.
+      ran_weakens (world s) (world t) (DuringWrite out (now (world s))) (OnlyOwn (λ f. f ≡ out) step next (now (world s))) (λ m during. record {
+        others = λ f other apart. during.others f other;
+        kept = λ f mine front kept. subst (λ g. IsKept front (file_in m.folder g)) (sym mine)
+            (during.kept front (subst (λ g. IsKept front (file_in (now (world s)).folder g)) mine kept));
+      }) wrote.run)

@@ -1,0 +1,21 @@
+use Rattle.std.proofs.Common.{refl, rules, IsTrue}
+use Rattle.reduce_sweep.proofs.Joining.{end_passes, end_damaged}
+use Rattle.reduce_sweep.proofs.reduce.ReduceSweep.read_end.Goals as goal
+
+-- the arc before it is the next one
+pub returns-clause-passed : goal.returns-clause-passed
+returns-clause-passed g c = λ told k arc at holds.
+    end_passes c.args.self.now c.next_end.new.self _ c.args.self.now.ahead.end _ _ k arc refl c.requires.there c.requires.fit.sound.served (c.next_end.ensures.content.did told).run
+    c.next_end.ensures.inner c.next_end.ensures.file c.in_ok-self.ensures.place
+    (c.in_ok-self.ensures.arcs told (c.requires.fit.at_work (c.next_end.ensures.content.before told)).reads_ends) at holds
+
+-- the damage is that of the arc that was to be read
+pub returns-in_err-self-clause-does : goal.returns-in_err-self-clause-does
+returns-in_err-self-clause-does g c = record {
+  leaves = search rules;
+  same = search rules;
+  refused = search rules;
+  damage = end_damaged c.args.self.now.ahead.reader (g.S.Shelf.world c.args.shelf.now) (IsTrue (g.S.Shelf.tells c.next_end.new.shelf)) c.from_residual.result c.in_err-self.field-0.0
+      c.from_residual.ensures.1 c.in_err-self.ensures.place
+      (λ told. c.in_err-self.ensures.value told (c.requires.fit.at_work (c.next_end.ensures.content.before told)).reads_ends);
+}
