@@ -31,11 +31,13 @@ fn refuses_a_wide_level(rt: HostRuntime) -> Result<bool, Fail> {
     let begun = !left.is_empty() && left.len() <= BELOW && wanted.starts_with(left);
     let mut wider = vec![in rt.alloc(); EMPTY; 2 * LEAST_ROOM]?;
     let count = reduce(16, made, wider.as_mut_slice(), &mut bench)?;
-    Ok(next == Some(LEVEL_12.to_be_bytes().as_slice())
-        && refused == Some(SortFault::RoomFull)
-        && begun
-        && bench.file(OUT) == wanted.as_slice()
-        && count == Some((wanted.len() as u64 / 24).saturating_sub(1)))
+    Ok(
+        next == Some(LEVEL_12.to_be_bytes().as_slice())
+            && refused == Some(SortFault::RoomFull)
+            && begun
+            && bench.file(OUT) == wanted.as_slice()
+            && count == Some((wanted.len() as u64 / 24).saturating_sub(1)),
+    )
 }
 
 #[test]
@@ -55,9 +57,7 @@ fn ends_at(rt: HostRuntime, call: u64) -> Result<Option<bool>, Fail> {
     let before = bench.clock();
     let mut room = vec![in rt.alloc(); EMPTY; LEAST_ROOM]?;
     match reduce(2, made, room.as_mut_slice(), &mut bench) {
-        Ok(count) => Ok(Some(
-            count == Some(3) && bench.clock() <= before.saturating_add(call),
-        )),
+        Ok(count) => Ok(Some(count == Some(3) && bench.clock() <= before.saturating_add(call))),
         Err(SortFault::Shelf) => Ok(None),
         Err(_) => Ok(Some(false)),
     }

@@ -27,8 +27,10 @@ fn leaves_the_file_of(rt: HostRuntime, n: u32, seed: u64) -> Result<bool, Fail>
     let made = write_arcs(root, arcs.as_slice(), &mut bench)?;
     let mut room = vec![in rt.alloc(); EMPTY; LEAST_ROOM]?;
     let count = reduce(n, made, room.as_mut_slice(), &mut bench)?;
-    Ok(bench.file(OUT) == wanted.as_slice()
-        && count == Some((wanted.len() as u64 / 24).saturating_sub(1)))
+    Ok(
+        bench.file(OUT) == wanted.as_slice()
+            && count == Some((wanted.len() as u64 / 24).saturating_sub(1)),
+    )
 }
 
 // So are all tables of up to ten variables.
