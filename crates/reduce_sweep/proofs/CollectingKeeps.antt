@@ -193,13 +193,21 @@ pub rest_of : (queued : Bool) (t : ReduceSweep) (world : World) (k l : Contents)
 rest_of true t world k l a queue ends (rest, first, holds) = (
   record l { queue = rest; last = Some a },
   subst (λ v. v) (λ j. SameMembers (map as_arc ((sym first ∙ queue) j) ++ ends j) (as_arc a ∷ (map as_arc rest ++ l.ends))) (same_self (as_arc a ∷ (map as_arc rest ++ l.ends))),
-  holds, refl, refl, refl, refl,
+  holds,
+  refl,
+  refl,
+  refl,
+  refl,
   λ i deep taken. deep,
 )
 rest_of false t world k l a queue ends (front, last, holds) = (
   record l { ends = front },
   subst (λ v. v) (λ j. SameMembers (map as_arc (queue j) ++ (sym last ∙ ends) j) (as_arc a ∷ (map as_arc l.queue ++ front))) (taken_last (map as_arc l.queue) front (as_arc a)),
-  holds, refl, refl, refl, refl,
+  holds,
+  refl,
+  refl,
+  refl,
+  refl,
   λ i deep taken. taken,
 )
 

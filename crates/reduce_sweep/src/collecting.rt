@@ -20,7 +20,11 @@ impl<'r> ReduceSweep<'r> {
     /// Collects an arc of the level at hand, or ends the collecting where the next one is of a shallower level.
     ///
     /// An arc of a deeper level is passed over: no file that this program wrote has one.
-    pub(crate) fn collect<S: Shelf>(&mut self, source: Source, shelf: &mut S) -> Result<bool, SortFault>
+    pub(crate) fn collect<S: Shelf>(
+        &mut self,
+        source: Source,
+        shelf: &mut S,
+    ) -> Result<bool, SortFault>
         requires phase { self.old.place.phase ≡ Phase.Collect source }
         requires fit { IsFit S.tells S.world shelf.old self.old }
         ensures does { Does S.tells S.world S.faults 32 1 shelf.old shelf.new self.old self.new result }
@@ -80,8 +84,10 @@ impl<'r> ReduceSweep<'r> {
         ensures does { Does S.tells S.world S.faults 16 1 shelf.old shelf.new self.old self.new result }
         ensures fit { OnOk result (IsFit S.tells S.world shelf.new self.new) }
         ensures rest { self.new ≡ record self.old {
-            place = record self.old.place { phase = self.new.place.phase };
-            lists = self.new.lists; parts = self.new.parts } }
+          place = record self.old.place { phase = self.new.place.phase };
+          lists = self.new.lists;
+          parts = self.new.parts;
+        } }
         ensures phase { OnOk result (self.new.place.phase ≡ Phase.Collect (noted_with source arc.now)) }
         ensures weight { OnOk result (lists_weight self.new.lists ≤ lists_weight self.old.lists + 2) }
         ensures closed { OnOk result (IsTrue (S.tells shelf.new) → (k : Contents) →

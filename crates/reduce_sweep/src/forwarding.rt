@@ -96,8 +96,9 @@ impl<'r> ReduceSweep<'r> {
         ensures does { Does S.tells S.world S.faults 2 0 shelf.old shelf.new self.old self.new result }
         ensures fit { OnOk result (IsFit S.tells S.world shelf.new self.new) }
         ensures rest { self.new ≡ record self.old {
-            place = record self.old.place { known = self.new.place.known };
-            lists = record self.old.lists { names = self.new.lists.names } } }
+          place = record self.old.place { known = self.new.place.known };
+          lists = record self.old.lists { names = self.new.lists.names };
+        } }
         ensures known { OnOk result (self.new.place.known ≡ known_with self.old.place name.now) }
         ensures weight { OnOk result (lists_weight self.new.lists + 1 ≡ lists_weight self.old.lists) }
         ensures left { OnOk result (IsTrue (S.tells shelf.new) → (k : Contents) → (m : Name) → (rest : List Name) →

@@ -14,12 +14,18 @@ impl<'r> ReduceSweep<'r> {
     ghost use Rattle.reduce_sweep.specs.Calls.{Does, IsFit};
 
     /// Puts a row into its list.
-    pub(crate) fn push_row<S: Shelf>(&mut self, row: SourceRow, shelf: &mut S) -> Result<(), SortFault>
+    pub(crate) fn push_row<S: Shelf>(
+        &mut self,
+        row: SourceRow,
+        shelf: &mut S,
+    ) -> Result<(), SortFault>
         requires fit { IsFit S.tells S.world shelf.old self.old }
         ensures does { Does S.tells S.world S.faults 16 1 shelf.old shelf.new self.old self.new result }
         ensures fit { OnOk result (IsFit S.tells S.world shelf.new self.new) }
         ensures rest { self.new ≡ record self.old {
-            lists = record self.old.lists { rows = self.new.lists.rows }; parts = self.new.parts } }
+          lists = record self.old.lists { rows = self.new.lists.rows };
+          parts = self.new.parts;
+        } }
         ensures weight { OnOk result (lists_weight self.new.lists ≡ lists_weight self.old.lists + 2) }
         ensures joined { OnOk result (IsTrue (S.tells shelf.new) → (k : Contents) →
             Holds self.old.ahead self.old.lists self.old.writer (S.world shelf.old) k →
@@ -34,7 +40,9 @@ impl<'r> ReduceSweep<'r> {
         ensures does { Does S.tells S.world S.faults 16 1 shelf.old shelf.new self.old self.new result }
         ensures fit { OnOk result (IsFit S.tells S.world shelf.new self.new) }
         ensures rest { self.new ≡ record self.old {
-            lists = record self.old.lists { names = self.new.lists.names }; parts = self.new.parts } }
+          lists = record self.old.lists { names = self.new.lists.names };
+          parts = self.new.parts;
+        } }
         ensures weight { OnOk result (lists_weight self.new.lists ≡ lists_weight self.old.lists + 1) }
         ensures joined { OnOk result (IsTrue (S.tells shelf.new) → (k : Contents) →
             Holds self.old.ahead self.old.lists self.old.writer (S.world shelf.old) k →
@@ -44,7 +52,10 @@ impl<'r> ReduceSweep<'r> {
     }
 
     /// Takes the first row.
-    pub(crate) fn next_row<S: Shelf>(&mut self, shelf: &mut S) -> Result<Option<SourceRow>, SortFault>
+    pub(crate) fn next_row<S: Shelf>(
+        &mut self,
+        shelf: &mut S,
+    ) -> Result<Option<SourceRow>, SortFault>
         requires fit { IsFit S.tells S.world shelf.old self.old }
         ensures does { Does S.tells S.world S.faults 2 0 shelf.old shelf.new self.old self.new result }
         ensures fit { OnOk result (IsFit S.tells S.world shelf.new self.new) }

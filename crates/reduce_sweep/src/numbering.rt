@@ -66,7 +66,11 @@ impl<'r> ReduceSweep<'r> {
     /// Names the source of the next row, whose node is put where its pair is a new one.
     ///
     /// A row of another level is taken without effect: no list that this program wrote has one.
-    pub(crate) fn give_number<S: Shelf>(&mut self, numbered: Numbered, shelf: &mut S) -> Result<bool, SortFault>
+    pub(crate) fn give_number<S: Shelf>(
+        &mut self,
+        numbered: Numbered,
+        shelf: &mut S,
+    ) -> Result<bool, SortFault>
         requires phase { self.old.place.phase ≡ Phase.Number numbered }
         requires fit { IsFit S.tells S.world shelf.old self.old }
         ensures does { Does S.tells S.world S.faults 19 1 shelf.old shelf.new self.old self.new result }
@@ -98,9 +102,11 @@ impl<'r> ReduceSweep<'r> {
         ensures does { Does S.tells S.world S.faults 17 1 shelf.old shelf.new self.old self.new result }
         ensures fit { OnOk result (IsFit S.tells S.world shelf.new self.new) }
         ensures rest { self.new ≡ record self.old {
-            place = record self.old.place { phase = self.new.place.phase };
-            lists = record self.old.lists { names = self.new.lists.names };
-            writer = self.new.writer; parts = self.new.parts } }
+          place = record self.old.place { phase = self.new.place.phase };
+          lists = record self.old.lists { names = self.new.lists.names };
+          writer = self.new.writer;
+          parts = self.new.parts;
+        } }
         ensures phase { OnOk result (self.new.place.phase ≡ Phase.Number (numbered_with numbered row.now)) }
         ensures weight { OnOk result (lists_weight self.new.lists ≡ lists_weight self.old.lists + 1) }
         ensures named { OnOk result (IsTrue (S.tells shelf.new) → (k : Contents) →
@@ -129,12 +135,14 @@ impl<'r> ReduceSweep<'r> {
         ensures number { IfOk result (λ next. next ≡ numbered_with numbered row.now) }
         ensures some { IfOk result (λ next. (1 ≤ next.number) × (next.number ≤ 2 ^ 47)) }
         ensures rest { self.new ≡ record self.old {
-            place = record self.old.place { phase = self.new.place.phase }; writer = self.new.writer } }
+          place = record self.old.place { phase = self.new.place.phase };
+          writer = self.new.writer;
+        } }
         ensures phase { self.new.place.phase ≡ Phase.Number (numbered_with numbered row.now) }
         ensures put { OnOk result (IsTrue (S.tells shelf.new) → (k : Contents) →
             Holds self.old.ahead self.old.lists self.old.writer (S.world shelf.old) k →
             Holds self.new.ahead self.new.lists self.new.writer (S.world shelf.new)
-                (record k { nodes = nodes_with self.old.place.level numbered row.now k.nodes })) }
+            (record k { nodes = nodes_with self.old.place.level numbered row.now k.nodes })) }
     {
         let next = numbered.with(row);
         self.place.phase = Phase::Number(next);

@@ -43,7 +43,9 @@ impl<'r> ReduceSweep<'r> {
         ensures does { Does S.tells S.world S.faults 48 3 shelf.old shelf.new self.old self.new result }
         ensures fit { OnOk result (IsFit S.tells S.world shelf.new self.new) }
         ensures rest { self.new ≡ record self.old {
-            ahead = record self.old.ahead { queue = self.new.ahead.queue }; parts = self.new.parts } }
+          ahead = record self.old.ahead { queue = self.new.ahead.queue };
+          parts = self.new.parts;
+        } }
         ensures weight { OnOk result (arcs_weight self.new.ahead ≤ arcs_weight self.old.ahead + 3) }
         ensures joined { OnOk result (IsTrue (S.tells shelf.new) → (k : Contents) →
             Holds self.old.ahead self.old.lists self.old.writer (S.world shelf.old) k →
@@ -80,7 +82,9 @@ impl<'r> ReduceSweep<'r> {
         ensures does { Does S.tells S.world S.faults 8 0 shelf.old shelf.new self.old self.new result }
         ensures fit { OnOk result (IsFit S.tells S.world shelf.new self.new) }
         ensures rest { self.new ≡ record self.old {
-            ahead = record self.old.ahead { queue = self.new.ahead.queue }; parts = self.new.parts } }
+          ahead = record self.old.ahead { queue = self.new.ahead.queue };
+          parts = self.new.parts;
+        } }
         ensures weight { OnOk result (arcs_weight self.new.ahead + 3 ≡ arcs_weight self.old.ahead) }
         ensures taken { OnOk result (IsTrue (S.tells shelf.new) → (k : Contents) → (arc : FinalArc) → IsAt true k arc →
             Holds self.old.ahead self.old.lists self.old.writer (S.world shelf.old) k →
@@ -96,8 +100,12 @@ impl<'r> ReduceSweep<'r> {
         requires fit { IsFit S.tells S.world shelf.old self.old }
         ensures does { Does S.tells S.world S.faults 1 0 shelf.old shelf.new self.old self.new result }
         ensures fit { OnOk result (IsFit S.tells S.world shelf.new self.new) }
-        ensures rest { self.new ≡ record self.old { ahead = record self.old.ahead {
-            reader = self.new.ahead.reader; end = self.new.ahead.end } } }
+        ensures rest { self.new ≡ record self.old {
+          ahead = record self.old.ahead {
+            reader = self.new.ahead.reader;
+            end = self.new.ahead.end;
+          };
+        } }
         ensures weight { OnOk result (arcs_weight self.new.ahead + 3 ≡ arcs_weight self.old.ahead) }
         ensures passed { OnOk result (IsTrue (S.tells shelf.new) → (k : Contents) → (arc : FinalArc) → IsAt false k arc →
             Holds self.old.ahead self.old.lists self.old.writer (S.world shelf.old) k →
@@ -113,8 +121,12 @@ impl<'r> ReduceSweep<'r> {
         requires fit { IsFit S.tells S.world shelf.old self.old }
         ensures does { Does S.tells S.world S.faults 1 0 shelf.old shelf.new self.old self.new result }
         ensures fit { OnOk result (IsFit S.tells S.world shelf.new self.new) }
-        ensures rest { self.new ≡ record self.old { ahead = record self.old.ahead {
-            reader = self.new.ahead.reader; inner = self.new.ahead.inner } } }
+        ensures rest { self.new ≡ record self.old {
+          ahead = record self.old.ahead {
+            reader = self.new.ahead.reader;
+            inner = self.new.ahead.inner;
+          };
+        } }
         ensures weight { OnOk result (arcs_weight self.new.ahead + 4 ≡ arcs_weight self.old.ahead) }
         ensures passed { OnOk result (IsTrue (S.tells shelf.new) → (k : Contents) →
             Holds self.old.ahead self.old.lists self.old.writer (S.world shelf.old) k →

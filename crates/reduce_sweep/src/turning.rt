@@ -104,7 +104,11 @@ impl<'r> ReduceSweep<'r> {
     }
 
     // Numbers a row, or goes on to the names.
-    fn from_number<S: Shelf>(&mut self, numbered: Numbered, shelf: &mut S) -> Result<bool, SortFault>
+    fn from_number<S: Shelf>(
+        &mut self,
+        numbered: Numbered,
+        shelf: &mut S,
+    ) -> Result<bool, SortFault>
         requires phase { self.old.place.phase ≡ Phase.Number numbered }
         requires fit { IsFit S.tells S.world shelf.old self.old }
         ensures does { Does S.tells S.world S.faults 70 4 shelf.old shelf.new self.old self.new result }

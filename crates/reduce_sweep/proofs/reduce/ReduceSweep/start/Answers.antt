@@ -92,18 +92,18 @@ returns-clause-remains g c = λ told d inner ends has_inner has_ends arcs diagra
       contents = at_first inner ends;
       holds = held_at_first a c.in_ok-writer.writer c.args.made c.args.out c.start-reader.result c.next_inner.new.self (g.S.Shelf.world c.args.shelf.now) (g.S.Shelf.world c.start.new.shelf)
           (g.S.Shelf.world c.next_inner.new.shelf) (g.S.Shelf.world c.next_end.new.shelf) (record {
-      apart_inner = c.requires.apart_inner;
-      apart_ends = c.requires.apart_ends;
-      cut = c.start.ensures.content.did cut_told;
-      looked = c.next_inner.ensures.content.did read_told;
-      again = c.next_end.ensures.content.did told;
-      no_inner = record { place = ap (λ (u : Unreduced). u.inner) left; reads = c.start-reader.ensures.reads_inner; arcs = c.start-reader.ensures.inner_arcs };
-      no_end = record { place = ap (λ (u : Unreduced). u.ends) left; reads = c.start-reader.ensures.reads_ends; arcs = c.start-reader.ensures.end_arcs };
-      ends_kept = c.in_ok-inner.ensures.ends;
-      inner_kept = c.in_ok-end.ensures.inner;
-      one_inner = record { place = c.in_ok-inner.ensures.file; up = c.in_ok-inner.ensures.place; reads = c.in_ok-inner.ensures.reads read_told; arcs = c.in_ok-inner.ensures.arcs read_told };
-      one_end = record { place = c.in_ok-end.ensures.file; up = c.in_ok-end.ensures.place; reads = c.in_ok-end.ensures.reads told; arcs = c.in_ok-end.ensures.arcs told };
-      written = c.in_ok-writer.ensures.holds cut_told;
+            apart_inner = c.requires.apart_inner;
+            apart_ends = c.requires.apart_ends;
+            cut = c.start.ensures.content.did cut_told;
+            looked = c.next_inner.ensures.content.did read_told;
+            again = c.next_end.ensures.content.did told;
+            no_inner = record { place = ap (λ (u : Unreduced). u.inner) left; reads = c.start-reader.ensures.reads_inner; arcs = c.start-reader.ensures.inner_arcs };
+            no_end = record { place = ap (λ (u : Unreduced). u.ends) left; reads = c.start-reader.ensures.reads_ends; arcs = c.start-reader.ensures.end_arcs };
+            ends_kept = c.in_ok-inner.ensures.ends;
+            inner_kept = c.in_ok-end.ensures.inner;
+            one_inner = record { place = c.in_ok-inner.ensures.file; up = c.in_ok-inner.ensures.place; reads = c.in_ok-inner.ensures.reads read_told; arcs = c.in_ok-inner.ensures.arcs read_told };
+            one_end = record { place = c.in_ok-end.ensures.file; up = c.in_ok-end.ensures.place; reads = c.in_ok-end.ensures.reads told; arcs = c.in_ok-end.ensures.arcs told };
+            written = c.in_ok-writer.ensures.holds cut_told;
           })
           _ inner ends
           (record { queue_is = c.start-2.ensures.list _; last_is = c.start-2.ensures.last; rows_is = c.start-3.ensures.list _; names_is = c.start-4.ensures.list _ })
