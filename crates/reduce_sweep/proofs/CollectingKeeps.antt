@@ -25,13 +25,12 @@ use Rattle.arc_diagrams.proofs.Collecting.{all_below}
 use Rattle.arc_diagrams.proofs.ItemOrders.{rising}
 use Rattle.arc_diagrams.proofs.RowPlaces.{has_right}
 use Rattle.shelf_model.specs.World.{World}
-use Rattle.reduce_sweep.specs.declared.phase.Phase.{Phase}
 use Rattle.reduce_sweep.specs.declared.phase.Phase.TheVariants.{Between, Collect, Number}
 use Rattle.reduce_sweep.specs.declared.place.Place.{Place}
 use Rattle.reduce_sweep.specs.declared.source.Source.{Source}
 use Rattle.reduce_sweep.specs.declared.reduce.ReduceSweep.{ReduceSweep}
 use Rattle.reduce_sweep.specs.Sources as sources
-use Rattle.reduce_sweep.specs.Remaining.{Diagram, Contents, Holds, IsOf, IsTakenTo, IsLeft, IsWorking, RemainsAt, IsBetween, IsCollected, noted, to_collect}
+use Rattle.reduce_sweep.specs.Remaining.{Diagram, Contents, Holds, IsTakenTo, IsLeft, IsWorking, RemainsAt, IsBetween, IsCollected, noted, to_collect}
 use Rattle.reduce_sweep.specs.Changes.{JoinsOne, IsClosed, IsAt, IsGreatest, Passes, Closes}
 
 -- an arc of the source was noted

@@ -1,6 +1,6 @@
 -- Calls within a turn, one behind the other: what they leave and cost together, and what is damaged.
-use Rattle.std.proofs.Common.{◌≡◌, ℕ, ◌+◌, ◌-◌, ◌≤◌, ◌∙◌, Bool, refl, arith, subst, sym, ap, inl, inr}
-use Rattle.std.specs.Prelude.{Result, Ok, Err, IsErrAnd, IfErr, IsTrue, List}
+use Rattle.std.proofs.Common.{◌≡◌, ℕ, ◌+◌, ◌-◌, ◌≤◌, ◌∙◌, Bool, subst, sym, ap, inl, inr}
+use Rattle.std.specs.Prelude.{Result, Ok, Err, IsErrAnd, IfErr, IsTrue}
 use Rattle.shelf_model.specs.declared.file_no.FileNo.{FileNo}
 use Rattle.shelf_model.specs.declared.sort_fault.SortFault.{SortFault}
 use Rattle.shelf_model.specs.declared.sort_fault.SortFault.TheVariants.{Shelf, Damaged, RunsSpent, RoomFull}
@@ -19,11 +19,11 @@ use Rattle.arc_file.specs.declared.stream.ArcStream.{ArcStream}
 use Rattle.arc_file.specs.Files.{IsDamagedArc}
 use Rattle.arc_file.specs.Streams.{file_of, left_of, given_of}
 use Rattle.arc_file.specs.Readers.{inner_of, ends_of}
-use Rattle.sweep_core.specs.Accounts.{OnlyOwn, Leaves}
+use Rattle.sweep_core.specs.Accounts.{OnlyOwn}
 use Rattle.sweep_core.proofs.Leaving.{leaves_then, leaves_more, leaves_ok, leaves_err}
 use Rattle.reduce_sweep.specs.declared.place.Place.{Place}
 use Rattle.reduce_sweep.specs.declared.reduce.ReduceSweep.{ReduceSweep}
-use Rattle.reduce_sweep.specs.Sweeps.{out_of, inner_file, ends_file, accounts, IsSound, Refuses}
+use Rattle.reduce_sweep.specs.Sweeps.{inner_file, ends_file, accounts, IsSound, Refuses}
 use Rattle.reduce_sweep.specs.Damage.{IsDamagedIn, IsDamageOf, IsDamagedRecord, IsDamage}
 use Rattle.reduce_sweep.specs.Calls.{SameTask, Does}
 

@@ -1,5 +1,5 @@
 -- The end of a reduction.
-use Rattle.std.proofs.Common.{◌≡◌, ℕ, refl, ap, sym, subst, ◌∙◌, List, ◌++◌}
+use Rattle.std.proofs.Common.{◌≡◌, ℕ, ap, sym, subst, ◌∙◌, ◌++◌}
 use Rattle.std.specs.Prelude.{[], Some, false, length}
 use Rattle.std.specs.Option.{unwrap_or}
 use Rattle.rec_words.specs.Words.{terminal}

@@ -15,7 +15,6 @@ use Rattle.shelf_model.specs.declared.sort_fault.SortFault.{SortFault}
 use Rattle.canon_file.specs.Members.{Has, SameMembers}
 use Rattle.arc_file.specs.declared.arc.Arc.{Arc}
 use Rattle.arc_file.specs.declared.kind.Kind.TheVariants.{Inner}
-use Rattle.arc_file.specs.declared.stream.ArcStream.{ArcStream}
 use Rattle.arc_file.specs.Files.{inner_cmp, IsInnerOrder, IsArcAt}
 use Rattle.arc_file.specs.Readers.{inner_of}
 use Rattle.arc_file.specs.Streams.{IsInOrderBefore, Reads, file_of, left_of}

@@ -1,6 +1,6 @@
 -- What a reduction holds stays while calls change other files.
 use Rattle.std.proofs.Common.{◌≡◌, ◌≢◌, ℕ, ◌≤◌, ◌<◌, arith, ap, sym, subst, ◌∙◌, inl, inr, List, ◌++◌}
-use Rattle.std.specs.Prelude.{Option, Some, length, take}
+use Rattle.std.specs.Prelude.{Option, length, take}
 use Rattle.shelf_model.specs.declared.file_no.FileNo.{FileNo}
 use Rattle.shelf_model.specs.File.{File}
 use Rattle.shelf_model.specs.Folder.{Folder, file_in}
@@ -11,8 +11,7 @@ use Rattle.block_stream.specs.Records.{records_bytes}
 use Rattle.block_stream.specs.Writes.{count_of, DuringWrite, Wrote}
 use Rattle.run_merge.specs.declared.parts.Parts.{Parts}
 use Rattle.run_merge.specs.declared.sorter.Sorter.{Sorter}
-use Rattle.run_merge.specs.Parts.{IsTaken, OnlyTaken, Spilled, WasTaken}
-use Rattle.run_merge.specs.Sorters as sorters
+use Rattle.run_merge.specs.Parts.{OnlyTaken, Spilled, WasTaken}
 use Rattle.run_merge.proofs.SorterLaws.{list_kept}
 use Rattle.level_queue.specs.declared.queue.LevelQueue.{LevelQueue}
 use Rattle.level_queue.specs.Queues as queues

@@ -1,9 +1,9 @@
 -- What the calls of the lists, of the readers and of the writer leave of what is held.
-use Rattle.std.proofs.Common.{◌≡◌, ℕ, ◌≤◌, ◌+◌, ◌-◌, ◌^◌, arith, refl, ap, sym, subst, ◌∙◌, inl, inr, List, ◌++◌}
-use Rattle.std.proofs.lemmas.Bool.{false≢true, true≢false}
+use Rattle.std.proofs.Common.{◌≡◌, ℕ, ◌+◌, ◌-◌, ◌^◌, arith, refl, ap, sym, subst, ◌∙◌, inl, inr, List, ◌++◌}
+use Rattle.std.proofs.lemmas.Bool.{false≢true}
 use Rattle.std.proofs.lemmas.List.{length-append}
 use Rattle.std.specs.List.Sorted.{IsPermutation}
-use Rattle.std.specs.Prelude.{◌∷◌, [], Bool, true, false, cond, IsTrue, IsSome, Option, Some, None, Result, Ok, Err, OnOk, IfOk, IfErr, IsErrAnd, length}
+use Rattle.std.specs.Prelude.{◌∷◌, [], true, false, cond, IsSome, Option, Some, None, Result, Ok, Err, OnOk, IfOk, IfErr, IsErrAnd, length}
 use Rattle.std.specs.Int.{w64, to_be_bytes}
 use Rattle.rec_words.specs.declared.node.Node.{Node}
 use Rattle.rec_words.specs.Words.{node_word, level_of}
@@ -12,13 +12,11 @@ use Rattle.shelf_model.specs.declared.fault.StreamFault.TheVariants.{Shelf, Dama
 use Rattle.shelf_model.specs.declared.sort_fault.SortFault.{SortFault}
 use Rattle.shelf_model.specs.SortFaults.{handed_on}
 use Rattle.shelf_model.specs.declared.file_no.FileNo.{FileNo}
-use Rattle.shelf_model.specs.File.{File}
 use Rattle.shelf_model.specs.Folder.{Folder, file_in}
 use Rattle.shelf_model.specs.World.{World, now, file}
 use Rattle.shelf_model.specs.Moments.{Ran, Stays}
 use Rattle.shelf_model.proofs.Runs.{ran_end}
 use Rattle.block_stream.specs.Items.{GivesLast}
-use Rattle.block_stream.specs.Reads.{IsDamageAt}
 use Rattle.block_stream.specs.Writes.{count_of, Wrote, InStep}
 use Rattle.canon_file.specs.Rows.{row_word}
 use Rattle.canon_file.specs.Canon.{node_bytes}
@@ -44,7 +42,6 @@ use Rattle.arc_diagrams.specs.declared.final_arc.FinalArc.{FinalArc}
 use Rattle.arc_diagrams.specs.declared.source_row.SourceRow.{SourceRow}
 use Rattle.arc_diagrams.specs.declared.name.Name.{Name}
 use Rattle.reduce_sweep.specs.declared.phase.Numbered.{Numbered}
-use Rattle.reduce_sweep.specs.declared.place.Place.{Place}
 use Rattle.reduce_sweep.specs.declared.reduce.Ahead.{Ahead}
 use Rattle.reduce_sweep.specs.declared.reduce.Lists.{Lists}
 use Rattle.reduce_sweep.specs.declared.reduce.ReduceSweep.{ReduceSweep}
@@ -54,7 +51,7 @@ use Rattle.sweep_core.specs.Accounts.{CanBeTaken}
 use Rattle.reduce_sweep.specs.Damage.{IsDamagedIn, IsDamageOf}
 use Rattle.reduce_sweep.specs.Remaining.{Contents, Holds, IsUnread, IsTakenTo, QueueLists, RowLists, NameLists}
 use Rattle.reduce_sweep.specs.Changes.{JoinsQueue, JoinsRows, JoinsNames, GivesRow, ShowsName, ShowsQueued, IsAt, Passes, PassesInner, is_last, numbered_with, nodes_with, NumbersRow}
-use Rattle.reduce_sweep.proofs.Holding.{Untaken, undisturbed_wrote, untaken_stays, untaken_spilled, holds_untaken, with_queue, with_rows, with_names, with_inner, with_ends, with_nodes}
+use Rattle.reduce_sweep.proofs.Holding.{undisturbed_wrote, untaken_stays, untaken_spilled, holds_untaken, with_queue, with_rows, with_names, with_inner, with_ends, with_nodes}
 use Rattle.reduce_sweep.proofs.NextArcs.{rest_is, first_reached, read_on, last_same}
 
 -- what is held stays while parts are taken, and while no file changes

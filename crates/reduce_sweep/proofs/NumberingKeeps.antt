@@ -2,7 +2,7 @@
 use Rattle.std.proofs.lemmas.Bool.Decides.{nat_tests}
 use Rattle.std.proofs.lemmas.Bool.{true≢false}
 use Rattle.std.proofs.lemmas.List.{length-append}
-use Rattle.std.proofs.Common.{◌≡◌, ◌≢◌, ℕ, ◌≤◌, arith, refl, ap, sym, subst, ◌∙◌, inl, List, ◌++◌}
+use Rattle.std.proofs.Common.{◌≡◌, ℕ, ◌≤◌, arith, refl, ap, sym, subst, ◌∙◌, inl, List, ◌++◌}
 use Rattle.std.specs.List.Sorted.{IsPermutation}
 use Rattle.std.specs.Prelude.{◌+◌, ◌-◌, ◌^◌, ◌∷◌, [], Bool, true, false, cond, Option, Some, None, IsSome, map, length}
 use Rattle.rec_words.specs.Words.{node_word, level_of}
@@ -28,8 +28,8 @@ use Rattle.reduce_sweep.specs.declared.phase.Phase.TheVariants.{Number, Forward}
 use Rattle.reduce_sweep.specs.declared.place.Place.{Place}
 use Rattle.reduce_sweep.specs.declared.reduce.ReduceSweep.{ReduceSweep}
 use Rattle.reduce_sweep.specs.Sweeps.{IsPhaseAt, IsNumberedAt}
-use Rattle.reduce_sweep.specs.Remaining.{Diagram, Contents, Holds, IsLeft, IsWorking, RemainsAt, IsNumbered, IsForwarded, to_collect}
-use Rattle.reduce_sweep.specs.Changes.{is_last, numbered_with, nodes_with, NumbersRow, GivesRow}
+use Rattle.reduce_sweep.specs.Remaining.{Diagram, Contents, Holds, IsLeft, IsWorking, RemainsAt, IsNumbered, to_collect}
+use Rattle.reduce_sweep.specs.Changes.{is_last, numbered_with, nodes_with, NumbersRow}
 
 -- names in another order are the same
 numbering-same : (n root i : ℕ) (arcs queue unread : List Arc) (done : List Row) (last : Option Row) (rows : List SourceRow) (names other : List Name) (nodes : List Node) (known : Option ℕ)

@@ -1,6 +1,6 @@
 -- The beginning of a reduction.
 use Rattle.std.proofs.Common.{◌≡◌, ◌≢◌, ℕ, ◌≤◌, ◌<◌, ◌+◌, ◌-◌, ◌*◌, arith, refl, ap, sym, subst, ◌∙◌, inl, inr, List, ◌++◌}
-use Rattle.std.specs.Prelude.{◌^◌, [], Bool, true, false, IsTrue, Option, Some, Ok, All, length, None, Result, Err, IfErr}
+use Rattle.std.specs.Prelude.{◌^◌, [], Bool, Option, Some, Ok, All, length, None, Result, Err, IfErr}
 use Rattle.std.proofs.lemmas.List.{length-append}
 use Rattle.rec_words.specs.Words.{level_of, IsTerminal}
 use Rattle.canon_file.specs.Members.{Has}

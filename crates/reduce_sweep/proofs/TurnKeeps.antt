@@ -1,7 +1,7 @@
 -- The phases within a turn: what is true in each, and what goes on from one to the next.
-use Rattle.std.proofs.Common.{◌≡◌, ◌≢◌, ℕ, ◌≤◌, ◌<◌, arith, refl, ap, sym, subst, ◌∙◌}
+use Rattle.std.proofs.Common.{◌≡◌, ◌≢◌, ℕ, ◌≤◌, ◌<◌, arith, refl, ◌∙◌}
 use Rattle.std.proofs.lemmas.Bool.{false≢true}
-use Rattle.std.specs.Prelude.{Bool, true, false, None, IsTrue, Result, Ok, Err, OnOk, IfOk}
+use Rattle.std.specs.Prelude.{Bool, true, false, None, Result, Ok, Err, OnOk, IfOk}
 use Rattle.shelf_model.specs.World.{World, file}
 use Rattle.shelf_model.specs.declared.sort_fault.SortFault.{SortFault}
 use Rattle.sweep_core.specs.declared.turn.Turn.{Turn}

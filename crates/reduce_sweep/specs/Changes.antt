@@ -14,13 +14,10 @@ use Rattle.arc_diagrams.specs.Items.{as_arc, pair}
 use Rattle.arc_diagrams.specs.declared.final_arc.FinalArc.{FinalArc}
 use Rattle.arc_diagrams.specs.declared.source_row.SourceRow.{SourceRow}
 use Rattle.arc_diagrams.specs.declared.name.Name.{Name}
-use Rattle.node_file.specs.declared.writer.NodeWriter.{NodeWriter}
 use Rattle.sweep_core.specs.declared.turn.Turn.{Turn}
 use Rattle.sweep_core.specs.declared.turn.Turn.TheVariants as turn
 use Rattle.reduce_sweep.specs.declared.phase.Numbered.{Numbered}
 use Rattle.reduce_sweep.specs.declared.place.Place.{Place}
-use Rattle.reduce_sweep.specs.declared.reduce.Ahead.{Ahead}
-use Rattle.reduce_sweep.specs.declared.reduce.Lists.{Lists}
 use Rattle.reduce_sweep.specs.declared.reduce.ReduceSweep.{ReduceSweep}
 use Rattle.reduce_sweep.specs.declared.source.Source.{Source}
 use Rattle.reduce_sweep.specs.Sources.{row_of}

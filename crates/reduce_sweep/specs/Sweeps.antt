@@ -6,7 +6,6 @@ use Rattle.shelf_model.specs.declared.sort_fault.SortFault.TheVariants.{Shelf, D
 use Rattle.block_stream.specs.Writes.{count_of}
 use Rattle.node_file.specs.declared.writer.NodeWriter.{NodeWriter}
 use Rattle.node_file.specs.Writers as nodes
-use Rattle.arc_file.specs.declared.reader.ArcReader.{ArcReader}
 use Rattle.arc_file.specs.Streams.{file_of, left_of}
 use Rattle.arc_file.specs.Readers.{inner_of, ends_of}
 use Rattle.arc_diagrams.specs.Items.{final_arc_words, IsFinalArc, source_row_words, IsSourceRow, name_words, IsName}

@@ -1,13 +1,12 @@
-use Rattle.std.proofs.Common.{◌≡◌, ◌≤◌, ◌<◌, ◌∙◌, ap, sym, subst, refl, arith, rules, true, false, IsTrue}
+use Rattle.std.proofs.Common.{◌≡◌, ◌≤◌, ◌<◌, ◌∙◌, ap, subst, refl, arith, true, false}
 use Rattle.reduce_sweep.specs.declared.reduce.ReduceSweep.{ReduceSweep}
-use Rattle.reduce_sweep.proofs.Doing.{does_then, refused_second, then_ok, does_placed}
-use Rattle.std.specs.Prelude.{Some, None, Ok}
+use Rattle.reduce_sweep.proofs.Doing.{refused_second, then_ok, does_placed}
+use Rattle.std.specs.Prelude.{Ok}
 use Rattle.std.proofs.lemmas.Bool.Decides.{nat_tests}
 use Rattle.rec_words.specs.Words.{level_of}
 use Rattle.canon_file.specs.Members.{Has}
 use Rattle.arc_file.specs.declared.arc.Arc.{Arc}
 use Rattle.reduce_sweep.specs.declared.phase.Phase.TheVariants.{Number}
-use Rattle.reduce_sweep.specs.declared.place.Place.{Place}
 use Rattle.reduce_sweep.specs.Sweeps.{none_numbered}
 use Rattle.reduce_sweep.specs.Remaining.{to_collect}
 use Rattle.reduce_sweep.specs.Changes.{ComesNext}

@@ -1,7 +1,6 @@
-use Rattle.std.proofs.Common.{◌≡◌, ◌≤◌, ◌<◌, ◌∙◌, ap, sym, subst, refl, arith, rules, true, false, IsTrue}
+use Rattle.std.proofs.Common.{◌≡◌, ◌∙◌, ap, sym, subst, arith, true}
 use Rattle.reduce_sweep.specs.declared.reduce.ReduceSweep.{ReduceSweep}
-use Rattle.reduce_sweep.proofs.Doing.{does_then, refused_second, then_ok, does_placed}
-use Rattle.std.specs.Prelude.{Some, None, Ok}
+use Rattle.reduce_sweep.proofs.Doing.{refused_second, then_ok}
 use Rattle.std.proofs.lemmas.Bool.Decides.{nat_tests}
 use Rattle.rec_words.specs.Words.{level_of}
 use Rattle.reduce_sweep.specs.declared.phase.Phase.TheVariants.{Between}

@@ -1,5 +1,4 @@
-use Rattle.std.proofs.Common.{ap, subst, sym}
-use Rattle.arc_file.specs.declared.arc.Arc.{Arc}
+use Rattle.std.proofs.Common.{ap}
 use Rattle.reduce_sweep.specs.declared.reduce.ReduceSweep.{ReduceSweep}
 use Rattle.reduce_sweep.proofs.Doing.{does_then}
 use Rattle.reduce_sweep.proofs.ForwardingKeeps.{passed_along}

@@ -1,5 +1,5 @@
-use Rattle.std.proofs.Common.{◌≡◌, ◌≤◌, ◌∙◌, refl, subst, arith, true, false, IsTrue}
-use Rattle.reduce_sweep.specs.Sweeps.{Handles, turns_left}
+use Rattle.std.proofs.Common.{subst}
+use Rattle.reduce_sweep.specs.Sweeps.{Handles}
 use Rattle.reduce_sweep.specs.declared.phase.Phase.TheVariants.{Between, Number}
 use Rattle.reduce_sweep.specs.Sweeps.{none_numbered}
 use Rattle.reduce_sweep.proofs.Doing.{does_then}

@@ -1,14 +1,11 @@
-use Rattle.std.proofs.Common.{◌≡◌, ◌≤◌, ◌<◌, ◌∙◌, ap, sym, subst, refl, arith, rules, true, false, IsTrue}
+use Rattle.std.proofs.Common.{◌≡◌, ◌∙◌, ap, subst, arith, true}
 use Rattle.reduce_sweep.specs.declared.reduce.ReduceSweep.{ReduceSweep}
-use Rattle.reduce_sweep.proofs.Doing.{does_then, refused_second, then_ok, does_placed}
-use Rattle.std.specs.Prelude.{Some, None}
+use Rattle.reduce_sweep.proofs.Doing.{refused_second, then_ok}
 use Rattle.std.proofs.lemmas.Bool.Decides.{nat_tests}
 use Rattle.rec_words.specs.Words.{level_of}
 use Rattle.block_stream.specs.Writes.{count_of}
 use Rattle.node_file.specs.Writers.{filling_of}
-use Rattle.reduce_sweep.specs.declared.phase.Phase.{Phase}
 use Rattle.reduce_sweep.specs.declared.phase.Phase.TheVariants.{Forward}
-use Rattle.reduce_sweep.specs.declared.place.Place.{Place}
 use Rattle.reduce_sweep.specs.Changes.{GivesRow, NumbersRow}
 use Rattle.reduce_sweep.proofs.NextArcs.{none_from}
 use Rattle.reduce_sweep.proofs.NumberingKeeps.{rows_numbered, row_numbered_on, row_here, phase_numbered}

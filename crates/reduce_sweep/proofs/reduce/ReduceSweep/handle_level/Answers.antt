@@ -1,5 +1,4 @@
-use Rattle.std.proofs.Common.{◌≡◌, ◌≤◌, ◌∙◌, refl, subst, arith, true, false, IsTrue}
-use Rattle.reduce_sweep.specs.Sweeps.{Handles, turns_left}
+use Rattle.std.proofs.Common.{refl, arith}
 use Rattle.reduce_sweep.proofs.TurnKeeps.{between_where}
 use Rattle.reduce_sweep.proofs.reduce.ReduceSweep.handle_level.Goals as goal
 

@@ -1,11 +1,6 @@
-use Rattle.std.proofs.Common.{◌≡◌, ◌-◌, ◌^◌, ◌∙◌, ap, subst, IsTrue}
-use Rattle.std.specs.Prelude.{◌∷◌}
-use Rattle.std.specs.List.Sorted.{IsPermutation}
+use Rattle.std.proofs.Common.{◌-◌, ◌^◌, ◌∙◌, ap}
 use Rattle.rec_words.specs.Words.{node_word}
-use Rattle.arc_diagrams.specs.declared.name.Name.{Name}
-use Rattle.reduce_sweep.specs.declared.phase.Numbered.{Numbered}
 use Rattle.reduce_sweep.specs.declared.reduce.ReduceSweep.{ReduceSweep}
-use Rattle.reduce_sweep.specs.Changes.{numbered_with}
 use Rattle.reduce_sweep.proofs.Doing.{does_then}
 use Rattle.reduce_sweep.proofs.Joining.{row_named}
 use Rattle.reduce_sweep.proofs.reduce.ReduceSweep.number_row.Goals as goal

@@ -1,7 +1,4 @@
-use Rattle.std.proofs.Common.{IsTrue, subst, sym, ◌∙◌}
-use Rattle.std.proofs.lemmas.Bool.{true≢false}
-use Rattle.rec_words.specs.Words.{level_of}
-use Rattle.reduce_sweep.specs.Remaining.{IsTakenTo}
+use Rattle.std.proofs.Common.{IsTrue}
 use Rattle.reduce_sweep.proofs.Joining.{queue_joins}
 use Rattle.reduce_sweep.proofs.reduce.ReduceSweep.push.Goals as goal
 

@@ -1,4 +1,4 @@
-use Rattle.std.proofs.Common.{◌≡◌, ◌-◌, ◌^◌, ◌∙◌, ap, sym, subst, refl, arith, rules}
+use Rattle.std.proofs.Common.{◌-◌, ◌^◌, ◌∙◌, ap, sym, subst, refl, arith, rules}
 use Rattle.rec_words.specs.Words.{node_word}
 use Rattle.reduce_sweep.specs.declared.phase.Numbered.{Numbered}
 use Rattle.block_stream.specs.Writes.{count_of}

@@ -1,9 +1,7 @@
-use Rattle.std.proofs.Common.{◌≡◌, ◌≤◌, ◌∙◌, ap, inl, inr, refl, sym, subst, arith}
+use Rattle.std.proofs.Common.{◌≡◌, ◌∙◌, ap, inl, inr, refl, sym, subst, arith}
 use Rattle.std.specs.Prelude.{[], Some, Err}
 use Rattle.std.proofs.lemmas.Result.{err_from_is_err_and}
 use Rattle.rec_words.specs.Words.{IsTerminal}
-use Rattle.shelf_model.specs.World.{World}
-use Rattle.node_file.specs.Writers.{filling_of}
 use Rattle.arc_file.specs.declared.kind.Kind.TheVariants.{End}
 use Rattle.arc_file.specs.declared.unreduced.Unreduced.{Unreduced}
 use Rattle.arc_file.specs.Streams.{file_of, left_of, given_of}

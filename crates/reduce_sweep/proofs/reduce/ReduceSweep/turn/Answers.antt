@@ -1,4 +1,4 @@
-use Rattle.std.proofs.Common.{◌≡◌, ◌<◌, ◌+◌, arith, IsTrue}
+use Rattle.std.proofs.Common.{◌<◌, ◌+◌, arith, IsTrue}
 use Rattle.reduce_sweep.specs.Sweeps.{turns_left, arcs_weight, lists_weight}
 use Rattle.reduce_sweep.proofs.Doing.{damage_after}
 use Rattle.reduce_sweep.proofs.Undamaged.{turns_undamaged}
