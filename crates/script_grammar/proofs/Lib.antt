@@ -1,0 +1,6 @@
+mod Tests
+mod Formed
+mod Numbers
+mod Seconds
+mod Few
+mod Behind

@@ -1,0 +1,52 @@
+use Rattle.std.specs.Prelude.{◌≡◌, ◌⊎◌, ℕ, [], ◌∷◌, ◌≤◌, List, length, Result, Ok, Err}
+use Rattle.std.specs.List.{AllByRecursion}
+use Rattle.std.proofs.Common.{ap, ap₂, sym, subst, ◌∙◌, inl, inr, arith}
+use Rattle.text_words.specs.Text.{Line, lines_of, words_in}
+use Rattle.text_words.specs.Left.{line_of, lines_left}
+use Rattle.script_grammar.specs.Names.{State}
+use Rattle.script_grammar.specs.Script.{plan_lines, plan_line, plan_of, read}
+use Rattle.script_grammar.specs.Views.{texts, state_of}
+use Rattle.script_grammar.proofs.Behind.{one_planned, short_lines, read_short, read_long, told}
+use Rattle.script_grammar.proofs.script.read_script_with.Goals as goal
+
+pub loop-line-init : goal.loop-line-init
+loop-line-init c =
+    let left : lines_left c.into_iter-line-iterator.result ≡ lines_of c.args.bytes.now =
+    ap lines_left c.into_iter-line-iterator.ensures.into_iter_gives ∙ c.of-line-items.ensures in
+    record {
+      read = ap₂ (λ (s : State) (ls : List Line). plan_lines (texts c.args.known.now) (Ok s) ls) c.new-planning.ensures left;
+      short = short_lines c.args.bytes.now (lines_left c.into_iter-line-iterator.result) left (omega (arith, c.if-bytes-gt-MOST_BYTES.false));
+    }
+
+pub loop-line-preserved : goal.loop-line-preserved
+loop-line-preserved c =
+    let line = line_of c.in-Some.line in
+    let split : lines_left c.loop-line.line-iterator ≡ line ∷ lines_left c.next.new.self = c.in-Some.ensures.steps in
+    let all = subst (AllByRecursion (λ (l : Line). length l.bytes ≤ 1048576)) split c.loop-line.invariant.short in
+    let s = state_of c.loop-line.planning in
+    let t = state_of c.read_line.new.planning in
+    let known = texts c.args.known.now in
+    record {
+      read = sym (one_planned known s t line (lines_left c.next.new.self) c.in_default.ensures) ∙ ap (plan_lines known (Ok s)) (sym split) ∙ c.loop-line.invariant.read;
+      short = all.1;
+    }
+
+pub returns : goal.returns
+returns c =
+    let known = texts c.args.known.now in
+    let s = state_of c.loop-line.planning in
+    let none = c.in-None.ensures.steps.0 in
+    read_short known c.args.bytes.now (omega (arith, c.if-bytes-gt-MOST_BYTES.false))
+    ∙ ap plan_of (sym c.loop-line.invariant.read ∙ ap (plan_lines known (Ok s)) none) ∙ c.plan.ensures
+
+pub returns-then-bytes-gt-MOST_BYTES : goal.returns-then-bytes-gt-MOST_BYTES
+returns-then-bytes-gt-MOST_BYTES c = inl (read_long (texts c.args.known.now) c.args.bytes.now (omega arith))
+
+pub returns-in-Err : goal.returns-in-Err
+returns-in-Err c =
+    let known = texts c.args.known.now in
+    let s = state_of c.loop-line.planning in
+    let line = line_of c.in-Some.line in
+    let split : lines_left c.loop-line.line-iterator ≡ line ∷ lines_left c.next.new.self = c.in-Some.ensures.steps in
+    told known c.args.bytes.now s line (lines_left c.next.new.self) c.in-Err.refusal c.fault_of.result (omega (arith, c.if-bytes-gt-MOST_BYTES.false))
+    (ap (plan_lines known (Ok s)) (sym split) ∙ c.loop-line.invariant.read) c.in-Err.ensures c.fault_of.ensures

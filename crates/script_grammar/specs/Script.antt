@@ -1,0 +1,93 @@
+-- The plan of a script, or its first faulty line and the kind of its fault.
+use Rattle.std.specs.Prelude.{ℕ, ◌-◌, Bool, true, false, not, nat_le, List, [], ◌∷◌, length, map, drop, Result, Ok, Err, if◌then◌else◌}
+use Rattle.text_words.specs.Text.{Word, Line, lines_of, words_in}
+use Rattle.script_grammar.specs.declared.fault.ScriptKind.{ScriptKind}
+use Rattle.script_grammar.specs.declared.fault.ScriptKind.TheVariants as kind
+use Rattle.script_grammar.specs.declared.fault.ScriptFault.{ScriptFault}
+use Rattle.script_grammar.specs.declared.keyword.Keyword.{Keyword}
+use Rattle.script_grammar.specs.declared.keyword.Keyword.TheVariants.{Vars, Inputs, Const, Var, Not, Pair, Ite, Quantify, Restrict, Net, Drop, Same, Leq, Eval, Size}
+use Rattle.script_grammar.specs.declared.plan.Plan.{Plan}
+use Rattle.script_grammar.specs.Results.{◌>>=◌, check, on_line}
+use Rattle.script_grammar.specs.Keywords.{word_at, texts_of, keyword_of, is_formed}
+use Rattle.script_grammar.specs.Names.{State, nothing, place_of, all_differ}
+use Rattle.script_grammar.specs.Requests.{plan_step}
+
+-- the names of a first line as variables, in order
+abbrev pub with_variables : State → List (List ℕ) → State
+with_variables s names = record s { n = length names; level = place_of names }
+
+-- a line that names the variables: all differ, and they are at most 65,535
+abbrev pub plan_vars : State → List Word → Result State ScriptKind
+plan_vars s words =
+    check kind.Variable (all_differ (texts_of (drop 1 words))) >>= λ _. check kind.TooManyVariables (nat_le (length words) 65536) >>= λ _.
+    Ok (with_variables s (texts_of (drop 1 words)))
+
+-- every second of some words, from the first on
+abbrev pub every_second : List Word → List Word
+every_second [] = []
+every_second (word ∷ []) = word ∷ []
+every_second (word ∷ other ∷ words) = word ∷ every_second words
+
+-- the signals that a line asks for: its words are the keyword, and then names and signals in turn
+abbrev pub signals_in : List Word → List (List ℕ)
+signals_in words = texts_of (every_second (drop 2 words))
+
+-- no netlist can be given yet, so a line that asks for signals is refused: for a signal that it names twice, or for the netlist
+abbrev pub net_fault : List Word → ScriptKind
+net_fault words = if all_differ (signals_in words) then kind.NoNetlist else kind.Word
+
+-- a line by its keyword, where its words are as many as they have to be
+abbrev pub plan_request : State → ℕ → Keyword → List Word → Result State ScriptKind
+plan_request s number Vars words = plan_vars s words
+plan_request s number Inputs words = Err kind.NoNetlist
+plan_request s number Net words = Err (net_fault words)
+plan_request s number Const words = plan_step s number Const words
+plan_request s number Var words = plan_step s number Var words
+plan_request s number Not words = plan_step s number Not words
+plan_request s number (Pair op) words = plan_step s number (Pair op) words
+plan_request s number Ite words = plan_step s number Ite words
+plan_request s number (Quantify kind) words = plan_step s number (Quantify kind) words
+plan_request s number Restrict words = plan_step s number Restrict words
+plan_request s number Drop words = plan_step s number Drop words
+plan_request s number Same words = plan_step s number Same words
+plan_request s number Leq words = plan_step s number Leq words
+plan_request s number Eval words = plan_step s number Eval words
+plan_request s number Size words = plan_step s number Size words
+
+-- what is known once a line with words began
+abbrev pub begin : State → State
+begin s = record s { begun = true }
+
+-- what the first word of a line asks for, where the line has the words of such a request
+abbrev pub keyword_in : List (List ℕ) → State → List Word → Result Keyword ScriptKind
+keyword_in known s words = keyword_of known (word_at 0 words).bytes >>= λ k. check kind.Word (is_formed s.begun s.n k words) >>= λ _. Ok k
+
+-- a line with words: what is known behind it, or its first fault
+abbrev pub plan_words : List (List ℕ) → State → ℕ → List Word → Result State ScriptKind
+plan_words known s number words = keyword_in known s words >>= λ k. plan_request (begin s) number k words
+
+-- a line, by its words; one without words means nothing
+abbrev pub plan_line : List (List ℕ) → State → ℕ → List Word → Result State ScriptKind
+plan_line known s number [] = Ok s
+plan_line known s number (word ∷ words) = plan_words known s number (word ∷ words)
+
+-- a line behind others, of which none is at fault
+abbrev pub behind : List (List ℕ) → Result State ScriptFault → Line → Result State ScriptFault
+behind known (Ok s) line = on_line line.number (plan_line known s line.number (words_in line))
+behind known (Err fault) line = Err fault
+
+-- lines behind others, up to the first fault
+abbrev pub plan_lines : List (List ℕ) → Result State ScriptFault → List Line → Result State ScriptFault
+plan_lines known before [] = before
+plan_lines known before (line ∷ lines) = plan_lines known (behind known before line) lines
+
+-- the plan of what is known behind all lines
+abbrev pub plan_of : Result State ScriptFault → Result Plan ScriptFault
+plan_of (Ok s) = Ok (record { n = s.n; steps = s.steps; lines = s.lines })
+plan_of (Err fault) = Err fault
+
+-- the plan of a script of at most 1,048,576 bytes, or its first fault
+unfoldable pub read : List (List ℕ) → List ℕ → Result Plan ScriptFault
+read known bytes =
+    if nat_le (length bytes) 1048576 then plan_of (plan_lines known (Ok nothing) (lines_of bytes))
+    else Err (record { line = 0; kind = kind.TooLong })

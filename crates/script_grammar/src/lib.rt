@@ -1,0 +1,14 @@
+//! Reads a script: the plan that it asks for, or its first faulty line and what is wrong with it.
+#![tactic(auto)]
+
+mod fault;
+mod keyword;
+mod line;
+mod places;
+mod plan;
+mod planning;
+mod script;
+
+pub use fault::{ScriptFault, ScriptKind};
+pub use plan::{LineEnd, Plan};
+pub use script::{read_script, read_script_with};

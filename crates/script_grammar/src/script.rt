@@ -1,0 +1,92 @@
+//! Reading a script line by line.
+
+ghost use Rattle.std.specs.Prelude.{◌≡◌, ◌≤◌, length, map, IfOk};
+ghost use Rattle.text_words.specs.Text.{words_in};
+ghost use Rattle.text_words.specs.Left.{word_of, line_of};
+ghost use Rattle.script_grammar.specs.Names.{nothing};
+ghost use Rattle.script_grammar.specs.Script.{plan_line, read};
+ghost use Rattle.script_grammar.specs.Views.{texts, words_of, state_of, Leads, Reads, fault_on};
+
+use crate::fault::{Refusal, ScriptFault, ScriptKind};
+use crate::plan::Plan;
+use crate::planning::Planning;
+use std::alloc::{AllocError, Global};
+use text_words::{Line, Lines, Word};
+
+/// The most bytes of a script.
+const MOST_BYTES: usize = 1_048_576;
+/// The words of a line.
+fn words_of<'a>(alloc: Global, line: &Line<'a>) -> Result<Vec<Word<'a>>, AllocError>
+    ensures { IfOk result (λ v. map word_of v.items ≡ words_in (line_of line.now)) }
+{
+    line.words().collect(alloc)
+}
+
+/// The plan of a script, or its first faulty line, where lines may begin with the known words alone.
+pub fn read_script_with<'a>(
+    alloc: Global,
+    bytes: &'a [u8],
+    known: &[&[u8]],
+) -> Result<Plan, ScriptFault>
+    ensures { Reads result (read (texts known.now) bytes.entry.now) }
+{
+    if bytes.len() > MOST_BYTES {
+        return Err(ScriptFault {
+            line: 0,
+            kind: ScriptKind::TooLong,
+        });
+    }
+    let mut planning = Planning::new(alloc);
+    for line in Lines::of(bytes) {
+        if let Err(refusal) = read_line(alloc, &mut planning, known, &line) {
+            return Err(fault_of(line.number, refusal));
+        }
+    }
+    Ok(planning.plan())
+}
+
+/// The fault of a line. Where memory ran out, it is of no line.
+fn fault_of(line: u32, refusal: Refusal) -> ScriptFault
+    ensures { result ≡ fault_on line refusal }
+{
+    match refusal {
+        Refusal::Memory => ScriptFault {
+            line: 0,
+            kind: ScriptKind::Memory,
+        },
+        Refusal::Fault(kind) => ScriptFault { line, kind },
+    }
+}
+
+/// Plans what a line asks for, where it has words.
+#[tactic(auto, using(crate::proofs::Few::few_words))]
+fn read_line<'a>(
+    alloc: Global,
+    planning: &mut Planning<'a>,
+    known: &[&[u8]],
+    line: &Line<'a>,
+) -> Result<(), Refusal>
+    requires short { length line.now.bytes.now ≤ 1048576 }
+    ensures { Leads (state_of planning.new) result
+        (plan_line (texts known.now) (state_of planning.old) line.now.number (words_in (line_of line.now))) }
+{
+    let words = words_of(alloc, line)?;
+    if words.is_empty() {
+        return Ok(());
+    }
+    planning.plan_line(alloc, known, line.number, words.as_slice())
+}
+
+/// The plan of a script, or its first faulty line.
+pub fn read_script<'a>(alloc: Global, bytes: &'a [u8]) -> Result<Plan, ScriptFault> {
+    let known = [
+        b"vars".as_slice(),
+        b"inputs".as_slice(),
+        b"net".as_slice(),
+        b"const".as_slice(),
+        b"var".as_slice(),
+        b"size".as_slice(),
+        b"drop".as_slice(),
+    ];
+    read_script_with(alloc, bytes, known.as_slice())
+}
