@@ -1,5 +1,6 @@
 -- The words with which the lines of a script begin, and the words that stand behind each.
-use Rattle.std.specs.Prelude.{ℕ, ◌%◌, Bool, true, false, not, ◌&&◌, ◌||◌, ◌==◌, nat_le, List, [], ◌∷◌, length, map, codes, Option, Some, None, option_map, Result, Ok, Err, if◌then◌else◌}
+use Rattle.std.specs.Prelude.{ℕ, ◌%◌, Bool, true, false, not, ◌&&◌, ◌||◌, ◌==◌, nat_le, List, [], ◌∷◌, length, map}
+use Rattle.std.specs.Prelude.{codes, Option, Some, None, option_map, Result, Ok, Err, if◌then◌else◌}
 use Rattle.std.specs.List.{slice_index_or, list_any}
 use Rattle.std.specs.Option.{option_or}
 use Rattle.std.specs.Str.{bytes_eq}
@@ -9,7 +10,9 @@ use Rattle.text_words.specs.Text.{Word}
 use Rattle.script_grammar.specs.declared.fault.ScriptKind.{ScriptKind}
 use Rattle.script_grammar.specs.declared.fault.ScriptKind.TheVariants as kind
 use Rattle.script_grammar.specs.declared.keyword.Keyword.{Keyword}
-use Rattle.script_grammar.specs.declared.keyword.Keyword.TheVariants.{Vars, Inputs, Const, Var, Not, Pair, Ite, Quantify, Restrict, Net, Drop, Same, Leq, Eval, Size}
+use Rattle.script_grammar.specs.declared.keyword.Keyword.TheVariants.{Vars, Inputs, Const, Var, Not, Pair}
+use Rattle.script_grammar.specs.declared.keyword.Keyword.TheVariants.{Ite, Quantify, Restrict, Net, Drop}
+use Rattle.script_grammar.specs.declared.keyword.Keyword.TheVariants.{Same, Leq, Eval, Size}
 
 -- the word of a line at a place, the keyword's being 0
 abbrev pub word_at : ℕ → List Word → Word
@@ -72,6 +75,11 @@ or_word (Some k) = Ok k
 abbrev pub keyword_of : List (List ℕ) → List ℕ → Result Keyword ScriptKind
 keyword_of known word = if is_known known word then or_word (spelled word) else Err kind.Word
 
+-- the words with which a line may begin so far
+abbrev pub built_words : List (List ℕ)
+built_words =
+    codes "vars" ∷ codes "inputs" ∷ codes "net" ∷ codes "const" ∷ codes "var" ∷ codes "size" ∷ codes "drop" ∷ []
+
 -- a word that is 0 or 1
 abbrev pub is_one : Word → Bool
 is_one word = bytes_eq word.bytes (codes "1")
@@ -80,7 +88,7 @@ abbrev pub is_bit_word : Word → Bool
 is_bit_word word = bytes_eq word.bytes (codes "0") || is_one word
 
 -- the words of a line, the keyword among them, are as many as its request takes, and those that have to be 0 or 1 are;
--- variables are named on the first line with words; the bits of an evaluation may be left out where there is no variable
+-- variables are named on the first line with words; the bits of an evaluation may be left out where no variable is
 abbrev pub is_formed : Bool → ℕ → Keyword → List Word → Bool
 is_formed begun n Vars words = not begun
 is_formed begun n Inputs words = not begun && (length words == 1)

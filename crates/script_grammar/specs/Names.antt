@@ -1,5 +1,6 @@
 -- What is known before a line of a script: the variables, the names that were given, and the plan so far.
-use Rattle.std.specs.Prelude.{ℕ, suc, Bool, true, false, not, ◌&&◌, List, [], ◌∷◌, Option, Some, None, option_map, Result, Ok, Err, if◌then◌else◌}
+use Rattle.std.specs.Prelude.{ℕ, suc, Bool, true, false, not, ◌&&◌, List, [], ◌∷◌, Option, Some, None}
+use Rattle.std.specs.Prelude.{option_map, Result, Ok, Err, if◌then◌else◌}
 use Rattle.std.specs.List.{list_any}
 use Rattle.std.specs.Str.{bytes_eq}
 use Rattle.bool_tables.specs.declared.steps.Planned.{Planned}
@@ -9,8 +10,8 @@ use Rattle.script_grammar.specs.declared.fault.ScriptKind.TheVariants as kind
 use Rattle.script_grammar.specs.declared.plan.LineEnd.{LineEnd}
 use Rattle.script_grammar.specs.declared.planning.Named.{Named}
 
--- whether a line with words was read; the number of variables and the level of each; for each name that was given the step
--- that made its diagram, and whether it was dropped; and the steps and said lines so far
+-- whether a line with words was read; the number of variables and the level of each; for each name that was given the
+-- step that made its diagram, and whether it was dropped; and the steps and said lines so far
 pub record State : Type 0 where
   pub begun : Bool
   pub n : ℕ

@@ -1,5 +1,6 @@
 -- What a line of a script asks for, and its first fault.
-use Rattle.std.specs.Prelude.{ℕ, ◌-◌, Bool, true, false, not, ◌&&◌, ◌+◌, ◌==◌, nat_le, nat_lt, is_some, List, [], ◌∷◌, ◌++◌, length, drop, map, Option, Some, None, Result, Ok, Err, if◌then◌else◌}
+use Rattle.std.specs.Prelude.{ℕ, ◌-◌, Bool, true, false, not, ◌&&◌, ◌+◌, ◌==◌, nat_le, is_some, List, [], ◌∷◌}
+use Rattle.std.specs.Prelude.{◌++◌, length, Some, Result, Ok, Err, if◌then◌else◌}
 use Rattle.std.specs.List.{list_all}
 use Rattle.std.specs.Str.{bytes_eq}
 use Rattle.std.specs.Map.{update}
@@ -11,7 +12,9 @@ use Rattle.text_words.specs.Text.{Word}
 use Rattle.script_grammar.specs.declared.fault.ScriptKind.{ScriptKind}
 use Rattle.script_grammar.specs.declared.fault.ScriptKind.TheVariants as kind
 use Rattle.script_grammar.specs.declared.keyword.Keyword.{Keyword}
-use Rattle.script_grammar.specs.declared.keyword.Keyword.TheVariants.{Vars, Inputs, Const, Var, Not, Pair, Ite, Quantify, Restrict, Net, Drop, Same, Leq, Eval, Size}
+use Rattle.script_grammar.specs.declared.keyword.Keyword.TheVariants.{Vars, Inputs, Const, Var, Not, Pair}
+use Rattle.script_grammar.specs.declared.keyword.Keyword.TheVariants.{Ite, Quantify, Restrict, Net, Drop}
+use Rattle.script_grammar.specs.declared.keyword.Keyword.TheVariants.{Same, Leq, Eval, Size}
 use Rattle.script_grammar.specs.declared.planning.Named.{Named}
 use Rattle.script_grammar.specs.Results.{◌>>=◌, check}
 use Rattle.script_grammar.specs.Keywords.{word_at, op, is_one, gives_name}
@@ -40,14 +43,18 @@ step_of s Not words = live s (word_at 2 words) >>= λ of. Ok (step.Pair (op true
 step_of s (Pair operator) words =
     live s (word_at 2 words) >>= λ left. live s (word_at 3 words) >>= λ right. Ok (step.Pair operator left right)
 step_of s Ite words =
-    live s (word_at 2 words) >>= λ test. live s (word_at 3 words) >>= λ yes. live s (word_at 4 words) >>= λ no. Ok (step.Ite test yes no)
+    live s (word_at 2 words) >>= λ test. live s (word_at 3 words) >>= λ yes. live s (word_at 4 words) >>= λ no.
+    Ok (step.Ite test yes no)
 step_of s (Quantify kind) words =
     live s (word_at 2 words) >>= λ of. level_of s (word_at 3 words) >>= λ level. Ok (step.Quantify kind of level)
 step_of s Restrict words =
-    live s (word_at 2 words) >>= λ of. level_of s (word_at 3 words) >>= λ level. Ok (step.Restrict of level (is_one (word_at 4 words)))
+    live s (word_at 2 words) >>= λ of. level_of s (word_at 3 words) >>= λ level.
+    Ok (step.Restrict of level (is_one (word_at 4 words)))
 step_of s Drop words = live s (word_at 1 words) >>= λ gone. Ok (step.Drop gone)
-step_of s Same words = live s (word_at 1 words) >>= λ left. live s (word_at 2 words) >>= λ right. Ok (step.Same left right)
-step_of s Leq words = live s (word_at 1 words) >>= λ left. live s (word_at 2 words) >>= λ right. Ok (step.Leq left right)
+step_of s Same words =
+    live s (word_at 1 words) >>= λ left. live s (word_at 2 words) >>= λ right. Ok (step.Same left right)
+step_of s Leq words =
+    live s (word_at 1 words) >>= λ left. live s (word_at 2 words) >>= λ right. Ok (step.Leq left right)
 step_of s Eval words = live s (word_at 1 words) >>= λ of. bits_at s.n words >>= λ at. Ok (step.Eval of at)
 step_of s Size words = live s (word_at 1 words) >>= λ of. Ok (step.Size of)
 
@@ -57,7 +64,8 @@ is_short name = nat_le (length name.bytes) 63
 
 -- a new diagram may have the name
 abbrev pub new_name : State → Word → Result Unit ScriptKind
-new_name s name = check kind.NameLength (is_short name) >>= λ _. check kind.NameTaken (not (is_some (s.named name.bytes)))
+new_name s name =
+    check kind.NameLength (is_short name) >>= λ _. check kind.NameTaken (not (is_some (s.named name.bytes)))
 
 -- and that which the line gives, where it gives one
 abbrev pub name_fits : State → Keyword → List Word → Result Unit ScriptKind
@@ -70,7 +78,8 @@ has_room count = nat_le count 1048576
 -- the step of a line, with the name that the line gives
 abbrev pub planned_of : Keyword → List Word → Step → Planned
 planned_of k words made =
-    if gives_name k then record { step = made; name_at = (word_at 1 words).at; name_len = length (word_at 1 words).bytes }
+    if gives_name k
+    then record { step = made; name_at = (word_at 1 words).at; name_len = length (word_at 1 words).bytes }
     else record { step = made; name_at = 0; name_len = 0 }
 
 -- what is known behind a line on which a name was given, or dropped
@@ -97,5 +106,6 @@ with_step s number k words made = with_planned (name_behind s k words made) numb
 -- a line that is one step
 abbrev pub plan_step : State → ℕ → Keyword → List Word → Result State ScriptKind
 plan_step s number k words =
-    step_of s k words >>= λ made. name_fits s k words >>= λ _. check kind.TooManySteps (has_room (length s.steps + 1)) >>= λ _.
+    step_of s k words >>= λ made. name_fits s k words >>= λ _.
+    check kind.TooManySteps (has_room (length s.steps + 1)) >>= λ _.
     Ok (with_step s number k words made)

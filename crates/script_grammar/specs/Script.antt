@@ -1,11 +1,14 @@
 -- The plan of a script, or its first faulty line and the kind of its fault.
-use Rattle.std.specs.Prelude.{ℕ, ◌-◌, Bool, true, false, not, nat_le, List, [], ◌∷◌, length, map, drop, Result, Ok, Err, if◌then◌else◌}
+use Rattle.std.specs.Prelude.{ℕ, ◌-◌, true, nat_le, List, [], ◌∷◌, length, drop, Result, Ok, Err}
+use Rattle.std.specs.Prelude.{if◌then◌else◌}
 use Rattle.text_words.specs.Text.{Word, Line, lines_of, words_in}
 use Rattle.script_grammar.specs.declared.fault.ScriptKind.{ScriptKind}
 use Rattle.script_grammar.specs.declared.fault.ScriptKind.TheVariants as kind
 use Rattle.script_grammar.specs.declared.fault.ScriptFault.{ScriptFault}
 use Rattle.script_grammar.specs.declared.keyword.Keyword.{Keyword}
-use Rattle.script_grammar.specs.declared.keyword.Keyword.TheVariants.{Vars, Inputs, Const, Var, Not, Pair, Ite, Quantify, Restrict, Net, Drop, Same, Leq, Eval, Size}
+use Rattle.script_grammar.specs.declared.keyword.Keyword.TheVariants.{Vars, Inputs, Const, Var, Not, Pair}
+use Rattle.script_grammar.specs.declared.keyword.Keyword.TheVariants.{Ite, Quantify, Restrict, Net, Drop}
+use Rattle.script_grammar.specs.declared.keyword.Keyword.TheVariants.{Same, Leq, Eval, Size}
 use Rattle.script_grammar.specs.declared.plan.Plan.{Plan}
 use Rattle.script_grammar.specs.Results.{◌>>=◌, check, on_line}
 use Rattle.script_grammar.specs.Keywords.{word_at, texts_of, keyword_of, is_formed}
@@ -19,7 +22,8 @@ with_variables s names = record s { n = length names; level = place_of names }
 -- a line that names the variables: all differ, and they are at most 65,535
 abbrev pub plan_vars : State → List Word → Result State ScriptKind
 plan_vars s words =
-    check kind.Variable (all_differ (texts_of (drop 1 words))) >>= λ _. check kind.TooManyVariables (nat_le (length words) 65536) >>= λ _.
+    check kind.Variable (all_differ (texts_of (drop 1 words))) >>= λ _.
+    check kind.TooManyVariables (nat_le (length words) 65536) >>= λ _.
     Ok (with_variables s (texts_of (drop 1 words)))
 
 -- every second of some words, from the first on
@@ -32,7 +36,8 @@ every_second (word ∷ other ∷ words) = word ∷ every_second words
 abbrev pub signals_in : List Word → List (List ℕ)
 signals_in words = texts_of (every_second (drop 2 words))
 
--- no netlist can be given yet, so a line that asks for signals is refused: for a signal that it names twice, or for the netlist
+-- no netlist can be given yet, so a line that asks for signals is refused: for a signal that it names twice, or for
+-- the netlist
 abbrev pub net_fault : List Word → ScriptKind
 net_fault words = if all_differ (signals_in words) then kind.NoNetlist else kind.Word
 
@@ -60,7 +65,8 @@ begin s = record s { begun = true }
 
 -- what the first word of a line asks for, where the line has the words of such a request
 abbrev pub keyword_in : List (List ℕ) → State → List Word → Result Keyword ScriptKind
-keyword_in known s words = keyword_of known (word_at 0 words).bytes >>= λ k. check kind.Word (is_formed s.begun s.n k words) >>= λ _. Ok k
+keyword_in known s words =
+    keyword_of known (word_at 0 words).bytes >>= λ k. check kind.Word (is_formed s.begun s.n k words) >>= λ _. Ok k
 
 -- a line with words: what is known behind it, or its first fault
 abbrev pub plan_words : List (List ℕ) → State → ℕ → List Word → Result State ScriptKind

@@ -84,7 +84,8 @@ impl<'a> Planning<'a> {
     ghost use Rattle.text_words.specs.Left.{word_of};
     ghost use Rattle.script_grammar.specs.Keywords.{wanted, is_one, is_formed};
     ghost use Rattle.script_grammar.specs.Names.{nothing, live, level_of};
-    ghost use Rattle.script_grammar.specs.Requests.{bits_in, bits_at, step_of, new_name, name_fits, name_behind, with_planned, plan_step};
+    ghost use Rattle.script_grammar.specs.Requests.{bits_in, bits_at, step_of, new_name, name_fits};
+    ghost use Rattle.script_grammar.specs.Requests.{name_behind, with_planned, plan_step};
     ghost use Rattle.script_grammar.specs.Script.{begin, plan_vars, keyword_in, plan_words, plan_of};
     ghost use Rattle.script_grammar.specs.Views.{texts, state_of, Leads, Gives};
 
@@ -356,7 +357,8 @@ impl<'a> Planning<'a> {
     ) -> Result<(), AllocError>
         requires words { 2 ≤ length words.now }
         requires few { length self.old.steps.items < 2 ^ 32 }
-        ensures { OnOk result (state_of self.new ≡ name_behind (state_of self.old) keyword (words_of words.now) step) }
+        ensures { OnOk result
+            (state_of self.new ≡ name_behind (state_of self.old) keyword (words_of words.now) step) }
     {
         let number = self.steps.len() as u32;
         match step {

@@ -3,6 +3,7 @@
 ghost use Rattle.std.specs.Prelude.{◌≡◌, ◌≤◌, length, map, IfOk};
 ghost use Rattle.text_words.specs.Text.{words_in};
 ghost use Rattle.text_words.specs.Left.{word_of, line_of};
+ghost use Rattle.script_grammar.specs.Keywords.{built_words};
 ghost use Rattle.script_grammar.specs.Names.{nothing};
 ghost use Rattle.script_grammar.specs.Script.{plan_line, read};
 ghost use Rattle.script_grammar.specs.Views.{texts, words_of, state_of, Leads, Reads, fault_on};
@@ -15,6 +16,7 @@ use text_words::{Line, Lines, Word};
 
 /// The most bytes of a script.
 const MOST_BYTES: usize = 1_048_576;
+
 /// The words of a line.
 fn words_of<'a>(alloc: Global, line: &Line<'a>) -> Result<Vec<Word<'a>>, AllocError>
     ensures { IfOk result (λ v. map word_of v.items ≡ words_in (line_of line.now)) }
@@ -22,7 +24,8 @@ fn words_of<'a>(alloc: Global, line: &Line<'a>) -> Result<Vec<Word<'a>>, AllocEr
     line.words().collect(alloc)
 }
 
-/// The plan of a script, or its first faulty line, where lines may begin with the known words alone.
+/// The plan of a script, or its first faulty line, where lines may begin with the known words alone. A known word
+/// that is no word of the language is refused as any other: `Word`.
 pub fn read_script_with<'a>(
     alloc: Global,
     bytes: &'a [u8],
@@ -77,8 +80,12 @@ fn read_line<'a>(
     planning.plan_line(alloc, known, line.number, words.as_slice())
 }
 
-/// The plan of a script, or its first faulty line.
-pub fn read_script<'a>(alloc: Global, bytes: &'a [u8]) -> Result<Plan, ScriptFault> {
+/// The plan of a script, or its first faulty line. Lines may begin with the words of which the program can do what
+/// they ask for: `const`, `var`, `size` and `drop`, and `vars` on the first line with words. `inputs` and `net` are
+/// known too, and refused: `NoNetlist`.
+pub fn read_script<'a>(alloc: Global, bytes: &'a [u8]) -> Result<Plan, ScriptFault>
+    ensures { Reads result (read built_words bytes.entry.now) }
+{
     let known = [
         b"vars".as_slice(),
         b"inputs".as_slice(),
