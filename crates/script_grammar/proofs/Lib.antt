@@ -4,3 +4,6 @@ mod Numbers
 mod Seconds
 mod Few
 mod Behind
+mod NamedSteps
+mod MadeSteps
+pub mod Kept

@@ -3,6 +3,7 @@
 
 mod fault;
 mod keyword;
+pub mod laws;
 mod line;
 mod places;
 mod plan;
