@@ -1,12 +1,12 @@
 -- How many words a line has at most.
-use Rattle.std.specs.Prelude.{◌≡◌, ℕ, suc, ◌+◌, ◌≤◌, List, [], ◌∷◌, length, filter, min}
-use Rattle.std.specs.List.{slice_split, count_by, before_first, position_or_len}
+use Rattle.std.specs.Prelude.{◌≡◌, ℕ, suc, ◌+◌, ◌≤◌, List, [], ◌∷◌, length, min}
+use Rattle.std.specs.List.{slice_split, count_by, position_or_len}
 use Rattle.std.proofs.Math.Nat.{min-le_right}
-use Rattle.std.proofs.Common.{refl, ap, ◌∙◌, arith}
+use Rattle.std.proofs.Common.{refl, ap, arith}
 use Rattle.std.proofs.lemmas.List.{length-take, length-map}
 use Rattle.std.proofs.lemmas.List.Sums.{length-filter, count_by-le-length}
 use Rattle.std.proofs.lemmas.List.Splits.{length-slice_split}
-use Rattle.text_words.specs.Text.{Line, Word, placed, words_in, code_of, is_blank, is_hash, has_bytes}
+use Rattle.text_words.specs.Text.{Line, placed, words_in, code_of, is_blank, is_hash, has_bytes}
 use Rattle.text_words.specs.Left.{line_of, word_of}
 use Rattle.text_words.specs.declared.lines.Line as shown_line
 use Rattle.text_words.specs.declared.words.Word as shown

@@ -1,5 +1,5 @@
 -- How many words a line has that is formed as its keyword asks.
-use Rattle.std.specs.Prelude.{◌≢◌, ◌≡◌, ℕ, ◌≤◌, not, is_some, Result, Ok, Err, if◌then◌else◌, Bool, true, false, ◌&&◌, ◌||◌, ◌==◌, nat_le, IsTrue, List, length, ◌%◌}
+use Rattle.std.specs.Prelude.{◌≢◌, ◌≡◌, ℕ, ◌≤◌, not, is_some, Result, Ok, Err, if◌then◌else◌, Bool, true, false, IsTrue, List, length}
 use Rattle.std.proofs.Common.{arith, refl, sym, ap, subst, ◌∙◌}
 use Rattle.std.proofs.lemmas.Bool.{leb-true}
 use Rattle.text_words.specs.Text.{Word}

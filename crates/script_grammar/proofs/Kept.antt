@@ -1,13 +1,12 @@
 -- What each line of a script keeps: the steps so far are well formed, and the said lines go with them.
-use Rattle.std.proofs.Common.{◌≡◌, ℕ, zero, suc, ◌+◌, ◌<◌, ◌≤◌, Bool, true, false, List, [], ◌∷◌, ◌++◌, length, take, drop, Option, Some, None, refl, sym, ap, subst, ◌∙◌, append_assoc, arith, inl, inr}
-use Rattle.std.specs.Prelude.{Result, Ok, Err, ◌&&◌, nat_le, nat_lt, IsTrue, option_map, if◌then◌else◌}
-use Rattle.std.specs.List.{All, AllByRecursion, list_all}
+use Rattle.std.proofs.Common.{◌≡◌, ℕ, suc, ◌+◌, ◌<◌, ◌≤◌, Bool, true, false, List, [], ◌∷◌, ◌++◌, length, drop, Option, Some, None, refl, sym, ap, subst, ◌∙◌, append_assoc, arith, inl, inr}
+use Rattle.std.specs.Prelude.{Result, Ok, Err, ◌&&◌, nat_le, nat_lt, if◌then◌else◌}
+use Rattle.std.specs.List.{AllByRecursion, list_all}
 use Rattle.std.specs.Str.{bytes_eq}
 use Rattle.std.specs.Map.{update}
 use Rattle.std.proofs.lemmas.Bool.{and_from, and_parts, lt-ltb, le-leb, leb-true, ltb-true, cases_Bool, not-true}
 use Rattle.std.proofs.lemmas.List.{append-nil, length-append, length-map, length-drop}
 use Rattle.std.proofs.lemmas.List.Elements.{recursion_from_All}
-use Rattle.std.proofs.lemmas.List.Folds.{list_all-append}
 use Rattle.bool_tables.specs.Plans.{makes_diagram, is_live, operands, levels_of, has_bits, drops, has_name, may_follow, all_may_follow, IsWellFormed}
 use Rattle.bool_tables.specs.declared.steps.Planned.{Planned}
 use Rattle.bool_tables.specs.declared.steps.Step.{Step}
@@ -24,7 +23,7 @@ use Rattle.script_grammar.specs.declared.plan.Plan.{Plan}
 use Rattle.script_grammar.specs.declared.plan.LineEnd.{LineEnd}
 use Rattle.script_grammar.specs.declared.planning.Named.{Named}
 use Rattle.script_grammar.specs.Lines.{rise_from, shows_past, AreLines}
-use Rattle.script_grammar.specs.Results.{◌>>=◌, check, on_line}
+use Rattle.script_grammar.specs.Results.{check, on_line}
 use Rattle.script_grammar.specs.Keywords.{word_at, texts_of, keyword_of, is_formed, gives_name}
 use Rattle.script_grammar.specs.Names.{State, nothing, place_of, all_differ, level_or}
 use Rattle.script_grammar.specs.Requests.{step_of, name_fits, has_room, planned_of, with_named, name_behind, with_planned, with_step, plan_step}
@@ -130,7 +129,7 @@ vars_stand text s t words h fresh e =
 
 -- the step of a line is the one that was made
 planned_step : (k : Keyword) (words : List Word) (made : Step) → (planned_of k words made).step ≡ made
-planned_step k words made = elim (cases_Bool (gives_name k)) [ | inl given ↦ rw given refl | inr none ↦ rw none refl ]
+planned_step k words made = elim (cases_Bool (gives_name k)) [ inl given ↦ rw given refl | inr none ↦ rw none refl ]
 
 -- its name stands in the text
 name_stands : (text : List ℕ) (s : State) (k : Keyword) (words : List Word) (made : Step) → AllByRecursion (λ (w : Word). StandsIn text w.at w.bytes) words → name_fits s k words ≡ Ok tt → has_name text (planned_of k words made) ≡ true

@@ -1,10 +1,9 @@
 -- The step that a line asks for may follow the steps before it.
-use Rattle.std.proofs.Common.{◌≡◌, ℕ, zero, suc, ◌+◌, ◌<◌, ◌≤◌, Bool, true, false, List, [], ◌∷◌, length, take, drop, Option, Some, None, refl, sym, ap, subst, ◌∙◌, arith}
+use Rattle.std.proofs.Common.{◌≡◌, ℕ, zero, suc, ◌+◌, ◌<◌, Bool, true, false, List, [], ◌∷◌, length, take, drop, refl, sym, ap, subst, ◌∙◌, arith}
 use Rattle.std.specs.Prelude.{Result, Ok, Err, ◌&&◌, ◌||◌, ◌==◌, nat_le, nat_lt, if◌then◌else◌}
-use Rattle.std.specs.List.{All, AllByRecursion, list_all}
+use Rattle.std.specs.List.{AllByRecursion, list_all}
 use Rattle.std.proofs.lemmas.Bool.{and_from, and_parts, lt-ltb, le-leb, eqb-true}
-use Rattle.std.proofs.lemmas.List.Elements.{recursion_from_All}
-use Rattle.bool_tables.specs.Plans.{makes_diagram, is_live, operands, levels_of, has_bits, is_bit, drops}
+use Rattle.bool_tables.specs.Plans.{makes_diagram, is_live, operands, levels_of, has_bits, is_bit}
 use Rattle.bool_tables.specs.declared.steps.Planned.{Planned}
 use Rattle.bool_tables.specs.declared.steps.Step.{Step}
 use Rattle.bool_tables.specs.declared.steps.Step.TheVariants as step
@@ -16,7 +15,7 @@ use Rattle.script_grammar.specs.declared.keyword.Keyword.{Keyword}
 use Rattle.script_grammar.specs.declared.keyword.Keyword.TheVariants.{Vars, Inputs, Const, Var, Not, Pair, Ite, Quantify, Restrict, Net, Drop, Same, Leq, Eval, Size}
 use Rattle.script_grammar.specs.Results.{◌>>=◌, check}
 use Rattle.script_grammar.specs.Keywords.{word_at, is_formed, gives_name}
-use Rattle.script_grammar.specs.Names.{State, live, level_of, level_or}
+use Rattle.script_grammar.specs.Names.{State, live, level_of}
 use Rattle.script_grammar.specs.Requests.{are_bits, bits_in, bits_at, step_of}
 
 -- what follows was asked of an answer without a fault

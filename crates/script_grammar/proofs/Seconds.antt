@@ -1,5 +1,5 @@
 -- Every second word of a line, one after the other.
-use Rattle.std.specs.Prelude.{◌≡◌, ℕ, ◌+◌, ◌<◌, ◌≤◌, List, [], ◌∷◌, ◌++◌, length, map, drop, slice_index_or}
+use Rattle.std.specs.Prelude.{◌≡◌, ℕ, ◌+◌, ◌<◌, ◌≤◌, List, [], ◌∷◌, ◌++◌, length, drop, slice_index_or}
 use Rattle.std.proofs.Common.{refl, ap, sym, ◌∙◌, arith, append_assoc, get_or}
 use Rattle.std.proofs.lemmas.List.{drop_more, drop_all, drop-drop, length-map, map-append, append-nil, get_or-map}
 use Rattle.std.specs.Borrow.{Bor}

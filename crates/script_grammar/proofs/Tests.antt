@@ -6,7 +6,7 @@ use Rattle.std.proofs.Common.{refl, ap, sym, ◌∙◌, arith}
 use Rattle.text_words.specs.Left.{word_of}
 use Rattle.text_words.specs.declared.words.Word as shown
 use Rattle.script_grammar.specs.Keywords.{word_at, texts_of}
-use Rattle.script_grammar.specs.Views.{texts, words_of}
+use Rattle.script_grammar.specs.Views.{words_of}
 
 -- a test finds one among views of a list where it finds one in the list
 pub any_map : {X Y : Type 0} (p : X → Bool) (h : Y → X) (ys : List Y) → list_any p (map h ys) ≡ list_any (λ y. p (h y)) ys

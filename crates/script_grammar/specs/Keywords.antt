@@ -2,7 +2,6 @@
 use Rattle.std.specs.Prelude.{ℕ, ◌%◌, Bool, true, false, not, ◌&&◌, ◌||◌, ◌==◌, nat_le, List, [], ◌∷◌, length, map}
 use Rattle.std.specs.Prelude.{codes, Option, Some, None, option_map, Result, Ok, Err, if◌then◌else◌}
 use Rattle.std.specs.List.{slice_index_or, list_any}
-use Rattle.std.specs.Option.{option_or}
 use Rattle.std.specs.Str.{bytes_eq}
 use Rattle.bool_tables.specs.declared.steps.Bin.{Bin}
 use Rattle.bool_tables.specs.declared.steps.Quant.TheVariants.{Exists, Forall}

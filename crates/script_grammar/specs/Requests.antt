@@ -1,5 +1,5 @@
 -- What a line of a script asks for, and its first fault.
-use Rattle.std.specs.Prelude.{ℕ, ◌-◌, Bool, true, false, not, ◌&&◌, ◌+◌, ◌==◌, nat_le, is_some, List, [], ◌∷◌}
+use Rattle.std.specs.Prelude.{ℕ, Bool, true, false, not, ◌&&◌, ◌+◌, ◌==◌, nat_le, is_some, List, [], ◌∷◌}
 use Rattle.std.specs.Prelude.{◌++◌, length, Some, Result, Ok, Err, if◌then◌else◌}
 use Rattle.std.specs.List.{list_all}
 use Rattle.std.specs.Str.{bytes_eq}

@@ -1,5 +1,5 @@
 -- The plan of a script, or its first faulty line and the kind of its fault.
-use Rattle.std.specs.Prelude.{ℕ, ◌-◌, true, nat_le, List, [], ◌∷◌, length, drop, Result, Ok, Err}
+use Rattle.std.specs.Prelude.{ℕ, true, nat_le, List, [], ◌∷◌, length, drop, Result, Ok, Err}
 use Rattle.std.specs.Prelude.{if◌then◌else◌}
 use Rattle.text_words.specs.Text.{Word, Line, lines_of, words_in}
 use Rattle.script_grammar.specs.declared.fault.ScriptKind.{ScriptKind}

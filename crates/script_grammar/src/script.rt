@@ -1,9 +1,11 @@
 //! Reading a script line by line.
 
 ghost use Rattle.std.specs.Prelude.{◌≡◌, ◌≤◌, length, map, IfOk};
+ghost use Rattle.bool_tables.specs.Plans.{IsWellFormed};
 ghost use Rattle.text_words.specs.Text.{words_in};
 ghost use Rattle.text_words.specs.Left.{word_of, line_of};
 ghost use Rattle.script_grammar.specs.Keywords.{built_words};
+ghost use Rattle.script_grammar.specs.Lines.{AreLines};
 ghost use Rattle.script_grammar.specs.Names.{nothing};
 ghost use Rattle.script_grammar.specs.Script.{plan_line, read};
 ghost use Rattle.script_grammar.specs.Views.{texts, words_of, state_of, Leads, Reads, fault_on};
@@ -31,7 +33,11 @@ pub fn read_script_with<'a>(
     bytes: &'a [u8],
     known: &[&[u8]],
 ) -> Result<Plan, ScriptFault>
-    ensures { Reads result (read (texts known.now) bytes.entry.now) }
+    ensures read { Reads result (read (texts known.now) bytes.entry.now) }
+
+    // what every plan that is given keeps
+    ensures steps { IfOk result (λ plan. IsWellFormed plan.n bytes.entry.now plan.steps) }
+    ensures lines { IfOk result (λ plan. AreLines plan.steps plan.lines) }
 {
     if bytes.len() > MOST_BYTES {
         return Err(ScriptFault {
@@ -84,7 +90,11 @@ fn read_line<'a>(
 /// they ask for: `const`, `var`, `size` and `drop`, and `vars` on the first line with words. `inputs` and `net` are
 /// known too, and refused: `NoNetlist`.
 pub fn read_script<'a>(alloc: Global, bytes: &'a [u8]) -> Result<Plan, ScriptFault>
-    ensures { Reads result (read built_words bytes.entry.now) }
+    ensures read { Reads result (read built_words bytes.entry.now) }
+
+    // what every plan that is given keeps
+    ensures steps { IfOk result (λ plan. IsWellFormed plan.n bytes.entry.now plan.steps) }
+    ensures lines { IfOk result (λ plan. AreLines plan.steps plan.lines) }
 {
     let known = [
         b"vars".as_slice(),

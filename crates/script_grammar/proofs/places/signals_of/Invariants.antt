@@ -1,4 +1,4 @@
-use Rattle.std.specs.Prelude.{◌≡◌, ℕ, ◌+◌, ◌-◌, ◌*◌, ◌≤◌, ◌++◌, length, drop}
+use Rattle.std.specs.Prelude.{◌≡◌, ◌+◌, ◌-◌, ◌*◌, ◌≤◌, ◌++◌, length, drop}
 use Rattle.script_grammar.specs.Keywords.{texts_of}
 use Rattle.script_grammar.specs.Script.{every_second, signals_in}
 use Rattle.script_grammar.specs.Views.{texts, words_of}

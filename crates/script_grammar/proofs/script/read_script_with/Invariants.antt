@@ -1,4 +1,4 @@
-use Rattle.std.specs.Prelude.{◌≡◌, ℕ, ◌≤◌, length, Ok}
+use Rattle.std.specs.Prelude.{◌≡◌, ◌≤◌, length, Ok}
 use Rattle.std.specs.List.{AllByRecursion}
 use Rattle.text_words.specs.Text.{Line, lines_of}
 use Rattle.text_words.specs.Left.{lines_left}

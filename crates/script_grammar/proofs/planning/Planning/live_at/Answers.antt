@@ -1,4 +1,4 @@
-use Rattle.std.proofs.Common.{◌≡◌, ◌∙◌, ap}
+use Rattle.std.proofs.Common.{◌∙◌, ap}
 use Rattle.script_grammar.specs.Names.{live}
 use Rattle.script_grammar.specs.Views.{state_of}
 use Rattle.script_grammar.proofs.Tests.{at_word}

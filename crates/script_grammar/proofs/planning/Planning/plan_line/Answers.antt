@@ -1,7 +1,6 @@
-use Rattle.std.proofs.Common.{◌≡◌, ◌≤◌, List, ℕ, length, arith, ap, sym, subst, ◌∙◌}
+use Rattle.std.proofs.Common.{◌≡◌, ◌≤◌, length, arith, ap, sym, subst, ◌∙◌}
 use Rattle.std.specs.Prelude.{Result, Ok}
 use Rattle.std.proofs.lemmas.List.{length-map}
-use Rattle.text_words.specs.Text.{Word}
 use Rattle.text_words.specs.Left.{word_of}
 use Rattle.script_grammar.specs.declared.keyword.Keyword.{Keyword}
 use Rattle.script_grammar.specs.declared.fault.ScriptKind.{ScriptKind}

@@ -1,7 +1,6 @@
-use Rattle.std.proofs.Common.{◌≡◌, ℕ, List, Option, ap}
+use Rattle.std.proofs.Common.{ℕ, List, Option, ap}
 use Rattle.std.proofs.lemmas.Map.Text.{btree_map_updates_str}
 use Rattle.script_grammar.specs.declared.planning.Named.{Named}
-use Rattle.script_grammar.specs.Names.{State}
 use Rattle.script_grammar.specs.Views.{state_of}
 use Rattle.script_grammar.proofs.planning.Planning.put_name.Goals as goal
 
