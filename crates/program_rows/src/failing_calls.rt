@@ -104,7 +104,10 @@ fn leaves_a_refusal_unsaid(
 
 #[test]
 fn ends_where_a_refusal_is_not_said(rt: HostRuntime) -> Result<(), Fail> {
-    let cases: [(&[&str], &[u8], u64); 2] = [(&["adiar"], ONE_VARIABLE, 0), (&RUN, b"vars\n", 2)];
+    let cases: [(&[&str], &[u8], u64); 2] = [
+        (&["adiar"], ONE_VARIABLE, 0),
+        (&RUN, b"vars a a\n", 2),
+    ];
     for (words, script, call) in cases {
         assert!(rt;
             leaves_a_refusal_unsaid(rt.alloc(), words, script, call)?,

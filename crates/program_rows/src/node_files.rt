@@ -73,9 +73,22 @@ fn makes_the_file_of_each_request(rt: HostRuntime) -> Result<(), Fail> {
     let b = [LEVEL_1, ZERO, ONE, LEVEL_1, 1, 3];
     let c = [LEVEL_2, ZERO, ONE, LEVEL_2, 1, 3];
     let alone = [LEVEL_0, ZERO, ONE, LEVEL_0, 1, 1];
-    let cases: [(&[u8], &[u8], &[Words]); 5] = [
+    let second = [LEVEL_0, ZERO, ONE, LEVEL_0, 1, 2];
+    let cases: [(&[u8], &[u8], &[Words]); 9] = [
         (ONE_VARIABLE, b"start 1\n2: nodes 1\ndone\n", &[b]),
         (b"vars a\n", b"start 0\ndone\n", &[]),
+        (b"", b"start 0\ndone\n", &[]),
+        (b"vars\n", b"start 0\ndone\n", &[]),
+        (
+            b"vars a b # order\r\n\r\n\tvar f a\r\n",
+            b"start 1\n3: nodes 1\ndone\n",
+            &[second],
+        ),
+        (
+            b"vars a\nvar 123456789012345678901234567890123456789012345678901234567890123 a",
+            b"start 1\n2: nodes 1\ndone\n",
+            &[alone],
+        ),
         (
             b"vars a\nvar a a\n",
             b"start 1\n2: nodes 1\ndone\n",

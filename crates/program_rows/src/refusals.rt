@@ -16,10 +16,16 @@ fn says_the_usage(alloc: Global, words: &[&str]) -> Result<bool, Fail> {
     )
 }
 
-/// Whether the script is refused, and no file is made.
-fn refuses(alloc: Global, script: &[u8]) -> Result<bool, Fail> {
+/// Whether the script is refused with this line, and no file is made.
+fn refuses(alloc: Global, script: &[u8], said: &[u8]) -> Result<bool, Fail> {
     let mut bench = bench_with(alloc, script)?;
-    Ok(gives(alloc, &mut bench, 3, b"script: line 0: Word\n")? && bench.file(FIRST).is_empty())
+    Ok(gives(alloc, &mut bench, 3, said)? && bench.file(FIRST).is_empty())
+}
+
+/// Whether a script of comment alone, one byte longer than a script may be, is refused.
+fn refuses_a_long_script(alloc: Global) -> Result<bool, Fail> {
+    let script = vec![in alloc; b'#'; 1_048_577]?;
+    refuses(alloc, &script, b"script: line 0: TooLong\n")
 }
 
 /// Whether a run ends with nothing said where no text is at the script's path.
@@ -48,23 +54,47 @@ fn says_the_usage_to_other_words(rt: HostRuntime) -> Result<(), Fail> {
 }
 
 #[test]
-fn says_that_a_script_is_refused(rt: HostRuntime) -> Result<(), Fail> {
-    let cases: [&[u8]; 11] = [
-        b"",
-        b"vars a a\n",
-        b"vars a\nvar f b\n",
-        b"vars a\nvar f a\nvar f a\n",
-        b"vars a\nvar f a",
-        b"vars a\nconst z 2\n",
-        b"vars a\nsize f\n",
-        b"vars a\ndrop f\n",
-        b"vars a\nvar f a\ndrop f\nsize f\n",
-        b"vars a\nvar f a\ndrop f\ndrop f\n",
-        b"vars a\nvar f a\ndrop f\nvar f a\n",
+fn says_which_line_is_refused_and_why(rt: HostRuntime) -> Result<(), Fail> {
+    let cases: [(&[u8], &[u8]); 16] = [
+        (b"vars a\nand h f\n", b"script: line 2: Word\n"),
+        (b"vars a a\n", b"script: line 1: Variable\n"),
+        (b"vars a\nvar f b\n", b"script: line 2: Variable\n"),
+        (
+            b"vars a\nvar f a\nvar f a\n",
+            b"script: line 3: NameTaken\n",
+        ),
+        (b"inputs\n", b"script: line 1: NoNetlist\n"),
+        (b"net f f\n", b"script: line 1: NoNetlist\n"),
+        (b"vars a\nconst z 2\n", b"script: line 2: Word\n"),
+        (b"vars a\nsize f\n", b"script: line 2: UnknownName\n"),
+        (b"vars a\ndrop f\n", b"script: line 2: UnknownName\n"),
+        (
+            b"vars a\nvar f a\ndrop f\nsize f\n",
+            b"script: line 4: Dropped\n",
+        ),
+        (
+            b"vars a\nvar f a\ndrop f\ndrop f\n",
+            b"script: line 4: Dropped\n",
+        ),
+        (
+            b"vars a\nvar f a\ndrop f\nvar f a\n",
+            b"script: line 4: NameTaken\n",
+        ),
+        (b"vars a\nvars b\n", b"script: line 2: Word\n"),
+        (
+            b"# two lines\r\n\r\n\tsize f",
+            b"script: line 3: UnknownName\n",
+        ),
+        (
+            b"vars a\nvar 1234567890123456789012345678901234567890123456789012345678901234 a\n",
+            b"script: line 2: NameLength\n",
+        ),
+        (b"vars a\nvar f b\nsize g\n", b"script: line 2: Variable\n"),
     ];
-    for script in cases {
-        assert!(rt; refuses(rt.alloc(), script)?, "{script:?}");
+    for (script, said) in cases {
+        assert!(rt; refuses(rt.alloc(), script, said)?, "{script:?}");
     }
+    assert!(rt; refuses_a_long_script(rt.alloc())?);
     Ok(())
 }
 

@@ -1,7 +1,7 @@
 // Scripts that are accepted, with their whole plans.
 use crate::whole::read_whole;
 use bool_tables::{Bin, Planned, Quant, Step};
-use script_grammar::LineEnd;
+use script_reader::LineEnd;
 use std::alloc::{AllocError, Global};
 
 /// The operators, by what they make of left 0 and right 0, 0 and 1, 1 and 0, 1 and 1.

@@ -1,6 +1,6 @@
 // Scripts read with the words that are built so far, with no words, and with one that is none of the language.
 use crate::whole::is_fault;
-use script_grammar::{Plan, ScriptKind, read_script, read_script_with};
+use script_reader::{Plan, ScriptKind, read_script, read_script_with};
 use std::alloc::Global;
 
 /// With the words that are built: the refused scripts, with the line and the kind of the first fault.

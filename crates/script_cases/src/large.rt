@@ -1,6 +1,6 @@
 // Scripts with as many bytes and variables as there may be, and with more.
 use crate::whole::{read_whole, refuses};
-use script_grammar::ScriptKind;
+use script_reader::ScriptKind;
 use std::alloc::{AllocError, Global};
 
 /// A line that names variables, so many as are asked for: their names are their numbers.

@@ -1,6 +1,6 @@
 // Scripts that are refused: each way in which a line may be at fault, and the order in which faults count.
 use crate::whole::refuses;
-use script_grammar::ScriptKind;
+use script_reader::ScriptKind;
 
 /// Refused for their keyword or for the number of their words, with the line and the kind of the first fault.
 const WORDS: [(&str, u32, ScriptKind); 41] = [

@@ -1,5 +1,5 @@
 // Scripts of the whole language.
-use script_grammar::{Plan, ScriptFault, ScriptKind, read_script_with};
+use script_reader::{Plan, ScriptFault, ScriptKind, read_script_with};
 use std::alloc::Global;
 
 /// The plan of a script that may use all words of the language, or its first fault.

@@ -1,10 +1,11 @@
-pub mod Spelled
-pub mod OneScript
-pub mod Naming
-pub mod Planned
-pub mod PlannedLines
-pub mod Accepted
-pub mod Front
-pub mod Places
-pub mod Steps
+mod Tests
+mod Formed
+mod Numbers
+mod Seconds
+mod Few
+mod Behind
+mod NamedSteps
+mod MadeSteps
+pub mod Kept
+mod Built
 pub mod PlanReads

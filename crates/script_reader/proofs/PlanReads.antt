@@ -1,27 +1,30 @@
--- A text has one plan at most, and few bytes where it has one.
-use Rattle.std.proofs.Common.{◌≡◌, ◌∙◌, ℕ, ◌≤◌, List, length, sym, ap, subst}
-use Rattle.std.specs.Prelude.{IsTrue}
-use Rattle.bool_tables.specs.Plans.{IsWellFormed}
+-- A text has one plan at most, few bytes where it has one, and no fault then; texts that are too long have one fault.
+use Rattle.std.proofs.Common.{◌≡◌, ◌∙◌, ℕ, ◌<◌, ◌≤◌, List, length, sym}
+use Rattle.std.specs.Prelude.{Result, Ok, Err}
+use Rattle.script_reader.specs.declared.fault.ScriptFault.{ScriptFault}
 use Rattle.script_reader.specs.declared.plan.Plan.{Plan}
-use Rattle.script_reader.specs.Plans.{plan_of}
-use Rattle.script_reader.specs.Lines.{AreLines}
-use Rattle.script_reader.specs.Built.{are_built}
-use Rattle.script_reader.specs.Reads.{Reads}
-use Rattle.script_reader.proofs.OneScript.{one_script}
-use Rattle.script_reader.proofs.Planned.{plan_is_well_formed}
-use Rattle.script_reader.proofs.PlannedLines.{are_lines, plan_is_built}
+use Rattle.script_reader.specs.Keywords.{built_words}
+use Rattle.script_reader.specs.Reads.{Reads, Refuses}
+use Rattle.script_reader.proofs.Behind.{planned_by, read_long}
+
+abbrev plan_or_fault : Plan → Result Plan ScriptFault
+plan_or_fault plan = Ok plan
+
+same_plan : (a b : Plan) → plan_or_fault a ≡ Ok b → a ≡ b
+same_plan a b e = cc
 
 pub one_plan : (text : List ℕ) (a b : Plan) → Reads text a → Reads text b → a ≡ b
-one_plan text a b x y = x.2 ∙ ap plan_of (one_script text x.0 y.0 x.1 y.1) ∙ sym y.2
+one_plan text a b x y = same_plan a b (sym x ∙ y)
+
+no_plan : (plan : Plan) (fault : ScriptFault) → plan_or_fault plan ≡ Err fault → ⊥
+no_plan plan fault e = cc
+
+pub plan_or_refusal : (text : List ℕ) (plan : Plan) (fault : ScriptFault) → Reads text plan → Refuses text fault → ⊥
+plan_or_refusal text plan fault x y = no_plan plan fault (sym x ∙ y)
 
 pub text_is_short : (text : List ℕ) (plan : Plan) → Reads text plan → length text ≤ 1048576
-text_is_short text plan reads = reads.1.short
+text_is_short text plan reads = planned_by (λ p. length text ≤ 1048576) built_words text plan reads (λ short s is. short)
 
-pub read_is_well_formed : (text : List ℕ) (plan : Plan) → Reads text plan → IsWellFormed plan.n text plan.steps
-read_is_well_formed text plan reads = subst (λ (p : Plan). IsWellFormed p.n text p.steps) (sym reads.2) (plan_is_well_formed text reads.0 reads.1)
-
-pub read_has_lines : (text : List ℕ) (plan : Plan) → Reads text plan → AreLines plan.steps plan.lines
-read_has_lines text plan reads = subst (λ (p : Plan). AreLines p.steps p.lines) (sym reads.2) (are_lines reads.0)
-
-pub read_is_built : (text : List ℕ) (plan : Plan) → Reads text plan → IsTrue (are_built plan.steps)
-read_is_built text plan reads = subst (λ (p : Plan). IsTrue (are_built p.steps)) (sym reads.2) (plan_is_built reads.0)
+-- all texts that are too long are refused alike
+pub too_long : (text other : List ℕ) (fault : ScriptFault) → 1048576 < length text → 1048576 < length other → Refuses text fault → Refuses other fault
+too_long text other fault a b refused = read_long built_words other b ∙ sym (read_long built_words text a) ∙ refused

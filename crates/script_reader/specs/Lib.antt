@@ -1,6 +1,9 @@
+pub mod Keywords
+pub mod Results
+pub mod Names
+pub mod Requests
 pub mod Script
-pub mod Plans
 pub mod Lines
+pub mod Views
 pub mod Built
-pub mod Reading
 pub mod Reads

@@ -1,105 +1,99 @@
--- The scripts that are accepted, and how each is spelled.
-use Rattle.std.specs.Prelude.{◌≡◌, ◌≢◌, ℕ, suc, ◌≤◌, Bool, not, ◌||◌, ◌==◌, is_some, IsTrue, false, List, [], ◌∷◌, ◌++◌, length, codes, Option, Some, None, option_map, if◌then◌else◌}
-use Rattle.std.specs.List.{AllByRecursion, IsDistinct, flat_map, list_all, list_any}
-use Rattle.std.specs.Str.{bytes_eq}
+-- The plan of a script, or its first faulty line and the kind of its fault.
+use Rattle.std.specs.Prelude.{ℕ, true, nat_le, List, [], ◌∷◌, length, drop, Result, Ok, Err}
+use Rattle.std.specs.Prelude.{if◌then◌else◌}
+use Rattle.text_words.specs.Text.{Word, Line, lines_of, words_in}
+use Rattle.script_reader.specs.declared.fault.ScriptKind.{ScriptKind}
+use Rattle.script_reader.specs.declared.fault.ScriptKind.TheVariants as kind
+use Rattle.script_reader.specs.declared.fault.ScriptFault.{ScriptFault}
+use Rattle.script_reader.specs.declared.keyword.Keyword.{Keyword}
+use Rattle.script_reader.specs.declared.keyword.Keyword.TheVariants.{Vars, Inputs, Const, Var, Not, Pair}
+use Rattle.script_reader.specs.declared.keyword.Keyword.TheVariants.{Ite, Quantify, Restrict, Net, Drop}
+use Rattle.script_reader.specs.declared.keyword.Keyword.TheVariants.{Same, Leq, Eval, Size}
+use Rattle.script_reader.specs.declared.plan.Plan.{Plan}
+use Rattle.script_reader.specs.Results.{◌>>=◌, check, on_line}
+use Rattle.script_reader.specs.Keywords.{word_at, texts_of, keyword_of, is_formed}
+use Rattle.script_reader.specs.Names.{State, nothing, place_of, all_differ}
+use Rattle.script_reader.specs.Requests.{plan_step}
 
--- what a line asks for: the diagram of a constant or of a variable under a name, the size of a named diagram, or that it is dropped
-pub data Request : Type 0 where
-  Constant : (name : List ℕ) → (value : Bool) → Request
-  Variable : (name variable : List ℕ) → Request
-  Size : (operand : List ℕ) → Request
-  Drop : (operand : List ℕ) → Request
+-- the names of a first line as variables, in order
+abbrev pub with_variables : State → List (List ℕ) → State
+with_variables s names = record s { n = length names; level = place_of names }
 
--- the names of the variables in order, and a request on each further line
-pub record Script : Type 0 where
-  pub variables : List (List ℕ)
-  pub requests : List Request
+-- a line that names the variables: all differ, and they are at most 65,535
+abbrev pub plan_vars : State → List Word → Result State ScriptKind
+plan_vars s words =
+    check kind.Variable (all_differ (texts_of (drop 1 words))) >>= λ _.
+    check kind.TooManyVariables (nat_le (length words) 65536) >>= λ _.
+    Ok (with_variables s (texts_of (drop 1 words)))
 
--- a blank, tab, line feed, carriage return or number sign is no byte of a word
-abbrev pub is_word_byte : ℕ → Bool
-is_word_byte byte = not ((byte == 32) || (byte == 9) || (byte == 10) || (byte == 13) || (byte == 35))
+-- every second of some words, from the first on
+abbrev pub every_second : List Word → List Word
+every_second [] = []
+every_second (word ∷ []) = word ∷ []
+every_second (word ∷ other ∷ words) = word ∷ every_second words
 
--- one or more bytes of a word
-abbrev pub IsWord : List ℕ → Type 0
-IsWord word = (word ≢ []) × IsTrue (list_all is_word_byte word)
+-- the signals that a line asks for: its words are the keyword, and then names and signals in turn
+abbrev pub signals_in : List Word → List (List ℕ)
+signals_in words = texts_of (every_second (drop 2 words))
 
--- a word behind one blank
-abbrev pub behind_blank : List ℕ → List ℕ
-behind_blank word = 32 ∷ word
+-- no netlist can be given yet, so a line that asks for signals is refused: for a signal that it names twice, or for
+-- the netlist
+abbrev pub net_fault : List Word → ScriptKind
+net_fault words = if all_differ (signals_in words) then kind.NoNetlist else kind.Word
 
--- words are separated by one blank, and a line ends with a line feed
-abbrev pub line_of_words : List ℕ → List (List ℕ) → List ℕ
-line_of_words first words = first ++ flat_map behind_blank words ++ 10 ∷ []
+-- a line by its keyword, where its words are as many as they have to be
+abbrev pub plan_request : State → ℕ → Keyword → List Word → Result State ScriptKind
+plan_request s number Vars words = plan_vars s words
+plan_request s number Inputs words = Err kind.NoNetlist
+plan_request s number Net words = Err (net_fault words)
+plan_request s number Const words = plan_step s number Const words
+plan_request s number Var words = plan_step s number Var words
+plan_request s number Not words = plan_step s number Not words
+plan_request s number (Pair op) words = plan_step s number (Pair op) words
+plan_request s number Ite words = plan_step s number Ite words
+plan_request s number (Quantify kind) words = plan_step s number (Quantify kind) words
+plan_request s number Restrict words = plan_step s number Restrict words
+plan_request s number Drop words = plan_step s number Drop words
+plan_request s number Same words = plan_step s number Same words
+plan_request s number Leq words = plan_step s number Leq words
+plan_request s number Eval words = plan_step s number Eval words
+plan_request s number Size words = plan_step s number Size words
 
--- a truth value as a word
-abbrev pub bit_word : Bool → List ℕ
-bit_word value = if value then codes "1" else codes "0"
+-- what is known once a line with words began
+abbrev pub begin : State → State
+begin s = record s { begun = true }
 
--- `const NAME VALUE`, `var NAME VARIABLE`, `size NAME` and `drop NAME`
-abbrev pub request_line : Request → List ℕ
-request_line (Constant name value) = line_of_words (codes "const") (name ∷ bit_word value ∷ [])
-request_line (Variable name variable) = line_of_words (codes "var") (name ∷ variable ∷ [])
-request_line (Size operand) = line_of_words (codes "size") (operand ∷ [])
-request_line (Drop operand) = line_of_words (codes "drop") (operand ∷ [])
+-- what the first word of a line asks for, where the line has the words of such a request
+abbrev pub keyword_in : List (List ℕ) → State → List Word → Result Keyword ScriptKind
+keyword_in known s words =
+    keyword_of known (word_at 0 words).bytes >>= λ k. check kind.Word (is_formed s.begun s.n k words) >>= λ _. Ok k
 
-abbrev pub first_line : List (List ℕ) → List ℕ
-first_line variables = line_of_words (codes "vars") variables
+-- a line with words: what is known behind it, or its first fault
+abbrev pub plan_words : List (List ℕ) → State → ℕ → List Word → Result State ScriptKind
+plan_words known s number words = keyword_in known s words >>= λ k. plan_request (begin s) number k words
 
-abbrev pub spelling : Script → List ℕ
-spelling script = first_line script.variables ++ flat_map request_line script.requests
+-- a line, by its words; one without words means nothing
+abbrev pub plan_line : List (List ℕ) → State → ℕ → List Word → Result State ScriptKind
+plan_line known s number [] = Ok s
+plan_line known s number (word ∷ words) = plan_words known s number (word ∷ words)
 
--- the level of a variable is its place among the names
-abbrev pub level_of : List (List ℕ) → List ℕ → Option ℕ
-level_of [] variable = None
-level_of (name ∷ names) variable = if bytes_eq variable name then Some 0 else option_map suc (level_of names variable)
+-- a line behind others, of which none is at fault
+abbrev pub behind : List (List ℕ) → Result State ScriptFault → Line → Result State ScriptFault
+behind known (Ok s) line = on_line line.number (plan_line known s line.number (words_in line))
+behind known (Err fault) line = Err fault
 
--- the request gives a diagram this name
-abbrev pub gives : List ℕ → Request → Bool
-gives name (Constant given value) = bytes_eq name given
-gives name (Variable given variable) = bytes_eq name given
-gives name (Size operand) = false
-gives name (Drop operand) = false
+-- lines behind others, up to the first fault
+abbrev pub plan_lines : List (List ℕ) → Result State ScriptFault → List Line → Result State ScriptFault
+plan_lines known before [] = before
+plan_lines known before (line ∷ lines) = plan_lines known (behind known before line) lines
 
--- the request drops the diagram of this name
-abbrev pub drops : List ℕ → Request → Bool
-drops name (Constant given value) = false
-drops name (Variable given variable) = false
-drops name (Size operand) = false
-drops name (Drop operand) = bytes_eq name operand
+-- the plan of what is known behind all lines
+abbrev pub plan_of : Result State ScriptFault → Result Plan ScriptFault
+plan_of (Ok s) = Ok (record { n = s.n; steps = s.steps; lines = s.lines })
+plan_of (Err fault) = Err fault
 
--- the name that a request gives to its diagram: a word of at most 63 bytes that no request before it gives
-pub record IsNew (before : List Request) (name : List ℕ) : Type 0 where
-  pub name_is : IsWord name
-  pub short : length name ≤ 63
-  pub untaken : list_any (gives name) before ≡ false
-
--- a name of a diagram: one of the requests before gives it, and none of them drops it
-pub record IsLive (before : List Request) (name : List ℕ) : Type 0 where
-  pub given : IsTrue (list_any (gives name) before)
-  pub kept : list_any (drops name) before ≡ false
-
--- the request may follow those before it
-abbrev pub MayFollow : List (List ℕ) → List Request → Request → Type 0
-MayFollow variables before (Constant name value) = IsNew before name
-MayFollow variables before (Variable name variable) = IsNew before name × IsTrue (is_some (level_of variables variable))
-MayFollow variables before (Size operand) = IsLive before operand
-MayFollow variables before (Drop operand) = IsLive before operand
-
--- each of the requests may follow those before it
-abbrev pub AllFollow : List (List ℕ) → List Request → List Request → Type 0
-AllFollow variables before [] = Unit {0}
-AllFollow variables before (r ∷ requests) = MayFollow variables before r × AllFollow variables (before ++ r ∷ []) requests
-
--- at least one variable and at most 65,535, all different, and requests that may follow each other
-pub record IsScript (script : Script) : Type 0 where
-  pub some_variable : script.variables ≢ []
-  pub few_variables : length script.variables ≤ 65535
-  pub variables_are : AllByRecursion IsWord script.variables
-  pub variables_differ : IsDistinct bytes_eq script.variables
-  pub requests_follow : AllFollow script.variables [] script.requests
-
--- the bytes are accepted as this script: they spell it, in at most 1,048,576 bytes
-pub record IsAccepted (bytes : List ℕ) (script : Script) : Type 0 where
-  pub short : length bytes ≤ 1048576
-  pub spelled : bytes ≡ spelling script
-  pub script_is : IsScript script
+-- the plan of a script of at most 1,048,576 bytes, or its first fault
+unfoldable pub read : List (List ℕ) → List ℕ → Result Plan ScriptFault
+read known bytes =
+    if nat_le (length bytes) 1048576 then plan_of (plan_lines known (Ok nothing) (lines_of bytes))
+    else Err (record { line = 0; kind = kind.TooLong })

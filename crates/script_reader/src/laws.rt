@@ -1,31 +1,28 @@
 //! Laws of scripts and their plans, each the contract of a function that does nothing.
-ghost use Rattle.std.specs.Prelude.{◌≡◌, ◌≤◌, ℕ, List, IsTrue, length};
+ghost use Rattle.std.specs.Prelude.{◌≡◌, ◌≤◌, ℕ, List, IsTrue, length, Ok};
 ghost use Rattle.bool_tables.specs.Plans.{IsWellFormed};
-ghost use Rattle.script_reader.specs.Script.{Script, IsAccepted};
-ghost use Rattle.script_reader.specs.Plans.{plan_of};
 ghost use Rattle.script_reader.specs.Lines.{AreLines};
 ghost use Rattle.script_reader.specs.Built.{are_built};
-ghost use Rattle.script_reader.specs.Reads.{Reads};
+ghost use Rattle.script_reader.specs.Reads.{Reads, Refuses};
+ghost use Rattle.script_reader.specs.Script.{read};
+ghost use Rattle.script_reader.specs.declared.fault.ScriptFault.{ScriptFault};
 ghost use Rattle.script_reader.specs.declared.plan.Plan.{Plan};
 
-/// A text is accepted as one script at most.
-pub fn one_script()
-    ensures one { (bytes : List ℕ) (s t : Script) → IsAccepted bytes s → IsAccepted bytes t → s ≡ t }
+/// The plan of a script is well formed over the script's text, and its said lines go with its steps, whichever
+/// words are known.
+pub fn plans_are_well_formed()
+    ensures steps { (known : List (List ℕ)) → (text : List ℕ) → (plan : Plan) → read known text ≡ Ok plan
+        → IsWellFormed plan.n text plan.steps }
+    ensures lines { (known : List (List ℕ)) → (text : List ℕ) → (plan : Plan) → read known text ≡ Ok plan
+        → AreLines plan.steps plan.lines }
 {}
 
-/// The plan of a script that is accepted can be run: it is well formed over the script's bytes, its lines go with its
-/// steps, and each step is a constant, a variable, a size or a drop.
-pub fn accepted_is_planned()
-    ensures well_formed { (bytes : List ℕ) (s : Script) → IsAccepted bytes s
-        → IsWellFormed (plan_of s).n bytes (plan_of s).steps }
-    ensures lines { (s : Script) → AreLines (plan_of s).steps (plan_of s).lines }
-    ensures built { (s : Script) → IsTrue (are_built (plan_of s).steps) }
-{}
-
-/// A text asks for one plan at most, and has at most 1,048,576 bytes where it asks for one. That plan can be
-/// run: it is well formed over the text, and its lines go with its steps.
+/// A text asks for one plan at most, has at most 1,048,576 bytes where it asks for one, and isn't refused then.
+/// That plan can be run: it is well formed over the text, its lines go with its steps, and each step is a
+/// constant, a variable, a size or a drop.
 pub fn one_plan()
     ensures one { (text : List ℕ) (a b : Plan) → Reads text a → Reads text b → a ≡ b }
+    ensures unrefused { (text : List ℕ) (plan : Plan) (fault : ScriptFault) → Reads text plan → ¬ (Refuses text fault) }
     ensures short { (text : List ℕ) (plan : Plan) → Reads text plan → length text ≤ 1048576 }
     ensures well_formed { (text : List ℕ) (plan : Plan) → Reads text plan → IsWellFormed plan.n text plan.steps }
     ensures lines { (text : List ℕ) (plan : Plan) → Reads text plan → AreLines plan.steps plan.lines }

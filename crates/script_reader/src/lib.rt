@@ -1,12 +1,15 @@
-//! Reads a script and gives the plan that it stands for: its steps and the lines that are said.
+//! Reads a script: the plan that it asks for, or its first faulty line and what is wrong with it.
 #![tactic(auto)]
 
+mod fault;
+mod keyword;
 pub mod laws;
-mod names;
+mod line;
+mod places;
 mod plan;
 mod planning;
-mod reading;
 mod script;
 
+pub use fault::{ScriptFault, ScriptKind};
 pub use plan::{LineEnd, Plan};
-pub use script::{ScriptRefusal, read_script};
+pub use script::{read_script, read_script_with};

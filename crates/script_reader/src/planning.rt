@@ -1,72 +1,57 @@
-ghost use Rattle.std.specs.Prelude.{◌≡◌, ℕ, ◌+◌, ◌≤◌, List, [], length, IfOk, OnOk, IsErrOf};
-ghost use Rattle.std.specs.List.{AllByRecursion, IsDistinct, flat_map};
-ghost use Rattle.std.specs.Str.{bytes_eq};
-ghost use Rattle.script_reader.specs.Script.{IsWord, first_line, request_line, spelling, level_of, IsScript};
-ghost use Rattle.script_reader.specs.Plans.{steps_from, lines_from, plan_of};
-ghost use Rattle.script_reader.specs.Reading.{HasWords, texts, request_of, requests_of, number_in, named_step, nameless, step_at, script_of, Fits};
+//! The plan as far as the lines that were read ask for.
 
-use crate::names::Names;
+ghost use Rattle.std.specs.Prelude.{◌≡◌, ◌≤◌, length, Bool, true};
+ghost use Rattle.std.specs.List.{list_all};
+ghost use Rattle.script_reader.specs.Keywords.{word_at, gives_name};
+ghost use Rattle.script_reader.specs.Requests.{planned_of};
+ghost use Rattle.script_reader.specs.Views.{words_of};
+ghost use Rattle.bool_tables.specs.Plans.{is_bit};
+
+use crate::fault::{Refusal, ScriptKind};
+use crate::keyword::{Keyword, read_keyword};
+use crate::line::{is_formed, is_one};
+use crate::places::{bytes_of, places_of, test_net};
 use crate::plan::{LineEnd, Plan};
-use crate::reading::RequestLine;
-use crate::script::{MOST_BYTES, ScriptRefusal};
-use bool_tables::{Items, Planned, Step};
+use bool_tables::{Bin, Items, Planned, Step};
 use std::alloc::{AllocError, Global};
 use std::collections::BTreeMap;
+use text_words::Word;
 
+/// The most steps of a plan.
+const MOST_STEPS: usize = 1_048_576;
 /// The most variables of a script.
 const MOST_VARIABLES: usize = 65_535;
-/// The most bytes that a name of a request may have.
-const MOST_NAME_BYTES: usize = 63;
-/// A constant's name stands behind `const` and a blank.
-const CONSTANT_NAME_AT: usize = 6;
-/// A variable's name stands behind `var` and a blank.
-const VARIABLE_NAME_AT: usize = 4;
-/// The bytes of a constant's line beside its name: `const`, two blanks, a bit and a line feed.
-const CONSTANT_MARKS: usize = 9;
-/// The bytes of a variable's line beside its two words: `var`, two blanks and a line feed.
-const VARIABLE_MARKS: usize = 6;
-/// The bytes of a line `size` or `drop` beside its operand: a word, a blank and a line feed.
-const OPERAND_MARKS: usize = 6;
+/// The most bytes that a name of a diagram may have.
+pub(crate) const MOST_NAME_BYTES: usize = 63;
 
-/// The place of each name in the list, where all of them differ.
-fn levels_of<'a>(
-    alloc: Global,
-    names: &[&'a [u8]],
-) -> Result<BTreeMap<&'a [u8], u32>, ScriptRefusal>
-    requires { length names.now ≤ MOST_BYTES }
-    ensures levels { IfOk result (λ levels. (name : List ℕ)
-        → number_in levels name ≡ level_of (texts names.now) name) }
-    ensures differ { OnOk result (IsDistinct bytes_eq (texts names.now)) }
-    ensures refused { IsErrOf result ScriptRefusal.Word
-        → ¬ (IsDistinct bytes_eq (texts names.now)) }
+/// Neither of two operands is 1, or one of them isn't: for one operand twice, its complement.
+const NOT_BOTH: Bin = Bin {
+    v00: true,
+    v01: true,
+    v10: true,
+    v11: false,
+};
+
+fn all_bits(bytes: &[u8]) -> bool
+    ensures { result ≡ list_all is_bit bytes.now }
 {
-    let mut levels = BTreeMap::new(alloc);
-    for (level, name) in names.iter().enumerate() {
-        if levels.insert(*name, level as u32)?.is_some() {
-            return Err(ScriptRefusal::Word);
-        }
-    }
-    Ok(levels)
+    bytes.iter().all(|b| *b == b'0' || *b == b'1')
 }
 
-/// The step with a new name, which stands from the byte `at` on.
-fn named(names: &Names<'_>, step: Step, at: usize, name: &[u8]) -> Option<Planned>
-    requires { at ≤ MOST_BYTES + CONSTANT_NAME_AT }
-    ensures { result ≡ named_step (number_in names.now.given name.now) step at name.now }
+/// The step of a line, with the name that the line gives.
+#[tactic(auto, using(crate::proofs::Tests::at_word))]
+fn planned(keyword: Keyword, words: &[Word<'_>], step: Step) -> Planned
+    requires words { 2 ≤ length words.now }
+    requires short { gives_name keyword ≡ true → length (word_at 1 (words_of words.now)).bytes ≤ 63 }
+    ensures { result ≡ planned_of keyword (words_of words.now) step }
 {
-    if names.given.contains_key(name) || name.len() > MOST_NAME_BYTES {
-        return None;
+    if keyword.gives_name() {
+        return Planned {
+            step,
+            name_at: words[1].at,
+            name_len: words[1].bytes.len() as u32,
+        };
     }
-    Some(Planned {
-        step,
-        name_at: at as u32,
-        name_len: name.len() as u32,
-    })
-}
-
-fn nameless(step: Step) -> Planned
-    ensures { result ≡ nameless step }
-{
     Planned {
         step,
         name_at: 0,
@@ -74,119 +59,360 @@ fn nameless(step: Step) -> Planned
     }
 }
 
-/// The step of a request, whose line stands from the byte `at` on.
-fn step_of(
-    levels: &BTreeMap<&[u8], u32>,
-    names: &Names<'_>,
-    request: &RequestLine<'_>,
-    at: usize,
-) -> Option<Planned>
-    requires { at ≤ MOST_BYTES }
-    ensures { result ≡ step_at (number_in levels.now) (number_in names.now.given)
-        (number_in names.now.dropped) at (request_of request.now) }
-{
-    match *request {
-        RequestLine::Constant { name, value } => {
-            named(names, Step::Const { value }, at + CONSTANT_NAME_AT, name)
-        }
-        RequestLine::Variable { name, variable } => {
-            let level = levels.get(variable).copied()?;
-            named(names, Step::Var { level }, at + VARIABLE_NAME_AT, name)
-        }
-        RequestLine::Size { operand } => {
-            let of = names.live_step(operand)?;
-            Some(nameless(Step::Size { of }))
-        }
-        RequestLine::Drop { operand } => {
-            let gone = names.live_step(operand)?;
-            Some(nameless(Step::Drop { gone }))
-        }
-    }
+/// What a name was given to: the step that makes the diagram, and whether a later line dropped it.
+#[derive(Clone, Copy, Debug, PartialEq, Eq)]
+pub(crate) struct Named {
+    pub step: u32,
+    pub dropped: bool,
 }
 
-fn line_len(request: &RequestLine<'_>) -> usize
-    requires { length (request_line (request_of request.now)) ≤ MOST_BYTES }
-    ensures { result ≡ length (request_line (request_of request.now)) }
-{
-    match *request {
-        RequestLine::Constant { name, .. } => name.len() + CONSTANT_MARKS,
-        RequestLine::Variable { name, variable } => name.len() + variable.len() + VARIABLE_MARKS,
-        RequestLine::Size { operand } | RequestLine::Drop { operand } => {
-            operand.len() + OPERAND_MARKS
+/// Whether a line was read, the variables, the names that were given, and the steps and said lines so far.
+#[derive(Drop)]
+pub(crate) struct Planning<'a> {
+    pub begun: bool,
+    pub n: u32,
+    pub levels: BTreeMap<&'a [u8], u32>,
+    pub named: BTreeMap<&'a [u8], Named>,
+    pub steps: Vec<Planned>,
+    pub lines: Vec<LineEnd>,
+}
+
+impl<'a> Planning<'a> {
+    ghost use Rattle.std.specs.Prelude.{◌<◌, ◌+◌, ◌^◌, take, false, IsTrue, Ok, Some, IfOk, OnOk};
+    ghost use Rattle.std.specs.Str.{bytes_eq};
+    ghost use Rattle.std.specs.Map.{update};
+    ghost use Rattle.text_words.specs.Left.{word_of};
+    ghost use Rattle.script_reader.specs.Keywords.{wanted, is_one, is_formed};
+    ghost use Rattle.script_reader.specs.Names.{nothing, live, level_of};
+    ghost use Rattle.script_reader.specs.Requests.{bits_in, bits_at, step_of, new_name, name_fits};
+    ghost use Rattle.script_reader.specs.Requests.{name_behind, with_planned, plan_step};
+    ghost use Rattle.script_reader.specs.Script.{begin, plan_vars, keyword_in, plan_words, plan_of};
+    ghost use Rattle.script_reader.specs.Views.{texts, state_of, Leads, Gives};
+
+    /// Where no line was read.
+    pub(crate) fn new(alloc: Global) -> Planning<'a>
+        ensures { state_of result ≡ nothing }
+    {
+        Planning {
+            begun: false,
+            n: 0,
+            levels: BTreeMap::new(alloc),
+            named: BTreeMap::new(alloc),
+            steps: Vec::new(alloc),
+            lines: Vec::new(alloc),
         }
     }
-}
 
-/// The steps of the requests, whose lines stand one behind the other from the byte `at` on.
-fn steps_of<'a>(
-    alloc: Global,
-    variables: &[&'a [u8]],
-    requests: &[RequestLine<'a>],
-    at: usize,
-) -> Result<Vec<Planned>, ScriptRefusal>
-    requires few_variables { length variables.now ≤ MOST_BYTES }
-    requires few_requests { length requests.now ≤ MOST_BYTES }
-    requires words { AllByRecursion HasWords (requests_of requests.now) }
-    requires room { at + length (flat_map request_line (requests_of requests.now)) ≤ MOST_BYTES }
-    ensures steps { IfOk result (λ steps. steps.items
-        ≡ steps_from (texts variables.now) [] at (requests_of requests.now)) }
-    ensures fits { OnOk result (Fits (texts variables.now) (requests_of requests.now)) }
-    ensures refused { IsErrOf result ScriptRefusal.Word
-        → ¬ Fits (texts variables.now) (requests_of requests.now) }
-{
-    let levels = levels_of(alloc, variables)?;
-    let mut names = Names::new(alloc);
-    let mut steps = Vec::new(alloc);
-    let mut line_at = at;
-    for (number, request) in requests.iter().enumerate() {
-        let step = step_of(&levels, &names, request, line_at).ok_or(ScriptRefusal::Word)?;
-        names.note(request, number as u32)?;
-        steps.push(step)?;
-        line_at += line_len(request);
+    /// The plan of the lines that were read.
+    pub(crate) fn plan(self) -> Plan
+        ensures { plan_of (Ok (state_of self.entry)) ≡ Ok result }
+    {
+        Plan {
+            n: self.n,
+            steps: Items::of(self.steps),
+            lines: Items::of(self.lines),
+        }
     }
-    Ok(steps)
-}
 
-/// The said lines of so many steps, one after each.
-fn lines_of(alloc: Global, count: usize) -> Result<Vec<LineEnd>, AllocError>
-    requires { count ≤ MOST_BYTES }
-    ensures { IfOk result (λ lines. lines.items ≡ lines_from 0 count) }
-{
-    let mut lines = Vec::new(alloc);
-    for step in 0..count as u32 {
-        lines.push(LineEnd {
-            line: step + 2,
-            last: step,
-            shows: step,
+    /// Names the variables, in order. The first word is the keyword.
+    #[tactic(auto, using(crate::proofs::Tests::rest_texts))]
+    fn declare(&mut self, alloc: Global, words: &[Word<'a>]) -> Result<(), Refusal>
+        requires some { 1 ≤ length words.now }
+        requires few { length words.now < 2 ^ 32 }
+        ensures { Leads (state_of self.new) result (plan_vars (state_of self.old) (words_of words.now)) }
+    {
+        let names = bytes_of(alloc, &words[1..])?;
+        let Some(levels) = places_of(alloc, names.as_slice())? else {
+            return Err(Refusal::Fault(ScriptKind::Variable));
+        };
+        if words.len() > MOST_VARIABLES + 1 {
+            return Err(Refusal::Fault(ScriptKind::TooManyVariables));
+        }
+        self.n = words.len() as u32 - 1;
+        self.levels = levels;
+        Ok(())
+    }
+
+    /// What the first word of a line asks for, where the line has the words of such a request.
+    #[tactic(auto, using(crate::proofs::Tests::at_word))]
+    fn begin_line(&mut self, known: &[&[u8]], words: &[Word<'_>]) -> Result<Keyword, ScriptKind>
+        requires { 1 ≤ length words.now }
+        ensures keyword { result ≡ keyword_in (texts known.now) (state_of self.old) (words_of words.now) }
+        ensures begun { OnOk result (state_of self.new ≡ begin (state_of self.old)) }
+    {
+        let keyword = read_keyword(known, words[0].bytes)?;
+        if !is_formed(self.begun, self.n, keyword, words) {
+            return Err(ScriptKind::Word);
+        }
+        self.begun = true;
+        Ok(keyword)
+    }
+
+    /// Plans what a line with words asks for.
+    pub(crate) fn plan_line(
+        &mut self,
+        alloc: Global,
+        known: &[&[u8]],
+        line: u32,
+        words: &[Word<'a>],
+    ) -> Result<(), Refusal>
+        requires some { 1 ≤ length words.now }
+        requires few { length words.now < 2 ^ 32 }
+        ensures { Leads (state_of self.new) result
+            (plan_words (texts known.now) (state_of self.old) line (words_of words.now)) }
+    {
+        let keyword = self.begin_line(known, words)?;
+        match keyword {
+            Keyword::Vars => self.declare(alloc, words),
+            Keyword::Inputs => Err(Refusal::Fault(ScriptKind::NoNetlist)),
+            Keyword::Net => Err(Refusal::Fault(test_net(alloc, words)?)),
+            _ => self.plan_step(line, keyword, words),
+        }
+    }
+
+    /// The step that made the diagram of a name.
+    fn live(&self, word: &Word<'_>) -> Result<u32, ScriptKind>
+        ensures { result ≡ live (state_of self.now) (word_of word.now) }
+    {
+        let Some(named) = self.named.get(word.bytes) else {
+            return Err(ScriptKind::UnknownName);
+        };
+        if named.dropped {
+            return Err(ScriptKind::Dropped);
+        }
+        Ok(named.step)
+    }
+
+    /// The step that made the diagram of a name, the word of a line at a place.
+    #[tactic(auto, using(crate::proofs::Tests::at_word))]
+    fn live_at(&self, words: &[Word<'_>], k: usize) -> Result<u32, ScriptKind>
+        requires { k < length words.now }
+        ensures { result ≡ live (state_of self.now) (word_at k (words_of words.now)) }
+    {
+        self.live(&words[k])
+    }
+
+    /// The level of a variable.
+    fn level(&self, word: &Word<'_>) -> Result<u32, ScriptKind>
+        ensures { result ≡ level_of (state_of self.now) (word_of word.now) }
+    {
+        self.levels
+            .get(word.bytes)
+            .copied()
+            .ok_or(ScriptKind::Variable)
+    }
+
+    /// The level of a variable, the word of a line at a place.
+    #[tactic(auto, using(crate::proofs::Tests::at_word))]
+    fn level_at(&self, words: &[Word<'_>], k: usize) -> Result<u32, ScriptKind>
+        requires { k < length words.now }
+        ensures { result ≡ level_of (state_of self.now) (word_at k (words_of words.now)) }
+    {
+        self.level(&words[k])
+    }
+
+    /// Whether a word of a line is 1.
+    #[tactic(auto, using(crate::proofs::Tests::at_word))]
+    fn one_at(words: &[Word<'_>], k: usize) -> bool
+        requires { k < length words.now }
+        ensures { result ≡ is_one (word_at k (words_of words.now)) }
+    {
+        is_one(&words[k])
+    }
+
+    /// Where the bits of a word stand: one for each variable.
+    fn bits_in(&self, word: &Word<'_>) -> Result<u32, ScriptKind>
+        ensures { result ≡ bits_in self.now.n (word_of word.now) }
+    {
+        if word.bytes.len() == self.n as usize && all_bits(word.bytes) {
+            Ok(word.at)
+        } else {
+            Err(ScriptKind::Bits)
+        }
+    }
+
+    /// Where the bits of an evaluation stand, the third word of its line; 0 where it is left out.
+    #[tactic(auto, using(crate::proofs::Tests::at_word))]
+    fn bits(&self, words: &[Word<'_>]) -> Result<u32, ScriptKind>
+        ensures { result ≡ bits_at self.now.n (words_of words.now) }
+    {
+        if words.len() == 3 {
+            return self.bits_in(&words[2]);
+        }
+        Ok(0)
+    }
+
+    /// The step that a line with these words asks for.
+    fn step(&self, keyword: Keyword, words: &[Word<'_>]) -> Result<Step, ScriptKind>
+        requires { wanted keyword ≤ length words.now }
+        ensures { result ≡ step_of (state_of self.now) keyword (words_of words.now) }
+    {
+        match keyword {
+            Keyword::Const => Ok(Step::Const {
+                value: Planning::one_at(words, 2),
+            }),
+            Keyword::Var => {
+                let level = self.level_at(words, 2)?;
+                Ok(Step::Var { level })
+            }
+            Keyword::Not => {
+                let of = self.live_at(words, 2)?;
+                Ok(Step::Pair {
+                    op: NOT_BOTH,
+                    left: of,
+                    right: of,
+                })
+            }
+            Keyword::Pair(op) => {
+                let left = self.live_at(words, 2)?;
+                let right = self.live_at(words, 3)?;
+                Ok(Step::Pair { op, left, right })
+            }
+            Keyword::Ite => {
+                let test = self.live_at(words, 2)?;
+                let yes = self.live_at(words, 3)?;
+                let no = self.live_at(words, 4)?;
+                Ok(Step::Ite { test, yes, no })
+            }
+            Keyword::Quantify(kind) => {
+                let of = self.live_at(words, 2)?;
+                let level = self.level_at(words, 3)?;
+                Ok(Step::Quantify { kind, of, level })
+            }
+            Keyword::Restrict => {
+                let of = self.live_at(words, 2)?;
+                let level = self.level_at(words, 3)?;
+                let value = Planning::one_at(words, 4);
+                Ok(Step::Restrict { of, level, value })
+            }
+            Keyword::Drop => {
+                let gone = self.live_at(words, 1)?;
+                Ok(Step::Drop { gone })
+            }
+            Keyword::Same => {
+                let left = self.live_at(words, 1)?;
+                let right = self.live_at(words, 2)?;
+                Ok(Step::Same { left, right })
+            }
+            Keyword::Leq => {
+                let left = self.live_at(words, 1)?;
+                let right = self.live_at(words, 2)?;
+                Ok(Step::Leq { left, right })
+            }
+            Keyword::Eval => {
+                let of = self.live_at(words, 1)?;
+                let at = self.bits(words)?;
+                Ok(Step::Eval { of, at })
+            }
+            Keyword::Size => {
+                let of = self.live_at(words, 1)?;
+                Ok(Step::Size { of })
+            }
+            Keyword::Vars | Keyword::Inputs | Keyword::Net => Err(ScriptKind::Word),
+        }
+    }
+
+    /// Whether a new diagram may have the name.
+    fn test_name(&self, name: &Word<'_>) -> Result<(), ScriptKind>
+        ensures { result ≡ new_name (state_of self.now) (word_of name.now) }
+    {
+        if name.bytes.len() > MOST_NAME_BYTES {
+            return Err(ScriptKind::NameLength);
+        }
+        if self.named.contains_key(name.bytes) {
+            return Err(ScriptKind::NameTaken);
+        }
+        Ok(())
+    }
+
+    /// Whether a line may give its name, where it gives one.
+    #[tactic(auto, using(crate::proofs::Tests::at_word))]
+    fn test_names(&self, keyword: Keyword, words: &[Word<'_>]) -> Result<(), ScriptKind>
+        requires { wanted keyword ≤ length words.now }
+        ensures { result ≡ name_fits (state_of self.now) keyword (words_of words.now) }
+    {
+        if keyword.gives_name() {
+            return self.test_name(&words[1]);
+        }
+        Ok(())
+    }
+
+    /// Gives a name, or notes that it is dropped.
+    fn put_name(&mut self, name: &'a [u8], named: Named) -> Result<(), AllocError>
+        ensures { OnOk result (state_of self.new ≡ record (state_of self.old) {
+          named = update bytes_eq (state_of self.old).named name.entry.now (Some named);
+        }) }
+    {
+        self.named.insert(name, named)?;
+        Ok(())
+    }
+
+    /// Notes which name the line with a step gives or drops.
+    #[tactic(auto, using(crate::proofs::Tests::at_word))]
+    fn note_name(
+        &mut self,
+        keyword: Keyword,
+        words: &[Word<'a>],
+        step: Step,
+    ) -> Result<(), AllocError>
+        requires words { 2 ≤ length words.now }
+        requires few { length self.old.steps.items < 2 ^ 32 }
+        ensures { OnOk result
+            (state_of self.new ≡ name_behind (state_of self.old) keyword (words_of words.now) step) }
+    {
+        let number = self.steps.len() as u32;
+        match step {
+            Step::Drop { gone } => self.put_name(
+                words[1].bytes,
+                Named {
+                    step: gone,
+                    dropped: true,
+                },
+            ),
+            _ => {
+                if keyword.gives_name() {
+                    self.put_name(
+                        words[1].bytes,
+                        Named {
+                            step: number,
+                            dropped: false,
+                        },
+                    )?;
+                }
+                Ok(())
+            }
+        }
+    }
+
+    /// Puts a step, and its said line.
+    fn put_step(&mut self, line: u32, planned: Planned) -> Result<(), AllocError>
+        requires few { length self.old.steps.items < 2 ^ 32 }
+        ensures { OnOk result (state_of self.new ≡ with_planned (state_of self.old) line planned) }
+    {
+        let number = self.steps.len() as u32;
+        self.steps.push(planned)?;
+        self.lines.push(LineEnd {
+            line,
+            last: number,
+            shows: number,
         })?;
+        Ok(())
     }
-    Ok(lines)
-}
 
-/// The plan of the script with these variables and requests. The first line has so many bytes.
-pub(crate) fn plan_for<'a>(
-    alloc: Global,
-    variables: &[&'a [u8]],
-    requests: &[RequestLine<'a>],
-    first_line_len: usize,
-) -> Result<Plan, ScriptRefusal>
-    requires variables { AllByRecursion IsWord (texts variables.now) }
-    requires words { AllByRecursion HasWords (requests_of requests.now) }
-    requires first { first_line_len ≡ length (first_line (texts variables.now)) }
-    requires short { length (spelling (script_of variables.now requests.now)) ≤ MOST_BYTES }
-    ensures script { OnOk result (IsScript (script_of variables.now requests.now)) }
-    ensures plan { IfOk result (λ plan. plan ≡ plan_of (script_of variables.now requests.now)) }
-    ensures refused { IsErrOf result ScriptRefusal.Word
-        → ¬ (IsScript (script_of variables.now requests.now)) }
-{
-    if variables.is_empty() || variables.len() > MOST_VARIABLES {
-        return Err(ScriptRefusal::Word);
+    /// Plans a line that is one step.
+    #[tactic(auto, using(crate::proofs::Formed::fits_short))]
+    fn plan_step(&mut self, line: u32, keyword: Keyword, words: &[Word<'a>]) -> Result<(), Refusal>
+        requires wanted { wanted keyword ≤ length words.now }
+        requires two { 2 ≤ length words.now }
+        ensures { Leads (state_of self.new) result (plan_step (state_of self.old) line keyword (words_of words.now)) }
+    {
+        let step = self.step(keyword, words)?;
+        self.test_names(keyword, words)?;
+        if self.steps.len() >= MOST_STEPS {
+            return Err(Refusal::Fault(ScriptKind::TooManySteps));
+        }
+        self.note_name(keyword, words, step)?;
+        self.put_step(line, planned(keyword, words, step))?;
+        Ok(())
     }
-    let steps = steps_of(alloc, variables, requests, first_line_len)?;
-    let lines = lines_of(alloc, requests.len())?;
-    Ok(Plan {
-        n: variables.len() as u32,
-        steps: Items::of(steps),
-        lines: Items::of(lines),
-    })
 }

@@ -1,67 +1,113 @@
-ghost use Rattle.std.specs.Prelude.{◌≡◌, List, ℕ, IfOk, IsErrOf, IsTrue};
+//! Reading a script line by line.
+
+ghost use Rattle.std.specs.Prelude.{◌≡◌, ◌⊎◌, ◌≤◌, length, map, IfOk, IfErr, IsTrue};
 ghost use Rattle.bool_tables.specs.Plans.{IsWellFormed};
-ghost use Rattle.script_reader.specs.declared.plan.Plan.{Plan};
-ghost use Rattle.script_reader.specs.Reads.{Reads};
-ghost use Rattle.script_reader.specs.Lines.{AreLines};
+ghost use Rattle.text_words.specs.Text.{words_in};
+ghost use Rattle.text_words.specs.Left.{word_of, line_of};
 ghost use Rattle.script_reader.specs.Built.{are_built};
-ghost use Rattle.script_reader.specs.declared.script.ScriptRefusal.TheVariants.{Memory};
+ghost use Rattle.script_reader.specs.Reads.{Reads, Refuses};
+ghost use Rattle.script_reader.specs.Lines.{AreLines};
+ghost use Rattle.script_reader.specs.Names.{nothing};
+ghost use Rattle.script_reader.specs.Script.{plan_line, read};
+ghost use Rattle.script_reader.specs.Views.{texts, words_of, state_of, Leads, AnswersRead, fault_on};
 
+use crate::fault::{Refusal, ScriptFault, ScriptKind};
 use crate::plan::Plan;
-use crate::planning::plan_for;
-use crate::reading::{read_names, read_requests};
-use std::alloc::{AllocError, AllocFailed, Global};
-use thiserror::Error;
+use crate::planning::Planning;
+use std::alloc::{AllocError, Global};
+use text_words::{Line, Lines, Word};
 
-/// The most bytes that a script may have.
-pub(crate) const MOST_BYTES: usize = 1_048_576;
+/// The most bytes of a script.
+const MOST_BYTES: usize = 1_048_576;
 
-/// Why a script gives no plan.
-#[derive(Clone, Copy, Debug, PartialEq, Eq, Error)]
-pub enum ScriptRefusal {
-    #[error("out of memory")]
-    Memory,
-    #[error("the script has a word that is not accepted where it stands")]
-    Word,
+/// The words of a line.
+fn words_of<'a>(alloc: Global, line: &Line<'a>) -> Result<Vec<Word<'a>>, AllocError>
+    ensures { IfOk result (λ v. map word_of v.items ≡ words_in (line_of line.now)) }
+{
+    line.words().collect(alloc)
 }
 
-impl From<AllocError> for ScriptRefusal {
-    ghost from_gives = { λ _ e. e ≡ Memory };
+/// The plan of a script, or its first faulty line, where lines may begin with the known words alone. A known word
+/// that is no word of the language is refused as any other: `Word`.
+pub fn read_script_with<'a>(
+    alloc: Global,
+    bytes: &'a [u8],
+    known: &[&[u8]],
+) -> Result<Plan, ScriptFault>
+    ensures read { AnswersRead result (read (texts known.now) bytes.entry.now) }
 
-    fn from(_e: AllocError) -> ScriptRefusal {
-        ScriptRefusal::Memory
+    // what every plan that is given keeps
+    ensures steps { IfOk result (λ plan. IsWellFormed plan.n bytes.entry.now plan.steps) }
+    ensures lines { IfOk result (λ plan. AreLines plan.steps plan.lines) }
+{
+    if bytes.len() > MOST_BYTES {
+        return Err(ScriptFault {
+            line: 0,
+            kind: ScriptKind::TooLong,
+        });
+    }
+    let mut planning = Planning::new(alloc);
+    for line in Lines::of(bytes) {
+        if let Err(refusal) = read_line(alloc, &mut planning, known, &line) {
+            return Err(fault_of(line.number, refusal));
+        }
+    }
+    Ok(planning.plan())
+}
+
+/// The fault of a line. Where memory ran out, it is of no line.
+fn fault_of(line: u32, refusal: Refusal) -> ScriptFault
+    ensures { result ≡ fault_on line refusal }
+{
+    match refusal {
+        Refusal::Memory => ScriptFault {
+            line: 0,
+            kind: ScriptKind::Memory,
+        },
+        Refusal::Fault(kind) => ScriptFault { line, kind },
     }
 }
 
-impl<T: Drop> From<AllocFailed<T>> for ScriptRefusal {
-    ghost from_gives = { λ _ e. e ≡ Memory };
-
-    fn from(_e: AllocFailed<T>) -> ScriptRefusal {
-        ScriptRefusal::Memory
+/// Plans what a line asks for, where it has words.
+#[tactic(auto, using(crate::proofs::Few::few_words))]
+fn read_line<'a>(
+    alloc: Global,
+    planning: &mut Planning<'a>,
+    known: &[&[u8]],
+    line: &Line<'a>,
+) -> Result<(), Refusal>
+    requires short { length line.now.bytes.now ≤ 1048576 }
+    ensures { Leads (state_of planning.new) result
+        (plan_line (texts known.now) (state_of planning.old) line.now.number (words_in (line_of line.now))) }
+{
+    let words = words_of(alloc, line)?;
+    if words.is_empty() {
+        return Ok(());
     }
+    planning.plan_line(alloc, known, line.number, words.as_slice())
 }
 
-/// The plan that a script stands for.
-pub fn read_script(alloc: Global, bytes: &[u8]) -> Result<Plan, ScriptRefusal>
+/// The plan of a script, or its first faulty line. Lines may begin with the words of which the program can do what
+/// they ask for: `const`, `var`, `size` and `drop`, and `vars` on the first line with words. `inputs` and `net` are
+/// known too, and refused: `NoNetlist`.
+pub fn read_script(alloc: Global, bytes: &[u8]) -> Result<Plan, ScriptFault>
     ensures read { IfOk result (λ plan. Reads bytes.now plan) }
-    ensures refused { IsErrOf result ScriptRefusal.Word → (plan : Plan) → ¬ (Reads bytes.now plan) }
+    ensures refused { IfErr result (λ fault. Refuses bytes.now fault
+        ⊎ (fault ≡ record { line = 0; kind = ScriptKind.Memory })) }
 
     // what every plan that is given keeps
     ensures well_formed { IfOk result (λ plan. IsWellFormed plan.n bytes.now plan.steps) }
     ensures lines { IfOk result (λ plan. AreLines plan.steps plan.lines) }
     ensures built { IfOk result (λ plan. IsTrue (are_built plan.steps)) }
 {
-    if bytes.len() > MOST_BYTES {
-        return Err(ScriptRefusal::Word);
-    }
-    let (names, rest) = read_names(alloc, bytes)?;
-    let requests = read_requests(alloc, rest)?;
-    plan_for(
-        alloc,
-        names.as_slice(),
-        requests.as_slice(),
-        bytes.len() - rest.len(),
-    )
+    let known = [
+        b"vars".as_slice(),
+        b"inputs".as_slice(),
+        b"net".as_slice(),
+        b"const".as_slice(),
+        b"var".as_slice(),
+        b"size".as_slice(),
+        b"drop".as_slice(),
+    ];
+    read_script_with(alloc, bytes, known.as_slice())
 }
-
-#[cfg(test)]
-mod tests;

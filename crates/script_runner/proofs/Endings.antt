@@ -1,6 +1,7 @@
 -- The endings of a call of the program.
 use Rattle.std.proofs.Common.{◌≡◌, ◌∙◌, ◌⊎◌, ℕ, ◌+◌, ◌≤◌, min, Bool, List, ◌++◌, length, take, refl, sym, ap, subst, inl, inr, arith}
-use Rattle.std.specs.Prelude.{IsTrue, Some}
+use Rattle.std.specs.Prelude.{◌≢◌, IsTrue, Some}
+use Rattle.std.proofs.lemmas.Bool.{cases_lt}
 use Rattle.std.proofs.lemmas.List.{take_all, length-take}
 use Rattle.shelf_model.specs.World.{Moment, World, now, said}
 use Rattle.shelf_model.specs.Calls.{Told}
@@ -13,8 +14,10 @@ use Rattle.script_runner.specs.declared.ending.Ending.{Ending}
 use Rattle.script_runner.specs.declared.ending.Ending.TheVariants.{SayFault}
 use Rattle.script_runner.specs.declared.ending.Ending.TheVariants as refusal
 use Rattle.script_runner.specs.Words.{Reading, reading_of}
-use Rattle.script_reader.specs.Reads.{Reads}
-use Rattle.script_reader.proofs.PlanReads.{text_is_short}
+use Rattle.script_reader.specs.Reads.{Reads, Refuses}
+use Rattle.script_reader.specs.declared.fault.ScriptFault.{ScriptFault}
+use Rattle.script_reader.specs.declared.fault.ScriptKind.TheVariants as kind
+use Rattle.script_reader.proofs.PlanReads.{text_is_short, too_long}
 use Rattle.script_runner.specs.Status.{status_of}
 use Rattle.script_runner.specs.Text.{refused_line}
 use Rattle.script_runner.specs.Running.{IsSaying, SaysOnly}
@@ -22,7 +25,7 @@ use Rattle.script_runner.specs.Fetching.{OnlyFetched, IsText}
 use Rattle.script_runner.specs.JobOf.{job_bytes, job_of}
 use Rattle.script_runner.specs.Entered.{RunsFrom, RunsIn}
 use Rattle.script_runner.specs.Calls.{most_calls, fetch_calls}
-use Rattle.script_runner.specs.Outcome.{Accepts, Refuses, SaysLine, Ends, MakesFewCalls}
+use Rattle.script_runner.specs.Outcome.{Accepts, IsRefused, SaysLine, Ends, MakesFewCalls}
 use Rattle.script_runner.proofs.Saying.{says_nothing}
 use Rattle.script_runner.proofs.EnteredRuns.{earlier}
 
@@ -33,11 +36,20 @@ whole_text text bytes read short =
     let fits : length text ≤ 1048576 + 1 = omega arith in
     read ∙ take_all (1048576 + 1) text fits
 
-refused_text : (text bytes : List ℕ) → bytes ≡ take (1048576 + 1) text → ((plan : Plan) → ¬ (Reads bytes plan)) → (plan : Plan) → ¬ (Reads text plan)
-refused_text text bytes read refused plan accepted =
-    let short : length text ≤ 1048576 = text_is_short text plan accepted in
-    let fits : length text ≤ 1048576 + 1 = omega arith in
-    refused plan (subst (λ t. Reads t plan) (sym (read ∙ take_all (1048576 + 1) text fits)) accepted)
+-- a text of which too many bytes were read is refused as those bytes are
+refused_text : (text bytes : List ℕ) (fault : ScriptFault) → bytes ≡ take (1048576 + 1) text → Refuses bytes fault → Refuses text fault
+refused_text text bytes fault read refused =
+    elim (cases_lt 1048576 (length bytes)) [
+      | inl long ↦
+          let counted : length bytes ≡ min (1048576 + 1) (length text) = ap length read ∙ length-take (1048576 + 1) text in
+          too_long bytes text fault long (omega (arith, counted, long)) refused
+      | inr short ↦ subst (λ t. Refuses t fault) (whole_text text bytes read short) refused
+    ]
+
+-- a refusal for another cause than memory is that of the text
+pub not_memory : (text : List ℕ) (fault : ScriptFault) → fault.kind ≢ kind.Memory → Refuses text fault ⊎ (fault ≡ record { line = 0; kind = kind.Memory }) → Refuses text fault
+not_memory text fault other (inl refused) = refused
+not_memory text fault other (inr memory) = absurd (other (ap (λ (f : ScriptFault). f.kind) memory))
 
 still_there : (old mid : World) → OnlyFetched old mid → now mid ≡ now old
 still_there old mid looked = at_end old mid (λ m. m ≡ now old) looked.moments
@@ -92,31 +104,35 @@ module _ {S : Type 0} (tells : S → Bool) (world : S → World) where
       inr (plan, accepts_read words reading bytes plan (world old) words_are accepted (fetched tells_s), omega (arith, a, b))
 
   -- the script that was read is refused
-  pub answers_refused : (words : List (List ℕ)) (reading : Reading) (bytes : List ℕ) (ending : Ending) (old s t : S) → reading_of words ≡ Some reading
-      → (ending ≡ refusal.Script) ⊎ (ending ≡ SayFault) → ((plan : Plan) → ¬ (Reads bytes plan))
+  pub answers_refused : (words : List (List ℕ)) (reading : Reading) (bytes line_said : List ℕ) (fault : ScriptFault) (ending : Ending) (old s t : S) → reading_of words ≡ Some reading
+      → (ending ≡ refusal.Script) ⊎ (ending ≡ SayFault) → line_said ≡ refused_line fault → Refuses bytes fault
       → (IsTrue (tells s) → IsText reading.script 1048576 bytes (world old))
-      → Told tells old s (OnlyFetched (world old) (world s)) → Told tells s t (SaysOnly refused_line (world s) (world t))
-      → (ending ≡ refusal.Script → IsTrue (tells t) → said (world t) ≡ said (world s) ++ refused_line)
+      → Told tells old s (OnlyFetched (world old) (world s)) → Told tells s t (SaysOnly line_said (world s) (world t))
+      → (ending ≡ refusal.Script → IsTrue (tells t) → said (world t) ≡ said (world s) ++ line_said)
       → Told tells old t (Ends words (status_of ending) (world old) (world t))
-  answers_refused words reading bytes ending old s t words_are which refused text looked says whole = record {
+  answers_refused words reading bytes line_said fault ending old s t words_are which line_is refused text looked says whole = record {
     before = λ tells_t. looked.before (says.before tells_t);
     did = λ tells_t.
         let tells_s : IsTrue (tells s) = says.before tells_t in
         let read : IsText reading.script 1048576 bytes (world old) = text tells_s in
-        let refuses : Refuses (world old) words = record {
+        let refuses : IsRefused (world old) words fault = record {
           reading = reading;
           words_are = words_are;
           text = read.text;
           there = read.there;
-          refused = refused_text read.text bytes read.bytes_are refused;
+          refused = refused_text read.text bytes fault read.bytes_are refused;
         } in
-        let line : SaysLine refused_line 3 (status_of ending) (world old) (world t) = record {
+        let line : SaysLine line_said 3 (status_of ending) (world old) (world t) = record {
           status_is = two ending which;
-          only = fetched_says refused_line (world old) (world s) (world t) (looked.did tells_s) (says.did tells_t);
+          only = fetched_says line_said (world old) (world s) (world t) (looked.did tells_s) (says.did tells_t);
           whole = λ three. whole (is_script ending which three) tells_t
-              ∙ ap (λ (m : Moment). m.said ++ refused_line) (still_there (world old) (world s) (looked.did tells_s));
+              ∙ ap (λ (m : Moment). m.said ++ line_said) (still_there (world old) (world s) (looked.did tells_s));
         } in
-        inr (inr (inl (record { refuses = refuses; says = line })));
+        inr (inr (inl (record {
+          fault = fault;
+          refuses = refuses;
+          says = subst (λ (text : List ℕ). SaysLine text 3 (status_of ending) (world old) (world t)) line_is line;
+        })));
   }
     where
       two : (e : Ending) → (e ≡ refusal.Script) ⊎ (e ≡ SayFault) → (status_of e ≡ 3) ⊎ (status_of e ≡ 8)

@@ -21,9 +21,10 @@ use Rattle.sound_image.specs.Jobs.{Job}
 use Rattle.sound_image.specs.Sound.{IsSound}
 use Rattle.sound_image.specs.Holds.{AreSound}
 use Rattle.sound_image.proofs.AttachLaws.{standing}
+use Rattle.script_reader.specs.declared.fault.ScriptFault.{ScriptFault}
 use Rattle.script_reader.specs.declared.plan.Plan.{Plan}
 use Rattle.script_reader.specs.Reads.{Reads}
-use Rattle.script_reader.proofs.PlanReads.{one_plan}
+use Rattle.script_reader.proofs.PlanReads.{one_plan, plan_or_refusal}
 use Rattle.script_runner.specs.Words.{Reading, reading_of}
 use Rattle.script_runner.specs.Said.{whole_lines, said_count}
 use Rattle.script_runner.specs.Running.{SaysOnly, IsSafe}
@@ -31,7 +32,7 @@ use Rattle.script_runner.specs.Fetching.{OnlyFetched}
 use Rattle.script_runner.specs.JobOf.{job_bytes, job_of}
 use Rattle.script_runner.specs.Entered.{EndsRun, RefusesOther, IsMoment, RunsIn}
 use Rattle.script_runner.specs.Text.{usage_line, refused_line, run_text}
-use Rattle.script_runner.specs.Outcome.{Accepts, Refuses, EndsRan, Ends, StatusHasCause, NoneRose}
+use Rattle.script_runner.specs.Outcome.{Accepts, IsRefused, EndsRan, Ends, StatusHasCause, NoneRose}
 use Rattle.script_runner.specs.Lives.{Life, SameFiles, IsLeftOf, IsLife, RunsPlan, StaysOut, AreStored, AreLives, LifeKeeps, LivesKeep}
 
 -- an image without bytes is sound for every job
@@ -64,9 +65,9 @@ one_text w words a b x y reads_a reads_b there_a there_b =
     same_some x y (sym (subst (λ (r : Reading). w.texts r.script ≡ Some x) readings there_a) ∙ there_b)
 
 -- a text that asks for a plan isn't refused
-pub not_both : (w : World) (words : List (List ℕ)) (p : Plan) → Accepts w words p → Refuses w words → ⊥
-not_both w words p a b =
-    b.refused p (subst (λ text. Reads text p) (one_text w words a.reading b.reading a.text b.text a.words_are b.words_are a.there b.there) a.accepted)
+pub not_both : (w : World) (words : List (List ℕ)) (p : Plan) (fault : ScriptFault) → Accepts w words p → IsRefused w words fault → ⊥
+not_both w words p fault a b =
+    plan_or_refusal b.text p fault (subst (λ text. Reads text p) (one_text w words a.reading b.reading a.text b.text a.words_are b.words_are a.there b.there) a.accepted) b.refused
 
 -- the words ask for one text and one plan at most
 pub same_plan : (w : World) (words : List (List ℕ)) (p q : Plan) (a : Accepts w words p) (b : Accepts w words q) → (a.text ≡ b.text) × (p ≡ q)
@@ -241,7 +242,7 @@ module _ (text : List ℕ) (plan : Plan) (reads : Reads text plan) (folder : Fol
     | inr other ↦ elim other [
       | inl silent ↦ keeps_silent silent.fetched
       | inr more ↦ elim more [
-        | inl refused ↦ keeps_saying refused_line refused.says.only (λ runs. not_both life.old life.words plan runs.accepts refused.refuses)
+        | inl refused ↦ keeps_saying (refused_line refused.fault) refused.says.only (λ runs. not_both life.old life.words plan refused.fault runs.accepts refused.refuses)
         | inr ran ↦ keeps_ran which ran
       ]
     ]
@@ -268,7 +269,7 @@ accepted_runs_end words plan status old new before after accepts sound ends caus
           | inr nine ↦ inr (nine, silent.fetched)
         ]
         | inr more ↦ elim more [
-          | inl refused ↦ absurd (not_both old words plan accepts refused.refuses)
+          | inl refused ↦ absurd (not_both old words plan refused.fault accepts refused.refuses)
           | inr ran ↦ inl (by_run ran)
         ]
       ]

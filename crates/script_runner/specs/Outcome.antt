@@ -5,7 +5,8 @@ use Rattle.shelf_model.specs.World.{World, said}
 use Rattle.shelf_model.specs.Faults.{Faults, Rose}
 use Rattle.script_runner.specs.Words.{Reading, reading_of}
 use Rattle.script_reader.specs.declared.plan.Plan.{Plan}
-use Rattle.script_reader.specs.Reads.{Reads}
+use Rattle.script_reader.specs.declared.fault.ScriptFault.{ScriptFault}
+use Rattle.script_reader.specs.Reads.{Reads, Refuses}
 use Rattle.script_runner.specs.Text.{usage_line, refused_line}
 use Rattle.script_runner.specs.Fetching.{OnlyFetched}
 use Rattle.script_runner.specs.Running.{SaysOnly}
@@ -21,13 +22,13 @@ pub record Accepts (w : World) (words : List (List ℕ)) (plan : Plan) : Type 0 
   pub there : w.texts reading.script ≡ Some text
   pub accepted : Reads text plan
 
--- the words name a script, and the text at its path asks for no plan
-pub record Refuses (w : World) (words : List (List ℕ)) : Type 0 where
+-- the words name a script, and this is the first fault of the text at its path
+pub record IsRefused (w : World) (words : List (List ℕ)) (fault : ScriptFault) : Type 0 where
   pub reading : Reading
   pub words_are : reading_of words ≡ Some reading
   pub text : List ℕ
   pub there : w.texts reading.script ≡ Some text
-  pub refused : (plan : Plan) → ¬ (Reads text plan)
+  pub refused : Refuses text fault
 
 -- a line was said, or with 8 a front part of it, and nothing else was done
 pub record SaysLine (line : List ℕ) (good status : ℕ) (old new : World) : Type 0 where
@@ -47,10 +48,11 @@ pub record EndsSilent (words : List (List ℕ)) (status : ℕ) (old new : World)
   pub status_is : (status ≡ 6) ⊎ (status ≡ 9)
   pub fetched : OnlyFetched old new
 
--- the script isn't accepted, and that was said
+-- the script isn't accepted, and its first fault was said
 pub record EndsRefused (words : List (List ℕ)) (status : ℕ) (old new : World) : Type 0 where
-  pub refuses : Refuses old words
-  pub says : SaysLine refused_line 3 status old new
+  pub fault : ScriptFault
+  pub refuses : IsRefused old words fault
+  pub says : SaysLine (refused_line fault) 3 status old new
 
 -- the script is accepted, and its job was run in the folder that the words name
 pub record EndsRan (words : List (List ℕ)) (status : ℕ) (old new : World) : Type 0 where

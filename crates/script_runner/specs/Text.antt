@@ -10,6 +10,9 @@ use Rattle.bool_tables.specs.declared.steps.Planned.{Planned}
 use Rattle.catalogue.specs.declared.layout.Entry.{Entry}
 use Rattle.sound_image.specs.Jobs.{Job, no_step, step_at}
 use Rattle.sound_image.specs.Entries.{answer_of, count_of}
+use Rattle.script_reader.specs.declared.fault.ScriptFault.{ScriptFault}
+use Rattle.script_reader.specs.declared.fault.ScriptKind.{ScriptKind}
+use Rattle.script_reader.specs.declared.fault.ScriptKind.TheVariants as kind
 use Rattle.script_reader.specs.declared.plan.LineEnd.{LineEnd}
 
 -- a line ends with a line feed
@@ -61,9 +64,24 @@ done_line = line_of (codes "done")
 abbrev pub usage_line : List ℕ
 usage_line = line_of (codes "usage: adiar ACTION FOLDER [options]")
 
--- the script isn't accepted
-abbrev pub refused_line : List ℕ
-refused_line = line_of (codes "script: line 0: Word")
+-- the name of a fault's kind
+abbrev pub kind_name : ScriptKind → List ℕ
+kind_name kind.Memory = codes "Memory"
+kind_name kind.Word = codes "Word"
+kind_name kind.UnknownName = codes "UnknownName"
+kind_name kind.NameTaken = codes "NameTaken"
+kind_name kind.Variable = codes "Variable"
+kind_name kind.Bits = codes "Bits"
+kind_name kind.Dropped = codes "Dropped"
+kind_name kind.NameLength = codes "NameLength"
+kind_name kind.TooLong = codes "TooLong"
+kind_name kind.TooManySteps = codes "TooManySteps"
+kind_name kind.NoNetlist = codes "NoNetlist"
+kind_name kind.TooManyVariables = codes "TooManyVariables"
+
+-- the script isn't accepted: its first faulty line, and what is wrong with it
+abbrev pub refused_line : ScriptFault → List ℕ
+refused_line fault = line_of (codes "script: line " ++ decimal fault.line ++ codes ": " ++ kind_name fault.kind)
 
 -- another job is stored, which differs at that byte
 abbrev pub other_job_line : ℕ → List ℕ

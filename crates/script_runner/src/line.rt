@@ -1,9 +1,10 @@
 ghost use Rattle.std.specs.Prelude.{◌≡◌, ◌<◌, ◌≤◌, length};
-ghost use Rattle.script_runner.specs.Text.{start_line, resume_line, nodes_line, dropped_line, truth_line, value_line, answer_line, other_job_line, damaged_line};
+ghost use Rattle.script_runner.specs.Text.{start_line, resume_line, nodes_line, dropped_line, truth_line, value_line, answer_line, other_job_line, damaged_line, kind_name, refused_line};
 
 use arrayvec::ArrayString;
 use bool_tables::Step;
 use itoa::Buffer;
+use script_reader::{ScriptFault, ScriptKind};
 use shelf_model::FileNo;
 
 /// A line that the program says, its line feed with it.
@@ -127,6 +128,40 @@ pub(crate) fn damaged_line(file: FileNo, at: u64) -> Line
     line.push_str(Buffer::new().format(file.part));
     line.push_str(" ");
     line.push_str(Buffer::new().format(at));
+    line.push_str("\n");
+    line
+}
+
+/// The name of a fault's kind.
+fn kind_name(kind: ScriptKind) -> &'static str
+    ensures { result.now ≡ kind_name kind }
+{
+    match kind {
+        ScriptKind::Memory => "Memory",
+        ScriptKind::Word => "Word",
+        ScriptKind::UnknownName => "UnknownName",
+        ScriptKind::NameTaken => "NameTaken",
+        ScriptKind::Variable => "Variable",
+        ScriptKind::Bits => "Bits",
+        ScriptKind::Dropped => "Dropped",
+        ScriptKind::NameLength => "NameLength",
+        ScriptKind::TooLong => "TooLong",
+        ScriptKind::TooManySteps => "TooManySteps",
+        ScriptKind::NoNetlist => "NoNetlist",
+        ScriptKind::TooManyVariables => "TooManyVariables",
+    }
+}
+
+/// The first faulty line of a script, and what is wrong with it.
+pub(crate) fn refused_line(fault: ScriptFault) -> Line
+    ensures text { result.bytes ≡ refused_line fault }
+    ensures some { 0 < length result.bytes }
+{
+    let mut line = Line::new();
+    line.push_str("script: line ");
+    line.push_str(Buffer::new().format(fault.line));
+    line.push_str(": ");
+    line.push_str(kind_name(fault.kind));
     line.push_str("\n");
     line
 }

@@ -13,19 +13,16 @@ ghost use Rattle.script_runner.specs.Entered.{RunsIn, EndsRun, EndingHasCause};
 use crate::ending::Ending;
 use crate::fetch::{FetchFault, fetch_text};
 use crate::job::{BUDGET, job_bytes};
-use crate::line::{damaged_line, other_job_line};
+use crate::line::{damaged_line, other_job_line, refused_line};
 use crate::words::read_words;
 use crate::{Finish, run_steps};
-use script_reader::{Plan, ScriptRefusal, read_script};
+use script_reader::{Plan, ScriptKind, read_script};
 
 /// The most bytes that a script has.
 const MOST_SCRIPT: usize = 1_048_576;
 
 /// What is said where the words aren't accepted.
 const USAGE: &[u8] = b"usage: adiar ACTION FOLDER [options]\n";
-
-/// What is said where the script isn't accepted.
-const REFUSED: &[u8] = b"script: line 0: Word\n";
 
 use rec_words::Rec;
 use shelf_model::Station;
@@ -117,8 +114,16 @@ fn answer<W: Station>(alloc: Global, words: &[String], station: &mut W) -> Endin
     };
     let plan = match read_script(alloc, &text) {
         Ok(plan) => plan,
-        Err(ScriptRefusal::Memory) => return Ending::NoMemory,
-        Err(ScriptRefusal::Word) => return say_refusal(REFUSED, Ending::Script, station),
+        Err(fault) => match fault.kind {
+            ScriptKind::Memory => return Ending::NoMemory,
+            _ => {
+                return say_refusal(
+                    refused_line(fault).as_str().as_bytes(),
+                    Ending::Script,
+                    station,
+                );
+            }
+        },
     };
     let Ok(job) = job_bytes(alloc, &text) else {
         return Ending::NoMemory;
@@ -147,7 +152,7 @@ fn take_room(alloc: Global) -> Result<Vec<Rec>, AllocError>
 /// |---|---|---|
 /// | 0 | all was done | `done` |
 /// | 2 | the words aren't accepted | the usage |
-/// | 3 | the script isn't accepted | `script: line 0: Word` |
+/// | 3 | the script isn't accepted: its first faulty line, and why | `script: line L: KIND` |
 /// | 5 | the folder stores another job, which differs from that byte on | `other job at B` |
 /// | 6 | the script couldn't be fetched | |
 /// | 7 | a call of the folder failed | |

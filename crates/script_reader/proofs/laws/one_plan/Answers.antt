@@ -1,5 +1,23 @@
-use Rattle.script_reader.proofs.PlanReads.{one_plan, text_is_short, read_is_well_formed, read_has_lines, read_is_built}
+use Rattle.script_reader.specs.Keywords.{built_words}
+use Rattle.script_reader.proofs.Kept.{plan_is_well_formed, plan_has_lines}
+use Rattle.script_reader.proofs.Built.{plan_is_built}
+use Rattle.script_reader.proofs.PlanReads.{one_plan, plan_or_refusal, text_is_short}
 use Rattle.script_reader.proofs.laws.one_plan.Goals as goal
 
-pub returns : goal.returns
-returns c = record { one = one_plan; short = text_is_short; well_formed = read_is_well_formed; lines = read_has_lines; built = read_is_built }
+pub returns-clause-one : goal.returns-clause-one
+returns-clause-one c = one_plan
+
+pub returns-clause-unrefused : goal.returns-clause-unrefused
+returns-clause-unrefused c = plan_or_refusal
+
+pub returns-clause-short : goal.returns-clause-short
+returns-clause-short c = text_is_short
+
+pub returns-clause-well_formed : goal.returns-clause-well_formed
+returns-clause-well_formed c = plan_is_well_formed built_words
+
+pub returns-clause-lines : goal.returns-clause-lines
+returns-clause-lines c = plan_has_lines built_words
+
+pub returns-clause-built : goal.returns-clause-built
+returns-clause-built c = plan_is_built

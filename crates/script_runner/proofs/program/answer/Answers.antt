@@ -1,11 +1,12 @@
-use Rattle.std.proofs.Common.{◌≡◌, ◌∙◌, map, sym, ap, subst, string_bytes, inl, arith}
+use Rattle.std.proofs.Common.{◌≡◌, ◌∙◌, ◌≤◌, length, map, sym, ap, subst, string_bytes, inl, arith}
 use Rattle.std.specs.Prelude.{Err}
 use Rattle.bool_tables.specs.Plans.{IsWellFormed}
+use Rattle.script_reader.proofs.PlanReads.{text_is_short}
 use Rattle.script_runner.specs.Words.{Reading}
 use Rattle.script_runner.specs.Status.{status_of}
 use Rattle.script_runner.specs.Fetching.{IsText}
 use Rattle.script_runner.specs.JobOf.{job_bytes}
-use Rattle.script_runner.proofs.Endings.{answers_refused, answers_run, few_run}
+use Rattle.script_runner.proofs.Endings.{not_memory, answers_refused, answers_run, few_run}
 use Rattle.script_runner.proofs.program.answer.Goals as goal
 
 pub returns-in-Err-Text-clause-causes : goal.returns-in-Err-Text-clause-causes
@@ -17,13 +18,19 @@ returns-in-Err-Text-clause-causes g c =
       say_fault = λ eight. absurd (omega (arith, eight));
     }
 
-pub returns-in-Err-Word-clause-content : goal.returns-in-Err-Word-clause-content
-returns-in-Err-Word-clause-content g c =
+pub returns-in_default-kind-clause-content : goal.returns-in_default-kind-clause-content
+returns-in_default-kind-clause-content g c =
     let reading : Reading = record { folder = c.in-Some.named.folder.now; script = c.in-Some.named.script.now } in
-    answers_refused g.W.Shelf.tells g.W.Shelf.world (map string_bytes c.args.words.now) reading c.deref.result.now c.say_refusal-in-Err-Word.result _ _ _
-    (sym c.in-Some.ensures) c.say_refusal-in-Err-Word.ensures.which (c.in-Err-Word.ensures.refused (ap Err c.in-Err-Word.field-0-is))
+    answers_refused g.W.Shelf.tells g.W.Shelf.world (map string_bytes c.args.words.now) reading c.deref.result.now c.as_bytes.result.now c.in-Err.fault c.say_refusal-in_default-kind.result _ _ _
+    (sym c.in-Some.ensures) c.say_refusal-in_default-kind.ensures.which (c.as_bytes.ensures.value ∙ c.as_str.ensures.value ∙ c.refused_line.ensures.text)
+    (not_memory c.deref.result.now c.in-Err.fault c.in_default-kind.not-Memory c.in-Err.ensures.refused)
     (λ tells_now. subst (λ bytes. IsText reading.script 1048576 bytes (g.W.Shelf.world c.args.station.now)) (sym c.deref.ensures.value) (c.in-Ok.ensures.text tells_now))
-    c.in-Ok.ensures.content c.say_refusal-in-Err-Word.ensures.content c.say_refusal-in-Err-Word.ensures.whole
+    c.in-Ok.ensures.content c.say_refusal-in_default-kind.ensures.content c.say_refusal-in_default-kind.ensures.whole
+
+pub job_bytes-requires : goal.job_bytes-requires
+job_bytes-requires g c =
+    let same : c.deref.result.now ≡ c.deref-2.result.now = c.deref.ensures.value ∙ sym c.deref-2.ensures.value in
+    record { short = subst (λ bytes. length bytes ≤ 1048576) same (text_is_short c.deref.result.now c.in-Ok-read_script.plan c.in-Ok-read_script.ensures.read) }
 
 pub run_plan-requires-clause-plan : goal.run_plan-requires-clause-plan
 run_plan-requires-clause-plan g c =
@@ -41,10 +48,10 @@ returns-clause-content g c =
     (λ tells_now. subst (λ bytes. IsText reading.script 1048576 bytes (g.W.Shelf.world c.args.station.now)) (sym c.deref.ensures.value) (c.in-Ok.ensures.text tells_now))
     c.in-Ok.ensures.content c.run_plan.ensures.content
 
-pub returns-in-Err-Word-clause-calls : goal.returns-in-Err-Word-clause-calls
-returns-in-Err-Word-clause-calls g c t =
-    let fetched = c.in-Ok.ensures.calls (c.say_refusal-in-Err-Word.ensures.content.before t) in
-    let said = c.say_refusal-in-Err-Word.ensures.calls t in
+pub returns-in_default-kind-clause-calls : goal.returns-in_default-kind-clause-calls
+returns-in_default-kind-clause-calls g c t =
+    let fetched = c.in-Ok.ensures.calls (c.say_refusal-in_default-kind.ensures.content.before t) in
+    let said = c.say_refusal-in_default-kind.ensures.calls t in
     inl (omega (arith, fetched, said))
 
 pub returns-clause-calls : goal.returns-clause-calls

@@ -1,9 +1,0 @@
-mod Tests
-mod Formed
-mod Numbers
-mod Seconds
-mod Few
-mod Behind
-mod NamedSteps
-mod MadeSteps
-pub mod Kept

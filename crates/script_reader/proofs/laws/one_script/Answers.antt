@@ -1,5 +1,0 @@
-use Rattle.script_reader.proofs.OneScript.{one_script}
-use Rattle.script_reader.proofs.laws.one_script.Goals as goal
-
-pub returns : goal.returns
-returns c = record { one = one_script }

@@ -1,0 +1,37 @@
+use Rattle.std.proofs.Common.{◌≡◌, ◌≤◌, length, arith, ap, sym, subst, ◌∙◌}
+use Rattle.std.specs.Prelude.{Result, Ok}
+use Rattle.std.proofs.lemmas.List.{length-map}
+use Rattle.text_words.specs.Left.{word_of}
+use Rattle.script_reader.specs.declared.keyword.Keyword.{Keyword}
+use Rattle.script_reader.specs.declared.fault.ScriptKind.{ScriptKind}
+use Rattle.script_reader.specs.Results.{◌>>=◌}
+use Rattle.script_reader.specs.Keywords.{wanted}
+use Rattle.script_reader.specs.Names.{State}
+use Rattle.script_reader.specs.Requests.{plan_step}
+use Rattle.script_reader.specs.Script.{begin, keyword_in, plan_request, plan_words}
+use Rattle.script_reader.specs.Views.{texts, words_of, state_of, Leads}
+use Rattle.script_reader.proofs.Formed.{wants_two, is_one_step, has_wanted}
+use Rattle.script_reader.proofs.planning.Planning.plan_line.Goals as goal
+
+pub plan_step-requires : goal.plan_step-requires
+plan_step-requires c =
+    let ws = words_of c.args.words.now in
+    let k = c.in_ok-keyword.keyword in
+    let count : length ws ≡ length c.args.words.now = length-map c.args.words.now word_of in
+    let wants : wanted k ≤ length ws =
+    has_wanted (texts c.args.known.now) (state_of c.args.self.now) ws k (omega (arith, count, c.requires.some)) (sym c.in_ok-keyword.ensures.keyword) in
+    let two : 2 ≤ wanted k = wants_two k c.in_default.not-Vars c.in_default.not-Inputs in
+    record { wanted = omega (arith, wants, count); two = omega (arith, wants, two, count) }
+
+pub returns-in_default : goal.returns-in_default
+returns-in_default c =
+    let ws = words_of c.args.words.now in
+    let known = texts c.args.known.now in
+    let s = state_of c.args.self.now in
+    let k = c.in_ok-keyword.keyword in
+    let is : keyword_in known s ws ≡ Ok k = sym c.in_ok-keyword.ensures.keyword in
+    let whole : plan_words known s c.args.line ws ≡ plan_step (state_of c.begin_line.new.self) c.args.line k ws =
+    ap (λ (r : Result Keyword ScriptKind). r >>= λ v. plan_request (begin s) c.args.line v ws) is
+    ∙ is_one_step (begin s) c.args.line k ws c.in_default.not-Vars c.in_default.not-Inputs c.in_default.not-Net
+    ∙ ap (λ (t : State). plan_step t c.args.line k ws) (sym c.in_ok-keyword.ensures.begun) in
+    subst (Leads (state_of c.plan_step.new.self) c.plan_step.result) (sym whole) c.plan_step.ensures
