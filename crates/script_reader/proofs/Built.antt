@@ -19,7 +19,7 @@ use Rattle.script_reader.specs.Results.{check}
 use Rattle.script_reader.specs.Keywords.{word_at, texts_of, is_known, built_words, spelled, or_word, keyword_of, is_formed, gives_name}
 use Rattle.script_reader.specs.Names.{State, nothing, all_differ, live, level_of}
 use Rattle.script_reader.specs.Requests.{step_of, name_fits, has_room, planned_of, with_named, name_behind, plan_step}
-use Rattle.script_reader.specs.Script.{plan_vars, plan_request, begin, keyword_in, plan_line, read}
+use Rattle.script_reader.specs.Script.{plan_request, begin, keyword_in, plan_line, read}
 use Rattle.script_reader.specs.Views.{AnswersRead}
 use Rattle.script_reader.specs.Built.{is_built, are_built}
 use Rattle.script_reader.proofs.Behind.{lines_keep, planned_by}

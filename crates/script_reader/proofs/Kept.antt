@@ -1,6 +1,6 @@
 -- What each line of a script keeps: the steps so far are well formed, and the said lines go with them.
 use Rattle.std.proofs.Common.{◌≡◌, ℕ, suc, ◌+◌, ◌<◌, ◌≤◌, Bool, true, false, List, [], ◌∷◌, ◌++◌, length, drop, Option, Some, None, refl, sym, ap, subst, ◌∙◌, append_assoc, arith, inl, inr}
-use Rattle.std.specs.Prelude.{Result, Ok, Err, ◌&&◌, nat_le, nat_lt, if◌then◌else◌}
+use Rattle.std.specs.Prelude.{Ok, ◌&&◌, nat_le, nat_lt, if◌then◌else◌}
 use Rattle.std.specs.List.{AllByRecursion, list_all}
 use Rattle.std.specs.Str.{bytes_eq}
 use Rattle.std.specs.Map.{update}
@@ -14,8 +14,6 @@ use Rattle.bool_tables.specs.declared.steps.Step.TheVariants as step
 use Rattle.text_words.specs.Text.{Line, Word, lines_of, words_in}
 use Rattle.text_words.specs.Places.{StandsIn}
 use Rattle.text_words.proofs.Standing.{each_line, each_word}
-use Rattle.script_reader.specs.declared.fault.ScriptKind.{ScriptKind}
-use Rattle.script_reader.specs.declared.fault.ScriptFault.{ScriptFault}
 use Rattle.script_reader.specs.declared.fault.ScriptKind.TheVariants as kind
 use Rattle.script_reader.specs.declared.keyword.Keyword.{Keyword}
 use Rattle.script_reader.specs.declared.keyword.Keyword.TheVariants.{Vars, Inputs, Const, Var, Not, Pair, Ite, Quantify, Restrict, Net, Drop, Same, Leq, Eval, Size}
@@ -23,11 +21,11 @@ use Rattle.script_reader.specs.declared.plan.Plan.{Plan}
 use Rattle.script_reader.specs.declared.plan.LineEnd.{LineEnd}
 use Rattle.script_reader.specs.declared.planning.Named.{Named}
 use Rattle.script_reader.specs.Lines.{rise_from, shows_past, AreLines}
-use Rattle.script_reader.specs.Results.{check, on_line}
+use Rattle.script_reader.specs.Results.{check}
 use Rattle.script_reader.specs.Keywords.{word_at, texts_of, keyword_of, is_formed, gives_name}
 use Rattle.script_reader.specs.Names.{State, nothing, place_of, all_differ, level_or}
 use Rattle.script_reader.specs.Requests.{step_of, name_fits, has_room, planned_of, with_named, name_behind, with_planned, with_step, plan_step}
-use Rattle.script_reader.specs.Script.{with_variables, plan_vars, plan_request, begin, keyword_in, plan_line, plan_lines, plan_of, read}
+use Rattle.script_reader.specs.Script.{with_variables, plan_vars, plan_request, begin, keyword_in, plan_line, read}
 use Rattle.script_reader.proofs.Behind.{lines_keep, planned_by}
 use Rattle.script_reader.proofs.Formed.{fits_short}
 use Rattle.script_reader.proofs.NamedSteps.{NamesLive, none_live, names_stay, name_more, name_dropped}
