@@ -1,5 +1,5 @@
 //! Records that are put at the end of a file, through a window.
-ghost use Rattle.std.specs.Prelude.{◌≡◌, ℕ, ◌+◌, ◌-◌, ◌*◌, ◌/◌, ◌<◌, ◌≤◌, ◌++◌, [], IsTrue, OnOk, IfOk, IfErr, OnErr, length, take};
+ghost use Rattle.std.specs.Prelude.{◌≡◌, ℕ, ◌+◌, ◌-◌, ◌*◌, ◌/◌, ◌<◌, ◌≤◌, ◌++◌, [], IsTrue, OnOk, IfOk, IfErr, length, take};
 ghost use Rattle.shelf_model.specs.File.{firm_file};
 ghost use Rattle.shelf_model.specs.World.{file};
 ghost use Rattle.shelf_model.specs.Calls.{Told, longest};
@@ -90,13 +90,18 @@ impl Filling {
     }
 }
 
-// Puts the records that wait at the end of the file.
-fn flush<S: Shelf>(window: &[Rec], filling: &mut Filling, shelf: &mut S) -> Result<(), Failed>
+/// Puts the records that wait at the end of the file, with one call where there are any. A stop may lose them.
+pub fn flush_records<S: Shelf>(
+    window: &[Rec],
+    filling: &mut Filling,
+    shelf: &mut S,
+) -> Result<(), Failed>
     requires fills { IsFilling filling.old (length window.now) }
     requires in_step { IsTrue (S.tells shelf.old) → InStep filling.old (S.world shelf.old) }
-    ensures ok { OnOk result (filling.new ≡ record filling.old { stored = filling.old.stored + filling.old.waiting; waiting = 0 }) }
-    ensures err { OnErr result (filling.new ≡ filling.old) }
     ensures fills { IsFilling filling.new (length window.now) }
+    ensures same { SameFile filling.old filling.new }
+    ensures counted { count_of filling.new ≡ count_of filling.old }
+    ensures settled { OnOk result (filling.new.waiting ≡ 0) }
     ensures bytes { OnOk result (IsTrue (S.tells shelf.new) →
         IsWriting filling.new window.now (S.world shelf.new) (written filling.old window.now (S.world shelf.old))) }
     ensures content { Told S.tells shelf.old shelf.new (Wrote 1 filling.old.file (S.world shelf.old) (S.world shelf.new)) }
@@ -138,7 +143,7 @@ fn make_room<S: Shelf>(window: &[Rec], filling: &mut Filling, shelf: &mut S) -> 
     if filling.waiting < piece_len(window.len(), filling.words) {
         return Ok(());
     }
-    flush(window, filling, shelf)
+    flush_records(window, filling, shelf)
 }
 
 /// Puts a record behind the others: into the window, whose records go to the file
@@ -190,7 +195,7 @@ pub fn settle_records<S: Shelf>(
     ensures faults { OnlyShelf (S.faults shelf.old) (S.faults shelf.new) result }
 {
     let f = filling.file;
-    flush(window, filling, shelf)?;
+    flush_records(window, filling, shelf)?;
     shelf.sync(f)?;
     Ok(())
 }

@@ -15,7 +15,7 @@ mod record;
 
 pub use appender::Appender;
 pub use backward::Backward;
-pub use filling::{Filling, put_record, settle_records};
+pub use filling::{Filling, flush_records, put_record, settle_records};
 pub use forward::Forward;
 pub use front::fill;
 pub use read::load;
