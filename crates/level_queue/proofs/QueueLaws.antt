@@ -15,7 +15,7 @@ use Rattle.shelf_model.specs.declared.file_no.FileNo.{FileNo}
 use Rattle.shelf_model.specs.Moments.{Ran, Stays}
 use Rattle.shelf_model.specs.World.{World, now, file}
 use Rattle.rec_words.specs.declared.rec.Rec.{Rec}
-use Rattle.run_merge.specs.Items.{record_of}
+use Rattle.run_files.specs.Items.{record_of}
 use Rattle.run_merge.specs.Lists.{Joins, Shows, Gives, GivesValue}
 use Rattle.run_merge.specs.declared.sorter.Sorter.{Sorter}
 use Rattle.run_merge.specs.declared.parts.Parts.{Parts}

@@ -1,4 +1,4 @@
-//! Cases of a folder in memory, and of streams, node files and arc files over it.
+//! Cases of a folder in memory, and of streams, node files, arc files and runs over it.
 #![tactic(auto)]
 
 #[cfg(test)]
@@ -9,5 +9,7 @@ mod calls;
 mod disks;
 #[cfg(test)]
 mod nodes;
+#[cfg(test)]
+mod runs;
 #[cfg(test)]
 mod streams;
