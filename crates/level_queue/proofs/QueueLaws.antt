@@ -18,8 +18,8 @@ use Rattle.rec_words.specs.declared.rec.Rec.{Rec}
 use Rattle.run_files.specs.Items.{record_of}
 use Rattle.run_merge.specs.Lists.{Joins, Shows, Gives, GivesValue}
 use Rattle.run_merge.specs.declared.sorter.Sorter.{Sorter}
-use Rattle.run_merge.specs.declared.parts.Parts.{Parts}
-use Rattle.run_merge.specs.Parts.{Took, Spilled}
+use Rattle.run_tiers.specs.declared.parts.Parts.{Parts}
+use Rattle.run_tiers.specs.Parts.{Took, Spilled}
 use Rattle.run_merge.specs.Sorters as sorters
 use Rattle.run_merge.proofs.Ascending.{none_less}
 use Rattle.run_merge.proofs.SorterLaws.{credit_bounded, list_counted, list_kept, list_kept_unchanged, list_kept_with_parts, serves_on}

@@ -5,10 +5,10 @@ use Rattle.std.specs.declared.cmp.Ordering.{Ordering}
 use Rattle.shelf_model.specs.declared.file_no.FileNo.{FileNo}
 use Rattle.shelf_model.specs.declared.sort_fault.SortFault.{SortFault}
 use Rattle.shelf_model.specs.World.{World}
-use Rattle.run_merge.specs.declared.parts.Parts.{Parts}
+use Rattle.run_tiers.specs.declared.parts.Parts.{Parts}
 use Rattle.run_merge.specs.declared.sorter.Sorter.{Sorter}
 use Rattle.run_files.specs.Items.{record_of}
-use Rattle.run_merge.specs.Parts.{WasTaken}
+use Rattle.run_tiers.specs.Parts.{WasTaken}
 use Rattle.run_merge.specs.Sorters as sorters
 use Rattle.level_queue.specs.declared.queue.LevelQueue.{LevelQueue}
 

@@ -3,8 +3,8 @@ ghost use Rattle.std.specs.Prelude.{◌≡◌, ◌*◌, ◌≤◌, List, length}
 ghost use Rattle.shelf_model.specs.declared.file_no.FileNo.{FileNo};
 ghost use Rattle.shelf_model.specs.World.{World, now, file};
 ghost use Rattle.shelf_model.specs.Moments.{Ran, Stays};
-ghost use Rattle.run_merge.specs.declared.parts.Parts.{Parts};
-ghost use Rattle.run_merge.specs.Parts.{Took, Spilled};
+ghost use Rattle.run_tiers.specs.declared.parts.Parts.{Parts};
+ghost use Rattle.run_tiers.specs.Parts.{Took, Spilled};
 ghost use Rattle.level_queue.specs.declared.queue.LevelQueue.{LevelQueue};
 ghost use Rattle.level_queue.specs.Queues.{held, credit, IsRunOf, Serves, Lists};
 

@@ -9,9 +9,9 @@ use Rattle.shelf_model.specs.Moments.{Ran, Stays}
 use Rattle.shelf_model.proofs.Runs.{ran_end}
 use Rattle.block_stream.specs.Records.{records_bytes}
 use Rattle.block_stream.specs.Writes.{count_of, DuringWrite, Wrote}
-use Rattle.run_merge.specs.declared.parts.Parts.{Parts}
+use Rattle.run_tiers.specs.declared.parts.Parts.{Parts}
 use Rattle.run_merge.specs.declared.sorter.Sorter.{Sorter}
-use Rattle.run_merge.specs.Parts.{OnlyTaken, Spilled, WasTaken}
+use Rattle.run_tiers.specs.Parts.{OnlyTaken, Spilled, WasTaken}
 use Rattle.run_merge.proofs.SorterLaws.{list_kept}
 use Rattle.level_queue.specs.declared.queue.LevelQueue.{LevelQueue}
 use Rattle.level_queue.specs.Queues as queues

@@ -21,8 +21,8 @@ use Rattle.block_stream.specs.Writes.{count_of, Wrote, InStep}
 use Rattle.canon_file.specs.Rows.{row_word}
 use Rattle.canon_file.specs.Canon.{node_bytes}
 use Rattle.run_merge.specs.Lists.{Joins, Shows, Gives}
-use Rattle.run_merge.specs.declared.parts.Parts.{Parts}
-use Rattle.run_merge.specs.Parts.{Spilled}
+use Rattle.run_tiers.specs.declared.parts.Parts.{Parts}
+use Rattle.run_tiers.specs.Parts.{Spilled}
 use Rattle.run_merge.specs.declared.sorter.Sorter.{Sorter}
 use Rattle.level_queue.specs.declared.queue.LevelQueue.{LevelQueue}
 use Rattle.level_queue.specs.Queues.{Reaches, last_of}

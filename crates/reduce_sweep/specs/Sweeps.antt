@@ -10,7 +10,7 @@ use Rattle.arc_file.specs.Streams.{file_of, left_of}
 use Rattle.arc_file.specs.Readers.{inner_of, ends_of}
 use Rattle.arc_diagrams.specs.Items.{final_arc_words, IsFinalArc, source_row_words, IsSourceRow, name_words, IsName}
 use Rattle.arc_diagrams.specs.declared.final_arc.FinalArc.{FinalArc}
-use Rattle.run_merge.specs.declared.parts.Parts.{Parts}
+use Rattle.run_tiers.specs.declared.parts.Parts.{Parts}
 use Rattle.run_merge.specs.Sorters as sorters
 use Rattle.level_queue.specs.Queues as queues
 use Rattle.sweep_core.specs.Accounts.{Accounts, CanBeTaken}

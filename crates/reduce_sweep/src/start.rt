@@ -29,8 +29,8 @@ impl<'r> ReduceSweep<'r> {
     ghost use Rattle.reduce_sweep.specs.Calls.{IsInStep};
     ghost use Rattle.shelf_model.specs.Calls.{Told};
     ghost use Rattle.shelf_model.specs.Moments.{Ran};
-    ghost use Rattle.run_merge.specs.Faults.{OnlySortShelf};
-    ghost use Rattle.run_merge.specs.Parts.{Paid};
+    ghost use Rattle.run_tiers.specs.Faults.{OnlySortShelf};
+    ghost use Rattle.run_tiers.specs.Parts.{Paid};
     ghost use Rattle.level_queue.specs.Queues as queues;
     ghost use Rattle.run_merge.specs.Sorters as sorters;
     ghost use Rattle.block_stream.specs.Writes.{DuringCut};

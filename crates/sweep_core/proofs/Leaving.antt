@@ -8,7 +8,8 @@ use Rattle.shelf_model.specs.Folder.{Folder, file_in}
 use Rattle.shelf_model.specs.World.{World, Moment, now}
 use Rattle.shelf_model.specs.Faults.{Faults}
 use Rattle.shelf_model.proofs.Runs.{told_then, told_here, ran_stands, ran_joins, ran_weakens, ran_end}
-use Rattle.run_merge.specs.Faults.{OnlySortShelf}
+use Rattle.run_tiers.specs.Faults.{OnlySortShelf}
+pub use Rattle.run_tiers.proofs.FaultLaws.{sort_shelf_then}
 use Rattle.sweep_core.specs.Accounts.{Accounts, CanBeTaken, OnlyOwn, Leaves}
 
 -- what can be taken later could be taken before
@@ -30,21 +31,6 @@ pub own_then : (makes now_makes : FileNo → Type 0) (step next now_step now_nex
 own_then makes now_makes step next now_step now_next old mid m made making same later first second = record {
   others = λ f other apart. second.others f (λ mine. other (made f mine)) (λ free. apart (taken_before step next now_step now_next f same later free)) ∙ first.others f other apart;
   kept = λ f mine front kept. second.kept f (making f mine) front (first.kept f mine front kept);
-}
-
--- the causes of two calls, the second of which decides
-pub sort_shelf_then : {A B : Type 0} (old mid new : Faults) (first : Result A SortFault) (second : Result B SortFault) → OnlySortShelf old mid first → OnlySortShelf mid new second → OnlySortShelf old new second
-sort_shelf_then old mid new first (Ok x) one two = record {
-  later = let a : old.folder ≤ mid.folder = one.later in let b : mid.folder ≤ new.folder = two.later in omega (arith, a, b);
-  cause = λ is. cc;
-  say_is = two.say_is ∙ one.say_is;
-  text_is = λ path. two.text_is path ∙ one.text_is path;
-}
-sort_shelf_then old mid new first (Err e) one two = record {
-  later = let a : old.folder ≤ mid.folder = one.later in let b : mid.folder ≤ new.folder = two.later in omega (arith, a, b);
-  cause = λ is. let a : old.folder ≤ mid.folder = one.later in let b = two.cause is in omega (arith, a, b);
-  say_is = two.say_is ∙ one.say_is;
-  text_is = λ path. two.text_is path ∙ one.text_is path;
 }
 
 module _ {S P : Type 0} (tells : S → Bool) (world : S → World) (faults : S → Faults) (accounts : Accounts P) where

@@ -8,8 +8,8 @@ use Rattle.shelf_model.specs.File.{IsKept}
 use Rattle.shelf_model.specs.Folder.{file_in}
 use Rattle.shelf_model.specs.Moments.{Ran}
 use Rattle.shelf_model.specs.World.{Moment, World, now}
-use Rattle.run_merge.specs.Faults.{OnlySortShelf}
-use Rattle.run_merge.specs.Parts.{Paid}
+use Rattle.run_tiers.specs.Faults.{OnlySortShelf}
+use Rattle.run_tiers.specs.Parts.{Paid}
 
 -- which files the sweeps of a kind may change, and what they owe
 pub record Accounts (P : Type 0) : Type 1 where
