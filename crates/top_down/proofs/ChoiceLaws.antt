@@ -6,8 +6,11 @@ use Rattle.bool_tables.specs.Tables.{value_at}
 use Rattle.rec_words.specs.Words.{level_of}
 use Rattle.canon_file.specs.declared.row.Row.{Row}
 use Rattle.canon_file.specs.Walks.{table_of}
-use Rattle.top_down.specs.Tuples.{Tuple, Targets, unused, level_of_tuple, parts, joined_by, AreFrom, AreDeepening}
-use Rattle.top_down.specs.Rules.{Goal, End, Go, IsRule, table_for}
+use Rattle.top_down.specs.declared.tuple.Tuple.{Tuple}
+use Rattle.top_down.specs.Tuples.{Targets, unused, level_of_tuple, parts, joined_by, AreFrom, AreDeepening}
+use Rattle.top_down.specs.declared.tuple.Goal.{Goal}
+use Rattle.top_down.specs.declared.tuple.Goal.TheVariants.{End, Go}
+use Rattle.top_down.specs.Rules.{IsRule, table_for}
 use Rattle.top_down.specs.Operations.{is_end, is_one, ends_or, choice_goal, choice_rule}
 use Rattle.top_down.proofs.TupleLaws.{table-end, low_node, from_terminal}
 use Rattle.top_down.proofs.PointwiseLaws.{joined_one, joined_same, constant_at, low-joined, high-joined, halved, parts-past, parts_from, on_side}

@@ -1,8 +1,8 @@
 -- what a rule's answers mean
 use Rattle.std.specs.Prelude.{◌≡◌, ℕ, Bool, true, false, cond}
 use Rattle.std.proofs.Common.{refl, sym}
-use Rattle.top_down.specs.Tuples.{Tuple}
-use Rattle.top_down.specs.Rules.{End, Go}
+use Rattle.top_down.specs.declared.tuple.Tuple.{Tuple}
+use Rattle.top_down.specs.declared.tuple.Goal.TheVariants.{End, Go}
 use Rattle.top_down.specs.Operations.{is_end, is_one, decides, ends_or}
 
 pub end_value : (b d : Bool) → End b ≡ End d → b ≡ d

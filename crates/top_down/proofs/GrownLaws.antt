@@ -13,8 +13,10 @@ use Rattle.arc_diagrams.proofs.RowPlaces.{has_left, has_right}
 use Rattle.arc_diagrams.proofs.WordLaws.{level_at, level_past, level-terminal, terminal_is}
 use Rattle.arc_diagrams.proofs.TargetLaws.{the_target}
 use Rattle.arc_diagrams.proofs.TableLaws.{stand_for-table}
-use Rattle.top_down.specs.Tuples.{Tuple, Targets, level_of_tuple}
-use Rattle.top_down.specs.Rules.{End, Go, Rule, IsAsked, IsRule, below_on, table_for}
+use Rattle.top_down.specs.declared.tuple.Tuple.{Tuple}
+use Rattle.top_down.specs.Tuples.{Targets, level_of_tuple}
+use Rattle.top_down.specs.declared.tuple.Goal.TheVariants.{End, Go}
+use Rattle.top_down.specs.Rules.{Rule, IsAsked, IsRule, below_on, table_for}
 use Rattle.top_down.specs.Asks.{Ask, Grows, Completes}
 use Rattle.top_down.proofs.TupleLaws.{table-terminal}
 use Rattle.top_down.proofs.PointwiseLaws.{are_later}

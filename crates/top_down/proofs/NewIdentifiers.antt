@@ -8,8 +8,11 @@ use Rattle.canon_file.specs.Members.{Has}
 use Rattle.canon_file.proofs.StandLaws.{has_append}
 use Rattle.arc_file.specs.declared.arc.Arc.{Arc}
 use Rattle.arc_diagrams.proofs.RowPlaces.{has_left, has_right}
-use Rattle.top_down.specs.Tuples.{Tuple, Targets}
-use Rattle.top_down.specs.Rules.{Goal, End, Go, Rule, below_on}
+use Rattle.top_down.specs.declared.tuple.Tuple.{Tuple}
+use Rattle.top_down.specs.Tuples.{Targets}
+use Rattle.top_down.specs.declared.tuple.Goal.{Goal}
+use Rattle.top_down.specs.declared.tuple.Goal.TheVariants.{End, Go}
+use Rattle.top_down.specs.Rules.{Rule, below_on}
 use Rattle.top_down.specs.Asks.{Ask, side_arcs, side_asks, new_arcs, new_asks, with_tuple}
 
 -- the tuple of the new identifier, and of any other

@@ -6,7 +6,8 @@ use Rattle.bool_tables.specs.declared.steps.Step.TheVariants.{Quantify, Restrict
 use Rattle.canon_file.specs.Laws.{HasForm}
 use Rattle.arc_diagrams.specs.Arcs.{StandFor}
 use Rattle.arc_diagrams.specs.Laws.{IsDiagramOf}
-use Rattle.top_down.specs.Tuples.{Tuple, Targets, AreDeepening, canon_targets, joined_by}
+use Rattle.top_down.specs.declared.tuple.Tuple.{Tuple}
+use Rattle.top_down.specs.Tuples.{Targets, AreDeepening, canon_targets, joined_by}
 use Rattle.top_down.specs.Rules.{Rule, IsAsked, IsRule, table_for}
 use Rattle.top_down.specs.Operations.{product_rule, choice_rule, quantify_rule, restrict_rule}
 use Rattle.top_down.specs.Laws.{Makes, roots_of_one, root_twice, targets_of_one, roots_of_two, targets_of_two, roots_of_three, targets_of_three, ProductStands, ChoiceStands, QuantifyStands, RestrictStands}

@@ -12,8 +12,11 @@ use Rattle.canon_file.proofs.StandLaws.{has_append}
 use Rattle.arc_file.specs.declared.arc.Arc.{Arc}
 use Rattle.arc_file.specs.Files.{inner_cmp, end_cmp, IsInnerOrder, IsEndOrder}
 use Rattle.arc_diagrams.proofs.ListViews.{has_at}
-use Rattle.top_down.specs.Rules.{Goal, End, Go, Rule, below_on}
-use Rattle.top_down.specs.Tuples.{Tuple, Targets}
+use Rattle.top_down.specs.declared.tuple.Goal.{Goal}
+use Rattle.top_down.specs.declared.tuple.Goal.TheVariants.{End, Go}
+use Rattle.top_down.specs.Rules.{Rule, below_on}
+use Rattle.top_down.specs.declared.tuple.Tuple.{Tuple}
+use Rattle.top_down.specs.Tuples.{Targets}
 use Rattle.top_down.specs.Asks.{side_arcs, new_arcs}
 use Rattle.top_down.proofs.NewIdentifiers.{side_arc}
 

@@ -8,7 +8,8 @@ use Rattle.canon_file.specs.Walks.{table_of}
 use Rattle.canon_file.proofs.PieceLaws.{joined}
 use Rattle.arc_diagrams.specs.Arcs.{onward}
 use Rattle.arc_diagrams.proofs.LevelReduction.{low-met, high-met}
-use Rattle.top_down.specs.Tuples.{Tuple, Targets, level_of_tuple, parts, joined_by, AreFrom, AreDeepening}
+use Rattle.top_down.specs.declared.tuple.Tuple.{Tuple}
+use Rattle.top_down.specs.Tuples.{Targets, level_of_tuple, parts, joined_by, AreFrom, AreDeepening}
 use Rattle.top_down.proofs.TupleLaws.{from_onward, from_later, onward-past}
 
 -- at each place the two are the same

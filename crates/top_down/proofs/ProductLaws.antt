@@ -6,8 +6,10 @@ use Rattle.bool_tables.specs.Steps.{op_value}
 use Rattle.bool_tables.specs.declared.steps.Bin.{Bin}
 use Rattle.rec_words.specs.Words.{level_of}
 use Rattle.canon_file.specs.Walks.{table_of}
-use Rattle.top_down.specs.Tuples.{Tuple, Targets, level_of_tuple, parts, joined_by, AreFrom, AreDeepening}
-use Rattle.top_down.specs.Rules.{End, Go, IsAsked, IsRule, table_for}
+use Rattle.top_down.specs.declared.tuple.Tuple.{Tuple}
+use Rattle.top_down.specs.Tuples.{Targets, level_of_tuple, parts, joined_by, AreFrom, AreDeepening}
+use Rattle.top_down.specs.declared.tuple.Goal.TheVariants.{End, Go}
+use Rattle.top_down.specs.Rules.{IsAsked, IsRule, table_for}
 use Rattle.top_down.specs.Operations.{is_end, is_one, decides, product_goal, product_rule}
 use Rattle.top_down.proofs.TupleLaws.{table-end, low_node}
 use Rattle.top_down.proofs.PointwiseLaws.{joined_one, constant_at, low-joined, high-joined, halved, parts-past, parts_from, on_side}

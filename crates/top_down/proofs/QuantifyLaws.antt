@@ -18,8 +18,11 @@ use Rattle.canon_file.proofs.PieceLaws.{joined}
 use Rattle.arc_diagrams.specs.Arcs.{onward}
 use Rattle.arc_diagrams.proofs.TargetLaws.{bit_same}
 use Rattle.arc_diagrams.proofs.LevelReduction.{low-met, high-met}
-use Rattle.top_down.specs.Tuples.{Tuple, Targets, unused, level_of_tuple, parts, joined_by, IsFrom, AreFrom, AreDeepening}
-use Rattle.top_down.specs.Rules.{Goal, End, Go, Rule, IsAsked, IsRule, table_for, below_on}
+use Rattle.top_down.specs.declared.tuple.Tuple.{Tuple}
+use Rattle.top_down.specs.Tuples.{Targets, unused, level_of_tuple, parts, joined_by, IsFrom, AreFrom, AreDeepening}
+use Rattle.top_down.specs.declared.tuple.Goal.{Goal}
+use Rattle.top_down.specs.declared.tuple.Goal.TheVariants.{End, Go}
+use Rattle.top_down.specs.Rules.{Rule, IsAsked, IsRule, table_for, below_on}
 use Rattle.top_down.specs.Operations.{is_end, is_one, ends_or, two, strong, sorted, quantify_goal, quantify_rule}
 use Rattle.top_down.proofs.TupleLaws.{table-end, low_node, from_terminal}
 use Rattle.top_down.proofs.PointwiseLaws.{of_members, joined_same, joined_one, constant_at, parts_from, on_side}

@@ -11,8 +11,11 @@ use Rattle.rec_words.specs.Words.{level_of}
 use Rattle.canon_file.specs.Walks.{table_of}
 use Rattle.canon_file.proofs.PieceLaws.{joined}
 use Rattle.arc_diagrams.proofs.LevelReduction.{low-met, high-met}
-use Rattle.top_down.specs.Tuples.{Tuple, Targets, level_of_tuple, parts, joined_by, AreFrom, AreDeepening}
-use Rattle.top_down.specs.Rules.{Goal, End, Rule, IsAsked, IsRule, table_for, below_on}
+use Rattle.top_down.specs.declared.tuple.Tuple.{Tuple}
+use Rattle.top_down.specs.Tuples.{Targets, level_of_tuple, parts, joined_by, AreFrom, AreDeepening}
+use Rattle.top_down.specs.declared.tuple.Goal.{Goal}
+use Rattle.top_down.specs.declared.tuple.Goal.TheVariants.{End}
+use Rattle.top_down.specs.Rules.{Rule, IsAsked, IsRule, table_for, below_on}
 use Rattle.top_down.specs.Operations.{ends_or, always, restrict_rule}
 use Rattle.top_down.proofs.TupleLaws.{table-end, low_node}
 use Rattle.top_down.proofs.PointwiseLaws.{of_members, joined_one, constant_at, parts_from, on_side}

@@ -12,8 +12,10 @@ use Rattle.arc_file.specs.declared.arc.Arc.{Arc}
 use Rattle.arc_file.specs.Files.{end_cmp}
 use Rattle.arc_diagrams.proofs.RowPlaces.{has_left, has_right}
 use Rattle.arc_diagrams.proofs.ListViews.{same_permuted}
-use Rattle.top_down.specs.Tuples.{Tuple, Targets, level_of_tuple, AreFrom}
-use Rattle.top_down.specs.Rules.{Go, Rule, IsAsked, IsRule, below_on}
+use Rattle.top_down.specs.declared.tuple.Tuple.{Tuple}
+use Rattle.top_down.specs.Tuples.{Targets, level_of_tuple, AreFrom}
+use Rattle.top_down.specs.declared.tuple.Goal.TheVariants.{Go}
+use Rattle.top_down.specs.Rules.{Rule, IsAsked, IsRule, below_on}
 use Rattle.top_down.specs.Asks.{Ask, IsServed, IsUpTo, AreNumbered, next_identifier, Grows, answer, new_arcs, new_asks, with_tuple}
 use Rattle.top_down.proofs.PointwiseLaws.{are_later}
 use Rattle.top_down.proofs.NewIdentifiers.{with-new, with-other, new_arc, new_ask, new_side, new_two}

@@ -10,8 +10,10 @@ use Rattle.bool_tables.specs.declared.steps.Step.{Step}
 use Rattle.bool_tables.proofs.Halves.{twice, low_half-constant, high_half-constant}
 use Rattle.canon_file.specs.Walks.{table_of}
 use Rattle.canon_file.proofs.PieceLaws.{joined}
-use Rattle.top_down.specs.Tuples.{Tuple, Targets, level_of_tuple, parts, joined_by}
-use Rattle.top_down.specs.Rules.{Goal, Rule, table_for, below_on}
+use Rattle.top_down.specs.declared.tuple.Tuple.{Tuple}
+use Rattle.top_down.specs.Tuples.{Targets, level_of_tuple, parts, joined_by}
+use Rattle.top_down.specs.declared.tuple.Goal.{Goal}
+use Rattle.top_down.specs.Rules.{Rule, table_for, below_on}
 use Rattle.top_down.specs.Operations.{variable_rule, same_side}
 use Rattle.top_down.proofs.PointwiseLaws.{of_members, low-joined, high-joined, halved, parts-past}
 

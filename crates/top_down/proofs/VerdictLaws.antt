@@ -4,8 +4,11 @@ use Rattle.std.proofs.Common.{refl, sym, ap, subst, inl, inr, arith}
 use Rattle.bool_tables.proofs.Halves.{twice}
 use Rattle.canon_file.specs.Members.{Has}
 use Rattle.list_laws.proofs.MemberLaws.{has_append, has_left, has_right}
-use Rattle.top_down.specs.Tuples.{Tuple, Targets, level_of_tuple}
-use Rattle.top_down.specs.Rules.{Goal, End, Go, Rule, IsAsked, IsRule, below_on, table_for}
+use Rattle.top_down.specs.declared.tuple.Tuple.{Tuple}
+use Rattle.top_down.specs.Tuples.{Targets, level_of_tuple}
+use Rattle.top_down.specs.declared.tuple.Goal.{Goal}
+use Rattle.top_down.specs.declared.tuple.Goal.TheVariants.{End, Go}
+use Rattle.top_down.specs.Rules.{Rule, IsAsked, IsRule, below_on, table_for}
 use Rattle.top_down.specs.Verdicts.{HasNoZero, IsOne, asked_tuples, tuples_below, FirstAwaits, KnownAwaits, NewAwaits, RefutesAtZero, HoldsAtLast}
 use Rattle.top_down.proofs.PointwiseLaws.{are_later}
 use Rattle.top_down.proofs.TurnLaws.{asked_at, tuple_deep}

@@ -6,8 +6,11 @@ use Rattle.arc_file.specs.declared.arc.Arc.{Arc}
 use Rattle.arc_file.specs.Files.{IsInnerOrder, IsEndOrder}
 use Rattle.arc_diagrams.specs.Arcs.{target_on, targets_of, IsComplete}
 use Rattle.canon_file.specs.Walks.{table_of}
-use Rattle.top_down.specs.Tuples.{Tuple, Targets, level_of_tuple}
-use Rattle.top_down.specs.Rules.{Goal, End, Go, Rule, IsAsked, below_on, table_for}
+use Rattle.top_down.specs.declared.tuple.Tuple.{Tuple}
+use Rattle.top_down.specs.Tuples.{Targets, level_of_tuple}
+use Rattle.top_down.specs.declared.tuple.Goal.{Goal}
+use Rattle.top_down.specs.declared.tuple.Goal.TheVariants.{End, Go}
+use Rattle.top_down.specs.Rules.{Rule, IsAsked, below_on, table_for}
 
 -- an ask: a source wants, on a side, the pointer of a tuple's function
 pub record Ask : Type 0 where

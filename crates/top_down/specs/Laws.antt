@@ -14,8 +14,10 @@ use Rattle.arc_file.specs.declared.arc.Arc.{Arc}
 use Rattle.arc_file.specs.Files.{end_cmp}
 use Rattle.arc_diagrams.specs.Arcs.{StandFor}
 use Rattle.arc_diagrams.specs.Laws.{IsDiagramOf}
-use Rattle.top_down.specs.Tuples.{Tuple, Targets, unused, canon_targets, level_of_tuple}
-use Rattle.top_down.specs.Rules.{End, Go, Rule, IsAsked, IsRule, table_for}
+use Rattle.top_down.specs.declared.tuple.Tuple.{Tuple}
+use Rattle.top_down.specs.Tuples.{Targets, unused, canon_targets, level_of_tuple}
+use Rattle.top_down.specs.declared.tuple.Goal.TheVariants.{End, Go}
+use Rattle.top_down.specs.Rules.{Rule, IsAsked, IsRule, table_for}
 use Rattle.top_down.specs.Asks.{Ask, IsUpTo, AreNumbered, next_identifier, Grows, answer, new_arcs, new_asks, with_tuple, Completes}
 use Rattle.top_down.specs.Operations.{product_rule, choice_rule, quantify_rule, restrict_rule}
 

@@ -8,8 +8,11 @@ use Rattle.bool_tables.specs.declared.steps.Quant.{Quant}
 use Rattle.bool_tables.specs.declared.steps.Quant.TheVariants.{Exists, Forall}
 use Rattle.bool_tables.specs.declared.steps.Step.{Step}
 use Rattle.bool_tables.specs.declared.steps.Step.TheVariants.{Quantify, Restrict}
-use Rattle.top_down.specs.Tuples.{Tuple, unused, joined_by}
-use Rattle.top_down.specs.Rules.{Goal, End, Go, Rule}
+use Rattle.top_down.specs.declared.tuple.Tuple.{Tuple}
+use Rattle.top_down.specs.Tuples.{unused, joined_by}
+use Rattle.top_down.specs.declared.tuple.Goal.{Goal}
+use Rattle.top_down.specs.declared.tuple.Goal.TheVariants.{End, Go}
+use Rattle.top_down.specs.Rules.{Rule}
 
 -- the pointer is a truth value
 abbrev pub is_end : ℕ → Bool

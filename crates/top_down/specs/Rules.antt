@@ -1,12 +1,10 @@
 -- what an operation says of the tuples that a sweep from the root to the leaves meets
 use Rattle.std.specs.Prelude.{◌≡◌, ◌+◌, ◌^◌, ◌<◌, ◌≤◌, ℕ, suc, Bool, true, false, List, ◌++◌, replicate}
 use Rattle.canon_file.specs.Walks.{table_of}
-use Rattle.top_down.specs.Tuples.{Tuple, Targets, AreFrom, level_of_tuple, parts}
-
--- a tuple's function is constant, or that of the tuple that is asked for
-pub data Goal : Type 0 where
-  End : (value : Bool) → Goal
-  Go : (x : Tuple) → Goal
+use Rattle.top_down.specs.declared.tuple.Tuple.{Tuple}
+use Rattle.top_down.specs.declared.tuple.Goal.{Goal}
+use Rattle.top_down.specs.declared.tuple.Goal.TheVariants.{End, Go}
+use Rattle.top_down.specs.Tuples.{Targets, AreFrom, level_of_tuple, parts}
 
 -- an operation on tuples
 pub record Rule : Type 0 where

@@ -6,12 +6,7 @@ use Rattle.canon_file.specs.declared.row.Row.{Row}
 use Rattle.canon_file.specs.Canon.{canon_nodes}
 use Rattle.canon_file.specs.Walks.{row_at}
 use Rattle.arc_diagrams.specs.Arcs.{IsWithin, onward}
-
--- up to three pointers; a member that isn't used is the truth value 0
-pub record Tuple : Type 0 where
-  pub first : ℕ
-  pub second : ℕ
-  pub third : ℕ
+use Rattle.top_down.specs.declared.tuple.Tuple.{Tuple}
 
 -- what stands in a member that isn't used
 abbrev pub unused : ℕ

@@ -4,9 +4,12 @@ use Rattle.bool_tables.specs.Tables.{is_leq}
 use Rattle.bool_tables.specs.Steps.{step_table}
 use Rattle.bool_tables.specs.declared.steps.Step.TheVariants.{Pair}
 use Rattle.canon_file.specs.Members.{Has}
-use Rattle.top_down.specs.Tuples.{Tuple, Targets, level_of_tuple}
+use Rattle.top_down.specs.declared.tuple.Tuple.{Tuple}
+use Rattle.top_down.specs.Tuples.{Targets, level_of_tuple}
 use Rattle.top_down.specs.Operations.{implies}
-use Rattle.top_down.specs.Rules.{Goal, End, Go, Rule, IsAsked, below_on, table_for}
+use Rattle.top_down.specs.declared.tuple.Goal.{Goal}
+use Rattle.top_down.specs.declared.tuple.Goal.TheVariants.{End, Go}
+use Rattle.top_down.specs.Rules.{Rule, IsAsked, below_on, table_for}
 
 -- no value of the table is 0
 abbrev pub HasNoZero : List Bool → Type 0

@@ -2,3 +2,6 @@
 #![tactic(auto)]
 
 pub mod laws;
+mod tuple;
+
+pub use tuple::{Goal, Tuple};
