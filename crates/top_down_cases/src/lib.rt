@@ -1,0 +1,15 @@
+//! Cases of the sweeps from the root down over a folder in memory.
+#![tactic(auto)]
+
+#[cfg(test)]
+mod random;
+#[cfg(test)]
+mod refusals;
+#[cfg(test)]
+mod shapes;
+#[cfg(test)]
+mod sweeping;
+#[cfg(test)]
+mod tables;
+#[cfg(test)]
+mod turns;

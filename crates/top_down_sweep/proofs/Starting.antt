@@ -1,0 +1,43 @@
+-- What a start leaves: operands were looked at, and then the files of arcs were cut.
+use Rattle.std.proofs.Common.{◌≡◌, ℕ, ◌≤◌, ◌+◌, ◌∙◌, Bool, List, subst, sym, ap, arith}
+use Rattle.shelf_model.specs.declared.file_no.FileNo.{FileNo}
+use Rattle.shelf_model.specs.File.{IsKept}
+use Rattle.shelf_model.specs.Folder.{Folder, file_in}
+use Rattle.shelf_model.specs.Calls.{Told}
+use Rattle.shelf_model.specs.Moments.{Ran, Stays}
+use Rattle.shelf_model.specs.World.{World, Moment, now}
+use Rattle.shelf_model.proofs.Runs.{told, told_then, ran_weakens, ran_joins, ran_end}
+use Rattle.block_stream.specs.Reads.{Looked}
+use Rattle.arc_file.specs.Pairs.{DuringCuts, CutBoth}
+
+-- while no file changes, none is cut
+uncut : (inner ends : FileNo) (old m : Moment) → Stays old m → DuringCuts inner 0 ends 0 old m
+uncut inner ends old m same = record {
+  others = λ f _ _. ap (λ (d : Folder). file_in d f) same;
+  first_kept = λ front _ kept. subst (λ (d : Folder). IsKept front (file_in d inner)) (sym same) kept;
+  second_kept = λ front _ kept. subst (λ (d : Folder). IsKept front (file_in d ends)) (sym same) kept;
+}
+
+-- a cut from a moment at which the folder was the same
+cut_since : (inner ends : FileNo) (old mid m : Moment) → Stays old mid → DuringCuts inner 0 ends 0 mid m → DuringCuts inner 0 ends 0 old m
+cut_since inner ends old mid m same cut = record {
+  others = λ f first second. cut.others f first second ∙ ap (λ (d : Folder). file_in d f) same;
+  first_kept = λ front short kept. cut.first_kept front short (subst (λ (d : Folder). IsKept front (file_in d inner)) (sym same) kept);
+  second_kept = λ front short kept. cut.second_kept front short (subst (λ (d : Folder). IsKept front (file_in d ends)) (sym same) kept);
+}
+
+module _ {S : Type 0} (tells : S → Bool) (world : S → World) (inner ends : FileNo) where
+  -- files were looked at
+  pub only_looked : (n : ℕ) (s t : S) → Told tells s t (Looked n (world s) (world t)) → Told tells s t (Ran (DuringCuts inner 0 ends 0 (now (world s))) (world s) (world t))
+  only_looked n s t did = told tells s t _ _ did (λ _ looked.
+      ran_weakens (world s) (world t) (Stays (now (world s))) (DuringCuts inner 0 ends 0 (now (world s))) (λ m same. uncut inner ends (now (world s)) m same) looked.run)
+
+  -- and then two were cut
+  pub then_cut : (n k : ℕ) (s t u : S) → Told tells s t (Looked n (world s) (world t)) → Told tells t u (CutBoth k inner 0 ends 0 (world t) (world u))
+      → Told tells s u (Ran (DuringCuts inner 0 ends 0 (now (world s))) (world s) (world u))
+  then_cut n k s t u first second = told_then tells s t u _ _ _ first second (λ _ looked cut.
+      let same = ran_end (world s) (world t) (Stays (now (world s))) looked.run in
+      ran_joins (world s) (world t) (world u) (DuringCuts inner 0 ends 0 (now (world s)))
+      (ran_weakens (world s) (world t) (Stays (now (world s))) (DuringCuts inner 0 ends 0 (now (world s))) (λ m stays. uncut inner ends (now (world s)) m stays) looked.run)
+      (ran_weakens (world t) (world u) (DuringCuts inner 0 ends 0 (now (world t))) (DuringCuts inner 0 ends 0 (now (world s)))
+      (λ m during. cut_since inner ends (now (world s)) (now (world t)) m same during) cut.run))

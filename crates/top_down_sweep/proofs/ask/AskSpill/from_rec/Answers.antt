@@ -1,0 +1,17 @@
+use Rattle.std.proofs.Common.{◌≡◌, subst, arith, rules}
+use Rattle.rec_words.specs.Words.{IsNodeWord}
+use Rattle.top_down_sweep.specs.Items.{IsMember}
+use Rattle.top_down_sweep.proofs.ItemForms.{is_member}
+use Rattle.top_down_sweep.proofs.ask.AskSpill.from_rec.Goals as goal
+
+-- the words are those of a node and of pointers
+pub returns-clause-value : goal.returns-clause-value
+returns-clause-value c =
+    let key : IsNodeWord c.in_ok-of.field-0 = search rules in
+    record {
+      key_is = key;
+      first_is = is_member _ _ _ c.in_ok-member_of.ensures;
+      second_is = is_member _ _ _ c.in_ok-member_of-2.ensures;
+      third_is = is_member _ _ _ c.in_ok-member_of-3.ensures;
+      asker_fits = search rules;
+    }

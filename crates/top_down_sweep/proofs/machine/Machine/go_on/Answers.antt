@@ -1,0 +1,33 @@
+use Rattle.std.proofs.Common.{◌≡◌, ◌∙◌, sym, subst, arith}
+use Rattle.std.specs.Prelude.{Some, IfSome, true}
+use Rattle.level_queue.specs.Queues.{shown}
+use Rattle.top_down_sweep.specs.Soundness.{is_sound}
+use Rattle.top_down_sweep.proofs.Doing.{then_more, then_ok, does_more, does_refused, damage_refuses, refused_second}
+use Rattle.top_down_sweep.proofs.machine.Machine.go_on.Goals as goal
+
+-- there is no ask
+pub returns-in_default-clause-does : goal.returns-in_default-clause-does
+returns-in_default-clause-does g c = then_more g.S.Shelf.tells g.S.Shelf.world g.S.Shelf.faults 8 4 0 0 113 6 _ _ _ c.args.self.now c.first_ask.new.self c.end.new.self c.first_ask.result c.end.result
+    (omega arith) (omega arith) c.first_ask.ensures.does c.end.ensures.does
+
+-- the first ask is refused
+pub returns-then-not-is_sound-clause-does : goal.returns-then-not-is_sound-clause-does
+returns-then-not-is_sound-clause-does g c = does_more g.S.Shelf.tells g.S.Shelf.world g.S.Shelf.faults 8 113 0 6 _ _ _ _ _ (omega arith) (omega arith)
+    (does_refused g.S.Shelf.tells g.S.Shelf.world g.S.Shelf.faults 8 0 _ _ c.args.self.now c.first_ask.new.self c.first_ask.result c.damage.result c.damage.ensures.cause
+    (damage_refuses c.first_ask.new.self c.damage.result c.damage.ensures.cause c.damage.ensures.damage) c.first_ask.ensures.does)
+
+-- it is sound
+pub handle-requires-clause-shown : goal.handle-requires-clause-shown
+handle-requires-clause-shown g c = record {
+  shown_is = subst (λ found. IfSome found (λ a. shown c.first_ask.new.self.queue ≡ Some a)) c.in-Some.is c.in_ok-ask.ensures.shown;
+  sound = subst (λ b. is_sound b c.in-Some.ask ≡ true) c.is_first.ensures (sym c.is_sound.ensures ∙ c.if-not-is_sound.false);
+}
+
+pub returns-in_err-handle-clause-does : goal.returns-in_err-handle-clause-does
+returns-in_err-handle-clause-does g c = refused_second g.S.Shelf.tells g.S.Shelf.world g.S.Shelf.faults 8 105 0 6 113 6 _ _ _ c.args.self.now c.first_ask.new.self c.handle.new.self c.first_ask.result c.handle.result
+    c.from_residual-in_err-handle.result c.in_err-handle.field-0.0 (omega arith) (omega arith) c.first_ask.ensures.does c.handle.ensures.does c.from_residual-in_err-handle.ensures.1 c.in_err-handle.was
+
+-- it was handled
+pub returns-clause-does : goal.returns-clause-does
+returns-clause-does g c = then_ok g.S.Shelf.tells g.S.Shelf.world g.S.Shelf.faults 8 105 0 6 113 6 _ _ _ c.args.self.now c.first_ask.new.self c.handle.new.self c.first_ask.result c.handle.result _
+    (omega arith) (omega arith) c.first_ask.ensures.does c.handle.ensures.does

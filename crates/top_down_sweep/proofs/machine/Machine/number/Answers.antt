@@ -1,0 +1,41 @@
+use Rattle.std.proofs.Common.{◌≡◌, ◌≤◌, ◌<◌, ◌∙◌, ap, sym, subst, arith, rules}
+use Rattle.rec_words.specs.Words.{level_of, level_numbers}
+use Rattle.arc_file.specs.Writers.{inner_count}
+use Rattle.top_down_sweep.specs.declared.place.Numbered.{Numbered}
+use Rattle.top_down_sweep.specs.Soundness.{identifier}
+use Rattle.top_down_sweep.proofs.Numbers.{number_fits, few_arcs, level_of_node}
+use Rattle.top_down_sweep.proofs.machine.Machine.number.Goals as goal
+
+-- the number is among those that the arcs allow
+pub returns-clause-fit : goal.returns-clause-fit
+returns-clause-fit g c =
+    let s = c.args.self.now in
+    let fit = c.in_ok-put_inner.ensures.fit in
+    let fits = number_fits s.writer c.put_inner.new.self.writer _ s.place.phase c.args.asking.now c.args.ask.now c.requires.phase c.requires.fit.sound.phase c.requires.sound
+    c.in_ok-put_inner.ensures.count in
+    record {
+      sound = record {
+        served = record {
+          values = fit.sound.served.values;
+          serves = fit.sound.served.serves;
+          inner_made = fit.sound.served.inner_made;
+          ends_made = fit.sound.served.ends_made;
+        };
+        operands = fit.sound.operands;
+        phase = subst (λ (x : Numbered). x.number ≤ inner_count c.put_inner.new.self.writer) (sym c.next-next.ensures) fits;
+      };
+      at_work = fit.at_work;
+    }
+
+-- it is that of the ask's key
+pub returns-clause-level : goal.returns-clause-level
+returns-clause-level g c =
+    let same : level_of c.uid-uid.result ≡ level_of (identifier c.next-next.result) = ap level_of c.uid-uid.ensures in
+    let s = c.args.self.now in
+    let fits = number_fits s.writer c.put_inner.new.self.writer _ s.place.phase c.args.asking.now c.args.ask.now c.requires.phase c.requires.fit.sound.phase c.requires.sound
+    c.in_ok-put_inner.ensures.count in
+    let few : c.next-next.result.number < level_numbers =
+    let number = ap (λ (x : Numbered). x.number) c.next-next.ensures in
+    let arcs = few_arcs c.put_inner.new.self.writer in
+    omega (arith, number, arcs, fits) in
+    same ∙ level_of_node (level_of c.next-next.result.key) c.next-next.result.number few ∙ ap (λ (x : Numbered). level_of x.key) c.next-next.ensures

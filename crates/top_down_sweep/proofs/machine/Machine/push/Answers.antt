@@ -1,0 +1,8 @@
+use Rattle.std.proofs.Common.{rules}
+use Rattle.top_down_sweep.proofs.Doing.{does_spilled}
+use Rattle.top_down_sweep.proofs.machine.Machine.push.Goals as goal
+
+-- only files of parts that were taken changed
+pub returns-clause-does : goal.returns-clause-does
+returns-clause-does g c = does_spilled g.S.Shelf.tells g.S.Shelf.world g.S.Shelf.faults 48 3 _ _ c.args.self.now c.push.new.self c.push.new.parts c.push.result c.requires.fit.sound.served
+    c.push.ensures.content (λ told. c.push.ensures.calls told) c.push.ensures.parts c.push.ensures.spent c.push.ensures.faults (search rules)

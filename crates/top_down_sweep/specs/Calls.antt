@@ -1,0 +1,50 @@
+-- What every call within a turn leaves and costs.
+use Rattle.std.specs.Prelude.{◌≡◌, ℕ, Bool, IsTrue, Result, IfErr, Some, true}
+use Rattle.shelf_model.specs.declared.sort_fault.SortFault.{SortFault}
+use Rattle.shelf_model.specs.Faults.{Faults}
+use Rattle.shelf_model.specs.World.{World, file}
+use Rattle.arc_file.specs.declared.writer.ArcWriter.{ArcWriter}
+use Rattle.arc_file.specs.Writers.{inner_file, ends_file, AreInStep}
+use Rattle.level_queue.specs.Queues.{shown}
+use Rattle.sweep_core.specs.Accounts.{Leaves}
+use Rattle.sweep_core.specs.Sweeps.{IsFirm}
+use Rattle.top_down_sweep.specs.declared.ask.Ask.{Ask}
+use Rattle.top_down_sweep.specs.declared.place.Phase.{Phase}
+use Rattle.top_down_sweep.specs.declared.place.Phase.TheVariants.{Fresh, Asking, Ended}
+use Rattle.top_down_sweep.specs.declared.machine.Machine.{Machine}
+use Rattle.top_down_sweep.specs.declared.sweep.TopDownSweep.{TopDownSweep}
+use Rattle.top_down_sweep.specs.Soundness.{is_sound}
+use Rattle.top_down_sweep.specs.Sweeps.{files_in, machine_accounts, IsSoundMachine, Refuses}
+
+-- its files of arcs end behind the arcs that were put; once it has ended, they stay whatever a stop leaves
+abbrev pub IsStepAt : Phase → ArcWriter → World → Type 0
+IsStepAt Fresh w world = AreInStep w world
+IsStepAt (Asking s) w world = AreInStep w world
+IsStepAt (Ended made) w world = IsFirm (file world (inner_file w)) × IsFirm (file world (ends_file w))
+
+abbrev pub IsMachineInStep : Machine → World → Type 0
+IsMachineInStep m world = IsStepAt m.place.phase m.writer world
+
+abbrev pub IsInStep : {O : Type 0} → TopDownSweep O → World → Type 0
+IsInStep s world = IsMachineInStep s.machine world
+
+-- within a turn it is sound, and its files hold what it takes them to hold
+pub record IsFit {S : Type 0} (tells : S → Bool) (world : S → World) (shelf : S) (m : Machine) : Type 0 where
+  pub sound : IsSoundMachine m
+  pub at_work : IsTrue (tells shelf) → AreInStep m.writer (world shelf)
+
+-- what no call changes
+pub record SameTask (old new : Machine) : Type 0 where
+  pub files_are : files_in new ≡ files_in old
+  pub variables_are : new.place.variables ≡ old.place.variables
+
+-- what a call leaves and costs, and why it is refused
+pub record Does {S T : Type 0} (tells : S → Bool) (world : S → World) (counts : S → Faults) (most_calls most_parts : ℕ) (before after : S) (old new : Machine) (result : Result T SortFault) : Type 0 where
+  pub leaves : Leaves tells world counts machine_accounts most_calls most_parts before after old new result
+  pub same : SameTask old new
+  pub refused : IfErr result (Refuses new)
+
+-- the first ask is shown, and is one that may be answered then
+pub record IsShown (is_first : Bool) (m : Machine) (a : Ask) : Type 0 where
+  pub shown_is : shown m.queue ≡ Some a
+  pub sound : is_sound is_first a ≡ true

@@ -1,0 +1,192 @@
+//! The answering of an ask.
+ghost use Rattle.std.specs.Prelude.{◌≡◌, ◌<◌};
+ghost use Rattle.rec_words.specs.Words.{level_of};
+
+use crate::Operation;
+use crate::ask::{Ask, Members};
+use crate::machine::Machine;
+use crate::members::{key_of, level_at};
+use crate::place::{Asking, Phase};
+use crate::sound::Source;
+use arc_file::Arc;
+use rec_words::{Ptr, Uid};
+use shelf_model::{Shelf, SortFault};
+use top_down::{Goal, Tuple};
+
+impl<'r> Machine<'r> {
+    ghost use Rattle.std.specs.Prelude.{◌+◌, Some, OnOk, IfOk, true, cond};
+    ghost use Rattle.rec_words.specs.Words.{terminal_level};
+    ghost use Rattle.arc_file.specs.Writers.{inner_count};
+    ghost use Rattle.level_queue.specs.Queues.{shown, last_of};
+    ghost use Rattle.top_down.specs.Tuples.{level_of_tuple};
+    ghost use Rattle.top_down_sweep.specs.Members.{IsResolved};
+    ghost use Rattle.top_down_sweep.specs.Soundness.{is_none, is_sound, is_asker, next_numbered, identifier};
+    ghost use Rattle.top_down_sweep.specs.Sweeps.{IsTakenTo, IsAsking};
+    ghost use Rattle.top_down_sweep.specs.Calls.{Does, IsFit, IsShown};
+
+    /// Takes an ask, and asks again with the members that were read, for the next node.
+    pub(crate) fn ask_again<S: Shelf>(
+        &mut self,
+        ask: &Ask,
+        members: Members,
+        key: Uid,
+        shelf: &mut S,
+    ) -> Result<(), SortFault>
+        requires asking { IsAsking self.old.place.phase }
+        requires shown { shown self.old.queue ≡ Some ask.now }
+        requires later { ask.now.key < key }
+        requires fit { IsFit S.tells S.world shelf.old self.old }
+        ensures does { Does S.tells S.world S.faults 56 3 shelf.old shelf.new self.old self.new result }
+        ensures fit { OnOk result (IsFit S.tells S.world shelf.new self.new) }
+        ensures rest { self.new ≡ record self.old { queue = self.new.queue; parts = self.new.parts } }
+    {
+        self.take(ask, shelf)?;
+        let again = Ask {
+            key,
+            members,
+            asker: ask.asker,
+        };
+        self.push(again, shelf)
+    }
+
+    /// Takes an ask whose members were all read: the tuple that was numbered last answers it, or the next one.
+    pub(crate) fn answer<O: Operation, S: Shelf>(
+        &mut self,
+        operation: &O,
+        asking: &Asking,
+        ask: &Ask,
+        members: &Members,
+        shelf: &mut S,
+    ) -> Result<(), SortFault>
+        requires phase { self.old.place.phase ≡ Phase.Asking asking.now }
+        requires shown { IsShown (is_none asking.now.last) self.old ask.now }
+        requires resolved { IsResolved (level_of ask.now.key) members.now }
+        requires fit { IsFit S.tells S.world shelf.old self.old }
+        ensures does { Does S.tells S.world S.faults 105 6 shelf.old shelf.new self.old self.new result }
+        ensures fit { OnOk result (IsFit S.tells S.world shelf.new self.new) }
+        ensures phase { OnOk result (IsAsking self.new.place.phase) }
+    {
+        self.take(ask, shelf)?;
+        if let Some(known) = asking.known(ask) {
+            return self.put_inner(ask, known, shelf);
+        }
+        let uid = self.number(asking, ask, shelf)?;
+        self.ask_side(operation, uid, false, members, shelf)?;
+        self.ask_side(operation, uid, true, members, shelf)
+    }
+
+    // Gives the next number to the ask's tuple, which answers it.
+    fn number<S: Shelf>(
+        &mut self,
+        asking: &Asking,
+        ask: &Ask,
+        shelf: &mut S,
+    ) -> Result<Uid, SortFault>
+        requires phase { self.old.place.phase ≡ Phase.Asking asking.now }
+        requires sound { is_sound (is_none asking.now.last) ask.now ≡ true }
+        requires fit { IsFit S.tells S.world shelf.old self.old }
+        ensures does { Does S.tells S.world S.faults 1 0 shelf.old shelf.new self.old self.new result }
+        ensures fit { OnOk result (IsFit S.tells S.world shelf.new self.new) }
+        ensures rest { self.new ≡ record self.old {
+          place = record self.old.place { phase = self.new.place.phase };
+          writer = self.new.writer;
+        } }
+        ensures phase { OnOk result (IsAsking self.new.place.phase) }
+        ensures number { IfOk result (λ uid. uid ≡ identifier (next_numbered asking.now ask.now)) }
+        ensures level { IfOk result (λ uid. level_of uid ≡ level_of ask.now.key) }
+    {
+        let next = asking.next(ask);
+        let uid = next.uid();
+        self.put_inner(ask, uid, shelf)?;
+        self.place.phase = Phase::Asking(Asking {
+            root: asking.root,
+            last: Some(next),
+        });
+        Ok(uid)
+    }
+
+    // Puts the arc from an ask's source, where it has one.
+    fn put_inner<S: Shelf>(
+        &mut self,
+        ask: &Ask,
+        target: Uid,
+        shelf: &mut S,
+    ) -> Result<(), SortFault>
+        requires fit { IsFit S.tells S.world shelf.old self.old }
+        ensures does { Does S.tells S.world S.faults 1 0 shelf.old shelf.new self.old self.new result }
+        ensures fit { OnOk result (IsFit S.tells S.world shelf.new self.new) }
+        ensures rest { self.new ≡ record self.old { writer = self.new.writer } }
+        ensures count { OnOk result (inner_count self.new.writer
+            ≡ inner_count self.old.writer + cond (is_asker ask.now.asker) 1 0) }
+    {
+        let Some(source) = Source::of_word(ask.asker) else {
+            return Ok(());
+        };
+        let arc = Arc {
+            source: source.uid,
+            high: source.high,
+            target: target.ptr(),
+        };
+        self.put(arc, shelf)
+    }
+
+    // Puts the arc of a side that is constant, or asks for its tuple.
+    fn ask_side<O: Operation, S: Shelf>(
+        &mut self,
+        operation: &O,
+        uid: Uid,
+        high: bool,
+        members: &Members,
+        shelf: &mut S,
+    ) -> Result<(), SortFault>
+        requires resolved { IsResolved (level_of uid) members.now }
+        requires taken { IsTakenTo (level_of uid) (last_of self.old.queue) }
+        requires fit { IsFit S.tells S.world shelf.old self.old }
+        ensures does { Does S.tells S.world S.faults 48 3 shelf.old shelf.new self.old self.new result }
+        ensures fit { OnOk result (IsFit S.tells S.world shelf.new self.new) }
+        ensures place { self.new.place ≡ self.old.place }
+        ensures last { last_of self.new.queue ≡ last_of self.old.queue }
+    {
+        let lows = members.on_side(false);
+        let highs = members.on_side(true);
+        let below = operation.below(level_at(uid), high, &lows, &highs);
+        match operation.goal(&below) {
+            Goal::End(value) => {
+                let arc = Arc {
+                    source: uid,
+                    high,
+                    target: Ptr::terminal(value),
+                };
+                self.put(arc, shelf)
+            }
+            Goal::Go(tuple) => self.ask_for(&tuple, Source { uid, high }, shelf),
+        }
+    }
+
+    // Asks for a tuple on a side of a node.
+    fn ask_for<S: Shelf>(
+        &mut self,
+        tuple: &Tuple,
+        source: Source,
+        shelf: &mut S,
+    ) -> Result<(), SortFault>
+        requires node { level_of_tuple tuple.now < terminal_level }
+        requires deeper { level_of source.uid < level_of_tuple tuple.now }
+        requires taken { IsTakenTo (level_of source.uid) (last_of self.old.queue) }
+        requires fit { IsFit S.tells S.world shelf.old self.old }
+        ensures does { Does S.tells S.world S.faults 48 3 shelf.old shelf.new self.old self.new result }
+        ensures fit { OnOk result (IsFit S.tells S.world shelf.new self.new) }
+        ensures rest { self.new ≡ record self.old { queue = self.new.queue; parts = self.new.parts } }
+        ensures last { last_of self.new.queue ≡ last_of self.old.queue }
+    {
+        let Some(key) = key_of(tuple) else {
+            unreachable!();
+        };
+        let ask = Ask {
+            key,
+            members: Members::of(tuple),
+            asker: source.word(),
+        };
+        self.push(ask, shelf)
+    }
+}

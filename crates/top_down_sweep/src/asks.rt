@@ -1,0 +1,50 @@
+//! The calls of the queue.
+use crate::ask::Ask;
+use crate::machine::Machine;
+use shelf_model::{Shelf, SortFault};
+
+impl<'r> Machine<'r> {
+    ghost use Rattle.std.specs.Prelude.{◌≡◌, Some, OnOk, IfOk, IfSome};
+    ghost use Rattle.level_queue.specs.Queues.{shown, last_of, IsNoLess};
+    ghost use Rattle.top_down_sweep.specs.Items.{ask_cmp};
+    ghost use Rattle.top_down_sweep.specs.Sweeps.{IsAsking};
+    ghost use Rattle.top_down_sweep.specs.Calls.{Does, IsFit};
+
+    /// The first ask, which stays.
+    pub(crate) fn first_ask<S: Shelf>(&mut self, shelf: &mut S) -> Result<Option<Ask>, SortFault>
+        requires fit { IsFit S.tells S.world shelf.old self.old }
+        ensures does { Does S.tells S.world S.faults 8 0 shelf.old shelf.new self.old self.new result }
+        ensures fit { OnOk result (IsFit S.tells S.world shelf.new self.new) }
+        ensures rest { self.new ≡ record self.old { queue = self.new.queue } }
+        ensures last { last_of self.new.queue ≡ last_of self.old.queue }
+        ensures shown { IfOk result (λ found. IfSome found (λ a. shown self.new.queue ≡ Some a)) }
+    {
+        self.queue.peek(shelf)
+    }
+
+    /// Takes the first ask, which was shown.
+    pub(crate) fn take<S: Shelf>(&mut self, ask: &Ask, shelf: &mut S) -> Result<(), SortFault>
+        requires asking { IsAsking self.old.place.phase }
+        requires shown { shown self.old.queue ≡ Some ask.now }
+        requires fit { IsFit S.tells S.world shelf.old self.old }
+        ensures does { Does S.tells S.world S.faults 8 0 shelf.old shelf.new self.old self.new result }
+        ensures fit { OnOk result (IsFit S.tells S.world shelf.new self.new) }
+        ensures rest { self.new ≡ record self.old { queue = self.new.queue; parts = self.new.parts } }
+        ensures last { OnOk result (last_of self.new.queue ≡ Some ask.now) }
+    {
+        self.queue.take(&mut self.parts, shelf)?;
+        Ok(())
+    }
+
+    /// Puts an ask into the queue.
+    pub(crate) fn push<S: Shelf>(&mut self, ask: Ask, shelf: &mut S) -> Result<(), SortFault>
+        requires order { IsNoLess ask_cmp (last_of self.old.queue) ask }
+        requires fit { IsFit S.tells S.world shelf.old self.old }
+        ensures does { Does S.tells S.world S.faults 48 3 shelf.old shelf.new self.old self.new result }
+        ensures fit { OnOk result (IsFit S.tells S.world shelf.new self.new) }
+        ensures rest { self.new ≡ record self.old { queue = self.new.queue; parts = self.new.parts } }
+        ensures last { last_of self.new.queue ≡ last_of self.old.queue }
+    {
+        self.queue.push(ask, &mut self.parts, shelf)
+    }
+}

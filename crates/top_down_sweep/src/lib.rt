@@ -1,0 +1,29 @@
+//! Sweeps over diagrams from the root down: one machine, and what each operation makes of the tuples that it meets.
+#![tactic(auto)]
+
+mod answering;
+mod ask;
+mod asks;
+mod choice;
+mod goals;
+mod machine;
+mod members;
+mod operand;
+mod operation;
+mod place;
+mod product;
+mod quantified;
+mod restricted;
+mod sound;
+mod start;
+mod sweep;
+mod turning;
+mod writing;
+
+pub use choice::Choice;
+pub use operation::Operation;
+pub use product::Product;
+pub use quantified::Quantified;
+pub use restricted::Restricted;
+pub use start::Files;
+pub use sweep::TopDownSweep;

@@ -1,0 +1,104 @@
+//! The operands of a sweep, of each of which one node is at hand.
+ghost use Rattle.std.specs.Prelude.{◌≡◌, ◌≢◌, ℕ};
+
+use crate::ask::{Ask, Member, Members};
+use node_file::NodeReader;
+use rec_words::{NODE_SIZE, Node, Uid};
+use shelf_model::{FileNo, Shelf, SortFault};
+use top_down::Tuple;
+
+/// The diagram that a member's pointers are of, and the node of it that was read last.
+#[derive(Drop)]
+pub(crate) struct Operand<'r> {
+    pub(crate) file: FileNo,
+    pub(crate) reader: NodeReader<'r>,
+    pub(crate) hand: Option<Node>,
+}
+
+impl<'r> Operand<'r> {
+    ghost use Rattle.std.specs.Prelude.{OnOk, IfErr};
+    ghost use Rattle.shelf_model.specs.Calls.{Told};
+    ghost use Rattle.block_stream.specs.Reads.{Looked};
+    ghost use Rattle.run_tiers.specs.Faults.{OnlySortShelf};
+    ghost use Rattle.node_file.specs.Readers.{trailer_of};
+    ghost use Rattle.top_down_sweep.specs.Members.{wants};
+    ghost use Rattle.top_down_sweep.specs.Sweeps.{IsOperand, IsDamageIn};
+
+    /// Whether the member is that node, which isn't at hand.
+    pub(crate) fn wants(&self, member: &Member, key: Uid) -> bool
+        ensures { result ≡ wants key self.now.hand member.now }
+    {
+        match &self.hand {
+            Some(node) if node.uid == key => false,
+            _ => member.is_node(key),
+        }
+    }
+
+    /// Reads the next node. That there is none, or that it comes behind the wanted one, is damage.
+    pub(crate) fn read<S: Shelf>(&mut self, key: Uid, shelf: &mut S) -> Result<(), SortFault>
+        ensures file { self.new.file ≡ self.old.file }
+        ensures is { OnOk result ((n : ℕ) → IsOperand n self.old → IsOperand n self.new) }
+        ensures damage { IfErr result (λ e. (n : ℕ) → IsOperand n self.old → IsDamageIn self.old.file e) }
+        ensures content { Told S.tells shelf.old shelf.new (Looked 1 (S.world shelf.old) (S.world shelf.new)) }
+        ensures faults { OnlySortShelf (S.faults shelf.old) (S.faults shelf.new) result }
+    {
+        let hand = self.reader.next(shelf)?;
+        self.hand = hand;
+        match hand {
+            Some(node) if node.uid <= key => Ok(()),
+            _ => Err(self.damage()),
+        }
+    }
+
+    /// Damage at the node that was read last, or at the front where there is none.
+    pub(crate) fn damage(&self) -> SortFault
+        ensures damage { IsDamageIn self.now.file result }
+        ensures cause { result ≢ SortFault.Shelf }
+    {
+        SortFault::Damaged {
+            file: self.file,
+            at: self.reader.place().saturating_mul(NODE_SIZE),
+        }
+    }
+}
+
+/// The operands, one for each pointer of a tuple.
+#[derive(Drop)]
+pub(crate) struct Operands<'r> {
+    pub(crate) first: Operand<'r>,
+    pub(crate) second: Operand<'r>,
+    pub(crate) third: Operand<'r>,
+}
+
+impl<'r> Operands<'r> {
+    ghost use Rattle.top_down_sweep.specs.Members.{want, all_filled};
+
+    /// The roots of the diagrams.
+    pub(crate) fn roots(&self) -> Tuple {
+        Tuple {
+            first: self.first.reader.trailer().root,
+            second: self.second.reader.trailer().root,
+            third: self.third.reader.trailer().root,
+        }
+    }
+
+    /// Whether the ask's key isn't at hand for each member that is that node.
+    pub(crate) fn want(&self, ask: &Ask) -> bool
+        ensures { result ≡ want self.now ask.now }
+    {
+        self.first.wants(&ask.members.first, ask.key)
+            || self.second.wants(&ask.members.second, ask.key)
+            || self.third.wants(&ask.members.third, ask.key)
+    }
+
+    /// The members of an ask, with the pointers of its key for those that are that node.
+    pub(crate) fn filled(&self, ask: &Ask) -> Members
+        ensures { result ≡ all_filled self.now ask.now }
+    {
+        Members {
+            first: ask.members.first.filled(ask.key, &self.first.hand),
+            second: ask.members.second.filled(ask.key, &self.second.hand),
+            third: ask.members.third.filled(ask.key, &self.third.hand),
+        }
+    }
+}

@@ -1,0 +1,104 @@
+//! Where a sweep stands, but for what its queue and its files hold.
+ghost use Rattle.std.specs.Prelude.{◌≡◌, ◌<◌, ◌^◌, ◌==◌, ◌&&◌, IfSome};
+
+use crate::ask::{Ask, Members};
+use crate::members::level_at;
+use arc_file::Unreduced;
+use rec_words::{Ptr, Uid};
+
+/// The tuple that was numbered last, as it was asked for, and its number within the level.
+#[derive(Clone, Copy, Debug, PartialEq, Eq)]
+pub(crate) struct Numbered {
+    pub(crate) key: Uid,
+    pub(crate) members: Members,
+    pub(crate) number: u64,
+}
+
+impl Numbered {
+    ghost use Rattle.rec_words.specs.Words.{level_numbers};
+    ghost use Rattle.top_down_sweep.specs.Soundness.{identifier, answers};
+
+    /// The identifier of the tuple.
+    pub(crate) fn uid(&self) -> Uid
+        requires { self.now.number < level_numbers }
+        ensures { result ≡ identifier self.now }
+    {
+        match Uid::of(Ptr::node(level_at(self.key), self.number)) {
+            Some(uid) => uid,
+            None => unreachable!(),
+        }
+    }
+
+    /// Whether that tuple is asked for.
+    fn answers(&self, ask: &Ask) -> bool
+        ensures { result ≡ answers self.now ask.now }
+    {
+        self.key == ask.key && self.members == ask.members
+    }
+}
+
+/// What is known while asks are answered: the root's identifier, and the tuple that was numbered last.
+#[derive(Clone, Copy, Debug, PartialEq, Eq)]
+pub(crate) struct Asking {
+    pub(crate) root: Uid,
+    pub(crate) last: Option<Numbered>,
+}
+
+impl Asking {
+    ghost use Rattle.rec_words.specs.Words.{level_numbers};
+    ghost use Rattle.top_down_sweep.specs.Soundness.{is_none, known, next_numbered};
+
+    /// Whether no tuple has a number yet.
+    pub(crate) fn is_first(&self) -> bool
+        ensures { result ≡ is_none self.now.last }
+    {
+        match &self.last {
+            Some(_last) => false,
+            None => true,
+        }
+    }
+
+    /// The identifier of the tuple of that ask, where it was numbered last.
+    pub(crate) fn known(&self, ask: &Ask) -> Option<Uid>
+        requires { IfSome self.now.last (λ x. x.number < level_numbers) }
+        ensures { result ≡ known self.now.last ask.now }
+    {
+        match &self.last {
+            Some(last) if last.answers(ask) => Some(last.uid()),
+            _ => None,
+        }
+    }
+
+    /// Once the tuple of that ask is numbered: the next number of its level, or the number 0.
+    pub(crate) fn next(&self, ask: &Ask) -> Numbered
+        requires { IfSome self.now.last (λ x. x.number < 2 ^ 63) }
+        ensures { result ≡ next_numbered self.now ask.now }
+    {
+        let number = match &self.last {
+            Some(last) if level_at(last.key) == level_at(ask.key) => last.number + 1,
+            _ => 0,
+        };
+        Numbered {
+            key: ask.key,
+            members: ask.members,
+            number,
+        }
+    }
+}
+
+/// What a sweep does.
+#[derive(Clone, Copy, Debug, PartialEq, Eq)]
+pub(crate) enum Phase {
+    /// The root wasn't asked for.
+    Fresh,
+    /// Answers asks.
+    Asking(Asking),
+    /// All is done, and these arcs are made.
+    Ended(Unreduced),
+}
+
+#[derive(Clone, Copy, Debug, PartialEq, Eq)]
+pub(crate) struct Place {
+    pub(crate) variables: u32,
+    pub(crate) phase: Phase,
+}

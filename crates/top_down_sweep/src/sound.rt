@@ -1,0 +1,98 @@
+//! What an ask keeps beyond its form.
+ghost use Rattle.std.specs.Prelude.{◌≡◌, ◌≤◌, ◌/◌, nat_lt};
+ghost use Rattle.std.specs.Option.{SomeIff};
+ghost use Rattle.rec_words.specs.Words.{deepest_level, level_of, IsNodeWord};
+ghost use Rattle.top_down_sweep.specs.Soundness.{asker_word, asker_of, asks_above, stands, is_keyed, is_sound};
+
+use crate::ask::{Ask, Member};
+use crate::members::level_at;
+use rec_words::{Ptr, Uid};
+
+/// The asker of the root's ask, which no node asks for.
+pub(crate) const NOBODY: u64 = u64::MAX;
+
+/// A node that asks, on one of its sides.
+#[derive(Clone, Copy, Debug, PartialEq, Eq)]
+pub(crate) struct Source {
+    pub(crate) uid: Uid,
+    pub(crate) high: bool,
+}
+
+impl Source {
+    /// The word of an asker.
+    pub(crate) fn word(&self) -> u64
+        ensures { result ≡ asker_word self.now }
+    {
+        let side = if self.high { 1 } else { 0 };
+        2 * self.uid.ptr().word() + side
+    }
+
+    /// The node and the side that a word says. The word of nobody says none.
+    pub(crate) fn of_word(word: u64) -> Option<Source>
+        ensures { SomeIff result (IsNodeWord (word / 2)) (asker_of word) }
+    {
+        let uid = Uid::of(Ptr::from_word(word / 2)?)?;
+        Some(Source {
+            uid,
+            high: word % 2 == 1,
+        })
+    }
+}
+
+impl Ask {
+    /// Whether the key is the least of the members' nodes of its level that weren't read, all else lies deeper, and
+    /// the asker is a node of a level above the key's, or nobody for the first of all asks.
+    pub(crate) fn is_sound(&self, is_first: bool) -> bool
+        ensures { result ≡ is_sound is_first self.now }
+    {
+        self.is_keyed() && asks_above(self.asker, self.key, is_first)
+    }
+
+    // Whether the key is the least of the members' nodes of its level that weren't read, and all else lies deeper.
+    fn is_keyed(&self) -> bool
+        ensures { result ≡ is_keyed self.now }
+    {
+        let members = &self.members;
+        let is_node = members.first.is_node(self.key)
+            || members.second.is_node(self.key)
+            || members.third.is_node(self.key);
+        is_node
+            && members.first.stands(self.key)
+            && members.second.stands(self.key)
+            && members.third.stands(self.key)
+    }
+}
+
+impl Member {
+    /// Whether the member is a pointer from that node on, or both pointers lie deeper than the node.
+    fn stands(&self, key: Uid) -> bool
+        ensures { result ≡ stands key self.now }
+    {
+        let level = level_at(key);
+        if self.low == self.high {
+            return self.low >= key.ptr();
+        }
+        is_deeper(self.low, level) && is_deeper(self.high, level)
+    }
+}
+
+// Whether the asker is a node of a level above the key's, or nobody for the first of all asks.
+fn asks_above(asker: u64, key: Uid, is_first: bool) -> bool
+    ensures { result ≡ asks_above asker key is_first }
+{
+    match Source::of_word(asker) {
+        Some(source) => !is_first && level_at(source.uid) < level_at(key),
+        None => is_first && asker == NOBODY,
+    }
+}
+
+// Whether a pointer is a truth value or a node of a deeper level.
+fn is_deeper(pointer: Ptr, level: u16) -> bool
+    requires { level ≤ deepest_level }
+    ensures { result ≡ nat_lt level (level_of pointer) }
+{
+    match pointer.level() {
+        Some(deeper) => level < deeper,
+        None => true,
+    }
+}

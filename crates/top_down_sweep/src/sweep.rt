@@ -1,0 +1,72 @@
+//! A sweep from the root down, as it stands between two turns.
+use crate::Operation;
+use crate::machine::Machine;
+use crate::place::Phase;
+use arc_file::Unreduced;
+use run_merge::Parts;
+use shelf_model::{Shelf, SortFault};
+use sweep_core::Turn;
+
+/// An operation on diagrams, level by level from the root down. It makes the arcs of a diagram that isn't reduced.
+///
+/// After a refusal it isn't used again.
+#[derive(Drop)]
+pub struct TopDownSweep<'r, O> {
+    pub(crate) operation: O,
+    pub(crate) machine: Machine<'r>,
+}
+
+impl<'r, O> TopDownSweep<'r, O> {
+    ghost use Rattle.std.specs.Prelude.{◌≡◌};
+    ghost use Rattle.top_down_sweep.specs.Sweeps.{made_in, parts_of};
+
+    /// The arcs that it made, once it has ended.
+    pub fn made(&self) -> Option<Unreduced>
+        ensures { result ≡ made_in self.now }
+    {
+        match self.machine.place.phase {
+            Phase::Ended(made) => Some(made),
+            _ => None,
+        }
+    }
+
+    /// The part numbers that weren't taken.
+    pub fn parts(&self) -> Parts
+        ensures { result ≡ parts_of self.now }
+    {
+        self.machine.parts
+    }
+}
+
+impl<'r, O: Operation> TopDownSweep<'r, O> {
+    ghost use Rattle.std.specs.Prelude.{◌≡◌, IsTrue, IsSome, OnOk, IfOk, IfErr, IfSome};
+    ghost use Rattle.shelf_model.specs.declared.file_no.FileNo.{FileNo};
+    ghost use Rattle.shelf_model.specs.World.{file};
+    ghost use Rattle.sweep_core.specs.Accounts.{Leaves};
+    ghost use Rattle.sweep_core.specs.Sweeps.{AtEnd, IsFirm, StaysEnded};
+    ghost use Rattle.top_down_sweep.specs.Sweeps.{files_of, made_in, accounts, IsMade, HasMade, IsSound, MakesAtEnd, Refused};
+    ghost use Rattle.top_down_sweep.specs.Calls.{IsInStep};
+
+    /// Handles one ask or reads one node, or ends the sweep. Once it has ended, each further turn answers so and does
+    /// nothing.
+    pub fn turn<S: Shelf>(&mut self, shelf: &mut S) -> Result<Turn, SortFault>
+        requires ready { IsSound self.old }
+        requires in_step { IsTrue (S.tells shelf.old) → IsInStep self.old (S.world shelf.old) }
+        ensures ready { OnOk result (IsSound self.new) }
+        ensures in_step { OnOk result (IsTrue (S.tells shelf.new) → IsInStep self.new (S.world shelf.new)) }
+        ensures files { files_of self.new ≡ files_of self.old }
+        ensures operation { self.new.operation ≡ self.old.operation }
+        ensures ends { IfOk result (λ turn. MakesAtEnd turn (made_in self.new)) }
+        ensures made { OnOk result (IfSome (made_in self.new)
+            (HasMade (files_of self.new).inner (files_of self.new).ends)) }
+        ensures ended { IsSome (made_in self.old) → StaysEnded shelf.old shelf.new self.old self.new result }
+        ensures firm { AtEnd result (IsTrue (S.tells shelf.new) → (f : FileNo) → IsMade (files_of self.new) f →
+            IsFirm (file (S.world shelf.new) f)) }
+
+        // what the call leaves, and what it costs
+        ensures leaves { Leaves S.tells S.world S.faults (accounts O) 113 6 shelf.old shelf.new self.old self.new result }
+        ensures refused { IfErr result (Refused self.new) }
+    {
+        self.machine.turn(&self.operation, shelf)
+    }
+}

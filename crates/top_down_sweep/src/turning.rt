@@ -1,0 +1,160 @@
+//! The turns of a machine.
+ghost use Rattle.std.specs.Prelude.{◌≡◌};
+
+use crate::Operation;
+use crate::ask::{Ask, Members};
+use crate::machine::Machine;
+use crate::members::{key_of, level_at};
+use crate::place::{Asking, Phase};
+use crate::sound::NOBODY;
+use rec_words::{Ptr, Uid};
+use shelf_model::{Shelf, SortFault};
+use sweep_core::Turn;
+use top_down::{Goal, Tuple};
+
+impl<'r> Machine<'r> {
+    ghost use Rattle.std.specs.Prelude.{◌<◌, None, IsTrue, OnOk, IfOk};
+    ghost use Rattle.rec_words.specs.Words.{terminal_level};
+    ghost use Rattle.top_down.specs.Tuples.{level_of_tuple};
+    ghost use Rattle.level_queue.specs.Queues.{last_of};
+    ghost use Rattle.sweep_core.specs.Sweeps.{StaysEnded};
+    ghost use Rattle.top_down_sweep.specs.Soundness.{is_none};
+    ghost use Rattle.top_down_sweep.specs.Sweeps.{IsSoundMachine, IsAsking, HasEnded, EndsAt};
+    ghost use Rattle.top_down_sweep.specs.Calls.{Does, IsFit, IsShown, IsMachineInStep};
+
+    /// Handles the first ask, or ends.
+    pub(crate) fn turn<O: Operation, S: Shelf>(
+        &mut self,
+        operation: &O,
+        shelf: &mut S,
+    ) -> Result<Turn, SortFault>
+        requires sound { IsSoundMachine self.old }
+        requires in_step { IsTrue (S.tells shelf.old) → IsMachineInStep self.old (S.world shelf.old) }
+        ensures does { Does S.tells S.world S.faults 113 6 shelf.old shelf.new self.old self.new result }
+        ensures sound { OnOk result (IsSoundMachine self.new) }
+        ensures in_step { OnOk result (IsTrue (S.tells shelf.new) → IsMachineInStep self.new (S.world shelf.new)) }
+        ensures ends { IfOk result (λ turn. EndsAt turn self.new.place.phase) }
+        ensures ended { HasEnded self.old.place.phase → StaysEnded shelf.old shelf.new self.old self.new result }
+    {
+        match self.place.phase {
+            Phase::Fresh => self.begin(operation, shelf),
+            Phase::Asking(asking) => self.go_on(operation, &asking, shelf),
+            Phase::Ended(_made) => Ok(Turn::Ended),
+        }
+    }
+
+    // Asks for the roots' tuple, or ends where it is constant.
+    fn begin<O: Operation, S: Shelf>(
+        &mut self,
+        operation: &O,
+        shelf: &mut S,
+    ) -> Result<Turn, SortFault>
+        requires phase { self.old.place.phase ≡ Phase.Fresh }
+        requires fit { IsFit S.tells S.world shelf.old self.old }
+        ensures does { Does S.tells S.world S.faults 48 3 shelf.old shelf.new self.old self.new result }
+        ensures sound { OnOk result (IsSoundMachine self.new) }
+        ensures in_step { OnOk result (IsTrue (S.tells shelf.new) → IsMachineInStep self.new (S.world shelf.new)) }
+        ensures ends { IfOk result (λ turn. EndsAt turn self.new.place.phase) }
+    {
+        let roots = operation.roots(&self.operands.roots());
+        match operation.goal(&roots) {
+            Goal::End(value) => self.end(Ptr::terminal(value), shelf),
+            Goal::Go(tuple) => {
+                self.ask_first(&tuple, shelf)?;
+                Ok(Turn::More)
+            }
+        }
+    }
+
+    // Asks for a tuple, which gets the number 0 of its level.
+    fn ask_first<S: Shelf>(&mut self, tuple: &Tuple, shelf: &mut S) -> Result<(), SortFault>
+        requires node { level_of_tuple tuple.now < terminal_level }
+        requires none { last_of self.old.queue ≡ None }
+        requires fit { IsFit S.tells S.world shelf.old self.old }
+        ensures does { Does S.tells S.world S.faults 48 3 shelf.old shelf.new self.old self.new result }
+        ensures fit { OnOk result (IsFit S.tells S.world shelf.new self.new) }
+        ensures phase { OnOk result (IsAsking self.new.place.phase) }
+    {
+        let Some(key) = key_of(tuple) else {
+            unreachable!();
+        };
+        let Some(root) = Uid::of(Ptr::node(level_at(key), 0)) else {
+            unreachable!();
+        };
+        self.place.phase = Phase::Asking(Asking { root, last: None });
+        let ask = Ask {
+            key,
+            members: Members::of(tuple),
+            asker: NOBODY,
+        };
+        self.push(ask, shelf)
+    }
+
+    // Handles the first ask, or ends where there is none.
+    fn go_on<O: Operation, S: Shelf>(
+        &mut self,
+        operation: &O,
+        asking: &Asking,
+        shelf: &mut S,
+    ) -> Result<Turn, SortFault>
+        requires phase { self.old.place.phase ≡ Phase.Asking asking.now }
+        requires fit { IsFit S.tells S.world shelf.old self.old }
+        ensures does { Does S.tells S.world S.faults 113 6 shelf.old shelf.new self.old self.new result }
+        ensures sound { OnOk result (IsSoundMachine self.new) }
+        ensures in_step { OnOk result (IsTrue (S.tells shelf.new) → IsMachineInStep self.new (S.world shelf.new)) }
+        ensures ends { IfOk result (λ turn. EndsAt turn self.new.place.phase) }
+    {
+        let Some(ask) = self.first_ask(shelf)? else {
+            return self.end(asking.root.ptr(), shelf);
+        };
+        if !ask.is_sound(asking.is_first()) {
+            return Err(self.operands.first.damage());
+        }
+        self.handle(operation, asking, &ask, shelf)?;
+        Ok(Turn::More)
+    }
+
+    // Reads a node that the first ask wants, or takes the ask. One that was taken before is taken without effect.
+    fn handle<O: Operation, S: Shelf>(
+        &mut self,
+        operation: &O,
+        asking: &Asking,
+        ask: &Ask,
+        shelf: &mut S,
+    ) -> Result<(), SortFault>
+        requires phase { self.old.place.phase ≡ Phase.Asking asking.now }
+        requires shown { IsShown (is_none asking.now.last) self.old ask.now }
+        requires fit { IsFit S.tells S.world shelf.old self.old }
+        ensures does { Does S.tells S.world S.faults 105 6 shelf.old shelf.new self.old self.new result }
+        ensures fit { OnOk result (IsFit S.tells S.world shelf.new self.new) }
+        ensures phase { OnOk result (IsAsking self.new.place.phase) }
+    {
+        if self.queue.last() == Some(*ask) {
+            return self.take(ask, shelf);
+        }
+        if self.operands.want(ask) {
+            return self.read_wanted(ask, shelf);
+        }
+        let members = self.operands.filled(ask);
+        match members.next_key(level_at(ask.key)) {
+            Some(key) => self.ask_again(ask, members, key, shelf),
+            None => self.answer(operation, asking, ask, &members, shelf),
+        }
+    }
+
+    // Reads the next node of an operand that the ask wants.
+    fn read_wanted<S: Shelf>(&mut self, ask: &Ask, shelf: &mut S) -> Result<(), SortFault>
+        requires fit { IsFit S.tells S.world shelf.old self.old }
+        ensures does { Does S.tells S.world S.faults 1 0 shelf.old shelf.new self.old self.new result }
+        ensures fit { OnOk result (IsFit S.tells S.world shelf.new self.new) }
+        ensures rest { self.new ≡ record self.old { operands = self.new.operands } }
+    {
+        if self.operands.first.wants(&ask.members.first, ask.key) {
+            return self.operands.first.read(ask.key, shelf);
+        }
+        if self.operands.second.wants(&ask.members.second, ask.key) {
+            return self.operands.second.read(ask.key, shelf);
+        }
+        self.operands.third.read(ask.key, shelf)
+    }
+}

@@ -1,0 +1,46 @@
+//! The calls of the writer of arcs.
+use crate::machine::Machine;
+use crate::place::Phase;
+use arc_file::Arc;
+use rec_words::Ptr;
+use shelf_model::{Shelf, SortFault};
+use sweep_core::Turn;
+
+impl<'r> Machine<'r> {
+    ghost use Rattle.std.specs.Prelude.{◌≡◌, ◌+◌, ◌^◌, ◌≤◌, IsTrue, OnOk, IfOk, length};
+    ghost use Rattle.arc_file.specs.declared.arc.Arc.{Arc};
+    ghost use Rattle.std.specs.Prelude.{[], ◌∷◌};
+    ghost use Rattle.arc_file.specs.Files.{inner_arcs};
+    ghost use Rattle.arc_file.specs.Writers.{inner_count, made_of};
+    ghost use Rattle.sweep_core.specs.declared.turn.Turn.TheVariants as turns;
+    ghost use Rattle.top_down_sweep.specs.declared.place.Phase.TheVariants as phases;
+    ghost use Rattle.top_down_sweep.specs.Sweeps.{IsSoundMachine};
+    ghost use Rattle.top_down_sweep.specs.Calls.{Does, IsFit, IsMachineInStep};
+
+    /// Puts an arc into the file that its target chooses.
+    pub(crate) fn put<S: Shelf>(&mut self, arc: Arc, shelf: &mut S) -> Result<(), SortFault>
+        requires fit { IsFit S.tells S.world shelf.old self.old }
+        ensures does { Does S.tells S.world S.faults 1 0 shelf.old shelf.new self.old self.new result }
+        ensures fit { OnOk result (IsFit S.tells S.world shelf.new self.new) }
+        ensures rest { self.new ≡ record self.old { writer = self.new.writer } }
+        ensures count { OnOk result
+            (inner_count self.new.writer ≡ inner_count self.old.writer + length (inner_arcs (arc ∷ []))) }
+    {
+        self.writer.put(arc, shelf)?;
+        Ok(())
+    }
+
+    /// Makes the arcs stand in their files, as those of a diagram with that root, and ends.
+    pub(crate) fn end<S: Shelf>(&mut self, root: Ptr, shelf: &mut S) -> Result<Turn, SortFault>
+        requires fit { IsFit S.tells S.world shelf.old self.old }
+        ensures does { Does S.tells S.world S.faults 4 0 shelf.old shelf.new self.old self.new result }
+        ensures sound { OnOk result (IsSoundMachine self.new) }
+        ensures in_step { OnOk result (IsTrue (S.tells shelf.new) → IsMachineInStep self.new (S.world shelf.new)) }
+        ensures turn { IfOk result (λ turn. turn ≡ turns.Ended) }
+        ensures made { OnOk result (self.new.place.phase ≡ phases.Ended (made_of self.new.writer root)) }
+    {
+        let made = self.writer.settle(root, shelf)?;
+        self.place.phase = Phase::Ended(made);
+        Ok(Turn::Ended)
+    }
+}
