@@ -79,8 +79,11 @@ impl<'a> Iterator for Lines<'a> {
 }
 
 impl<'a> Lines<'a> {
+    ghost use Rattle.std.specs.Prelude.{IsNone, IfSome, []};
+    ghost use Rattle.std.specs.List.{slice_split};
     ghost use Rattle.text_words.specs.Left.{lines_left};
-    ghost use Rattle.text_words.specs.Text.{lines_of};
+    ghost use Rattle.text_words.specs.Text.{lines_of, numbered, is_feed};
+    ghost use Rattle.text_words.specs.Places.{IsRest};
 
     /// The lines of a text, from the first on.
     pub fn of(text: &'a [u8]) -> Lines<'a>
@@ -91,6 +94,30 @@ impl<'a> Lines<'a> {
             rest: Some(text),
             number: 1,
             at: 0,
+        }
+    }
+
+    /// The lines of a text, of which the first has the given number, and its first byte the given place.
+    pub fn starting_at(text: &'a [u8], number: u32, at: u32) -> Lines<'a>
+        requires few { number + length text.now + 1 < 2 ^ 32 }
+        requires small { at + length text.now + 1 < 2 ^ 32 }
+        ensures { lines_left result ≡ numbered number at (slice_split is_feed text.entry.now) }
+    {
+        Lines {
+            rest: Some(text),
+            number,
+            at,
+        }
+    }
+
+    /// The number of the next line, and the text from its first byte on, where a line is left.
+    pub fn rest(&self) -> Option<(u32, &'a [u8])>
+        ensures none { IsNone result → lines_left self.now ≡ [] }
+        ensures rest { IfSome result (λ r. IsRest (lines_left self.now) r.0 r.1.now) }
+    {
+        match self.rest {
+            Some(text) => Some((self.number, text)),
+            None => None,
         }
     }
 }
