@@ -1,5 +1,5 @@
 -- Indexes by bytes, and the places of names.
-use Rattle.std.proofs.Common.{◌≡◌, ◌⊎◌, inl, inr, ⊎_elim, ℕ, ◌+◌, ◌<◌, Bool, true, false, cond, ◌||◌, List, [], ◌∷◌, ◌++◌, length, get_or, take, map, Option, Some, None, is_some, Vec, refl, sym, ap, ◌∙◌, subst, arith, add-zero, zero-add}
+use Rattle.std.proofs.Common.{◌≡◌, ◌⊎◌, inl, inr, ⊎_elim, ℕ, ◌+◌, ◌<◌, Bool, true, false, cond, ◌||◌, List, [], ◌∷◌, ◌++◌, length, get_or, take, map, Option, Some, None, is_some, Vec, refl, sym, ap, ◌∙◌, subst, arith, append_assoc, add-zero, zero-add}
 use Rattle.std.specs.List.{position_from}
 use Rattle.std.specs.Str.{bytes_eq}
 use Rattle.std.specs.BTreeMap as tree
@@ -9,7 +9,7 @@ use Rattle.std.specs.Cmp.Lexicographic.{slice_cmp, bytes_decides, nat_list_eq_eq
 use Rattle.std.proofs.lemmas.Cmp.{eq_by_cmp_equiv, nat_list_cmp_total}
 use Rattle.std.proofs.lemmas.Map.Text.{is_eq-slice_cmp}
 use Rattle.std.specs.declared.alloc.Global.{Global}
-use Rattle.std.proofs.lemmas.List.{map_push, take_more, length-map, length-take-le}
+use Rattle.std.proofs.lemmas.List.{append-nil, map_push, take_more, length-map, length-take-le}
 use Rattle.std.proofs.lemmas.List.Folds.{list_any-append}
 use Rattle.blif_reader.specs.Index.{Index, found_in, place_of, Puts, PutsNew}
 use Rattle.blif_reader.specs.Parts.{Use, is_one, first_again}
@@ -96,3 +96,36 @@ again_later before u us all total split fresh so_far = sym (ap (first_again befo
 pub again_none : (before : List (List ℕ)) (all : List Use) (total : Option ℕ) → all ≡ [] → first_again before all ≡ total → None ≡ total
 unfolding first_again
 again_none before all total none so_far = sym (ap (first_again before) none) ∙ so_far
+
+-- the uses so far, of words that differ, are in the index, and the first use of a word that was used before is one of those that are left
+pub record Seen (all left : List Use) (index : Index) : Type 0 where
+  pub before : List Use
+  pub split : before ++ left ≡ all
+  pub words : (q : List ℕ) → is_some (found_in index q) ≡ is_one (map (λ u. u.word) before) q
+  pub line : first_again (map (λ u. u.word) before) left ≡ first_again [] all
+
+-- no use so far
+pub seen_none : (all : List Use) (index : Index) → ((q : List ℕ) → found_in index q ≡ None) → Seen all all index
+seen_none all index none = record { before = []; split = refl; words = λ q. ap is_some (none q); line = refl }
+
+-- one use more
+pub seen_more : (all left rest : List Use) (u : Use) (old new : Index) (n : ℕ) → left ≡ u ∷ rest → Puts old new u.word n → is_some (found_in old u.word) ≡ false → Seen all left old → Seen all rest new
+seen_more all left rest u old new n split puts fresh seen =
+    let before : List (List ℕ) = map (λ (v : Use). v.word) seen.before in
+    let more : map (λ (v : Use). v.word) (seen.before ++ u ∷ []) ≡ before ++ u.word ∷ [] = map_push (λ (v : Use). v.word) seen.before u in
+    record {
+      before = seen.before ++ u ∷ [];
+      split = append_assoc seen.before (u ∷ []) rest ∙ ap (λ us. seen.before ++ us) (sym split) ∙ seen.split;
+      words = λ q. words_more old new before u.word n puts seen.words q ∙ ap (λ ws. is_one ws q) (sym more);
+      line = ap (λ ws. first_again ws rest) more ∙ again_later before u rest left _ split (sym (seen.words u.word) ∙ fresh) seen.line;
+    }
+
+-- a use of a word that was used before
+pub seen_again : (all left rest : List Use) (u : Use) (index : Index) → left ≡ u ∷ rest → is_some (found_in index u.word) ≡ true → Seen all left index → Some u.line ≡ first_again [] all
+seen_again all left rest u index split used seen = again_here _ u rest left _ split (sym (seen.words u.word) ∙ used) seen.line
+
+-- no use is left
+pub seen_all : (all left : List Use) (index : Index) → left ≡ [] → Seen all left index → (None ≡ first_again [] all) × ((q : List ℕ) → is_some (found_in index q) ≡ is_one (map (λ u. u.word) all) q)
+seen_all all left index none seen =
+    let same : seen.before ≡ all = sym (append-nil seen.before) ∙ ap (λ us. seen.before ++ us) (sym none) ∙ seen.split in
+    (again_none _ left _ none seen.line, λ q. seen.words q ∙ ap (λ us. is_one (map (λ (u : Use). u.word) us) q) same)

@@ -1,8 +1,9 @@
 -- Statements read one after the other.
-use Rattle.std.proofs.Common.{◌≡◌, ℕ, true, false, List, [], ◌∷◌, ◌++◌, filter, cond, Result, Ok, Err, Option, Some, None, option_map, is_some, Bor, refl, sym, ap, ◌∙◌, append_assoc}
+use Rattle.std.proofs.Common.{◌≡◌, true, false, List, [], ◌∷◌, ◌++◌, filter, cond, Result, Ok, Err, refl, sym, ap, ◌∙◌, append_assoc}
 use Rattle.std.specs.Result.{IsErrAnd}
 use Rattle.std.proofs.lemmas.Result.{err_from_is_err_and}
 use Rattle.std.proofs.lemmas.List.{append-nil}
+use Rattle.text_words.specs.Text as text
 use Rattle.blif_reader.specs.declared.fault.BlifFault.{BlifFault}
 use Rattle.blif_reader.specs.declared.fault.Refusal.{Refusal}
 use Rattle.blif_reader.specs.declared.fault.Refusal.TheVariants as refusals
@@ -10,7 +11,8 @@ use Rattle.blif_reader.specs.declared.fault.BlifKind.{BlifKind}
 use Rattle.blif_reader.specs.declared.grammar.Kind.{Kind}
 use Rattle.blif_reader.specs.declared.grammar.Context.{Context}
 use Rattle.blif_reader.specs.Grammar.{kind_of}
-use Rattle.blif_reader.specs.Text.{Line, has_words, joined, pieces_of}
+use Rattle.blif_reader.specs.Text.{Line, has_words, joined}
+use Rattle.blif_reader.proofs.Joins.{joined_none}
 use Rattle.blif_reader.specs.Statements.{◌>>=◌, on_line, Fails, Gives, Statement, statement, after_statement, at_end, statements}
 
 -- statements that were read, before those that are still read
@@ -71,10 +73,8 @@ ends_badly refusals.Memory front context total fails so_far = tt
 ends_badly (refusals.Fault f) front context total fails so_far = sym so_far ∙ ap (with_front front) fails
 
 -- no line is left
-pub at_the_end : (n : ℕ) (o : Option (Bor (List ℕ))) → is_some o ≡ false → filter has_words (joined n (pieces_of (option_map (λ b. b.now) o))) ≡ []
-unfolding joined
-at_the_end n None e = refl
-at_the_end n (Some b) e = absurd (cc)
+pub at_the_end : (ls : List text.Line) → ls ≡ [] → filter has_words (joined ls) ≡ []
+at_the_end ls e = ap (λ us. filter has_words (joined us)) e ∙ ap (filter has_words) joined_none
 
 -- what a question mark passes on
 pub passes_on : {X : Type 0} (view : X → List Statement) (r : Result X Refusal) (e : Refusal) (total : Result (List Statement) BlifFault) → IsErrAnd r (λ y. y ≡ e) → Fails e total → Gives view r total

@@ -13,7 +13,7 @@ use Rattle.blif_reader.specs.declared.grammar.Kind.TheVariants as kind
 use Rattle.blif_reader.specs.declared.grammar.Context.{Context}
 use Rattle.blif_reader.specs.declared.grammar.Context.TheVariants.{Start, Between, Block, Ended}
 use Rattle.blif_reader.specs.Text.{Line}
-use Rattle.blif_reader.specs.Grammar.{word_at, is_cell, is_dotted, digit_of, keyword_of, row_value, row_beside, kind_of, after}
+use Rattle.blif_reader.specs.Grammar.{word_at, shape_of, is_cell, is_dotted, digit_of, keyword_of, row_value, row_beside, kind_of, after}
 use Rattle.blif_reader.specs.Statements.{Statement, ◌>>=◌, on_line, statements, after_statement, Follows}
 use Rattle.blif_reader.specs.Parts.{block_inputs}
 use Rattle.blif_reader.specs.Netlist.{Cover, IsRow, cells_of, row_before, rows_behind, is_names, begins_block, block_cover, covers_of, reads_of}
@@ -55,7 +55,7 @@ row_has None (Some w) v h = (w, refl)
 row_has (Some o) (Some w) v h = (w, refl)
 
 -- the characters of words that are a row
-row_cells : (n : ℕ) (words : List (List ℕ)) (v : Bool) → row_value n words ≡ Some v → IsRow n (cells_of words)
+row_cells : (n : ℕ) (words : List (List ℕ)) (v : Bool) → row_value n (shape_of words) ≡ Some v → IsRow n (cells_of words)
 row_cells n words v h = by_tests (n == 0) (length words == 1) (length words == 2) (length (word_at 0 words) == n) (list_all is_cell (word_at 0 words)) refl refl refl refl refl h where
   by_tests : (a b c d e : Bool) → (n == 0) ≡ a → (length words == 1) ≡ b → (length words == 2) ≡ c → (length (word_at 0 words) == n) ≡ d → list_all is_cell (word_at 0 words) ≡ e
       → cond a (cond b (digit_of (word_at 0 words)) None) (cond (c && d && e) (digit_of (word_at 1 words)) None) ≡ Some v → IsRow n (cells_of words)
@@ -74,9 +74,9 @@ row_cells n words v h = by_tests (n == 0) (length words == 1) (length words == 2
 -- a row of a block with n inputs
 row_of_block : (n : ℕ) (first : Option Bool) (words : List (List ℕ)) (v : Bool) → kind_of (Block n first) words ≡ Ok (kind.Row v) → IsRow n (cells_of words)
 row_of_block n first words v h = by_dot (is_dotted (word_at 0 words)) h where
-  by_dot : (b : Bool) → cond b (keyword_of (word_at 0 words) (length words)) (row_beside first (row_value n words)) ≡ Ok (kind.Row v) → IsRow n (cells_of words)
+  by_dot : (b : Bool) → cond b (keyword_of (word_at 0 words) (length words)) (row_beside first (row_value n (shape_of words))) ≡ Ok (kind.Row v) → IsRow n (cells_of words)
   by_dot true q = absurd (keyword_not_row (word_at 0 words) (length words) v q)
-  by_dot false q = let has = row_has first (row_value n words) v q in row_cells n words has.0 has.1
+  by_dot false q = let has = row_has first (row_value n (shape_of words)) v q in row_cells n words has.0 has.1
 
 -- the rows that stand behind a block's line
 rows_fit : (n : ℕ) (first : Option Bool) (ss : List Statement) → Follows (Block n first) ss → AllByRecursion (IsRow n) (rows_behind ss)

@@ -9,9 +9,19 @@ use Rattle.blif_reader.specs.declared.grammar.Kind.TheVariants.{Model, Inputs, O
 use Rattle.blif_reader.specs.declared.grammar.Context.{Context}
 use Rattle.blif_reader.specs.declared.grammar.Context.TheVariants.{Start, Between, Block, Ended}
 
+-- what the words of a line say of its kind: the first two, and how many there are
+pub record Shape : Type 0 where
+  pub first : List ℕ
+  pub second : List ℕ
+  pub count : ℕ
+
 -- the word at a place, counted from 0
 abbrev pub word_at : ℕ → List (List ℕ) → List ℕ
 word_at k words = slice_index_or words k []
+
+-- the shape of words; it has empty words where there are none
+abbrev pub shape_of : List (List ℕ) → Shape
+shape_of words = record { first = word_at 0 words; second = word_at 1 words; count = length words }
 
 -- a keyword begins with a full stop
 abbrev pub is_dotted : List ℕ → Bool
@@ -39,10 +49,10 @@ digit_of word =
     else None
 
 -- the output of a row of a block with so many inputs, where the words are such a row
-abbrev pub row_value : ℕ → List (List ℕ) → Option Bool
-row_value inputs words =
-    if inputs == 0 then (if length words == 1 then digit_of (word_at 0 words) else None)
-    else if (length words == 2) && (length (word_at 0 words) == inputs) && list_all is_cell (word_at 0 words) then digit_of (word_at 1 words)
+abbrev pub row_value : ℕ → Shape → Option Bool
+row_value inputs s =
+    if inputs == 0 then (if s.count == 1 then digit_of s.first else None)
+    else if (s.count == 2) && (length s.first == inputs) && list_all is_cell s.first then digit_of s.second
     else None
 
 -- the same output
@@ -58,22 +68,25 @@ row_beside None (Some value) = Ok (Row value)
 row_beside (Some other) (Some value) = if is_same other value then Ok (Row value) else Err fault.MixedOutputs
 
 -- what a line is that begins with no keyword: a row of the block at hand
-abbrev pub row_of : Context → List (List ℕ) → Result Kind BlifKind
-row_of Start words = Err fault.Row
-row_of Between words = Err fault.Row
-row_of (Block inputs first) words = row_beside first (row_value inputs words)
-row_of Ended words = Err fault.Row
+abbrev pub row_of : Context → Shape → Result Kind BlifKind
+row_of Start s = Err fault.Row
+row_of Between s = Err fault.Row
+row_of (Block inputs first) s = row_beside first (row_value inputs s)
+row_of Ended s = Err fault.Row
 
 -- what a line is before which a model stands, and no end
-abbrev pub inner_kind : Context → List (List ℕ) → Result Kind BlifKind
-inner_kind context words = if is_dotted (word_at 0 words) then keyword_of (word_at 0 words) (length words) else row_of context words
+abbrev pub inner_kind : Context → Shape → Result Kind BlifKind
+inner_kind context s = if is_dotted s.first then keyword_of s.first s.count else row_of context s
 
 -- what a line is: the first is the model's, and none stands after the end
+abbrev pub kind_in : Context → Shape → Result Kind BlifKind
+kind_in Start s = if bytes_eq s.first (codes ".model") then Ok Model else Err fault.NoModel
+kind_in Between s = inner_kind Between s
+kind_in (Block inputs first) s = inner_kind (Block inputs first) s
+kind_in Ended s = Err fault.Keyword
+
 abbrev pub kind_of : Context → List (List ℕ) → Result Kind BlifKind
-kind_of Start words = if bytes_eq (word_at 0 words) (codes ".model") then Ok Model else Err fault.NoModel
-kind_of Between words = inner_kind Between words
-kind_of (Block inputs first) words = inner_kind (Block inputs first) words
-kind_of Ended words = Err fault.Keyword
+kind_of context words = kind_in context (shape_of words)
 
 -- the block at hand has a row with this output
 abbrev pub with_row : Context → Bool → Context

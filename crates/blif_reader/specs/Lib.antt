@@ -1,5 +1,5 @@
 pub mod Text
-pub mod Cursor
+pub mod Lines
 pub mod Grammar
 pub mod Statements
 pub mod Parts

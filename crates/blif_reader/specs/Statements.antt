@@ -1,5 +1,5 @@
 -- A netlist as statements, line by line.
-use Rattle.std.specs.Prelude.{◌≡◌, ℕ, List, [], ◌∷◌, length, map, Result, Ok, Err}
+use Rattle.std.specs.Prelude.{◌≡◌, ℕ, List, [], ◌∷◌, length, Result, Ok, Err}
 use Rattle.blif_reader.specs.declared.fault.BlifFault.{BlifFault}
 use Rattle.blif_reader.specs.declared.fault.BlifKind.{BlifKind}
 use Rattle.blif_reader.specs.declared.fault.BlifKind.TheVariants.{NoModel}

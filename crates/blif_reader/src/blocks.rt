@@ -3,14 +3,13 @@
 ghost use Rattle.std.specs.Prelude.{◌≡◌, ◌+◌, ◌<◌, ◌++◌, ◌∷◌, [], List, map, length, drop, replicate, IfOk, OnOk};
 ghost use Rattle.blif_reader.specs.Statements.{statement_of};
 ghost use Rattle.blif_reader.specs.Netlist.{cells_of, rows_behind, value_behind, cover_before, covers_of, reads_of, is_names};
-ghost use Rattle.blif_reader.specs.Parts.{block_inputs};
-ghost use Rattle.blif_reader.specs.Words.{texts, use_of};
+ghost use Rattle.blif_reader.specs.Words.{words_of_uses};
 ghost use Rattle.blif_reader.specs.Views.{lists_of, cover_of, number_in};
 
 use crate::cover::Cover;
 use crate::grammar::Kind;
 use crate::index::{Index, find};
-use crate::parts::{Use, push_uses};
+use crate::parts::{Part, Uses};
 use crate::statement::Statement;
 use std::alloc::{AllocError, Global};
 
@@ -18,11 +17,7 @@ use std::alloc::{AllocError, Global};
 fn cells(alloc: Global, statement: &Statement) -> Result<Vec<u8>, AllocError>
     ensures { IfOk result (λ v. v.items ≡ cells_of (statement_of statement.now).words) }
 {
-    let words = statement.words(alloc)?;
-    if words.len() <= 1 {
-        return Ok(Vec::new(alloc));
-    }
-    Vec::from_slice(alloc, words[0])
+    Vec::from_slice(alloc, statement.cells())
 }
 
 /// The rows at the front of some statements.
@@ -92,8 +87,8 @@ pub(crate) fn covers(alloc: Global, statements: &[Statement]) -> Result<Vec<Cove
 }
 
 /// The numbers of words.
-pub(crate) fn numbers(alloc: Global, index: &Index, uses: &[Use]) -> Result<Vec<u32>, AllocError>
-    ensures { IfOk result (λ v. v.items ≡ map (number_in index.now) (map (λ u. u.word) (map use_of uses.now))) }
+pub(crate) fn numbers(alloc: Global, index: &Index, uses: Uses<'_>) -> Result<Vec<u32>, AllocError>
+    ensures { IfOk result (λ v. v.items ≡ map (number_in index.now) (words_of_uses uses.entry)) }
 {
     let mut numbers = Vec::new(alloc);
     for one in uses {
@@ -102,21 +97,20 @@ pub(crate) fn numbers(alloc: Global, index: &Index, uses: &[Use]) -> Result<Vec<
     Ok(numbers)
 }
 
-/// The numbers of the words that a block reads.
-#[tactic(auto, using(crate::proofs::Windows::reads_numbers))]
-fn read_numbers(alloc: Global, index: &Index, statement: &Statement) -> Result<Vec<u32>, AllocError>
-    ensures { IfOk result (λ v. v.items ≡ map (number_in index.now) (block_inputs (statement_of statement.now).words)) }
+/// Adds the numbers of the words that a block reads, where a line begins one.
+fn push_reads(
+    alloc: Global,
+    index: &Index,
+    line: &[Statement],
+    edges: &mut Vec<Vec<u32>>,
+) -> Result<(), AllocError>
+    requires { length line.now ≡ 1 }
+    ensures { OnOk result (lists_of edges.new.items ≡ lists_of edges.old.items ++ map (λ words. map (number_in index.now) words) (reads_of (map statement_of line.now))) }
 {
-    let words = statement.words(alloc)?;
-    let mut uses = Vec::new(alloc);
-    push_uses(
-        statement.line,
-        words.as_slice(),
-        1,
-        (words.len() - 1).saturating_sub(1),
-        &mut uses,
-    )?;
-    numbers(alloc, index, uses.as_slice())
+    if names_block(line[0].kind) {
+        edges.push(numbers(alloc, index, Uses::of(Part::Uses, line))?)?;
+    }
+    Ok(())
 }
 
 /// For each signal the signals that it reads: none for an input, and then those of the blocks.
@@ -132,10 +126,8 @@ pub(crate) fn edges(
     for _input in 0..inputs {
         edges.push(Vec::new(alloc))?;
     }
-    for statement in statements {
-        if names_block(statement.kind) {
-            edges.push(read_numbers(alloc, index, statement)?)?;
-        }
+    for place in 0..statements.len() {
+        push_reads(alloc, index, &statements[place..place + 1], &mut edges)?;
     }
     Ok(edges)
 }
@@ -143,10 +135,10 @@ pub(crate) fn edges(
 /// Adds the words of uses as names.
 pub(crate) fn push_names(
     alloc: Global,
-    uses: &[Use],
+    uses: Uses<'_>,
     names: &mut Vec<Vec<u8>>,
 ) -> Result<(), AllocError>
-    ensures { OnOk result (lists_of names.new.items ≡ lists_of names.old.items ++ map (λ u. u.word) (map use_of uses.now)) }
+    ensures { OnOk result (lists_of names.new.items ≡ lists_of names.old.items ++ words_of_uses uses.entry) }
 {
     for one in uses {
         names.push(Vec::from_slice(alloc, one.word)?)?;

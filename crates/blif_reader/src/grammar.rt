@@ -1,8 +1,9 @@
 //! What kind of line a line is, by its words and by what stands before it.
 
-ghost use Rattle.std.specs.Prelude.{◌≡◌, ◌<◌, List, map, length};
+ghost use Rattle.std.specs.Prelude.{◌≡◌};
 ghost use Rattle.std.specs.List.{list_all};
-ghost use Rattle.blif_reader.specs.Grammar.{is_dotted, keyword_of, is_cell, digit_of, row_value, row_of, kind_of, after};
+ghost use Rattle.blif_reader.specs.Grammar.{is_dotted, keyword_of, is_cell, digit_of, row_value, row_of, kind_in, after};
+ghost use Rattle.blif_reader.specs.Lines.{shape_in};
 
 use crate::fault::BlifKind;
 
@@ -25,6 +26,15 @@ pub(crate) enum Context {
     Between,
     Block(usize, Option<bool>),
     Ended,
+}
+
+/// What the words of a line say of its kind: the first two, which are empty where there are none, and how many
+/// there are.
+#[derive(Clone, Copy)]
+pub(crate) struct Shape<'a> {
+    pub first: &'a [u8],
+    pub second: &'a [u8],
+    pub count: usize,
 }
 
 fn dotted(word: &[u8]) -> bool
@@ -71,26 +81,26 @@ fn digit(word: &[u8]) -> Option<bool>
     }
 }
 
-fn value_of_row(inputs: usize, words: &[&[u8]]) -> Option<bool>
-    ensures { result ≡ row_value inputs (map (λ w. w.now) words.now) }
+fn value_of_row(inputs: usize, shape: &Shape) -> Option<bool>
+    ensures { result ≡ row_value inputs (shape_in shape.now) }
 {
     if inputs == 0 {
-        if words.len() == 1 {
-            return digit(words[0]);
+        if shape.count == 1 {
+            return digit(shape.first);
         }
         return None;
     }
-    if words.len() == 2 && words[0].len() == inputs && all_cells(words[0]) {
-        return digit(words[1]);
+    if shape.count == 2 && shape.first.len() == inputs && all_cells(shape.first) {
+        return digit(shape.second);
     }
     None
 }
 
-fn row(context: Context, words: &[&[u8]]) -> Result<Kind, BlifKind>
-    ensures { result ≡ row_of context (map (λ w. w.now) words.now) }
+fn row(context: Context, shape: &Shape) -> Result<Kind, BlifKind>
+    ensures { result ≡ row_of context (shape_in shape.now) }
 {
     match context {
-        Context::Block(inputs, first) => match value_of_row(inputs, words) {
+        Context::Block(inputs, first) => match value_of_row(inputs, shape) {
             None => Err(BlifKind::Row),
             Some(value) => match first {
                 Some(other) if other != value => Err(BlifKind::MixedOutputs),
@@ -102,14 +112,12 @@ fn row(context: Context, words: &[&[u8]]) -> Result<Kind, BlifKind>
 }
 
 /// What a line with words is, or what is wrong with it.
-pub(crate) fn line_kind(context: Context, words: &[&[u8]]) -> Result<Kind, BlifKind>
-    requires { 0 < length words.now }
-    ensures { result ≡ kind_of context (map (λ w. w.now) words.now) }
+pub(crate) fn line_kind(context: Context, shape: &Shape) -> Result<Kind, BlifKind>
+    ensures { result ≡ kind_in context (shape_in shape.now) }
 {
-    let first = words[0];
     match context {
         Context::Start => {
-            if first == b".model".as_slice() {
+            if shape.first == b".model".as_slice() {
                 Ok(Kind::Model)
             } else {
                 Err(BlifKind::NoModel)
@@ -117,10 +125,10 @@ pub(crate) fn line_kind(context: Context, words: &[&[u8]]) -> Result<Kind, BlifK
         }
         Context::Ended => Err(BlifKind::Keyword),
         _ => {
-            if dotted(first) {
-                keyword(first, words.len())
+            if dotted(shape.first) {
+                keyword(shape.first, shape.count)
             } else {
-                row(context, words)
+                row(context, shape)
             }
         }
     }

@@ -4,9 +4,9 @@
 ghost use Rattle.std.specs.Prelude.{◌≡◌, ℕ, ◌<◌, ◌^◌, [], List, None, map, length, is_some, not, option_map, find as prelude_find, IfOk, OnOk};
 ghost use Rattle.blif_reader.specs.Index.{found_in, place_of, Puts, PutsNew};
 ghost use Rattle.blif_reader.specs.Parts.{first_again, is_one};
-ghost use Rattle.blif_reader.specs.Words.{use_of};
+ghost use Rattle.blif_reader.specs.Words.{uses_left};
 
-use crate::parts::Use;
+use crate::parts::Uses;
 use std::alloc::{AllocError, Global};
 use std::collections::BTreeMap;
 
@@ -50,12 +50,12 @@ fn put_new(alloc: Global, index: &mut Index, word: &[u8], number: u32) -> Result
 /// The line of the first use whose word was used before, where there is one. Otherwise the index then has these words.
 pub(crate) fn line_again(
     alloc: Global,
-    uses: &[Use],
+    uses: Uses<'_>,
     index: &mut Index,
 ) -> Result<Option<u32>, AllocError>
     requires { (q : List ℕ) → found_in index.old q ≡ None }
-    ensures line { IfOk result (λ line. line ≡ first_again [] (map use_of uses.now)) }
-    ensures words { IfOk result (λ line. line ≡ None → (q : List ℕ) → is_some (found_in index.new q) ≡ is_one (map (λ u. u.word) (map use_of uses.now)) q) }
+    ensures line { IfOk result (λ line. line ≡ first_again [] (uses_left uses.entry)) }
+    ensures words { IfOk result (λ line. line ≡ None → (q : List ℕ) → is_some (found_in index.new q) ≡ is_one (map (λ u. u.word) (uses_left uses.entry)) q) }
 {
     for one in uses {
         if find(index, one.word).is_some() {
@@ -67,8 +67,8 @@ pub(crate) fn line_again(
 }
 
 /// The line of the first use whose word isn't in the index.
-pub(crate) fn line_missing(uses: &[Use], index: &Index) -> Option<u32>
-    ensures { result ≡ option_map (λ u. u.line) (prelude_find (λ u. not (is_some (found_in index.now u.word))) (map use_of uses.now)) }
+pub(crate) fn line_missing(uses: Uses<'_>, index: &Index) -> Option<u32>
+    ensures { result ≡ option_map (λ u. u.line) (prelude_find (λ u. not (is_some (found_in index.now u.word))) (uses_left uses.entry)) }
 {
     for one in uses {
         if find(index, one.word).is_none() {

@@ -1,68 +1,20 @@
 //! The lines of a netlist, joined where a backslash joins them, and their words.
 
-ghost use Rattle.std.specs.Prelude.{◌≡◌, ℕ, ◌+◌, ◌-◌, ◌<◌, ◌≤◌, ◌^◌, ◌++◌, ◌∷◌, IfOk, OnOk, IfSome, IsSome, Some, List, [], length, take, map, filter, option_map};
-ghost use Rattle.std.specs.List.{position_or_len, before_first};
-ghost use Rattle.blif_reader.specs.Text.{is_word, is_blank, is_feed, is_hash, code_of, trimmed, text_of, goes_on, words_of, pieces_of, joined};
-ghost use Rattle.blif_reader.specs.Cursor.{left_of, rest_len, line_of};
+ghost use Rattle.std.specs.Prelude.{◌≡◌, ℕ, ◌+◌, ◌-◌, ◌<◌, ◌≤◌, ◌^◌, ◌++◌, ◌∷◌, MatchOption, Some, List, [], length, take, drop, map};
+ghost use Rattle.text_words.specs.Text.{is_blank};
+ghost use Rattle.text_words.specs.Places.{IsRest};
+ghost use Rattle.text_words.specs.Left.{line_of, lines_left};
+ghost use Rattle.blif_reader.specs.Text.{code_of, trimmed, text_of, goes_on, words_of, joined, first_words};
+ghost use Rattle.blif_reader.specs.Lines.{shape_in, with_word, with_words, IsNext};
 
-use std::alloc::{AllocError, Global};
-
-/// A line with its words. A joined line has the number of its first.
-#[derive(Drop)]
-pub(crate) struct Line<'a> {
-    pub number: u32,
-    pub words: Vec<&'a [u8]>,
-}
-
-/// Where reading stands: the bytes that are left, none after the last line, and the number of their line.
-#[derive(Clone, Copy)]
-pub(crate) struct Cursor<'a> {
-    pub rest: Option<&'a [u8]>,
-    pub number: u32,
-}
-
-#[tactic(auto, using(crate::proofs::Pieces::found_first, crate::proofs::Pieces::before_none))]
-fn line_len(bytes: &[u8]) -> usize
-    ensures first { result ≡ position_or_len is_feed bytes.now }
-    ensures within { result ≤ length bytes.now }
-{
-    for (n, b) in bytes.iter().enumerate() {
-        if *b == b'\n' {
-            return n;
-        }
-    }
-    bytes.len()
-}
-
-#[tactic(auto, using(crate::proofs::Pieces::found_first, crate::proofs::Pieces::before_none))]
-fn without_comment(line: &[u8]) -> &[u8]
-    ensures { result.now ≡ before_first is_hash line.now }
-{
-    for (n, b) in line.iter().enumerate() {
-        if *b == b'#' {
-            return &line[..n];
-        }
-    }
-    line
-}
+use crate::grammar::Shape;
+use crate::line::Line;
+use text_words::{Lines, Words};
 
 fn is_blank_byte(b: u8) -> bool
     ensures { result ≡ is_blank b }
 {
     b == b' ' || b == b'\t' || b == b'\r'
-}
-
-#[tactic(auto, using(crate::proofs::Pieces::found_first, crate::proofs::Pieces::before_none))]
-fn word_len(bytes: &[u8]) -> usize
-    ensures first { result ≡ position_or_len is_blank bytes.now }
-    ensures within { result ≤ length bytes.now }
-{
-    for (n, b) in bytes.iter().enumerate() {
-        if is_blank_byte(*b) {
-            return n;
-        }
-    }
-    bytes.len()
 }
 
 fn without_blanks(text: &[u8]) -> &[u8]
@@ -81,50 +33,13 @@ fn ends_with_backslash(code: &[u8]) -> bool
     !code.is_empty() && code[code.len() - 1] == b'\\'
 }
 
-fn push_piece<'a>(piece: &'a [u8], words: &mut Vec<&'a [u8]>) -> Result<(), AllocError>
-    ensures { OnOk result (map (λ w. w.now) words.new.items ≡ map (λ w. w.now) words.old.items ++ filter is_word (piece.entry.now ∷ [])) }
-{
-    if !piece.is_empty() {
-        words.push(piece)?;
-    }
-    Ok(())
-}
-
-#[tactic(auto, using(crate::proofs::Pieces::words_last, crate::proofs::Pieces::words_more))]
-fn push_words<'a>(text: &'a [u8], words: &mut Vec<&'a [u8]>) -> Result<(), AllocError>
-    ensures { OnOk result (map (λ w. w.now) words.new.items ≡ map (λ w. w.now) words.old.items ++ words_of text.entry.now) }
-{
-    let mut rest = text;
-    'words: loop {
-        let n = word_len(rest);
-        push_piece(&rest[..n], words)?;
-        if n >= rest.len() {
-            return Ok(());
-        }
-        let (_, after) = rest.split_at(n + 1);
-        rest = after;
-    }
-}
-
-/// The first line, and what stands behind it.
-fn split_line(bytes: &[u8]) -> (&[u8], Option<&[u8]>)
-    ensures split { pieces_of (Some bytes.now) ≡ result.0.now ∷ pieces_of (option_map (λ b. b.now) result.1) }
-    ensures shorter { rest_len (option_map (λ b. b.now) result.1) ≤ length bytes.now }
-{
-    let n = line_len(bytes);
-    if n >= bytes.len() {
-        return (bytes, None);
-    }
-    let (_, after) = bytes.split_at(n + 1);
-    (&bytes[..n], Some(after))
-}
-
 /// The text of a line, and whether the next line is joined to it.
 fn code(line: &[u8]) -> (&[u8], bool)
     ensures text { result.0.now ≡ text_of (code_of line.now) }
     ensures joins { result.1 ≡ goes_on (code_of line.now) }
+    ensures within { length result.0.now ≤ length line.now }
 {
-    let code = without_blanks(without_comment(line));
+    let code = without_blanks(text_words::code(line));
     if ends_with_backslash(code) {
         (&code[..code.len() - 1], true)
     } else {
@@ -132,26 +47,129 @@ fn code(line: &[u8]) -> (&[u8], bool)
     }
 }
 
-#[tactic(auto, using(crate::proofs::Joins::joins_on, crate::proofs::Joins::joins_last, crate::proofs::Joins::joins_none, crate::proofs::Joins::begins))]
-pub(crate) fn next_line<'a>(alloc: Global, cursor: &mut Cursor<'a>) -> Result<Line<'a>, AllocError>
-    requires left { IsSome cursor.old.rest }
-    requires few { cursor.old.number + rest_len (left_of cursor.old) < 2 ^ 32 }
-    ensures line { IfOk result (λ l. joined cursor.old.number (pieces_of (left_of cursor.old)) ≡ line_of l ∷ joined cursor.new.number (pieces_of (left_of cursor.new))) }
-    ensures number { IfOk result (λ l. l.number ≡ cursor.old.number) }
-    ensures few { cursor.new.number + rest_len (left_of cursor.new) < 2 ^ 32 }
-    ensures less { IfOk result (λ _. rest_len (left_of cursor.new) < rest_len (left_of cursor.old)) }
+/// The shape of words and one word more.
+fn with_word<'a>(shape: Shape<'a>, word: &'a [u8]) -> Shape<'a>
+    requires { shape.count + 1 < 2 ^ 64 }
+    ensures { shape_in result ≡ with_word (shape_in shape.entry) word.entry.now }
 {
-    let number = cursor.number;
-    let mut words = Vec::new(alloc);
-    'lines: while let Some(bytes) = cursor.rest {
-        let (line, rest) = split_line(bytes);
-        cursor.rest = rest;
-        cursor.number += 1;
-        let (text, joins) = code(line);
-        push_words(text, &mut words)?;
+    Shape {
+        first: if shape.count == 0 { word } else { shape.first },
+        second: if shape.count == 1 { word } else { shape.second },
+        count: shape.count + 1,
+    }
+}
+
+/// The shape of words and those of a text.
+fn with_text<'a>(shape: Shape<'a>, text: &'a [u8]) -> Shape<'a>
+    requires small { length text.now < 2 ^ 32 }
+    requires few { shape.count + 2 ^ 32 < 2 ^ 64 }
+    ensures shape { shape_in result ≡ with_words (shape_in shape.entry) (words_of text.entry.now) }
+    ensures count { result.count ≤ shape.entry.count + 2 ^ 32 }
+{
+    let mut sum = shape;
+    for word in Words::of(text, 0) {
+        sum = with_word(sum, word.bytes);
+    }
+    sum
+}
+
+/// The shape of words and those of the lines that are joined to theirs.
+fn with_joined<'a>(shape: Shape<'a>, lines: &mut Lines<'a>) -> Shape<'a>
+    requires none { shape.count ≡ 0 }
+    requires lines { length (lines_left lines.old) < 2 ^ 32 }
+    ensures shape { shape_in result ≡ with_words (shape_in shape.entry) (first_words (joined (lines_left lines.old))) }
+    ensures behind { joined (lines_left lines.new) ≡ drop 1 (joined (lines_left lines.old)) }
+    ensures fewer { length (lines_left lines.new) ≤ length (lines_left lines.old) - 1 }
+{
+    let mut sum = shape;
+    'lines: while let Some(line) = lines.next() {
+        let (text, joins) = code(line.bytes);
+        sum = with_text(sum, text);
         if !joins {
-            return Ok(Line { number, words });
+            return sum;
         }
     }
-    Ok(Line { number, words })
+    sum
+}
+
+/// The line that lines begin with, where there is one. The lines go on behind it.
+pub(crate) fn next_line<'a>(lines: &mut Lines<'a>) -> Option<Line<'a>>
+    ensures { MatchOption result (lines_left lines.old ≡ []) (λ l. IsNext (lines_left lines.old) l (lines_left lines.new)) }
+{
+    let (number, text) = lines.rest()?;
+    let none = Shape {
+        first: &text[..0],
+        second: &text[..0],
+        count: 0,
+    };
+    let shape = with_joined(none, lines);
+    Some(Line {
+        number,
+        shape,
+        text,
+    })
+}
+
+/// The words that are left of a line and of those that are joined to it.
+#[derive(Drop)]
+pub(crate) struct JoinedWords<'a> {
+    words: Words<'a>,
+    joins: bool,
+    lines: Lines<'a>,
+}
+
+impl<'a> JoinedWords<'a> {
+    ghost use Rattle.blif_reader.specs.Text.{words_at};
+    ghost use Rattle.blif_reader.specs.Lines.{words_left};
+
+    /// No words.
+    pub(crate) fn none() -> JoinedWords<'a>
+        ensures { words_left result ≡ [] }
+    {
+        JoinedWords {
+            words: Words::of(b"".as_slice(), 0),
+            joins: false,
+            lines: Lines::of(b"".as_slice()),
+        }
+    }
+
+    /// The words of the line that a text begins with.
+    pub(crate) fn of(text: &'a [u8], number: u32) -> JoinedWords<'a>
+        requires { number + length text.now + 1 < 2 ^ 32 }
+        ensures { words_left result ≡ words_at number text.entry.now }
+    {
+        JoinedWords {
+            words: Words::of(&text[..0], 0),
+            joins: true,
+            lines: Lines::starting_at(text, number, 0),
+        }
+    }
+}
+
+impl<'a> Iterator for JoinedWords<'a> {
+    ghost use Rattle.std.specs.Iterator.{YieldsFirstBy, item_count};
+    ghost use Rattle.blif_reader.specs.Lines.{words_left};
+
+    type Item = &'a [u8];
+
+    ghost next_gives = { YieldsFirstBy (λ b. b.now) words_left };
+
+    ghost remaining = { item_count words_left };
+
+    fn next(&mut self) -> Option<&'a [u8]> {
+        'lines: loop {
+            if let Some(word) = self.words.next() {
+                return Some(word.bytes);
+            }
+            if !self.joins {
+                return None;
+            }
+            let Some(line) = self.lines.next() else {
+                return None;
+            };
+            let (text, joins) = code(line.bytes);
+            self.words = Words::of(text, 0);
+            self.joins = joins;
+        }
+    }
 }

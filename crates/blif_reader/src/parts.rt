@@ -1,16 +1,16 @@
 //! The words of a netlist by what they are for, in the order of the text.
 
-ghost use Rattle.std.specs.Prelude.{◌≡◌, ◌-◌, ◌+◌, ◌<◌, ◌≤◌, List, Bool, map, take, drop, length, IfOk, OnOk, ◌++◌};
-ghost use Rattle.std.specs.List.{list_any, flat_map};
+ghost use Rattle.std.specs.Prelude.{◌≡◌, ◌<◌, ◌≤◌, ◌∷◌, MatchOption, List, ℕ, map, take, drop, length};
 ghost use Rattle.blif_reader.specs.Statements.{statement_of};
-ghost use Rattle.blif_reader.specs.Parts.{input_words, output_words, block_output, block_words, read_words, part_words, part_of, uses_in, lists_inputs, on_each};
-ghost use Rattle.blif_reader.specs.Words.{texts, use_of};
+ghost use Rattle.blif_reader.specs.Parts.{part_words, uses_in};
+ghost use Rattle.blif_reader.specs.Lines.{words_left};
+ghost use Rattle.blif_reader.specs.Words.{use_of, uses_left};
 
 use crate::grammar::Kind;
+use crate::lines::JoinedWords;
 use crate::statement::Statement;
-use std::alloc::{AllocError, Global};
 
-/// What words are collected: inputs, outputs, the outputs of blocks, what is driven, what is used.
+/// What words are wanted: inputs, outputs, the outputs of blocks, what is driven, what is used.
 #[derive(Clone, Copy, Debug, PartialEq, Eq)]
 pub(crate) enum Part {
     Inputs,
@@ -27,84 +27,111 @@ pub(crate) struct Use<'a> {
     pub word: &'a [u8],
 }
 
-/// Adds so many words of a line, from a place on.
-pub(crate) fn push_uses<'a>(
-    line: u32,
-    words: &[&'a [u8]],
-    from: usize,
-    count: usize,
-    uses: &mut Vec<Use<'a>>,
-) -> Result<(), AllocError>
-    requires { from + count ≤ length words.now }
-    ensures { OnOk result (map use_of uses.new.items ≡ map use_of uses.old.items ++ on_each line (take count (drop from (texts words.now)))) }
-{
-    for place in 0..count {
-        let word = words[from + place];
-        uses.push(Use { line, word })?;
-    }
-    Ok(())
-}
-
-/// Adds the last word of a line.
-#[tactic(auto, using(crate::proofs::Windows::pushes_last))]
-fn push_last<'a>(line: u32, words: &[&'a [u8]], uses: &mut Vec<Use<'a>>) -> Result<(), AllocError>
-    requires { 0 < length words.now }
-    ensures { OnOk result (map use_of uses.new.items ≡ map use_of uses.old.items ++ on_each line (block_output (texts words.now))) }
-{
-    push_uses(line, words, words.len() - 1, 1, uses)?;
-    Ok(())
-}
-
-/// Adds what the words of a line say of one part.
-fn push_words<'a>(
+/// The words of one part that are left: of the line at hand so many, and those of the statements behind it.
+#[derive(Drop)]
+pub(crate) struct Uses<'a> {
     part: Part,
     line: u32,
-    kind: Kind,
-    words: &[&'a [u8]],
-    uses: &mut Vec<Use<'a>>,
-) -> Result<(), AllocError>
-    requires { 0 < length words.now }
-    ensures { OnOk result (map use_of uses.new.items ≡ map use_of uses.old.items ++ on_each line (part_words part kind (texts words.now))) }
+    words: JoinedWords<'a>,
+    left: usize,
+    behind: &'a [Statement<'a>],
+}
+
+/// From which word of a line on its words are of a part, and how many are.
+#[tactic(auto, using(crate::proofs::Windows::takes_last, crate::proofs::Windows::takes_rest))]
+fn window(part: Part, kind: Kind, count: usize) -> (usize, usize)
+    requires { 0 < count }
+    ensures { (words : List (List ℕ)) → length words ≡ count → take result.1 (drop result.0 words) ≡ part_words part kind words }
 {
-    let last = words.len() - 1;
     match (part, kind) {
         (Part::Inputs | Part::Drivers, Kind::Inputs)
-        | (Part::Outputs | Part::Uses, Kind::Outputs) => { push_uses(line, words, 1, last, uses) }
-        (Part::Blocks | Part::Drivers, Kind::Names) => push_last(line, words, uses),
-        (Part::Uses, Kind::Names) => push_uses(line, words, 1, last.saturating_sub(1), uses),
-        _ => Ok(()),
+        | (Part::Outputs | Part::Uses, Kind::Outputs) => (1, count - 1),
+        (Part::Blocks | Part::Drivers, Kind::Names) => (count - 1, 1),
+        (Part::Uses, Kind::Names) => (1, (count - 1).saturating_sub(1)),
+        _ => (0, 0),
     }
 }
 
-/// Adds what a line says of one part.
-fn push_part<'a>(
-    alloc: Global,
-    part: Part,
-    statement: &Statement<'a>,
-    uses: &mut Vec<Use<'a>>,
-) -> Result<(), AllocError>
-    ensures { OnOk result (map use_of uses.new.items ≡ map use_of uses.old.items ++ part_of part (statement_of statement.now)) }
+/// Passes so many words.
+fn skip(words: &mut JoinedWords<'_>, count: usize)
+    ensures { words_left words.new ≡ drop count (words_left words.old) }
 {
+    for _word in 0..count {
+        words.next();
+    }
+}
+
+/// The words of a part of one line, as words of which so many count.
+fn begin<'a>(part: Part, statement: &Statement<'a>) -> (JoinedWords<'a>, usize)
+    ensures { take result.1 (words_left result.0) ≡ part_words part statement.now.kind (statement_of statement.now).words }
+{
+    let mut words = statement.words();
     match statement.kind {
         Kind::Inputs | Kind::Outputs | Kind::Names => {
-            let words = statement.words(alloc)?;
-            push_words(part, statement.line, statement.kind, words.as_slice(), uses)
+            let (from, count) = window(part, statement.kind, statement.shape().count);
+            skip(&mut words, from);
+            (words, count)
         }
-        _ => Ok(()),
+        _ => (words, 0),
     }
 }
 
-/// One part of all statements.
-pub(crate) fn collect<'a>(
-    alloc: Global,
-    part: Part,
-    statements: &[Statement<'a>],
-) -> Result<Vec<Use<'a>>, AllocError>
-    ensures { IfOk result (λ v. map use_of v.items ≡ uses_in part (map statement_of statements.now)) }
-{
-    let mut uses = Vec::new(alloc);
-    for statement in statements {
-        push_part(alloc, part, statement, &mut uses)?;
+impl<'a> Uses<'a> {
+    /// The words of one part of all statements.
+    pub(crate) fn of(part: Part, statements: &'a [Statement<'a>]) -> Uses<'a>
+        ensures { uses_left result ≡ uses_in part (map statement_of statements.entry.now) }
+    {
+        Uses {
+            part,
+            line: 0,
+            words: JoinedWords::none(),
+            left: 0,
+            behind: statements,
+        }
     }
-    Ok(uses)
+
+    /// The next word of the line at hand.
+    fn next_here(&mut self) -> Option<&'a [u8]>
+        ensures here { MatchOption result
+            ((uses_left self.old ≡ uses_in self.old.part (map statement_of self.old.behind.now)) × (uses_left self.new ≡ uses_in self.old.part (map statement_of self.old.behind.now)))
+            (λ w. uses_left self.old ≡ record { line = self.old.line; word = w.now } ∷ uses_left self.new) }
+        ensures same { (self.new.part ≡ self.old.part) × (self.new.line ≡ self.old.line) × (self.new.behind ≡ self.old.behind) }
+    {
+        if self.left == 0 {
+            return None;
+        }
+        self.left -= 1;
+        self.words.next()
+    }
+}
+
+impl<'a> Iterator for Uses<'a> {
+    ghost use Rattle.std.specs.Iterator.{YieldsFirstBy, item_count};
+
+    type Item = Use<'a>;
+
+    ghost next_gives = { YieldsFirstBy use_of uses_left };
+
+    ghost remaining = { item_count uses_left };
+
+    fn next(&mut self) -> Option<Use<'a>> {
+        'lines: loop {
+            if let Some(word) = self.next_here() {
+                return Some(Use {
+                    line: self.line,
+                    word,
+                });
+            }
+            let statements = self.behind;
+            let (statement, behind) = statements.split_first()?;
+            let (words, left) = begin(self.part, statement);
+            *self = Uses {
+                part: self.part,
+                line: statement.line,
+                words,
+                left,
+                behind,
+            };
+        }
+    }
 }

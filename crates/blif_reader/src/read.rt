@@ -11,8 +11,7 @@ ghost use Rattle.blif_reader.specs.Answers.{Answers, net_of};
 
 use crate::fault::{BlifFault, BlifKind, Refusal};
 use crate::netlist::Netlist;
-use crate::parts::{Part, collect};
-use crate::soundness::test_soundness;
+use crate::soundness::{count_inputs, test_soundness};
 use crate::statement::Statement;
 use crate::statements::read_statements;
 use crate::tables::{Tables, make_tables};
@@ -50,9 +49,9 @@ fn build(alloc: Global, statements: &[Statement]) -> Result<Netlist, Refusal>
     requires follow { Follows Start (map statement_of statements.now) }
     ensures { Answers (Settles (netlist_of (map statement_of statements.now))) result }
 {
-    let inputs = collect(alloc, Part::Inputs, statements)?;
-    test_soundness(alloc, inputs.len(), statements)?;
-    let tables = make_tables(alloc, inputs.len() as u32, statements)?;
+    let inputs = count_inputs(statements);
+    test_soundness(alloc, inputs, statements)?;
+    let tables = make_tables(alloc, inputs as u32, statements)?;
     settle(alloc, tables)
 }
 

@@ -1,6 +1,6 @@
 //! Whether the words of a netlist are driven once each.
 
-ghost use Rattle.std.specs.Prelude.{◌≡◌, ◌<◌, List, map, length, ◌^◌};
+ghost use Rattle.std.specs.Prelude.{◌≡◌, ◌<◌, List, map, min, length};
 ghost use Rattle.std.specs.List.{list_any};
 ghost use Rattle.blif_reader.specs.declared.parts.Part.TheVariants.{Inputs};
 ghost use Rattle.blif_reader.specs.Statements.{Gives, statement_of};
@@ -10,7 +10,7 @@ ghost use Rattle.blif_reader.specs.Netlist.{driven_once, sound};
 use crate::fault::{BlifFault, BlifKind, Refusal};
 use crate::grammar::Kind;
 use crate::index::{line_again, line_missing, no_words};
-use crate::parts::{Part, collect};
+use crate::parts::{Part, Uses};
 use crate::statement::Statement;
 use std::alloc::Global;
 
@@ -34,16 +34,14 @@ fn any_inputs(statements: &[Statement]) -> bool
 fn drive(alloc: Global, statements: &[Statement]) -> Result<(), Refusal>
     ensures { Gives (λ _. map statement_of statements.now) result (driven_once (map statement_of statements.now)) }
 {
-    let drivers = collect(alloc, Part::Drivers, statements)?;
     let mut driven = no_words(alloc);
-    if let Some(line) = line_again(alloc, drivers.as_slice(), &mut driven)? {
+    if let Some(line) = line_again(alloc, Uses::of(Part::Drivers, statements), &mut driven)? {
         return Err(Refusal::Fault(BlifFault {
             line,
             kind: BlifKind::DrivenTwice,
         }));
     }
-    let uses = collect(alloc, Part::Uses, statements)?;
-    if let Some(line) = line_missing(uses.as_slice(), &driven) {
+    if let Some(line) = line_missing(Uses::of(Part::Uses, statements), &driven) {
         return Err(Refusal::Fault(BlifFault {
             line,
             kind: BlifKind::Undriven,
@@ -52,13 +50,27 @@ fn drive(alloc: Global, statements: &[Statement]) -> Result<(), Refusal>
     Ok(())
 }
 
+/// How many words are inputs; where there are more than a netlist may have, one more than it may.
+pub(crate) fn count_inputs(statements: &[Statement]) -> usize
+    ensures { result ≡ min (length (words_in Inputs (map statement_of statements.now))) 65536 }
+{
+    let mut count = 0;
+    for _one in Uses::of(Part::Inputs, statements) {
+        if count > MOST_INPUTS {
+            return count;
+        }
+        count += 1;
+    }
+    count
+}
+
 /// There are inputs, not too many, and words that are driven once each.
 pub(crate) fn test_soundness(
     alloc: Global,
     inputs: usize,
     statements: &[Statement],
 ) -> Result<(), Refusal>
-    requires { inputs ≡ length (words_in Inputs (map statement_of statements.now)) }
+    requires { inputs ≡ min (length (words_in Inputs (map statement_of statements.now))) 65536 }
     ensures { Gives (λ _. map statement_of statements.now) result (sound (map statement_of statements.now)) }
 {
     if !any_inputs(statements) {

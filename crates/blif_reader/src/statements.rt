@@ -1,32 +1,30 @@
 //! The lines of a netlist as statements, or the first line that is none.
 
 ghost use Rattle.std.specs.Prelude.{◌≡◌, ◌<◌, ◌≤◌, ◌+◌, ◌^◌, [], IfOk, map, length};
-ghost use Rattle.blif_reader.specs.Text.{lines_of, has_words, words_at};
-ghost use Rattle.blif_reader.specs.Cursor.{line_of};
+ghost use Rattle.text_words.specs.Left.{lines_left};
+ghost use Rattle.blif_reader.specs.Text.{lines_of};
+ghost use Rattle.blif_reader.specs.Lines.{line_of, IsShown};
 ghost use Rattle.blif_reader.specs.Statements.{Gives, Fails, statement_of, statement, after_statement, at_end, statements, parsed};
 
 use crate::fault::{BlifFault, BlifKind, Refusal};
 use crate::grammar::{Context, context_after, line_kind};
-use crate::lines::{Cursor, Line, next_line};
+use crate::line::Line;
+use crate::lines::next_line;
 use crate::statement::Statement;
 use std::alloc::Global;
+use text_words::Lines;
 
-/// The line of a text as a statement, behind what stands before it.
-fn read_line<'a>(
-    context: Context,
-    line: &Line<'a>,
-    text: &'a [u8],
-) -> Result<Statement<'a>, Refusal>
-    requires worded { 0 < length line.now.words.items }
-    requires same { words_at line.now.number text.now ≡ (line_of line.now).words }
-    requires small { line.now.number + length text.now + 1 < 2 ^ 32 }
+/// A line with words as a statement, behind what stands before it.
+fn read_line<'a>(context: Context, line: &Line<'a>) -> Result<Statement<'a>, Refusal>
+    requires worded { 0 < line.now.shape.count }
+    requires same { IsShown line.now }
     ensures { Gives statement_of result (statement context (line_of line.now)) }
 {
-    match line_kind(context, line.words.as_slice()) {
+    match line_kind(context, &line.shape) {
         Ok(kind) => Ok(Statement {
             line: line.number,
             kind,
-            text,
+            text: line.text,
         }),
         Err(kind) => Err(Refusal::Fault(BlifFault {
             line: line.number,
@@ -58,18 +56,14 @@ pub(crate) fn read_statements<'a>(
     ensures few { IfOk result (λ v. length v.items ≤ length bytes.entry.now + 1) }
 {
     let mut found = Vec::new(alloc);
-    let mut cursor = Cursor {
-        rest: Some(bytes),
-        number: 1,
-    };
+    let mut lines = Lines::of(bytes);
     let mut context = Context::Start;
-    'lines: while let Some(text) = cursor.rest {
-        let line = next_line(alloc, &mut cursor)?;
-        if line.words.is_empty() {
+    'lines: while let Some(line) = next_line(&mut lines) {
+        if line.shape.count == 0 {
             continue;
         }
-        let next = read_line(context, &line, text)?;
-        context = context_after(context, next.kind, line.words.len());
+        let next = read_line(context, &line)?;
+        context = context_after(context, next.kind, line.shape.count);
         found.push(next)?;
     }
     read_end(context)?;

@@ -12,7 +12,7 @@ ghost use Rattle.blif_reader.specs.Tables.{net_in};
 use crate::blocks::{covers, edges, numbers, push_names};
 use crate::cover::Cover;
 use crate::index::{Index, index_of};
-use crate::parts::{Part, collect};
+use crate::parts::{Part, Uses};
 use crate::statement::Statement;
 use std::alloc::{AllocError, Global};
 
@@ -33,10 +33,8 @@ fn names(alloc: Global, statements: &[Statement]) -> Result<Vec<Vec<u8>>, AllocE
     ensures { IfOk result (λ v. lists_of v.items ≡ names_of (map statement_of statements.now)) }
 {
     let mut names = Vec::new(alloc);
-    let inputs = collect(alloc, Part::Inputs, statements)?;
-    push_names(alloc, inputs.as_slice(), &mut names)?;
-    let blocks = collect(alloc, Part::Blocks, statements)?;
-    push_names(alloc, blocks.as_slice(), &mut names)?;
+    push_names(alloc, Uses::of(Part::Inputs, statements), &mut names)?;
+    push_names(alloc, Uses::of(Part::Blocks, statements), &mut names)?;
     Ok(names)
 }
 
@@ -56,8 +54,7 @@ pub(crate) fn make_tables(
     let index = index_of(alloc, names.as_slice())?;
     let edges = edges(alloc, &index, inputs as usize, statements)?;
     let covers = covers(alloc, statements)?;
-    let uses = collect(alloc, Part::Outputs, statements)?;
-    let outputs = numbers(alloc, &index, uses.as_slice())?;
+    let outputs = numbers(alloc, &index, Uses::of(Part::Outputs, statements))?;
     Ok(Tables {
         inputs,
         names,

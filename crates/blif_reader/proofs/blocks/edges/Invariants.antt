@@ -1,4 +1,4 @@
-use Rattle.std.proofs.Common.{◌≡◌, ◌++◌, [], map, take, replicate}
+use Rattle.std.proofs.Common.{◌≡◌, ◌++◌, [], map, drop, replicate}
 use Rattle.blif_reader.specs.Statements.{statement_of}
 use Rattle.blif_reader.specs.Netlist.{reads_of}
 use Rattle.blif_reader.specs.Views.{lists_of, number_in}
@@ -8,6 +8,6 @@ use Rattle.blif_reader.proofs.blocks.edges.Given as goal
 abbrev pub invariant-loop-input : goal.invariant-loop-input
 invariant-loop-input l = lists_of l.edges.items ≡ replicate l._input []
 
--- the blocks so far read their signals
-abbrev pub invariant-loop-statement : goal.invariant-loop-statement
-invariant-loop-statement l = lists_of l.edges.items ≡ replicate l.inputs [] ++ map (λ words. map (number_in l.index) words) (reads_of (map statement_of (take l.statement-index l.statements)))
+-- what the blocks so far read, and what those that are left read, is all
+abbrev pub invariant-loop-place : goal.invariant-loop-place
+invariant-loop-place l = lists_of l.edges.items ++ map (λ words. map (number_in l.index) words) (reads_of (map statement_of (drop l.place l.statements))) ≡ replicate l.inputs [] ++ map (λ words. map (number_in l.index) words) (reads_of (map statement_of l.statements))

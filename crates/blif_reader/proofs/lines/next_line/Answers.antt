@@ -1,11 +1,22 @@
-use Rattle.std.proofs.Common.{◌≡◌, ◌∙◌, false, sym, option_map}
-use Rattle.blif_reader.specs.Text.{goes_on, code_of}
-use Rattle.blif_reader.proofs.Joins.{joins_last}
+use Rattle.std.proofs.Common.{◌∷◌, ◌∙◌, ap, sym, arith}
+use Rattle.text_words.specs.Left.{lines_left}
+use Rattle.blif_reader.specs.Grammar.{shape_of}
+use Rattle.blif_reader.specs.Text.{words_at}
+use Rattle.blif_reader.proofs.Pieces.{lines_few, lines_some}
+use Rattle.blif_reader.proofs.Joins.{begins_with, shape_is}
 use Rattle.blif_reader.proofs.lines.next_line.Goals as goal
 
-pub returns-then-not-joins-clause-line : goal.returns-then-not-joins-clause-line
-returns-then-not-joins-clause-line c =
-    let apart : goes_on (code_of c.split_line.result.0.now) ≡ false = sym c.code-joins.ensures.joins ∙ c.if-not-joins.true in
-    let so_far = rw c.in-Some.is at c.lines.invariant.same in
-    joins_last _ c.lines.cursor.number _ _ c.in-Some.bytes.now c.split_line.result.0.now c.code-joins.result.0.now (option_map (λ b. b.now) c.split_line.result.1) _
-    c.split_line.ensures.split c.code-joins.ensures.text apart c.in_ok-push_words.ensures so_far
+pub with_joined-shape-requires-clause-lines : goal.with_joined-shape-requires-clause-lines
+with_joined-shape-requires-clause-lines c =
+    let rest = c.in_ok-number.ensures.rest in
+    omega (arith, lines_few c.in_ok-number.number c.in_ok-number.text.now (lines_left c.args.lines.now) rest, rest.few)
+
+pub returns : goal.returns
+returns c =
+    let rest = c.in_ok-number.ensures.rest in
+    let begins = begins_with (lines_left c.args.lines.now) c.in_ok-number.number c.in_ok-number.text.now rest in
+    record {
+      first = begins.0 ∙ ap (λ js. record { number = c.in_ok-number.number; words = words_at c.in_ok-number.number c.in_ok-number.text.now } ∷ js) (sym c.with_joined-shape.ensures.behind);
+      shown = c.with_joined-shape.ensures.shape ∙ shape_is _ ∙ ap shape_of begins.1;
+      fewer = omega (arith, lines_some c.in_ok-number.number c.in_ok-number.text.now (lines_left c.args.lines.now) rest, c.with_joined-shape.ensures.fewer);
+    }

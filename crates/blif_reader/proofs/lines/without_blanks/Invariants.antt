@@ -1,6 +1,6 @@
 use Rattle.std.proofs.Common.{◌≡◌, ◌+◌, ◌≤◌, take, length}
 use Rattle.std.specs.List.{suffix_len}
-use Rattle.blif_reader.specs.Text.{is_blank}
+use Rattle.text_words.specs.Text.{is_blank}
 use Rattle.blif_reader.proofs.lines.without_blanks.Given as goal
 
 -- the blanks at the end are those that were passed and those at the end of what is left

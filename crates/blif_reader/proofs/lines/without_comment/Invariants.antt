@@ -1,7 +1,0 @@
-use Rattle.std.proofs.Common.{◌≡◌, ℕ, ◌<◌, false, get_or}
-use Rattle.blif_reader.specs.Text.{is_hash}
-use Rattle.blif_reader.proofs.lines.without_comment.Given as goal
-
--- no byte so far is one
-abbrev pub invariant-loop-n : goal.invariant-loop-n
-invariant-loop-n l = (k : ℕ) → k < l.n → is_hash (get_or l.line k 0) ≡ false
