@@ -2,6 +2,7 @@ pub mod Pieces
 pub mod Joins
 pub mod Reading
 pub mod Windows
+pub mod Cells
 pub mod BlockReads
 pub mod Indexing
 pub mod Apart

@@ -1,5 +1,5 @@
 -- Rows have one character for each input of their block.
-use Rattle.std.proofs.Common.{◌≡◌, ⊎_elim, ℕ, zero, suc, ◌-◌, ◌<◌, ◌==◌, Bool, true, false, cond, ◌&&◌, List, [], ◌∷◌, ◌++◌, length, get_or, drop, map, filter, Option, Some, None, Result, Ok, Err, refl, sym, ap, subst, arith, length-drop}
+use Rattle.std.proofs.Common.{◌≡◌, ⊎_elim, ℕ, zero, suc, ◌+◌, ◌-◌, ◌<◌, ◌==◌, Bool, true, false, cond, ◌&&◌, List, [], ◌∷◌, ◌++◌, length, get_or, drop, map, filter, Option, Some, None, Result, Ok, Err, refl, sym, ap, subst, arith, length-drop}
 use Rattle.std.specs.List.{AllByRecursion, list_all}
 use Rattle.std.specs.Prelude.{codes}
 use Rattle.std.specs.Str.{bytes_eq}
@@ -14,7 +14,8 @@ use Rattle.blif_reader.specs.declared.grammar.Context.{Context}
 use Rattle.blif_reader.specs.declared.grammar.Context.TheVariants.{Start, Between, Block, Ended}
 use Rattle.blif_reader.specs.Text.{Line}
 use Rattle.blif_reader.specs.Grammar.{word_at, shape_of, is_cell, is_dotted, digit_of, keyword_of, row_value, row_beside, kind_of, after}
-use Rattle.blif_reader.specs.Statements.{Statement, ◌>>=◌, on_line, statements, after_statement, Follows}
+use Rattle.blif_reader.specs.declared.statement.Statement as declared
+use Rattle.blif_reader.specs.Statements.{statement_of, Statement, ◌>>=◌, on_line, statements, after_statement, Follows}
 use Rattle.blif_reader.specs.Parts.{block_inputs}
 use Rattle.blif_reader.specs.Netlist.{Cover, IsRow, cells_of, row_before, rows_behind, is_names, begins_block, block_cover, covers_of, reads_of}
 
@@ -126,3 +127,15 @@ covers_fit c (s ∷ ss) f k d lt = ⊎_elim
         let behind : Follows (Block (length s.words - 2) None) ss = subst (λ t. Follows (after c t (length s.words)) ss) (names_is s.kind e) f.1 in
         subst (λ n. AllByRecursion (IsRow n) (rows_behind ss)) (sym (inputs_len s.words)) (rows_fit (length s.words - 2) None ss behind)
     first (suc j) others e lt2 = others j (omega arith)
+
+-- the rows behind the line at a place, where it begins a block
+pub behind_fit : (c : Context) (ds : List declared.Statement) → Follows c (map statement_of ds) → (place : ℕ) (d : declared.Statement) → place < length ds → is_names (get_or ds place d).kind ≡ true
+    → AllByRecursion (IsRow (length (statement_of (get_or ds place d)).words - 2)) (rows_behind (map statement_of (drop (place + 1) ds)))
+behind_fit c [] f place d lt e = absurd (omega arith)
+behind_fit c (x ∷ ds) f zero d lt e =
+    let s : Statement = statement_of x in
+    let behind : Follows (Block (length s.words - 2) None) (map statement_of ds) = subst (λ t. Follows (after c t (length s.words)) (map statement_of ds)) (names_is s.kind e) f.1 in
+    rows_fit (length s.words - 2) None (map statement_of ds) behind
+behind_fit c (x ∷ ds) f (suc k) d lt e = subst (λ n. AllByRecursion (IsRow (length (statement_of (get_or ds k d)).words - 2)) (rows_behind (map statement_of (drop n (x ∷ ds))))) place (behind_fit (after_statement c (statement_of x)) ds f.1 k d (omega arith) e) where
+  place : suc (k + 1) ≡ suc k + 1
+  place = omega arith

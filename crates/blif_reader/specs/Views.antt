@@ -1,7 +1,8 @@
 -- What the parts of a netlist in memory stand for.
-use Rattle.std.specs.Prelude.{ℕ, List, map, Vec, unwrap_or}
+use Rattle.std.specs.Prelude.{ℕ, zero, suc, List, [], ◌∷◌, take, drop, map, Vec, unwrap_or}
 use Rattle.std.specs.declared.alloc.Global.{Global}
 use Rattle.blif_reader.specs.declared.cover.Cover as declared
+use Rattle.blif_reader.specs.declared.cover.Rows.{Rows}
 use Rattle.blif_reader.specs.Netlist.{Cover}
 use Rattle.blif_reader.specs.Index.{Index, found_in}
 
@@ -9,9 +10,18 @@ use Rattle.blif_reader.specs.Index.{Index, found_in}
 abbrev pub lists_of : List (Vec ℕ Global) → List (List ℕ)
 lists_of vs = map (λ v. v.items) vs
 
+-- so many rows of one width, whose characters stand end to end
+unfoldable pub rows_in : ℕ → ℕ → List ℕ → List (List ℕ)
+rows_in zero width cells = []
+rows_in (suc n) width cells = take width cells ∷ rows_in n width (drop width cells)
+
+-- rows in memory
+abbrev pub rows_of : Rows → List (List ℕ)
+rows_of r = rows_in r.count r.width r.cells.items
+
 -- a cover
 abbrev pub cover_of : declared.Cover → Cover
-cover_of c = record { line = c.line; value = c.value; rows = lists_of c.rows.items }
+cover_of c = record { line = c.line; value = c.value; rows = rows_of c.rows }
 
 -- the number of a word, or 0
 abbrev pub number_in : Index → List ℕ → ℕ

@@ -1,37 +1,47 @@
 //! What the statements say of blocks: their covers, and the signals that they read.
 
-ghost use Rattle.std.specs.Prelude.{◌≡◌, ◌+◌, ◌<◌, ◌++◌, ◌∷◌, [], List, map, length, drop, replicate, IfOk, OnOk};
-ghost use Rattle.blif_reader.specs.Statements.{statement_of};
-ghost use Rattle.blif_reader.specs.Netlist.{cells_of, rows_behind, value_behind, cover_before, covers_of, reads_of, is_names};
+ghost use Rattle.std.specs.Prelude.{◌≡◌, ◌-◌, true, ◌+◌, ◌<◌, ◌++◌, ◌∷◌, [], List, map, length, drop, replicate, IfOk, OnOk};
+ghost use Rattle.std.specs.List.{AllByRecursion};
+ghost use Rattle.blif_reader.specs.declared.grammar.Context.TheVariants.{Start};
+ghost use Rattle.blif_reader.specs.Statements.{statement_of, Follows};
+ghost use Rattle.blif_reader.specs.Netlist.{IsRow, rows_behind, value_behind, cover_before, covers_of, reads_of, is_names};
 ghost use Rattle.blif_reader.specs.Words.{words_of_uses};
-ghost use Rattle.blif_reader.specs.Views.{lists_of, cover_of, number_in};
+ghost use Rattle.blif_reader.specs.Views.{lists_of, rows_of, cover_of, number_in};
 
-use crate::cover::Cover;
+use crate::cover::{Cover, Rows};
 use crate::grammar::Kind;
 use crate::index::{Index, find};
 use crate::parts::{Part, Uses};
 use crate::statement::Statement;
 use std::alloc::{AllocError, Global};
 
-/// The characters of a row.
-fn cells(alloc: Global, statement: &Statement) -> Result<Vec<u8>, AllocError>
-    ensures { IfOk result (λ v. v.items ≡ cells_of (statement_of statement.now).words) }
+/// The rows at the front of some statements, which have so many characters each.
+fn rows(alloc: Global, width: usize, statements: &[Statement]) -> Result<Rows, AllocError>
+    requires { AllByRecursion (IsRow width) (rows_behind (map statement_of statements.now)) }
+    ensures { IfOk result (λ r. rows_of r ≡ rows_behind (map statement_of statements.now)) }
 {
-    Vec::from_slice(alloc, statement.cells())
-}
-
-/// The rows at the front of some statements.
-fn rows(alloc: Global, statements: &[Statement]) -> Result<Vec<Vec<u8>>, AllocError>
-    ensures { IfOk result (λ v. lists_of v.items ≡ rows_behind (map statement_of statements.now)) }
-{
-    let mut rows = Vec::new(alloc);
+    let mut count = 0;
+    let mut cells = Vec::new(alloc);
     for statement in statements {
         match statement.kind {
-            Kind::Row(_) => rows.push(cells(alloc, statement)?)?,
-            _ => return Ok(rows),
+            Kind::Row(_) => {
+                cells.extend_from_slice(statement.cells())?;
+                count += 1;
+            }
+            _ => {
+                return Ok(Rows {
+                    count,
+                    width,
+                    cells,
+                });
+            }
         }
     }
-    Ok(rows)
+    Ok(Rows {
+        count,
+        width,
+        cells,
+    })
 }
 
 /// The output of these rows.
@@ -61,10 +71,11 @@ fn push_cover(
     behind: &[Statement],
     covers: &mut Vec<Cover>,
 ) -> Result<(), AllocError>
+    requires { is_names statement.now.kind ≡ true → AllByRecursion (IsRow (length (statement_of statement.now).words - 2)) (rows_behind (map statement_of behind.now)) }
     ensures { OnOk result (map cover_of covers.new.items ≡ map cover_of covers.old.items ++ cover_before (statement_of statement.now) (map statement_of behind.now)) }
 {
     if names_block(statement.kind) {
-        let rows = rows(alloc, behind)?;
+        let rows = rows(alloc, statement.shape().count.saturating_sub(2), behind)?;
         covers.push(Cover {
             line: statement.line,
             value: value(behind),
@@ -76,6 +87,7 @@ fn push_cover(
 
 /// The covers of all blocks.
 pub(crate) fn covers(alloc: Global, statements: &[Statement]) -> Result<Vec<Cover>, AllocError>
+    requires { Follows Start (map statement_of statements.now) }
     ensures { IfOk result (λ v. map cover_of v.items ≡ covers_of (map statement_of statements.now)) }
 {
     let mut covers = Vec::new(alloc);

@@ -85,7 +85,7 @@ impl Netlist {
         requires { IsBlock (net_of self.now) signal }
         ensures { result ≡ length (cover_at (net_of self.now) signal).rows }
     {
-        self.cover(signal).rows.len() as u32
+        self.cover(signal).rows.count as u32
     }
 
     /// The characters of a row, one for each input of its block: `0`, `1` or `-`.
@@ -95,7 +95,7 @@ impl Netlist {
         ensures row { result.now ≡ slice_index_or (cover_at (net_of self.now) signal).rows row [] }
         ensures cells { IsRow (length (slice_index_or (net_of self.now).edges signal [])) result.now }
     {
-        self.cover(signal).rows[row as usize].as_slice()
+        self.cover(signal).rows.row(row as usize)
     }
 
     /// The output of a block's rows, and 1 where it has none.

@@ -1,8 +1,9 @@
 //! The tables of a netlist, made from its statements.
 
 ghost use Rattle.std.specs.Prelude.{◌≡◌, ℕ, ◌+◌, ◌<◌, ◌^◌, List, map, length, IfOk};
+ghost use Rattle.blif_reader.specs.declared.grammar.Context.TheVariants.{Start};
 ghost use Rattle.blif_reader.specs.declared.parts.Part.TheVariants.{Inputs};
-ghost use Rattle.blif_reader.specs.Statements.{statement_of};
+ghost use Rattle.blif_reader.specs.Statements.{statement_of, Follows};
 ghost use Rattle.blif_reader.specs.Parts.{words_in};
 ghost use Rattle.blif_reader.specs.Index.{found_in, place_of};
 ghost use Rattle.blif_reader.specs.Netlist.{names_of, net_of_text};
@@ -46,6 +47,7 @@ pub(crate) fn make_tables(
     statements: &[Statement],
 ) -> Result<Tables, AllocError>
     requires inputs { inputs ≡ length (words_in Inputs (map statement_of statements.now)) }
+    requires follow { Follows Start (map statement_of statements.now) }
     requires few { length (names_of (map statement_of statements.now)) < 2 ^ 32 }
     ensures net { IfOk result (λ t. net_in t ≡ net_of_text (map statement_of statements.now)) }
     ensures indexed { IfOk result (λ t. (q : List ℕ) → found_in t.index q ≡ place_of (lists_of t.names.items) q) }
