@@ -1,5 +1,5 @@
 -- Indexes by bytes, and the places of names.
-use Rattle.std.proofs.Common.{◌≡◌, ◌⊎◌, inl, inr, ⊎_elim, ℕ, ◌+◌, ◌<◌, Bool, true, false, cond, ◌||◌, List, [], ◌∷◌, ◌++◌, length, get_or, take, map, Option, Some, None, is_some, Vec, refl, sym, ap, ◌∙◌, subst, arith, append_assoc, add-zero, zero-add}
+use Rattle.std.proofs.Common.{◌≡◌, ◌⊎◌, inl, inr, ⊎_elim, ℕ, ◌+◌, ◌<◌, Bool, true, false, cond, ◌||◌, List, [], ◌∷◌, ◌++◌, length, get_or, drop, map, Option, Some, None, is_some, Vec, refl, sym, ap, ap₂, ◌∙◌, subst, append_assoc}
 use Rattle.std.specs.List.{position_from}
 use Rattle.std.specs.Str.{bytes_eq}
 use Rattle.std.specs.BTreeMap as tree
@@ -9,9 +9,9 @@ use Rattle.std.specs.Cmp.Lexicographic.{slice_cmp, bytes_decides, nat_list_eq_eq
 use Rattle.std.proofs.lemmas.Cmp.{eq_by_cmp_equiv, nat_list_cmp_total}
 use Rattle.std.proofs.lemmas.Map.Text.{is_eq-slice_cmp}
 use Rattle.std.specs.declared.alloc.Global.{Global}
-use Rattle.std.proofs.lemmas.List.{append-nil, map_push, take_more, length-map, length-take-le}
+use Rattle.std.proofs.lemmas.List.{append-nil, map_push, drop_more}
 use Rattle.std.proofs.lemmas.List.Folds.{list_any-append}
-use Rattle.blif_reader.specs.Index.{Index, found_in, place_of, Puts, PutsNew}
+use Rattle.blif_reader.specs.Index.{Index, found_in, Puts}
 use Rattle.blif_reader.specs.Parts.{Use, is_one, first_again}
 
 cases_bool : (b : Bool) → (b ≡ true) ⊎ (b ≡ false)
@@ -28,6 +28,11 @@ apart bs cs ks n y = nat_list_eq_equiv.symm cs ks ∙ sym (nat_list_eq_equiv.con
 apart_in_order : (bs cs ks : List ℕ) → bytes_eq bs cs ≡ false → is_eq (slice_cmp nat_cmp bs ks) ≡ true → is_eq (slice_cmp nat_cmp cs ks) ≡ false
 apart_in_order bs cs ks n y = is_eq-slice_cmp cs ks ∙ apart bs cs ks n (sym (is_eq-slice_cmp bs ks) ∙ y)
 
+-- what a word had
+pub had : (old : Index) (key : Vec ℕ Global) (word : List ℕ) (o : Option ℕ) → key.items ≡ word → o ≡ tree.get_by (λ (k : Vec ℕ Global). slice_cmp nat_cmp key.items k.items) old → o ≡ found_in old word
+unfolding found_in
+had old key word o e h = h ∙ ap (λ t. tree.get_by (λ (k : Vec ℕ Global). slice_cmp nat_cmp t k.items) old) e
+
 -- what an index has after a word was put
 pub puts_word : (old new : Index) (key : Vec ℕ Global) (word : List ℕ) (n : ℕ) → key.items ≡ word → tree.UpdatesBy (λ (x y : Vec ℕ Global). slice_cmp nat_cmp x.items y.items) (λ k. slice_cmp nat_cmp key.items k.items) old new (Some n) → Puts old new word n
 unfolding found_in
@@ -40,30 +45,11 @@ puts_word old new key word n e h q = ⊎_elim
     other_entries _ _ _ _ h.3 (λ k. is_eq (slice_cmp nat_cmp q k.items)) (λ x y. (eq_by_cmp_equiv nat_list_cmp_total).congr q x.items y.items) (λ k. apart_in_order key.items q k.items away) ∙ sym (ap (λ b. cond b (Some n) (found_in old q)) no))
     (cases_bool (bytes_eq word q))
 
--- the place of a word among names with one more
-position_push : (t : List ℕ → Bool) (i : ℕ) (names : List (List ℕ)) (x : List ℕ) → position_from t i (names ++ x ∷ []) ≡ cond (is_some (position_from t i names)) (position_from t i names) (cond (t x) (Some (i + length names)) None)
-position_push t i [] x = ap (λ n. cond (t x) (Some n) None) (sym (add-zero i))
-position_push t i (y ∷ ys) x = ⊎_elim
-    (λ (e : t y ≡ true). ap (λ b. cond b (Some i) (position_from t (i + 1) (ys ++ x ∷ []))) e ∙ sym (ap (λ b. cond (is_some (cond b (Some i) (position_from t (i + 1) ys))) (cond b (Some i) (position_from t (i + 1) ys)) (cond (t x) (Some (i + length (y ∷ ys))) None)) e))
-    (λ (e : t y ≡ false).
-    let n : i + 1 + length ys ≡ i + length (y ∷ ys) = omega arith in
-    ap (λ b. cond b (Some i) (position_from t (i + 1) (ys ++ x ∷ []))) e ∙ position_push t (i + 1) ys x ∙ ap (λ m. cond (is_some (position_from t (i + 1) ys)) (position_from t (i + 1) ys) (cond (t x) (Some m) None)) n
-    ∙ sym (ap (λ b. cond (is_some (cond b (Some i) (position_from t (i + 1) ys))) (cond b (Some i) (position_from t (i + 1) ys)) (cond (t x) (Some (i + length (y ∷ ys))) None)) e))
-    (cases_bool (t y))
-
--- one name more in an index
-pub places_more : (old new : Index) (names : List (Vec ℕ Global)) (place : ℕ) (d : Vec ℕ Global) (word : List ℕ) → place < length names → word ≡ (get_or names place d).items → PutsNew old new word place
-    → ((q : List ℕ) → found_in old q ≡ place_of (map (λ n. n.items) (take place names)) q) → (q : List ℕ) → found_in new q ≡ place_of (map (λ n. n.items) (take (place + 1) names)) q
-places_more old new names place d word lt read puts so_far q =
-    let ns : List (List ℕ) = map (λ (n : Vec ℕ Global). n.items) (take place names) in
-    let count : length ns ≡ place = length-map (take place names) _ ∙ length-take-le place names (omega arith) in
-    let split : map (λ (n : Vec ℕ Global). n.items) (take (place + 1) names) ≡ ns ++ word ∷ [] =
-    ap (map (λ (n : Vec ℕ Global). n.items)) (take_more names place d lt) ∙ map_push _ (take place names) (get_or names place d) ∙ ap (λ x. ns ++ x ∷ []) (sym read) in
-    puts q ∙ ap (λ o. cond (is_some o) o (cond (bytes_eq word q) (Some place) None)) (so_far q)
-    ∙ ap (λ b. cond (is_some (place_of ns q)) (place_of ns q) (cond b (Some place) None)) (nat_list_eq_equiv.symm word q)
-    ∙ ap (λ m. cond (is_some (place_of ns q)) (place_of ns q) (cond (bytes_eq q word) (Some m) None)) (sym count)
-    ∙ sym (position_push (bytes_eq q) 0 ns word ∙ ap (λ m. cond (is_some (place_of ns q)) (place_of ns q) (cond (bytes_eq q word) (Some m) None)) (zero-add (length ns)))
-    ∙ sym (ap (λ xs. place_of xs q) split)
+-- the name in front of those that an index has
+pub places_before : (old new : Index) (names : List (List ℕ)) (place : ℕ) → place < length names → Puts old new (get_or names place []) place
+    → ((q : List ℕ) → found_in old q ≡ position_from (bytes_eq q) (place + 1) (drop (place + 1) names)) → (q : List ℕ) → found_in new q ≡ position_from (bytes_eq q) place (drop place names)
+places_before old new names place lt puts so_far q =
+    puts q ∙ ap₂ (λ b o. cond b (Some place) o) (nat_list_eq_equiv.symm (get_or names place []) q) (so_far q) ∙ sym (ap (position_from (bytes_eq q) place) (drop_more names place [] lt))
 
 -- one word more in an index
 pub words_more : (old new : Index) (words : List (List ℕ)) (word : List ℕ) (n : ℕ) → Puts old new word n → ((q : List ℕ) → is_some (found_in old q) ≡ is_one words q) → (q : List ℕ) → is_some (found_in new q) ≡ is_one (words ++ word ∷ []) q

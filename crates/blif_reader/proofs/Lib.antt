@@ -3,6 +3,7 @@ pub mod Joins
 pub mod Reading
 pub mod Windows
 pub mod Cells
+pub mod WordEnds
 pub mod BlockReads
 pub mod Indexing
 pub mod Apart

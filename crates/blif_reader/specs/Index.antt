@@ -1,5 +1,5 @@
 -- Where words stand among the names of signals.
-use Rattle.std.specs.Prelude.{◌≡◌, ℕ, List, Option, Some, None, is_some, cond, Vec, unwrap_or, if◌then◌else◌}
+use Rattle.std.specs.Prelude.{◌≡◌, ℕ, List, Option, Some, cond, Vec, unwrap_or}
 use Rattle.std.specs.List.{position_from}
 use Rattle.std.specs.Str.{bytes_eq}
 use Rattle.std.specs.BTreeMap.{BTreeMap, get_by}
@@ -26,7 +26,3 @@ signal_of names word = unwrap_or (place_of names word) 0
 -- the index after a word has got a number
 abbrev pub Puts : Index → Index → List ℕ → ℕ → Type 0
 Puts old new word n = (q : List ℕ) → found_in new q ≡ cond (bytes_eq word q) (Some n) (found_in old q)
-
--- the same, unless the word has a number
-abbrev pub PutsNew : Index → Index → List ℕ → ℕ → Type 0
-PutsNew old new word n = (q : List ℕ) → found_in new q ≡ (if is_some (found_in old q) then found_in old q else (if bytes_eq word q then Some n else None))

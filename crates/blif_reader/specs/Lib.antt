@@ -5,6 +5,7 @@ pub mod Statements
 pub mod Parts
 pub mod Words
 pub mod Index
+pub mod Ends
 pub mod Netlist
 pub mod Views
 pub mod Tables

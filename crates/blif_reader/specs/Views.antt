@@ -3,12 +3,18 @@ use Rattle.std.specs.Prelude.{ℕ, zero, suc, List, [], ◌∷◌, take, drop, m
 use Rattle.std.specs.declared.alloc.Global.{Global}
 use Rattle.blif_reader.specs.declared.cover.Cover as declared
 use Rattle.blif_reader.specs.declared.cover.Rows.{Rows}
+use Rattle.blif_reader.specs.declared.names.Names.{Names}
+use Rattle.blif_reader.specs.Ends.{words_between}
 use Rattle.blif_reader.specs.Netlist.{Cover}
 use Rattle.blif_reader.specs.Index.{Index, found_in}
 
 -- lists of bytes in memory
 abbrev pub lists_of : List (Vec ℕ Global) → List (List ℕ)
 lists_of vs = map (λ v. v.items) vs
+
+-- names in memory
+abbrev pub names_in : Names → List (List ℕ)
+names_in n = words_between 0 n.ends.items n.bytes.items
 
 -- so many rows of one width, whose characters stand end to end
 unfoldable pub rows_in : ℕ → ℕ → List ℕ → List (List ℕ)

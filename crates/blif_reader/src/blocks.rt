@@ -4,13 +4,15 @@ ghost use Rattle.std.specs.Prelude.{◌≡◌, ◌-◌, true, ◌+◌, ◌<◌, 
 ghost use Rattle.std.specs.List.{AllByRecursion};
 ghost use Rattle.blif_reader.specs.declared.grammar.Context.TheVariants.{Start};
 ghost use Rattle.blif_reader.specs.Statements.{statement_of, Follows};
-ghost use Rattle.blif_reader.specs.Netlist.{IsRow, rows_behind, value_behind, cover_before, covers_of, reads_of, is_names};
+ghost use Rattle.blif_reader.specs.Netlist.{IsRow, names_of, rows_behind, value_behind, cover_before, covers_of, reads_of, is_names};
 ghost use Rattle.blif_reader.specs.Words.{words_of_uses};
-ghost use Rattle.blif_reader.specs.Views.{lists_of, rows_of, cover_of, number_in};
+ghost use Rattle.blif_reader.specs.Ends.{AreEnds, Holds, words_between};
+ghost use Rattle.blif_reader.specs.Views.{names_in, lists_of, rows_of, cover_of, number_in};
 
 use crate::cover::{Cover, Rows};
 use crate::grammar::Kind;
 use crate::index::{Index, find};
+use crate::names::Names;
 use crate::parts::{Part, Uses};
 use crate::statement::Statement;
 use std::alloc::{AllocError, Global};
@@ -144,16 +146,34 @@ pub(crate) fn edges(
     Ok(edges)
 }
 
-/// Adds the words of uses as names.
-pub(crate) fn push_names(
-    alloc: Global,
-    uses: Uses<'_>,
-    names: &mut Vec<Vec<u8>>,
-) -> Result<(), AllocError>
-    ensures { OnOk result (lists_of names.new.items ≡ lists_of names.old.items ++ words_of_uses uses.entry) }
+/// Adds a word to words that stand end to end.
+fn push_word(bytes: &mut Vec<u8>, ends: &mut Vec<usize>, word: &[u8]) -> Result<(), AllocError>
+    requires { AreEnds 0 ends.old.items (length bytes.old.items) }
+    ensures { OnOk result (Holds ends.new.items bytes.new.items (words_between 0 ends.old.items bytes.old.items ++ word.now ∷ [])) }
+{
+    bytes.extend_from_slice(word)?;
+    ends.push(bytes.len())?;
+    Ok(())
+}
+
+/// Adds the words of uses to words that stand end to end.
+fn push_words(uses: Uses<'_>, bytes: &mut Vec<u8>, ends: &mut Vec<usize>) -> Result<(), AllocError>
+    requires { AreEnds 0 ends.old.items (length bytes.old.items) }
+    ensures { OnOk result (Holds ends.new.items bytes.new.items (words_between 0 ends.old.items bytes.old.items ++ words_of_uses uses.entry)) }
 {
     for one in uses {
-        names.push(Vec::from_slice(alloc, one.word)?)?;
+        push_word(bytes, ends, one.word)?;
     }
     Ok(())
+}
+
+/// The names of the signals.
+pub(crate) fn names(alloc: Global, statements: &[Statement]) -> Result<Names, AllocError>
+    ensures { IfOk result (λ n. names_in n ≡ names_of (map statement_of statements.now)) }
+{
+    let mut bytes = Vec::new(alloc);
+    let mut ends = Vec::new(alloc);
+    push_words(Uses::of(Part::Inputs, statements), &mut bytes, &mut ends)?;
+    push_words(Uses::of(Part::Blocks, statements), &mut bytes, &mut ends)?;
+    Ok(Names { bytes, ends })
 }

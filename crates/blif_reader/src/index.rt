@@ -2,10 +2,12 @@
 //! the words.
 
 ghost use Rattle.std.specs.Prelude.{◌≡◌, ℕ, ◌<◌, ◌^◌, [], List, None, map, length, is_some, not, option_map, find as prelude_find, IfOk, OnOk};
-ghost use Rattle.blif_reader.specs.Index.{found_in, place_of, Puts, PutsNew};
+ghost use Rattle.blif_reader.specs.Index.{found_in, place_of, Puts};
 ghost use Rattle.blif_reader.specs.Parts.{first_again, is_one};
+ghost use Rattle.blif_reader.specs.Views.{names_in};
 ghost use Rattle.blif_reader.specs.Words.{uses_left};
 
+use crate::names::Names;
 use crate::parts::Uses;
 use std::alloc::{AllocError, Global};
 use std::collections::BTreeMap;
@@ -28,23 +30,18 @@ pub(crate) fn find(index: &Index, word: &[u8]) -> Option<u32>
     index.get(word).copied()
 }
 
-/// Gives a word a number.
-fn put(alloc: Global, index: &mut Index, word: &[u8], number: u32) -> Result<(), AllocError>
-    ensures { OnOk result (Puts index.old index.new word.now number) }
+/// Gives a word a number. The answer is the one that it had.
+fn put(
+    alloc: Global,
+    index: &mut Index,
+    word: &[u8],
+    number: u32,
+) -> Result<Option<u32>, AllocError>
+    ensures old { IfOk result (λ old. old ≡ found_in index.old word.now) }
+    ensures puts { OnOk result (Puts index.old index.new word.now number) }
 {
     let key = Vec::from_slice(alloc, word)?;
-    index.insert(key, number)?;
-    Ok(())
-}
-
-/// Gives a word a number, where it has none.
-fn put_new(alloc: Global, index: &mut Index, word: &[u8], number: u32) -> Result<(), AllocError>
-    ensures { OnOk result (PutsNew index.old index.new word.now number) }
-{
-    if find(index, word).is_none() {
-        put(alloc, index, word, number)?;
-    }
-    Ok(())
+    Ok(index.insert(key, number)?)
 }
 
 /// The line of the first use whose word was used before, where there is one. Otherwise the index then has these words.
@@ -58,10 +55,10 @@ pub(crate) fn line_again(
     ensures words { IfOk result (λ line. line ≡ None → (q : List ℕ) → is_some (found_in index.new q) ≡ is_one (map (λ u. u.word) (uses_left uses.entry)) q) }
 {
     for one in uses {
-        if find(index, one.word).is_some() {
+        let before = put(alloc, index, one.word, one.line)?;
+        if before.is_some() {
             return Ok(Some(one.line));
         }
-        put(alloc, index, one.word, one.line)?;
     }
     Ok(None)
 }
@@ -78,14 +75,16 @@ pub(crate) fn line_missing(uses: Uses<'_>, index: &Index) -> Option<u32>
     None
 }
 
-/// The places of names.
-pub(crate) fn index_of(alloc: Global, names: &[Vec<u8>]) -> Result<Index, AllocError>
-    requires { length names.now < 2 ^ 32 }
-    ensures { IfOk result (λ index. (q : List ℕ) → found_in index q ≡ place_of (map (λ n. n.items) names.now) q) }
+/// The places of names. The last is put first, so that the first of equal ones stays.
+pub(crate) fn index_of(alloc: Global, names: &Names) -> Result<Index, AllocError>
+    requires { length (names_in names.now) < 2 ^ 32 }
+    ensures { IfOk result (λ index. (q : List ℕ) → found_in index q ≡ place_of (names_in names.now) q) }
 {
     let mut index = no_words(alloc);
-    for (place, name) in names.iter().enumerate() {
-        put_new(alloc, &mut index, name.as_slice(), place as u32)?;
+    let mut place = names.len();
+    'names: while place > 0 {
+        place -= 1;
+        put(alloc, &mut index, names.at(place), place as u32)?;
     }
     Ok(index)
 }

@@ -9,6 +9,7 @@ mod grammar;
 mod index;
 mod line;
 mod lines;
+mod names;
 mod netlist;
 mod parts;
 mod read;

@@ -55,7 +55,7 @@ impl Netlist {
         ensures name { result.now ≡ slice_index_or (net_of self.now).names signal [] }
         ensures back { place_of (net_of self.now).names result.now ≡ Some signal }
     {
-        self.tables.names[signal as usize].as_slice()
+        self.tables.names.at(signal as usize)
     }
 
     /// The signals that are outputs.

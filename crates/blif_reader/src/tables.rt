@@ -7,12 +7,13 @@ ghost use Rattle.blif_reader.specs.Statements.{statement_of, Follows};
 ghost use Rattle.blif_reader.specs.Parts.{words_in};
 ghost use Rattle.blif_reader.specs.Index.{found_in, place_of};
 ghost use Rattle.blif_reader.specs.Netlist.{names_of, net_of_text};
-ghost use Rattle.blif_reader.specs.Views.{lists_of};
+ghost use Rattle.blif_reader.specs.Views.{names_in};
 ghost use Rattle.blif_reader.specs.Tables.{net_in};
 
-use crate::blocks::{covers, edges, numbers, push_names};
+use crate::blocks::{covers, edges, names, numbers};
 use crate::cover::Cover;
 use crate::index::{Index, index_of};
+use crate::names::Names;
 use crate::parts::{Part, Uses};
 use crate::statement::Statement;
 use std::alloc::{AllocError, Global};
@@ -22,21 +23,11 @@ use std::alloc::{AllocError, Global};
 #[derive(Drop)]
 pub(crate) struct Tables {
     pub inputs: u32,
-    pub names: Vec<Vec<u8>>,
+    pub names: Names,
     pub index: Index,
     pub edges: Vec<Vec<u32>>,
     pub covers: Vec<Cover>,
     pub outputs: Vec<u32>,
-}
-
-/// The names of the signals.
-fn names(alloc: Global, statements: &[Statement]) -> Result<Vec<Vec<u8>>, AllocError>
-    ensures { IfOk result (λ v. lists_of v.items ≡ names_of (map statement_of statements.now)) }
-{
-    let mut names = Vec::new(alloc);
-    push_names(alloc, Uses::of(Part::Inputs, statements), &mut names)?;
-    push_names(alloc, Uses::of(Part::Blocks, statements), &mut names)?;
-    Ok(names)
 }
 
 /// The tables of the statements.
@@ -50,10 +41,10 @@ pub(crate) fn make_tables(
     requires follow { Follows Start (map statement_of statements.now) }
     requires few { length (names_of (map statement_of statements.now)) < 2 ^ 32 }
     ensures net { IfOk result (λ t. net_in t ≡ net_of_text (map statement_of statements.now)) }
-    ensures indexed { IfOk result (λ t. (q : List ℕ) → found_in t.index q ≡ place_of (lists_of t.names.items) q) }
+    ensures indexed { IfOk result (λ t. (q : List ℕ) → found_in t.index q ≡ place_of (names_in t.names) q) }
 {
     let names = names(alloc, statements)?;
-    let index = index_of(alloc, names.as_slice())?;
+    let index = index_of(alloc, &names)?;
     let edges = edges(alloc, &index, inputs as usize, statements)?;
     let covers = covers(alloc, statements)?;
     let outputs = numbers(alloc, &index, Uses::of(Part::Outputs, statements))?;
