@@ -73,8 +73,11 @@ fn push_cover(
     behind: &[Statement],
     covers: &mut Vec<Cover>,
 ) -> Result<(), AllocError>
-    requires { is_names statement.now.kind ≡ true → AllByRecursion (IsRow (length (statement_of statement.now).words - 2)) (rows_behind (map statement_of behind.now)) }
-    ensures { OnOk result (map cover_of covers.new.items ≡ map cover_of covers.old.items ++ cover_before (statement_of statement.now) (map statement_of behind.now)) }
+    requires { is_names statement.now.kind ≡ true
+        → AllByRecursion (IsRow (length (statement_of statement.now).words - 2))
+        (rows_behind (map statement_of behind.now)) }
+    ensures { OnOk result (map cover_of covers.new.items
+        ≡ map cover_of covers.old.items ++ cover_before (statement_of statement.now) (map statement_of behind.now)) }
 {
     if names_block(statement.kind) {
         let rows = rows(alloc, statement.shape().count.saturating_sub(2), behind)?;
@@ -119,7 +122,9 @@ fn push_reads(
     edges: &mut Vec<Vec<u32>>,
 ) -> Result<(), AllocError>
     requires { length line.now ≡ 1 }
-    ensures { OnOk result (lists_of edges.new.items ≡ lists_of edges.old.items ++ map (λ words. map (number_in index.now) words) (reads_of (map statement_of line.now))) }
+    ensures { OnOk result (lists_of edges.new.items
+        ≡ lists_of edges.old.items
+        ++ map (λ words. map (number_in index.now) words) (reads_of (map statement_of line.now))) }
 {
     if names_block(line[0].kind) {
         edges.push(numbers(alloc, index, Uses::of(Part::Uses, line))?)?;
@@ -134,7 +139,9 @@ pub(crate) fn edges(
     inputs: usize,
     statements: &[Statement],
 ) -> Result<Vec<Vec<u32>>, AllocError>
-    ensures { IfOk result (λ v. lists_of v.items ≡ replicate inputs [] ++ map (λ words. map (number_in index.now) words) (reads_of (map statement_of statements.now))) }
+    ensures { IfOk result (λ v. lists_of v.items
+        ≡ replicate inputs []
+        ++ map (λ words. map (number_in index.now) words) (reads_of (map statement_of statements.now))) }
 {
     let mut edges = Vec::new(alloc);
     for _input in 0..inputs {
@@ -149,7 +156,8 @@ pub(crate) fn edges(
 /// Adds a word to words that stand end to end.
 fn push_word(bytes: &mut Vec<u8>, ends: &mut Vec<usize>, word: &[u8]) -> Result<(), AllocError>
     requires { AreEnds 0 ends.old.items (length bytes.old.items) }
-    ensures { OnOk result (Holds ends.new.items bytes.new.items (words_between 0 ends.old.items bytes.old.items ++ word.now ∷ [])) }
+    ensures { OnOk result (Holds ends.new.items bytes.new.items
+        (words_between 0 ends.old.items bytes.old.items ++ word.now ∷ [])) }
 {
     bytes.extend_from_slice(word)?;
     ends.push(bytes.len())?;
@@ -159,7 +167,8 @@ fn push_word(bytes: &mut Vec<u8>, ends: &mut Vec<usize>, word: &[u8]) -> Result<
 /// Adds the words of uses to words that stand end to end.
 fn push_words(uses: Uses<'_>, bytes: &mut Vec<u8>, ends: &mut Vec<usize>) -> Result<(), AllocError>
     requires { AreEnds 0 ends.old.items (length bytes.old.items) }
-    ensures { OnOk result (Holds ends.new.items bytes.new.items (words_between 0 ends.old.items bytes.old.items ++ words_of_uses uses.entry)) }
+    ensures { OnOk result (Holds ends.new.items bytes.new.items
+        (words_between 0 ends.old.items bytes.old.items ++ words_of_uses uses.entry)) }
 {
     for one in uses {
         push_word(bytes, ends, one.word)?;

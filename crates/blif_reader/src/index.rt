@@ -52,7 +52,8 @@ pub(crate) fn line_again(
 ) -> Result<Option<u32>, AllocError>
     requires { (q : List ℕ) → found_in index.old q ≡ None }
     ensures line { IfOk result (λ line. line ≡ first_again [] (uses_left uses.entry)) }
-    ensures words { IfOk result (λ line. line ≡ None → (q : List ℕ) → is_some (found_in index.new q) ≡ is_one (map (λ u. u.word) (uses_left uses.entry)) q) }
+    ensures words { IfOk result (λ line. line ≡ None → (q : List ℕ)
+        → is_some (found_in index.new q) ≡ is_one (map (λ u. u.word) (uses_left uses.entry)) q) }
 {
     for one in uses {
         let before = put(alloc, index, one.word, one.line)?;
@@ -65,7 +66,8 @@ pub(crate) fn line_again(
 
 /// The line of the first use whose word isn't in the index.
 pub(crate) fn line_missing(uses: Uses<'_>, index: &Index) -> Option<u32>
-    ensures { result ≡ option_map (λ u. u.line) (prelude_find (λ u. not (is_some (found_in index.now u.word))) (uses_left uses.entry)) }
+    ensures { result ≡ option_map (λ u. u.line)
+        (prelude_find (λ u. not (is_some (found_in index.now u.word))) (uses_left uses.entry)) }
 {
     for one in uses {
         if find(index, one.word).is_none() {

@@ -1,7 +1,6 @@
 //! The lines of a netlist, joined where a backslash joins them, and their words.
 
 ghost use Rattle.std.specs.Prelude.{◌≡◌, ℕ, ◌+◌, ◌-◌, ◌<◌, ◌≤◌, ◌^◌, ◌++◌, ◌∷◌, MatchOption, Some, List, [], length, take, drop, map};
-ghost use Rattle.text_words.specs.Text.{is_blank};
 ghost use Rattle.text_words.specs.Places.{IsRest};
 ghost use Rattle.text_words.specs.Left.{line_of, lines_left};
 ghost use Rattle.blif_reader.specs.Text.{code_of, trimmed, text_of, goes_on, words_of, joined, first_words};
@@ -9,13 +8,7 @@ ghost use Rattle.blif_reader.specs.Lines.{shape_in, with_word, with_words, IsNex
 
 use crate::grammar::Shape;
 use crate::line::Line;
-use text_words::{Lines, Words};
-
-fn is_blank_byte(b: u8) -> bool
-    ensures { result ≡ is_blank b }
-{
-    b == b' ' || b == b'\t' || b == b'\r'
-}
+use text_words::{Lines, Words, is_blank_byte};
 
 fn without_blanks(text: &[u8]) -> &[u8]
     ensures { result.now ≡ trimmed text.now }
@@ -77,7 +70,8 @@ fn with_text<'a>(shape: Shape<'a>, text: &'a [u8]) -> Shape<'a>
 fn with_joined<'a>(shape: Shape<'a>, lines: &mut Lines<'a>) -> Shape<'a>
     requires none { shape.count ≡ 0 }
     requires lines { length (lines_left lines.old) < 2 ^ 32 }
-    ensures shape { shape_in result ≡ with_words (shape_in shape.entry) (first_words (joined (lines_left lines.old))) }
+    ensures shape { shape_in result
+        ≡ with_words (shape_in shape.entry) (first_words (joined (lines_left lines.old))) }
     ensures behind { joined (lines_left lines.new) ≡ drop 1 (joined (lines_left lines.old)) }
     ensures fewer { length (lines_left lines.new) ≤ length (lines_left lines.old) - 1 }
 {
@@ -94,7 +88,8 @@ fn with_joined<'a>(shape: Shape<'a>, lines: &mut Lines<'a>) -> Shape<'a>
 
 /// The line that lines begin with, where there is one. The lines go on behind it.
 pub(crate) fn next_line<'a>(lines: &mut Lines<'a>) -> Option<Line<'a>>
-    ensures { MatchOption result (lines_left lines.old ≡ []) (λ l. IsNext (lines_left lines.old) l (lines_left lines.new)) }
+    ensures { MatchOption result (lines_left lines.old ≡ [])
+        (λ l. IsNext (lines_left lines.old) l (lines_left lines.new)) }
 {
     let (number, text) = lines.rest()?;
     let none = Shape {

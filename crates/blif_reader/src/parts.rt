@@ -41,7 +41,8 @@ pub(crate) struct Uses<'a> {
 #[tactic(auto, using(crate::proofs::Windows::takes_last, crate::proofs::Windows::takes_rest))]
 fn window(part: Part, kind: Kind, count: usize) -> (usize, usize)
     requires { 0 < count }
-    ensures { (words : List (List ℕ)) → length words ≡ count → take result.1 (drop result.0 words) ≡ part_words part kind words }
+    ensures { (words : List (List ℕ)) → length words ≡ count
+        → take result.1 (drop result.0 words) ≡ part_words part kind words }
 {
     match (part, kind) {
         (Part::Inputs | Part::Drivers, Kind::Inputs)
@@ -63,7 +64,8 @@ fn skip(words: &mut JoinedWords<'_>, count: usize)
 
 /// The words of a part of one line, as words of which so many count.
 fn begin<'a>(part: Part, statement: &Statement<'a>) -> (JoinedWords<'a>, usize)
-    ensures { take result.1 (words_left result.0) ≡ part_words part statement.now.kind (statement_of statement.now).words }
+    ensures { take result.1 (words_left result.0)
+        ≡ part_words part statement.now.kind (statement_of statement.now).words }
 {
     let mut words = statement.words();
     match statement.kind {
@@ -93,9 +95,11 @@ impl<'a> Uses<'a> {
     /// The next word of the line at hand.
     fn next_here(&mut self) -> Option<&'a [u8]>
         ensures here { MatchOption result
-            ((uses_left self.old ≡ uses_in self.old.part (map statement_of self.old.behind.now)) × (uses_left self.new ≡ uses_in self.old.part (map statement_of self.old.behind.now)))
+            ((uses_left self.old ≡ uses_in self.old.part (map statement_of self.old.behind.now))
+            × (uses_left self.new ≡ uses_in self.old.part (map statement_of self.old.behind.now)))
             (λ w. uses_left self.old ≡ record { line = self.old.line; word = w.now } ∷ uses_left self.new) }
-        ensures same { (self.new.part ≡ self.old.part) × (self.new.line ≡ self.old.line) × (self.new.behind ≡ self.old.behind) }
+        ensures same { (self.new.part ≡ self.old.part) × (self.new.line ≡ self.old.line)
+            × (self.new.behind ≡ self.old.behind) }
     {
         if self.left == 0 {
             return None;

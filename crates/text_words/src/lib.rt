@@ -7,7 +7,7 @@ mod search;
 mod words;
 
 pub use lines::{Line, Lines};
-pub use search::code;
+pub use search::{code, is_blank_byte};
 pub use words::{Word, Words};
 
 #[cfg(test)]

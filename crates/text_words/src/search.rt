@@ -37,7 +37,8 @@ pub fn code(line: &[u8]) -> &[u8]
     &line[..code_len(line)]
 }
 
-fn is_blank_byte(b: u8) -> bool
+/// Whether a byte separates words: a blank, a tab or a carriage return.
+pub fn is_blank_byte(b: u8) -> bool
     ensures { result ≡ is_blank b }
 {
     b == b' ' || b == b'\t' || b == b'\r'
