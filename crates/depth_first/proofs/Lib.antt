@@ -6,3 +6,4 @@ pub mod Steps
 pub mod Roots
 pub mod Searches
 pub mod Descents
+pub mod Walks

@@ -5,6 +5,7 @@ use Rattle.std.proofs.lemmas.Bool.{cond_both, cases_eq, cases_Bool, ltb-true, an
 use Rattle.std.proofs.lemmas.List.{append-nil, length-set, length-replicate, map-append, get_or-map, length-map, get_or-set_same, get_or-set_other}
 use Rattle.depth_first.specs.Graph.{edges_of, has, visits, IsTopological}
 use Rattle.depth_first.proofs.Frames.{has_other, has_at}
+use Rattle.depth_first.proofs.Walks.{visits_above, visits_inside}
 use Rattle.blif_reader.specs.Netlist.{Net, IsNet, cover_at}
 use Rattle.bool_tables.specs.declared.steps.Step.{Step}
 use Rattle.bool_tables.specs.declared.steps.Step.TheVariants.{Var, Drop}
@@ -192,6 +193,9 @@ plan_goes_on net levels wanted first order sound each same above inside exist n 
     let joined : steps_of (before ++ planned) ≡ base ++ (ps ++ drops) = map-append (λ (s : Planned). s.step) before planned ∙ ap (λ ss. base ++ ss) steps in
     record {
       in_order = may_from n text before planned (ap (all_follow n text base) steps ∙ ends.0.ok) names;
+      new = λ i b.
+          let late : length base ≤ get_or made (get_or wanted i 0) 0 = planning.late (get_or wanted i 0) (seen i (place i b)) in
+          subst (λ k. length before ≤ k) (sym (at i (place i b))) (omega (arith, late, length-map before (λ (s : Planned). s.step)));
       live = λ i b.
           let within = place i b in
           live_is (before ++ planned) (get_or (map (λ s. get_or made s 0) wanted) i 0) ∙ ap (λ ss. live ss (get_or (map (λ s. get_or made s 0) wanted) i 0)) joined ∙ ap (live (base ++ (ps ++ drops))) (at i within)
@@ -203,3 +207,15 @@ plan_goes_on net levels wanted first order sound each same above inside exist n 
           live_is (before ++ planned) k ∙ ap (λ ss. live ss k) joined
           ∙ (drops_keep n text base below first size2 net levels (each_passes (λ level. nat_lt level n) levels few) each made wanted k (live_inside base k before_live) visited ps planning.late (planning.early k before_live)).ok;
     }
+
+-- so do those of any netlist
+pub steps_go_on : (net : Net) (levels wanted : List ℕ) (first : ℕ) → IsNet net → length levels ≡ net.inputs → ((i : ℕ) → i < length wanted → get_or wanted i 0 < length net.names)
+    → StaysWellFormed levels wanted first (plan_steps net levels wanted first) (plan_made net levels wanted first)
+steps_go_on net levels wanted first sound each exist =
+    let signals : length net.edges ≡ length net.names = sound.tables.signals in
+    let few : length net.names < 4294967294 = sound.tables.few in
+    let small : length net.edges < 4294967294 = omega (arith, signals, few) in
+    let roots : (i : ℕ) → i < length wanted → get_or wanted i 0 < length net.edges = λ i b. subst (λ m. get_or wanted i 0 < m) (sym signals) (exist i b) in
+    let graph = sound.tables.graph in
+    plan_goes_on net levels wanted first (visits net.edges wanted) sound each refl (visits_above net.edges graph sound.acyclic small wanted roots)
+    (λ k b. subst (λ m. get_or (visits net.edges wanted) k 0 < m) signals (visits_inside net.edges graph sound.acyclic small wanted roots k b)) exist

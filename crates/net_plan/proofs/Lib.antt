@@ -6,7 +6,7 @@ mod Unique
 mod Existence
 mod Visits
 mod Meanings
-mod Follows
+pub mod Follows
 mod Lives
 mod Distinct
-mod GoingOn
+pub mod GoingOn

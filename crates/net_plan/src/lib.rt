@@ -8,5 +8,5 @@ mod plan;
 mod planner;
 
 pub use fault::PlanFault;
-pub use laws::{values_are_unique, values_exist};
+pub use laws::{steps_go_on, values_are_unique, values_exist};
 pub use plan::{NetPlan, plan_signals};
