@@ -17,7 +17,7 @@ const REFUSED: [(&str, u32, ScriptKind); 9] = [
 ];
 
 fn refuses_built(alloc: Global, text: &str, line: u32, kind: ScriptKind) -> bool {
-    is_fault(read_script(alloc, text.as_bytes()), line, kind)
+    is_fault(read_script(alloc, text.as_bytes(), None), line, kind)
 }
 
 #[test]
@@ -29,7 +29,7 @@ fn refuses_what_is_not_built(rt: HostRuntime) {
 
 /// Whether a script of the words that are built has so many variables, steps and said lines.
 fn counts(alloc: Global, text: &str, n: u32, steps: usize, lines: usize) -> bool {
-    match read_script(alloc, text.as_bytes()) {
+    match read_script(alloc, text.as_bytes(), None) {
         Ok(plan) => plan.n == n
             && plan.steps.items().len() == steps
             && plan.lines.items().len() == lines,
@@ -47,11 +47,11 @@ fn reads_what_is_built(rt: HostRuntime) {
 fn refuses_unknown(alloc: Global) -> bool {
     let other = [b"add".as_slice()];
     is_fault(
-        read_script_with(alloc, b"\nadd f g h".as_slice(), other.as_slice()),
+        read_script_with(alloc, b"\nadd f g h".as_slice(), other.as_slice(), None),
         2,
         ScriptKind::Word,
     ) && is_fault(
-        read_script_with(alloc, b"\nvars a".as_slice(), &[]),
+        read_script_with(alloc, b"\nvars a".as_slice(), &[], None),
         2,
         ScriptKind::Word,
     )

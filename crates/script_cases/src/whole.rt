@@ -28,7 +28,7 @@ pub(crate) fn read_whole(alloc: Global, bytes: &[u8]) -> Result<Plan, ScriptFaul
         b"eval".as_slice(),
         b"size".as_slice(),
     ];
-    read_script_with(alloc, bytes, known.as_slice())
+    read_script_with(alloc, bytes, known.as_slice(), None)
 }
 
 /// Whether an answer is a fault of this line and this kind.

@@ -1,6 +1,6 @@
 -- Lines that begin with the words that are built have the steps of these alone.
 use Rattle.std.proofs.Common.{◌≡◌, ℕ, ◌+◌, Bool, true, false, List, [], ◌∷◌, ◌++◌, length, drop, refl, sym, subst}
-use Rattle.std.specs.Prelude.{IsTrue, IfOk, Result, Ok, Err, nat_le, if◌then◌else◌}
+use Rattle.std.specs.Prelude.{IsTrue, IfOk, None, Result, Ok, Err, nat_le, if◌then◌else◌}
 use Rattle.std.specs.List.{AllByRecursion}
 use Rattle.std.specs.Str.{bytes_eq}
 use Rattle.std.proofs.lemmas.Bool.{and_from, and_parts}
@@ -19,6 +19,7 @@ use Rattle.script_reader.specs.Results.{check}
 use Rattle.script_reader.specs.Keywords.{word_at, texts_of, is_known, built_words, spelled, or_word, keyword_of, is_formed, gives_name}
 use Rattle.script_reader.specs.Names.{State, nothing, all_differ, live, level_of}
 use Rattle.script_reader.specs.Requests.{step_of, name_fits, has_room, planned_of, with_named, name_behind, plan_step}
+use Rattle.script_reader.specs.Nets.{signals_named}
 use Rattle.script_reader.specs.Script.{plan_request, begin, keyword_in, plan_line, read}
 use Rattle.script_reader.specs.Views.{AnswersRead}
 use Rattle.script_reader.specs.Built.{is_built, are_built}
@@ -168,7 +169,7 @@ one_step_built s t number k words h built e =
         (subst (λ (steps : List Planned). are_built steps ≡ true) (sym (steps_stay s k words made of_built)) h)
         (subst (λ (m : Step). is_built m ≡ true) (sym (planned_step k words made)) of_built)
 
-request_built : (s t : State) (number : ℕ) (k : Keyword) (words : List Word) → HasBuilt s → is_of_built k ≡ true → plan_request s number k words ≡ Ok t → HasBuilt t
+request_built : (s t : State) (number : ℕ) (k : Keyword) (words : List Word) → HasBuilt s → is_of_built k ≡ true → plan_request None s number k words ≡ Ok t → HasBuilt t
 request_built s t number Vars words h built e =
     then_ok (check kind.Variable (all_differ (texts_of (drop 1 words)))) _ t e (λ u differ rest.
     then_ok (check kind.TooManyVariables (nat_le (length words) 65536)) _ t rest (λ v few last.
@@ -181,27 +182,27 @@ request_built s t number (Pair op) words h built e = absurd cc
 request_built s t number Ite words h built e = absurd cc
 request_built s t number (Quantify q) words h built e = absurd cc
 request_built s t number Restrict words h built e = absurd cc
-request_built s t number Net words h built e = absurd cc
+request_built s t number Net words h built e = then_ok (signals_named words) _ t e (λ signals named rest. absurd cc)
 request_built s t number Drop words h built e = one_step_built s t number Drop words h built e
 request_built s t number Same words h built e = absurd cc
 request_built s t number Leq words h built e = absurd cc
 request_built s t number Eval words h built e = absurd cc
 request_built s t number Size words h built e = one_step_built s t number Size words h built e
 
-line_built : (s t : State) (number : ℕ) (words : List Word) → HasBuilt s → plan_line built_words s number words ≡ Ok t → HasBuilt t
+line_built : (s t : State) (number : ℕ) (words : List Word) → HasBuilt s → plan_line built_words None s number words ≡ Ok t → HasBuilt t
 line_built s t number [] h e = subst HasBuilt (same_ok _ _ e) h
 line_built s t number (w ∷ ws) h e =
     then_ok (keyword_in built_words s (w ∷ ws)) _ t e (λ k is rest.
     request_built (begin s) t number k (w ∷ ws) h (line_is_built s (w ∷ ws) k is) rest)
 
 -- so do all steps of a plan
-pub plan_is_built : (text : List ℕ) (plan : Plan) → read built_words text ≡ Ok plan → are_built plan.steps ≡ true
+pub plan_is_built : (text : List ℕ) (plan : Plan) → read built_words None text ≡ Ok plan → are_built plan.steps ≡ true
 plan_is_built text plan e =
-    planned_by (λ (p : Plan). are_built p.steps ≡ true) built_words text plan e (λ short s is.
-    lines_keep HasBuilt (WordsStand text) built_words (λ a b line h stand. line_built a b line.number (words_in line) h)
+    planned_by (λ (p : Plan). are_built p.steps ≡ true) built_words None text plan e (λ short s is.
+    lines_keep HasBuilt (WordsStand text) built_words None (λ a b line h stand. line_built a b line.number (words_in line) h)
     nothing s (lines_of text) refl (words_stand text) is)
 
 -- and of a plan that is the answer
-pub answer_is_built : (text : List ℕ) (answer : Result Plan ScriptFault) → AnswersRead answer (read built_words text) → IfOk answer (λ (plan : Plan). IsTrue (are_built plan.steps))
+pub answer_is_built : (text : List ℕ) (answer : Result Plan ScriptFault) → AnswersRead answer (read built_words None text) → IfOk answer (λ (plan : Plan). IsTrue (are_built plan.steps))
 answer_is_built text (Ok plan) is = plan_is_built text plan is
 answer_is_built text (Err fault) is = tt

@@ -1,7 +1,8 @@
 -- How many words a line has that is formed as its keyword asks.
-use Rattle.std.specs.Prelude.{◌≢◌, ◌≡◌, ℕ, ◌≤◌, not, is_some, Result, Ok, Err, if◌then◌else◌, Bool, true, false, IsTrue, List, length}
+use Rattle.std.specs.Prelude.{◌≢◌, ◌≡◌, ℕ, ◌≤◌, not, is_some, Option, Result, Ok, Err, if◌then◌else◌, Bool, true, false, IsTrue, List, length}
 use Rattle.std.proofs.Common.{arith, refl, sym, ap, subst, ◌∙◌}
 use Rattle.std.proofs.lemmas.Bool.{leb-true}
+use Rattle.blif_reader.specs.Netlist as blif
 use Rattle.text_words.specs.Text.{Word}
 use Rattle.script_reader.specs.declared.keyword.Keyword.{Keyword}
 use Rattle.script_reader.specs.declared.keyword.Keyword.TheVariants.{Vars, Inputs, Const, Var, Not, Pair, Ite, Quantify, Restrict, Net, Drop, Same, Leq, Eval, Size}
@@ -60,23 +61,23 @@ wants_two Eval vars inputs = omega arith
 wants_two Size vars inputs = omega arith
 
 -- and is one step, unless it asks for signals
-pub is_one_step : (s : State) (number : ℕ) (k : Keyword) (words : List Word) → k ≢ Vars → k ≢ Inputs → k ≢ Net
-    → plan_request s number k words ≡ plan_step s number k words
-is_one_step s number Vars words vars inputs net = absurd (vars refl)
-is_one_step s number Inputs words vars inputs net = absurd (inputs refl)
-is_one_step s number Const words vars inputs net = refl
-is_one_step s number Var words vars inputs net = refl
-is_one_step s number Not words vars inputs net = refl
-is_one_step s number (Pair op) words vars inputs net = refl
-is_one_step s number Ite words vars inputs net = refl
-is_one_step s number (Quantify kind) words vars inputs net = refl
-is_one_step s number Restrict words vars inputs net = refl
-is_one_step s number Net words vars inputs net = absurd (net refl)
-is_one_step s number Drop words vars inputs net = refl
-is_one_step s number Same words vars inputs net = refl
-is_one_step s number Leq words vars inputs net = refl
-is_one_step s number Eval words vars inputs net = refl
-is_one_step s number Size words vars inputs net = refl
+pub is_one_step : (netlist : Option blif.Net) (s : State) (number : ℕ) (k : Keyword) (words : List Word) → k ≢ Vars → k ≢ Inputs → k ≢ Net
+    → plan_request netlist s number k words ≡ plan_step s number k words
+is_one_step netlist s number Vars words vars inputs net = absurd (vars refl)
+is_one_step netlist s number Inputs words vars inputs net = absurd (inputs refl)
+is_one_step netlist s number Const words vars inputs net = refl
+is_one_step netlist s number Var words vars inputs net = refl
+is_one_step netlist s number Not words vars inputs net = refl
+is_one_step netlist s number (Pair op) words vars inputs net = refl
+is_one_step netlist s number Ite words vars inputs net = refl
+is_one_step netlist s number (Quantify kind) words vars inputs net = refl
+is_one_step netlist s number Restrict words vars inputs net = refl
+is_one_step netlist s number Net words vars inputs net = absurd (net refl)
+is_one_step netlist s number Drop words vars inputs net = refl
+is_one_step netlist s number Same words vars inputs net = refl
+is_one_step netlist s number Leq words vars inputs net = refl
+is_one_step netlist s number Eval words vars inputs net = refl
+is_one_step netlist s number Size words vars inputs net = refl
 
 -- a keyword of a line has the words that it wants
 pub has_wanted : (known : List (List ℕ)) (s : State) (words : List Word) (k : Keyword) → 1 ≤ length words → keyword_in known s words ≡ Ok k → wanted k ≤ length words

@@ -1,6 +1,7 @@
 -- What each line of a script keeps: the steps so far are well formed, and the said lines go with them.
 use Rattle.std.proofs.Common.{◌≡◌, ℕ, suc, ◌+◌, ◌<◌, ◌≤◌, Bool, true, false, List, [], ◌∷◌, ◌++◌, length, drop, Option, Some, None, refl, sym, ap, subst, ◌∙◌, append_assoc, arith, inl, inr}
-use Rattle.std.specs.Prelude.{Ok, ◌&&◌, nat_le, nat_lt, if◌then◌else◌}
+use Rattle.blif_reader.specs.Netlist as blif
+use Rattle.std.specs.Prelude.{Ok, not, IfSome, ◌&&◌, nat_le, nat_lt, if◌then◌else◌}
 use Rattle.std.specs.List.{AllByRecursion, list_all}
 use Rattle.std.specs.Str.{bytes_eq}
 use Rattle.std.specs.Map.{update}
@@ -23,76 +24,16 @@ use Rattle.script_reader.specs.declared.planning.Named.{Named}
 use Rattle.script_reader.specs.Lines.{rise_from, shows_past, AreLines}
 use Rattle.script_reader.specs.Results.{check}
 use Rattle.script_reader.specs.Keywords.{word_at, texts_of, keyword_of, is_formed, gives_name}
-use Rattle.script_reader.specs.Names.{State, nothing, place_of, all_differ, level_or}
+use Rattle.script_reader.specs.Names.{State, nothing, place_of, all_differ, level_or, with_variables}
 use Rattle.script_reader.specs.Requests.{step_of, name_fits, has_room, planned_of, with_named, name_behind, with_planned, with_step, plan_step}
-use Rattle.script_reader.specs.Script.{with_variables, plan_vars, plan_request, begin, keyword_in, plan_line, read}
+use Rattle.script_reader.specs.Nets.{plan_inputs, inputs_of}
+use Rattle.script_reader.specs.Script.{plan_vars, plan_request, begin, keyword_in, plan_line, read}
 use Rattle.script_reader.proofs.Behind.{lines_keep, planned_by}
 use Rattle.script_reader.proofs.Formed.{fits_short}
+use Rattle.script_reader.proofs.Stands.{Stands, nothing_stands, follow_more, lines_more}
+use Rattle.script_reader.proofs.NetLines.{net_stands, inputs_length}
 use Rattle.script_reader.proofs.NamedSteps.{NamesLive, none_live, names_stay, name_more, name_dropped}
 use Rattle.script_reader.proofs.MadeSteps.{then_ok, passed, same_ok, word_stands, Allows, Follows, step_follows}
-
--- steps that may follow each other, and one more
-follow_more : (n : ℕ) (text : List ℕ) (before steps : List Planned) (s : Planned) → all_may_follow n text before steps ≡ true → may_follow n text (before ++ steps) s ≡ true → all_may_follow n text before (steps ++ s ∷ []) ≡ true
-follow_more n text before [] s h m = and_from _ _ (subst (λ b. may_follow n text b s ≡ true) (append-nil before) m) refl
-follow_more n text before (first ∷ steps) s h m =
-    let p = and_parts (may_follow n text before first) (all_may_follow n text (before ++ first ∷ []) steps) h in
-    and_from _ _ p.0 (follow_more n text (before ++ first ∷ []) steps s p.1 (subst (λ b. may_follow n text b s ≡ true) (sym (append_assoc before (first ∷ []) steps)) m))
-
--- lines in order, and one that isn't before them
-rise_more : (from count : ℕ) (lines : List LineEnd) (l : LineEnd) → rise_from from lines ≡ true → list_all (shows_past count) lines ≡ true → from ≤ l.last → count ≤ l.last → rise_from from (lines ++ l ∷ []) ≡ true
-rise_more from count [] l rise shows first behind = and_from _ _ (le-leb _ _ first) refl
-rise_more from count (x ∷ lines) l rise shows first behind =
-    let p = and_parts (nat_le from x.last) (rise_from x.last lines) rise in
-    let q = and_parts (shows_past count x) (list_all (shows_past count) lines) shows in
-    let last : x.last < count = ltb-true _ _ (and_parts (nat_le x.shows x.last) (nat_lt x.last count) q.0).1 in
-    and_from _ _ p.0 (rise_more x.last count lines l p.1 q.1 (omega (arith, last, behind)) behind)
-
--- lines of some steps are lines of more, with one more
-shows_more : (count more : ℕ) (lines : List LineEnd) (l : LineEnd) → list_all (shows_past count) lines ≡ true → count ≤ more → shows_past more l ≡ true → list_all (shows_past more) (lines ++ l ∷ []) ≡ true
-shows_more count more [] l shows up here = and_from _ _ here refl
-shows_more count more (x ∷ lines) l shows up here =
-    let q = and_parts (shows_past count x) (list_all (shows_past count) lines) shows in
-    let p = and_parts (nat_le x.shows x.last) (nat_lt x.last count) q.0 in
-    let last : x.last < count = ltb-true _ _ p.1 in
-    and_from _ _ (and_from _ _ p.0 (lt-ltb _ _ (omega (arith, last, up)))) (shows_more count more lines l q.1 up here)
-
--- the line of one step more
-lines_more : (steps : List Planned) (lines : List LineEnd) (number : ℕ) (p : Planned) → AreLines steps lines
-    → AreLines (steps ++ p ∷ []) (lines ++ record { line = number; last = length steps; shows = length steps } ∷ [])
-lines_more steps lines number p h =
-    let more : length (steps ++ p ∷ []) ≡ length steps + 1 = length-append steps (p ∷ []) in
-    let l : LineEnd = record { line = number; last = length steps; shows = length steps } in
-    let least : 0 ≤ length steps = omega arith in
-    let same : length steps ≤ length steps = omega arith in
-    let up : length steps ≤ length (steps ++ p ∷ []) = omega (arith, more) in
-    let below : length steps < length (steps ++ p ∷ []) = omega (arith, more) in
-    record {
-      in_order = rise_more 0 (length steps) lines l h.in_order h.show_past least same;
-      show_past = shows_more (length steps) (length (steps ++ p ∷ [])) lines l h.show_past up
-          (and_from _ _ (le-leb (length steps) (length steps) same) (lt-ltb (length steps) (length (steps ++ p ∷ [])) below));
-    }
-
--- what is known before a line: the steps are well formed over the text, the names name live diagrams, levels are those of
--- variables, there is no step before the first line with words, and the said lines go with the steps
-record Stands (text : List ℕ) (s : State) : Type 0 where
-  few_variables : s.n ≤ 65535
-  few_steps : length s.steps ≤ 1048576
-  fresh : s.begun ≡ false → s.steps ≡ []
-  levels : (name : List ℕ) (level : ℕ) → s.level name ≡ Some level → level < s.n
-  names : NamesLive s.steps s.named
-  in_order : all_may_follow s.n text [] s.steps ≡ true
-  lines : AreLines s.steps s.lines
-
-nothing_stands : (text : List ℕ) → Stands text nothing
-nothing_stands text = record {
-  few_variables = omega arith;
-  few_steps = omega arith;
-  fresh = λ e. refl;
-  levels = λ name level e. absurd cc;
-  names = none_live;
-  in_order = refl;
-  lines = record { in_order = refl; show_past = refl };
-}
 
 -- a place among names is below their count
 place_below : (names : List (List ℕ)) (name : List ℕ) (level : ℕ) → place_of names name ≡ Some level → level < length names
@@ -107,23 +48,33 @@ place_below (first ∷ names) name level e = by (bytes_eq name first) refl (plac
         let place : suc before ≡ level = cc in
         omega (arith, place, below before is)
 
--- a line that names the variables, where there is no step
+-- variables that are named where there is no step
+variables_stand : (text : List ℕ) (s : State) (names : List (List ℕ)) → Stands text s → s.begun ≡ false → length names ≤ 65535 → Stands text (with_variables (begin s) names)
+variables_stand text s names h fresh few = record {
+  few_variables = few;
+  few_steps = h.few_steps;
+  fresh = λ wrong. absurd cc;
+  levels = place_below names;
+  names = h.names;
+  in_order = subst (λ steps. all_may_follow (length names) text [] steps ≡ true) (sym (h.fresh fresh)) refl;
+  lines = h.lines;
+}
+
+-- a line that names the variables
 vars_stand : (text : List ℕ) (s t : State) (words : List Word) → Stands text s → s.begun ≡ false → plan_vars (begin s) words ≡ Ok t → Stands text t
 vars_stand text s t words h fresh e =
     then_ok (check kind.Variable (all_differ (texts_of (drop 1 words)))) _ t e (λ u differ rest.
     then_ok (check kind.TooManyVariables (nat_le (length words) 65536)) _ t rest (λ v few last.
-    subst (Stands text) (same_ok _ _ last) (named (leb-true _ _ (passed kind.TooManyVariables _ few)))))
-  where
-    named : length words ≤ 65536 → Stands text (with_variables (begin s) (texts_of (drop 1 words)))
-    named few = record {
-      few_variables = omega (arith, few, length-map (drop 1 words) (λ (w : Word). w.bytes), length-drop 1 words);
-      few_steps = h.few_steps;
-      fresh = λ wrong. absurd cc;
-      levels = place_below (texts_of (drop 1 words));
-      names = h.names;
-      in_order = subst (λ steps. all_may_follow (length (texts_of (drop 1 words))) text [] steps ≡ true) (sym (h.fresh fresh)) refl;
-      lines = h.lines;
-    }
+    let short : length words ≤ 65536 = leb-true _ _ (passed kind.TooManyVariables _ few) in
+    subst (Stands text) (same_ok _ _ last) (variables_stand text s (texts_of (drop 1 words)) h fresh
+    (omega (arith, short, length-map (drop 1 words) (λ (w : Word). w.bytes), length-drop 1 words)))))
+
+-- a line that takes the inputs of a netlist
+inputs_stand : (text : List ℕ) (netlist : Option blif.Net) (s t : State) → IfSome netlist blif.IsNet → Stands text s → s.begun ≡ false → plan_inputs netlist (begin s) ≡ Ok t → Stands text t
+inputs_stand text None s t sound h fresh e = absurd cc
+inputs_stand text (Some net) s t sound h fresh e =
+    let few : net.inputs ≤ 65535 = sound.tables.few_inputs in
+    subst (Stands text) (same_ok _ _ e) (variables_stand text s (inputs_of net) h fresh (omega (arith, few, inputs_length net sound)))
 
 -- the step of a line is the one that was made
 pub planned_step : (k : Keyword) (words : List Word) (made : Step) → (planned_of k words made).step ≡ made
@@ -242,23 +193,23 @@ begin_stands text s h = record {
 }
 
 -- a line by its keyword
-request_stands : (text : List ℕ) (s t : State) (number : ℕ) (k : Keyword) (words : List Word) → Stands text s → AllByRecursion (λ (w : Word). StandsIn text w.at w.bytes) words
-    → is_formed s.begun s.n k words ≡ true → plan_request (begin s) number k words ≡ Ok t → Stands text t
-request_stands text s t number Vars words h all formed e = vars_stand text s t words h (not-true _ formed) e
-request_stands text s t number Inputs words h all formed e = absurd cc
-request_stands text s t number Net words h all formed e = absurd cc
-request_stands text s t number Const words h all formed e = step_stands text (begin s) t s.begun number Const words (begin_stands text s h) refl all formed e
-request_stands text s t number Var words h all formed e = step_stands text (begin s) t s.begun number Var words (begin_stands text s h) refl all formed e
-request_stands text s t number Not words h all formed e = step_stands text (begin s) t s.begun number Not words (begin_stands text s h) refl all formed e
-request_stands text s t number (Pair op) words h all formed e = step_stands text (begin s) t s.begun number (Pair op) words (begin_stands text s h) refl all formed e
-request_stands text s t number Ite words h all formed e = step_stands text (begin s) t s.begun number Ite words (begin_stands text s h) refl all formed e
-request_stands text s t number (Quantify q) words h all formed e = step_stands text (begin s) t s.begun number (Quantify q) words (begin_stands text s h) refl all formed e
-request_stands text s t number Restrict words h all formed e = step_stands text (begin s) t s.begun number Restrict words (begin_stands text s h) refl all formed e
-request_stands text s t number Drop words h all formed e = step_stands text (begin s) t s.begun number Drop words (begin_stands text s h) refl all formed e
-request_stands text s t number Same words h all formed e = step_stands text (begin s) t s.begun number Same words (begin_stands text s h) refl all formed e
-request_stands text s t number Leq words h all formed e = step_stands text (begin s) t s.begun number Leq words (begin_stands text s h) refl all formed e
-request_stands text s t number Eval words h all formed e = step_stands text (begin s) t s.begun number Eval words (begin_stands text s h) refl all formed e
-request_stands text s t number Size words h all formed e = step_stands text (begin s) t s.begun number Size words (begin_stands text s h) refl all formed e
+request_stands : (text : List ℕ) (netlist : Option blif.Net) (s t : State) (number : ℕ) (k : Keyword) (words : List Word) → IfSome netlist blif.IsNet → Stands text s → AllByRecursion (λ (w : Word). StandsIn text w.at w.bytes) words
+    → is_formed s.begun s.n k words ≡ true → plan_request netlist (begin s) number k words ≡ Ok t → Stands text t
+request_stands text netlist s t number Vars words sound h all formed e = vars_stand text s t words h (not-true _ formed) e
+request_stands text netlist s t number Inputs words sound h all formed e = inputs_stand text netlist s t sound h (not-true _ (and_parts (not s.begun) _ formed).0) e
+request_stands text netlist s t number Net words sound h all formed e = net_stands text netlist (begin s) t number words sound (begin_stands text s h) refl all e
+request_stands text netlist s t number Const words sound h all formed e = step_stands text (begin s) t s.begun number Const words (begin_stands text s h) refl all formed e
+request_stands text netlist s t number Var words sound h all formed e = step_stands text (begin s) t s.begun number Var words (begin_stands text s h) refl all formed e
+request_stands text netlist s t number Not words sound h all formed e = step_stands text (begin s) t s.begun number Not words (begin_stands text s h) refl all formed e
+request_stands text netlist s t number (Pair op) words sound h all formed e = step_stands text (begin s) t s.begun number (Pair op) words (begin_stands text s h) refl all formed e
+request_stands text netlist s t number Ite words sound h all formed e = step_stands text (begin s) t s.begun number Ite words (begin_stands text s h) refl all formed e
+request_stands text netlist s t number (Quantify q) words sound h all formed e = step_stands text (begin s) t s.begun number (Quantify q) words (begin_stands text s h) refl all formed e
+request_stands text netlist s t number Restrict words sound h all formed e = step_stands text (begin s) t s.begun number Restrict words (begin_stands text s h) refl all formed e
+request_stands text netlist s t number Drop words sound h all formed e = step_stands text (begin s) t s.begun number Drop words (begin_stands text s h) refl all formed e
+request_stands text netlist s t number Same words sound h all formed e = step_stands text (begin s) t s.begun number Same words (begin_stands text s h) refl all formed e
+request_stands text netlist s t number Leq words sound h all formed e = step_stands text (begin s) t s.begun number Leq words (begin_stands text s h) refl all formed e
+request_stands text netlist s t number Eval words sound h all formed e = step_stands text (begin s) t s.begun number Eval words (begin_stands text s h) refl all formed e
+request_stands text netlist s t number Size words sound h all formed e = step_stands text (begin s) t s.begun number Size words (begin_stands text s h) refl all formed e
 
 -- the words of a line are formed as its keyword asks
 is_formed_line : (known : List (List ℕ)) (s : State) (words : List Word) (k : Keyword) → keyword_in known s words ≡ Ok k → is_formed s.begun s.n k words ≡ true
@@ -268,11 +219,11 @@ is_formed_line known s words k e =
     subst (λ (v : Keyword). is_formed s.begun s.n v words ≡ true) (same_ok _ _ last) (passed kind.Word _ formed)))
 
 -- a line
-line_stands : (known : List (List ℕ)) (text : List ℕ) (s t : State) (number : ℕ) (words : List Word) → Stands text s → AllByRecursion (λ (w : Word). StandsIn text w.at w.bytes) words → plan_line known s number words ≡ Ok t → Stands text t
-line_stands known text s t number [] h all e = subst (Stands text) (same_ok _ _ e) h
-line_stands known text s t number (w ∷ ws) h all e =
+line_stands : (known : List (List ℕ)) (netlist : Option blif.Net) (text : List ℕ) (s t : State) (number : ℕ) (words : List Word) → IfSome netlist blif.IsNet → Stands text s → AllByRecursion (λ (w : Word). StandsIn text w.at w.bytes) words → plan_line known netlist s number words ≡ Ok t → Stands text t
+line_stands known netlist text s t number [] sound h all e = subst (Stands text) (same_ok _ _ e) h
+line_stands known netlist text s t number (w ∷ ws) sound h all e =
     then_ok (keyword_in known s (w ∷ ws)) _ t e (λ k is rest.
-    request_stands text s t number k (w ∷ ws) h all (is_formed_line known s (w ∷ ws) k is) rest)
+    request_stands text netlist s t number k (w ∷ ws) sound h all (is_formed_line known s (w ∷ ws) k is) rest)
 
 -- the words of a line stand in the text
 abbrev pub WordsStand : List ℕ → Line → Type 0
@@ -287,18 +238,18 @@ words_stand text = by (lines_of text) (recursion_from_All (λ (l : Line). Stands
     by (l ∷ ls) all = (recursion_from_All (λ (w : Word). StandsIn text w.at w.bytes) (words_in l) (each_word text l all.0), by ls all.1)
 
 -- the plan of a text is that of what stands behind its lines
-plan_stands : (P : Plan → Type 0) (known : List (List ℕ)) (text : List ℕ) (plan : Plan) → read known text ≡ Ok plan
+plan_stands : (P : Plan → Type 0) (known : List (List ℕ)) (netlist : Option blif.Net) (text : List ℕ) (plan : Plan) → IfSome netlist blif.IsNet → read known netlist text ≡ Ok plan
     → ((s : State) → Stands text s → P (record { n = s.n; steps = s.steps; lines = s.lines })) → P plan
-plan_stands P known text plan e next =
-    planned_by P known text plan e (λ short s is. next s
-    (lines_keep (Stands text) (WordsStand text) known (λ a b line. line_stands known text a b line.number (words_in line))
+plan_stands P known netlist text plan sound e next =
+    planned_by P known netlist text plan e (λ short s is. next s
+    (lines_keep (Stands text) (WordsStand text) known netlist (λ a b line. line_stands known netlist text a b line.number (words_in line) sound)
     nothing s (lines_of text) (nothing_stands text) (words_stand text) is))
 
 -- so it is well formed, and its said lines go with its steps
-pub plan_is_well_formed : (known : List (List ℕ)) (text : List ℕ) (plan : Plan) → read known text ≡ Ok plan → IsWellFormed plan.n text plan.steps
-plan_is_well_formed known text plan e =
-    plan_stands (λ p. IsWellFormed p.n text p.steps) known text plan e
+pub plan_is_well_formed : (known : List (List ℕ)) (netlist : Option blif.Net) (text : List ℕ) (plan : Plan) → IfSome netlist blif.IsNet → read known netlist text ≡ Ok plan → IsWellFormed plan.n text plan.steps
+plan_is_well_formed known netlist text plan sound e =
+    plan_stands (λ p. IsWellFormed p.n text p.steps) known netlist text plan sound e
     (λ s h. record { few_variables = h.few_variables; few_steps = h.few_steps; in_order = h.in_order })
 
-pub plan_has_lines : (known : List (List ℕ)) (text : List ℕ) (plan : Plan) → read known text ≡ Ok plan → AreLines plan.steps plan.lines
-plan_has_lines known text plan e = plan_stands (λ p. AreLines p.steps p.lines) known text plan e (λ s h. h.lines)
+pub plan_has_lines : (known : List (List ℕ)) (netlist : Option blif.Net) (text : List ℕ) (plan : Plan) → IfSome netlist blif.IsNet → read known netlist text ≡ Ok plan → AreLines plan.steps plan.lines
+plan_has_lines known netlist text plan sound e = plan_stands (λ p. AreLines p.steps p.lines) known netlist text plan sound e (λ s h. h.lines)

@@ -6,6 +6,10 @@ mod Few
 mod Behind
 mod NamedSteps
 mod MadeSteps
+mod Stands
+mod Pairs
+mod NetLines
 pub mod Kept
 mod Built
 pub mod PlanReads
+mod Sound

@@ -1,6 +1,6 @@
 -- A text has one plan at most, few bytes where it has one, and no fault then; texts that are too long have one fault.
 use Rattle.std.proofs.Common.{◌≡◌, ◌∙◌, ℕ, ◌<◌, ◌≤◌, List, length, sym}
-use Rattle.std.specs.Prelude.{Result, Ok, Err}
+use Rattle.std.specs.Prelude.{None, Result, Ok, Err}
 use Rattle.script_reader.specs.declared.fault.ScriptFault.{ScriptFault}
 use Rattle.script_reader.specs.declared.plan.Plan.{Plan}
 use Rattle.script_reader.specs.Keywords.{built_words}
@@ -23,8 +23,8 @@ pub plan_or_refusal : (text : List ℕ) (plan : Plan) (fault : ScriptFault) → 
 plan_or_refusal text plan fault x y = no_plan plan fault (sym x ∙ y)
 
 pub text_is_short : (text : List ℕ) (plan : Plan) → Reads text plan → length text ≤ 1048576
-text_is_short text plan reads = planned_by (λ p. length text ≤ 1048576) built_words text plan reads (λ short s is. short)
+text_is_short text plan reads = planned_by (λ p. length text ≤ 1048576) built_words None text plan reads (λ short s is. short)
 
 -- all texts that are too long are refused alike
 pub too_long : (text other : List ℕ) (fault : ScriptFault) → 1048576 < length text → 1048576 < length other → Refuses text fault → Refuses other fault
-too_long text other fault a b refused = read_long built_words other b ∙ sym (read_long built_words text a) ∙ refused
+too_long text other fault a b refused = read_long built_words None other b ∙ sym (read_long built_words None text a) ∙ refused

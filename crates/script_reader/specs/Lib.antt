@@ -2,6 +2,7 @@ pub mod Keywords
 pub mod Results
 pub mod Names
 pub mod Requests
+pub mod Nets
 pub mod Script
 pub mod Lines
 pub mod Views

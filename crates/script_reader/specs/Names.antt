@@ -1,5 +1,5 @@
 -- What is known before a line of a script: the variables, the names that were given, and the plan so far.
-use Rattle.std.specs.Prelude.{ℕ, suc, Bool, true, false, not, ◌&&◌, List, [], ◌∷◌, Option, Some, None}
+use Rattle.std.specs.Prelude.{ℕ, suc, Bool, true, false, not, ◌&&◌, List, [], ◌∷◌, length, Option, Some, None}
 use Rattle.std.specs.Prelude.{option_map, Result, Ok, Err, if◌then◌else◌}
 use Rattle.std.specs.List.{list_any}
 use Rattle.std.specs.Str.{bytes_eq}
@@ -33,6 +33,10 @@ place_of (x ∷ xs) name = if bytes_eq name x then Some 0 else option_map suc (p
 abbrev pub all_differ : List (List ℕ) → Bool
 all_differ [] = true
 all_differ (x ∷ xs) = not (list_any (bytes_eq x) xs) && all_differ xs
+
+-- the names of a first line as variables, in order
+abbrev pub with_variables : State → List (List ℕ) → State
+with_variables s names = record s { n = length names; level = place_of names }
 
 -- the step that made the diagram of a name, which was given and not dropped
 abbrev pub live_of : Option Named → Result ℕ ScriptKind

@@ -1,5 +1,6 @@
 -- What the reader's values stand for.
-use Rattle.std.specs.Prelude.{◌≡◌, ◌⊎◌, ℕ, List, map, Option, Result, Ok, Err}
+use Rattle.std.specs.Prelude.{◌≡◌, ◌⊎◌, ℕ, true, List, map, Option, Some, option_map, Result, Ok, Err, Vec}
+use Rattle.std.specs.declared.alloc.Global.{Global}
 use Rattle.std.specs.Ordering.{nat_cmp}
 use Rattle.std.specs.Cmp.Lexicographic.{slice_cmp}
 use Rattle.std.specs.BTreeMap.{BTreeMap, get_by}
@@ -7,6 +8,9 @@ use Rattle.std.specs.Borrow.{Bor}
 use Rattle.text_words.specs.Text.{Word}
 use Rattle.text_words.specs.Left.{word_of}
 use Rattle.text_words.specs.declared.words.Word as shown
+use Rattle.blif_reader.specs.declared.netlist.Netlist.{Netlist}
+use Rattle.blif_reader.specs.Netlist.{Net}
+use Rattle.blif_reader.specs.Answers.{net_of}
 use Rattle.script_reader.specs.declared.fault.ScriptKind.{ScriptKind}
 use Rattle.script_reader.specs.declared.fault.ScriptFault.{ScriptFault}
 use Rattle.script_reader.specs.declared.fault.Refusal.{Refusal}
@@ -14,6 +18,8 @@ use Rattle.script_reader.specs.declared.fault.Refusal.TheVariants as refusal
 use Rattle.script_reader.specs.declared.planning.Planning.{Planning}
 use Rattle.script_reader.specs.declared.plan.Plan.{Plan}
 use Rattle.script_reader.specs.declared.fault.ScriptKind.TheVariants as kind
+use Rattle.script_reader.specs.declared.netlists.InputLevels.{InputLevels}
+use Rattle.script_reader.specs.Nets.{levels_of}
 use Rattle.script_reader.specs.Names.{State}
 
 -- the bytes of slices
@@ -27,6 +33,10 @@ words_of words = map word_of words
 -- what a map has for a name
 abbrev pub found_in : {V : Type 0} → BTreeMap (Bor (List ℕ)) V → List ℕ → Option V
 found_in map name = get_by (λ (k : Bor (List ℕ)). slice_cmp nat_cmp name k.now) map
+
+-- the netlist that is given, where one is
+abbrev pub given : Option (Bor Netlist) → Option Net
+given netlist = option_map (λ (b : Bor Netlist). net_of b.now) netlist
 
 -- what is known while a script is read
 abbrev pub state_of : Planning → State
@@ -49,6 +59,13 @@ abbrev pub Gives : {X Y : Type 0} → (X → Y) → Result X Refusal → Result 
 Gives view (Ok x) read = read ≡ Ok (view x)
 Gives view (Err e) read = Fails e read
 
+-- slices and numbers in vectors
+abbrev pub texts_in : Vec (Bor (List ℕ)) Global → List (List ℕ)
+texts_in slices = texts slices.items
+
+abbrev pub numbers_in : Vec ℕ Global → List ℕ
+numbers_in numbers = numbers.items
+
 -- what is known after a call is what reading gives, unless memory ran out
 abbrev pub Leads : State → Result Unit Refusal → Result State ScriptKind → Type 0
 Leads new (Ok u) read = read ≡ Ok new
@@ -63,3 +80,13 @@ fault_on line (refusal.Fault k) = record { line = line; kind = k }
 abbrev pub AnswersRead : Result Plan ScriptFault → Result Plan ScriptFault → Type 0
 AnswersRead (Ok plan) read = read ≡ Ok plan
 AnswersRead (Err fault) read = (read ≡ Err fault) ⊎ (fault ≡ record { line = 0; kind = kind.Memory })
+
+-- levels that are kept are those of the netlist's inputs, and stay so: a line was read, so no further one names variables
+pub record IsKept (netlist : Option Net) (s : State) (kept : InputLevels) : Type 0 where
+  pub begun : kept.known ≡ true → s.begun ≡ true
+  pub levels : (net : Net) → kept.known ≡ true → netlist ≡ Some net → levels_of s net ≡ Ok kept.levels.items
+
+-- the levels of the netlist's inputs are kept, unless one of them is no variable or memory ran out
+abbrev pub KeepsLevels : Net → State → InputLevels → Result Unit Refusal → Type 0
+KeepsLevels net s kept (Ok u) = (kept.known ≡ true) × (levels_of s net ≡ Ok kept.levels.items)
+KeepsLevels net s kept (Err e) = Fails e (levels_of s net)

@@ -1,5 +1,6 @@
 //! Laws of scripts and their plans, each the contract of a function that does nothing.
-ghost use Rattle.std.specs.Prelude.{◌≡◌, ◌≤◌, ℕ, List, IsTrue, length, Ok};
+ghost use Rattle.std.specs.Prelude.{◌≡◌, ◌≤◌, ℕ, List, Option, IsTrue, IfSome, length, Ok};
+ghost use Rattle.blif_reader.specs.Netlist.{Net, IsNet};
 ghost use Rattle.bool_tables.specs.Plans.{IsWellFormed};
 ghost use Rattle.script_reader.specs.Lines.{AreLines};
 ghost use Rattle.script_reader.specs.Built.{are_built};
@@ -9,15 +10,17 @@ ghost use Rattle.script_reader.specs.declared.fault.ScriptFault.{ScriptFault};
 ghost use Rattle.script_reader.specs.declared.plan.Plan.{Plan};
 
 /// The plan of a script is well formed over the script's text, and its said lines go with its steps, whichever
-/// words are known.
+/// words are known and whichever netlist is given.
 pub fn plans_are_well_formed()
-    ensures steps { (known : List (List ℕ)) → (text : List ℕ) → (plan : Plan) → read known text ≡ Ok plan
+    ensures steps { (known : List (List ℕ)) → (netlist : Option Net) → (text : List ℕ) → (plan : Plan)
+        → IfSome netlist IsNet → read known netlist text ≡ Ok plan
         → IsWellFormed plan.n text plan.steps }
-    ensures lines { (known : List (List ℕ)) → (text : List ℕ) → (plan : Plan) → read known text ≡ Ok plan
+    ensures lines { (known : List (List ℕ)) → (netlist : Option Net) → (text : List ℕ) → (plan : Plan)
+        → IfSome netlist IsNet → read known netlist text ≡ Ok plan
         → AreLines plan.steps plan.lines }
 {}
 
-/// A text asks for one plan at most, has at most 1,048,576 bytes where it asks for one, and isn't refused then.
+/// Where no netlist is given: a text asks for one plan at most, has at most 1,048,576 bytes where it asks for one, and isn't refused then.
 /// That plan can be run: it is well formed over the text, its lines go with its steps, and each step is a
 /// constant, a variable, a size or a drop.
 pub fn one_plan()

@@ -5,6 +5,8 @@ mod fault;
 mod keyword;
 pub mod laws;
 mod line;
+mod net_line;
+mod netlists;
 mod places;
 mod plan;
 mod planning;

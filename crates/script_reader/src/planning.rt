@@ -10,15 +10,17 @@ ghost use Rattle.bool_tables.specs.Plans.{is_bit};
 use crate::fault::{Refusal, ScriptKind};
 use crate::keyword::{Keyword, read_keyword};
 use crate::line::{is_formed, is_one};
-use crate::places::{bytes_of, places_of, test_net};
+use crate::netlists::InputLevels;
+use crate::places::{bytes_of, places_of};
 use crate::plan::{LineEnd, Plan};
+use blif_reader::Netlist;
 use bool_tables::{Bin, Items, Planned, Step};
 use std::alloc::{AllocError, Global};
 use std::collections::BTreeMap;
 use text_words::Word;
 
 /// The most steps of a plan.
-const MOST_STEPS: usize = 1_048_576;
+pub(crate) const MOST_STEPS: usize = 1_048_576;
 /// The most variables of a script.
 const MOST_VARIABLES: usize = 65_535;
 /// The most bytes that a name of a diagram may have.
@@ -83,11 +85,11 @@ impl<'a> Planning<'a> {
     ghost use Rattle.std.specs.Map.{update};
     ghost use Rattle.text_words.specs.Left.{word_of};
     ghost use Rattle.script_reader.specs.Keywords.{wanted, is_one, is_formed};
-    ghost use Rattle.script_reader.specs.Names.{nothing, live, level_of};
+    ghost use Rattle.script_reader.specs.Names.{nothing, live, level_of, level_or};
     ghost use Rattle.script_reader.specs.Requests.{bits_in, bits_at, step_of, new_name, name_fits};
     ghost use Rattle.script_reader.specs.Requests.{name_behind, with_planned, plan_step};
     ghost use Rattle.script_reader.specs.Script.{begin, plan_vars, keyword_in, plan_words, plan_of};
-    ghost use Rattle.script_reader.specs.Views.{texts, state_of, Leads, Gives};
+    ghost use Rattle.script_reader.specs.Views.{texts, state_of, given, Leads, IsKept};
 
     /// Where no line was read.
     pub(crate) fn new(alloc: Global) -> Planning<'a>
@@ -153,19 +155,23 @@ impl<'a> Planning<'a> {
         &mut self,
         alloc: Global,
         known: &[&[u8]],
+        netlist: Option<&'a Netlist>,
+        kept: &mut InputLevels,
         line: u32,
         words: &[Word<'a>],
     ) -> Result<(), Refusal>
         requires some { 1 ≤ length words.now }
         requires few { length words.now < 2 ^ 32 }
-        ensures { Leads (state_of self.new) result
-            (plan_words (texts known.now) (state_of self.old) line (words_of words.now)) }
+        requires kept { IsKept (given netlist) (state_of self.old) kept.old }
+        ensures read { Leads (state_of self.new) result
+            (plan_words (texts known.now) (given netlist.entry) (state_of self.old) line (words_of words.now)) }
+        ensures kept { OnOk result (IsKept (given netlist.entry) (state_of self.new) kept.new) }
     {
         let keyword = self.begin_line(known, words)?;
         match keyword {
             Keyword::Vars => self.declare(alloc, words),
-            Keyword::Inputs => Err(Refusal::Fault(ScriptKind::NoNetlist)),
-            Keyword::Net => Err(Refusal::Fault(test_net(alloc, words)?)),
+            Keyword::Inputs => self.take_inputs(alloc, netlist),
+            Keyword::Net => self.plan_net(alloc, netlist, kept, line, words),
             _ => self.plan_step(line, keyword, words),
         }
     }
@@ -192,14 +198,18 @@ impl<'a> Planning<'a> {
         self.live(&words[k])
     }
 
+    /// The level of a variable with a name.
+    pub(crate) fn level_named(&self, name: &[u8]) -> Result<u32, ScriptKind>
+        ensures { result ≡ level_or ((state_of self.now).level name.now) }
+    {
+        self.levels.get(name).copied().ok_or(ScriptKind::Variable)
+    }
+
     /// The level of a variable.
     fn level(&self, word: &Word<'_>) -> Result<u32, ScriptKind>
         ensures { result ≡ level_of (state_of self.now) (word_of word.now) }
     {
-        self.levels
-            .get(word.bytes)
-            .copied()
-            .ok_or(ScriptKind::Variable)
+        self.level_named(word.bytes)
     }
 
     /// The level of a variable, the word of a line at a place.
@@ -338,7 +348,7 @@ impl<'a> Planning<'a> {
     }
 
     /// Gives a name, or notes that it is dropped.
-    fn put_name(&mut self, name: &'a [u8], named: Named) -> Result<(), AllocError>
+    pub(crate) fn put_name(&mut self, name: &'a [u8], named: Named) -> Result<(), AllocError>
         ensures { OnOk result (state_of self.new ≡ record (state_of self.old) {
           named = update bytes_eq (state_of self.old).named name.entry.now (Some named);
         }) }

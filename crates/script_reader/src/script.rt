@@ -1,19 +1,21 @@
 //! Reading a script line by line.
 
-ghost use Rattle.std.specs.Prelude.{◌≡◌, ◌⊎◌, ◌≤◌, length, map, IfOk, IfErr, IsTrue};
+ghost use Rattle.std.specs.Prelude.{◌≡◌, ◌⊎◌, ◌≤◌, length, map, None, IfOk, IfErr, OnOk, IsTrue};
 ghost use Rattle.bool_tables.specs.Plans.{IsWellFormed};
 ghost use Rattle.text_words.specs.Text.{words_in};
 ghost use Rattle.text_words.specs.Left.{word_of, line_of};
 ghost use Rattle.script_reader.specs.Built.{are_built};
-ghost use Rattle.script_reader.specs.Reads.{Reads, Refuses};
+ghost use Rattle.script_reader.specs.Reads.{ReadsOver, RefusesOver};
 ghost use Rattle.script_reader.specs.Lines.{AreLines};
 ghost use Rattle.script_reader.specs.Names.{nothing};
 ghost use Rattle.script_reader.specs.Script.{plan_line, read};
-ghost use Rattle.script_reader.specs.Views.{texts, words_of, state_of, Leads, AnswersRead, fault_on};
+ghost use Rattle.script_reader.specs.Views.{texts, words_of, state_of, given, Leads, IsKept, AnswersRead, fault_on};
 
 use crate::fault::{Refusal, ScriptFault, ScriptKind};
+use crate::netlists::InputLevels;
 use crate::plan::Plan;
 use crate::planning::Planning;
+use blif_reader::Netlist;
 use std::alloc::{AllocError, Global};
 use text_words::{Line, Lines, Word};
 
@@ -33,8 +35,9 @@ pub fn read_script_with<'a>(
     alloc: Global,
     bytes: &'a [u8],
     known: &[&[u8]],
+    netlist: Option<&'a Netlist>,
 ) -> Result<Plan, ScriptFault>
-    ensures read { AnswersRead result (read (texts known.now) bytes.entry.now) }
+    ensures read { AnswersRead result (read (texts known.now) (given netlist.entry) bytes.entry.now) }
 
     // what every plan that is given keeps
     ensures steps { IfOk result (λ plan. IsWellFormed plan.n bytes.entry.now plan.steps) }
@@ -47,8 +50,9 @@ pub fn read_script_with<'a>(
         });
     }
     let mut planning = Planning::new(alloc);
+    let mut kept = InputLevels::new(alloc);
     for line in Lines::of(bytes) {
-        if let Err(refusal) = read_line(alloc, &mut planning, known, &line) {
+        if let Err(refusal) = read_line(alloc, &mut planning, known, netlist, &mut kept, &line) {
             return Err(fault_of(line.number, refusal));
         }
     }
@@ -74,31 +78,39 @@ fn read_line<'a>(
     alloc: Global,
     planning: &mut Planning<'a>,
     known: &[&[u8]],
+    netlist: Option<&'a Netlist>,
+    kept: &mut InputLevels,
     line: &Line<'a>,
 ) -> Result<(), Refusal>
     requires short { length line.now.bytes.now ≤ 1048576 }
-    ensures { Leads (state_of planning.new) result
-        (plan_line (texts known.now) (state_of planning.old) line.now.number (words_in (line_of line.now))) }
+    requires kept { IsKept (given netlist) (state_of planning.old) kept.old }
+    ensures read { Leads (state_of planning.new) result
+        (plan_line (texts known.now) (given netlist.entry) (state_of planning.old) line.now.number (words_in (line_of line.now))) }
+    ensures kept { OnOk result (IsKept (given netlist.entry) (state_of planning.new) kept.new) }
 {
     let words = words_of(alloc, line)?;
     if words.is_empty() {
         return Ok(());
     }
-    planning.plan_line(alloc, known, line.number, words.as_slice())
+    planning.plan_line(alloc, known, netlist, kept, line.number, words.as_slice())
 }
 
 /// The plan of a script, or its first faulty line. Lines may begin with the words of which the program can do what
 /// they ask for: `const`, `var`, `size` and `drop`, and `vars` on the first line with words. `inputs` and `net` are
 /// known too, and refused: `NoNetlist`.
-pub fn read_script(alloc: Global, bytes: &[u8]) -> Result<Plan, ScriptFault>
-    ensures read { IfOk result (λ plan. Reads bytes.now plan) }
-    ensures refused { IfErr result (λ fault. Refuses bytes.now fault
+pub fn read_script(
+    alloc: Global,
+    bytes: &[u8],
+    netlist: Option<&Netlist>,
+) -> Result<Plan, ScriptFault>
+    ensures read { IfOk result (λ plan. ReadsOver (given netlist.entry) bytes.now plan) }
+    ensures refused { IfErr result (λ fault. RefusesOver (given netlist.entry) bytes.now fault
         ⊎ (fault ≡ record { line = 0; kind = ScriptKind.Memory })) }
 
     // what every plan that is given keeps
     ensures well_formed { IfOk result (λ plan. IsWellFormed plan.n bytes.now plan.steps) }
     ensures lines { IfOk result (λ plan. AreLines plan.steps plan.lines) }
-    ensures built { IfOk result (λ plan. IsTrue (are_built plan.steps)) }
+    ensures built { given netlist.entry ≡ None → IfOk result (λ plan. IsTrue (are_built plan.steps)) }
 {
     let known = [
         b"vars".as_slice(),
@@ -109,5 +121,5 @@ pub fn read_script(alloc: Global, bytes: &[u8]) -> Result<Plan, ScriptFault>
         b"size".as_slice(),
         b"drop".as_slice(),
     ];
-    read_script_with(alloc, bytes, known.as_slice())
+    read_script_with(alloc, bytes, known.as_slice(), netlist)
 }

@@ -1,3 +1,4 @@
+use Rattle.std.specs.Prelude.{None}
 use Rattle.script_reader.specs.Keywords.{built_words}
 use Rattle.script_reader.proofs.Kept.{plan_is_well_formed, plan_has_lines}
 use Rattle.script_reader.proofs.Built.{plan_is_built}
@@ -14,10 +15,10 @@ pub returns-clause-short : goal.returns-clause-short
 returns-clause-short c = text_is_short
 
 pub returns-clause-well_formed : goal.returns-clause-well_formed
-returns-clause-well_formed c = plan_is_well_formed built_words
+returns-clause-well_formed c = λ text plan. plan_is_well_formed built_words None text plan tt
 
 pub returns-clause-lines : goal.returns-clause-lines
-returns-clause-lines c = plan_has_lines built_words
+returns-clause-lines c = λ text plan. plan_has_lines built_words None text plan tt
 
 pub returns-clause-built : goal.returns-clause-built
 returns-clause-built c = plan_is_built

@@ -9,7 +9,7 @@ use Rattle.script_reader.specs.Keywords.{wanted}
 use Rattle.script_reader.specs.Names.{State}
 use Rattle.script_reader.specs.Requests.{plan_step}
 use Rattle.script_reader.specs.Script.{begin, keyword_in, plan_request, plan_words}
-use Rattle.script_reader.specs.Views.{texts, words_of, state_of, Leads}
+use Rattle.script_reader.specs.Views.{texts, words_of, state_of, given, Leads}
 use Rattle.script_reader.proofs.Formed.{wants_two, is_one_step, has_wanted}
 use Rattle.script_reader.proofs.planning.Planning.plan_line.Goals as goal
 
@@ -23,15 +23,16 @@ plan_step-requires c =
     let two : 2 ≤ wanted k = wants_two k c.in_default.not-Vars c.in_default.not-Inputs in
     record { wanted = omega (arith, wants, count); two = omega (arith, wants, two, count) }
 
-pub returns-in_default : goal.returns-in_default
-returns-in_default c =
+pub returns-in_default-clause-read : goal.returns-in_default-clause-read
+returns-in_default-clause-read c =
     let ws = words_of c.args.words.now in
     let known = texts c.args.known.now in
+    let netlist = given c.args.netlist in
     let s = state_of c.args.self.now in
     let k = c.in_ok-keyword.keyword in
     let is : keyword_in known s ws ≡ Ok k = sym c.in_ok-keyword.ensures.keyword in
-    let whole : plan_words known s c.args.line ws ≡ plan_step (state_of c.begin_line.new.self) c.args.line k ws =
-    ap (λ (r : Result Keyword ScriptKind). r >>= λ v. plan_request (begin s) c.args.line v ws) is
-    ∙ is_one_step (begin s) c.args.line k ws c.in_default.not-Vars c.in_default.not-Inputs c.in_default.not-Net
+    let whole : plan_words known netlist s c.args.line ws ≡ plan_step (state_of c.begin_line.new.self) c.args.line k ws =
+    ap (λ (r : Result Keyword ScriptKind). r >>= λ v. plan_request netlist (begin s) c.args.line v ws) is
+    ∙ is_one_step netlist (begin s) c.args.line k ws c.in_default.not-Vars c.in_default.not-Inputs c.in_default.not-Net
     ∙ ap (λ (t : State). plan_step t c.args.line k ws) (sym c.in_ok-keyword.ensures.begun) in
     subst (Leads (state_of c.plan_step.new.self) c.plan_step.result) (sym whole) c.plan_step.ensures
