@@ -13,3 +13,5 @@ pub mod Kept
 mod Built
 pub mod PlanReads
 mod Sound
+mod Finding
+mod Levels

@@ -21,6 +21,16 @@ use Rattle.script_reader.specs.Requests.{is_short}
 use Rattle.script_reader.proofs.NamedSteps.{NamesLive, live_below, live_same, name_live, names_same}
 use Rattle.script_reader.proofs.Stands.{Stands, lines_stay, line_put}
 
+-- no pair
+pub none_made : (s : State) (number last : ℕ) (names : List Word) → give_names s number last names [] ≡ s
+none_made s number last [] = refl
+none_made s number last (w ∷ names) = refl
+
+-- one pair, and those that are left
+pub one_given : (s : State) (number last : ℕ) (names : List Word) (made : List ℕ) (w : Word) (ws : List Word) (m : ℕ) (ms : List ℕ) → names ≡ w ∷ ws → made ≡ m ∷ ms
+    → give_names (give_name s number last w m) number last ws ms ≡ give_names s number last names made
+one_given s number last names made w ws m ms a b = sym (ap (λ (v : List Word). give_names s number last v made) a ∙ ap (λ (v : List ℕ). give_names s number last (w ∷ ws) v) b)
+
 -- a name changes no step
 pub step_named : (number : ℕ) (name : Word) (steps : List Planned) → steps_of (name_step number name steps) ≡ steps_of steps
 step_named number name [] = refl

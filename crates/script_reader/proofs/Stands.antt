@@ -80,4 +80,3 @@ nothing_stands text = record {
   in_order = refl;
   lines = record { in_order = refl; show_past = refl };
 }
-

@@ -1,8 +1,7 @@
 -- Tests over lists that are seen as others.
 use Rattle.std.proofs.lemmas.List.{drop-map}
 use Rattle.std.specs.Prelude.{drop, ◌≡◌, ℕ, zero, suc, ◌<◌, Bool, ◌||◌, List, [], ◌∷◌, length, map}
-use Rattle.std.specs.List.{list_any, list_all, slice_index_or}
-use Rattle.std.proofs.lemmas.List.Folds.{list_all-map}
+use Rattle.std.specs.List.{list_any, slice_index_or}
 use Rattle.std.proofs.Common.{refl, ap, sym, ◌∙◌, arith}
 use Rattle.text_words.specs.Left.{word_of}
 use Rattle.text_words.specs.declared.words.Word as shown
@@ -13,10 +12,6 @@ use Rattle.script_reader.specs.Views.{words_of}
 pub any_map : {X Y : Type 0} (p : X → Bool) (h : Y → X) (ys : List Y) → list_any p (map h ys) ≡ list_any (λ y. p (h y)) ys
 any_map p h [] = refl
 any_map p h (y ∷ ys) = ap (λ b. p (h y) || b) (any_map p h ys)
-
--- all views of a list pass a test where the list passes it
-pub all_map : {X Y : Type 0} (p : X → Bool) (h : Y → X) (ys : List Y) → list_all p (map h ys) ≡ list_all (λ y. p (h y)) ys
-all_map p h ys = list_all-map p h ys
 
 -- a word of a line is that at its place
 pub at_word : (words : List shown.Word) (k : ℕ) (d : shown.Word) → k < length words → word_of (slice_index_or words k d) ≡ word_at k (words_of words)

@@ -14,8 +14,9 @@ use std::alloc::{AllocError, Global};
 use text_words::Word;
 
 impl<'a> Planning<'a> {
-    ghost use Rattle.std.specs.Prelude.{◌≡◌, ◌<◌, ◌≤◌, ◌+◌, ◌-◌, ◌^◌, ◌++◌, ◌∷◌, [], List, Bool, true, not, ◌&&◌, length, map, is_some, Some, Ok, IfOk, OnOk, slice_index};
-    ghost use Rattle.std.specs.List.{list_any};
+    ghost use Rattle.std.specs.Prelude.{◌≡◌, ◌<◌, ◌≤◌, ◌+◌, ◌-◌, ◌^◌, ◌++◌, ◌∷◌, [], List, Bool, true, not, ◌&&◌, length, map, is_some, Some, Ok, IfOk, OnOk, slice_index, ℕ};
+    ghost use Rattle.std.specs.List.{list_all, list_any};
+    ghost use Rattle.script_reader.specs.Requests.{is_short};
     ghost use Rattle.std.specs.Str.{bytes_eq};
     ghost use Rattle.std.specs.Map.{update};
     ghost use Rattle.blif_reader.specs.Answers.{net_of};
@@ -170,6 +171,7 @@ impl<'a> Planning<'a> {
         names: &[Word<'a>],
         made: &[u32],
     ) -> Result<(), AllocError>
+        requires { list_all is_short (words_of names.now) ≡ true }
         ensures { OnOk result (state_of self.new ≡ give_names (state_of self.old) line last (words_of names.now) made.now) }
     {
         for (place, name) in names.iter().enumerate() {
@@ -183,6 +185,8 @@ impl<'a> Planning<'a> {
 
     /// Puts the steps of a line's signals.
     fn put_plan(&mut self, line: u32, names: &[Word<'a>], plan: &NetPlan) -> Result<(), AllocError>
+        requires short { list_all is_short (words_of names.now) ≡ true }
+        requires few { length self.old.steps.items + length plan.now.steps ≤ 1048576 }
         ensures { OnOk result (state_of self.new ≡ give_names (with_steps (state_of self.old) plan.now.steps) line
             (length (state_of self.old).steps + length plan.now.steps - 1) (words_of names.now) plan.now.made) }
     {
@@ -229,6 +233,7 @@ impl<'a> Planning<'a> {
     ) -> Result<(), Refusal>
         requires some { 2 ≤ length words.now }
         requires few { length words.now < 2 ^ 32 }
+        requires begun { self.old.begun ≡ true }
         requires kept { IsKept (given netlist) (state_of self.old) kept.old }
         ensures read { Leads (state_of self.new) result (nets.plan_net (given netlist.entry) (state_of self.old) line (words_of words.now)) }
         ensures kept { OnOk result (IsKept (given netlist.entry) (state_of self.new) kept.new) }

@@ -97,9 +97,13 @@ pub(crate) fn signals_of(alloc: Global, net: &Netlist, names: &[&[u8]]) -> Resul
 }
 
 /// Whether each name has at most 63 bytes.
-#[tactic(auto, using(crate::proofs::Tests::all_map))]
 pub(crate) fn are_short(names: &[Word<'_>]) -> bool
     ensures { result ≡ list_all is_short (words_of names.now) }
 {
-    names.iter().all(|name| name.bytes.len() <= MOST_NAME_BYTES)
+    for name in names {
+        if name.bytes.len() > MOST_NAME_BYTES {
+            return false;
+        }
+    }
+    true
 }

@@ -11,6 +11,7 @@ use Rattle.script_reader.specs.Requests.{plan_step}
 use Rattle.script_reader.specs.Script.{begin, keyword_in, plan_request, plan_words}
 use Rattle.script_reader.specs.Views.{texts, words_of, state_of, given, Leads}
 use Rattle.script_reader.proofs.Formed.{wants_two, is_one_step, has_wanted}
+use Rattle.script_reader.proofs.Levels.{kept_step}
 use Rattle.script_reader.proofs.planning.Planning.plan_line.Goals as goal
 
 pub plan_step-requires : goal.plan_step-requires
@@ -36,3 +37,7 @@ returns-in_default-clause-read c =
     ∙ is_one_step netlist (begin s) c.args.line k ws c.in_default.not-Vars c.in_default.not-Inputs c.in_default.not-Net
     ∙ ap (λ (t : State). plan_step t c.args.line k ws) (sym c.in_ok-keyword.ensures.begun) in
     subst (Leads (state_of c.plan_step.new.self) c.plan_step.result) (sym whole) c.plan_step.ensures
+
+pub returns-in_default-clause-kept : goal.returns-in_default-clause-kept
+returns-in_default-clause-kept c =
+    kept_step c.plan_step.result (given c.args.netlist) (state_of c.args.self.now) (state_of c.begin_line.new.self) (state_of c.plan_step.new.self) c.args.kept.now c.args.line c.in_ok-keyword.keyword (words_of c.args.words.now) c.requires.kept c.in_ok-keyword.ensures.begun c.plan_step.ensures

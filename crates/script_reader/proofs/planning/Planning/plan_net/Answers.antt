@@ -1,0 +1,29 @@
+use Rattle.std.proofs.Common.{◌≡◌, ◌<◌, ℕ, List, length, get_or, ap, sym, subst, ◌∙◌}
+use Rattle.std.specs.Prelude.{Ok}
+use Rattle.blif_reader.specs.Answers.{net_of}
+use Rattle.script_reader.specs.Nets.{inputs_of}
+use Rattle.script_reader.specs.Views.{texts, words_of, state_of, given}
+use Rattle.script_reader.specs.declared.fault.ScriptKind.TheVariants as kind
+use Rattle.script_reader.proofs.NetLines.{inputs_length, found_length, wanted_inside}
+use Rattle.script_reader.proofs.Levels.{kept_signals}
+use Rattle.script_reader.proofs.planning.Planning.plan_net.Goals as goal
+
+pub keep_levels-requires : goal.keep_levels-requires
+keep_levels-requires c = λ known. c.requires.kept.levels (net_of c.in-Some.net.now) known (ap given c.in-Some.is)
+
+pub plan_signals-requires-clause-levels : goal.plan_signals-requires-clause-levels
+plan_signals-requires-clause-levels c =
+    let net = net_of c.in-Some.net.now in
+    ap length c.as_slice-3.ensures.value ∙ found_length kind.Variable (state_of c.args.self.now).level (inputs_of net) _ c.in_ok-keep_levels.ensures.1 ∙ inputs_length net c.in-Some.net.now.sound
+
+pub plan_signals-requires-clause-wanted : goal.plan_signals-requires-clause-wanted
+plan_signals-requires-clause-wanted c =
+    let net = net_of c.in-Some.net.now in
+    subst (λ (ws : List ℕ). (i : ℕ) → i < length ws → get_or ws i 0 < length net.names) (sym c.as_slice-4.ensures.value)
+    (wanted_inside net (texts c.as_slice.result.now) c.in_ok-wanted.wanted.items c.in_ok-wanted.ensures)
+
+pub returns-clause-kept : goal.returns-clause-kept
+returns-clause-kept c =
+    kept_signals c.plan_signals.result (given c.args.netlist) (net_of c.in-Some.net.now) (state_of c.args.self.now) (state_of c.plan_signals.new.self) c.keep_levels.new.kept c.args.line (words_of c.as_slice-2.result.now)
+    c.as_slice-3.result.now c.as_slice-4.result.now
+    (ap given c.in-Some.is) c.requires.begun c.in_ok-keep_levels.ensures.1 c.plan_signals.ensures
