@@ -112,7 +112,7 @@ fn answer<W: Station>(alloc: Global, words: &[String], station: &mut W) -> Endin
         Err(FetchFault::Memory) => return Ending::NoMemory,
         Err(FetchFault::Text) => return Ending::TextFault,
     };
-    let plan = match read_script(alloc, &text) {
+    let plan = match read_script(alloc, &text, None) {
         Ok(plan) => plan,
         Err(fault) => match fault.kind {
             ScriptKind::Memory => return Ending::NoMemory,
