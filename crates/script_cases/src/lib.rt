@@ -9,6 +9,8 @@ mod built;
 #[cfg(test)]
 mod large;
 #[cfg(test)]
+mod netlists;
+#[cfg(test)]
 mod refused;
 #[cfg(test)]
 mod whole;

@@ -1,9 +1,19 @@
 // Scripts of the whole language.
+use blif_reader::Netlist;
 use script_reader::{Plan, ScriptFault, ScriptKind, read_script_with};
 use std::alloc::Global;
 
-/// The plan of a script that may use all words of the language, or its first fault.
+/// The plan of a script that may use all words of the language, or its first fault, where no netlist is given.
 pub(crate) fn read_whole(alloc: Global, bytes: &[u8]) -> Result<Plan, ScriptFault> {
+    read_with(alloc, bytes, None)
+}
+
+/// The same where one may be given.
+pub(crate) fn read_with(
+    alloc: Global,
+    bytes: &[u8],
+    netlist: Option<&Netlist>,
+) -> Result<Plan, ScriptFault> {
     let known = [
         b"vars".as_slice(),
         b"inputs".as_slice(),
@@ -28,7 +38,7 @@ pub(crate) fn read_whole(alloc: Global, bytes: &[u8]) -> Result<Plan, ScriptFaul
         b"eval".as_slice(),
         b"size".as_slice(),
     ];
-    read_script_with(alloc, bytes, known.as_slice(), None)
+    read_script_with(alloc, bytes, known.as_slice(), netlist)
 }
 
 /// Whether an answer is a fault of this line and this kind.
