@@ -1,12 +1,12 @@
 -- What each line of a script keeps: the steps so far are well formed, and the said lines go with them.
-use Rattle.std.proofs.Common.{◌≡◌, ℕ, suc, ◌+◌, ◌<◌, ◌≤◌, Bool, true, false, List, [], ◌∷◌, ◌++◌, length, drop, Option, Some, None, refl, sym, ap, subst, ◌∙◌, append_assoc, arith, inl, inr}
+use Rattle.std.proofs.Common.{◌≡◌, ℕ, suc, ◌+◌, ◌<◌, ◌≤◌, Bool, true, false, List, [], ◌∷◌, ◌++◌, length, drop, Option, Some, None, refl, sym, ap, subst, ◌∙◌, arith, inl, inr}
 use Rattle.blif_reader.specs.Netlist as blif
 use Rattle.std.specs.Prelude.{Ok, not, IfSome, ◌&&◌, nat_le, nat_lt, if◌then◌else◌}
 use Rattle.std.specs.List.{AllByRecursion, list_all}
 use Rattle.std.specs.Str.{bytes_eq}
 use Rattle.std.specs.Map.{update}
-use Rattle.std.proofs.lemmas.Bool.{and_from, and_parts, lt-ltb, le-leb, leb-true, ltb-true, cases_Bool, not-true}
-use Rattle.std.proofs.lemmas.List.{append-nil, length-append, length-map, length-drop}
+use Rattle.std.proofs.lemmas.Bool.{and_from, and_parts, le-leb, leb-true, cases_Bool, not-true}
+use Rattle.std.proofs.lemmas.List.{length-append, length-map, length-drop}
 use Rattle.std.proofs.lemmas.List.Elements.{recursion_from_All}
 use Rattle.bool_tables.specs.Plans.{makes_diagram, is_live, operands, levels_of, has_bits, drops, has_name, may_follow, all_may_follow, IsWellFormed}
 use Rattle.bool_tables.specs.declared.steps.Planned.{Planned}
@@ -19,9 +19,8 @@ use Rattle.script_reader.specs.declared.fault.ScriptKind.TheVariants as kind
 use Rattle.script_reader.specs.declared.keyword.Keyword.{Keyword}
 use Rattle.script_reader.specs.declared.keyword.Keyword.TheVariants.{Vars, Inputs, Const, Var, Not, Pair, Ite, Quantify, Restrict, Net, Drop, Same, Leq, Eval, Size}
 use Rattle.script_reader.specs.declared.plan.Plan.{Plan}
-use Rattle.script_reader.specs.declared.plan.LineEnd.{LineEnd}
 use Rattle.script_reader.specs.declared.planning.Named.{Named}
-use Rattle.script_reader.specs.Lines.{rise_from, shows_past, AreLines}
+use Rattle.script_reader.specs.Lines.{AreLines}
 use Rattle.script_reader.specs.Results.{check}
 use Rattle.script_reader.specs.Keywords.{word_at, texts_of, keyword_of, is_formed, gives_name}
 use Rattle.script_reader.specs.Names.{State, nothing, place_of, all_differ, level_or, with_variables}
@@ -32,7 +31,7 @@ use Rattle.script_reader.proofs.Behind.{lines_keep, planned_by}
 use Rattle.script_reader.proofs.Formed.{fits_short}
 use Rattle.script_reader.proofs.Stands.{Stands, nothing_stands, follow_more, lines_more}
 use Rattle.script_reader.proofs.NetLines.{net_stands, inputs_length}
-use Rattle.script_reader.proofs.NamedSteps.{NamesLive, none_live, names_stay, name_more, name_dropped}
+use Rattle.script_reader.proofs.NamedSteps.{NamesLive, names_stay, name_more, name_dropped}
 use Rattle.script_reader.proofs.MadeSteps.{then_ok, passed, same_ok, word_stands, Allows, Follows, step_follows}
 
 -- a place among names is below their count

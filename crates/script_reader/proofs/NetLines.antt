@@ -1,12 +1,12 @@
 -- A line that asks for the signals of a netlist keeps what is known sound.
-use Rattle.std.proofs.Common.{◌≡◌, ℕ, zero, suc, ◌+◌, ◌-◌, ◌<◌, ◌≤◌, Bool, true, false, cond, List, [], ◌∷◌, ◌++◌, length, take, drop, map, get_or, Option, Some, None, refl, sym, ap, subst, ◌∙◌, append_assoc, arith, inl, inr}
-use Rattle.std.specs.Prelude.{IfSome, Result, Ok, Err, not, ◌&&◌, nat_le, nat_lt}
+use Rattle.std.proofs.Common.{◌≡◌, ℕ, zero, suc, ◌+◌, ◌-◌, ◌<◌, ◌≤◌, Bool, true, false, cond, List, [], ◌∷◌, ◌++◌, length, drop, map, get_or, Option, Some, None, refl, sym, ap, subst, ◌∙◌, append_assoc, arith}
+use Rattle.std.specs.Prelude.{IfSome, Ok, not, nat_lt}
 use Rattle.std.specs.List.{AllByRecursion, list_all, list_any, position_from}
 use Rattle.std.specs.Str.{bytes_eq}
-use Rattle.std.proofs.lemmas.Bool.{and_from, and_parts, or_parts, lt-ltb, ltb-true, le-leb, leb-true, cases_Bool, not-true}
+use Rattle.std.proofs.lemmas.Bool.{and_from, and_parts, or_parts, lt-ltb, ltb-true, le-leb, leb-true, not-true}
 use Rattle.std.proofs.lemmas.List.{append-nil, length-append, length-map, length-take}
 use Rattle.std.proofs.lemmas.Slice.Eq.{bytes_eq-Decides}
-use Rattle.bool_tables.specs.Plans.{is_live, has_name, may_follow, all_may_follow}
+use Rattle.bool_tables.specs.Plans.{has_name, may_follow, all_may_follow}
 use Rattle.bool_tables.specs.declared.steps.Planned.{Planned}
 use Rattle.bool_tables.specs.declared.steps.Step.{Step}
 use Rattle.blif_reader.specs.Index as index
@@ -19,13 +19,12 @@ use Rattle.text_words.specs.Text.{Word}
 use Rattle.text_words.specs.Places.{StandsIn}
 use Rattle.script_reader.specs.declared.fault.ScriptKind.{ScriptKind}
 use Rattle.script_reader.specs.declared.fault.ScriptKind.TheVariants as kind
-use Rattle.script_reader.specs.Results.{◌>>=◌, check}
-use Rattle.script_reader.specs.Keywords.{texts_of}
-use Rattle.script_reader.specs.Names.{State, all_differ, live_of}
-use Rattle.script_reader.specs.Nets.{every_second, names_in, signals_in, signals_named, given_net, inputs_of, or_fault, all_found, wanted_of, levels_of, is_given, names_fit, nameless, with_steps, give_names, plan_signals, plan_net}
+use Rattle.script_reader.specs.Results.{check}
+use Rattle.script_reader.specs.Names.{State, all_differ}
+use Rattle.script_reader.specs.Nets.{every_second, names_in, signals_in, signals_named, inputs_of, or_fault, all_found, wanted_of, levels_of, names_fit, nameless, with_steps, give_names, plan_signals, plan_net}
 use Rattle.script_reader.specs.Requests.{is_short, has_room}
 use Rattle.script_reader.proofs.MadeSteps.{then_ok, passed, same_ok}
-use Rattle.script_reader.proofs.NamedSteps.{NamesLive, live_below, earlier_on}
+use Rattle.script_reader.proofs.NamedSteps.{live_below, earlier_on}
 use Rattle.script_reader.proofs.Stands.{Stands, lines_stay}
 use Rattle.script_reader.proofs.Pairs.{pairs_stand}
 

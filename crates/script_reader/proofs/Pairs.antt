@@ -1,24 +1,20 @@
 -- The pairs of a line give their names to live diagrams that have none.
-use Rattle.std.proofs.Common.{◌≡◌, ℕ, zero, suc, ◌+◌, ◌<◌, ◌≤◌, Bool, true, false, cond, List, [], ◌∷◌, ◌++◌, length, get_or, set, Option, Some, refl, sym, ap, subst, ◌∙◌, arith}
+use Rattle.std.proofs.Common.{◌≡◌, ℕ, zero, suc, ◌<◌, ◌≤◌, Bool, true, false, cond, List, [], ◌∷◌, ◌++◌, length, get_or, Some, refl, sym, ap, ◌∙◌, arith}
 use Rattle.std.specs.Prelude.{Ok, ◌&&◌, nat_lt}
 use Rattle.std.specs.List.{AllByRecursion, list_all}
 use Rattle.std.specs.Str.{bytes_eq}
-use Rattle.std.specs.Map.{update}
 use Rattle.std.proofs.lemmas.Bool.{and_from, and_parts, le-leb, leb-true}
-use Rattle.std.proofs.lemmas.List.{length-map, length-set}
+use Rattle.std.proofs.lemmas.List.{length-map}
 use Rattle.bool_tables.specs.Plans.{is_live, operands, levels_of, has_bits, has_name, may_follow, all_may_follow}
 use Rattle.bool_tables.specs.declared.steps.Planned.{Planned}
 use Rattle.net_plan.specs.Values.{steps_of}
 use Rattle.net_plan.proofs.Follows.{follow_from, may_from, all_follow}
 use Rattle.text_words.specs.Text.{Word}
 use Rattle.text_words.specs.Places.{StandsIn}
-use Rattle.script_reader.specs.declared.plan.LineEnd.{LineEnd}
-use Rattle.script_reader.specs.declared.planning.Named.{Named}
-use Rattle.script_reader.specs.Lines.{AreLines}
 use Rattle.script_reader.specs.Names.{State, live_of}
 use Rattle.script_reader.specs.Nets.{name_step, give_name, give_names}
 use Rattle.script_reader.specs.Requests.{is_short}
-use Rattle.script_reader.proofs.NamedSteps.{NamesLive, live_below, live_same, name_live, names_same}
+use Rattle.script_reader.proofs.NamedSteps.{live_below, live_same, name_live, names_same}
 use Rattle.script_reader.proofs.Stands.{Stands, lines_stay, line_put}
 
 -- no pair

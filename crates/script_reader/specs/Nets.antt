@@ -1,6 +1,6 @@
 -- Lines that take a netlist's inputs as variables, or ask for the diagrams of its signals.
 use Rattle.std.specs.Prelude.{ℕ, ◌+◌, ◌-◌, Bool, false, not, ◌&&◌, is_some, List, [], ◌∷◌, ◌++◌, length, map, take, drop}
-use Rattle.std.specs.Prelude.{slice_index, slice_set, Option, Some, None, Result, Ok, Err}
+use Rattle.std.specs.Prelude.{slice_set, Option, Some, None, Result, Ok, Err}
 use Rattle.std.specs.List.{list_all, list_any, slice_index_or}
 use Rattle.std.specs.Str.{bytes_eq}
 use Rattle.std.specs.Map.{update}
@@ -13,7 +13,6 @@ use Rattle.blif_reader.specs.Netlist.{Net}
 use Rattle.net_plan.specs.Plan.{plan_steps, plan_made}
 use Rattle.script_reader.specs.declared.fault.ScriptKind.{ScriptKind}
 use Rattle.script_reader.specs.declared.fault.ScriptKind.TheVariants as kind
-use Rattle.script_reader.specs.declared.plan.LineEnd.{LineEnd}
 use Rattle.script_reader.specs.Results.{◌>>=◌, check}
 use Rattle.script_reader.specs.Keywords.{texts_of}
 use Rattle.script_reader.specs.Names.{State, all_differ, with_variables}

@@ -30,12 +30,12 @@ fn words_of<'a>(alloc: Global, line: &Line<'a>) -> Result<Vec<Word<'a>>, AllocEr
 }
 
 /// The plan of a script, or its first faulty line, where lines may begin with the known words alone. A known word
-/// that is no word of the language is refused as any other: `Word`.
-pub fn read_script_with<'a>(
+/// that is no word of the language is refused as any other: `Word`. The plan keeps nothing of the netlist.
+pub fn read_script_with<'s, 'n>(
     alloc: Global,
-    bytes: &'a [u8],
+    bytes: &'s [u8],
     known: &[&[u8]],
-    netlist: Option<&'a Netlist>,
+    netlist: Option<&'n Netlist>,
 ) -> Result<Plan, ScriptFault>
     ensures read { AnswersRead result (read (texts known.now) (given netlist.entry) bytes.entry.now) }
 
@@ -96,8 +96,8 @@ fn read_line<'a>(
 }
 
 /// The plan of a script, or its first faulty line. Lines may begin with the words of which the program can do what
-/// they ask for: `const`, `var`, `size` and `drop`, and `vars` on the first line with words. `inputs` and `net` are
-/// known too, and refused: `NoNetlist`.
+/// they ask for: `const`, `var`, `size` and `drop`, and `vars` on the first line with words; and with `inputs` and
+/// `net`, which are refused where no netlist is given: `NoNetlist`.
 pub fn read_script(
     alloc: Global,
     bytes: &[u8],

@@ -1,4 +1,4 @@
-use Rattle.std.specs.Prelude.{◌≡◌, ◌≤◌, take}
+use Rattle.std.specs.Prelude.{◌≡◌, take}
 use Rattle.blif_reader.specs.Answers.{net_of}
 use Rattle.script_reader.specs.Views.{texts}
 use Rattle.script_reader.proofs.netlists.input_names.Given as goal

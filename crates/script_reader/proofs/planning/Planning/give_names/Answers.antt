@@ -1,7 +1,6 @@
-use Rattle.std.proofs.Common.{◌≡◌, ◌+◌, ◌<◌, ◌≤◌, ◌∷◌, [], List, ℕ, true, length, get_or, drop, sym, ap, ◌∙◌, arith}
+use Rattle.std.proofs.Common.{◌+◌, ◌≤◌, length, get_or, drop, sym, ap, ◌∙◌, arith}
 use Rattle.std.proofs.lemmas.Bool.{leb-true}
 use Rattle.std.proofs.lemmas.List.{drop_more, drop_all}
-use Rattle.text_words.specs.Text.{Word}
 use Rattle.text_words.specs.Left.{word_of}
 use Rattle.script_reader.specs.Nets.{give_names}
 use Rattle.script_reader.specs.Requests.{is_short}

@@ -1,5 +1,4 @@
-use Rattle.std.proofs.Common.{◌≡◌, ◌<◌, ℕ, List, length, get_or, ap, sym, subst, ◌∙◌}
-use Rattle.std.specs.Prelude.{Ok}
+use Rattle.std.proofs.Common.{◌<◌, ℕ, List, length, get_or, ap, sym, subst, ◌∙◌}
 use Rattle.blif_reader.specs.Answers.{net_of}
 use Rattle.script_reader.specs.Nets.{inputs_of}
 use Rattle.script_reader.specs.Views.{texts, words_of, state_of, given}

@@ -1,8 +1,7 @@
-use Rattle.std.proofs.Common.{◌≡◌, ◌+◌, ◌≤◌, length, map, ap, ◌∙◌, arith}
+use Rattle.std.proofs.Common.{◌≡◌, ◌+◌, length, map, ap, ◌∙◌, arith}
 use Rattle.std.proofs.lemmas.List.{length-append, length-map}
 use Rattle.script_reader.specs.Names.{State}
 use Rattle.script_reader.specs.Nets.{nameless}
-use Rattle.script_reader.specs.Views.{state_of}
 use Rattle.script_reader.proofs.planning.Planning.put_plan.Goals as goal
 
 pub overflow_cast-len : goal.overflow_cast-len
