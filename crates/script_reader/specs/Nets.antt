@@ -86,8 +86,8 @@ name_step number name steps =
     let old = slice_index_or steps number (nameless (step.Const false)) in
     slice_set steps number (record old { name_at = name.at; name_len = length name.bytes })
 
--- a pair of a line: the name is that of the step that makes the signal; it has a said line, which comes after the line's
--- last step and shows that step
+-- a pair of a line: the name is that of the step that makes the signal; it has a said line, which comes after the
+-- line's last step and shows that step
 abbrev pub give_name : State → ℕ → ℕ → Word → ℕ → State
 give_name s number last name made = record s {
   named = update bytes_eq s.named name.bytes (Some (record { step = made; dropped = false }));

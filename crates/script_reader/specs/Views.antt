@@ -81,7 +81,8 @@ abbrev pub AnswersRead : Result Plan ScriptFault → Result Plan ScriptFault →
 AnswersRead (Ok plan) read = read ≡ Ok plan
 AnswersRead (Err fault) read = (read ≡ Err fault) ⊎ (fault ≡ record { line = 0; kind = kind.Memory })
 
--- levels that are kept are those of the netlist's inputs, and stay so: a line was read, so no further one names variables
+-- levels that are kept are those of the netlist's inputs, and stay so: a line was read, so no further one names
+-- variables
 pub record IsKept (netlist : Option Net) (s : State) (kept : InputLevels) : Type 0 where
   pub begun : kept.known ≡ true → s.begun ≡ true
   pub levels : (net : Net) → kept.known ≡ true → netlist ≡ Some net → levels_of s net ≡ Ok kept.levels.items

@@ -20,9 +20,9 @@ pub fn plans_are_well_formed()
         → AreLines plan.steps plan.lines }
 {}
 
-/// Where no netlist is given: a text asks for one plan at most, has at most 1,048,576 bytes where it asks for one, and isn't refused then.
-/// That plan can be run: it is well formed over the text, its lines go with its steps, and each step is a
-/// constant, a variable, a size or a drop.
+/// Where no netlist is given: a text asks for one plan at most, has at most 1,048,576 bytes where it asks for one,
+/// and isn't refused then. That plan can be run: it is well formed over the text, its lines go with its steps, and
+/// each step is a constant, a variable, a size or a drop.
 pub fn one_plan()
     ensures one { (text : List ℕ) (a b : Plan) → Reads text a → Reads text b → a ≡ b }
     ensures unrefused { (text : List ℕ) (plan : Plan) (fault : ScriptFault) → Reads text plan → ¬ (Refuses text fault) }

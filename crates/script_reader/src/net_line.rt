@@ -14,7 +14,8 @@ use std::alloc::{AllocError, Global};
 use text_words::Word;
 
 impl<'a> Planning<'a> {
-    ghost use Rattle.std.specs.Prelude.{◌≡◌, ◌<◌, ◌≤◌, ◌+◌, ◌-◌, ◌^◌, ◌++◌, ◌∷◌, [], List, Bool, true, not, ◌&&◌, length, map, is_some, Some, Ok, IfOk, OnOk, slice_index, ℕ};
+    ghost use Rattle.std.specs.Prelude.{◌≡◌, ◌<◌, ◌≤◌, ◌+◌, ◌-◌, ◌^◌, ◌++◌, ◌∷◌, [], List, Bool, true, not, ◌&&◌};
+    ghost use Rattle.std.specs.Prelude.{length, map, is_some, Some, Ok, IfOk, OnOk, slice_index, ℕ};
     ghost use Rattle.std.specs.List.{list_all, list_any};
     ghost use Rattle.script_reader.specs.Requests.{is_short};
     ghost use Rattle.std.specs.Str.{bytes_eq};
@@ -24,9 +25,11 @@ impl<'a> Planning<'a> {
     ghost use Rattle.text_words.specs.Left.{word_of};
     ghost use Rattle.script_reader.specs.Names.{all_differ, level_or};
     ghost use Rattle.script_reader.specs.Keywords.{texts_of};
-    ghost use Rattle.script_reader.specs.Nets.{is_given, nameless, name_step, give_name, give_names, with_steps, put_plan};
+    ghost use Rattle.script_reader.specs.Nets.{is_given, nameless, name_step, give_name, give_names};
+    ghost use Rattle.script_reader.specs.Nets.{with_steps, put_plan};
     ghost use Rattle.script_reader.specs.Nets as nets;
-    ghost use Rattle.script_reader.specs.Views.{texts, words_of, state_of, numbers_in, given, Leads, Gives, IsKept, KeepsLevels};
+    ghost use Rattle.script_reader.specs.Views.{texts, words_of, state_of, numbers_in, given, Leads, Gives};
+    ghost use Rattle.script_reader.specs.Views.{IsKept, KeepsLevels};
     ghost use Rattle.script_reader.specs.declared.fault.ScriptKind.TheVariants as kind;
 
     /// Takes the inputs of the netlist as variables.
@@ -67,7 +70,8 @@ impl<'a> Planning<'a> {
         net: &Netlist,
         kept: &mut InputLevels,
     ) -> Result<(), Refusal>
-        requires { kept.old.known ≡ true → nets.levels_of (state_of self.now) (net_of net.now) ≡ Ok kept.old.levels.items }
+        requires { kept.old.known ≡ true
+            → nets.levels_of (state_of self.now) (net_of net.now) ≡ Ok kept.old.levels.items }
         ensures { KeepsLevels (net_of net.now) (state_of self.now) kept.new result }
     {
         if !kept.known {
@@ -172,7 +176,8 @@ impl<'a> Planning<'a> {
         made: &[u32],
     ) -> Result<(), AllocError>
         requires { list_all is_short (words_of names.now) ≡ true }
-        ensures { OnOk result (state_of self.new ≡ give_names (state_of self.old) line last (words_of names.now) made.now) }
+        ensures { OnOk result (state_of self.new
+            ≡ give_names (state_of self.old) line last (words_of names.now) made.now) }
     {
         for (place, name) in names.iter().enumerate() {
             if place >= made.len() {
@@ -208,7 +213,8 @@ impl<'a> Planning<'a> {
         requires few { length names.now < 2 ^ 32 }
         requires levels { length levels.now ≡ (net_of net.now).inputs }
         requires wanted { (i : ℕ) → i < length wanted.now → slice_index wanted.now i < length (net_of net.now).names }
-        ensures { Leads (state_of self.new) result (nets.plan_signals (state_of self.old) line (words_of names.now) (net_of net.now) levels.now wanted.now) }
+        ensures { Leads (state_of self.new) result
+            (nets.plan_signals (state_of self.old) line (words_of names.now) (net_of net.now) levels.now wanted.now) }
     {
         self.test_all_names(alloc, names)?;
         let first = self.steps.len();
@@ -235,7 +241,8 @@ impl<'a> Planning<'a> {
         requires few { length words.now < 2 ^ 32 }
         requires begun { self.old.begun ≡ true }
         requires kept { IsKept (given netlist) (state_of self.old) kept.old }
-        ensures read { Leads (state_of self.new) result (nets.plan_net (given netlist.entry) (state_of self.old) line (words_of words.now)) }
+        ensures read { Leads (state_of self.new) result
+            (nets.plan_net (given netlist.entry) (state_of self.old) line (words_of words.now)) }
         ensures kept { OnOk result (IsKept (given netlist.entry) (state_of self.new) kept.new) }
     {
         let signals = signals_named(alloc, words)?;

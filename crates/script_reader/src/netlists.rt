@@ -84,7 +84,8 @@ pub(crate) fn signals_named<'a>(alloc: Global, words: &[Word<'a>]) -> Result<Vec
 
 /// The signals with some names.
 pub(crate) fn signals_of(alloc: Global, net: &Netlist, names: &[&[u8]]) -> Result<Vec<u32>, Refusal>
-    ensures { Gives numbers_in result (all_found kind.UnknownName (index.place_of (net_of net.now).names) (texts names.now)) }
+    ensures { Gives numbers_in result
+        (all_found kind.UnknownName (index.place_of (net_of net.now).names) (texts names.now)) }
 {
     let mut signals = Vec::new(alloc);
     for name in names {

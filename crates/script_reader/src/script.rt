@@ -85,7 +85,8 @@ fn read_line<'a>(
     requires short { length line.now.bytes.now ≤ 1048576 }
     requires kept { IsKept (given netlist) (state_of planning.old) kept.old }
     ensures read { Leads (state_of planning.new) result
-        (plan_line (texts known.now) (given netlist.entry) (state_of planning.old) line.now.number (words_in (line_of line.now))) }
+        (plan_line (texts known.now) (given netlist.entry) (state_of planning.old) line.now.number
+        (words_in (line_of line.now))) }
     ensures kept { OnOk result (IsKept (given netlist.entry) (state_of planning.new) kept.new) }
 {
     let words = words_of(alloc, line)?;
