@@ -26,7 +26,11 @@ impl Random {
     /// All places of a table, or those of some variables as chance has it.
     pub(crate) fn variables(&mut self) -> usize {
         let some = self.next() as usize;
-        if self.next() % 2 == 0 { some } else { usize::MAX }
+        if self.next() % 2 == 0 {
+            some
+        } else {
+            usize::MAX
+        }
     }
 
     /// A table of n variables that depends on these alone, each a bit of its places.

@@ -4,7 +4,7 @@ ghost use Rattle.top_down_cases.specs.declared.sweeping.TheConstants.{LEAST_ROOM
 
 use crate::random::Random;
 use crate::sweeping::{
-    EMPTY, FIRST, LEAST_ROOM, ONE, SECOND, THREE, bench_of, operator, reduced,
+    EMPTY, FIRST, LEAST_ROOM, ONE, SECOND, THREE, bench_of, operator, put_bytes, reduced,
 };
 use bool_tables::Quant;
 use rec_words::Rec;
@@ -25,7 +25,11 @@ fn random_bench(alloc: Global, seed: u64) -> Result<Bench, Fail> {
     let first = random.table(alloc, VARIABLES, usize::MAX)?;
     let second = random.table(alloc, VARIABLES, usize::MAX)?;
     let third = random.table(alloc, VARIABLES, usize::MAX)?;
-    bench_of(alloc, VARIABLES, [first.as_slice(), second.as_slice(), third.as_slice()])
+    bench_of(
+        alloc,
+        VARIABLES,
+        [first.as_slice(), second.as_slice(), third.as_slice()],
+    )
 }
 
 /// What one of the small cases leaves.
@@ -33,8 +37,24 @@ fn run_case(case: u32, room: &mut [Rec], bench: &mut Bench) -> Result<Option<u64
     requires { LEAST_ROOM ≤ length room.old }
 {
     match case {
-        0 => reduced(Product { op: operator(0b0110) }, VARIABLES, THREE, room, bench),
-        1 => reduced(Product { op: operator(0b1000) }, VARIABLES, ONE, room, bench),
+        0 => reduced(
+            Product {
+                op: operator(0b0110),
+            },
+            VARIABLES,
+            THREE,
+            room,
+            bench,
+        ),
+        1 => reduced(
+            Product {
+                op: operator(0b1000),
+            },
+            VARIABLES,
+            ONE,
+            room,
+            bench,
+        ),
         2 => reduced(Choice, VARIABLES, THREE, room, bench),
         3 => {
             let operation = Quantified {
@@ -57,7 +77,9 @@ fn run_case(case: u32, room: &mut [Rec], bench: &mut Bench) -> Result<Option<u64
 fn ends_where_a_call_fails(rt: HostRuntime, case: u32, call: u64) -> Result<Option<bool>, Fail> {
     let mut room = vec![in rt.alloc(); EMPTY; LEAST_ROOM]?;
     let mut undisturbed = random_bench(rt.alloc(), 1)?;
-    let count = run_case(case, room.as_mut_slice(), &mut undisturbed).ok().flatten();
+    let count = run_case(case, room.as_mut_slice(), &mut undisturbed)
+        .ok()
+        .flatten();
     let mut bench = random_bench(rt.alloc(), 1)?;
     bench.fail_at(bench.clock().saturating_add(call))?;
     let before = bench.clock();
@@ -97,9 +119,14 @@ fn each_failing_call_ends_a_sweep(rt: HostRuntime) -> Result<(), Fail> {
 }
 
 // A case over a file of these bytes ends, or says that an operand's file is damaged.
-fn ends_or_tells_damage(rt: HostRuntime, case: u32, bytes: &[u8], bench: &mut Bench) -> Result<bool, Fail> {
+fn ends_or_tells_damage(
+    rt: HostRuntime,
+    case: u32,
+    bytes: &[u8],
+    bench: &mut Bench,
+) -> Result<bool, Fail> {
     let mut room = vec![in rt.alloc(); EMPTY; LEAST_ROOM]?;
-    bench.put_file(FIRST, bytes)?;
+    put_bytes(bench, FIRST, bytes)?;
     match run_case(case, room.as_mut_slice(), bench) {
         Ok(count) => Ok(count.is_some()),
         Err(SortFault::Damaged { file, .. }) => Ok(file == FIRST || file == SECOND),

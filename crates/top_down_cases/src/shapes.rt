@@ -37,26 +37,48 @@ fn leave_files(
     let first = random.table(alloc, VARIABLES, left)?;
     let second = random.table(alloc, VARIABLES, right)?;
     let f = first.as_slice();
-    let g = if files.first == files.second { f } else { second.as_slice() };
+    let g = if files.first == files.second {
+        f
+    } else {
+        second.as_slice()
+    };
     let mut bench = bench_of(alloc, VARIABLES, [f, g, f])?;
     let mut room = vec![in alloc; EMPTY; LEAST_ROOM]?;
     let room = room.as_mut_slice();
     for digits in 0..16 {
         let op = operator(digits);
         let made = product_of(alloc, digits, f, g)?;
-        if !leaves(alloc, Product { op }, VARIABLES, files, made.as_slice(), room, &mut bench)? {
+        if !leaves(
+            alloc,
+            Product { op },
+            VARIABLES,
+            files,
+            made.as_slice(),
+            room,
+            &mut bench,
+        )? {
             return Ok(false);
         }
     }
     let made = choice_of(alloc, f, g, f)?;
-    leaves(alloc, Choice, VARIABLES, files, made.as_slice(), room, &mut bench)
+    leaves(
+        alloc,
+        Choice,
+        VARIABLES,
+        files,
+        made.as_slice(),
+        room,
+        &mut bench,
+    )
 }
 
 // So do those on each pair of tables, and on one table that stands three times.
 fn leave_files_of_pairs(rt: HostRuntime) -> Result<bool, Fail> {
     for (left, right) in PAIRS {
         for seed in 0..8 {
-            if !leave_files(rt, THREE, left, right, seed)? || !leave_files(rt, ONE, left, right, seed)? {
+            if !leave_files(rt, THREE, left, right, seed)?
+                || !leave_files(rt, ONE, left, right, seed)?
+            {
                 return Ok(false);
             }
         }

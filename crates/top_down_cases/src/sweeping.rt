@@ -103,19 +103,23 @@ pub(crate) fn reduced<O: Operation, S: Shelf>(
 }
 
 /// A bench whose files are the canonical ones of three tables.
-pub(crate) fn bench_of(
-    alloc: Global,
-    n: u32,
-    tables: [&[bool]; 3],
-) -> Result<Bench, Fail>
+pub(crate) fn bench_of(alloc: Global, n: u32, tables: [&[bool]; 3]) -> Result<Bench, Fail>
     requires { n ≤ 20 }
 {
     let mut bench = Bench::empty(alloc);
     for (file, table) in [(FIRST, tables[0]), (SECOND, tables[1]), (THIRD, tables[2])] {
         let bytes = canon_of(alloc, n, table)?;
-        bench.put_file(file, bytes.as_slice())?;
+        put_bytes(&mut bench, file, bytes.as_slice())?;
     }
     Ok(bench)
+}
+
+/// Puts a file of these bytes, unless they are too many for one.
+pub(crate) fn put_bytes(bench: &mut Bench, file: FileNo, bytes: &[u8]) -> Result<(), Fail> {
+    if bytes.len() <= 1 << 40 {
+        bench.put_file(file, bytes)?;
+    }
+    Ok(())
 }
 
 /// The canonical file of a table, or no bytes where it isn't one of n variables.
@@ -171,15 +175,15 @@ pub(crate) fn product_of(
     left: &[bool],
     right: &[bool],
 ) -> Result<Vec<bool>, Fail> {
+    let op = operator(digits);
     let mut made = Vec::new(alloc);
     for place in 0..left.len() {
-        let shift = match (value_at(left, place), value_at(right, place)) {
-            (false, false) => 0,
-            (false, true) => 1,
-            (true, false) => 2,
-            (true, true) => 3,
-        };
-        made.push((digits >> shift) & 1 != 0)?;
+        made.push(match (value_at(left, place), value_at(right, place)) {
+            (false, false) => op.v00,
+            (false, true) => op.v01,
+            (true, false) => op.v10,
+            (true, true) => op.v11,
+        })?;
     }
     Ok(made)
 }
@@ -201,7 +205,7 @@ pub(crate) fn choice_of(
 
 /// The bit of a level in the places of a table.
 fn bit(n: u32, level: u32) -> usize {
-    1usize << (n.saturating_sub(1).saturating_sub(level) & 31)
+    1usize << n.saturating_sub(1).saturating_sub(level).min(20)
 }
 
 /// The table in which a variable has a value.

@@ -52,7 +52,17 @@ fn leave_files_of(rt: HostRuntime, tried: Tried, n: u32, seed: u64) -> Result<bo
             for digits in 0..16 {
                 let made = product_of(alloc, digits, f, g)?;
                 let op = operator(digits);
-                if is_tried(n, seed, digits) && !leaves(alloc, Product { op }, n, THREE, made.as_slice(), room, &mut bench)? {
+                if is_tried(n, seed, digits)
+                    && !leaves(
+                        alloc,
+                        Product { op },
+                        n,
+                        THREE,
+                        made.as_slice(),
+                        room,
+                        &mut bench,
+                    )?
+                {
                     return Ok(false);
                 }
             }

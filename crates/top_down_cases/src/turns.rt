@@ -1,7 +1,6 @@
 //! The turns of a conjunction of a large diagram with a small one.
-use crate::sweeping::{EMPTY, FIRST, LEAST_ROOM, SECOND, THREE, operator, swept};
-use node_file::NodeWriter;
-use rec_words::{Node, Ptr, Uid};
+use crate::sweeping::{EMPTY, FIRST, LEAST_ROOM, SECOND, THREE, operator, put_bytes, swept};
+use rec_words::Ptr;
 use shelf_memory::Bench;
 use shelf_model::FileNo;
 use std::alloc::Global;
@@ -13,11 +12,6 @@ const HALF: u16 = 14;
 
 const VARIABLES: u32 = 28;
 
-fn node_at(level: u16, number: u64, low: Ptr, high: Ptr) -> Result<Node, Fail> {
-    let uid = Uid::of(pointer_to(level, number)).ok_or("no node")?;
-    Ok(Node { uid, low, high })
-}
-
 fn pointer_to(level: u16, number: u64) -> Ptr {
     Ptr::node(level.min(65_534), number.min(1 << 20))
 }
@@ -28,7 +22,7 @@ fn sum_of(level: u16, mask: u64, value: u64) -> Ptr {
     let mut mask = mask;
     for _step in 0..HALF {
         if mask & 1 == 1 {
-            return pointer_to(level, (mask >> 1) * 2 + value);
+            return pointer_to(level, mask.saturating_sub(1).saturating_add(value));
         }
         mask >>= 1;
         level = level.saturating_add(1);
@@ -36,60 +30,112 @@ fn sum_of(level: u16, mask: u64, value: u64) -> Ptr {
     Ptr::terminal(value == 1)
 }
 
-/// Writes a diagram of 3 * (2^14 - 1) nodes. The variables of its first half choose which of those of its second half
-/// are added up.
-fn write_large(alloc: Global, bench: &mut Bench) -> Result<u64, Fail> {
-    let mut window = vec![in alloc; EMPTY; 88]?;
-    let mut writer = NodeWriter::start(FIRST, VARIABLES, window.as_mut_slice(), bench)?;
-    for back in 0..HALF {
-        let level = HALF - 1 - back;
-        let count = 1u64 << (back & 15);
-        for place in 0..2 * count {
-            let number = 2 * count - 1 - place;
-            let (mask, value) = (number / 2, number % 2);
-            let low = sum_of(HALF + level + 1, mask, value);
-            let high = sum_of(HALF + level + 1, mask, 1 - value);
-            writer.put(node_at(HALF + level, number, low, high)?, bench)?;
-        }
+/// Adds the record of a node, or of a trailer.
+fn add(bytes: &mut Vec<u8>, first: u64, second: u64, third: u64) -> Result<(), Fail> {
+    for word in [first, second, third] {
+        bytes.extend_from_slice(&word.to_be_bytes())?;
     }
-    for back in 0..HALF {
-        let level = HALF - 1 - back;
-        let count = 1u64 << (level & 15);
-        for place in 0..count {
-            let number = count - 1 - place;
-            let low = pointer_to(level + 1, 2 * number);
-            let high = pointer_to(level + 1, 2 * number + 1);
-            writer.put(node_at(level, number, low, high)?, bench)?;
-        }
-    }
-    Ok(writer.end(pointer_to(0, 0), bench)?)
+    Ok(())
 }
 
-/// Writes the diagram that is 1 where all variables are.
-fn write_cube(alloc: Global, bench: &mut Bench) -> Result<u64, Fail> {
-    let mut window = vec![in alloc; EMPTY; 88]?;
-    let mut writer = NodeWriter::start(SECOND, VARIABLES, window.as_mut_slice(), bench)?;
-    let mut below = Ptr::terminal(true);
-    for back in 0..2 * HALF {
-        let level = 2 * HALF - 1 - back;
-        writer.put(node_at(level, 0, Ptr::terminal(false), below)?, bench)?;
-        below = pointer_to(level, 0);
+/// Adds the nodes of a level of the second half. Each adds its variable to some of the later ones.
+fn add_sums(bytes: &mut Vec<u8>, level: u16, count: u64) -> Result<(), Fail> {
+    let below = level.saturating_add(1);
+    for place in 0..count {
+        let number = count.saturating_sub(1).saturating_sub(place);
+        let (mask, value) = (number / 2, number % 2);
+        let low = sum_of(below, mask, value);
+        let high = sum_of(below, mask, 1 - value);
+        add(
+            bytes,
+            pointer_to(level, number).word(),
+            low.word(),
+            high.word(),
+        )?;
     }
-    Ok(writer.end(below, bench)?)
+    Ok(())
+}
+
+/// Adds the nodes of a level of the first half, all of which lead to different ones.
+fn add_tree(bytes: &mut Vec<u8>, level: u16, count: u64) -> Result<(), Fail> {
+    let below = level.saturating_add(1);
+    for place in 0..count {
+        let number = count.saturating_sub(1).saturating_sub(place);
+        let child = number.saturating_mul(2);
+        let low = pointer_to(below, child);
+        let high = pointer_to(below, child.saturating_add(1));
+        add(
+            bytes,
+            pointer_to(level, number).word(),
+            low.word(),
+            high.word(),
+        )?;
+    }
+    Ok(())
+}
+
+/// Puts a file of these nodes with that root, and tells how many there are.
+fn put_nodes(bench: &mut Bench, file: FileNo, nodes: Vec<u8>, root: Ptr) -> Result<u64, Fail> {
+    let mut bytes = nodes;
+    let count = bytes.len() as u64 / 24;
+    add(&mut bytes, root.word(), count, u64::from(VARIABLES))?;
+    put_bytes(bench, file, bytes.as_slice())?;
+    Ok(count)
+}
+
+/// Puts a diagram of 3 * (2^14 - 1) nodes. The variables of its first half choose which of those of its second half
+/// are added up.
+fn put_large(alloc: Global, bench: &mut Bench) -> Result<u64, Fail> {
+    let mut bytes = Vec::new(alloc);
+    let mut level = 2 * HALF;
+    let mut count = 1u64;
+    for _level in 0..HALF {
+        level = level.saturating_sub(1);
+        count = count.saturating_mul(2);
+        add_sums(&mut bytes, level, count)?;
+    }
+    for _level in 0..HALF {
+        level = level.saturating_sub(1);
+        count /= 2;
+        add_tree(&mut bytes, level, count)?;
+    }
+    put_nodes(bench, FIRST, bytes, pointer_to(0, 0))
+}
+
+/// Puts the diagram that is 1 where all variables are.
+fn put_cube(alloc: Global, bench: &mut Bench) -> Result<u64, Fail> {
+    let mut bytes = Vec::new(alloc);
+    let mut level = 2 * HALF;
+    let mut below = Ptr::terminal(true);
+    for _level in 0..2 * HALF {
+        level = level.saturating_sub(1);
+        let node = pointer_to(level, 0);
+        add(
+            &mut bytes,
+            node.word(),
+            Ptr::terminal(false).word(),
+            below.word(),
+        )?;
+        below = node;
+    }
+    put_nodes(bench, SECOND, bytes, below)
 }
 
 // The conjunction of the large diagram with the cube takes few turns: asks whose answer is known aren't made.
 fn takes_few_turns(rt: HostRuntime) -> Result<bool, Fail> {
     let mut bench = Bench::empty(rt.alloc());
-    let large = write_large(rt.alloc(), &mut bench)?;
-    let small = write_cube(rt.alloc(), &mut bench)?;
+    let large = put_large(rt.alloc(), &mut bench)?;
+    let small = put_cube(rt.alloc(), &mut bench)?;
     let mut room = vec![in rt.alloc(); EMPTY; LEAST_ROOM]?;
     let files = Files {
         third: SECOND,
         ..THREE
     };
-    let product = Product { op: operator(0b1000) };
-    let Some((made, turns)) = swept(product, VARIABLES, files, room.as_mut_slice(), &mut bench)? else {
+    let product = Product {
+        op: operator(0b1000),
+    };
+    let Some((made, turns)) = swept(product, VARIABLES, files, room.as_mut_slice(), &mut bench)?
+    else {
         return Ok(false);
     };
     Ok(large == 49_149 && small == 28 && turns < 60_000 && made.inner_count == 27)
