@@ -60,7 +60,8 @@ pub record HoldsValues {T : Type 0} (is_value : T → Type 0) (words : T → Lis
   pub reached : IfSome q.last (IsReached is_value words q.sorter)
 
 -- in that world the queue stands for these values, which ascend, and none of which is less than the last one taken
-pub record Lists {T : Type 0} (is_value : T → Type 0) (words : T → List ℕ) (cmp : T → T → Ordering) (q : LevelQueue T) (world : World) (xs : List T) : Type 0 where
+pub record Lists {T : Type 0} (is_value : T → Type 0) (words : T → List ℕ) (cmp : T → T → Ordering) (q : LevelQueue T)
+    (world : World) (xs : List T) : Type 0 where
   pub sorter : sorters.Lists is_value words cmp q.sorter world xs
   pub reached : All (IsNoLess cmp q.last) xs
 

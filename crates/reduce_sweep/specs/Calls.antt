@@ -49,7 +49,8 @@ pub record SameTask (old new : ReduceSweep) : Type 0 where
   pub root_is : new.place.root ≡ old.place.root
 
 -- what a call leaves and costs, why it is refused, and where damage is then
-pub record Does {S T : Type 0} (tells : S → Bool) (world : S → World) (counts : S → Faults) (most_calls most_parts : ℕ) (before after : S) (old new : ReduceSweep) (result : Result T SortFault) : Type 0 where
+pub record Does {S T : Type 0} (tells : S → Bool) (world : S → World) (counts : S → Faults)
+    (most_calls most_parts : ℕ) (before after : S) (old new : ReduceSweep) (result : Result T SortFault) : Type 0 where
   pub leaves : Leaves tells world counts accounts most_calls most_parts before after old new result
   pub same : SameTask old new
   pub refused : IfErr result (Refuses (inner_file old) (ends_file old) new)

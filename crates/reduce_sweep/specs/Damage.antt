@@ -15,9 +15,11 @@ use Rattle.arc_file.specs.Streams.{file_of, left_of, given_of}
 use Rattle.arc_file.specs.Readers.{inner_of, ends_of}
 use Rattle.reduce_sweep.specs.declared.reduce.ReduceSweep.{ReduceSweep}
 
--- the next record of a file, from its end on, is damaged: it isn't whole, is none of an arc of that kind, or isn't in order with
+-- the next record of a file, from its end on, is damaged: it isn't whole, is none of an arc of that kind, or isn't in
+-- order with
 -- the arc behind it, where that was given
-pub record IsDamagedAt (kind : Kind) (read : FileNo) (left : ℕ) (given : Option Arc) (world : World) (f : FileNo) (at : ℕ) : Type 0 where
+pub record IsDamagedAt (kind : Kind) (read : FileNo) (left : ℕ) (given : Option Arc) (world : World) (f : FileNo)
+    (at : ℕ) : Type 0 where
   pub file_is : f ≡ read
   pub some : 0 < left
   pub at_is : at ≡ (left - 1) * 16
@@ -45,7 +47,8 @@ pub record IsDamagedRecord (kind : Kind) (read : FileNo) (world : World) (f : Fi
 abbrev pub IsDamage : ReduceSweep → World → SortFault → Type 0
 IsDamage s world Shelf = Unit
 IsDamage s world (Damaged f at) =
-    IsDamagedRecord Inner (file_of (inner_of s.ahead.reader)) world f at ⊎ IsDamagedRecord End (file_of (ends_of s.ahead.reader)) world f at
+    IsDamagedRecord Inner (file_of (inner_of s.ahead.reader)) world f at
+    ⊎ IsDamagedRecord End (file_of (ends_of s.ahead.reader)) world f at
 IsDamage s world RunsSpent = Unit
 IsDamage s world RoomFull = Unit
 
@@ -53,6 +56,7 @@ IsDamage s world RoomFull = Unit
 abbrev pub IsDamageAtStart : Unreduced → World → SortFault → Type 0
 IsDamageAtStart made world Shelf = Unit
 IsDamageAtStart made world (Damaged f at) =
-    IsDamagedAt Inner made.inner made.inner_count None world f at ⊎ IsDamagedAt End made.ends made.ends_count None world f at
+    IsDamagedAt Inner made.inner made.inner_count None world f at
+    ⊎ IsDamagedAt End made.ends made.ends_count None world f at
 IsDamageAtStart made world RunsSpent = Unit
 IsDamageAtStart made world RoomFull = Unit

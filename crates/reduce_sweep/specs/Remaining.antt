@@ -41,7 +41,8 @@ pub record Diagram : Type 0 where
   pub arcs : List Arc
   pub table : List Bool
 
--- what the queue and the sorters hold, the last arc that was taken from the queue, which arcs of either file aren't handled,
+-- what the queue and the sorters hold, the last arc that was taken from the queue, which arcs of either file aren't
+-- handled,
 -- and which nodes were put
 pub record Contents : Type 0 where
   pub queue : List FinalArc
@@ -52,7 +53,8 @@ pub record Contents : Type 0 where
   pub names : List Name
   pub nodes : List Node
 
--- the arcs that are to be collected: those of the queue with their final targets, and those to truth values that aren't handled
+-- the arcs that are to be collected: those of the queue with their final targets, and those to truth values that
+-- aren't handled
 abbrev pub to_collect : Contents → List Arc
 to_collect k = map as_arc k.queue ++ k.ends
 
@@ -68,12 +70,14 @@ pub record IsBetween (n root level : ℕ) (known : Option ℕ) (d : Diagram) (k 
   pub no_names : k.names ≡ []
 
 -- the sources of the level are collected, and an arc of the one at hand was noted
-pub record IsCollected (n root level : ℕ) (known : Option ℕ) (source : Source) (d : Diagram) (k : Contents) : Type 0 where
+pub record IsCollected (n root level : ℕ) (known : Option ℕ) (source : Source) (d : Diagram)
+    (k : Contents) : Type 0 where
   pub collecting : IsCollecting n root level d.arcs (to_collect k) (noted source) k.inner k.rows k.names k.nodes known
   pub one : (p : Arc) × Has p (noted source)
 
 -- some rows have numbers: as many as were given, and the last of them is at hand
-pub record IsNumbered (n root level : ℕ) (known : Option ℕ) (numbered : Numbered) (d : Diagram) (k : Contents) : Type 0 where
+pub record IsNumbered (n root level : ℕ) (known : Option ℕ) (numbered : Numbered) (d : Diagram)
+    (k : Contents) : Type 0 where
   pub done : List Row
   pub numbering : IsNumbering n root level d.arcs (to_collect k) k.inner done numbered.last k.rows k.names k.nodes known
   pub number_is : numbered.number ≡ length done
@@ -131,7 +135,8 @@ NameLists s world xs = sorters.Lists IsName name_words name_cmp s world xs
 pub record Holds (a : Ahead) (l : Lists) (w : NodeWriter) (world : World) (k : Contents) : Type 0 where
   pub queue_is : QueueLists a.queue world k.queue
   pub last_is : queues.last_of a.queue ≡ k.last
-  pub inner_is : IsUnread Inner a.inner (inner_of a.reader) (file world (streams.file_of (inner_of a.reader))).bytes k.inner
+  pub inner_is : IsUnread Inner a.inner (inner_of a.reader)
+      (file world (streams.file_of (inner_of a.reader))).bytes k.inner
   pub ends_is : IsUnread End a.end (ends_of a.reader) (file world (streams.file_of (ends_of a.reader))).bytes k.ends
   pub rows_is : RowLists l.rows world k.rows
   pub names_is : NameLists l.names world k.names

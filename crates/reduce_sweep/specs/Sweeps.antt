@@ -75,7 +75,8 @@ one_if_some (Some x) = 1
 -- what weighs on the turns to come: an arc to a node that isn't used, 4; one to a truth value, and an arc in the
 -- queue, 3; a source that is collected, and a row, 2; a name, 1
 abbrev pub arcs_weight : Ahead → ℕ
-arcs_weight a = 4 * (left_of (inner_of a.reader) + one_if_some a.inner) + 3 * (left_of (ends_of a.reader) + one_if_some a.end)
+arcs_weight a = 4 * (left_of (inner_of a.reader) + one_if_some a.inner) + 3 *
+    (left_of (ends_of a.reader) + one_if_some a.end)
     + 3 * queues.held a.queue
 
 abbrev pub lists_weight : Lists → ℕ
@@ -100,7 +101,8 @@ turns_left r = fuel_at r.place.phase (arcs_weight r.ahead + lists_weight r.lists
 abbrev pub IsRun : Ahead → Lists → FileNo → Type 0
 IsRun a l f = queues.IsRunOf a.queue f ⊎ (sorters.IsRunOf l.rows f ⊎ sorters.IsRunOf l.names f)
 
--- the lists hold values, their runs have parts that were taken, and the other files differ from these and from each other
+-- the lists hold values, their runs have parts that were taken, and the other files differ from these and from each
+-- other
 pub record AreServed (a : Ahead) (l : Lists) (w : NodeWriter) (parts : Parts) : Type 0 where
   pub queue_values : queues.HoldsValues IsFinalArc final_arc_words a.queue
   pub row_values : sorters.HoldsValues IsSourceRow source_row_words l.rows
@@ -142,7 +144,8 @@ pub record IsSound (r : ReduceSweep) : Type 0 where
 -- one of its lists is as long as its room
 abbrev pub HasFullRoom : ReduceSweep → Type 0
 HasFullRoom r = (queues.held r.ahead.queue ≡ queues.room_of r.ahead.queue)
-    ⊎ ((sorters.held r.lists.rows ≡ sorters.room_of r.lists.rows) ⊎ (sorters.held r.lists.names ≡ sorters.room_of r.lists.names))
+    ⊎ ((sorters.held r.lists.rows ≡ sorters.room_of r.lists.rows)
+    ⊎ (sorters.held r.lists.names ≡ sorters.room_of r.lists.names))
 
 -- why it can't go on: a call of the folder failed, one of the two arc files is damaged, or a room is full
 abbrev pub Refuses : FileNo → FileNo → ReduceSweep → SortFault → Type 0
@@ -160,10 +163,12 @@ abbrev pub IsNext : Ahead → Option (FinalArc × Bool) → Type 0
 IsNext a None = Unit
 IsNext a (Some next) = IsThere a next.1
 
--- an item of the level was handled, and fewer turns are left; or the phase is over and the next one begins, and no arc was read
+-- an item of the level was handled, and fewer turns are left; or the phase is over and the next one begins, and no arc
+-- was read
 abbrev pub Handles : Phase → ReduceSweep → ReduceSweep → Bool → Type 0
 Handles after old new true = (0 < turns_left new) × (turns_left new < turns_left old)
-Handles after old new false = (new.place.phase ≡ after) × (turns_left new ≤ turns_left old) × (new.ahead.reader ≡ old.ahead.reader)
+Handles after old new false = (new.place.phase ≡ after) × (turns_left new ≤ turns_left old)
+    × (new.ahead.reader ≡ old.ahead.reader)
 
 -- what a turn answers tells whether the count of nodes is known
 abbrev pub CountsAtEnd : Turn → Option ℕ → Type 0

@@ -65,7 +65,8 @@ impl<'r> ReduceSweep<'r> {
         ensures fit { OnOk result (IsFit S.tells S.world shelf.new self.new) }
         ensures rest { self.new ≡ record self.old { ahead = self.new.ahead; parts = self.new.parts } }
         ensures weight { OnOk result (arcs_weight self.new.ahead + 3 ≡ arcs_weight self.old.ahead) }
-        ensures passed { OnOk result (IsTrue (S.tells shelf.new) → (k : Contents) → (arc : FinalArc) → IsAt queued k arc →
+        ensures passed { OnOk result (IsTrue (S.tells shelf.new) → (k : Contents) → (arc : FinalArc) →
+            IsAt queued k arc →
             Holds self.old.ahead self.old.lists self.old.writer (S.world shelf.old) k →
             Passes queued self.new (S.world shelf.new) k arc) }
     {
@@ -107,7 +108,8 @@ impl<'r> ReduceSweep<'r> {
           };
         } }
         ensures weight { OnOk result (arcs_weight self.new.ahead + 3 ≡ arcs_weight self.old.ahead) }
-        ensures passed { OnOk result (IsTrue (S.tells shelf.new) → (k : Contents) → (arc : FinalArc) → IsAt false k arc →
+        ensures passed { OnOk result (IsTrue (S.tells shelf.new) → (k : Contents) → (arc : FinalArc) →
+            IsAt false k arc →
             Holds self.old.ahead self.old.lists self.old.writer (S.world shelf.old) k →
             Passes false self.new (S.world shelf.new) k arc) }
     {

@@ -70,7 +70,8 @@ impl<'r> ReduceSweep<'r> {
             turns_left r ≤ 8 * sources + 8) }
         ensures count { IfOk result (λ r. count_in r ≡ None) }
         ensures rooms { IfOk result (λ r. (3 * length room.entry.now ≤ 16 * queues.room_of r.ahead.queue)
-            × (length room.entry.now ≤ 16 * sorters.room_of r.lists.rows) × (length room.entry.now ≤ 16 * sorters.room_of r.lists.names)) }
+            × (length room.entry.now ≤ 16 * sorters.room_of r.lists.rows)
+            × (length room.entry.now ≤ 16 * sorters.room_of r.lists.names)) }
 
         // what remains
         ensures remains { IfOk result (λ r. IsTrue (S.tells shelf.new) → (d : Diagram) → (inner ends : List Arc) →

@@ -36,7 +36,8 @@ impl<'r> ReduceSweep<'r> {
             RemainsOf self.old (S.world shelf.old) d → RemainsOf self.new (S.world shelf.new) d) }
         ensures reduced { IfOk result (λ turn. IsTrue (S.tells shelf.new) → (d : Diagram) →
             RemainsOf self.old (S.world shelf.old) d → IsDoneAt turn self.new (S.world shelf.new) d) }
-        ensures damage { IfErr result (λ e. IsTrue (S.tells shelf.new) → IsDamageOf self.old.ahead.reader (S.world shelf.old) e) }
+        ensures damage { IfErr result (λ e. IsTrue (S.tells shelf.new) →
+            IsDamageOf self.old.ahead.reader (S.world shelf.old) e) }
         ensures damaged { IfErr result (λ e. IsTrue (S.tells shelf.new) → IsDamage self.new (S.world shelf.new) e) }
         ensures undamaged { IfErr result (λ e. IsTrue (S.tells shelf.new) → (d : Diagram) →
             RemainsOf self.old (S.world shelf.old) d → IsNoDamage e) }

@@ -67,13 +67,15 @@ pub record IsReady (s : EvalSweep) : Type 0 where
   pub bits : s.at + (trailer_of s.nodes).n ≤ length s.text.now
   pub place : IsPlaceAt s.state (trailer_of s.nodes).count
 
--- a pointer was come to: it is the root, of which nothing was read, or a node that was read names it; and all that were read are above it
+-- a pointer was come to: it is the root, of which nothing was read, or a node that was read names it; and all that
+-- were read are above it
 pub record IsPath (root left : ℕ) (bytes : List ℕ) (p : ℕ) : Type 0 where
   pub pointer : IsPointer p
   pub above : (k : ℕ) → left ≤ k → k < count_of bytes → identifier_at k bytes < p
   pub named : ((left ≡ count_of bytes) × (p ≡ root)) ⊎ IsNamed bytes left p
 
--- a pointer was passed, between the node at place q and the one behind it, and no node that was read since is the one that it leads to
+-- a pointer was passed, between the node at place q and the one behind it, and no node that was read since is the one
+-- that it leads to
 pub record IsPassed (left : ℕ) (given : Option ℕ) (bytes : List ℕ) (q : ℕ) : Type 0 where
   pub pointer : ℕ
   pub node : IsNodeWord pointer
@@ -105,7 +107,8 @@ abbrev pub IsOneOf : List Node → ℕ → Type 0
 IsOneOf xs p = IsTerminal p ⊎ ((x : Node) × Has x xs × (x.uid ≡ p))
 
 -- the path goes on from the pointer to the table's value, and its node isn't read yet
-pub record IsOnWay (r : NodeReader) (bytes : List ℕ) (nodes : List Node) (bits : List Bool) (value : Bool) (p : ℕ) : Type 0 where
+pub record IsOnWay (r : NodeReader) (bytes : List ℕ) (nodes : List Node) (bits : List Bool) (value : Bool)
+    (p : ℕ) : Type 0 where
   pub given : List Node
   pub but : AreLeftBut r bytes nodes given
   pub next : IsOneOf but.rest p
@@ -119,12 +122,14 @@ IsFollowed (Answered b) r bytes nodes bits value = b ≡ value
 -- the file is the canonical one of the table, and the path leads to the table's value
 pub record RemainsOf (s : EvalSweep) (world : World) (d : OneTable) : Type 0 where
   pub file_is : IsCanonical d.n d.table s.nodes world
-  pub followed : IsFollowed s.state s.nodes (bytes_of s.nodes world) (canon_nodes d.n d.table) (bits_of s) (value_at d.table (place_of_bits (bits_of s)))
+  pub followed : IsFollowed s.state s.nodes (bytes_of s.nodes world) (canon_nodes d.n d.table) (bits_of s)
+      (value_at d.table (place_of_bits (bits_of s)))
 
 -- a node of the file is damaged, or one is missing beside it
 abbrev pub IsDamage : EvalSweep → World → SortFault → Type 0
 IsDamage s world Shelf = Unit
-IsDamage s world (Damaged f at) = IsNodeFault s.nodes world (Damaged f at) ⊎ ((f ≡ file_of s.nodes) × IsMissedAt (bytes_of s.nodes world) at)
+IsDamage s world (Damaged f at) = IsNodeFault s.nodes world (Damaged f at)
+    ⊎ ((f ≡ file_of s.nodes) × IsMissedAt (bytes_of s.nodes world) at)
 IsDamage s world RunsSpent = ⊥
 IsDamage s world RoomFull = ⊥
 

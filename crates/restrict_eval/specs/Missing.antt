@@ -10,7 +10,8 @@ pub record IsNamed (bytes : List ℕ) (from pointer : ℕ) : Type 0 where
   pub place : ℕ
   pub since : from ≤ place
   pub among : place < count_of bytes
-  pub side : (slice_index (record_at 3 place bytes).w 1 ≡ pointer) ⊎ (slice_index (record_at 3 place bytes).w 2 ≡ pointer)
+  pub side : (slice_index (record_at 3 place bytes).w 1 ≡ pointer)
+      ⊎ (slice_index (record_at 3 place bytes).w 2 ≡ pointer)
 
 -- a node that is named there, and that is none of the file's
 pub record IsMissing (bytes : List ℕ) (from pointer : ℕ) : Type 0 where
@@ -25,5 +26,6 @@ pub record IsMissedAt (bytes : List ℕ) (at : ℕ) : Type 0 where
   pub at_is : at ≡ place * node_size
   pub pointer : ℕ
   pub missing : IsMissing bytes place pointer
-  pub beside : ((place + 1 < count_of bytes) × (identifier_at (place + 1) bytes < pointer) × (pointer < identifier_at place bytes))
+  pub beside : ((place + 1 < count_of bytes) × (identifier_at (place + 1) bytes < pointer)
+      × (pointer < identifier_at place bytes))
       ⊎ ((place ≡ 0) × (identifier_at 0 bytes < pointer))

@@ -33,13 +33,15 @@ pub record IsReading (r : NodeReader) (world : World) : Type 0 where
   pub trailer : HasTrailer (trailer_of r).n (trailer_of r).root (bytes_of r world)
   pub count : (trailer_of r).count ≡ count_of (bytes_of r world)
 
--- a node of the file is damaged: its record isn't that of a node that may stand there, or its identifier isn't below that of the
+-- a node of the file is damaged: its record isn't that of a node that may stand there, or its identifier isn't below
+-- that of the
 -- record before it
 pub record IsDamagedNode (n : ℕ) (bytes : List ℕ) (at : ℕ) : Type 0 where
   pub place : ℕ
   pub among : place < count_of bytes
   pub at_is : at ≡ place * node_size
-  pub damaged : ((x : Node) → ¬ IsNodeAt n place bytes x) ⊎ ((0 < place) × (identifier_at (place - 1) bytes ≤ identifier_at place bytes))
+  pub damaged : ((x : Node) → ¬ IsNodeAt n place bytes x)
+      ⊎ ((0 < place) × (identifier_at (place - 1) bytes ≤ identifier_at place bytes))
 
 -- a call of the folder failed, or a node of the file is damaged
 abbrev pub IsNodeFault : NodeReader → World → SortFault → Type 0
@@ -58,13 +60,15 @@ IsFaultOf file RoomFull = ⊥
 -- a call of the folder failed, or the file of that number has no trailer for n variables where one had to stand
 abbrev pub IsTrailerFault : FileNo → ℕ → World → SortFault → Type 0
 IsTrailerFault f n world Shelf = Unit
-IsTrailerFault f n world (Damaged g at) = (g ≡ f) × (at ≡ length (file world f).bytes - node_size) × ((root : ℕ) → ¬ HasTrailer n root (file world f).bytes)
+IsTrailerFault f n world (Damaged g at) = (g ≡ f) × (at ≡ length (file world f).bytes - node_size)
+    × ((root : ℕ) → ¬ HasTrailer n root (file world f).bytes)
 IsTrailerFault f n world RunsSpent = ⊥
 IsTrailerFault f n world RoomFull = ⊥
 
 -- a node is the next one from the end on, its identifier above the one before; None is answered at the front alone
 abbrev pub Rises : NodeReader → NodeReader → Result (Option Node) SortFault → Type 0
-Rises old new (Ok (Some x)) = IsProper (trailer_of old).n x × (left_of old ≡ left_of new + 1) × IfSome (given_of old) (λ g. g < x.uid) × (given_of new ≡ Some x.uid)
+Rises old new (Ok (Some x)) = IsProper (trailer_of old).n x × (left_of old ≡ left_of new + 1)
+    × IfSome (given_of old) (λ g. g < x.uid) × (given_of new ≡ Some x.uid)
 Rises old new (Ok None) = (left_of old ≡ 0) × (left_of new ≡ 0) × (given_of new ≡ given_of old)
 Rises old new (Err e) = Unit
 
@@ -81,7 +85,8 @@ GivesOf new bytes xs (Ok None) = xs ≡ []
 GivesOf new bytes xs (Err e) = e ≡ Shelf
 
 -- what the call gives, leaves and costs, and why it is refused
-pub record GivesNode {S : Type 0} (tells : S → Bool) (world : S → World) (counts : S → Faults) (before after : S) (old new : NodeReader) (result : Result (Option Node) SortFault) : Type 0 where
+pub record GivesNode {S : Type 0} (tells : S → Bool) (world : S → World) (counts : S → Faults) (before after : S)
+    (old new : NodeReader) (result : Result (Option Node) SortFault) : Type 0 where
   pub file_is : file_of new ≡ file_of old
   pub trailer_is : trailer_of new ≡ trailer_of old
   pub rises : Rises old new result
@@ -89,7 +94,8 @@ pub record GivesNode {S : Type 0} (tells : S → Bool) (world : S → World) (co
   pub same : IsTrue (tells after) → bytes_of new (world after) ≡ bytes_of old (world before)
   pub reads : OnOk result (IsTrue (tells after) → IsReading new (world after))
   pub value : IsTrue (tells after) → IsItsNode new (bytes_of old (world before)) result
-  pub items : IsTrue (tells after) → (xs : List Node) → AreLeft old (bytes_of old (world before)) xs → GivesOf new (bytes_of old (world before)) xs result
+  pub items : IsTrue (tells after) → (xs : List Node) → AreLeft old (bytes_of old (world before)) xs →
+      GivesOf new (bytes_of old (world before)) xs result
   pub damage : IfErr result (λ e. IsTrue (tells after) → IsNodeFault old (world before) e)
   pub refused : IfErr result (IsFaultOf (file_of old))
   pub content : Told tells before after (Looked 1 (world before) (world after))

@@ -60,12 +60,15 @@ pub record Tables : Type 0 where
   pub first : List Bool
   pub second : List Bool
 
--- the same nodes were given of both files, and perhaps one more of the first; or the answer is whether the tables are the same
+-- the same nodes were given of both files, and perhaps one more of the first; or the answer is whether the tables are
+-- the same
 abbrev pub AreCompared : Comparing → Tables → NodeReader → NodeReader → World → Type 0
 AreCompared Level d left right world = (given : List Node)
-    × AreLeftBut left (bytes_of left world) (canon_nodes d.n d.first) given × AreLeftBut right (bytes_of right world) (canon_nodes d.n d.second) given
+    × AreLeftBut left (bytes_of left world) (canon_nodes d.n d.first) given
+    × AreLeftBut right (bytes_of right world) (canon_nodes d.n d.second) given
 AreCompared (Ahead x) d left right world = (given : List Node)
-    × AreLeftBut left (bytes_of left world) (canon_nodes d.n d.first) (x ∷ given) × AreLeftBut right (bytes_of right world) (canon_nodes d.n d.second) given
+    × AreLeftBut left (bytes_of left world) (canon_nodes d.n d.first) (x ∷ given)
+    × AreLeftBut right (bytes_of right world) (canon_nodes d.n d.second) given
 AreCompared (Answered b) d left right world = b ≡ same_bits d.first d.second
 
 -- the files are the canonical ones of the two tables, and what was read of them is compared

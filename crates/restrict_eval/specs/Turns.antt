@@ -28,13 +28,16 @@ AnswersAtEnd More answer = answer ≡ None
 AnswersAtEnd Ended answer = IsSome answer
 
 -- what a turn does, leaves and costs, and why it is refused
-pub record Turns {S P : Type 0} (kind : Kind P) (tells : S → Bool) (world : S → World) (counts : S → Faults) (before after : S) (old new : P) (result : Result Turn SortFault) : Type 0 where
+pub record Turns {S P : Type 0} (kind : Kind P) (tells : S → Bool) (world : S → World) (counts : S → Faults)
+    (before after : S) (old new : P) (result : Result Turn SortFault) : Type 0 where
   pub ready : OnOk result (kind.ready new)
   pub in_step : OnOk result (IsTrue (tells after) → kind.in_step new (world after))
   pub falls : Falls (kind.fuel old) (kind.fuel new) result
   pub ends : IfOk result (λ turn. AnswersAtEnd turn (kind.answer new))
-  pub keeps : OnOk result (IsTrue (tells after) → (d : kind.Job) → kind.remains old (world before) d → kind.remains new (world after) d)
-  pub undamaged : IfErr result (λ e. IsTrue (tells after) → (d : kind.Job) → kind.remains old (world before) d → IsNoDamage e)
+  pub keeps : OnOk result (IsTrue (tells after) → (d : kind.Job) → kind.remains old (world before) d →
+      kind.remains new (world after) d)
+  pub undamaged : IfErr result (λ e. IsTrue (tells after) → (d : kind.Job) → kind.remains old (world before) d →
+      IsNoDamage e)
   pub damage : IfErr result (λ e. IsTrue (tells after) → kind.damaged new (world after) e)
   pub refused : IfErr result (kind.refuses old)
   pub leaves : Leaves tells world counts (reading_accounts kind.parts) 1 0 before after old new result

@@ -191,7 +191,8 @@ impl<'r> EvalSweep<'r> {
     fn after(&self, pointer: Ptr, node: &Node) -> Following
         requires bits { self.now.at + (trailer_of self.now.nodes).n ≤ length self.now.text.now }
         requires level { level_of node.now.uid < (trailer_of self.now.nodes).n }
-        ensures found { node.now.uid ≡ pointer → result ≡ Following.To (record { pointer = side_by (bits_of self.now) node.now }) }
+        ensures found { node.now.uid ≡ pointer → result ≡ Following.To
+            (record { pointer = side_by (bits_of self.now) node.now }) }
         ensures above { node.now.uid < pointer → result ≡ Following.To (record { pointer = pointer }) }
         ensures past { pointer < node.now.uid → result ≡ Following.Past (left_of self.now.nodes) }
     {

@@ -55,7 +55,8 @@ impl<'r> SameSweep<'r> {
         ensures parts { IfOk result (λ s. parts_of s ≡ parts) }
         ensures answer { IfOk result (λ s. answer_of s ≡ None) }
         ensures left { IfOk result (λ s. IsTrue (S.tells shelf.new) →
-            turns_left s ≡ count_of (file (S.world shelf.old) f).bytes + count_of (file (S.world shelf.old) g).bytes + 1) }
+            turns_left s ≡ count_of (file (S.world shelf.old) f).bytes + count_of
+            (file (S.world shelf.old) g).bytes + 1) }
 
         // what remains
         ensures remains { IfOk result (λ s. IsTrue (S.tells shelf.new) → (t u : List Bool) →

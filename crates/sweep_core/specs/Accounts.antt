@@ -28,21 +28,27 @@ pub record CanBeTaken (step next : ℕ) (f : FileNo) : Type 0 where
   pub step_is : f.step ≡ step
   pub from : next ≤ f.part
 
--- at a moment each file but those that are made, and those whose parts can be taken, is as it was; and of those that are made,
+-- at a moment each file but those that are made, and those whose parts can be taken, is as it was; and of those that
+-- are made,
 -- what was kept is kept
 pub record OnlyOwn (makes : FileNo → Type 0) (step next : ℕ) (old m : Moment) : Type 0 where
   pub others : (f : FileNo) → ¬ (makes f) → ¬ CanBeTaken step next f → file_in m.folder f ≡ file_in old.folder f
-  pub kept : (f : FileNo) → makes f → (front : List ℕ) → IsKept front (file_in old.folder f) → IsKept front (file_in m.folder f)
+  pub kept : (f : FileNo) → makes f → (front : List ℕ) → IsKept front (file_in old.folder f) →
+      IsKept front (file_in m.folder f)
 
 -- what a call leaves, and what it costs at most, in calls of the folder and in parts
-pub record Leaves {S P T : Type 0} (tells : S → Bool) (world : S → World) (counts : S → Faults) (accounts : Accounts P) (most_calls most_parts : ℕ) (before after : S) (old new : P) (result : Result T SortFault) : Type 0 where
+pub record Leaves {S P T : Type 0} (tells : S → Bool) (world : S → World) (counts : S → Faults)
+    (accounts : Accounts P) (most_calls most_parts : ℕ) (before after : S) (old new : P)
+    (result : Result T SortFault) : Type 0 where
   -- it makes the same files, of the same step, and parts were taken in turn
   pub made : (f : FileNo) → accounts.makes new f → accounts.makes old f
   pub making : (f : FileNo) → accounts.makes old f → accounts.makes new f
   pub step_is : accounts.step new ≡ accounts.step old
   pub later : accounts.next old ≤ accounts.next new
-  pub content : Told tells before after (Ran (OnlyOwn (accounts.makes old) (accounts.step old) (accounts.next old) (now (world before))) (world before) (world after))
-  pub calls : IsTrue (tells after) → Paid most_calls (accounts.credit old) (accounts.credit new) (world before) (world after)
+  pub content : Told tells before after (Ran (OnlyOwn (accounts.makes old) (accounts.step old) (accounts.next old)
+      (now (world before))) (world before) (world after))
+  pub calls : IsTrue (tells after) → Paid most_calls (accounts.credit old) (accounts.credit new) (world before)
+      (world after)
   -- the parts that were taken are paid for with what stays paid: by what was paid before, and by a number of them
   pub spent : 256 * (accounts.next new - accounts.next old) + accounts.stock new ≤ accounts.stock old + most_parts
   pub faults : OnlySortShelf (counts before) (counts after) result

@@ -39,7 +39,8 @@ pub record SameTask (old new : Machine) : Type 0 where
   pub variables_are : new.place.variables ≡ old.place.variables
 
 -- what a call leaves and costs, and why it is refused
-pub record Does {S T : Type 0} (tells : S → Bool) (world : S → World) (counts : S → Faults) (most_calls most_parts : ℕ) (before after : S) (old new : Machine) (result : Result T SortFault) : Type 0 where
+pub record Does {S T : Type 0} (tells : S → Bool) (world : S → World) (counts : S → Faults)
+    (most_calls most_parts : ℕ) (before after : S) (old new : Machine) (result : Result T SortFault) : Type 0 where
   pub leaves : Leaves tells world counts machine_accounts most_calls most_parts before after old new result
   pub same : SameTask old new
   pub refused : IfErr result (Refuses new)

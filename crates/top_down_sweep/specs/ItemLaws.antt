@@ -18,7 +18,8 @@ then_flat Equal b c = refl
 then_flat Greater b c = refl
 
 -- a member's comparison, and another behind it
-member_then : (x y : Member) (o : Ordering) → ordering_then (member_cmp x y) o ≡ ordering_then (nat_cmp x.low y.low) (ordering_then (nat_cmp x.high y.high) o)
+member_then : (x y : Member) (o : Ordering) → ordering_then (member_cmp x y) o ≡ ordering_then (nat_cmp x.low y.low)
+    (ordering_then (nat_cmp x.high y.high) o)
 member_then x y o = then_flat (nat_cmp x.low y.low) (nat_cmp x.high y.high) o
 
 members_then : (x y : Members) (o : Ordering) → ordering_then (members_cmp x y) o
@@ -27,8 +28,10 @@ members_then : (x y : Members) (o : Ordering) → ordering_then (members_cmp x y
     (ordering_then (nat_cmp x.third.low y.third.low) (ordering_then (nat_cmp x.third.high y.third.high) o)))))
 members_then x y o =
     then_flat (member_cmp x.first y.first) (ordering_then (member_cmp x.second y.second) (member_cmp x.third y.third)) o
-    ∙ ap (λ p. ordering_then (member_cmp x.first y.first) p) (then_flat (member_cmp x.second y.second) (member_cmp x.third y.third) o)
-    ∙ ap (λ p. ordering_then (member_cmp x.first y.first) (ordering_then (member_cmp x.second y.second) p)) (member_then x.third y.third o)
+    ∙ ap (λ p. ordering_then (member_cmp x.first y.first) p)
+    (then_flat (member_cmp x.second y.second) (member_cmp x.third y.third) o)
+    ∙ ap (λ p. ordering_then (member_cmp x.first y.first) (ordering_then (member_cmp x.second y.second) p))
+    (member_then x.third y.third o)
     ∙ ap (λ p. ordering_then (member_cmp x.first y.first) p) (member_then x.second y.second _)
     ∙ member_then x.first y.first _
 
@@ -37,8 +40,10 @@ pub ask_order : (x y : Ask) → ask_cmp x y ≡ slice_cmp nat_cmp (ask_words x) 
 ask_order x y =
     ap (λ p. ordering_then (nat_cmp x.key y.key) p) (members_then x.members y.members (nat_cmp x.asker y.asker))
     ∙ ap (λ o. ordering_then (nat_cmp x.key y.key) (ordering_then (nat_cmp x.members.first.low y.members.first.low)
-    (ordering_then (nat_cmp x.members.first.high y.members.first.high) (ordering_then (nat_cmp x.members.second.low y.members.second.low)
-    (ordering_then (nat_cmp x.members.second.high y.members.second.high) (ordering_then (nat_cmp x.members.third.low y.members.third.low)
+    (ordering_then (nat_cmp x.members.first.high y.members.first.high)
+    (ordering_then (nat_cmp x.members.second.low y.members.second.low)
+    (ordering_then (nat_cmp x.members.second.high y.members.second.high)
+    (ordering_then (nat_cmp x.members.third.low y.members.third.low)
     (ordering_then (nat_cmp x.members.third.high y.members.third.high) o))))))) (then_equal (nat_cmp x.asker y.asker))
 
 -- asks with the same words are the same

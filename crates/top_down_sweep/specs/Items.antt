@@ -30,7 +30,9 @@ abbrev pub member_cmp : Member → Member → Ordering
 member_cmp x y = ordering_then (nat_cmp x.low y.low) (nat_cmp x.high y.high)
 
 abbrev pub members_cmp : Members → Members → Ordering
-members_cmp x y = ordering_then (member_cmp x.first y.first) (ordering_then (member_cmp x.second y.second) (member_cmp x.third y.third))
+members_cmp x y = ordering_then (member_cmp x.first y.first)
+    (ordering_then (member_cmp x.second y.second) (member_cmp x.third y.third))
 
 abbrev pub ask_cmp : Ask → Ask → Ordering
-ask_cmp x y = ordering_then (nat_cmp x.key y.key) (ordering_then (members_cmp x.members y.members) (nat_cmp x.asker y.asker))
+ask_cmp x y = ordering_then (nat_cmp x.key y.key) (ordering_then (members_cmp x.members y.members)
+    (nat_cmp x.asker y.asker))

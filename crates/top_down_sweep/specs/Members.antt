@@ -40,7 +40,12 @@ abbrev pub waiting : ℕ → Member → ℕ
 waiting level m = cond ((m.low == m.high) && (level_of m.low == level)) m.low (terminal true)
 
 abbrev pub all_waiting : ℕ → Members → Tuple
-all_waiting level m = record { first = waiting level m.first; second = waiting level m.second; third = waiting level m.third }
+all_waiting level m = record {
+  first = waiting level m.first;
+  second = waiting level m.second;
+  third = waiting level
+      m.third;
+}
 
 -- the least of a tuple's pointers
 abbrev pub least : Tuple → ℕ
@@ -48,7 +53,8 @@ least x = min x.first (min x.second x.third)
 
 -- an ask's node isn't at hand for each member that it is
 abbrev pub want : Operands → Ask → Bool
-want o a = wants a.key o.first.hand a.members.first || (wants a.key o.second.hand a.members.second || wants a.key o.third.hand a.members.third)
+want o a = wants a.key o.first.hand a.members.first ||
+    (wants a.key o.second.hand a.members.second || wants a.key o.third.hand a.members.third)
 
 -- the members of an ask, with the pointers of its key for those that it is
 abbrev pub all_filled : Operands → Ask → Members

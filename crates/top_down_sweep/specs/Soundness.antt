@@ -36,7 +36,8 @@ asks_above w key is_first =
 
 -- the member is a pointer from that node on, or both pointers lie deeper than the node
 abbrev pub stands : ℕ → Member → Bool
-stands key m = cond (m.low == m.high) (nat_le key m.low) (nat_lt (level_of key) (level_of m.low) && nat_lt (level_of key) (level_of m.high))
+stands key m = cond (m.low == m.high) (nat_le key m.low)
+    (nat_lt (level_of key) (level_of m.low) && nat_lt (level_of key) (level_of m.high))
 
 -- the key is the least of the members' nodes of its level that weren't read, and all else lies deeper
 abbrev pub is_keyed : Ask → Bool

@@ -17,7 +17,8 @@ const READING: usize = 88;
 
 const WRITING: usize = 256;
 
-/// The files of a sweep: the operands, one of them for each pointer of a tuple, and the two files of arcs that it makes.
+/// The files of a sweep: the operands, one of them for each pointer of a tuple, and the two files of arcs that it
+/// makes.
 #[derive(Clone, Copy, Debug, PartialEq, Eq)]
 pub struct Files {
     pub first: FileNo,
@@ -65,7 +66,8 @@ impl<'r, O: Operation> TopDownSweep<'r, O> {
 
         // what the call leaves, and what it costs
         ensures content { Told S.tells shelf.old shelf.new
-            (Ran (DuringCuts files.inner 0 files.ends 0 (now (S.world shelf.old))) (S.world shelf.old) (S.world shelf.new)) }
+            (Ran (DuringCuts files.inner 0 files.ends 0 (now (S.world shelf.old))) (S.world shelf.old)
+            (S.world shelf.new)) }
         ensures calls { IfOk result (λ s. IsTrue (S.tells shelf.new) →
             Paid 8 0 (credit_of s) (S.world shelf.old) (S.world shelf.new)) }
         ensures stock { IfOk result (λ s. stock_of s ≡ 0) }

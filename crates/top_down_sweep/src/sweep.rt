@@ -64,7 +64,8 @@ impl<'r, O: Operation> TopDownSweep<'r, O> {
             IsFirm (file (S.world shelf.new) f)) }
 
         // what the call leaves, and what it costs
-        ensures leaves { Leaves S.tells S.world S.faults (accounts O) 113 6 shelf.old shelf.new self.old self.new result }
+        ensures leaves { Leaves S.tells S.world S.faults
+            (accounts O) 113 6 shelf.old shelf.new self.old self.new result }
         ensures refused { IfErr result (Refused self.new) }
     {
         self.machine.turn(&self.operation, shelf)
