@@ -26,8 +26,8 @@ pub record Stays (s t : State) : Type 0 where
   pub begun : t.begun ≡ s.begun
 
 -- so what was kept may be
-pub kept_on : (netlist : Option Net) (s t : State) (kept : Option NetTables) → Stays s t → IsKept netlist s kept
-    → IsKept netlist t kept
+pub kept_on : (netlist : Option Net) (s t : State) (kept : Option NetTables) → Stays s t
+    → IsKept netlist s kept → IsKept netlist t kept
 kept_on netlist s t kept stays is = record {
   begun = λ tables some. stays.begun ∙ is.begun tables some;
   tables = λ tables net some given. still net tables (is.tables tables net some given);
@@ -35,7 +35,9 @@ kept_on netlist s t kept stays is = record {
   where
     still : (net : Net) (tables : NetTables) → AreTablesOf net s tables → AreTablesOf net t tables
     still net tables are = record {
-      levels = ap (λ (f : List ℕ → Option ℕ). all_found kind.Variable f (inputs_of net)) stays.level ∙ are.levels;
+      levels =
+          ap (λ (f : List ℕ → Option ℕ). all_found kind.Variable f (inputs_of net)) stays.level
+          ∙ are.levels;
       serves = are.serves;
     }
 
@@ -90,8 +92,9 @@ abbrev some_of : Net → Option Net
 some_of net = Some net
 
 -- what a line that asks for signals leaves
-pub kept_signals : (netlist : Option Net) (net : Net) (s t : State) (tables : NetTables) (number : ℕ)
-    (names : List Word) (levels wanted : List ℕ) → netlist ≡ Some net → s.begun ≡ true → AreTablesOf net s tables
+pub kept_signals : (netlist : Option Net) (net : Net) (s t : State) (tables : NetTables)
+    (number : ℕ) (names : List Word) (levels wanted : List ℕ) → netlist ≡ Some net
+    → s.begun ≡ true → AreTablesOf net s tables
     → plan_signals s number names net levels wanted ≡ Ok t → IsKept netlist t (Some tables)
 kept_signals netlist net s t tables number names levels wanted given begun are planned =
     kept_on netlist s t (Some tables) (signals_keep s t number names net levels wanted planned)
@@ -109,21 +112,24 @@ kept_signals netlist net s t tables number names levels wanted given begun are p
     some_tables a b e = cc
 
 -- and a line that begins
-pub kept_begun : (netlist : Option Net) (s t : State) (kept : Option NetTables) → t ≡ begin s → IsKept netlist s kept
-    → IsKept netlist t kept
+pub kept_begun : (netlist : Option Net) (s t : State) (kept : Option NetTables) → t ≡ begin s
+    → IsKept netlist s kept → IsKept netlist t kept
 kept_begun netlist s t kept begins is =
     subst (λ (v : State). IsKept netlist v kept) (sym begins) (record {
       begun = λ tables some. refl;
       tables = λ tables net some given. still net tables (is.tables tables net some given);
     })
   where
-    still : (net : Net) (tables : NetTables) → AreTablesOf net s tables → AreTablesOf net (begin s) tables
+    still : (net : Net) (tables : NetTables) → AreTablesOf net s tables
+        → AreTablesOf net (begin s) tables
     still net tables are = record { levels = are.levels; serves = are.serves }
 
 -- and one that is one step
 pub kept_step : (result : Result (Unit {0}) Refusal) (netlist : Option Net) (s begun t : State)
-    (kept : Option NetTables) (number : ℕ) (k : Keyword) (words : List Word) → IsKept netlist s kept → begun ≡ begin s
+    (kept : Option NetTables) (number : ℕ) (k : Keyword) (words : List Word)
+    → IsKept netlist s kept → begun ≡ begin s
     → Leads t result (plan_step begun number k words) → OnOk result (IsKept netlist t kept)
 kept_step (Ok u) netlist s begun t kept number k words is begins leads =
-    kept_on netlist begun t kept (step_keeps begun t number k words leads) (kept_begun netlist s begun kept begins is)
+    kept_on netlist begun t kept (step_keeps begun t number k words leads)
+    (kept_begun netlist s begun kept begins is)
 kept_step (Err e) netlist s begun t kept number k words is begins leads = tt

@@ -1,5 +1,6 @@
 -- What the reader's values stand for.
-use Rattle.std.specs.Prelude.{◌≡◌, ◌⊎◌, ℕ, true, List, map, length, Option, Some, option_map, Result, Ok, Err, Vec}
+use Rattle.std.specs.Prelude.{◌≡◌, ◌⊎◌, ℕ, true, List, map, length, Option, Some, option_map, Result}
+use Rattle.std.specs.Prelude.{Ok, Err, Vec}
 use Rattle.std.specs.declared.alloc.Global.{Global}
 use Rattle.std.specs.Ordering.{nat_cmp}
 use Rattle.std.specs.Cmp.Lexicographic.{slice_cmp}
@@ -87,10 +88,12 @@ pub record AreTablesOf (net : Net) (s : State) (tables : NetTables) : Type 0 whe
   pub levels : levels_of s net ≡ Ok tables.levels.items
   pub serves : signals_of tables.planner ≡ length net.names
 
--- what is kept is of the netlist that is given, and stays so: a line was read, so no further one names variables
+-- what is kept is of the netlist that is given, and stays so: a line was read, so no further one
+-- names variables
 pub record IsKept (netlist : Option Net) (s : State) (kept : Option NetTables) : Type 0 where
   pub begun : (tables : NetTables) → kept ≡ Some tables → s.begun ≡ true
-  pub tables : (tables : NetTables) (net : Net) → kept ≡ Some tables → netlist ≡ Some net → AreTablesOf net s tables
+  pub tables : (tables : NetTables) (net : Net) → kept ≡ Some tables → netlist ≡ Some net
+      → AreTablesOf net s tables
 
 -- what may be kept is given, unless an input is no variable or memory ran out
 abbrev pub GivesTables : Net → State → Result NetTables Refusal → Type 0

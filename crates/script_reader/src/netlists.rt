@@ -17,8 +17,8 @@ use net_plan::Planner;
 use std::alloc::{AllocError, Global};
 use text_words::Word;
 
-/// What lines keep of a netlist, once one of them has asked for its signals: the levels of its inputs, and tables
-/// to plan with.
+/// What lines keep of a netlist, once one of them has asked for its signals: the levels of its
+/// inputs, and tables to plan with.
 #[derive(Drop)]
 pub(crate) struct NetTables {
     pub levels: Vec<u32>,

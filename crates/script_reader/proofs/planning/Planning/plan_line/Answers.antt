@@ -16,8 +16,8 @@ use Rattle.script_reader.proofs.planning.Planning.plan_line.Goals as goal
 
 pub plan_net-requires-clause-kept : goal.plan_net-requires-clause-kept
 plan_net-requires-clause-kept c =
-    kept_begun (given c.args.netlist) (state_of c.args.self.now) (state_of c.begin_line.new.self) c.args.kept.now
-    c.in_ok-keyword.ensures.begun c.requires.kept
+    kept_begun (given c.args.netlist) (state_of c.args.self.now) (state_of c.begin_line.new.self)
+    c.args.kept.now c.in_ok-keyword.ensures.begun c.requires.kept
 
 pub plan_step-requires : goal.plan_step-requires
 plan_step-requires c =

@@ -10,13 +10,15 @@ use Rattle.script_reader.proofs.planning.Planning.plan_net.Goals as goal
 pub tables_of-requires : goal.tables_of-requires
 tables_of-requires c =
     λ tables some.
-    c.requires.kept.tables tables (net_of c.in-Some.net.now) (sym c.take.ensures.value ∙ some) (ap given c.in-Some.is)
+    c.requires.kept.tables tables (net_of c.in-Some.net.now) (sym c.take.ensures.value ∙ some)
+    (ap given c.in-Some.is)
 
 pub plan_signals-requires-clause-levels : goal.plan_signals-requires-clause-levels
 plan_signals-requires-clause-levels c =
     let net = net_of c.in-Some.net.now in
     ap length c.as_slice-3.ensures.value
-    ∙ found_length kind.Variable (state_of c.args.self.now).level (inputs_of net) _ c.in_ok-tables.ensures.levels
+    ∙ found_length kind.Variable (state_of c.args.self.now).level (inputs_of net) _
+    c.in_ok-tables.ensures.levels
     ∙ inputs_length net c.in-Some.net.now.sound
 
 pub plan_signals-requires-clause-wanted : goal.plan_signals-requires-clause-wanted
@@ -28,8 +30,8 @@ plan_signals-requires-clause-wanted c =
 pub returns-clause-kept : goal.returns-clause-kept
 returns-clause-kept c =
     kept_signals (given c.args.netlist) (net_of c.in-Some.net.now) (state_of c.args.self.now)
-    (state_of c.plan_signals.new.self) _ c.args.line (words_of c.as_slice-2.result.now) c.as_slice-3.result.now
-    c.as_slice-4.result.now (ap given c.in-Some.is) c.requires.begun
+    (state_of c.plan_signals.new.self) _ c.args.line (words_of c.as_slice-2.result.now)
+    c.as_slice-3.result.now c.as_slice-4.result.now (ap given c.in-Some.is) c.requires.begun
     (record {
       levels = c.in_ok-tables.ensures.levels;
       serves = c.in_ok-plan_signals.ensures.serves ∙ c.in_ok-tables.ensures.serves;
