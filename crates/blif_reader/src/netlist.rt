@@ -1,8 +1,9 @@
 //! A netlist that was accepted.
 
-ghost use Rattle.std.specs.Prelude.{◌≡◌, ℕ, ◌<◌, ◌≤◌, Some, [], List, length, slice_index, IfOk};
+ghost use Rattle.std.specs.Prelude.{◌≡◌, ℕ, ◌<◌, ◌≤◌, Some, [], List, length, slice_index, IfOk, OnOk, IsErr};
 ghost use Rattle.std.specs.List.{slice_index_or};
 ghost use Rattle.depth_first.specs.Graph.{IsTopological, visits};
+ghost use Rattle.depth_first.specs.Walkers.{nodes_of, order_of};
 ghost use Rattle.blif_reader.specs.Index.{found_in, place_of};
 ghost use Rattle.blif_reader.specs.Netlist.{IsNet, IsBlock, IsRow, cover_at};
 ghost use Rattle.blif_reader.specs.Views.{cover_of};
@@ -11,7 +12,7 @@ ghost use Rattle.blif_reader.specs.Tables.{net_in};
 use crate::cover::Cover;
 use crate::index::find;
 use crate::tables::Tables;
-use depth_first::visit_order;
+use depth_first::{Walker, visit_order};
 use std::alloc::{AllocError, Global};
 
 /// A netlist that was accepted. Its signals are numbered: the inputs first, then the blocks' outputs in the
@@ -114,5 +115,29 @@ impl Netlist {
         ensures signals { IfOk result (λ v. (k : ℕ) → k < length v.items → slice_index v.items k < length (net_of self.now).names) }
     {
         visit_order(alloc, self.tables.edges.as_slice(), wanted)
+    }
+
+    /// Tables for visits of signals, one after the other.
+    pub fn walker(&self, alloc: Global) -> Result<Walker, AllocError>
+        ensures { IfOk result (λ w. nodes_of w ≡ length (net_of self.now).names) }
+    {
+        Walker::new(alloc, self.tables.edges.len())
+    }
+
+    /// Visits signals as `visits` does, with tables that are kept. Want of memory leaves no order,
+    /// and tables that serve as before.
+    pub fn visit(&self, walker: &mut Walker, wanted: &[u32]) -> Result<(), AllocError>
+        requires serves { nodes_of walker.old ≡ length (net_of self.now).names }
+        requires wanted { (i : ℕ) → i < length wanted.now
+            → slice_index wanted.now i < length (net_of self.now).names }
+        ensures serves { nodes_of walker.new ≡ nodes_of walker.old }
+        ensures order { OnOk result
+            (order_of walker.new ≡ visits (net_of self.now).edges wanted.now) }
+        ensures above { OnOk result (IsTopological (net_of self.now).edges (order_of walker.new)) }
+        ensures signals { OnOk result ((k : ℕ) → k < length (order_of walker.new)
+            → slice_index (order_of walker.new) k < length (net_of self.now).names) }
+        ensures none { IsErr result → order_of walker.new ≡ [] }
+    {
+        walker.visit(self.tables.edges.as_slice(), wanted)
     }
 }

@@ -1,5 +1,5 @@
 -- New walks, and what a walk over all nodes says.
-use Rattle.std.proofs.Common.{◌≡◌, ◌≢◌, ◌⊎◌, inl, inr, ℕ, zero, suc, ◌+◌, ◌-◌, ◌*◌, ◌<◌, ◌≤◌, ◌==◌, ◌||◌, Bool, true, false, List, [], ◌∷◌, ◌++◌, length, get_or, take, replicate, min, refl, sym, ap, ◌∙◌, subst, arith, ⊎_elim}
+use Rattle.std.proofs.Common.{◌≡◌, ℕ, zero, suc, ◌+◌, ◌-◌, ◌*◌, ◌<◌, ◌≤◌, ◌==◌, true, false, List, [], ◌∷◌, length, get_or, take, replicate, min, sym, ap, ◌∙◌, subst, arith, ⊎_elim}
 use Rattle.std.specs.List.{count_by, fold}
 use Rattle.std.proofs.lemmas.List.{get_or-replicate, length-replicate, take_all, get_or-take, length-take}
 use Rattle.std.proofs.Math.ListN.{get_or-eq_default}
@@ -13,6 +13,11 @@ use Rattle.depth_first.proofs.Keeps.{before_or_last}
 use Rattle.depth_first.proofs.Resumes.{visit_seen, visit_new}
 use Rattle.depth_first.proofs.Searches.{has_where, cases_bool}
 
+fits_new : (n s : ℕ) → get_or (replicate n 4294967295) s 0 < 4294967296
+fits_new zero s = omega arith
+fits_new (suc n) zero = omega arith
+fits_new (suc n) (suc s) = fits_new n s
+
 -- where every node is new
 pub new_is_walk : (g : List (List ℕ)) (place order : List ℕ) (stack : List Frame) (n : ℕ) → n ≡ length g → n < 4294967294 → place ≡ replicate n 4294967295 → order ≡ [] → stack ≡ [] → IsWalk g place order stack
 new_is_walk g place order stack n e small p o s =
@@ -22,6 +27,7 @@ new_is_walk g place order stack n e small p o s =
     rw (o, s) (record {
       size = ap length p ∙ length-replicate n 4294967295 ∙ e;
       small = omega arith;
+      fits = λ k. subst (λ xs. get_or xs k 0 < 4294967296) (sym p) (fits_new n k);
       tally = omega arith;
       nodes = λ q lt. absurd (omega arith);
       places = λ q lt. absurd (omega arith);

@@ -1,14 +1,14 @@
 -- What each step of a walk keeps.
-use Rattle.std.proofs.Common.{◌≡◌, ◌≢◌, ◌⊎◌, inl, inr, ℕ, zero, suc, ◌+◌, ◌-◌, ◌<◌, ◌≤◌, ◌==◌, Bool, true, false, List, [], ◌∷◌, ◌++◌, length, get_or, set, take, refl, sym, ap, ◌∙◌, arith, length-append, length-set, get_or-set_same, get_or-set_other, subst, cond, ⊎_elim}
+use Rattle.std.proofs.Common.{◌≡◌, ◌≢◌, ◌⊎◌, inl, inr, ℕ, zero, suc, ◌+◌, ◌-◌, ◌<◌, ◌≤◌, true, false, List, [], ◌∷◌, ◌++◌, length, get_or, set, take, sym, ap, ◌∙◌, arith, length-append, length-set, get_or-set_same, get_or-set_other, subst, cond, ⊎_elim}
 use Rattle.std.proofs.lemmas.Bool.{cases_lt, cases_eq, ne_eqb}
 use Rattle.std.proofs.lemmas.List.{take-append-le, take_all, get_or_append_left}
 use Rattle.std.proofs.Math.Seq.{get_or-append_seam}
 use Rattle.std.proofs.lemmas.List.Sums.{sum_by-set}
-use Rattle.std.specs.List.{count_by, sum_by}
+use Rattle.std.specs.List.{count_by}
 use Rattle.depth_first.specs.declared.walk.Frame.{Frame}
-use Rattle.depth_first.specs.Graph.{has, edges_of, IsGraph, IsTopological, Reaches, directly, through}
+use Rattle.depth_first.specs.Graph.{has, edges_of, IsTopological, Reaches, directly, through}
 use Rattle.depth_first.specs.Walk.{IsWalk, is_new, is_done, node_at, next_at}
-use Rattle.depth_first.proofs.Frames.{node_front, next_front, node_last, next_last, length_more, has_push, has_still, has_last, has_other, has_at}
+use Rattle.depth_first.proofs.Frames.{node_front, next_front, node_last, next_last, length_more, has_still, has_last, has_other, has_at}
 
 -- below a number's successor
 pub before_or_last : (p n : ℕ) → p < n + 1 → (p < n) ⊎ (p ≡ n)
@@ -28,6 +28,17 @@ topological_push g order s above all k i lt less =
     let front : take k (order ++ s ∷ []) ≡ order = take-append-le k order (s ∷ []) (omega arith) ∙ take_all k order (omega arith) in
     rw (front, here) (all i (subst (λ t. i < length (edges_of g t)) here less)))
     (before_or_last k (length order) (omega arith))
+
+-- places are numbers of 32 bits, and still are where one more is written
+pub fits_set : (place : List ℕ) (k v : ℕ) → ((s : ℕ) → get_or place s 0 < 4294967296)
+    → k < length place → v < 4294967296 → (s : ℕ) → get_or (set place k v) s 0 < 4294967296
+fits_set place k v fits inside small s =
+    ⊎_elim
+    (λ (e : k ≡ s). subst (λ t. get_or (set place k v) t 0 < 4294967296) e
+    (subst (λ n. n < 4294967296) (sym (get_or-set_same place k v 0 inside)) small))
+    (λ (e : k ≡ s → ⊥).
+    subst (λ n. n < 4294967296) (sym (get_or-set_other place k s v 0 (λ f. e (sym f)))) (fits s))
+    (cases_eq k s)
 
 module _ (g : List (List ℕ)) (place order : List ℕ) (fs : List Frame) (f : Frame) (w : IsWalk g place order (fs ++ f ∷ [])) where
   -- the last frame of a way: its node is one
@@ -108,6 +119,7 @@ module _ (g : List (List ℕ)) (place order : List ℕ) (fs : List Frame) (f : F
       record {
         size = length-set place f.node 4294967294 ∙ w.size;
         small = w.small;
+        fits = fits_set place f.node 4294967294 w.fits within (omega arith);
         tally = omega arith;
         nodes = λ p lt. subst (λ s. s < length g) (node_front fs (f ∷ []) p lt) (w.nodes p (omega arith));
         places = λ p lt.
@@ -152,6 +164,7 @@ module _ (g : List (List ℕ)) (place order : List ℕ) (fs : List Frame) (f : F
       record {
         size = w.size;
         small = w.small;
+        fits = w.fits;
         tally = omega arith;
         nodes = λ p lt. subst (λ s. s < length g) (sym (same p (omega arith))) (w.nodes p (omega arith));
         places = λ p lt. subst (λ s. get_or place s 0 ≡ p) (sym (same p (omega arith))) (w.places p (omega arith));
@@ -214,6 +227,7 @@ enters g place order stack t w inside fresh leads =
     record {
       size = length-set place t (length stack) ∙ w.size;
       small = w.small;
+      fits = fits_set place t (length stack) w.fits within (omega arith);
       tally = omega arith;
       nodes = λ p lt. ⊎_elim
           (λ (b : p < length stack). subst (λ s. s < length g) (sym (node_front stack (h ∷ []) p b)) (w.nodes p b))

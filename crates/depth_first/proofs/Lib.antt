@@ -7,3 +7,4 @@ pub mod Roots
 pub mod Searches
 pub mod Descents
 pub mod Walks
+pub mod Blanks

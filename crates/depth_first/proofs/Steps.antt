@@ -1,10 +1,10 @@
 -- One step of a walk, over plain lists.
-use Rattle.std.proofs.Common.{◌≡◌, ◌≢◌, ℕ, zero, suc, ◌+◌, ◌<◌, ◌≤◌, Bool, true, false, List, [], ◌∷◌, ◌++◌, length, get_or, set, map, refl, sym, ap, ◌∙◌, subst, arith, Vec, ◌^◌}
+use Rattle.std.proofs.Common.{◌≡◌, ◌≢◌, ℕ, ◌+◌, ◌<◌, ◌≤◌, List, [], ◌∷◌, ◌++◌, length, get_or, set, sym, ap, ◌∙◌, subst, arith, Vec, ◌^◌}
 use Rattle.std.specs.List.{count_by}
 use Rattle.std.proofs.lemmas.List.{get_or-map, get_or_default, length-map}
 use Rattle.std.specs.declared.alloc.Global.{Global}
 use Rattle.depth_first.specs.declared.walk.Frame.{Frame}
-use Rattle.depth_first.specs.Graph.{has, edges_of, IsGraph, Reaches}
+use Rattle.depth_first.specs.Graph.{edges_of, IsGraph, Reaches}
 use Rattle.depth_first.specs.Walk.{IsWalk, StepsTo, is_new, is_done}
 use Rattle.depth_first.specs.Views.{graph_of}
 use Rattle.depth_first.proofs.Frames.{length_more}

@@ -2,3 +2,6 @@ pub mod Graph
 pub mod Walk
 pub mod Search
 pub mod Views
+pub mod Tables
+pub mod Rest
+pub mod Walkers

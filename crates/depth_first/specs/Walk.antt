@@ -24,6 +24,7 @@ is_done place = place == 4294967294
 pub record IsWalk (g : List (List ℕ)) (place order : List ℕ) (stack : List Frame) : Type 0 where
   pub size : length place ≡ length g
   pub small : length g < 4294967294
+  pub fits : (s : ℕ) → slice_index place s < 4294967296
   pub tally : count_by is_new place + length stack + length order ≡ length g
   pub nodes : (p : ℕ) → p < length stack → node_at stack p < length g
   pub places : (p : ℕ) → p < length stack → slice_index place (node_at stack p) ≡ p

@@ -5,6 +5,10 @@
 mod components;
 mod orders;
 mod search;
+mod table;
 mod walk;
+mod walker;
 
 pub use orders::{first_cycle, visit_order};
+pub use table::make_blank;
+pub use walker::Walker;

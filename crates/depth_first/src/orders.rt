@@ -7,7 +7,8 @@ ghost use Rattle.depth_first.specs.Views.{graph_of};
 
 use crate::components::component_numbers;
 use crate::search::{edges_at, leads_to_itself};
-use crate::walk::{Walk, new_walk, visit_root, visit_roots};
+use crate::walk::{Walk, new_walk, visit_root};
+use crate::walker::Walker;
 use std::alloc::{AllocError, Global};
 
 /// The nodes that are visited depth first from some nodes in order, each behind those that it leads to.
@@ -20,9 +21,9 @@ pub fn visit_order(alloc: Global, edges: &[Vec<u32>], roots: &[u32]) -> Result<V
     ensures above { IfOk result (λ v. IsTopological (graph_of edges.now) v.items) }
     ensures nodes { IfOk result (λ v. (k : ℕ) → k < length v.items → slice_index v.items k < length edges.now) }
 {
-    let mut walk = new_walk(alloc, edges.len())?;
-    visit_roots(edges, &mut walk, roots)?;
-    Ok(walk.order)
+    let mut walker = Walker::new(alloc, edges.len())?;
+    walker.visit(edges, roots)?;
+    Ok(walker.walk.order)
 }
 
 /// A node that leads to itself, where there is one.

@@ -7,7 +7,7 @@ ghost use Rattle.depth_first.specs.Views.{graph_of};
 
 use std::alloc::{AllocError, Global};
 
-const NEW: u32 = 4294967295;
+pub(crate) const NEW: u32 = 4294967295;
 
 const DONE: u32 = 4294967294;
 
@@ -29,6 +29,7 @@ pub(crate) struct Walk {
 /// The frame's node is left: it joins the order.
 fn leave(walk: &mut Walk, frame: Frame) -> Result<(), AllocError>
     requires { frame.node < length walk.old.place.items }
+    ensures size { length walk.new.place.items ≡ length walk.old.place.items }
     ensures place { OnOk result (walk.new.place.items ≡ slice_set walk.old.place.items frame.node 4294967294) }
     ensures order { OnOk result (walk.new.order.items ≡ walk.old.order.items ++ frame.node ∷ []) }
     ensures stack { OnOk result (walk.new.stack.items ≡ walk.old.stack.items) }
@@ -41,6 +42,7 @@ fn leave(walk: &mut Walk, frame: Frame) -> Result<(), AllocError>
 /// One more edge of the frame's node was followed.
 fn follow(walk: &mut Walk, frame: Frame) -> Result<(), AllocError>
     requires { frame.next + 1 < 2 ^ 64 }
+    ensures size { length walk.new.place.items ≡ length walk.old.place.items }
     ensures place { OnOk result (walk.new.place.items ≡ walk.old.place.items) }
     ensures order { OnOk result (walk.new.order.items ≡ walk.old.order.items) }
     ensures stack { OnOk result (walk.new.stack.items ≡ walk.old.stack.items ++ record { node = frame.node; next = frame.next + 1 } ∷ []) }
@@ -56,6 +58,7 @@ fn follow(walk: &mut Walk, frame: Frame) -> Result<(), AllocError>
 fn enter(walk: &mut Walk, frame: Frame, node: u32) -> Result<(), AllocError>
     requires inside { node < length walk.old.place.items }
     requires few { length walk.old.stack.items < 4294967294 }
+    ensures size { length walk.new.place.items ≡ length walk.old.place.items }
     ensures place { OnOk result (walk.new.place.items ≡ slice_set walk.old.place.items node (length walk.old.stack.items + 1)) }
     ensures order { OnOk result (walk.new.order.items ≡ walk.old.order.items) }
     ensures stack { OnOk result (walk.new.stack.items ≡ (walk.old.stack.items ++ frame ∷ []) ++ record { node = node; next = 0 } ∷ []) }
@@ -74,7 +77,8 @@ pub(crate) fn step(
 ) -> Result<Option<u32>, AllocError>
     requires graph { IsGraph (graph_of edges.now) }
     requires before { IsWalk (graph_of edges.now) walk.old.place.items walk.old.order.items (walk.old.stack.items ++ frame ∷ []) }
-    ensures { IfOk result (λ found. MatchOption found (StepsTo (graph_of edges.now) walk.old.place.items walk.old.order.items (walk.old.stack.items ++ frame ∷ []) walk.new.place.items walk.new.order.items walk.new.stack.items) (λ t. (t < length edges.now) × Reaches (graph_of edges.now) t t)) }
+    ensures size { length walk.new.place.items ≡ length walk.old.place.items }
+    ensures walked { IfOk result (λ found. MatchOption found (StepsTo (graph_of edges.now) walk.old.place.items walk.old.order.items (walk.old.stack.items ++ frame ∷ []) walk.new.place.items walk.new.order.items walk.new.stack.items) (λ t. (t < length edges.now) × Reaches (graph_of edges.now) t t)) }
 {
     let targets = edges[frame.node as usize].as_slice();
     if frame.next >= targets.len() {
@@ -99,7 +103,8 @@ fn last_step(edges: &[Vec<u32>], walk: &mut Walk) -> Result<Option<u32>, AllocEr
     requires graph { IsGraph (graph_of edges.now) }
     requires before { IsWalk (graph_of edges.now) walk.old.place.items walk.old.order.items walk.old.stack.items }
     requires left { 0 < length walk.old.stack.items }
-    ensures { IfOk result (λ found. MatchOption found (StepsTo (graph_of edges.now) walk.old.place.items walk.old.order.items walk.old.stack.items walk.new.place.items walk.new.order.items walk.new.stack.items) (λ t. (t < length edges.now) × Reaches (graph_of edges.now) t t)) }
+    ensures size { length walk.new.place.items ≡ length walk.old.place.items }
+    ensures walked { IfOk result (λ found. MatchOption found (StepsTo (graph_of edges.now) walk.old.place.items walk.old.order.items walk.old.stack.items walk.new.place.items walk.new.order.items walk.new.stack.items) (λ t. (t < length edges.now) × Reaches (graph_of edges.now) t t)) }
 {
     match walk.stack.pop() {
         Some(frame) => step(edges, walk, frame),
@@ -110,6 +115,7 @@ fn last_step(edges: &[Vec<u32>], walk: &mut Walk) -> Result<Option<u32>, AllocEr
 /// The way begins at a node.
 fn begin(walk: &mut Walk, node: u32) -> Result<(), AllocError>
     requires { node < length walk.old.place.items }
+    ensures size { length walk.new.place.items ≡ length walk.old.place.items }
     ensures place { OnOk result (walk.new.place.items ≡ slice_set walk.old.place.items node 0) }
     ensures order { OnOk result (walk.new.order.items ≡ walk.old.order.items) }
     ensures stack { OnOk result (walk.new.stack.items ≡ walk.old.stack.items ++ record { node = node; next = 0 } ∷ []) }
@@ -129,7 +135,8 @@ pub(crate) fn visit_root(
     requires inside { root < length edges.now }
     requires before { IsWalk (graph_of edges.now) walk.old.place.items walk.old.order.items walk.old.stack.items }
     requires empty { walk.old.stack.items ≡ [] }
-    ensures { IfOk result (λ found. MatchOption found (Visited (graph_of edges.now) walk.old.order.items root walk.new.place.items walk.new.order.items walk.new.stack.items) (λ t. (t < length edges.now) × Reaches (graph_of edges.now) t t)) }
+    ensures size { length walk.new.place.items ≡ length walk.old.place.items }
+    ensures walked { IfOk result (λ found. MatchOption found (Visited (graph_of edges.now) walk.old.order.items root walk.new.place.items walk.new.order.items walk.new.stack.items) (λ t. (t < length edges.now) × Reaches (graph_of edges.now) t t)) }
 {
     let place = walk.place[root as usize];
     if place == DONE {
@@ -155,7 +162,8 @@ pub(crate) fn visit_roots(
     requires before { IsWalk (graph_of edges.now) walk.old.place.items walk.old.order.items walk.old.stack.items }
     requires empty { walk.old.stack.items ≡ [] }
     requires none { walk.old.order.items ≡ [] }
-    ensures { IfOk result (λ found. MatchOption found (WalkOver (graph_of edges.now) roots.now walk.new.place.items walk.new.order.items walk.new.stack.items) (λ t. (t < length edges.now) × Reaches (graph_of edges.now) t t)) }
+    ensures size { length walk.new.place.items ≡ length walk.old.place.items }
+    ensures walked { IfOk result (λ found. MatchOption found (WalkOver (graph_of edges.now) roots.now walk.new.place.items walk.new.order.items walk.new.stack.items) (λ t. (t < length edges.now) × Reaches (graph_of edges.now) t t)) }
 {
     for root in roots {
         if let Some(found) = visit_root(edges, walk, *root)? {

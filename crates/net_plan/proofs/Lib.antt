@@ -10,3 +10,4 @@ pub mod Follows
 mod Lives
 mod Distinct
 pub mod GoingOn
+mod Planned

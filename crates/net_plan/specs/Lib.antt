@@ -3,3 +3,5 @@ pub mod Drafts
 pub mod Plan
 pub mod Values
 pub mod WellFormed
+pub mod Blank
+pub mod Planners

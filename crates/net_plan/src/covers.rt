@@ -8,7 +8,7 @@ ghost use Rattle.net_plan.specs.Covers.{Draft, put, join, column, columns, cube,
 ghost use Rattle.net_plan.specs.Drafts.{Drafts};
 
 use crate::fault::PlanFault;
-use crate::planner::{BOTH, EITHER, LEFT_ALONE, NOT_BOTH, join_steps, put_step};
+use crate::steps::{BOTH, EITHER, LEFT_ALONE, NOT_BOTH, join_steps, put_step};
 use blif_reader::Netlist;
 use bool_tables::Step;
 

@@ -6,7 +6,9 @@ mod fault;
 mod laws;
 mod plan;
 mod planner;
+mod steps;
 
 pub use fault::PlanFault;
 pub use laws::{steps_go_on, values_are_unique, values_exist};
-pub use plan::{NetPlan, plan_signals};
+pub use plan::NetPlan;
+pub use planner::{Planner, plan_signals};

@@ -1,20 +1,21 @@
-//! The plan of some signals of a netlist.
+//! The plan of signals of a netlist, over tables that are blank.
 
-ghost use Rattle.std.specs.Prelude.{◌≡◌, ℕ, ◌+◌, ◌<◌, ◌≤◌, ◌++◌, ◌∷◌, [], List, Bool, length, drop, take, map, replicate, slice_index, IfOk, OnOk, IsErrOf};
+ghost use Rattle.std.specs.Prelude.{◌≡◌, ℕ, ◌+◌, ◌<◌, ◌≤◌, ◌++◌, List, Bool, false, length, map};
+ghost use Rattle.std.specs.Prelude.{replicate, slice_index, IfOk, OnOk, IsErrOf};
 ghost use Rattle.std.specs.List.{flat_map};
 ghost use Rattle.depth_first.specs.Graph.{has, edges_of, visits};
+ghost use Rattle.depth_first.specs.Tables.{IsBlankBut};
 ghost use Rattle.blif_reader.specs.Netlist.{IsNet, IsBlock, cover_at};
 ghost use Rattle.blif_reader.specs.Answers.{net_of};
 ghost use Rattle.net_plan.specs.Covers.{Draft, put, block};
 ghost use Rattle.net_plan.specs.Drafts.{Drafts, Plans};
 ghost use Rattle.net_plan.specs.Plan.{Planning, IsWanted, signal_draft, make_signals, drop_one, plan_steps, plan_made};
-ghost use Rattle.net_plan.specs.Values.{MakeTables};
-ghost use Rattle.net_plan.specs.WellFormed.{StaysWellFormed};
+ghost use Rattle.net_plan.specs.Blank.{AreBlank};
 ghost use Rattle.net_plan.specs.declared.fault.PlanFault.{PlanFault};
 
 use crate::covers::push_block;
 use crate::fault::PlanFault;
-use crate::planner::put_step;
+use crate::steps::put_step;
 use blif_reader::Netlist;
 use bool_tables::{Items, Step};
 use std::alloc::{AllocError, Global};
@@ -84,8 +85,10 @@ fn push_signals(
     requires signals { length made.old.items ≡ length (net_of net.now).names }
     requires inside { (k : ℕ) → k < length visited.now → slice_index visited.now k < length (net_of net.now).names }
     requires few { first + length steps.old.items ≤ 1048576 }
+    requires others { IsBlankBut visited.now 0 made.old.items }
     ensures steps { Plans first steps.new.items (make_signals (net_of net.now) levels.now first (record { steps = steps.old.items; made = made.old.items }) visited.now).steps result }
     ensures size { length made.new.items ≡ length made.old.items }
+    ensures others { IsBlankBut visited.now 0 made.new.items }
     ensures made { OnOk result (made.new.items ≡ (make_signals (net_of net.now) levels.now first (record { steps = steps.old.items; made = made.old.items }) visited.now).made) }
 {
     for signal in visited {
@@ -95,16 +98,16 @@ fn push_signals(
     Ok(())
 }
 
-/// Which signals are wanted.
-fn wanted_of(alloc: Global, signals: usize, wanted: &[u32]) -> Result<Vec<bool>, AllocError>
-    requires { (i : ℕ) → i < length wanted.now → slice_index wanted.now i < signals }
-    ensures { IfOk result (λ v. IsWanted signals wanted.now v.items) }
+/// Marks the signals that are wanted.
+fn mark_wanted(wanted: &[u32], kept: &mut Vec<bool>)
+    requires none { kept.old.items ≡ replicate (length kept.old.items) false }
+    requires inside { (i : ℕ) → i < length wanted.now
+        → slice_index wanted.now i < length kept.old.items }
+    ensures { IsWanted (length kept.old.items) wanted.now kept.new.items }
 {
-    let mut kept = vec![in alloc; false; signals]?;
     for signal in wanted {
         kept[*signal as usize] = true;
     }
-    Ok(kept)
 }
 
 /// The signals that aren't wanted are dropped.
@@ -130,43 +133,49 @@ fn push_drops(
     Ok(())
 }
 
-/// The steps that make the wanted signals, numbered from `first` on. Each input is the variable of its level, and
-/// `made[i]` is the number of the step that makes the diagram of the signal `wanted[i]`.
-pub fn plan_signals(
+/// The steps that make the wanted signals, which were visited, numbered from `first` on.
+pub(crate) fn plan_visited(
     alloc: Global,
     net: &Netlist,
     levels: &[u32],
     wanted: &[u32],
     first: u32,
+    visited: &[u32],
+    made: &mut Vec<u32>,
+    kept: &mut Vec<bool>,
 ) -> Result<NetPlan, PlanFault>
+    requires sound { IsNet (net_of net.now) }
     requires levels { length levels.now ≡ (net_of net.now).inputs }
-    requires wanted { (i : ℕ) → i < length wanted.now → slice_index wanted.now i < length (net_of net.now).names }
+    requires wanted { (i : ℕ) → i < length wanted.now
+        → slice_index wanted.now i < length (net_of net.now).names }
     requires first { first ≤ 1048576 }
-    ensures tables { IfOk result (λ plan. MakeTables (net_of net.now) levels.now wanted.now first plan.steps plan.made) }
-    ensures goes_on { IfOk result (λ plan. StaysWellFormed levels.now wanted.now first plan.steps plan.made) }
-    ensures steps { IfOk result (λ plan. plan.steps ≡ plan_steps (net_of net.now) levels.now wanted.now first) }
-    ensures made { IfOk result (λ plan. plan.made ≡ plan_made (net_of net.now) levels.now wanted.now first) }
+    requires order { visited.now ≡ visits (net_of net.now).edges wanted.now }
+    requires inside { (k : ℕ) → k < length visited.now
+        → slice_index visited.now k < length (net_of net.now).names }
+    requires blank { AreBlank (length (net_of net.now).names) made.old.items kept.old.items }
+
+    // the plan
+    ensures steps { IfOk result (λ plan.
+        plan.steps ≡ plan_steps (net_of net.now) levels.now wanted.now first) }
+    ensures made { IfOk result (λ plan.
+        plan.made ≡ plan_made (net_of net.now) levels.now wanted.now first) }
     ensures few { IfOk result (λ plan. first + length plan.steps ≤ 1048576) }
-    ensures too_many { IsErrOf result PlanFault.TooManySteps → 1048576 < first + length (plan_steps (net_of net.now) levels.now wanted.now first) }
+    ensures too_many { IsErrOf result PlanFault.TooManySteps
+        → 1048576 < first + length (plan_steps (net_of net.now) levels.now wanted.now first) }
+
+    // and what is written of the tables
+    ensures made_size { length made.new.items ≡ length made.old.items }
+    ensures made_others { IsBlankBut visited.now 0 made.new.items }
+    ensures kept_size { length kept.new.items ≡ length kept.old.items }
+    ensures kept_others { IsBlankBut wanted.now false kept.new.items }
 {
-    let signals = net.signal_count() as usize;
-    let visited = net.visits(alloc, wanted)?;
     let mut steps = Vec::new(alloc);
-    let mut made = vec![in alloc; 0; signals]?;
-    push_signals(
-        alloc,
-        first,
-        &mut steps,
-        net,
-        levels,
-        visited.as_slice(),
-        &mut made,
-    )?;
-    let kept = wanted_of(alloc, signals, wanted)?;
+    push_signals(alloc, first, &mut steps, net, levels, visited, made)?;
+    mark_wanted(wanted, kept);
     push_drops(
         first,
         &mut steps,
-        visited.as_slice(),
+        visited,
         wanted,
         kept.as_slice(),
         made.as_slice(),

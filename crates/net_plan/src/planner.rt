@@ -1,74 +1,160 @@
-//! Steps put one after the other, numbered from a first number on.
+//! Plans of a netlist's signals, request after request.
 
-ghost use Rattle.std.specs.Prelude.{◌≡◌, ◌+◌, ◌<◌, ◌≤◌, ◌++◌, ◌∷◌, [], List, Bool, length, drop, take, IfOk, OnOk, IfErr, OnErr, Err};
-ghost use Rattle.net_plan.specs.Covers.{Draft, put, join, column, columns, cube, summed, row, rows, signed, block};
-ghost use Rattle.net_plan.specs.Drafts.{Drafts};
+ghost use Rattle.std.specs.Prelude.{◌≡◌, ℕ, ◌+◌, ◌<◌, ◌≤◌, List, length, slice_index};
+ghost use Rattle.std.specs.Prelude.{IfOk, IsErrOf};
+ghost use Rattle.depth_first.specs.Walkers.{nodes_of, order_of};
+ghost use Rattle.blif_reader.specs.Answers.{net_of};
+ghost use Rattle.net_plan.specs.Blank.{AreBlank};
+ghost use Rattle.net_plan.specs.Plan.{plan_steps, plan_made};
+ghost use Rattle.net_plan.specs.Values.{MakeTables};
+ghost use Rattle.net_plan.specs.WellFormed.{StaysWellFormed};
+ghost use Rattle.net_plan.specs.declared.fault.PlanFault.{PlanFault};
 
 use crate::fault::PlanFault;
-use bool_tables::{Bin, Step};
+use crate::plan::{NetPlan, plan_visited};
+use blif_reader::Netlist;
+use depth_first::{Walker, make_blank};
+use std::alloc::{AllocError, Global};
 
-/// The steps of a plan have numbers below this.
-pub(crate) const MOST_STEPS: usize = 1048576;
-
-pub(crate) const BOTH: Bin = Bin {
-    v00: false,
-    v01: false,
-    v10: false,
-    v11: true,
-};
-
-pub(crate) const LEFT_ALONE: Bin = Bin {
-    v00: false,
-    v01: false,
-    v10: true,
-    v11: false,
-};
-
-pub(crate) const EITHER: Bin = Bin {
-    v00: false,
-    v01: true,
-    v10: true,
-    v11: true,
-};
-
-pub(crate) const NOT_BOTH: Bin = Bin {
-    v00: true,
-    v01: true,
-    v10: true,
-    v11: false,
-};
-
-/// Puts one step. The answer is its number.
-pub(crate) fn put_step(first: u32, steps: &mut Vec<Step>, step: Step) -> Result<u32, PlanFault>
-    ensures { Drafts first steps.old.items steps.new.items (put first steps.old.items step) result }
-{
-    let number = first as usize + steps.len();
-    if number >= MOST_STEPS {
-        return Err(PlanFault::TooManySteps);
-    }
-    steps.push(step)?;
-    Ok(number as u32)
+/// Tables with which a netlist's signals are planned, request after request. A request takes time
+/// for the signals that it visits and for its steps, and none for the rest of the netlist.
+#[derive(Drop)]
+pub struct Planner {
+    pub(crate) walker: Walker,
+    made: Vec<u32>,
+    kept: Vec<bool>,
+    ghost blank: { AreBlank (nodes_of walker) made.items kept.items },
 }
 
-/// Joins the diagram at hand with another, and drops it.
-pub(crate) fn join_steps(
+impl Planner {
+    ghost use Rattle.net_plan.specs.Planners.{signals_of};
+
+    /// For a netlist.
+    pub fn new(alloc: Global, net: &Netlist) -> Result<Planner, AllocError>
+        ensures { IfOk result (λ p. signals_of p ≡ length (net_of net.now).names) }
+    {
+        let signals = net.signal_count() as usize;
+        Ok(Planner {
+            walker: net.walker(alloc)?,
+            made: vec![in alloc; 0; signals]?,
+            kept: vec![in alloc; false; signals]?,
+        })
+    }
+
+    /// The steps that make the wanted signals, as `plan_signals` gives them. The tables serve for
+    /// further requests, after a refusal too.
+    pub fn plan(
+        &mut self,
+        alloc: Global,
+        net: &Netlist,
+        levels: &[u32],
+        wanted: &[u32],
+        first: u32,
+    ) -> Result<NetPlan, PlanFault>
+        requires serves { signals_of self.old ≡ length (net_of net.now).names }
+        requires levels { length levels.now ≡ (net_of net.now).inputs }
+        requires wanted { (i : ℕ) → i < length wanted.now
+            → slice_index wanted.now i < length (net_of net.now).names }
+        requires first { first ≤ 1048576 }
+        ensures serves { signals_of self.new ≡ signals_of self.old }
+        ensures tables { IfOk result (λ plan.
+            MakeTables (net_of net.now) levels.now wanted.now first plan.steps plan.made) }
+        ensures goes_on { IfOk result (λ plan.
+            StaysWellFormed levels.now wanted.now first plan.steps plan.made) }
+        ensures steps { IfOk result (λ plan.
+            plan.steps ≡ plan_steps (net_of net.now) levels.now wanted.now first) }
+        ensures made { IfOk result (λ plan.
+            plan.made ≡ plan_made (net_of net.now) levels.now wanted.now first) }
+        ensures few { IfOk result (λ plan. first + length plan.steps ≤ 1048576) }
+        ensures too_many { IsErrOf result PlanFault.TooManySteps
+            → 1048576 < first + length (plan_steps (net_of net.now) levels.now wanted.now first) }
+    {
+        plan_with(
+            alloc,
+            net,
+            levels,
+            wanted,
+            first,
+            &mut self.walker,
+            &mut self.made,
+            &mut self.kept,
+        )
+    }
+}
+
+/// Plans signals with tables that are blank, and makes them blank again.
+fn plan_with(
+    alloc: Global,
+    net: &Netlist,
+    levels: &[u32],
+    wanted: &[u32],
     first: u32,
-    steps: &mut Vec<Step>,
-    op: Bin,
-    at: u32,
-    other: u32,
-) -> Result<u32, PlanFault>
-    ensures { Drafts first steps.old.items steps.new.items (join first op (record { steps = steps.old.items; at = at }) other) result }
+    walker: &mut Walker,
+    made: &mut Vec<u32>,
+    kept: &mut Vec<bool>,
+) -> Result<NetPlan, PlanFault>
+    requires serves { nodes_of walker.old ≡ length (net_of net.now).names }
+    requires blank { AreBlank (nodes_of walker.old) made.old.items kept.old.items }
+    requires levels { length levels.now ≡ (net_of net.now).inputs }
+    requires wanted { (i : ℕ) → i < length wanted.now
+        → slice_index wanted.now i < length (net_of net.now).names }
+    requires first { first ≤ 1048576 }
+    ensures serves { nodes_of walker.new ≡ nodes_of walker.old }
+    ensures blank { AreBlank (nodes_of walker.new) made.new.items kept.new.items }
+    ensures tables { IfOk result (λ plan.
+        MakeTables (net_of net.now) levels.now wanted.now first plan.steps plan.made) }
+    ensures goes_on { IfOk result (λ plan.
+        StaysWellFormed levels.now wanted.now first plan.steps plan.made) }
+    ensures steps { IfOk result (λ plan.
+        plan.steps ≡ plan_steps (net_of net.now) levels.now wanted.now first) }
+    ensures made { IfOk result (λ plan.
+        plan.made ≡ plan_made (net_of net.now) levels.now wanted.now first) }
+    ensures few { IfOk result (λ plan. first + length plan.steps ≤ 1048576) }
+    ensures too_many { IsErrOf result PlanFault.TooManySteps
+        → 1048576 < first + length (plan_steps (net_of net.now) levels.now wanted.now first) }
 {
-    let made = put_step(
+    net.visit(walker, wanted)?;
+    let planned = plan_visited(
+        alloc,
+        net,
+        levels,
+        wanted,
         first,
-        steps,
-        Step::Pair {
-            op,
-            left: at,
-            right: other,
-        },
-    )?;
-    put_step(first, steps, Step::Drop { gone: at })?;
-    Ok(made)
+        walker.order(),
+        made,
+        kept,
+    );
+    make_blank(made.as_mut_slice(), walker.order(), 0);
+    make_blank(kept.as_mut_slice(), wanted, false);
+    planned
+}
+
+/// The steps that make the wanted signals, numbered from `first` on. Each input is the variable of
+/// its level, and `made[i]` is the number of the step that makes the diagram of the signal
+/// `wanted[i]`. Where a netlist is asked more than once, a `Planner` makes its tables once.
+pub fn plan_signals(
+    alloc: Global,
+    net: &Netlist,
+    levels: &[u32],
+    wanted: &[u32],
+    first: u32,
+) -> Result<NetPlan, PlanFault>
+    requires levels { length levels.now ≡ (net_of net.now).inputs }
+    requires wanted { (i : ℕ) → i < length wanted.now
+        → slice_index wanted.now i < length (net_of net.now).names }
+    requires first { first ≤ 1048576 }
+    ensures tables { IfOk result (λ plan.
+        MakeTables (net_of net.now) levels.now wanted.now first plan.steps plan.made) }
+    ensures goes_on { IfOk result (λ plan.
+        StaysWellFormed levels.now wanted.now first plan.steps plan.made) }
+    ensures steps { IfOk result (λ plan.
+        plan.steps ≡ plan_steps (net_of net.now) levels.now wanted.now first) }
+    ensures made { IfOk result (λ plan.
+        plan.made ≡ plan_made (net_of net.now) levels.now wanted.now first) }
+    ensures few { IfOk result (λ plan. first + length plan.steps ≤ 1048576) }
+    ensures too_many { IsErrOf result PlanFault.TooManySteps
+        → 1048576 < first + length (plan_steps (net_of net.now) levels.now wanted.now first) }
+{
+    let mut planner = Planner::new(alloc, net)?;
+    planner.plan(alloc, net, levels, wanted, first)
 }

@@ -10,14 +10,14 @@ use Rattle.net_plan.specs.Plan.{plan_steps, plan_made}
 use Rattle.text_words.specs.Text.{Word}
 use Rattle.script_reader.specs.declared.fault.ScriptKind.TheVariants as kind
 use Rattle.script_reader.specs.declared.keyword.Keyword.{Keyword}
-use Rattle.script_reader.specs.declared.netlists.InputLevels.{InputLevels}
+use Rattle.script_reader.specs.declared.netlists.NetTables.{NetTables}
 use Rattle.script_reader.specs.Results.{check}
 use Rattle.script_reader.specs.Keywords.{word_at, gives_name}
 use Rattle.script_reader.specs.Names.{State}
 use Rattle.script_reader.specs.Nets.{inputs_of, all_found, levels_of, names_fit, with_steps, give_name, give_names, plan_signals}
 use Rattle.script_reader.specs.Requests.{is_short, step_of, name_fits, has_room, with_named, name_behind, plan_step}
 use Rattle.script_reader.specs.Script.{begin}
-use Rattle.script_reader.specs.Views.{IsKept, Leads}
+use Rattle.script_reader.specs.Views.{AreTablesOf, IsKept, Leads}
 use Rattle.script_reader.proofs.MadeSteps.{then_ok, passed, same_ok}
 
 -- the levels are the same, and that a line was read
@@ -25,19 +25,21 @@ pub record Stays (s t : State) : Type 0 where
   pub level : t.level ≡ s.level
   pub begun : t.begun ≡ s.begun
 
--- so levels that were kept may be
-pub kept_on : (netlist : Option Net) (s t : State) (kept : InputLevels) → Stays s t → IsKept netlist s kept → IsKept netlist t kept
+-- so what was kept may be
+pub kept_on : (netlist : Option Net) (s t : State) (kept : Option NetTables) → Stays s t
+    → IsKept netlist s kept → IsKept netlist t kept
 kept_on netlist s t kept stays is = record {
-  begun = λ known. stays.begun ∙ is.begun known;
-  levels = λ net known given. ap (λ (f : List ℕ → Option ℕ). all_found kind.Variable f (inputs_of net)) stays.level ∙ is.levels net known given;
+  begun = λ tables some. stays.begun ∙ is.begun tables some;
+  tables = λ tables net some given. still net tables (is.tables tables net some given);
 }
-
--- before a line was read none are
-pub kept_fresh : (netlist : Option Net) (s t : State) (kept : InputLevels) → s.begun ≡ false → IsKept netlist s kept → IsKept netlist t kept
-kept_fresh netlist s t kept fresh is = record {
-  begun = λ known. let wrong : false ≡ true = sym fresh ∙ is.begun known in absurd cc;
-  levels = λ net known given. let wrong : false ≡ true = sym fresh ∙ is.begun known in absurd cc;
-}
+  where
+    still : (net : Net) (tables : NetTables) → AreTablesOf net s tables → AreTablesOf net t tables
+    still net tables are = record {
+      levels =
+          ap (λ (f : List ℕ → Option ℕ). all_found kind.Variable f (inputs_of net)) stays.level
+          ∙ are.levels;
+      serves = are.serves;
+    }
 
 names_stay : (s : State) (k : Keyword) (words : List Word) (made : Step) → Stays s (name_behind s k words made)
 names_stay s k words made = by made
@@ -90,20 +92,44 @@ abbrev some_of : Net → Option Net
 some_of net = Some net
 
 -- what a line that asks for signals leaves
-pub kept_signals : (result : Result (Unit {0}) Refusal) (netlist : Option Net) (net : Net) (s t : State) (kept : InputLevels) (number : ℕ) (names : List Word) (levels wanted : List ℕ) → netlist ≡ Some net → s.begun ≡ true
-    → levels_of s net ≡ Ok kept.levels.items → Leads t result (plan_signals s number names net levels wanted) → OnOk result (IsKept netlist t kept)
-kept_signals (Ok u) netlist net s t kept number names levels wanted given begun has leads =
-    kept_on netlist s t kept (signals_keep s t number names net levels wanted leads)
-    (record { begun = λ known. begun; levels = λ other known is. subst (λ (v : Net). levels_of s v ≡ Ok kept.levels.items) (some_net net other (sym given ∙ is)) has })
+pub kept_signals : (netlist : Option Net) (net : Net) (s t : State) (tables : NetTables)
+    (number : ℕ) (names : List Word) (levels wanted : List ℕ) → netlist ≡ Some net
+    → s.begun ≡ true → AreTablesOf net s tables
+    → plan_signals s number names net levels wanted ≡ Ok t → IsKept netlist t (Some tables)
+kept_signals netlist net s t tables number names levels wanted given begun are planned =
+    kept_on netlist s t (Some tables) (signals_keep s t number names net levels wanted planned)
+    (record {
+      begun = λ others same. begun;
+      tables = λ others other same is.
+          subst (λ (v : NetTables). AreTablesOf other s v) (some_tables tables others same)
+          (subst (λ (v : Net). AreTablesOf v s tables) (some_net net other (sym given ∙ is)) are);
+    })
   where
     some_net : (a b : Net) → some_of a ≡ Some b → a ≡ b
     some_net a b e = cc
-kept_signals (Err e) netlist net s t kept number names levels wanted given begun has leads = tt
+
+    some_tables : (a b : NetTables) → Some a ≡ Some b → a ≡ b
+    some_tables a b e = cc
+
+-- and a line that begins
+pub kept_begun : (netlist : Option Net) (s t : State) (kept : Option NetTables) → t ≡ begin s
+    → IsKept netlist s kept → IsKept netlist t kept
+kept_begun netlist s t kept begins is =
+    subst (λ (v : State). IsKept netlist v kept) (sym begins) (record {
+      begun = λ tables some. refl;
+      tables = λ tables net some given. still net tables (is.tables tables net some given);
+    })
+  where
+    still : (net : Net) (tables : NetTables) → AreTablesOf net s tables
+        → AreTablesOf net (begin s) tables
+    still net tables are = record { levels = are.levels; serves = are.serves }
 
 -- and one that is one step
-pub kept_step : (result : Result (Unit {0}) Refusal) (netlist : Option Net) (s begun t : State) (kept : InputLevels) (number : ℕ) (k : Keyword) (words : List Word) → IsKept netlist s kept → begun ≡ begin s
+pub kept_step : (result : Result (Unit {0}) Refusal) (netlist : Option Net) (s begun t : State)
+    (kept : Option NetTables) (number : ℕ) (k : Keyword) (words : List Word)
+    → IsKept netlist s kept → begun ≡ begin s
     → Leads t result (plan_step begun number k words) → OnOk result (IsKept netlist t kept)
 kept_step (Ok u) netlist s begun t kept number k words is begins leads =
     kept_on netlist begun t kept (step_keeps begun t number k words leads)
-    (subst (λ (v : State). IsKept netlist v kept) (sym begins) (record { begun = λ known. refl; levels = λ net known given. is.levels net known given }))
+    (kept_begun netlist s begun kept begins is)
 kept_step (Err e) netlist s begun t kept number k words is begins leads = tt

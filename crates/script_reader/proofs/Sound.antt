@@ -1,10 +1,8 @@
--- A netlist that is given is one, and levels of its inputs that are kept stay so.
-use Rattle.std.specs.Prelude.{◌≡◌, true, false, Option, Some, None, IfSome}
-use Rattle.std.proofs.Common.{sym, ◌∙◌}
+-- A netlist that is given is one, and at first nothing is kept of it.
+use Rattle.std.specs.Prelude.{◌≡◌, Option, Some, None, IfSome}
 use Rattle.std.specs.Borrow.{Bor}
 use Rattle.blif_reader.specs.declared.netlist.Netlist.{Netlist}
 use Rattle.blif_reader.specs.Netlist.{Net, IsNet}
-use Rattle.script_reader.specs.declared.netlists.InputLevels.{InputLevels}
 use Rattle.script_reader.specs.Names.{State}
 use Rattle.script_reader.specs.Views.{given, IsKept}
 
@@ -12,9 +10,9 @@ pub given_sound : (netlist : Option (Bor Netlist)) → IfSome (given netlist) Is
 given_sound None = tt
 given_sound (Some b) = b.now.sound
 
--- levels that aren't kept may be kept
-pub none_kept : (netlist : Option Net) (s : State) (kept : InputLevels) → kept.known ≡ false → IsKept netlist s kept
-none_kept netlist s kept none = record {
-  begun = λ e. let wrong : false ≡ true = sym none ∙ e in absurd cc;
-  levels = λ net e given. let wrong : false ≡ true = sym none ∙ e in absurd cc;
+-- at first nothing is kept
+pub none_kept : (netlist : Option Net) (s : State) → IsKept netlist s None
+none_kept netlist s = record {
+  begun = λ tables some. absurd cc;
+  tables = λ tables net some given. absurd cc;
 }

@@ -1,5 +1,6 @@
 -- What the reader's values stand for.
-use Rattle.std.specs.Prelude.{◌≡◌, ◌⊎◌, ℕ, true, List, map, Option, Some, option_map, Result, Ok, Err, Vec}
+use Rattle.std.specs.Prelude.{◌≡◌, ◌⊎◌, ℕ, true, List, map, length, Option, Some, option_map, Result}
+use Rattle.std.specs.Prelude.{Ok, Err, Vec}
 use Rattle.std.specs.declared.alloc.Global.{Global}
 use Rattle.std.specs.Ordering.{nat_cmp}
 use Rattle.std.specs.Cmp.Lexicographic.{slice_cmp}
@@ -18,7 +19,8 @@ use Rattle.script_reader.specs.declared.fault.Refusal.TheVariants as refusal
 use Rattle.script_reader.specs.declared.planning.Planning.{Planning}
 use Rattle.script_reader.specs.declared.plan.Plan.{Plan}
 use Rattle.script_reader.specs.declared.fault.ScriptKind.TheVariants as kind
-use Rattle.script_reader.specs.declared.netlists.InputLevels.{InputLevels}
+use Rattle.script_reader.specs.declared.netlists.NetTables.{NetTables}
+use Rattle.net_plan.specs.Planners.{signals_of}
 use Rattle.script_reader.specs.Nets.{levels_of}
 use Rattle.script_reader.specs.Names.{State}
 
@@ -81,13 +83,19 @@ abbrev pub AnswersRead : Result Plan ScriptFault → Result Plan ScriptFault →
 AnswersRead (Ok plan) read = read ≡ Ok plan
 AnswersRead (Err fault) read = (read ≡ Err fault) ⊎ (fault ≡ record { line = 0; kind = kind.Memory })
 
--- levels that are kept are those of the netlist's inputs, and stay so: a line was read, so no further one names
--- variables
-pub record IsKept (netlist : Option Net) (s : State) (kept : InputLevels) : Type 0 where
-  pub begun : kept.known ≡ true → s.begun ≡ true
-  pub levels : (net : Net) → kept.known ≡ true → netlist ≡ Some net → levels_of s net ≡ Ok kept.levels.items
+-- what is kept of a netlist is the levels of its inputs, and tables for its signals
+pub record AreTablesOf (net : Net) (s : State) (tables : NetTables) : Type 0 where
+  pub levels : levels_of s net ≡ Ok tables.levels.items
+  pub serves : signals_of tables.planner ≡ length net.names
 
--- the levels of the netlist's inputs are kept, unless one of them is no variable or memory ran out
-abbrev pub KeepsLevels : Net → State → InputLevels → Result Unit Refusal → Type 0
-KeepsLevels net s kept (Ok u) = (kept.known ≡ true) × (levels_of s net ≡ Ok kept.levels.items)
-KeepsLevels net s kept (Err e) = Fails e (levels_of s net)
+-- what is kept is of the netlist that is given, and stays so: a line was read, so no further one
+-- names variables
+pub record IsKept (netlist : Option Net) (s : State) (kept : Option NetTables) : Type 0 where
+  pub begun : (tables : NetTables) → kept ≡ Some tables → s.begun ≡ true
+  pub tables : (tables : NetTables) (net : Net) → kept ≡ Some tables → netlist ≡ Some net
+      → AreTablesOf net s tables
+
+-- what may be kept is given, unless an input is no variable or memory ran out
+abbrev pub GivesTables : Net → State → Result NetTables Refusal → Type 0
+GivesTables net s (Ok tables) = AreTablesOf net s tables
+GivesTables net s (Err e) = Fails e (levels_of s net)

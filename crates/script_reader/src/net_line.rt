@@ -1,15 +1,13 @@
 //! Lines that take a netlist's inputs as variables, or ask for the diagrams of its signals.
 
 use crate::fault::{Refusal, ScriptKind};
-use crate::netlists::{
-    InputLevels, are_short, every_second, input_names, signals_named, signals_of,
-};
+use crate::netlists::{NetTables, are_short, every_second, input_names, signals_named, signals_of};
 use crate::places::{bytes_of, places_of};
 use crate::plan::LineEnd;
 use crate::planning::{MOST_STEPS, Named, Planning};
 use blif_reader::Netlist;
 use bool_tables::{Planned, Step};
-use net_plan::{NetPlan, PlanFault, plan_signals};
+use net_plan::{NetPlan, PlanFault, Planner};
 use std::alloc::{AllocError, Global};
 use text_words::Word;
 
@@ -29,7 +27,9 @@ impl<'a> Planning<'a> {
     ghost use Rattle.script_reader.specs.Nets.{with_steps, put_plan};
     ghost use Rattle.script_reader.specs.Nets as nets;
     ghost use Rattle.script_reader.specs.Views.{texts, words_of, state_of, numbers_in, given, Leads, Gives};
-    ghost use Rattle.script_reader.specs.Views.{IsKept, KeepsLevels};
+    ghost use Rattle.script_reader.specs.Views.{AreTablesOf, IsKept, GivesTables};
+    ghost use Rattle.script_reader.specs.declared.netlists.NetTables.{NetTables};
+    ghost use Rattle.net_plan.specs.Planners.{signals_of as signals_served};
     ghost use Rattle.script_reader.specs.declared.fault.ScriptKind.TheVariants as kind;
 
     /// Takes the inputs of the netlist as variables.
@@ -63,22 +63,31 @@ impl<'a> Planning<'a> {
         Ok(levels)
     }
 
-    /// Finds the levels of the inputs, where they aren't known.
-    fn keep_levels(
+    /// What lines keep of a netlist.
+    fn net_tables(&self, alloc: Global, net: &Netlist) -> Result<NetTables, Refusal>
+        ensures { GivesTables (net_of net.now) (state_of self.now) result }
+    {
+        Ok(NetTables {
+            levels: self.levels_of(alloc, net)?,
+            planner: Planner::new(alloc, net)?,
+        })
+    }
+
+    /// What is kept of a netlist, and what may be where nothing is.
+    fn tables_of(
         &self,
         alloc: Global,
         net: &Netlist,
-        kept: &mut InputLevels,
-    ) -> Result<(), Refusal>
-        requires { kept.old.known ≡ true
-            → nets.levels_of (state_of self.now) (net_of net.now) ≡ Ok kept.old.levels.items }
-        ensures { KeepsLevels (net_of net.now) (state_of self.now) kept.new result }
+        kept: Option<NetTables>,
+    ) -> Result<NetTables, Refusal>
+        requires { (tables : NetTables) → kept ≡ Some tables
+            → AreTablesOf (net_of net.now) (state_of self.now) tables }
+        ensures { GivesTables (net_of net.now) (state_of self.now) result }
     {
-        if !kept.known {
-            kept.levels = self.levels_of(alloc, net)?;
-            kept.known = true;
+        match kept {
+            Some(tables) => Ok(tables),
+            None => self.net_tables(alloc, net),
         }
-        Ok(())
     }
 
     /// Whether one of the names was given on an earlier line.
@@ -208,20 +217,23 @@ impl<'a> Planning<'a> {
         names: &[Word<'a>],
         net: &Netlist,
         levels: &[u32],
+        planner: &mut Planner,
         wanted: &[u32],
     ) -> Result<(), Refusal>
         requires few { length names.now < 2 ^ 32 }
+        requires serves { signals_served planner.old ≡ length (net_of net.now).names }
         requires levels { length levels.now ≡ (net_of net.now).inputs }
         requires wanted { (i : ℕ) → i < length wanted.now → slice_index wanted.now i < length (net_of net.now).names }
-        ensures { Leads (state_of self.new) result
+        ensures read { Leads (state_of self.new) result
             (nets.plan_signals (state_of self.old) line (words_of names.now) (net_of net.now) levels.now wanted.now) }
+        ensures serves { signals_served planner.new ≡ signals_served planner.old }
     {
         self.test_all_names(alloc, names)?;
         let first = self.steps.len();
         if first > MOST_STEPS {
             return Err(Refusal::Fault(ScriptKind::TooManySteps));
         }
-        match plan_signals(alloc, net, levels, wanted, first as u32) {
+        match planner.plan(alloc, net, levels, wanted, first as u32) {
             Ok(plan) => Ok(self.put_plan(line, names, &plan)?),
             Err(PlanFault::Memory) => Err(Refusal::Memory),
             Err(PlanFault::TooManySteps) => Err(Refusal::Fault(ScriptKind::TooManySteps)),
@@ -233,7 +245,7 @@ impl<'a> Planning<'a> {
         &mut self,
         alloc: Global,
         netlist: Option<&Netlist>,
-        kept: &mut InputLevels,
+        kept: &mut Option<NetTables>,
         line: u32,
         words: &[Word<'a>],
     ) -> Result<(), Refusal>
@@ -250,15 +262,18 @@ impl<'a> Planning<'a> {
             return Err(Refusal::Fault(ScriptKind::NoNetlist));
         };
         let wanted = signals_of(alloc, net, signals.as_slice())?;
-        self.keep_levels(alloc, net, kept)?;
+        let mut tables = self.tables_of(alloc, net, kept.take())?;
         let names = every_second(alloc, words, 1)?;
         self.plan_signals(
             alloc,
             line,
             names.as_slice(),
             net,
-            kept.levels.as_slice(),
+            tables.levels.as_slice(),
+            &mut tables.planner,
             wanted.as_slice(),
-        )
+        )?;
+        *kept = Some(tables);
+        Ok(())
     }
 }

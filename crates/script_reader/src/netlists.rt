@@ -13,28 +13,16 @@ use crate::fault::{Refusal, ScriptKind};
 use crate::places::{bytes_of, places_of};
 use crate::planning::MOST_NAME_BYTES;
 use blif_reader::Netlist;
+use net_plan::Planner;
 use std::alloc::{AllocError, Global};
 use text_words::Word;
 
-/// The levels of a netlist's inputs, once a line has asked for them.
+/// What lines keep of a netlist, once one of them has asked for its signals: the levels of its
+/// inputs, and tables to plan with.
 #[derive(Drop)]
-pub(crate) struct InputLevels {
-    pub known: bool,
+pub(crate) struct NetTables {
     pub levels: Vec<u32>,
-}
-
-impl InputLevels {
-    ghost use Rattle.std.specs.Prelude.{false};
-
-    /// Where no line has asked for them.
-    pub(crate) fn new(alloc: Global) -> InputLevels
-        ensures { result.known ≡ false }
-    {
-        InputLevels {
-            known: false,
-            levels: Vec::new(alloc),
-        }
-    }
+    pub planner: Planner,
 }
 
 /// Every second word, from a place on.

@@ -10,7 +10,7 @@ ghost use Rattle.bool_tables.specs.Plans.{is_bit};
 use crate::fault::{Refusal, ScriptKind};
 use crate::keyword::{Keyword, read_keyword};
 use crate::line::{is_formed, is_one};
-use crate::netlists::InputLevels;
+use crate::netlists::NetTables;
 use crate::places::{bytes_of, places_of};
 use crate::plan::{LineEnd, Plan};
 use blif_reader::Netlist;
@@ -156,7 +156,7 @@ impl<'a> Planning<'a> {
         alloc: Global,
         known: &[&[u8]],
         netlist: Option<&'a Netlist>,
-        kept: &mut InputLevels,
+        kept: &mut Option<NetTables>,
         line: u32,
         words: &[Word<'a>],
     ) -> Result<(), Refusal>

@@ -12,7 +12,7 @@ ghost use Rattle.script_reader.specs.Script.{plan_line, read};
 ghost use Rattle.script_reader.specs.Views.{texts, words_of, state_of, given, Leads, IsKept, AnswersRead, fault_on};
 
 use crate::fault::{Refusal, ScriptFault, ScriptKind};
-use crate::netlists::InputLevels;
+use crate::netlists::NetTables;
 use crate::plan::Plan;
 use crate::planning::Planning;
 use blif_reader::Netlist;
@@ -50,7 +50,7 @@ pub fn read_script_with<'s, 'n>(
         });
     }
     let mut planning = Planning::new(alloc);
-    let mut kept = InputLevels::new(alloc);
+    let mut kept = None;
     for line in Lines::of(bytes) {
         if let Err(refusal) = read_line(alloc, &mut planning, known, netlist, &mut kept, &line) {
             return Err(fault_of(line.number, refusal));
@@ -79,7 +79,7 @@ fn read_line<'a>(
     planning: &mut Planning<'a>,
     known: &[&[u8]],
     netlist: Option<&'a Netlist>,
-    kept: &mut InputLevels,
+    kept: &mut Option<NetTables>,
     line: &Line<'a>,
 ) -> Result<(), Refusal>
     requires short { length line.now.bytes.now ≤ 1048576 }

@@ -1,11 +1,11 @@
-use Rattle.std.proofs.Common.{◌≡◌, ◌<◌, length, get_or, ◌∙◌, refl, arith, List, ℕ, subst}
+use Rattle.std.proofs.Common.{◌≡◌, ◌<◌, length, get_or, refl, arith, List, ℕ, subst}
 use Rattle.depth_first.specs.Graph.{edges_of}
 use Rattle.depth_first.specs.Views.{graph_of}
 use Rattle.depth_first.proofs.Steps.{edges_read, length_graph, frame_inside, target_within, Looks, steps_leaves, steps_follows, steps_enters, steps_closes, target_inside}
 use Rattle.depth_first.proofs.walk.step.Goals as goal
 
-pub returns-then-frame-targets : goal.returns-then-frame-targets
-returns-then-frame-targets c =
+pub returns-then-frame-targets-clause-walked : goal.returns-then-frame-targets-clause-walked
+returns-then-frame-targets-clause-walked c =
     let g : List (List ℕ) = graph_of c.args.edges.now in
     let place : List ℕ = c.args.walk.now.place.items in
     let order : List ℕ = c.args.walk.now.order.items in
@@ -27,8 +27,8 @@ index-place-requires c =
     let within : get_or targets c.args.frame.next 0 < length place = target_within g place order stack c.args.frame targets c.requires.graph c.requires.before e c.if-frame-targets.false in
     omega arith
 
-pub returns-then-place : goal.returns-then-place
-returns-then-place c =
+pub returns-then-place-clause-walked : goal.returns-then-place-clause-walked
+returns-then-place-clause-walked c =
     let g : List (List ℕ) = graph_of c.args.edges.now in
     let place : List ℕ = c.args.walk.now.place.items in
     let order : List ℕ = c.args.walk.now.order.items in
@@ -51,8 +51,8 @@ enter-requires-clause-inside c =
     let e : edges_of g c.args.frame.node ≡ targets = edges_read c.args.edges.now c.args.frame.node c.index-edges-frame.result targets inside c.index-edges-frame.is c.as_slice-targets.ensures.value in
     target_within g place order stack c.args.frame targets c.requires.graph c.requires.before e c.if-frame-targets.false
 
-pub returns-then-place-2 : goal.returns-then-place-2
-returns-then-place-2 c =
+pub returns-then-place-2-clause-walked : goal.returns-then-place-2-clause-walked
+returns-then-place-2-clause-walked c =
     let g : List (List ℕ) = graph_of c.args.edges.now in
     let place : List ℕ = c.args.walk.now.place.items in
     let order : List ℕ = c.args.walk.now.order.items in
@@ -64,8 +64,8 @@ returns-then-place-2 c =
     let l : Looks g place c.args.frame targets t c.index-place.result.now = record { edges = e; more = c.if-frame-targets.false; target = refl; read = c.index-place.ensures } in
     steps_enters g place order stack c.args.frame targets t c.index-place.result.now c.requires.graph c.requires.before l _ _ _ c.if-place-2.true c.in_ok-enter.ensures.place c.in_ok-enter.ensures.order c.in_ok-enter.ensures.stack
 
-pub returns : goal.returns
-returns c =
+pub returns-clause-walked : goal.returns-clause-walked
+returns-clause-walked c =
     let g : List (List ℕ) = graph_of c.args.edges.now in
     let place : List ℕ = c.args.walk.now.place.items in
     let order : List ℕ = c.args.walk.now.order.items in

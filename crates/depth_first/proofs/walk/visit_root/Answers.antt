@@ -1,14 +1,14 @@
 use Rattle.std.proofs.Common.{◌≡◌, ◌<◌, ◌++◌, ◌∷◌, [], List, ℕ, length, get_or, ◌∙◌, ap, sym, subst, arith}
 use Rattle.std.proofs.lemmas.Grind.{common_steps}
 use Rattle.std.proofs.lemmas.List.{get_or_default}
-use Rattle.depth_first.specs.Walk.{IsWalk, Visited}
+use Rattle.depth_first.specs.Walk.{IsWalk}
 use Rattle.depth_first.specs.Views.{graph_of}
 use Rattle.depth_first.proofs.Steps.{length_graph}
 use Rattle.depth_first.proofs.Roots.{visits_nothing, is_fresh, begins, finishes, nil_of_length}
 use Rattle.depth_first.proofs.walk.visit_root.Goals as goal
 
-pub returns-then-place : goal.returns-then-place
-returns-then-place c =
+pub returns-then-place-clause-walked : goal.returns-then-place-clause-walked
+returns-then-place-clause-walked c =
     let g : List (List ℕ) = graph_of c.args.edges.now in
     let place : List ℕ = c.args.walk.now.place.items in
     let w : IsWalk g place c.args.walk.now.order.items [] = subst (IsWalk g place c.args.walk.now.order.items) c.requires.empty c.requires.before in
@@ -29,8 +29,8 @@ way-init c =
     let b = begins g place c.args.walk.now.order.items c.args.root inside w _ _ _ fresh c.in_ok-begin.ensures.place c.in_ok-begin.ensures.order (c.in_ok-begin.ensures.stack ∙ ap (λ s. s ++ record { node = c.args.root; next = 0 } ∷ []) c.requires.empty) in
     record { walk = b.0; same = b.1 }
 
-pub returns : goal.returns
-returns c =
+pub returns-clause-walked : goal.returns-clause-walked
+returns-clause-walked c =
     let none : length c.way.walk.stack.items ≡ 0 = grind (arith, common_steps) in
     let empty : c.way.walk.stack.items ≡ [] = nil_of_length c.way.walk.stack.items none in
     finishes (graph_of c.args.edges.now) c.args.walk.now.order.items c.args.root _ _ _ _ c.way.invariant.walk c.way.invariant.same empty empty

@@ -1,4 +1,4 @@
-use Rattle.std.proofs.Common.{◌≡◌, [], take}
+use Rattle.std.proofs.Common.{take}
 use Rattle.depth_first.specs.Walk.{WalkOver}
 use Rattle.depth_first.specs.Views.{graph_of}
 use Rattle.depth_first.proofs.walk.visit_roots.Given as goal

@@ -18,7 +18,7 @@ loop-line-init c =
     record {
       read = ap₂ (λ (s : State) (ls : List Line). plan_lines (texts c.args.known.now) (given c.args.netlist) (Ok s) ls) c.new-planning.ensures left;
       short = short_lines c.args.bytes.now (lines_left c.into_iter-line-iterator.result) left (omega (arith, c.if-bytes-gt-MOST_BYTES.false));
-      kept = none_kept (given c.args.netlist) _ _ c.new-kept.ensures;
+      kept = none_kept (given c.args.netlist) _;
     }
 
 pub loop-line-preserved : goal.loop-line-preserved

@@ -7,7 +7,8 @@ use Rattle.script_reader.specs.Script.{plan_lines}
 use Rattle.script_reader.specs.Views.{texts, state_of, given, IsKept}
 use Rattle.script_reader.proofs.script.read_script_with.Given as goal
 
--- the lines that are left, behind what is known, plan what all lines do, and are short; levels that are kept are those of the inputs
+-- the lines that are left, behind what is known, plan what all lines do, and are short; what is
+-- kept is of the netlist
 abbrev pub invariant-loop-line : goal.invariant-loop-line
 invariant-loop-line l = record {
   read : plan_lines (texts l.known) (given l.netlist) (Ok (state_of l.planning)) (lines_left l.line-iterator) ≡ plan_lines (texts l.known) (given l.netlist) (Ok nothing) (lines_of l.bytes);

@@ -11,8 +11,13 @@ use Rattle.script_reader.specs.Requests.{plan_step}
 use Rattle.script_reader.specs.Script.{begin, keyword_in, plan_request, plan_words}
 use Rattle.script_reader.specs.Views.{texts, words_of, state_of, given, Leads}
 use Rattle.script_reader.proofs.Formed.{wants_two, is_one_step, has_wanted}
-use Rattle.script_reader.proofs.Levels.{kept_step}
+use Rattle.script_reader.proofs.Levels.{kept_begun, kept_step}
 use Rattle.script_reader.proofs.planning.Planning.plan_line.Goals as goal
+
+pub plan_net-requires-clause-kept : goal.plan_net-requires-clause-kept
+plan_net-requires-clause-kept c =
+    kept_begun (given c.args.netlist) (state_of c.args.self.now) (state_of c.begin_line.new.self)
+    c.args.kept.now c.in_ok-keyword.ensures.begun c.requires.kept
 
 pub plan_step-requires : goal.plan_step-requires
 plan_step-requires c =

@@ -7,13 +7,19 @@ use Rattle.script_reader.proofs.NetLines.{inputs_length, found_length, wanted_in
 use Rattle.script_reader.proofs.Levels.{kept_signals}
 use Rattle.script_reader.proofs.planning.Planning.plan_net.Goals as goal
 
-pub keep_levels-requires : goal.keep_levels-requires
-keep_levels-requires c = λ known. c.requires.kept.levels (net_of c.in-Some.net.now) known (ap given c.in-Some.is)
+pub tables_of-requires : goal.tables_of-requires
+tables_of-requires c =
+    λ tables some.
+    c.requires.kept.tables tables (net_of c.in-Some.net.now) (sym c.take.ensures.value ∙ some)
+    (ap given c.in-Some.is)
 
 pub plan_signals-requires-clause-levels : goal.plan_signals-requires-clause-levels
 plan_signals-requires-clause-levels c =
     let net = net_of c.in-Some.net.now in
-    ap length c.as_slice-3.ensures.value ∙ found_length kind.Variable (state_of c.args.self.now).level (inputs_of net) _ c.in_ok-keep_levels.ensures.1 ∙ inputs_length net c.in-Some.net.now.sound
+    ap length c.as_slice-3.ensures.value
+    ∙ found_length kind.Variable (state_of c.args.self.now).level (inputs_of net) _
+    c.in_ok-tables.ensures.levels
+    ∙ inputs_length net c.in-Some.net.now.sound
 
 pub plan_signals-requires-clause-wanted : goal.plan_signals-requires-clause-wanted
 plan_signals-requires-clause-wanted c =
@@ -23,6 +29,11 @@ plan_signals-requires-clause-wanted c =
 
 pub returns-clause-kept : goal.returns-clause-kept
 returns-clause-kept c =
-    kept_signals c.plan_signals.result (given c.args.netlist) (net_of c.in-Some.net.now) (state_of c.args.self.now) (state_of c.plan_signals.new.self) c.keep_levels.new.kept c.args.line (words_of c.as_slice-2.result.now)
-    c.as_slice-3.result.now c.as_slice-4.result.now
-    (ap given c.in-Some.is) c.requires.begun c.in_ok-keep_levels.ensures.1 c.plan_signals.ensures
+    kept_signals (given c.args.netlist) (net_of c.in-Some.net.now) (state_of c.args.self.now)
+    (state_of c.plan_signals.new.self) _ c.args.line (words_of c.as_slice-2.result.now)
+    c.as_slice-3.result.now c.as_slice-4.result.now (ap given c.in-Some.is) c.requires.begun
+    (record {
+      levels = c.in_ok-tables.ensures.levels;
+      serves = c.in_ok-plan_signals.ensures.serves ∙ c.in_ok-tables.ensures.serves;
+    })
+    c.in_ok-plan_signals.ensures.read
