@@ -1,0 +1,6 @@
+pub mod NumberTests
+pub mod MemberLaws
+pub mod FormLaws
+pub mod OrderLaws
+pub mod CountLaws
+pub mod StartLaws

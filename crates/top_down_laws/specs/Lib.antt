@@ -1,0 +1,4 @@
+pub mod Forms
+pub mod Readings
+pub mod Remains
+pub mod Laws

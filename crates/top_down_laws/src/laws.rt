@@ -1,0 +1,23 @@
+//! The laws of what remains of a sweep from the root to the leaves. Each function does nothing: what it ensures is
+//! the law.
+ghost use Rattle.std.specs.Prelude.{ℕ};
+ghost use Rattle.top_down.specs.declared.tuple.Tuple.{Tuple};
+ghost use Rattle.top_down.specs.Rules.{Rule};
+ghost use Rattle.top_down_laws.specs.Readings.{Diagrams};
+ghost use Rattle.top_down_laws.specs.Remains.{IsTask};
+ghost use Rattle.top_down_laws.specs.Laws.{ConstantEnds, RootIsAsked, WaitInAnyOrder};
+
+/// Where the rule says a constant of the roots, that truth value is a diagram of the table. Otherwise what remains
+/// is the ask for the tuple that the rule says of them.
+pub fn a_sweep_begins_with_its_root()
+    ensures constant { (n : ℕ) (rule : Rule) (d : Diagrams) (roots : Tuple) → IsTask n rule d roots →
+        ConstantEnds n rule d roots }
+    ensures asked { (n : ℕ) (rule : Rule) (d : Diagrams) (roots : Tuple) → IsTask n rule d roots →
+        RootIsAsked n rule d roots }
+{}
+
+/// The asks that remain may wait in any order.
+pub fn asks_wait_in_any_order()
+    ensures { (n : ℕ) (rule : Rule) (d : Diagrams) (roots : Tuple) → IsTask n rule d roots →
+        WaitInAnyOrder n rule d roots }
+{}
