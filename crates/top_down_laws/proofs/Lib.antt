@@ -4,3 +4,5 @@ pub mod FormLaws
 pub mod OrderLaws
 pub mod CountLaws
 pub mod StartLaws
+pub mod ReadLaws
+pub mod ReadTurns

@@ -49,7 +49,7 @@ module _ (n : ℕ) (nodes : List Node) (reduced : IsReduced n nodes) where
       (sym (ap (λ (r : Row). r.low) row) ∙ same ∙ ap (λ (r : Row). r.high) row)
 
   -- a member that was read isn't the key's node, nor does it wait
-  split_row : (key : ℕ) (r : Row) → r.low ≢ r.high → is_node key r ≡ false
+  pub split_row : (key : ℕ) (r : Row) → r.low ≢ r.high → is_node key r ≡ false
   split_row key r differ = by (r.low == key) (r.high == key) refl refl
     where
       by : (b c : Bool) → (r.low == key) ≡ b → (r.high == key) ≡ c → (b && c) ≡ false

@@ -1,16 +1,22 @@
 -- What each kind of turn does to what remains of a sweep from the root to the leaves.
-use Rattle.std.specs.Prelude.{◌≡◌, ℕ, Bool, List, [], ◌∷◌, Option, None}
+use Rattle.std.specs.Prelude.{◌≡◌, ◌≢◌, ℕ, ◌+◌, ◌*◌, ◌^◌, ◌<◌, ◌≤◌, Bool, true, false, List, [], ◌∷◌, ◌++◌, length, All, Option, Some, None, IfSome}
 use Rattle.std.specs.List.Sorted.{IsPermutation}
-use Rattle.rec_words.specs.Words.{terminal, node_word}
+use Rattle.rec_words.specs.Words.{terminal, level_of, node_word, level_numbers}
+use Rattle.rec_words.specs.declared.node.Node.{Node}
+use Rattle.canon_file.specs.Members.{Has}
+use Rattle.canon_file.specs.Walks.{table_of}
 use Rattle.arc_file.specs.declared.arc.Arc.{Arc}
+use Rattle.arc_file.specs.Files.{IsInnerOrder, IsEndOrder}
+use Rattle.arc_diagrams.specs.Arcs.{target_on, targets_of, IsComplete, StandFor}
 use Rattle.arc_diagrams.specs.Laws.{IsDiagramOf}
 use Rattle.top_down.specs.declared.tuple.Tuple.{Tuple}
 use Rattle.top_down.specs.declared.tuple.Goal.TheVariants.{End, Go}
 use Rattle.top_down.specs.Tuples.{level_of_tuple}
 use Rattle.top_down.specs.Rules.{Rule, table_for}
-use Rattle.top_down_laws.specs.Forms.{Waiting, nobody, first_form}
-use Rattle.top_down_laws.specs.Readings.{Diagrams, targets_in, Readings}
-use Rattle.top_down_laws.specs.Remains.{Place, Remains}
+use Rattle.top_down.specs.Asks.{side_arcs}
+use Rattle.top_down_laws.specs.Forms.{Form, Waiting, nobody, comes_before, first_form, form_at, wants, next_key, IsKey}
+use Rattle.top_down_laws.specs.Readings.{Diagrams, targets_in, AreIn, Reading, Readings, want, filled_form, read_on}
+use Rattle.top_down_laws.specs.Remains.{IsTask, Place, Numbered, identifier, Remains, IsMet, source_of, side_of, answer_arcs, goal_on, side_waits, next_numbered}
 
 -- the function of the roots' tuple
 abbrev pub task_table : ℕ → Rule → Diagrams → Tuple → List Bool
@@ -40,3 +46,35 @@ abbrev pub WaitInAnyOrder : ℕ → Rule → Diagrams → Tuple → Type 0
 WaitInAnyOrder n rule d roots = (place : Place) (waiting others : List Waiting) (last : Option Waiting) (r : Readings)
     (inner ends : List Arc) → IsPermutation waiting others
     → Remains n rule d roots place waiting last r inner ends → Remains n rule d roots place others last r inner ends
+
+-- no ask that waits comes before that one
+abbrev pub IsNext : Waiting → List Waiting → Type 0
+IsNext a rest = (b : Waiting) → Has b rest → comes_before b a ≡ false
+
+-- where the node of that key is wanted, a node is left to be read, none behind the key, and then that holds
+abbrev pub ReadsNode : Bool → Reading → ℕ → (Reading → Type 0) → Type 0
+ReadsNode wanted old key Then = wanted ≡ true → (x : Node) × (unread : List Node) × (old.unread ≡ unread ++ x ∷ [])
+    × (x.uid ≤ key) × Then (record { hand = Some x; unread = unread })
+
+-- what the first ask wants can be read of each diagram, and what remains stays so
+pub record ReadsNodes (n : ℕ) (rule : Rule) (d : Diagrams) (roots : Tuple) (place : Place) (a : Waiting)
+    (rest : List Waiting) (last : Option Waiting) (r : Readings) (inner ends : List Arc) : Type 0 where
+  pub first : ReadsNode (wants a.form.key r.first.hand a.form.first) r.first a.form.key (λ now.
+      Remains n rule d roots place (a ∷ rest) last (record { first = now; second = r.second; third = r.third }) inner ends)
+  pub second : ReadsNode (wants a.form.key r.second.hand a.form.second) r.second a.form.key (λ now.
+      Remains n rule d roots place (a ∷ rest) last (record { first = r.first; second = now; third = r.third }) inner ends)
+  pub third : ReadsNode (wants a.form.key r.third.hand a.form.third) r.third a.form.key (λ now.
+      Remains n rule d roots place (a ∷ rest) last (record { first = r.first; second = r.second; third = now }) inner ends)
+
+abbrev pub WantedIsRead : ℕ → Rule → Diagrams → Tuple → Type 0
+WantedIsRead n rule d roots = (place : Place) (a : Waiting) (rest : List Waiting) (last : Option Waiting) (r : Readings)
+    (inner ends : List Arc) → Remains n rule d roots place (a ∷ rest) last r inner ends → IsNext a rest
+    → ReadsNodes n rule d roots place a rest last r inner ends
+
+-- where all that the first ask wants is at hand and another node of its level is left, it is taken and asked again
+-- for that node
+abbrev pub AskIsReadOn : ℕ → Rule → Diagrams → Tuple → Type 0
+AskIsReadOn n rule d roots = (place : Place) (a : Waiting) (rest : List Waiting) (last : Option Waiting) (r : Readings)
+    (inner ends : List Arc) → Remains n rule d roots place (a ∷ rest) last r inner ends → IsNext a rest
+    → want r a.form ≡ false → next_key (filled_form r a.form) < 2 ^ 63
+    → Remains n rule d roots place (record { form = read_on r a.form; asker = a.asker } ∷ rest) (Some a) r inner ends

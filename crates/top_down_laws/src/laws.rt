@@ -5,7 +5,7 @@ ghost use Rattle.top_down.specs.declared.tuple.Tuple.{Tuple};
 ghost use Rattle.top_down.specs.Rules.{Rule};
 ghost use Rattle.top_down_laws.specs.Readings.{Diagrams};
 ghost use Rattle.top_down_laws.specs.Remains.{IsTask};
-ghost use Rattle.top_down_laws.specs.Laws.{ConstantEnds, RootIsAsked, WaitInAnyOrder};
+ghost use Rattle.top_down_laws.specs.Laws.{ConstantEnds, RootIsAsked, WaitInAnyOrder, WantedIsRead, AskIsReadOn};
 
 /// Where the rule says a constant of the roots, that truth value is a diagram of the table. Otherwise what remains
 /// is the ask for the tuple that the rule says of them.
@@ -20,4 +20,18 @@ pub fn a_sweep_begins_with_its_root()
 pub fn asks_wait_in_any_order()
     ensures { (n : ℕ) (rule : Rule) (d : Diagrams) (roots : Tuple) → IsTask n rule d roots →
         WaitInAnyOrder n rule d roots }
+{}
+
+/// The node that the first ask wants of a diagram is still to be read, and none that is read before it lies behind
+/// it. What remains stays when one node of that diagram is read.
+pub fn a_wanted_node_is_read()
+    ensures { (n : ℕ) (rule : Rule) (d : Diagrams) (roots : Tuple) → IsTask n rule d roots →
+        WantedIsRead n rule d roots }
+{}
+
+/// Where the first ask wants none, and its tuple has another node of the level, it is taken and asked again for that
+/// node, with the pointers of the one that was read.
+pub fn an_ask_is_read_on()
+    ensures { (n : ℕ) (rule : Rule) (d : Diagrams) (roots : Tuple) → IsTask n rule d roots →
+        AskIsReadOn n rule d roots }
 {}
