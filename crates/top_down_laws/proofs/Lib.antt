@@ -6,3 +6,5 @@ pub mod CountLaws
 pub mod StartLaws
 pub mod ReadLaws
 pub mod ReadTurns
+pub mod AskerLaws
+pub mod KnownTurn

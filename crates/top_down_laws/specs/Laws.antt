@@ -78,3 +78,13 @@ AskIsReadOn n rule d roots = (place : Place) (a : Waiting) (rest : List Waiting)
     (inner ends : List Arc) → Remains n rule d roots place (a ∷ rest) last r inner ends → IsNext a rest
     → want r a.form ≡ false → next_key (filled_form r a.form) < 2 ^ 63
     → Remains n rule d roots place (record { form = read_on r a.form; asker = a.asker } ∷ rest) (Some a) r inner ends
+
+-- where all that the first ask wants was read, and its tuple is the one that was numbered last, it is taken and
+-- answered by that number
+abbrev pub KnownIsAnswered : ℕ → Rule → Diagrams → Tuple → Type 0
+KnownIsAnswered n rule d roots = (root : ℕ) (x : Numbered) (a : Waiting) (rest : List Waiting) (last : Option Waiting)
+    (r : Readings) (inner ends : List Arc)
+    → Remains n rule d roots (record { root = root; newest = Some x }) (a ∷ rest) last r inner ends → IsNext a rest
+    → x.form ≡ a.form
+    → Remains n rule d roots (record { root = root; newest = Some x }) rest (Some a) r
+    (inner ++ answer_arcs a.asker (identifier x)) ends

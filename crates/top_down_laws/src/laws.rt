@@ -5,7 +5,7 @@ ghost use Rattle.top_down.specs.declared.tuple.Tuple.{Tuple};
 ghost use Rattle.top_down.specs.Rules.{Rule};
 ghost use Rattle.top_down_laws.specs.Readings.{Diagrams};
 ghost use Rattle.top_down_laws.specs.Remains.{IsTask};
-ghost use Rattle.top_down_laws.specs.Laws.{ConstantEnds, RootIsAsked, WaitInAnyOrder, WantedIsRead, AskIsReadOn};
+ghost use Rattle.top_down_laws.specs.Laws.{ConstantEnds, RootIsAsked, WaitInAnyOrder, WantedIsRead, AskIsReadOn, KnownIsAnswered};
 
 /// Where the rule says a constant of the roots, that truth value is a diagram of the table. Otherwise what remains
 /// is the ask for the tuple that the rule says of them.
@@ -34,4 +34,11 @@ pub fn a_wanted_node_is_read()
 pub fn an_ask_is_read_on()
     ensures { (n : ℕ) (rule : Rule) (d : Diagrams) (roots : Tuple) → IsTask n rule d roots →
         AskIsReadOn n rule d roots }
+{}
+
+/// Where the first ask is for the tuple that was numbered last, it is taken and answered by that number: the arc from
+/// its source is put behind the others.
+pub fn a_known_tuple_is_answered()
+    ensures { (n : ℕ) (rule : Rule) (d : Diagrams) (roots : Tuple) → IsTask n rule d roots →
+        KnownIsAnswered n rule d roots }
 {}
