@@ -8,3 +8,5 @@ pub mod ReadLaws
 pub mod ReadTurns
 pub mod AskerLaws
 pub mod KnownTurn
+pub mod SideLaws
+pub mod NewTurn

@@ -88,3 +88,18 @@ KnownIsAnswered n rule d roots = (root : ℕ) (x : Numbered) (a : Waiting) (rest
     → x.form ≡ a.form
     → Remains n rule d roots (record { root = root; newest = Some x }) rest (Some a) r
     (inner ++ answer_arcs a.asker (identifier x)) ends
+
+-- where it is another tuple, the ask is answered by the next number of its level, and the tuple's two sides end or
+-- are asked for
+abbrev pub NewIsNumbered : ℕ → Rule → Diagrams → Tuple → Type 0
+NewIsNumbered n rule d roots = (place : Place) (a : Waiting) (rest : List Waiting) (last : Option Waiting) (r : Readings)
+    (inner ends : List Arc) → Remains n rule d roots place (a ∷ rest) last r inner ends → IsNext a rest
+    → want r a.form ≡ false → (next_key (filled_form r a.form) < 2 ^ 63 → ⊥)
+    → IfSome place.newest (λ x. x.form ≡ a.form → ⊥) → length inner + 1 < level_numbers
+    → (let x : Numbered = next_numbered place.newest a.form in
+    Remains n rule d roots (record { root = place.root; newest = Some x })
+    (side_waits (identifier x) false (goal_on rule r a.form false)
+    ++ (side_waits (identifier x) true (goal_on rule r a.form true) ++ rest)) (Some a) r
+    (inner ++ answer_arcs a.asker (identifier x))
+    (ends ++ (side_arcs (identifier x) false (goal_on rule r a.form false)
+    ++ side_arcs (identifier x) true (goal_on rule r a.form true))))

@@ -5,7 +5,7 @@ ghost use Rattle.top_down.specs.declared.tuple.Tuple.{Tuple};
 ghost use Rattle.top_down.specs.Rules.{Rule};
 ghost use Rattle.top_down_laws.specs.Readings.{Diagrams};
 ghost use Rattle.top_down_laws.specs.Remains.{IsTask};
-ghost use Rattle.top_down_laws.specs.Laws.{ConstantEnds, RootIsAsked, WaitInAnyOrder, WantedIsRead, AskIsReadOn, KnownIsAnswered};
+ghost use Rattle.top_down_laws.specs.Laws.{ConstantEnds, RootIsAsked, WaitInAnyOrder, WantedIsRead, AskIsReadOn, KnownIsAnswered, NewIsNumbered};
 
 /// Where the rule says a constant of the roots, that truth value is a diagram of the table. Otherwise what remains
 /// is the ask for the tuple that the rule says of them.
@@ -41,4 +41,12 @@ pub fn an_ask_is_read_on()
 pub fn a_known_tuple_is_answered()
     ensures { (n : ℕ) (rule : Rule) (d : Diagrams) (roots : Tuple) → IsTask n rule d roots →
         KnownIsAnswered n rule d roots }
+{}
+
+/// Where all nodes of the first ask's tuple were read and the tuple was not numbered last, the ask is taken and answered
+/// by the next number of its level, or its number 0: an arc to it is put from the ask's source, where it has one, and
+/// each of the tuple's two sides gets an arc to a truth value or is asked for.
+pub fn a_new_tuple_is_numbered()
+    ensures { (n : ℕ) (rule : Rule) (d : Diagrams) (roots : Tuple) → IsTask n rule d roots →
+        NewIsNumbered n rule d roots }
 {}
