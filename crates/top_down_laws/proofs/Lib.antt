@@ -10,3 +10,4 @@ pub mod AskerLaws
 pub mod KnownTurn
 pub mod SideLaws
 pub mod NewTurn
+pub mod EndLaws

@@ -1,12 +1,13 @@
 -- What each kind of turn does to what remains of a sweep from the root to the leaves.
-use Rattle.std.specs.Prelude.{◌≡◌, ◌≢◌, ℕ, ◌+◌, ◌*◌, ◌^◌, ◌<◌, ◌≤◌, Bool, true, false, List, [], ◌∷◌, ◌++◌, length, All, Option, Some, None, IfSome}
+use Rattle.std.specs.Prelude.{◌≡◌, ◌≢◌, ℕ, suc, ◌+◌, ◌*◌, ◌^◌, ◌<◌, ◌≤◌, Bool, true, false, List, [], ◌∷◌, ◌++◌, length, All, Option, Some, None, IfSome}
 use Rattle.std.specs.List.Sorted.{IsPermutation}
 use Rattle.rec_words.specs.Words.{terminal, level_of, node_word, level_numbers}
 use Rattle.rec_words.specs.declared.node.Node.{Node}
 use Rattle.canon_file.specs.Members.{Has}
 use Rattle.canon_file.specs.Walks.{table_of}
 use Rattle.arc_file.specs.declared.arc.Arc.{Arc}
-use Rattle.arc_file.specs.Files.{IsInnerOrder, IsEndOrder}
+use Rattle.arc_file.specs.Files.{IsInnerOrder, IsEndOrder, Leads}
+use Rattle.arc_file.specs.declared.kind.Kind.TheVariants as kind
 use Rattle.arc_diagrams.specs.Arcs.{target_on, targets_of, IsComplete, StandFor}
 use Rattle.arc_diagrams.specs.Laws.{IsDiagramOf}
 use Rattle.top_down.specs.declared.tuple.Tuple.{Tuple}
@@ -103,3 +104,66 @@ NewIsNumbered n rule d roots = (place : Place) (a : Waiting) (rest : List Waitin
     (inner ++ answer_arcs a.asker (identifier x))
     (ends ++ (side_arcs (identifier x) false (goal_on rule r a.form false)
     ++ side_arcs (identifier x) true (goal_on rule r a.form true))))
+
+-- an ask that waits is for that tuple
+pub record IsFor (d : Diagrams) (a : Waiting) (x : Tuple) : Type 0 where
+  pub members : AreIn d x
+  pub key_is : IsKey a.form.key x
+  pub form_is : a.form ≡ form_at (targets_in d) a.form.key x
+
+-- it is for no other one
+abbrev pub AsksForOne : ℕ → Rule → Diagrams → Tuple → Type 0
+AsksForOne n rule d roots = (place : Place) (waiting : List Waiting) (last : Option Waiting) (r : Readings)
+    (inner ends : List Arc) → Remains n rule d roots place waiting last r inner ends → (a : Waiting) → Has a waiting
+    → (x : Tuple) × IsFor d a x × ((y : Tuple) → IsFor d a y → y ≡ x)
+
+-- these arcs complete what is written: they are a complete set with all of it, in which each asker leads, on its
+-- side, to a pointer that stands for the function of the tuple that it asks for
+pub record CompletesAsks (n root : ℕ) (rule : Rule) (d : Diagrams) (waiting : List Waiting) (inner ends whole : List Arc)
+    : Type 0 where
+  pub complete : IsComplete n root whole
+  pub has_inner : (a : Arc) → Has a inner → Has a whole
+  pub has_ends : (a : Arc) → Has a ends → Has a whole
+  pub answered : (a : Waiting) → Has a waiting → (x : Tuple) → IsFor d a x → (h : ℕ)
+      → suc (level_of (source_of a.asker) + h) ≡ n
+      → table_of (targets_of whole) h (suc (level_of (source_of a.asker)))
+      (target_on whole (source_of a.asker) (side_of a.asker))
+      ≡ table_for rule (targets_in d) h (suc (level_of (source_of a.asker))) x
+
+-- once the root has its number, what completes what is written stands for the table
+abbrev pub WrittenStands : ℕ → Rule → Diagrams → Tuple → Type 0
+WrittenStands n rule d roots = (root : ℕ) (x : Numbered) (waiting : List Waiting) (last : Option Waiting)
+    (r : Readings) (inner ends whole : List Arc)
+    → Remains n rule d roots (record { root = root; newest = Some x }) waiting last r inner ends
+    → CompletesAsks n root rule d waiting inner ends whole → StandFor n root whole (task_table n rule d roots)
+
+-- before, nothing is written, and the one ask that waits is for a tuple whose function is the table
+abbrev pub RootStands : ℕ → Rule → Diagrams → Tuple → Type 0
+RootStands n rule d roots = (root : ℕ) (waiting : List Waiting) (last : Option Waiting) (r : Readings)
+    (inner ends : List Arc) → Remains n rule d roots (record { root = root; newest = None }) waiting last r inner ends
+    → (inner ≡ []) × (ends ≡ []) × ((a : Waiting) × (x : Tuple) × (waiting ≡ a ∷ []) × IsFor d a x
+    × (table_for rule (targets_in d) n 0 x ≡ task_table n rule d roots))
+
+-- no tuple stands twice in the list
+abbrev pub AreDifferent : List Tuple → Type 0
+AreDifferent [] = Unit {0}
+AreDifferent (x ∷ xs) = (Has x xs → ⊥) × AreDifferent xs
+
+-- the arcs are in the order of their files, a diagram of the table, two for each tuple that is met
+pub record IsWhole (n : ℕ) (rule : Rule) (d : Diagrams) (roots : Tuple) (root : ℕ) (inner ends : List Arc)
+    : Type 0 where
+  pub diagram : IsDiagramOf n root (inner ++ ends) (task_table n rule d roots)
+  pub inner_order : IsInnerOrder inner
+  pub end_order : IsEndOrder ends
+  pub inner_lead : All (Leads kind.Inner) inner
+  pub ends_lead : All (Leads kind.End) ends
+  pub tuples : List Tuple
+  pub different : AreDifferent tuples
+  pub are_met : (x : Tuple) → Has x tuples → IsMet rule (targets_in d) roots x
+  pub all_met : (x : Tuple) → IsMet rule (targets_in d) roots x → Has x tuples
+  pub two_each : length inner + length ends ≡ 2 * length tuples
+
+-- where nothing waits, so are those that were written
+abbrev pub NothingWaits : ℕ → Rule → Diagrams → Tuple → Type 0
+NothingWaits n rule d roots = (place : Place) (last : Option Waiting) (r : Readings) (inner ends : List Arc)
+    → Remains n rule d roots place [] last r inner ends → IsWhole n rule d roots place.root inner ends

@@ -5,7 +5,7 @@ ghost use Rattle.top_down.specs.declared.tuple.Tuple.{Tuple};
 ghost use Rattle.top_down.specs.Rules.{Rule};
 ghost use Rattle.top_down_laws.specs.Readings.{Diagrams};
 ghost use Rattle.top_down_laws.specs.Remains.{IsTask};
-ghost use Rattle.top_down_laws.specs.Laws.{ConstantEnds, RootIsAsked, WaitInAnyOrder, WantedIsRead, AskIsReadOn, KnownIsAnswered, NewIsNumbered};
+ghost use Rattle.top_down_laws.specs.Laws.{ConstantEnds, RootIsAsked, WaitInAnyOrder, WantedIsRead, AskIsReadOn, KnownIsAnswered, NewIsNumbered, AsksForOne, NothingWaits, WrittenStands, RootStands};
 
 /// Where the rule says a constant of the roots, that truth value is a diagram of the table. Otherwise what remains
 /// is the ask for the tuple that the rule says of them.
@@ -49,4 +49,27 @@ pub fn a_known_tuple_is_answered()
 pub fn a_new_tuple_is_numbered()
     ensures { (n : ℕ) (rule : Rule) (d : Diagrams) (roots : Tuple) → IsTask n rule d roots →
         NewIsNumbered n rule d roots }
+{}
+
+/// An ask that waits is for exactly one tuple of the diagrams.
+pub fn an_ask_is_for_one_tuple()
+    ensures { (n : ℕ) (rule : Rule) (d : Diagrams) (roots : Tuple) → IsTask n rule d roots →
+        AsksForOne n rule d roots }
+{}
+
+/// Where nothing waits, the arcs that were written are a diagram of the table, in the order of their files, and two for
+/// each tuple that is met.
+pub fn a_sweep_ends_with_a_diagram()
+    ensures { (n : ℕ) (rule : Rule) (d : Diagrams) (roots : Tuple) → IsTask n rule d roots →
+        NothingWaits n rule d roots }
+{}
+
+/// Before the root has its number, nothing is written, and the one ask that waits is for a tuple whose function is the
+/// table. From then on, what is written, completed by what stands for the functions of the asks that wait, stands for
+/// the table.
+pub fn what_is_written_stands_for_the_table()
+    ensures root { (n : ℕ) (rule : Rule) (d : Diagrams) (roots : Tuple) → IsTask n rule d roots →
+        RootStands n rule d roots }
+    ensures written { (n : ℕ) (rule : Rule) (d : Diagrams) (roots : Tuple) → IsTask n rule d roots →
+        WrittenStands n rule d roots }
 {}
