@@ -11,3 +11,6 @@ pub mod KnownTurn
 pub mod SideLaws
 pub mod NewTurn
 pub mod EndLaws
+pub mod CanonReduced
+pub mod PickLaws
+pub mod CanonTasks

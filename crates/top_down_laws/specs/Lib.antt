@@ -2,3 +2,4 @@ pub mod Forms
 pub mod Readings
 pub mod Remains
 pub mod Laws
+pub mod Operations

@@ -6,6 +6,15 @@ ghost use Rattle.top_down.specs.Rules.{Rule};
 ghost use Rattle.top_down_laws.specs.Readings.{Diagrams};
 ghost use Rattle.top_down_laws.specs.Remains.{IsTask};
 ghost use Rattle.top_down_laws.specs.Laws.{ConstantEnds, RootIsAsked, WaitInAnyOrder, WantedIsRead, AskIsReadOn, KnownIsAnswered, NewIsNumbered, AsksForOne, NothingWaits, WrittenStands, RootStands};
+ghost use Rattle.top_down_laws.specs.Operations.{ProductIsTask, ChoiceIsTask, QuantifyIsTask, RestrictIsTask};
+
+/// An operation, a choice, a quantifier or a restriction on canonical diagrams is the task of its table.
+pub fn operations_on_canonical_diagrams_are_tasks()
+    ensures product { (n : ℕ) → ProductIsTask n }
+    ensures choice { (n : ℕ) → ChoiceIsTask n }
+    ensures quantifier { (n : ℕ) → QuantifyIsTask n }
+    ensures restriction { (n : ℕ) → RestrictIsTask n }
+{}
 
 /// Where the rule says a constant of the roots, that truth value is a diagram of the table. Otherwise what remains
 /// is the ask for the tuple that the rule says of them.
