@@ -1,12 +1,11 @@
 -- The words of askers, and the arcs that answer them.
-use Rattle.std.proofs.Common.{◌≡◌, ◌≢◌, ℕ, ◌+◌, ◌*◌, ◌≤◌, ◌<◌, ◌∙◌, ◌^◌, Bool, true, false, cond, List, [], ◌∷◌, refl, subst, sym, ap, arith}
-use Rattle.std.specs.Prelude.{◌==◌, ◌/◌, ◌%◌, nat_lt}
+use Rattle.std.proofs.Common.{◌≡◌, ◌≢◌, ℕ, ◌+◌, ◌*◌, ◌≤◌, ◌<◌, ◌∙◌, Bool, true, false, cond, [], ◌∷◌, refl, ap, arith}
+use Rattle.std.specs.Prelude.{◌==◌, ◌/◌, ◌%◌}
 use Rattle.std.specs.Ordering.{nat_cmp, bool_cmp, is_lt, ordering_then}
 use Rattle.std.specs.declared.cmp.Ordering.{Ordering}
-use Rattle.std.specs.declared.cmp.Ordering.TheVariants.{Less, Equal, Greater}
+use Rattle.std.specs.declared.cmp.Ordering.TheVariants.{Equal, Greater}
 use Rattle.std.proofs.lemmas.Bool.Decides.{nat_tests}
 use Rattle.rec_words.specs.Words.{level_of, most_variables}
-use Rattle.arc_file.specs.declared.arc.Arc.{Arc}
 use Rattle.top_down_laws.specs.Forms.{nobody, asker_word}
 use Rattle.top_down_laws.specs.Remains.{source_of, side_of, is_asker, answer_arcs}
 use Rattle.top_down_laws.proofs.NumberTests.{is_same, is_other, same_is, other_is, is_less, not_less, Order, Before, Same, Behind, order}

@@ -1,5 +1,5 @@
 -- The canonical nodes of a table are those of a reduced diagram.
-use Rattle.std.proofs.Common.{◌≡◌, ◌≢◌, ℕ, ◌+◌, ◌*◌, ◌≤◌, ◌<◌, ◌∙◌, ◌^◌, Bool, true, false, cond, List, [], ◌∷◌, ◌++◌, refl, subst, sym, ap, inl, inr, arith}
+use Rattle.std.proofs.Common.{◌≡◌, ℕ, ◌+◌, ◌*◌, ◌≤◌, ◌∙◌, ◌^◌, Bool, true, false, List, [], ◌∷◌, refl, sym, ap, inl, inr, arith}
 use Rattle.std.specs.Prelude.{◌⊎◌, zero, suc, length}
 use Rattle.list_laws.specs.Members.{IsAscending}
 use Rattle.list_laws.proofs.MemberLaws.{has_append}
@@ -8,7 +8,7 @@ use Rattle.rec_words.specs.declared.node.Node.{Node}
 use Rattle.canon_file.specs.declared.row.Row.{Row}
 use Rattle.canon_file.specs.Members.{Has}
 use Rattle.canon_file.specs.Pieces.{halves}
-use Rattle.canon_file.specs.Rows.{row_before, row_word, rows_with, pointer, levels, Fits}
+use Rattle.canon_file.specs.Rows.{row_before, row_word, pointer, levels, Fits}
 use Rattle.canon_file.specs.Canon.{numbered, nodes_of, canon_nodes, canon_root}
 use Rattle.canon_file.specs.Laws.{HasForm}
 use Rattle.canon_file.proofs.FileLaws.{is_node_file}

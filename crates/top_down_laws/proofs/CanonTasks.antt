@@ -1,20 +1,20 @@
 -- The operations on canonical diagrams are tasks.
-use Rattle.std.proofs.Common.{◌≡◌, ℕ, ◌∙◌, ◌<◌, Bool, List, [], ◌∷◌, refl, inl, arith}
+use Rattle.std.proofs.Common.{◌≡◌, ℕ, ◌∙◌, Bool, List, [], ◌∷◌, refl, inl, arith}
 use Rattle.std.specs.Prelude.{◌-◌}
 use Rattle.bool_tables.specs.Steps.{op_value, step_table}
 use Rattle.bool_tables.specs.declared.steps.Step.TheVariants.{Quantify, Restrict}
 use Rattle.rec_words.specs.declared.node.Node.{Node}
-use Rattle.canon_file.specs.Canon.{canon_nodes, canon_root}
+use Rattle.canon_file.specs.Canon.{canon_nodes}
 use Rattle.canon_file.specs.Laws.{HasForm}
 use Rattle.top_down.specs.Tuples.{AreDeepening, canon_targets, joined_by, unused}
 use Rattle.top_down.specs.Operations.{choice_rule}
-use Rattle.top_down.specs.Laws.{Makes, root_twice, roots_of_one, targets_of_one}
+use Rattle.top_down.specs.Laws.{root_twice, roots_of_one, targets_of_one}
 use Rattle.top_down.proofs.TupleLaws.{canon-deep, root-table}
 use Rattle.top_down.proofs.QuantifyLaws.{above_is}
 use Rattle.top_down.proofs.RestrictLaws.{not_below}
 use Rattle.top_down.proofs.OperationDiagrams.{product_stands, choice_stands, quantify_stands, restrict_stands}
 use Rattle.top_down_laws.specs.Readings.{AreReduced, IsIn}
-use Rattle.top_down_laws.specs.Operations.{canon_diagrams, IsTaskFor, ProductIsTask, ChoiceIsTask, QuantifyIsTask, RestrictIsTask}
+use Rattle.top_down_laws.specs.Operations.{canon_diagrams, ProductIsTask, ChoiceIsTask, QuantifyIsTask, RestrictIsTask}
 use Rattle.top_down_laws.proofs.CanonReduced.{root_in, canon_reduced}
 use Rattle.top_down_laws.proofs.PickLaws.{product_picks, choice_picks, quantify_picks, restrict_picks}
 

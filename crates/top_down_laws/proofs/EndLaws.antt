@@ -1,32 +1,30 @@
 -- What is written stands for, and what it is where nothing waits.
-use Rattle.std.proofs.Common.{◌≡◌, ◌≢◌, ℕ, ◌+◌, ◌*◌, ◌≤◌, ◌<◌, ◌∙◌, ◌^◌, Bool, true, false, cond, List, [], ◌∷◌, ◌++◌, All, refl, subst, sym, ap, inl, inr, arith}
+use Rattle.std.proofs.Common.{◌≡◌, ℕ, ◌+◌, ◌*◌, ◌<◌, ◌∙◌, Bool, true, false, List, [], ◌∷◌, ◌++◌, refl, subst, sym, ap, inl, inr, arith}
 use Rattle.std.specs.Prelude.{Option, Some, None, map, length, suc}
 use Rattle.std.proofs.lemmas.List.{length-map}
 use Rattle.list_laws.proofs.MemberLaws.{has_map, map_has}
 use Rattle.list_laws.proofs.SameMembers.{has_at}
-use Rattle.rec_words.specs.Words.{level_of, node_word, terminal, IsTerminal}
+use Rattle.rec_words.specs.Words.{level_of, IsTerminal}
 use Rattle.canon_file.specs.Members.{Has}
 use Rattle.canon_file.specs.Walks.{table_of}
 use Rattle.canon_file.proofs.FileLaws.{terminal_ends}
 use Rattle.arc_file.specs.declared.arc.Arc.{Arc}
 use Rattle.arc_file.specs.Files.{Leads}
-use Rattle.arc_file.specs.declared.kind.Kind.{Kind}
 use Rattle.arc_file.specs.declared.kind.Kind.TheVariants as kind
-use Rattle.arc_diagrams.specs.Arcs.{targets_of, target_on, StandFor}
+use Rattle.arc_diagrams.specs.Arcs.{targets_of, target_on}
 use Rattle.arc_diagrams.specs.Laws.{IsDiagramOf}
 use Rattle.list_laws.proofs.MemberLaws.{has_left}
 use Rattle.top_down.specs.declared.tuple.Tuple.{Tuple}
 use Rattle.top_down.specs.declared.tuple.Goal.{Goal}
 use Rattle.top_down.specs.declared.tuple.Goal.TheVariants.{End, Go}
-use Rattle.top_down.specs.Tuples.{level_of_tuple}
-use Rattle.top_down.specs.Rules.{Rule, IsAsked, below_on, table_for}
-use Rattle.top_down.specs.Asks.{Ask, Grows, AreNumbered, Completes}
+use Rattle.top_down.specs.Rules.{Rule, below_on, table_for}
+use Rattle.top_down.specs.Asks.{Ask, AreNumbered}
 use Rattle.top_down.proofs.NumberLaws.{newest_above}
 use Rattle.top_down.proofs.GrownLaws.{open_stands, closed_stands}
-use Rattle.top_down_laws.specs.Forms.{Form, Waiting, form_at}
-use Rattle.top_down_laws.specs.Readings.{Diagrams, targets_in, Readings}
-use Rattle.top_down_laws.specs.Remains.{IsTask, Open, waiting_of, ask_of, source_of, side_of, IsOpen, Waits, Place, Numbered, identifier, IsMade, AsksForRoot, IsMet, AtRoot, Below, IsGrown, Remains}
-use Rattle.top_down_laws.specs.Laws.{IsFor, AsksForOne, CompletesAsks, WrittenStands, RootStands, AreDifferent, IsWhole, NothingWaits, task_table}
+use Rattle.top_down_laws.specs.Forms.{Waiting}
+use Rattle.top_down_laws.specs.Readings.{Diagrams, targets_in}
+use Rattle.top_down_laws.specs.Remains.{IsTask, Open, waiting_of, ask_of, IsOpen, Numbered, identifier, IsMade, IsMet, AtRoot, Below, IsGrown}
+use Rattle.top_down_laws.specs.Laws.{IsFor, AsksForOne, WrittenStands, RootStands, AreDifferent, IsWhole, NothingWaits, task_table}
 use Rattle.top_down_laws.proofs.FormLaws.{levels_from, same_tuple}
 use Rattle.top_down_laws.proofs.ReadTurns.{open_key}
 

@@ -1,6 +1,6 @@
 -- Turns that answer an ask by the tuple that was numbered last.
-use Rattle.std.proofs.Common.{◌≡◌, ◌≢◌, ℕ, ◌+◌, ◌≤◌, ◌<◌, ◌∙◌, ◌^◌, Bool, true, false, cond, List, [], ◌∷◌, ◌++◌, refl, subst, sym, ap, inl, inr, arith}
-use Rattle.std.specs.Prelude.{Option, Some, None, IfSome, map, length}
+use Rattle.std.proofs.Common.{◌≡◌, ℕ, ◌<◌, ◌∙◌, false, List, [], ◌∷◌, ◌++◌, refl, subst, sym, ap, inl, inr, arith}
+use Rattle.std.specs.Prelude.{Option, Some, map}
 use Rattle.std.specs.Ordering.{is_lt}
 use Rattle.std.proofs.lemmas.List.{length-append}
 use Rattle.list_laws.proofs.MemberLaws.{has_append}
@@ -11,13 +11,13 @@ use Rattle.arc_file.specs.Files.{end_cmp}
 use Rattle.top_down.specs.declared.tuple.Tuple.{Tuple}
 use Rattle.top_down.specs.Tuples.{level_of_tuple}
 use Rattle.top_down.specs.Rules.{Rule}
-use Rattle.top_down.specs.Asks.{Ask, Grows, answer}
+use Rattle.top_down.specs.Asks.{answer}
 use Rattle.top_down.proofs.TurnLaws.{turn_known}
 use Rattle.top_down_laws.specs.Forms.{Form, Waiting, comes_before, asker_word, form_at}
 use Rattle.top_down_laws.specs.Readings.{Diagrams, targets_in, Readings}
 use Rattle.top_down_laws.specs.Remains.{IsTask, Open, waiting_of, ask_of, source_of, side_of, IsOpen, Waits, Place, Numbered, identifier, IsMade, IsGrown, Remains, answer_arcs}
 use Rattle.top_down_laws.specs.Laws.{IsNext, KnownIsAnswered}
-use Rattle.top_down_laws.proofs.FormLaws.{Levels, levels_from, same_tuple}
+use Rattle.top_down_laws.proofs.FormLaws.{levels_from, same_tuple}
 use Rattle.top_down_laws.proofs.OrderLaws.{askers_follow, not_before_self}
 use Rattle.top_down_laws.proofs.CountLaws.{asks_rest}
 use Rattle.top_down_laws.proofs.AskerLaws.{word-parts, answer-node, not_earlier}

@@ -14,3 +14,4 @@ pub mod EndLaws
 pub mod CanonReduced
 pub mod PickLaws
 pub mod CanonTasks
+pub mod SoundLaws

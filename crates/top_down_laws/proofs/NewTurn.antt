@@ -1,5 +1,5 @@
 -- Turns that give a tuple its number.
-use Rattle.std.proofs.Common.{◌≡◌, ◌≢◌, ℕ, ◌+◌, ◌*◌, ◌≤◌, ◌<◌, ◌∙◌, ◌^◌, Bool, true, false, cond, List, [], ◌∷◌, ◌++◌, refl, subst, sym, ap, inl, inr, arith, append_assoc}
+use Rattle.std.proofs.Common.{◌≡◌, ◌≢◌, ℕ, ◌+◌, ◌≤◌, ◌<◌, ◌∙◌, ◌^◌, Bool, true, false, cond, List, [], ◌∷◌, ◌++◌, refl, subst, sym, ap, inl, inr, arith, append_assoc}
 use Rattle.std.specs.Prelude.{Option, Some, None, IfSome, map, length, suc, ◌==◌}
 use Rattle.std.proofs.lemmas.List.{length-append, append-nil}
 use Rattle.list_laws.proofs.MemberLaws.{has_append, has_map}
@@ -8,16 +8,16 @@ use Rattle.canon_file.specs.Members.{Has}
 use Rattle.arc_file.specs.declared.arc.Arc.{Arc}
 use Rattle.top_down.specs.declared.tuple.Tuple.{Tuple}
 use Rattle.top_down.specs.declared.tuple.Goal.{Goal}
-use Rattle.top_down.specs.declared.tuple.Goal.TheVariants.{End, Go}
+use Rattle.top_down.specs.declared.tuple.Goal.TheVariants.{Go}
 use Rattle.top_down.specs.Tuples.{level_of_tuple}
 use Rattle.top_down.specs.Rules.{Rule, IsAsked, below_on}
-use Rattle.top_down.specs.Asks.{Ask, Grows, IsUpTo, answer, next_identifier, side_arcs, side_asks, new_arcs, new_asks, with_tuple}
+use Rattle.top_down.specs.Asks.{Grows, IsUpTo, answer, next_identifier, side_arcs, side_asks, new_arcs, new_asks, with_tuple}
 use Rattle.top_down.proofs.NumberLaws.{next_above}
 use Rattle.top_down.proofs.NewIdentifiers.{with-new, with-other}
 use Rattle.top_down.proofs.TurnLaws.{turn_first, turn_new}
-use Rattle.top_down_laws.specs.Forms.{Form, Waiting, nobody, comes_before, asker_word, IsNoLater, form_at, next_key, IsLastKey}
+use Rattle.top_down_laws.specs.Forms.{Form, Waiting, comes_before, asker_word, IsNoLater, form_at, next_key, IsLastKey}
 use Rattle.top_down_laws.specs.Readings.{Diagrams, targets_in, AreIn, Readings, want, filled_form}
-use Rattle.top_down_laws.specs.Remains.{IsTask, Open, waiting_of, ask_of, source_of, side_of, IsOpen, Waits, Place, Numbered, identifier, IsMade, AsksForRoot, IsMet, AtRoot, Below, IsUpToForm, IsGrown, Remains, answer_arcs, goal_on, side_waits, next_numbered}
+use Rattle.top_down_laws.specs.Remains.{IsTask, Open, waiting_of, ask_of, source_of, side_of, IsOpen, Waits, Numbered, identifier, IsMade, AsksForRoot, IsMet, AtRoot, Below, IsUpToForm, IsGrown, Remains, answer_arcs, goal_on, side_waits, next_numbered}
 use Rattle.top_down_laws.specs.Laws.{IsNext, NewIsNumbered}
 use Rattle.top_down_laws.proofs.NumberTests.{same_is}
 use Rattle.top_down_laws.proofs.FormLaws.{one_last, is_last}

@@ -1,5 +1,5 @@
 -- What the rules of operations ask for is of the diagrams that the tuples are of.
-use Rattle.std.proofs.Common.{◌≡◌, ℕ, Bool, true, false, cond, List, refl, subst, inl, inr}
+use Rattle.std.proofs.Common.{◌≡◌, ℕ, Bool, true, false, cond, List, refl, subst, inl}
 use Rattle.std.specs.Prelude.{◌==◌, nat_le, ◌&&◌}
 use Rattle.rec_words.specs.declared.node.Node.{Node}
 use Rattle.bool_tables.specs.Tables.{same_bit}
@@ -10,7 +10,7 @@ use Rattle.top_down.specs.declared.tuple.Tuple.{Tuple}
 use Rattle.top_down.specs.declared.tuple.Goal.{Goal}
 use Rattle.top_down.specs.declared.tuple.Goal.TheVariants.{End, Go}
 use Rattle.top_down.specs.Tuples.{unused}
-use Rattle.top_down.specs.Operations.{is_end, is_one, decides, ends_or, two, strong, sorted, product_goal, product_rule, choice_goal, choice_rule, quantify_goal, quantify_rule, restrict_rule}
+use Rattle.top_down.specs.Operations.{is_end, is_one, decides, ends_or, two, strong, product_goal, product_rule, choice_goal, choice_rule, quantify_goal, quantify_rule, restrict_rule}
 use Rattle.top_down_laws.specs.Readings.{Diagrams, IsIn, AreIn}
 use Rattle.top_down_laws.specs.Remains.{Picks}
 

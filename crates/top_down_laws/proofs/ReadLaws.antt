@@ -1,22 +1,16 @@
 -- What is read for the first ask, and what remains then.
-use Rattle.std.proofs.Common.{◌≡◌, ◌≢◌, ℕ, ◌+◌, ◌≤◌, ◌<◌, ◌∙◌, ◌^◌, Bool, true, false, cond, List, [], ◌∷◌, ◌++◌, refl, subst, sym, ap, inl, inr, arith, append_assoc}
-use Rattle.std.specs.Prelude.{◌⊎◌, Option, Some, None, IfSome, map, ◌==◌, ◌&&◌}
-use Rattle.std.proofs.lemmas.List.{append-nil}
-use Rattle.list_laws.proofs.MemberLaws.{has_append, has_left, has_right, has_map}
-use Rattle.rec_words.specs.Words.{level_of}
+use Rattle.std.proofs.Common.{◌≡◌, ◌≢◌, ℕ, ◌≤◌, ◌<◌, ◌∙◌, ◌^◌, Bool, true, false, cond, List, [], ◌∷◌, ◌++◌, refl, subst, sym, ap, inl, inr, arith, append_assoc}
+use Rattle.std.specs.Prelude.{Option, Some, None, IfSome, map, ◌==◌, ◌&&◌}
+use Rattle.list_laws.proofs.MemberLaws.{has_append, has_right, has_map}
 use Rattle.rec_words.specs.declared.node.Node.{Node}
 use Rattle.canon_file.specs.declared.row.Row.{Row}
 use Rattle.canon_file.specs.Members.{Has}
 use Rattle.canon_file.specs.NodeFiles.{IsDescending}
 use Rattle.canon_file.specs.Walks.{row_at}
-use Rattle.arc_file.specs.declared.arc.Arc.{Arc}
-use Rattle.top_down.specs.declared.tuple.Tuple.{Tuple}
-use Rattle.top_down.specs.Rules.{Rule}
-use Rattle.top_down_laws.specs.Forms.{Form, Waiting, comes_before, is_node, wants, twice, member_at, form_at}
-use Rattle.top_down_laws.specs.Readings.{Diagrams, targets_in, IsIn, AreIn, IsReduced, Reading, Readings, AreReadings, IsReadTo, IsUpToHand, HandsReach}
-use Rattle.top_down_laws.specs.Remains.{IsTask, Open, waiting_of, IsOpen, Waits, Place, IsMade, Remains}
-use Rattle.top_down_laws.specs.Laws.{IsNext, ReadsNode, ReadsNodes, WantedIsRead}
-use Rattle.top_down_laws.proofs.NumberTests.{is_other, same_is, other_is, Order, Before, Same, Behind, order}
+use Rattle.top_down_laws.specs.Forms.{Waiting, comes_before, is_node, wants, member_at}
+use Rattle.top_down_laws.specs.Readings.{Diagrams, targets_in, IsIn, IsReduced, IsReadTo, IsUpToHand}
+use Rattle.top_down_laws.specs.Remains.{Open, waiting_of}
+use Rattle.top_down_laws.proofs.NumberTests.{is_other, other_is, Order, Before, Same, Behind, order}
 use Rattle.top_down_laws.proofs.MemberLaws.{node_in, two_pointers, split_row, was_read, waits}
 use Rattle.top_down_laws.proofs.OrderLaws.{forms_follow, no_later_key}
 

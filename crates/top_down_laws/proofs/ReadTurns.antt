@@ -1,6 +1,6 @@
 -- Turns that read a node, and turns that ask again for the next one.
-use Rattle.std.proofs.Common.{◌≡◌, ◌≢◌, ℕ, ◌+◌, ◌≤◌, ◌<◌, ◌∙◌, ◌^◌, Bool, true, false, cond, List, [], ◌∷◌, ◌++◌, refl, subst, sym, ap, inl, inr, arith}
-use Rattle.std.specs.Prelude.{Option, Some, None, IfSome, map}
+use Rattle.std.proofs.Common.{◌≡◌, ℕ, ◌≤◌, ◌<◌, ◌∙◌, ◌^◌, true, false, List, [], ◌∷◌, refl, subst, sym, ap, inl, inr, arith}
+use Rattle.std.specs.Prelude.{Option, Some, None, map}
 use Rattle.list_laws.proofs.MemberLaws.{has_map}
 use Rattle.rec_words.specs.Words.{level_of, node_word}
 use Rattle.rec_words.specs.declared.node.Node.{Node}
@@ -10,14 +10,14 @@ use Rattle.top_down.specs.declared.tuple.Tuple.{Tuple}
 use Rattle.top_down.specs.declared.tuple.Goal.TheVariants.{Go}
 use Rattle.top_down.specs.Tuples.{level_of_tuple}
 use Rattle.top_down.specs.Rules.{Rule}
-use Rattle.top_down_laws.specs.Forms.{Form, Waiting, comes_before, asker_word, IsNoLater, form_at, next_key}
-use Rattle.top_down_laws.specs.Readings.{Diagrams, targets_in, Reading, Readings, AreReadings, IsUpToHand, HandsReach, want, filled_form, read_on}
-use Rattle.top_down_laws.specs.Remains.{IsTask, Open, waiting_of, ask_of, IsOpen, IsBehind, Waits, Place, Numbered, identifier, IsMade, AsksForRoot, IsGrown, Remains}
-use Rattle.top_down_laws.specs.Laws.{IsNext, ReadsNode, ReadsNodes, WantedIsRead, AskIsReadOn}
+use Rattle.top_down_laws.specs.Forms.{Waiting, comes_before, asker_word, IsNoLater, next_key}
+use Rattle.top_down_laws.specs.Readings.{Diagrams, targets_in, Readings, AreReadings, IsUpToHand, HandsReach, want, filled_form, read_on}
+use Rattle.top_down_laws.specs.Remains.{IsTask, Open, waiting_of, IsOpen, IsBehind, Waits, Place, Numbered, identifier, IsMade, IsGrown, Remains}
+use Rattle.top_down_laws.specs.Laws.{IsNext, ReadsNodes, WantedIsRead, AskIsReadOn}
 use Rattle.top_down_laws.proofs.FormLaws.{next_later, next_is_key, read_on-is}
 use Rattle.top_down_laws.proofs.OrderLaws.{forms_follow, no_later_chain, before_by_key, not_before, not_before_chain, before_other}
 use Rattle.top_down_laws.proofs.CountLaws.{other_asker, asks_instead}
-use Rattle.top_down_laws.proofs.ReadLaws.{NextNode, wanted_next, FirstOpen, first_open, keys_follow}
+use Rattle.top_down_laws.proofs.ReadLaws.{wanted_next, FirstOpen, first_open, keys_follow}
 
 -- the key of an open ask is a node
 pub open_key : (n : ℕ) (rule : Rule) (d : Diagrams) (roots : Tuple) → IsTask n rule d roots → (o : Open) → IsOpen n rule d o → o.key < 2 ^ 63

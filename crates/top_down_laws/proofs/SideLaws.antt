@@ -1,7 +1,7 @@
 -- The asks for the two sides of a new tuple.
-use Rattle.std.proofs.Common.{◌≡◌, ◌≢◌, ℕ, ◌+◌, ◌-◌, ◌*◌, ◌≤◌, ◌<◌, ◌∙◌, ◌^◌, Bool, true, false, cond, List, [], ◌∷◌, ◌++◌, refl, subst, sym, ap, inl, inr, arith}
-use Rattle.std.specs.Prelude.{◌⊎◌, Option, Some, None, map, suc, nat_lt}
-use Rattle.rec_words.specs.Words.{level_of, node_word}
+use Rattle.std.proofs.Common.{◌≡◌, ◌≢◌, ℕ, ◌-◌, ◌≤◌, ◌<◌, ◌∙◌, ◌^◌, Bool, true, false, cond, List, ◌∷◌, ◌++◌, refl, subst, sym, ap, inl, inr, arith}
+use Rattle.std.specs.Prelude.{◌⊎◌, Some, map, suc}
+use Rattle.rec_words.specs.Words.{level_of}
 use Rattle.rec_words.specs.declared.node.Node.{Node}
 use Rattle.canon_file.specs.declared.row.Row.{Row}
 use Rattle.canon_file.specs.Members.{Has}
@@ -12,12 +12,12 @@ use Rattle.top_down.specs.declared.tuple.Goal.{Goal}
 use Rattle.top_down.specs.declared.tuple.Goal.TheVariants.{End, Go}
 use Rattle.top_down.specs.Tuples.{Targets, level_of_tuple, parts}
 use Rattle.top_down.specs.Rules.{Rule, IsAsked, below_on}
-use Rattle.top_down.specs.Asks.{Ask, side_asks}
+use Rattle.top_down.specs.Asks.{side_asks}
 use Rattle.top_down.proofs.TurnLaws.{asked_at, tuple_deep}
-use Rattle.top_down_laws.specs.Forms.{Form, Waiting, asker_word, comes_before, least, first_form, form_at, on_side, next_key, IsKey}
+use Rattle.top_down_laws.specs.Forms.{Waiting, asker_word, comes_before, least, next_key}
 use Rattle.top_down_laws.specs.Readings.{Diagrams, targets_in, IsIn, AreIn, IsReduced, Readings, AreReadings, HandsReach, want, filled_form}
-use Rattle.top_down_laws.specs.Remains.{IsTask, Open, waiting_of, ask_of, source_of, side_of, IsOpen, IsBehind, asks_by, Waits, goal_on, side_waits}
-use Rattle.top_down_laws.proofs.NumberTests.{is_less, not_less, less_is}
+use Rattle.top_down_laws.specs.Remains.{IsTask, Open, waiting_of, ask_of, source_of, IsOpen, asks_by, Waits, goal_on, side_waits}
+use Rattle.top_down_laws.proofs.NumberTests.{less_is}
 use Rattle.top_down_laws.proofs.MemberLaws.{row_at-node, node_in}
 use Rattle.top_down_laws.proofs.FormLaws.{least_key, first_form-is, side-is}
 use Rattle.top_down_laws.proofs.OrderLaws.{before_by_key}

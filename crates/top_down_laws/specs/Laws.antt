@@ -1,8 +1,9 @@
 -- What each kind of turn does to what remains of a sweep from the root to the leaves.
-use Rattle.std.specs.Prelude.{◌≡◌, ◌≢◌, ℕ, suc, ◌+◌, ◌*◌, ◌^◌, ◌<◌, ◌≤◌, Bool, true, false, List, [], ◌∷◌, ◌++◌, length, All, Option, Some, None, IfSome}
+use Rattle.std.specs.Prelude.{◌≡◌, ◌≢◌, ◌⊎◌, ℕ, suc, ◌+◌, ◌*◌, ◌^◌, ◌<◌, ◌≤◌, Bool, true, false, List, [], ◌∷◌, ◌++◌, length, All, Option, Some, None, IfSome}
 use Rattle.std.specs.List.Sorted.{IsPermutation}
-use Rattle.rec_words.specs.Words.{terminal, level_of, node_word, level_numbers}
+use Rattle.rec_words.specs.Words.{terminal, level_of, node_word, level_numbers, most_variables}
 use Rattle.rec_words.specs.declared.node.Node.{Node}
+use Rattle.canon_file.specs.declared.row.Row.{Row}
 use Rattle.canon_file.specs.Members.{Has}
 use Rattle.canon_file.specs.Walks.{table_of}
 use Rattle.arc_file.specs.declared.arc.Arc.{Arc}
@@ -15,9 +16,9 @@ use Rattle.top_down.specs.declared.tuple.Goal.TheVariants.{End, Go}
 use Rattle.top_down.specs.Tuples.{level_of_tuple}
 use Rattle.top_down.specs.Rules.{Rule, table_for}
 use Rattle.top_down.specs.Asks.{side_arcs}
-use Rattle.top_down_laws.specs.Forms.{Form, Waiting, nobody, comes_before, first_form, form_at, wants, next_key, IsKey}
+use Rattle.top_down_laws.specs.Forms.{Waiting, nobody, comes_before, first_form, form_at, is_node, wants, next_key, IsKey}
 use Rattle.top_down_laws.specs.Readings.{Diagrams, targets_in, AreIn, Reading, Readings, want, filled_form, read_on}
-use Rattle.top_down_laws.specs.Remains.{IsTask, Place, Numbered, identifier, Remains, IsMet, source_of, side_of, answer_arcs, goal_on, side_waits, next_numbered}
+use Rattle.top_down_laws.specs.Remains.{Place, Numbered, identifier, Remains, IsMet, source_of, side_of, answer_arcs, goal_on, side_waits, next_numbered}
 
 -- the function of the roots' tuple
 abbrev pub task_table : ℕ → Rule → Diagrams → Tuple → List Bool
@@ -167,3 +168,31 @@ pub record IsWhole (n : ℕ) (rule : Rule) (d : Diagrams) (roots : Tuple) (root 
 abbrev pub NothingWaits : ℕ → Rule → Diagrams → Tuple → Type 0
 NothingWaits n rule d roots = (place : Place) (last : Option Waiting) (r : Readings) (inner ends : List Arc)
     → Remains n rule d roots place [] last r inner ends → IsWhole n rule d roots place.root inner ends
+
+-- a member is a pointer from the key on, or two pointers that lie deeper than the key
+abbrev pub Stands : ℕ → Row → Type 0
+Stands key m = ((m.low ≡ m.high) × (key ≤ m.low))
+    ⊎ ((m.low ≢ m.high) × (level_of key < level_of m.low) × (level_of key < level_of m.high))
+
+-- nobody asks before the root has its number, and from then on a node of a level above the key's
+abbrev pub IsAskedBy : Option Numbered → Waiting → Type 0
+IsAskedBy None a = a.asker ≡ nobody
+IsAskedBy (Some x) a = level_of (source_of a.asker) < level_of a.form.key
+
+-- the key is a node that a member is, from which all members stand; the asker lies above, and the ask isn't the one
+-- that was taken last
+pub record IsSound (newest : Option Numbered) (last : Option Waiting) (a : Waiting) : Type 0 where
+  pub key_is : level_of a.form.key < most_variables
+  pub here : (is_node a.form.key a.form.first ≡ true)
+      ⊎ ((is_node a.form.key a.form.second ≡ true) ⊎ (is_node a.form.key a.form.third ≡ true))
+  pub first : Stands a.form.key a.form.first
+  pub second : Stands a.form.key a.form.second
+  pub third : Stands a.form.key a.form.third
+  pub asker : IsAskedBy newest a
+  pub other : IfSome last (λ l. l ≢ a)
+
+-- so is each ask that waits
+abbrev pub AsksAreSound : ℕ → Rule → Diagrams → Tuple → Type 0
+AsksAreSound n rule d roots = (place : Place) (waiting : List Waiting) (last : Option Waiting) (r : Readings)
+    (inner ends : List Arc) → Remains n rule d roots place waiting last r inner ends → (a : Waiting) → Has a waiting
+    → IsSound place.newest last a

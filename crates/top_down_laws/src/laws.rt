@@ -5,7 +5,7 @@ ghost use Rattle.top_down.specs.declared.tuple.Tuple.{Tuple};
 ghost use Rattle.top_down.specs.Rules.{Rule};
 ghost use Rattle.top_down_laws.specs.Readings.{Diagrams};
 ghost use Rattle.top_down_laws.specs.Remains.{IsTask};
-ghost use Rattle.top_down_laws.specs.Laws.{ConstantEnds, RootIsAsked, WaitInAnyOrder, WantedIsRead, AskIsReadOn, KnownIsAnswered, NewIsNumbered, AsksForOne, NothingWaits, WrittenStands, RootStands};
+ghost use Rattle.top_down_laws.specs.Laws.{ConstantEnds, RootIsAsked, WaitInAnyOrder, WantedIsRead, AskIsReadOn, KnownIsAnswered, NewIsNumbered, AsksForOne, NothingWaits, WrittenStands, RootStands, AsksAreSound};
 ghost use Rattle.top_down_laws.specs.Operations.{ProductIsTask, ChoiceIsTask, QuantifyIsTask, RestrictIsTask};
 
 /// An operation, a choice, a quantifier or a restriction on canonical diagrams is the task of its table.
@@ -81,4 +81,11 @@ pub fn what_is_written_stands_for_the_table()
         RootStands n rule d roots }
     ensures written { (n : ℕ) (rule : Rule) (d : Diagrams) (roots : Tuple) → IsTask n rule d roots →
         WrittenStands n rule d roots }
+{}
+
+/// Each ask that waits passes the tests of a sweep: its key is a node that a member is, all members stand from it, the
+/// asker lies above it, and it is not the ask that was taken last.
+pub fn asks_that_wait_are_sound()
+    ensures { (n : ℕ) (rule : Rule) (d : Diagrams) (roots : Tuple) → IsTask n rule d roots →
+        AsksAreSound n rule d roots }
 {}
