@@ -31,24 +31,31 @@ pub nobody_asks : is_asker nobody ≡ false
 nobody_asks = not_less (level_of (source_of nobody)) most_variables (omega arith)
 
 pub answer-nobody : (target : ℕ) → answer_arcs nobody target ≡ []
-answer-nobody target = ap (λ b. cond b (record { source = source_of nobody; high = side_of nobody; target = target } ∷ []) []) nobody_asks
+answer-nobody target = ap (λ b. cond b (record {
+  source = source_of nobody;
+  high = side_of nobody;
+  target = target;
+} ∷ []) []) nobody_asks
 
 pub answer-node : (w target : ℕ) → level_of (source_of w) < most_variables
     → answer_arcs w target ≡ record { source = source_of w; high = side_of w; target = target } ∷ []
 answer-node w target node =
-    ap (λ b. cond b (record { source = source_of w; high = side_of w; target = target } ∷ []) []) (is_less (level_of (source_of w)) most_variables node)
+    ap (λ b. cond b (record { source = source_of w; high = side_of w; target = target } ∷ []) [])
+    (is_less (level_of (source_of w)) most_variables node)
 
 -- an asker that is no less comes no earlier in the order of arcs
 pub not_earlier : (w source : ℕ) (high : Bool) → asker_word source high ≤ w
     → is_lt (ordering_then (nat_cmp (source_of w) source) (bool_cmp (side_of w) high)) ≡ false
 not_earlier w source high from = by high (w % 2 == 1) refl (order (w / 2) source) from
   where
-    behind : (o : Ordering) → source < w / 2 → is_lt (ordering_then (nat_cmp (w / 2) source) o) ≡ false
+    behind : (o : Ordering) → source < w / 2 → is_lt (ordering_then (nat_cmp (w / 2) source) o)
+        ≡ false
     behind o more =
         let test : nat_cmp (w / 2) source ≡ Greater = grind (arith, nat_tests) in
         ap (λ p. is_lt (ordering_then p o)) test
 
-    same : (o : Ordering) → w / 2 ≡ source → is_lt o ≡ false → is_lt (ordering_then (nat_cmp (w / 2) source) o) ≡ false
+    same : (o : Ordering) → w / 2 ≡ source → is_lt o ≡ false
+        → is_lt (ordering_then (nat_cmp (w / 2) source) o) ≡ false
     same o is none =
         let test : nat_cmp (w / 2) source ≡ Equal = grind (arith, nat_tests) in
         ap (λ p. is_lt (ordering_then p o)) test ∙ none

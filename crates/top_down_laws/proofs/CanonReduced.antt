@@ -26,17 +26,29 @@ AllAscend (rs ∷ deeper) = IsAscending row_before rs × AllAscend deeper
 
 levels_ascend : (h i : ℕ) (ps : List (List Bool)) → AllAscend (levels h i ps)
 levels_ascend zero i ps = tt
-levels_ascend (suc h) i ps = ((are_rows (pointer h (suc i) (halves h ps)) h ps).ascend, levels_ascend h (suc i) (halves h ps))
+levels_ascend (suc h) i ps = (
+  (are_rows (pointer h (suc i) (halves h ps)) h ps).ascend,
+  levels_ascend h (suc i) (halves h ps),
+)
 
 -- the row of a node
-numbered_row : (i k : ℕ) (rs : List Row) (x : Node) → Has x (numbered i k rs) → (r : Row) × Has r rs × (r.low ≡ x.low) × (r.high ≡ x.high)
+numbered_row : (i k : ℕ) (rs : List Row) (x : Node) → Has x (numbered i k rs)
+    → (r : Row) × Has r rs × (r.low ≡ x.low) × (r.high ≡ x.high)
 numbered_row i k [] x m = absurd m
-numbered_row i k (r ∷ rs) x (inl e) = (r, inl refl, ap (λ (y : Node). y.low) e, ap (λ (y : Node). y.high) e)
-numbered_row i k (r ∷ rs) x (inr m) = let (s, there, low, high) = numbered_row i (suc k) rs x m in (s, inr there, low, high)
+numbered_row i k (r ∷ rs) x (inl e) = (
+  r,
+  inl refl,
+  ap (λ (y : Node). y.low) e,
+  ap (λ (y : Node). y.high) e,
+)
+numbered_row i k (r ∷ rs) x (inr m) = let (s, there, low, high) = numbered_row i (suc k) rs x m in
+    (s, inr there, low, high)
 
-numbered_level : (i k : ℕ) (rs : List Row) (x : Node) → k + length rs ≤ 2 ^ 47 → Has x (numbered i k rs) → level_of x.uid ≡ i
+numbered_level : (i k : ℕ) (rs : List Row) (x : Node) → k + length rs ≤ 2 ^ 47
+    → Has x (numbered i k rs) → level_of x.uid ≡ i
 numbered_level i k [] x few m = absurd m
-numbered_level i k (r ∷ rs) x few (inl e) = (let uid : row_word i k ≡ x.uid = ap (λ (y : Node). y.uid) e in omega (arith, uid, few))
+numbered_level i k (r ∷ rs) x few (inl e) = (let uid : row_word i k ≡ x.uid =
+    ap (λ (y : Node). y.uid) e in omega (arith, uid, few))
 numbered_level i k (r ∷ rs) x few (inr m) = numbered_level i (suc k) rs x (omega (arith, few)) m
 
 -- a row that comes before others isn't among them
@@ -46,27 +58,34 @@ not_among r s before low high =
     let none : row_before r s ≡ false = ap (row_before r) (sym same) ∙ row_order.none r in
     absurd (let clash : true ≡ false = sym before ∙ none in cc)
 
-rows_differ : (i k : ℕ) (rs : List Row) → IsAscending row_before rs → (x y : Node) → Has x (numbered i k rs) → Has y (numbered i k rs)
+rows_differ : (i k : ℕ) (rs : List Row) → IsAscending row_before rs → (x y : Node)
+    → Has x (numbered i k rs) → Has y (numbered i k rs)
     → x.low ≡ y.low → x.high ≡ y.high → x.uid ≡ y.uid
 rows_differ i k [] up x y m l low high = absurd m
 rows_differ i k (r ∷ rs) up x y (inl a) (inl b) low high = ap (λ (z : Node). z.uid) (sym a ∙ b)
 rows_differ i k (r ∷ rs) up x y (inl a) (inr l) low high =
     let (s, there, is_low, is_high) = numbered_row i (suc k) rs y l in
-    absurd (not_among r s (up.0 s there) (ap (λ (z : Node). z.low) a ∙ low ∙ sym is_low) (ap (λ (z : Node). z.high) a ∙ high ∙ sym is_high))
+    absurd (not_among r s (up.0 s there) (ap (λ (z : Node). z.low) a ∙ low ∙ sym is_low)
+    (ap (λ (z : Node). z.high) a ∙ high ∙ sym is_high))
 rows_differ i k (r ∷ rs) up x y (inr m) (inl b) low high =
     let (s, there, is_low, is_high) = numbered_row i (suc k) rs x m in
-    absurd (not_among r s (up.0 s there) (ap (λ (z : Node). z.low) b ∙ sym low ∙ sym is_low) (ap (λ (z : Node). z.high) b ∙ sym high ∙ sym is_high))
-rows_differ i k (r ∷ rs) up x y (inr m) (inr l) low high = rows_differ i (suc k) rs up.1 x y m l low high
+    absurd (not_among r s (up.0 s there) (ap (λ (z : Node). z.low) b ∙ sym low ∙ sym is_low)
+    (ap (λ (z : Node). z.high) b ∙ sym high ∙ sym is_high))
+rows_differ i k (r ∷ rs) up x y (inr m) (inr l) low high =
+    rows_differ i (suc k) rs up.1 x y m l low high
 
-nodes_differ : (i : ℕ) (ls : List (List Row)) → Fits ls → AllAscend ls → (x y : Node) → Has x (nodes_of i ls) → Has y (nodes_of i ls)
+nodes_differ : (i : ℕ) (ls : List (List Row)) → Fits ls → AllAscend ls → (x y : Node)
+    → Has x (nodes_of i ls) → Has y (nodes_of i ls)
     → level_of x.uid ≡ level_of y.uid → x.low ≡ y.low → x.high ≡ y.high → x.uid ≡ y.uid
 nodes_differ i [] fits up x y m l level low high = absurd m
 nodes_differ i (rs ∷ deeper) fits up x y m l level low high =
     by (λ a b. nodes_differ (suc i) deeper fits.1 up.1 x y a b level low high)
-    (has_append x (nodes_of (suc i) deeper) (numbered i 0 rs) m) (has_append y (nodes_of (suc i) deeper) (numbered i 0 rs) l)
+    (has_append x (nodes_of (suc i) deeper) (numbered i 0 rs) m)
+    (has_append y (nodes_of (suc i) deeper) (numbered i 0 rs) l)
   where
     by : (Has x (nodes_of (suc i) deeper) → Has y (nodes_of (suc i) deeper) → x.uid ≡ y.uid)
-        → Has x (nodes_of (suc i) deeper) ⊎ Has x (numbered i 0 rs) → Has y (nodes_of (suc i) deeper) ⊎ Has y (numbered i 0 rs) → x.uid ≡ y.uid
+        → Has x (nodes_of (suc i) deeper) ⊎ Has x (numbered i 0 rs)
+        → Has y (nodes_of (suc i) deeper) ⊎ Has y (numbered i 0 rs) → x.uid ≡ y.uid
     by rest (inl a) (inl b) = rest a b
     by rest (inl a) (inr b) =
         let deep : suc i * 2 ^ 47 ≤ x.uid = nodes_deep (suc i) deeper x a in
@@ -79,15 +98,18 @@ nodes_differ i (rs ∷ deeper) fits up x y m l level low high =
     by rest (inr a) (inr b) = rows_differ i 0 rs up.0 x y a b low high
 
 -- the source of an arc of nodes is one of the nodes
-source_node : (xs : List Node) (a : Arc) → Has a (arcs_of xs) → (x : Node) × Has x xs × (x.uid ≡ a.source)
+source_node : (xs : List Node) (a : Arc) → Has a (arcs_of xs)
+    → (x : Node) × Has x xs × (x.uid ≡ a.source)
 source_node [] a m = absurd m
 source_node (x ∷ xs) a (inl e) = (x, inl refl, ap (λ (b : Arc). b.source) e)
 source_node (x ∷ xs) a (inr (inl e)) = (x, inl refl, ap (λ (b : Arc). b.source) e)
-source_node (x ∷ xs) a (inr (inr m)) = let (y, there, uid) = source_node xs a m in (y, inr there, uid)
+source_node (x ∷ xs) a (inr (inr m)) = let (y, there, uid) = source_node xs a m in
+    (y, inr there, uid)
 
 module _ (n : ℕ) (t : List Bool) (form : HasForm n t) where
   -- what is met is a truth value or a node
-  met_in : (w : ℕ) → IsMet (canon_root n t) (arcs_of (canon_nodes n t)) w → IsWithin n w → IsIn (canon_nodes n t) w
+  met_in : (w : ℕ) → IsMet (canon_root n t) (arcs_of (canon_nodes n t)) w → IsWithin n w
+      → IsIn (canon_nodes n t) w
   met_in w met (inr end) = inl end
   met_in w met (inl low) =
       let (a, m, source, _) = (canon_is_diagram n t form).complete.both w met low false in
@@ -97,12 +119,19 @@ module _ (n : ℕ) (t : List Bool) (form : HasForm n t) where
   pub root_in : IsIn (canon_nodes n t) (canon_root n t)
   root_in = met_in (canon_root n t) (inl refl) (canon_is_diagram n t form).complete.begins
 
-  leads : (x : Node) → Has x (canon_nodes n t) → (side : Bool) → IsIn (canon_nodes n t) (arc_to x side).target
+  leads : (x : Node) → Has x (canon_nodes n t) → (side : Bool)
+      → IsIn (canon_nodes n t) (arc_to x side).target
   leads x m side =
-      let there : Has (arc_to x side) (arcs_of (canon_nodes n t)) = has_arc_to x side (canon_nodes n t) m in
-      met_in (arc_to x side).target (inr (arc_to x side, there, refl)) ((canon_is_diagram n t form).complete.within (arc_to x side) there)
+      let there : Has (arc_to x side) (arcs_of (canon_nodes n t)) =
+      has_arc_to x side (canon_nodes n t) m in
+      met_in (arc_to x side).target (inr (
+        arc_to x side,
+        there,
+        refl,
+      )) ((canon_is_diagram n t form).complete.within (arc_to x side) there)
 
-  level_nodes_differ : (x y : Node) → Has x (canon_nodes n t) → Has y (canon_nodes n t) → level_of x.uid ≡ level_of y.uid
+  level_nodes_differ : (x y : Node) → Has x (canon_nodes n t) → Has y (canon_nodes n t)
+      → level_of x.uid ≡ level_of y.uid
       → x.low ≡ y.low → x.high ≡ y.high → x.uid ≡ y.uid
   unfolding canon_nodes
   level_nodes_differ = nodes_differ 0 (levels n 0 (t ∷ [])) form.fits (levels_ascend n 0 (t ∷ []))

@@ -18,14 +18,25 @@ use Rattle.top_down_laws.specs.Operations.{canon_diagrams, ProductIsTask, Choice
 use Rattle.top_down_laws.proofs.CanonReduced.{root_in, canon_reduced}
 use Rattle.top_down_laws.proofs.PickLaws.{product_picks, choice_picks, quantify_picks, restrict_picks}
 
-all_reduced : (n : ℕ) (t u v : List Bool) → HasForm n t → HasForm n u → HasForm n v → AreReduced n (canon_diagrams n t u v)
-all_reduced n t u v form_t form_u form_v = record { first = canon_reduced n t form_t; second = canon_reduced n u form_u; third = canon_reduced n v form_v }
+all_reduced : (n : ℕ) (t u v : List Bool) → HasForm n t → HasForm n u → HasForm n v
+    → AreReduced n (canon_diagrams n t u v)
+all_reduced n t u v form_t form_u form_v = record {
+  first = canon_reduced n t form_t;
+  second =
+      canon_reduced n u form_u;
+  third = canon_reduced n v form_v;
+}
 
 no_root : (nodes : List Node) → IsIn nodes unused
 no_root nodes = inl (inl refl)
 
 one_deep : (n : ℕ) (t : List Bool) → HasForm n t → AreDeepening n (targets_of_one n t)
-one_deep n t form = record { first = canon-deep n t form; second = canon-deep n t form; third = canon-deep n t form }
+one_deep n t form = record {
+  first = canon-deep n t form;
+  second = canon-deep n t form;
+  third =
+      canon-deep n t form;
+}
 
 pub product_is_task : (n : ℕ) → ProductIsTask n
 product_is_task n op t u form_t form_u =
@@ -36,10 +47,16 @@ product_is_task n op t u form_t form_u =
         is_rule = makes.is_rule;
         asked = makes.asked;
         reduced = all_reduced n t u u form_t form_u form_u;
-        roots_in = record { first = root_in n t form_t; second = root_in n u form_u; third = no_root (canon_nodes n u) };
+        roots_in = record {
+          first = root_in n t form_t;
+          second = root_in n u form_u;
+          third =
+              no_root (canon_nodes n u);
+        };
         picks = product_picks op (canon_diagrams n t u u);
       };
-      table_is = (λ j. joined_by (λ b c d. op_value op b c) n (root-table n t form_t j) (root-table n u form_u j) []);
+      table_is = (λ j. joined_by (λ b c d. op_value op b c) n (root-table n t form_t j)
+          (root-table n u form_u j) []);
     }
 
 pub choice_is_task : (n : ℕ) → ChoiceIsTask n
@@ -51,10 +68,16 @@ choice_is_task n t u v form_t form_u form_v =
         is_rule = makes.is_rule;
         asked = makes.asked;
         reduced = all_reduced n t u v form_t form_u form_v;
-        roots_in = record { first = root_in n t form_t; second = root_in n u form_u; third = root_in n v form_v };
+        roots_in = record {
+          first = root_in n t form_t;
+          second = root_in n u form_u;
+          third =
+              root_in n v form_v;
+        };
         picks = choice_picks (canon_diagrams n t u v);
       };
-      table_is = (λ j. table_for_three (root-table n t form_t j) (root-table n u form_u j) (root-table n v form_v j));
+      table_is = (λ j. table_for_three (root-table n t form_t j) (root-table n u form_u j)
+          (root-table n v form_v j));
     }
   where
     table_for_three : List Bool → List Bool → List Bool → List Bool
@@ -69,10 +92,16 @@ quantify_is_task n kind variable t form low =
         is_rule = makes.is_rule;
         asked = makes.asked;
         reduced = all_reduced n t t t form form form;
-        roots_in = record { first = root_in n t form; second = root_in n t form; third = no_root (canon_nodes n t) };
+        roots_in = record {
+          first = root_in n t form;
+          second = root_in n t form;
+          third =
+              no_root (canon_nodes n t);
+        };
         picks = quantify_picks kind variable (canon_nodes n t) (canon_nodes n t);
       };
-      table_is = above_is n variable kind low form.few (canon_targets n t) (canon_targets n t) n 0 (root_twice n t) (omega arith)
+      table_is = above_is n variable kind low form.few (canon_targets n t) (canon_targets n t) n 0
+          (root_twice n t) (omega arith)
           ∙ (λ j. step_table n (root-table n t form j ∷ []) (Quantify kind 0 (same j)));
     }
   where
@@ -88,10 +117,16 @@ restrict_is_task n variable value t form low =
         is_rule = makes.is_rule;
         asked = makes.asked;
         reduced = all_reduced n t t t form form form;
-        roots_in = record { first = root_in n t form; second = no_root (canon_nodes n t); third = no_root (canon_nodes n t) };
+        roots_in = record {
+          first = root_in n t form;
+          second = no_root (canon_nodes n t);
+          third =
+              no_root (canon_nodes n t);
+        };
         picks = restrict_picks variable value (canon_diagrams n t t t);
       };
-      table_is = not_below n variable value low form.few (targets_of_one n t) n 0 (roots_of_one n t) (omega arith)
+      table_is = not_below n variable value low form.few (targets_of_one n t) n 0 (roots_of_one n t)
+          (omega arith)
           ∙ (λ j. step_table n (root-table n t form j ∷ []) (Restrict 0 (same j) value));
     }
   where

@@ -52,14 +52,20 @@ module _ (n : ℕ) (rule : Rule) (d : Diagrams) (roots : Tuple) (task : IsTask n
 
   one_for : (o : Open) → IsOpen n rule d o → (y : Tuple) → IsFor d (wait o) y → y ≡ o.tuple
   one_for o opened y f =
-      same_tuple n d task.reduced o.key (open_key n rule d roots task o opened) y o.tuple f.members opened.members
-      (levels_from (level_of o.key) y f.key_is.level) (levels_from (level_of o.key) o.tuple opened.key_is.level) (sym f.form_is)
+      same_tuple n d task.reduced o.key (open_key n rule d roots task o opened) y o.tuple f.members
+      opened.members
+      (levels_from (level_of o.key) y f.key_is.level)
+      (levels_from (level_of o.key) o.tuple opened.key_is.level) (sym f.form_is)
 
   pub asks_for_one : AsksForOne n rule d roots
   asks_for_one place waiting last r inner ends m a there =
       let (o, k, is) = map_has wait a m.opens (subst (Has a) m.are there) in
       let opened : IsOpen n rule d o = m.waits.are_open o k in
-      subst (λ b. (x : Tuple) × IsFor d b x × ((y : Tuple) → IsFor d b y → y ≡ x)) is (o.tuple, is_for o opened, one_for o opened)
+      subst (λ b. (x : Tuple) × IsFor d b x × ((y : Tuple) → IsFor d b y → y ≡ x)) is (
+        o.tuple,
+        is_for o opened,
+        one_for o opened,
+      )
 
   abbrev Answers : List Arc → Ask → Type 0
   Answers whole e = (h : ℕ) → suc (level_of e.source + h) ≡ n
@@ -68,7 +74,8 @@ module _ (n : ℕ) (rule : Rule) (d : Diagrams) (roots : Tuple) (task : IsTask n
 
   pub written_stands : WrittenStands n rule d roots
   written_stands root x waiting last r inner ends whole m c =
-      open_stands n root rule (targets_in d) task.few task.is_rule inner ends (map ask_of m.opens) (identifier x ∷ m.made.used) m.made.tuple m.made.grows whole
+      open_stands n root rule (targets_in d) task.few task.is_rule inner ends (map ask_of m.opens)
+      (identifier x ∷ m.made.used) m.made.tuple m.made.grows whole
       (record {
         complete = c.complete;
         has_inner = c.has_inner;
@@ -78,12 +85,14 @@ module _ (n : ℕ) (rule : Rule) (d : Diagrams) (roots : Tuple) (task : IsTask n
     where
       answered : (e : Ask) → ((o : Open) × Has o m.opens × (ask_of o ≡ e)) → Answers whole e
       answered e (o, k, is) =
-          subst (Answers whole) is (c.answered (wait o) (subst (Has (wait o)) (sym m.are) (has_map wait o m.opens k)) o.tuple (is_for o (m.waits.are_open o k)))
+          subst (Answers whole) is (c.answered (wait o) (subst (Has (wait o)) (sym m.are)
+          (has_map wait o m.opens k)) o.tuple (is_for o (m.waits.are_open o k)))
 
   pub root_stands : RootStands n rule d roots
   root_stands root waiting last r inner ends m =
       let o : Open = m.made.ask in
-      let opened : IsOpen n rule d o = m.waits.are_open o (subst (Has o) (sym m.made.only) (inl refl)) in (
+      let opened : IsOpen n rule d o =
+      m.waits.are_open o (subst (Has o) (sym m.made.only) (inl refl)) in (
         m.made.no_inner,
         m.made.no_ends,
         (
@@ -96,7 +105,8 @@ module _ (n : ℕ) (rule : Rule) (d : Diagrams) (roots : Tuple) (task : IsTask n
       )
 
   -- the tuples of identifiers
-  different : (tuple : ℕ → Tuple) (used : List ℕ) → AreNumbered used → ((s t : ℕ) → Has s used → Has t used → tuple s ≡ tuple t → s ≡ t)
+  different : (tuple : ℕ → Tuple) (used : List ℕ) → AreNumbered used → ((s t : ℕ) → Has s used
+      → Has t used → tuple s ≡ tuple t → s ≡ t)
       → AreDifferent (map tuple used)
   different tuple [] numbered differ = tt
   different tuple (s ∷ used) numbered differ = (
@@ -107,35 +117,44 @@ module _ (n : ℕ) (rule : Rule) (d : Diagrams) (roots : Tuple) (task : IsTask n
     different tuple used numbered.2 (λ v t k l same. differ v t (inr k) (inr l) same),
   )
 
-  module _ (root : ℕ) (x : Numbered) (last : Option Waiting) (inner ends : List Arc) (g : IsGrown n rule d roots root x last inner ends []) where
+  module _ (root : ℕ) (x : Numbered) (last : Option Waiting) (inner ends : List Arc)
+      (g : IsGrown n rule d roots root x last inner ends []) where
     abbrev used : List ℕ
     used = identifier x ∷ g.used
 
     all_met : (y : Tuple) → IsMet rule (targets_in d) roots y → Has y (map g.tuple used)
     all_met y (AtRoot z says) =
-        subst (λ v. Has v (map g.tuple used)) (same_goal (g.tuple root) y (sym g.goes ∙ says)) (has_map g.tuple root used g.grows.begins)
+        subst (λ v. Has v (map g.tuple used)) (same_goal (g.tuple root) y (sym g.goes ∙ says))
+        (has_map g.tuple root used g.grows.begins)
     all_met y (Below z w side met says) =
         let (s, k, is) = map_has g.tuple z used (all_met z met) in
-        let says_s : rule.goal (below_on rule (targets_in d) side (g.tuple s)) ≡ Go y = ap (λ v. rule.goal (below_on rule (targets_in d) side v)) is ∙ says in
+        let says_s : rule.goal (below_on rule (targets_in d) side (g.tuple s)) ≡ Go y =
+        ap (λ v. rule.goal (below_on rule (targets_in d) side v)) is ∙ says in
         elim (g.grows.sides s k side) [
           | inl (a, inl m, source, high) ↦
               let (_, target, goes) = g.grows.inner_right a m in
-              let goes_s : rule.goal (below_on rule (targets_in d) side (g.tuple s)) ≡ Go (g.tuple a.target) =
-              (λ i. rule.goal (below_on rule (targets_in d) (sym high i) (g.tuple (sym source i)))) ∙ goes in
-              subst (λ v. Has v (map g.tuple used)) (same_goal (g.tuple a.target) y (sym goes_s ∙ says_s)) (has_map g.tuple a.target used target)
+              let goes_s : rule.goal (below_on rule (targets_in d) side (g.tuple s))
+              ≡ Go (g.tuple a.target) =
+              (λ i. rule.goal (below_on rule (targets_in d) (sym high i) (g.tuple (sym source i))))
+              ∙ goes in
+              subst (λ v. Has v (map g.tuple used)) (same_goal (g.tuple a.target) y (sym goes_s
+              ∙ says_s)) (has_map g.tuple a.target used target)
           | inl (a, inr m, source, high) ↦
               let (value, _, _, ends_there) = g.grows.end_right a m in
               let ends_s : rule.goal (below_on rule (targets_in d) side (g.tuple s)) ≡ End value =
-              (λ i. rule.goal (below_on rule (targets_in d) (sym high i) (g.tuple (sym source i)))) ∙ ends_there in
+              (λ i. rule.goal (below_on rule (targets_in d) (sym high i) (g.tuple (sym source i))))
+              ∙ ends_there in
               absurd (no_end value y (sym ends_s ∙ says_s))
           | inr (e, m, _, _) ↦ absurd m
         ]
 
     are_met : (y : Tuple) → Has y (map g.tuple used) → IsMet rule (targets_in d) roots y
-    are_met y m = let (s, k, is) = map_has g.tuple y used m in subst (IsMet rule (targets_in d) roots) is (g.is_met s k)
+    are_met y m = let (s, k, is) = map_has g.tuple y used m in
+        subst (IsMet rule (targets_in d) roots) is (g.is_met s k)
 
     diagram : IsDiagramOf n root (inner ++ ends) (task_table n rule d roots)
-    diagram = closed_stands n root rule (targets_in d) task.few task.is_rule inner ends used g.tuple g.grows roots task.asked g.goes
+    diagram = closed_stands n root rule (targets_in d) task.few task.is_rule inner ends used g.tuple
+        g.grows roots task.asked g.goes
 
     inner_leads : (a : Arc) → Has a inner → Leads kind.Inner a
     inner_leads a m =
@@ -144,7 +163,8 @@ module _ (n : ℕ) (rule : Rule) (d : Diagrams) (roots : Tuple) (task : IsTask n
         (omega (arith, low, task.few), diagram.complete.deeper a (has_left a inner ends m))
 
     ends_lead : (a : Arc) → Has a ends → Leads kind.End a
-    ends_lead a m = let (value, _, target, _) = g.grows.end_right a m in subst IsTerminal (sym target) (terminal_ends value)
+    ends_lead a m = let (value, _, target, _) = g.grows.end_right a m in
+        subst IsTerminal (sym target) (terminal_ends value)
 
     whole : IsWhole n rule d roots root inner ends
     whole = record {
@@ -165,8 +185,12 @@ module _ (n : ℕ) (rule : Rule) (d : Diagrams) (roots : Tuple) (task : IsTask n
   pub nothing_waits : NothingWaits n rule d roots
   nothing_waits place last r inner ends m = by place.newest m.opens m.are m.made
     where
-      by : (newest : Option Numbered) (opens : List Open) → [] ≡ map wait opens → IsMade n rule d roots place.root newest last inner ends opens
+      by : (newest : Option Numbered) (opens : List Open) → [] ≡ map wait opens
+          → IsMade n rule d roots place.root newest last inner ends opens
           → IsWhole n rule d roots place.root inner ends
-      by None [] are made = absurd (let none : length {A = Open} [] ≡ length (made.ask ∷ []) = ap length made.only in omega (arith, none))
+      by None [] are made = absurd (let none : length {A = Open} [] ≡ length (made.ask ∷ []) =
+          ap length made.only in omega (arith, none))
       by (Some x) [] are made = whole place.root x last inner ends made
-      by newest (o ∷ os) are made = absurd (let none : length {A = Waiting} [] ≡ length (wait o ∷ map wait os) = ap length are in omega (arith, none))
+      by newest (o ∷ os) are made =
+          absurd (let none : length {A = Waiting} [] ≡ length (wait o ∷ map wait os) =
+          ap length are in omega (arith, none))

@@ -20,8 +20,14 @@ or_right true c none = absurd cc
 or_right false c none = none
 
 -- tuples with the same members are the same
-pub same_members : (x y : Tuple) → x.first ≡ y.first → x.second ≡ y.second → x.third ≡ y.third → x ≡ y
-same_members x y first second third = λ i. record { first = first i; second = second i; third = third i }
+pub same_members : (x y : Tuple) → x.first ≡ y.first → x.second ≡ y.second → x.third ≡ y.third
+    → x ≡ y
+same_members x y first second third = λ i. record {
+  first = first i;
+  second = second i;
+  third =
+      third i;
+}
 
 -- the three levels are no less than the tuple's
 pub record Levels (level : ℕ) (x : Tuple) : Type 0 where
@@ -30,13 +36,20 @@ pub record Levels (level : ℕ) (x : Tuple) : Type 0 where
   pub third : level ≤ level_of x.third
 
 pub levels_from : (level : ℕ) (x : Tuple) → level ≡ level_of_tuple x → Levels level x
-levels_from level x is = record { first = omega (arith, is); second = omega (arith, is); third = omega (arith, is) }
+levels_from level x is = record {
+  first = omega (arith, is);
+  second = omega (arith, is);
+  third =
+      omega (arith, is);
+}
 
 -- one of three numbers is the least
-pub one_least : (a b c : ℕ) → (min a (min b c) ≡ a) ⊎ ((min a (min b c) ≡ b) ⊎ (min a (min b c) ≡ c))
+pub one_least : (a b c : ℕ)
+    → (min a (min b c) ≡ a) ⊎ ((min a (min b c) ≡ b) ⊎ (min a (min b c) ≡ c))
 one_least a b c = by (order a b) (order a c) (order b c)
   where
-    by : Order a b → Order a c → Order b c → (min a (min b c) ≡ a) ⊎ ((min a (min b c) ≡ b) ⊎ (min a (min b c) ≡ c))
+    by : Order a b → Order a c → Order b c
+        → (min a (min b c) ≡ a) ⊎ ((min a (min b c) ≡ b) ⊎ (min a (min b c) ≡ c))
     by (Before p) (Before q) r = inl (omega (arith, p, q))
     by (Before p) (Same q) r = inl (omega (arith, p, q))
     by (Before p) (Behind q) r = inr (inr (omega (arith, p, q)))
@@ -94,14 +107,19 @@ one_last k l x a b = omega (arith, upto l a b.is_key, upto_back k b a.is_key)
 
 module _ (n : ℕ) (d : Diagrams) (reduced : AreReduced n d) where
   -- tuples of one key that look the same are the same
-  pub same_tuple : (key : ℕ) → key < 2 ^ 63 → (x y : Tuple) → AreIn d x → AreIn d y → Levels (level_of key) x → Levels (level_of key) y
+  pub same_tuple : (key : ℕ) → key < 2 ^ 63 → (x y : Tuple) → AreIn d x → AreIn d y
+      → Levels (level_of key) x → Levels (level_of key) y
       → form_at (targets_in d) key x ≡ form_at (targets_in d) key y → x ≡ y
   same_tuple key node x y in_x in_y deep_x deep_y same = same_members x y
-      (same_member n d.first reduced.first key node x.first y.first in_x.first in_y.first deep_x.first deep_y.first (ap (λ (f : Form). f.first) same))
-      (same_member n d.second reduced.second key node x.second y.second in_x.second in_y.second deep_x.second deep_y.second (ap (λ (f : Form). f.second) same))
-      (same_member n d.third reduced.third key node x.third y.third in_x.third in_y.third deep_x.third deep_y.third (ap (λ (f : Form). f.third) same))
+      (same_member n d.first reduced.first key node x.first y.first in_x.first in_y.first
+      deep_x.first deep_y.first (ap (λ (f : Form). f.first) same))
+      (same_member n d.second reduced.second key node x.second y.second in_x.second in_y.second
+      deep_x.second deep_y.second (ap (λ (f : Form). f.second) same))
+      (same_member n d.third reduced.third key node x.third y.third in_x.third in_y.third
+      deep_x.third deep_y.third (ap (λ (f : Form). f.third) same))
 
-  module _ (r : Readings) (reads : AreReadings d r) (x : Tuple) (is : AreIn d x) (key : ℕ) (node : key < 2 ^ 63) (at : IsKey key x)
+  module _ (r : Readings) (reads : AreReadings d r) (x : Tuple) (is : AreIn d x) (key : ℕ)
+      (node : key < 2 ^ 63) (at : IsKey key x)
       (none : want r (form_at (targets_in d) key x) ≡ false) where
     abbrev pub form : Form
     form = form_at (targets_in d) key x
@@ -123,9 +141,12 @@ module _ (n : ℕ) (d : Diagrams) (reduced : AreReduced n d) where
 
     pub next_later : key < next
     next_later =
-        let first = waits_behind n d.first reduced.first key node x.first is.first r.first.unread r.first.hand reads.first none_first deep.first in
-        let second = waits_behind n d.second reduced.second key node x.second is.second r.second.unread r.second.hand reads.second none_second deep.second in
-        let third = waits_behind n d.third reduced.third key node x.third is.third r.third.unread r.third.hand reads.third none_third deep.third in
+        let first = waits_behind n d.first reduced.first key node x.first is.first r.first.unread
+        r.first.hand reads.first none_first deep.first in
+        let second = waits_behind n d.second reduced.second key node x.second is.second
+        r.second.unread r.second.hand reads.second none_second deep.second in
+        let third = waits_behind n d.third reduced.third key node x.third is.third r.third.unread
+        r.third.hand reads.third none_third deep.third in
         all_later key _ _ _ first second third
       where
         all_later : (k a b c : ℕ) → k < a → k < b → k < c → k < min a (min b c)
@@ -135,14 +156,35 @@ module _ (n : ℕ) (d : Diagrams) (reduced : AreReduced n d) where
     pub next_is_key : next < 2 ^ 63 → IsKey next x
     next_is_key low = elim (one_least a b c) [
       | inl first ↦
-          let (_, level, here) = waits_there n d.first reduced.first key node x.first is.first r.first.unread r.first.hand reads.first none_first deep.first (subst (λ v. v < 2 ^ 63) first low) in
-          record { here = inl (first ∙ here); level = ap level_of (first ∙ here) ∙ level ∙ at.level }
+          let (_, level, here) =
+          waits_there n d.first reduced.first key node x.first is.first r.first.unread
+          r.first.hand reads.first none_first deep.first
+          (subst (λ v. v < 2 ^ 63) first low) in
+          record {
+            here = inl (first ∙ here);
+            level =
+                ap level_of (first ∙ here) ∙ level ∙ at.level;
+          }
       | inr (inl second) ↦
-          let (_, level, here) = waits_there n d.second reduced.second key node x.second is.second r.second.unread r.second.hand reads.second none_second deep.second (subst (λ v. v < 2 ^ 63) second low) in
-          record { here = inr (inl (second ∙ here)); level = ap level_of (second ∙ here) ∙ level ∙ at.level }
+          let (_, level, here) =
+          waits_there n d.second reduced.second key node x.second is.second r.second.unread
+          r.second.hand reads.second none_second deep.second
+          (subst (λ v. v < 2 ^ 63) second low) in
+          record {
+            here = inr (inl (second ∙ here));
+            level = ap level_of (second ∙ here) ∙ level
+                ∙ at.level;
+          }
       | inr (inr third) ↦
-          let (_, level, here) = waits_there n d.third reduced.third key node x.third is.third r.third.unread r.third.hand reads.third none_third deep.third (subst (λ v. v < 2 ^ 63) third low) in
-          record { here = inr (inr (third ∙ here)); level = ap level_of (third ∙ here) ∙ level ∙ at.level }
+          let (_, level, here) =
+          waits_there n d.third reduced.third key node x.third is.third r.third.unread
+          r.third.hand reads.third none_third deep.third
+          (subst (λ v. v < 2 ^ 63) third low) in
+          record {
+            here = inr (inr (third ∙ here));
+            level =
+                ap level_of (third ∙ here) ∙ level ∙ at.level;
+          }
     ]
       where
         a : ℕ
@@ -158,9 +200,13 @@ module _ (n : ℕ) (d : Diagrams) (reduced : AreReduced n d) where
     pub read_on-is : next < 2 ^ 63 → read_on r form ≡ form_at (targets_in d) next x
     read_on-is low =
         let level : level_of next ≡ level_of key = (next_is_key low).level ∙ sym at.level in
-        let first = reads_on n d.first reduced.first key node x.first is.first r.first.unread r.first.hand reads.first none_first next deep.first level next_later (omega arith) in
-        let second = reads_on n d.second reduced.second key node x.second is.second r.second.unread r.second.hand reads.second none_second next deep.second level next_later (omega arith) in
-        let third = reads_on n d.third reduced.third key node x.third is.third r.third.unread r.third.hand reads.third none_third next deep.third level next_later (omega arith) in
+        let first = reads_on n d.first reduced.first key node x.first is.first r.first.unread
+        r.first.hand reads.first none_first next deep.first level next_later (omega arith) in
+        let second = reads_on n d.second reduced.second key node x.second is.second r.second.unread
+        r.second.hand reads.second none_second next deep.second level next_later
+        (omega arith) in
+        let third = reads_on n d.third reduced.third key node x.third is.third r.third.unread
+        r.third.hand reads.third none_third next deep.third level next_later (omega arith) in
         λ i. record { key = next; first = first i; second = second i; third = third i }
 
     module _ (all_read : next < 2 ^ 63 → ⊥) where
@@ -168,12 +214,19 @@ module _ (n : ℕ) (d : Diagrams) (reduced : AreReduced n d) where
       pub is_last : IsLastKey key x
       is_last = record {
         is_key = at;
-        first = λ level. upto x.first _ level (λ behind. does_wait n d.first reduced.first key node x.first is.first r.first.unread r.first.hand reads.first none_first behind level) (omega arith);
-        second = λ level. upto x.second _ level (λ behind. does_wait n d.second reduced.second key node x.second is.second r.second.unread r.second.hand reads.second none_second behind level) (omega arith);
-        third = λ level. upto x.third _ level (λ behind. does_wait n d.third reduced.third key node x.third is.third r.third.unread r.third.hand reads.third none_third behind level) (omega arith);
+        first = λ level. upto x.first _ level
+            (λ behind. does_wait n d.first reduced.first key node x.first is.first r.first.unread
+            r.first.hand reads.first none_first behind level) (omega arith);
+        second = λ level. upto x.second _ level
+            (λ behind. does_wait n d.second reduced.second key node x.second is.second
+            r.second.unread r.second.hand reads.second none_second behind level) (omega arith);
+        third = λ level. upto x.third _ level
+            (λ behind. does_wait n d.third reduced.third key node x.third is.third r.third.unread
+            r.third.hand reads.third none_third behind level) (omega arith);
       }
         where
-          upto : (w unread : ℕ) → level_of w ≡ level_of key → (key < w → unread ≡ w) → next ≤ unread → w ≤ key
+          upto : (w unread : ℕ) → level_of w ≡ level_of key → (key < w → unread ≡ w) → next ≤ unread
+              → w ≤ key
           upto w unread level waits most = by (order w key)
             where
               by : Order w key → w ≤ key
@@ -185,14 +238,21 @@ module _ (n : ℕ) (d : Diagrams) (reduced : AreReduced n d) where
                   absurd (all_read (omega (arith, here, low, most)))
 
       -- the pointers on a side are where the members lead
-      pub side-is : (side : Bool) → on_side side (filled_form r form) ≡ parts (targets_in d) (level_of key) side x
+      pub side-is : (side : Bool)
+          → on_side side (filled_form r form) ≡ parts (targets_in d) (level_of key) side x
       side-is false = λ i. record {
-        first = side_low n d.first reduced.first key node x.first is.first r.first.unread r.first.hand reads.first none_first deep.first is_last.first i;
-        second = side_low n d.second reduced.second key node x.second is.second r.second.unread r.second.hand reads.second none_second deep.second is_last.second i;
-        third = side_low n d.third reduced.third key node x.third is.third r.third.unread r.third.hand reads.third none_third deep.third is_last.third i;
+        first = side_low n d.first reduced.first key node x.first is.first r.first.unread
+            r.first.hand reads.first none_first deep.first is_last.first i;
+        second = side_low n d.second reduced.second key node x.second is.second r.second.unread
+            r.second.hand reads.second none_second deep.second is_last.second i;
+        third = side_low n d.third reduced.third key node x.third is.third r.third.unread
+            r.third.hand reads.third none_third deep.third is_last.third i;
       }
       side-is true = λ i. record {
-        first = side_high n d.first reduced.first key node x.first is.first r.first.unread r.first.hand reads.first none_first deep.first is_last.first i;
-        second = side_high n d.second reduced.second key node x.second is.second r.second.unread r.second.hand reads.second none_second deep.second is_last.second i;
-        third = side_high n d.third reduced.third key node x.third is.third r.third.unread r.third.hand reads.third none_third deep.third is_last.third i;
+        first = side_high n d.first reduced.first key node x.first is.first r.first.unread
+            r.first.hand reads.first none_first deep.first is_last.first i;
+        second = side_high n d.second reduced.second key node x.second is.second r.second.unread
+            r.second.hand reads.second none_second deep.second is_last.second i;
+        third = side_high n d.third reduced.third key node x.third is.third r.third.unread
+            r.third.hand reads.third none_third deep.third is_last.third i;
       }

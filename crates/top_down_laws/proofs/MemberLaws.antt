@@ -25,22 +25,29 @@ row_at-node (y ∷ ys) down x (inl e) =
     rw same (ap row_of_node e)
 row_at-node (y ∷ ys) down x (inr m) =
     let below : x.uid < y.uid = down.0 x m in
-    let other : (y.uid == x.uid) ≡ false = is_other y.uid x.uid (λ same. omega (arith, same, below)) in
+    let other : (y.uid == x.uid) ≡ false = is_other y.uid x.uid (λ same. omega (
+      arith,
+      same,
+      below,
+    )) in
     rw other (row_at-node ys down.1 x m)
 
 -- a pointer that isn't a truth value is a node of its diagram
-pub node_in : (nodes : List Node) (w : ℕ) → IsIn nodes w → w < 2 ^ 63 → (x : Node) × Has x nodes × (x.uid ≡ w)
+pub node_in : (nodes : List Node) (w : ℕ) → IsIn nodes w → w < 2 ^ 63
+    → (x : Node) × Has x nodes × (x.uid ≡ w)
 node_in nodes w (inl (inl is)) low = absurd (omega (arith, is, low))
 node_in nodes w (inl (inr is)) low = absurd (omega (arith, is, low))
 node_in nodes w (inr found) low = found
 
 -- the node at hand is one of its diagram
 pub hand_in : (nodes unread : List Node) (x : Node) → IsReadTo nodes unread (Some x) → Has x nodes
-hand_in nodes unread x (behind, is) = subst (Has x) (sym is) (has_right x unread (x ∷ behind) (inl refl))
+hand_in nodes unread x (behind, is) =
+    subst (Has x) (sym is) (has_right x unread (x ∷ behind) (inl refl))
 
 module _ (n : ℕ) (nodes : List Node) (reduced : IsReduced n nodes) where
   -- the two pointers of a node differ
-  pub two_pointers : (w : ℕ) → IsIn nodes w → w < 2 ^ 63 → (row_at nodes w).low ≢ (row_at nodes w).high
+  pub two_pointers : (w : ℕ) → IsIn nodes w → w < 2 ^ 63
+      → (row_at nodes w).low ≢ (row_at nodes w).high
   two_pointers w is low =
       let (x, m, uid) = node_in nodes w is low in
       let row : row_at nodes w ≡ row_of_node x =
@@ -53,13 +60,15 @@ module _ (n : ℕ) (nodes : List Node) (reduced : IsReduced n nodes) where
   split_row key r differ = by (r.low == key) (r.high == key) refl refl
     where
       by : (b c : Bool) → (r.low == key) ≡ b → (r.high == key) ≡ c → (b && c) ≡ false
-      by true true low high = absurd (differ (same_is r.low key low ∙ sym (same_is r.high key high)))
+      by true true low high =
+          absurd (differ (same_is r.low key low ∙ sym (same_is r.high key high)))
       by true false low high = refl
       by false c low high = refl
 
   split_waits : (level : ℕ) (r : Row) → r.low ≢ r.high → unread_at level r ≡ terminal true
   split_waits level r differ =
-      ap (λ b. cond (b && (level_of r.low == level)) r.low (terminal true)) (is_other r.low r.high differ)
+      ap (λ b. cond (b && (level_of r.low == level)) r.low (terminal true))
+      (is_other r.low r.high differ)
 
   -- a member stays that isn't the key's node
   stays : (key : ℕ) (hand : Option Node) (r : Row) → is_node key r ≡ false → filled key hand r ≡ r
@@ -72,10 +81,12 @@ module _ (n : ℕ) (nodes : List Node) (reduced : IsReduced n nodes) where
       by false c other = refl
 
   -- what is filled in for a key's node is at hand
-  fills : (key : ℕ) (unread : List Node) (hand : Option Node) (w : ℕ) → w ≡ key → IsReadTo nodes unread hand →
+  fills : (key : ℕ) (unread : List Node) (hand : Option Node) (w : ℕ) → w ≡ key
+      → IsReadTo nodes unread hand →
       wants key hand (twice w) ≡ false → filled key hand (twice w) ≡ row_at nodes w
   fills key unread None w is reading none =
-      absurd (let both : is_node key (twice w) ≡ true = (λ j. is_same w key is j && is_same w key is j) in
+      absurd (let both : is_node key (twice w) ≡ true =
+      (λ j. is_same w key is j && is_same w key is j) in
       let no : true ≡ false = sym both ∙ none in cc)
   fills key unread (Some x) w is reading none = by (x.uid == key) refl none
     where
@@ -105,11 +116,14 @@ module _ (n : ℕ) (nodes : List Node) (reduced : IsReduced n nodes) where
         where
           by : Order w key → filled key hand (member_at (row_at nodes) key w) ≡ row_at nodes w
           by (Before before) =
-              let differ : (row_at nodes w).low ≢ (row_at nodes w).high = two_pointers w is (omega (arith, before, node)) in
-              ap (filled key hand) (was_read before) ∙ stays key hand (row_at nodes w) (split_row key (row_at nodes w) differ)
+              let differ : (row_at nodes w).low ≢ (row_at nodes w).high =
+              two_pointers w is (omega (arith, before, node)) in
+              ap (filled key hand) (was_read before)
+              ∙ stays key hand (row_at nodes w) (split_row key (row_at nodes w) differ)
           by (Same same) =
               let here : member_at (row_at nodes) key w ≡ twice w = waits (omega (arith, same)) in
-              ap (filled key hand) here ∙ fills key unread hand w same reading (ap (wants key hand) (sym here) ∙ none)
+              ap (filled key hand) here ∙ fills key unread hand w same reading
+              (ap (wants key hand) (sym here) ∙ none)
           by (Behind behind) = absurd (omega (arith, upto, behind))
 
       pub filled_waits : key < w → filled key hand (member_at (row_at nodes) key w) ≡ twice w
@@ -119,31 +133,41 @@ module _ (n : ℕ) (nodes : List Node) (reduced : IsReduced n nodes) where
           ap (filled key hand) (waits (omega (arith, behind))) ∙ stays key hand (twice w) no
 
       -- the member waits where it is a node of the level behind the key
-      pub waits_behind : level_of key ≤ level_of w → key < unread_at (level_of key) (filled key hand (member_at (row_at nodes) key w))
+      pub waits_behind : level_of key ≤ level_of w
+          → key < unread_at (level_of key) (filled key hand (member_at (row_at nodes) key w))
       waits_behind deep = by (order w key)
         where
-          read : w ≤ key → key < unread_at (level_of key) (filled key hand (member_at (row_at nodes) key w))
+          read : w ≤ key → key < unread_at (level_of key)
+              (filled key hand (member_at (row_at nodes) key w))
           read upto =
-              let differ : (row_at nodes w).low ≢ (row_at nodes w).high = two_pointers w is (omega (arith, upto, node)) in
-              let none_waits : unread_at (level_of key) (filled key hand (member_at (row_at nodes) key w)) ≡ terminal true =
-              ap (unread_at (level_of key)) (filled_read upto) ∙ split_waits (level_of key) (row_at nodes w) differ in
+              let differ : (row_at nodes w).low ≢ (row_at nodes w).high =
+              two_pointers w is (omega (arith, upto, node)) in
+              let none_waits : unread_at (level_of key)
+              (filled key hand (member_at (row_at nodes) key w)) ≡ terminal true =
+              ap (unread_at (level_of key)) (filled_read upto)
+              ∙ split_waits (level_of key) (row_at nodes w) differ in
               omega (arith, none_waits, node)
 
           at : (b : Bool) → key < w → key < cond b w (terminal true)
           at true behind = behind
           at false behind = omega (arith, node)
 
-          by : Order w key → key < unread_at (level_of key) (filled key hand (member_at (row_at nodes) key w))
+          by : Order w key → key < unread_at (level_of key)
+              (filled key hand (member_at (row_at nodes) key w))
           by (Before before) = read (omega (arith, before))
           by (Same same) = read (omega (arith, same))
           by (Behind behind) =
               let same : (w == w) ≡ true = is_same w w refl in
-              let is_twice : unread_at (level_of key) (filled key hand (member_at (row_at nodes) key w)) ≡ cond (level_of w == level_of key) w (terminal true) =
-              ap (unread_at (level_of key)) (filled_waits behind) ∙ ap (λ b. cond (b && (level_of w == level_of key)) w (terminal true)) same in
+              let is_twice : unread_at (level_of key)
+              (filled key hand (member_at (row_at nodes) key w))
+              ≡ cond (level_of w == level_of key) w (terminal true) =
+              ap (unread_at (level_of key)) (filled_waits behind)
+              ∙ ap (λ b. cond (b && (level_of w == level_of key)) w (terminal true)) same in
               subst (λ v. key < v) (sym is_twice) (at (level_of w == level_of key) behind)
 
       -- a member that waits behind the key
-      pub waits_there : level_of key ≤ level_of w → unread_at (level_of key) (filled key hand (member_at (row_at nodes) key w)) < 2 ^ 63 →
+      pub waits_there : level_of key ≤ level_of w
+          → unread_at (level_of key) (filled key hand (member_at (row_at nodes) key w)) < 2 ^ 63 →
           (key < w) × (level_of w ≡ level_of key)
           × (unread_at (level_of key) (filled key hand (member_at (row_at nodes) key w)) ≡ w)
       waits_there deep low = by (order w key)
@@ -153,16 +177,24 @@ module _ (n : ℕ) (nodes : List Node) (reduced : IsReduced n nodes) where
 
           read : w ≤ key → (key < w) × (level_of w ≡ level_of key) × (later ≡ w)
           read upto =
-              let differ : (row_at nodes w).low ≢ (row_at nodes w).high = two_pointers w is (omega (arith, upto, node)) in
+              let differ : (row_at nodes w).low ≢ (row_at nodes w).high =
+              two_pointers w is (omega (arith, upto, node)) in
               let none_waits : later ≡ terminal true =
-              ap (unread_at (level_of key)) (filled_read upto) ∙ split_waits (level_of key) (row_at nodes w) differ in
+              ap (unread_at (level_of key)) (filled_read upto)
+              ∙ split_waits (level_of key) (row_at nodes w) differ in
               absurd (omega (arith, none_waits, low))
 
-          at : key < w → later ≡ cond (level_of w == level_of key) w (terminal true) → (b : Bool) → (level_of w == level_of key) ≡ b →
+          at : key < w → later ≡ cond (level_of w == level_of key) w (terminal true) → (b : Bool)
+              → (level_of w == level_of key) ≡ b →
               (key < w) × (level_of w ≡ level_of key) × (later ≡ w)
-          at behind is_twice true same = (behind, same_is _ _ same, is_twice ∙ ap (λ b. cond b w (terminal true)) same)
+          at behind is_twice true same = (
+            behind,
+            same_is _ _ same,
+            is_twice ∙ ap (λ b. cond b w (terminal true)) same,
+          )
           at behind is_twice false other =
-              let none_waits : later ≡ terminal true = is_twice ∙ ap (λ b. cond b w (terminal true)) other in
+              let none_waits : later ≡ terminal true =
+              is_twice ∙ ap (λ b. cond b w (terminal true)) other in
               absurd (omega (arith, none_waits, low))
 
           by : Order w key → (key < w) × (level_of w ≡ level_of key) × (later ≡ w)
@@ -171,7 +203,8 @@ module _ (n : ℕ) (nodes : List Node) (reduced : IsReduced n nodes) where
           by (Behind behind) =
               let same : (w == w) ≡ true = is_same w w refl in
               let is_twice : later ≡ cond (level_of w == level_of key) w (terminal true) =
-              ap (unread_at (level_of key)) (filled_waits behind) ∙ ap (λ b. cond (b && (level_of w == level_of key)) w (terminal true)) same in
+              ap (unread_at (level_of key)) (filled_waits behind)
+              ∙ ap (λ b. cond (b && (level_of w == level_of key)) w (terminal true)) same in
               at behind is_twice (level_of w == level_of key) refl
 
       -- a node of the level behind the key waits
@@ -179,18 +212,27 @@ module _ (n : ℕ) (nodes : List Node) (reduced : IsReduced n nodes) where
           unread_at (level_of key) (filled key hand (member_at (row_at nodes) key w)) ≡ w
       does_wait behind level =
           ap (unread_at (level_of key)) (filled_waits behind)
-          ∙ (λ j. cond (is_same w w refl j && is_same (level_of w) (level_of key) level j) w (terminal true))
+          ∙ (λ j. cond (is_same w w refl j && is_same (level_of w) (level_of key) level j) w
+          (terminal true))
 
       -- a member is read up to the next key, where none of its level stands between
-      pub reads_on : (next : ℕ) → level_of key ≤ level_of w → level_of next ≡ level_of key → key < next
+      pub reads_on : (next : ℕ) → level_of key ≤ level_of w → level_of next ≡ level_of key
+          → key < next
           → next ≤ unread_at (level_of key) (filled key hand (member_at (row_at nodes) key w))
           → filled key hand (member_at (row_at nodes) key w) ≡ member_at (row_at nodes) next w
       reads_on next deep level later least = by (order w key)
         where
-          read : w ≤ key → filled key hand (member_at (row_at nodes) key w) ≡ member_at (row_at nodes) next w
-          read upto = filled_read upto ∙ sym (ap (λ b. cond b (row_at nodes w) (twice w)) (is_less w next (omega (arith, upto, later))))
+          read : w ≤ key → filled key hand (member_at (row_at nodes) key w)
+              ≡ member_at (row_at nodes) next w
+          read upto = filled_read upto
+              ∙ sym (ap (λ b. cond b (row_at nodes w) (twice w)) (is_less w next (omega (
+                arith,
+                upto,
+                later,
+              ))))
 
-          behind_next : key < w → (level_of w ≡ level_of key) ⊎ (level_of key < level_of w) → next ≤ w
+          behind_next : key < w → (level_of w ≡ level_of key) ⊎ (level_of key < level_of w)
+              → next ≤ w
           behind_next behind (inl same) = subst (λ v. next ≤ v) (does_wait behind same) least
           behind_next behind (inr deeper) = omega (arith, level, deeper)
 
@@ -202,49 +244,66 @@ module _ (n : ℕ) (nodes : List Node) (reduced : IsReduced n nodes) where
               at (Same same) = inl (sym same)
               at (Behind behind) = absurd (omega (arith, from, behind))
 
-          by : Order w key → filled key hand (member_at (row_at nodes) key w) ≡ member_at (row_at nodes) next w
+          by : Order w key → filled key hand (member_at (row_at nodes) key w)
+              ≡ member_at (row_at nodes) next w
           by (Before before) = read (omega (arith, before))
           by (Same same) = read (omega (arith, same))
           by (Behind behind) =
               let from : next ≤ w = behind_next behind (split (level_of key) (level_of w) deep) in
-              filled_waits behind ∙ sym (ap (λ b. cond b (row_at nodes w) (twice w)) (not_less w next from))
+              filled_waits behind ∙ sym (ap (λ b. cond b (row_at nodes w) (twice w))
+              (not_less w next from))
 
       -- where the key is the last of the level, the member was read where it is of the level
       module _ (deep : level_of key ≤ level_of w) (last : IsUpToKey key w) where
-        pub side_low : (filled key hand (member_at (row_at nodes) key w)).low ≡ onward (row_at nodes) (level_of key) false w
+        pub side_low : (filled key hand (member_at (row_at nodes) key w)).low
+            ≡ onward (row_at nodes) (level_of key) false w
         side_low = by (order w key)
           where
-            read : w ≤ key → (filled key hand (member_at (row_at nodes) key w)).low ≡ onward (row_at nodes) (level_of key) false w
+            read : w ≤ key → (filled key hand (member_at (row_at nodes) key w)).low
+                ≡ onward (row_at nodes) (level_of key) false w
             read upto =
                 let at : is_at (level_of key) w ≡ true = is_less _ _ (omega (arith, upto)) in
-                ap (λ (r : Row). r.low) (filled_read upto) ∙ sym (ap (λ b. cond b (row_at nodes w).low w) at)
+                ap (λ (r : Row). r.low) (filled_read upto)
+                ∙ sym (ap (λ b. cond b (row_at nodes w).low w) at)
 
-            by : Order w key → (filled key hand (member_at (row_at nodes) key w)).low ≡ onward (row_at nodes) (level_of key) false w
+            by : Order w key → (filled key hand (member_at (row_at nodes) key w)).low
+                ≡ onward (row_at nodes) (level_of key) false w
             by (Before before) = read (omega (arith, before))
             by (Same same) = read (omega (arith, same))
             by (Behind behind) =
-                let other : level_of w ≢ level_of key = λ same. (let upto : w ≤ key = last same in omega (arith, behind, upto)) in
-                let at : is_at (level_of key) w ≡ false = not_less _ _ (omega (arith, deep, other)) in
-                ap (λ (r : Row). r.low) (filled_waits behind) ∙ sym (ap (λ b. cond b (row_at nodes w).low w) at)
+                let other : level_of w ≢ level_of key = λ same. (let upto : w ≤ key = last same in
+                omega (arith, behind, upto)) in
+                let at : is_at (level_of key) w ≡ false =
+                not_less _ _ (omega (arith, deep, other)) in
+                ap (λ (r : Row). r.low) (filled_waits behind)
+                ∙ sym (ap (λ b. cond b (row_at nodes w).low w) at)
 
-        pub side_high : (filled key hand (member_at (row_at nodes) key w)).high ≡ onward (row_at nodes) (level_of key) true w
+        pub side_high : (filled key hand (member_at (row_at nodes) key w)).high
+            ≡ onward (row_at nodes) (level_of key) true w
         side_high = by (order w key)
           where
-            read : w ≤ key → (filled key hand (member_at (row_at nodes) key w)).high ≡ onward (row_at nodes) (level_of key) true w
+            read : w ≤ key → (filled key hand (member_at (row_at nodes) key w)).high
+                ≡ onward (row_at nodes) (level_of key) true w
             read upto =
                 let at : is_at (level_of key) w ≡ true = is_less _ _ (omega (arith, upto)) in
-                ap (λ (r : Row). r.high) (filled_read upto) ∙ sym (ap (λ b. cond b (row_at nodes w).high w) at)
+                ap (λ (r : Row). r.high) (filled_read upto)
+                ∙ sym (ap (λ b. cond b (row_at nodes w).high w) at)
 
-            by : Order w key → (filled key hand (member_at (row_at nodes) key w)).high ≡ onward (row_at nodes) (level_of key) true w
+            by : Order w key → (filled key hand (member_at (row_at nodes) key w)).high
+                ≡ onward (row_at nodes) (level_of key) true w
             by (Before before) = read (omega (arith, before))
             by (Same same) = read (omega (arith, same))
             by (Behind behind) =
-                let other : level_of w ≢ level_of key = λ same. (let upto : w ≤ key = last same in omega (arith, behind, upto)) in
-                let at : is_at (level_of key) w ≡ false = not_less _ _ (omega (arith, deep, other)) in
-                ap (λ (r : Row). r.high) (filled_waits behind) ∙ sym (ap (λ b. cond b (row_at nodes w).high w) at)
+                let other : level_of w ≢ level_of key = λ same. (let upto : w ≤ key = last same in
+                omega (arith, behind, upto)) in
+                let at : is_at (level_of key) w ≡ false =
+                not_less _ _ (omega (arith, deep, other)) in
+                ap (λ (r : Row). r.high) (filled_waits behind)
+                ∙ sym (ap (λ b. cond b (row_at nodes w).high w) at)
 
   -- members that look the same are the same
-  pub same_member : (key : ℕ) → key < 2 ^ 63 → (v w : ℕ) → IsIn nodes v → IsIn nodes w → level_of key ≤ level_of v → level_of key ≤ level_of w
+  pub same_member : (key : ℕ) → key < 2 ^ 63 → (v w : ℕ) → IsIn nodes v → IsIn nodes w
+      → level_of key ≤ level_of v → level_of key ≤ level_of w
       → member_at (row_at nodes) key v ≡ member_at (row_at nodes) key w → v ≡ w
   same_member key node v w in_v in_w deep_v deep_w same = by (before v) (before w)
     where
@@ -257,9 +316,11 @@ module _ (n : ℕ) (nodes : List Node) (reduced : IsReduced n nodes) where
           at (Behind more) = inr (omega (arith, more))
 
       -- a member that was read isn't one that waits
-      mixed : (a b : ℕ) → IsIn nodes a → a < key → member_at (row_at nodes) key a ≡ row_at nodes a → row_at nodes a ≡ twice b → ⊥
+      mixed : (a b : ℕ) → IsIn nodes a → a < key → member_at (row_at nodes) key a ≡ row_at nodes a
+          → row_at nodes a ≡ twice b → ⊥
       mixed a b in_a less read is =
-          two_pointers a in_a (omega (arith, less, node)) (ap (λ (r : Row). r.low) is ∙ sym (ap (λ (r : Row). r.high) is))
+          two_pointers a in_a (omega (arith, less, node)) (ap (λ (r : Row). r.low) is
+          ∙ sym (ap (λ (r : Row). r.high) is))
 
       both_read : v < key → w < key → v ≡ w
       both_read less_v less_w =
@@ -268,11 +329,13 @@ module _ (n : ℕ) (nodes : List Node) (reduced : IsReduced n nodes) where
           let rows : row_at nodes v ≡ row_at nodes w =
           sym (was_read key node v in_v less_v) ∙ same ∙ was_read key node w in_w less_w in
           let nodes_same : row_of_node x ≡ row_of_node y =
-          sym (row_at-node nodes reduced.descend x m) ∙ ap (row_at nodes) uid_x ∙ rows ∙ ap (row_at nodes) (sym uid_y)
+          sym (row_at-node nodes reduced.descend x m) ∙ ap (row_at nodes) uid_x ∙ rows
+          ∙ ap (row_at nodes) (sym uid_y)
           ∙ row_at-node nodes reduced.descend y k in
           let level_v : level_of v ≡ level_of key = omega (arith, less_v, deep_v) in
           let level_w : level_of w ≡ level_of key = omega (arith, less_w, deep_w) in
-          sym uid_x ∙ reduced.differ x y m k (ap level_of uid_x ∙ level_v ∙ sym level_w ∙ ap level_of (sym uid_y))
+          sym uid_x ∙ reduced.differ x y m k (ap level_of uid_x ∙ level_v ∙ sym level_w
+          ∙ ap level_of (sym uid_y))
           (ap (λ (r : Row). r.low) nodes_same) (ap (λ (r : Row). r.high) nodes_same) ∙ uid_y
 
       by : (v < key) ⊎ (key ≤ v) → (w < key) ⊎ (key ≤ w) → v ≡ w
@@ -284,4 +347,5 @@ module _ (n : ℕ) (nodes : List Node) (reduced : IsReduced n nodes) where
           absurd (mixed w v in_w less_w (was_read key node w in_w less_w)
           (sym (was_read key node w in_w less_w) ∙ sym same ∙ waits key node v in_v from_v))
       by (inr from_v) (inr from_w) =
-          ap (λ (r : Row). r.low) (sym (waits key node v in_v from_v) ∙ same ∙ waits key node w in_w from_w)
+          ap (λ (r : Row). r.low) (sym (waits key node v in_v from_v) ∙ same
+          ∙ waits key node w in_w from_w)

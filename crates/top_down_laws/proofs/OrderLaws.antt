@@ -14,14 +14,16 @@ use Rattle.std.proofs.lemmas.Map.Lookups.{exact_bytes}
 use Rattle.top_down_laws.specs.Forms.{Form, Waiting, form_words, words_of, comes_before, IsNoLater}
 
 -- of two comparisons the other way round, neither of which says less, both say equal
-neither_less : (o p : Ordering) → o ≡ ordering_reverse p → is_lt o ≡ false → is_lt p ≡ false → o ≡ Equal
+neither_less : (o p : Ordering) → o ≡ ordering_reverse p → is_lt o ≡ false → is_lt p ≡ false
+    → o ≡ Equal
 neither_less Less p back not_o not_p = cc
 neither_less Equal p back not_o not_p = refl
 neither_less Greater Less back not_o not_p = cc
 neither_less Greater Equal back not_o not_p = cc
 neither_less Greater Greater back not_o not_p = cc
 
-then_flat : (a b c : Ordering) → ordering_then (ordering_then a b) c ≡ ordering_then a (ordering_then b c)
+then_flat : (a b c : Ordering) → ordering_then (ordering_then a b) c
+    ≡ ordering_then a (ordering_then b c)
 then_flat Less b c = refl
 then_flat Equal b c = refl
 then_flat Greater b c = refl
@@ -65,11 +67,13 @@ no_later_chain f g h first second = form_order.chain h g f second first
 -- two forms neither of which is later are the same
 pub no_later_both : (f g : Form) → IsNoLater f g → IsNoLater g f → f ≡ g
 no_later_both f g first second = same_words f g (exact_bytes (form_words f) (form_words g)
-    (neither_less (slice_cmp nat_cmp (form_words f) (form_words g)) (slice_cmp nat_cmp (form_words g) (form_words f))
+    (neither_less (slice_cmp nat_cmp (form_words f) (form_words g))
+    (slice_cmp nat_cmp (form_words g) (form_words f))
     (nat_list_cmp_total.antisymm (form_words f) (form_words g)) second first))
 
 key_first : (a b : ℕ) (o : Ordering) → is_lt (ordering_then (nat_cmp b a) o) ≡ false → a ≤ b
-key_first a b o none = let first : is_lt (nat_cmp b a) ≡ false = then_first (nat_cmp b a) o none in grind (arith, nat_tests)
+key_first a b o none = let first : is_lt (nat_cmp b a) ≡ false = then_first (nat_cmp b a) o none in
+    grind (arith, nat_tests)
 
 pub no_later_key : (f g : Form) → IsNoLater f g → f.key ≤ g.key
 no_later_key f g upto = key_first f.key g.key _ upto
@@ -92,20 +96,24 @@ not_before_self a = elim (cases_Bool (comes_before a a)) [
 pub not_before : (a b : Waiting) → comes_before a b ≡ true → comes_before b a ≡ false
 not_before a b less = wait_order.one_way a b less
 
-pub not_before_chain : (a b c : Waiting) → comes_before a b ≡ false → comes_before b c ≡ false → comes_before a c ≡ false
+pub not_before_chain : (a b c : Waiting) → comes_before a b ≡ false → comes_before b c ≡ false
+    → comes_before a c ≡ false
 not_before_chain a b c first second = wait_order.chain a b c first second
 
 -- words that differ by their last one at most
 slice_cmp-last : (xs ys : List ℕ) (a b : ℕ) → length xs ≡ length ys
-    → slice_cmp nat_cmp (xs ++ a ∷ []) (ys ++ b ∷ []) ≡ ordering_then (slice_cmp nat_cmp xs ys) (slice_cmp nat_cmp (a ∷ []) (b ∷ []))
+    → slice_cmp nat_cmp (xs ++ a ∷ []) (ys ++ b ∷ []) ≡ ordering_then (slice_cmp nat_cmp xs ys)
+    (slice_cmp nat_cmp (a ∷ []) (b ∷ []))
 slice_cmp-last [] [] a b long = refl
 slice_cmp-last [] (y ∷ ys) a b long = absurd (omega (arith, long))
 slice_cmp-last (x ∷ xs) [] a b long = absurd (omega (arith, long))
 slice_cmp-last (x ∷ xs) (y ∷ ys) a b long =
-    ap (ordering_then (nat_cmp x y)) (slice_cmp-last xs ys a b (omega (arith, long))) ∙ sym (then_flat (nat_cmp x y) (slice_cmp nat_cmp xs ys) _)
+    ap (ordering_then (nat_cmp x y)) (slice_cmp-last xs ys a b (omega (arith, long)))
+    ∙ sym (then_flat (nat_cmp x y) (slice_cmp nat_cmp xs ys) _)
 
 by_form : (a b : Waiting) → slice_cmp nat_cmp (words_of a) (words_of b)
-    ≡ ordering_then (slice_cmp nat_cmp (form_words a.form) (form_words b.form)) (slice_cmp nat_cmp (a.asker ∷ []) (b.asker ∷ []))
+    ≡ ordering_then (slice_cmp nat_cmp (form_words a.form) (form_words b.form))
+    (slice_cmp nat_cmp (a.asker ∷ []) (b.asker ∷ []))
 by_form a b = slice_cmp-last (form_words a.form) (form_words b.form) a.asker b.asker refl
 
 -- of two asks the one that isn't before the other isn't so in form either
@@ -122,18 +130,23 @@ slice_same (x ∷ xs) =
 pub askers_follow : (a b : Waiting) → comes_before b a ≡ false → a.form ≡ b.form → a.asker ≤ b.asker
 askers_follow a b none same =
     let equal : slice_cmp nat_cmp (form_words b.form) (form_words a.form) ≡ Equal =
-    ap (λ f. slice_cmp nat_cmp (form_words b.form) (form_words f)) same ∙ slice_same (form_words b.form) in
+    ap (λ f. slice_cmp nat_cmp (form_words b.form) (form_words f)) same
+    ∙ slice_same (form_words b.form) in
     let last : is_lt (slice_cmp nat_cmp (b.asker ∷ []) (a.asker ∷ [])) ≡ false =
-    sym (ap is_lt (by_form b a ∙ ap (λ o. ordering_then o (slice_cmp nat_cmp (b.asker ∷ []) (a.asker ∷ []))) equal)) ∙ none in
+    sym (ap is_lt (by_form b a
+    ∙ ap (λ o. ordering_then o (slice_cmp nat_cmp (b.asker ∷ []) (a.asker ∷ []))) equal))
+    ∙ none in
     key_first a.asker b.asker Equal last
 
 -- of two asks by different askers one comes before the other
-pub before_other : (a b : Waiting) → comes_before b a ≡ false → b.asker ≢ a.asker → comes_before a b ≡ true
+pub before_other : (a b : Waiting) → comes_before b a ≡ false → b.asker ≢ a.asker
+    → comes_before a b ≡ true
 before_other a b none other = elim (cases_Bool (comes_before a b)) [
   | inl before ↦ before
   | inr not_less ↦
       let same : words_of a ≡ words_of b = exact_bytes (words_of a) (words_of b)
-      (neither_less (slice_cmp nat_cmp (words_of a) (words_of b)) (slice_cmp nat_cmp (words_of b) (words_of a))
+      (neither_less (slice_cmp nat_cmp (words_of a) (words_of b)) (slice_cmp nat_cmp (words_of b)
+      (words_of a))
       (nat_list_cmp_total.antisymm (words_of a) (words_of b)) not_less none) in
       let asker : b.asker ≡ a.asker = cc in
       absurd (other asker)

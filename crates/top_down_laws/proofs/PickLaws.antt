@@ -34,7 +34,8 @@ ended : (d : Diagrams) (w : ℕ) (x : Tuple) → AreIn d x → AsksIn d (ends_or
 ended d w x is = either d (is_end w) (End (is_one w)) (Go x) tt is
 
 -- the tuple of a side
-one_side : (d : Diagrams) (side : Bool) (lows highs : Tuple) → AreIn d lows → AreIn d highs → AreIn d (cond side highs lows)
+one_side : (d : Diagrams) (side : Bool) (lows highs : Tuple) → AreIn d lows → AreIn d highs
+    → AreIn d (cond side highs lows)
 one_side d true lows highs low high = high
 one_side d false lows highs low high = low
 
@@ -50,8 +51,10 @@ pub product_picks : (op : Bin) (d : Diagrams) → Picks (product_rule op) d
 product_picks op d = record {
   goal = λ x y is says. asks_in d (product_goal op x) y
       (either d (is_end x.first) _ _
-      (either d (is_end x.second) _ _ tt (decided d (op_value op (is_one x.first) false) (op_value op (is_one x.first) true) x is))
-      (either d (is_end x.second) _ _ (decided d (op_value op false (is_one x.second)) (op_value op true (is_one x.second)) x is) is)) says;
+      (either d (is_end x.second) _ _ tt (decided d (op_value op (is_one x.first) false)
+      (op_value op (is_one x.first) true) x is))
+      (either d (is_end x.second) _ _ (decided d (op_value op false (is_one x.second))
+      (op_value op true (is_one x.second)) x is) is)) says;
   below = λ level side lows highs low high. one_side d side lows highs low high;
 }
 
@@ -60,8 +63,18 @@ choice_picks d = record {
   goal = λ x y is says. asks_in d (choice_goal x) y
       (either d (is_end x.first) _ _
       (either d (is_one x.first) _ _
-      (ended d x.second _ (record { first = is.first; second = is.second; third = no_member d.third }))
-      (ended d x.third _ (record { first = is.first; second = no_member d.second; third = is.third })))
+      (ended d x.second _ (record {
+        first = is.first;
+        second = is.second;
+        third =
+            no_member d.third;
+      }))
+      (ended d x.third _ (record {
+        first = is.first;
+        second = no_member d.second;
+        third =
+            is.third;
+      })))
       (either d (is_end x.second && (x.second == x.third)) _ _ tt is)) says;
   below = λ level side lows highs low high. one_side d side lows highs low high;
 }
@@ -72,23 +85,33 @@ pub quantify_picks : (kind : Quant) (variable : ℕ) (nodes others : List Node)
 quantify_picks kind variable nodes others = record {
   goal = λ x y is says. asks_in d (quantify_goal kind x) y
       (either d (is_end x.first) _ _
-      (either d (same_bit (is_one x.first) (strong kind)) _ _ tt (ended d x.second _ (pair x.second x.second is.second is.second)))
+      (either d (same_bit (is_one x.first) (strong kind)) _ _ tt
+      (ended d x.second _ (pair x.second x.second is.second is.second)))
       (either d (is_end x.second) _ _
-      (either d (same_bit (is_one x.second) (strong kind)) _ _ tt (pair x.first x.first is.first is.first))
-      (one_of d (nat_le x.first x.second) _ _ (pair x.first x.second is.first is.second) (pair x.second x.first is.second is.first)))) says;
-  below = λ level side lows highs low high. one_of d (level == variable) (two lows.first highs.first) (cond side highs lows)
+      (either d (same_bit (is_one x.second) (strong kind)) _ _ tt
+      (pair x.first x.first is.first is.first))
+      (one_of d (nat_le x.first x.second) _ _ (pair x.first x.second is.first is.second)
+      (pair x.second x.first is.second is.first)))) says;
+  below = λ level side lows highs low high. one_of d (level == variable)
+      (two lows.first highs.first) (cond side highs lows)
       (pair lows.first highs.first low.first high.first) (one_side d side lows highs low high);
 }
   where
     d : Diagrams
     d = record { first = nodes; second = nodes; third = others }
 
-    pair : (a b : ℕ) → IsIn nodes a → IsIn nodes b → AreIn (record { first = nodes; second = nodes; third = others }) (two a b)
+    pair : (a b : ℕ) → IsIn nodes a → IsIn nodes b → AreIn (record {
+      first = nodes;
+      second = nodes;
+      third = others;
+    }) (two a b)
     pair a b in_a in_b = record { first = in_a; second = in_b; third = no_member others }
 
-pub restrict_picks : (variable : ℕ) (value : Bool) (d : Diagrams) → Picks (restrict_rule variable value) d
+pub restrict_picks : (variable : ℕ) (value : Bool) (d : Diagrams)
+    → Picks (restrict_rule variable value) d
 restrict_picks variable value d = record {
   goal = λ x y is says. asks_in d (ends_or x.first x) y (ended d x.first x is) says;
-  below = λ level side lows highs low high. one_of d (level == variable) (cond value highs lows) (cond side highs lows)
+  below = λ level side lows highs low high. one_of d (level == variable) (cond value highs lows)
+      (cond side highs lows)
       (one_side d value lows highs low high) (one_side d side lows highs low high);
 }

@@ -21,7 +21,8 @@ use Rattle.top_down_laws.proofs.OrderLaws.{not_before_self}
 use Rattle.top_down_laws.proofs.ReadTurns.{open_key}
 
 -- a member of an open ask stands from its key
-member_stands : (n : ℕ) (nodes : List Node) → IsReduced n nodes → (key : ℕ) → key < 2 ^ 63 → (w : ℕ) → IsIn nodes w → level_of key ≤ level_of w
+member_stands : (n : ℕ) (nodes : List Node) → IsReduced n nodes → (key : ℕ) → key < 2 ^ 63 → (w : ℕ)
+    → IsIn nodes w → level_of key ≤ level_of w
     → Stands key (member_at (row_at nodes) key w)
 member_stands n nodes reduced key node w is deep = by (order w key)
   where
@@ -29,16 +30,24 @@ member_stands n nodes reduced key node w is deep = by (order w key)
     read before =
         let (x, m, uid) = node_in nodes w is (omega (arith, before, node)) in
         let row : row_of_node x ≡ member_at (row_at nodes) key w =
-        sym (row_at-node nodes reduced.descend x m) ∙ ap (row_at nodes) uid ∙ sym (was_read n nodes reduced key node w is before) in
+        sym (row_at-node nodes reduced.descend x m) ∙ ap (row_at nodes) uid
+        ∙ sym (was_read n nodes reduced key node w is before) in
         let proper = reduced.proper x m in
         let level : level_of x.uid ≡ level_of key = ap level_of uid ∙ same_level before in
-        subst (Stands key) row (inr (proper.differ, subst (λ l. l < level_of x.low) level proper.low, subst (λ l. l < level_of x.high) level proper.high))
+        subst (Stands key) row (inr (
+          proper.differ,
+          subst (λ l. l < level_of x.low) level proper.low,
+          subst (λ l. l < level_of x.high) level proper.high,
+        ))
       where
         same_level : w < key → level_of w ≡ level_of key
         same_level less = omega (arith, less, deep)
 
     stays : key ≤ w → Stands key (member_at (row_at nodes) key w)
-    stays from = subst (Stands key) (sym (waits n nodes reduced key node w is from)) (inl (refl, from))
+    stays from = subst (Stands key) (sym (waits n nodes reduced key node w is from)) (inl (
+      refl,
+      from,
+    ))
 
     by : Order w key → Stands key (member_at (row_at nodes) key w)
     by (Before before) = read before
@@ -46,7 +55,8 @@ member_stands n nodes reduced key node w is deep = by (order w key)
     by (Behind behind) = stays (omega (arith, behind))
 
 -- the member that is the key
-key_member : (n : ℕ) (nodes : List Node) → IsReduced n nodes → (key : ℕ) → key < 2 ^ 63 → (w : ℕ) → IsIn nodes w → key ≡ w
+key_member : (n : ℕ) (nodes : List Node) → IsReduced n nodes → (key : ℕ) → key < 2 ^ 63 → (w : ℕ)
+    → IsIn nodes w → key ≡ w
     → is_node key (member_at (row_at nodes) key w) ≡ true
 key_member n nodes reduced key node w is same =
     ap (is_node key) (waits n nodes reduced key node w is (omega (arith, same)))
@@ -56,8 +66,10 @@ module _ (n : ℕ) (rule : Rule) (d : Diagrams) (roots : Tuple) (task : IsTask n
   abbrev wait : Open → Waiting
   wait o = waiting_of (targets_in d) o
 
-  asked_by : (root : ℕ) (newest : Option Numbered) (last : Option Waiting) (inner ends : List Arc) (opens : List Open) (o : Open) → Has o opens
-      → IsOpen n rule d o → IsMade n rule d roots root newest last inner ends opens → IsAskedBy newest (wait o)
+  asked_by : (root : ℕ) (newest : Option Numbered) (last : Option Waiting) (inner ends : List Arc)
+      (opens : List Open) (o : Open) → Has o opens
+      → IsOpen n rule d o → IsMade n rule d roots root newest last inner ends opens
+      → IsAskedBy newest (wait o)
   asked_by root None last inner ends opens o m opened made =
       elim (subst (Has o) made.only m) [
         | inl is ↦ ap (λ (p : Open). p.asker) (sym is) ∙ made.asker_is
@@ -65,7 +77,8 @@ module _ (n : ℕ) (rule : Rule) (d : Diagrams) (roots : Tuple) (task : IsTask n
       ]
   asked_by root (Some x) last inner ends opens o m opened g =
       let (source, goes) = g.grows.ask_right (ask_of o) (has_map ask_of o opens m) in
-      let below = goes_below n root rule (targets_in d) task.is_rule inner ends (identifier x ∷ g.used) g.tuple (map ask_of opens) g.grows
+      let below = goes_below n root rule (targets_in d) task.is_rule inner ends
+      (identifier x ∷ g.used) g.tuple (map ask_of opens) g.grows
       (source_of o.asker) (side_of o.asker) o.tuple source goes in
       subst (λ l. level_of (source_of o.asker) < l) (sym opened.key_is.level) below.deeper
 
@@ -76,22 +89,31 @@ module _ (n : ℕ) (rule : Rule) (d : Diagrams) (roots : Tuple) (task : IsTask n
       let clash : true ≡ false = sym itself ∙ not_before_self a in
       absurd cc
 
-  open_sound : (root : ℕ) (newest : Option Numbered) (last : Option Waiting) (inner ends : List Arc) (opens : List Open) (o : Open) → Has o opens
-      → IsOpen n rule d o → IsBehind last (wait o) → IsMade n rule d roots root newest last inner ends opens → IsSound newest last (wait o)
+  open_sound : (root : ℕ) (newest : Option Numbered) (last : Option Waiting) (inner ends : List Arc)
+      (opens : List Open) (o : Open) → Has o opens
+      → IsOpen n rule d o → IsBehind last (wait o)
+      → IsMade n rule d roots root newest last inner ends opens → IsSound newest last (wait o)
   open_sound root newest last inner ends opens o m opened behind made =
       let node : o.key < 2 ^ 63 = open_key n rule d roots task o opened in
-      let deep : Levels (level_of o.key) o.tuple = levels_from (level_of o.key) o.tuple opened.key_is.level in
+      let deep : Levels (level_of o.key) o.tuple =
+      levels_from (level_of o.key) o.tuple opened.key_is.level in
       let is = opened.members in
       record {
         key_is = omega (arith, opened.key_is.level, opened.low, task.few);
         here = elim opened.key_is.here [
-          | inl at ↦ inl (key_member n d.first task.reduced.first o.key node o.tuple.first is.first at)
-          | inr (inl at) ↦ inr (inl (key_member n d.second task.reduced.second o.key node o.tuple.second is.second at))
-          | inr (inr at) ↦ inr (inr (key_member n d.third task.reduced.third o.key node o.tuple.third is.third at))
+          | inl at ↦ inl (key_member n d.first task.reduced.first o.key node o.tuple.first is.first
+              at)
+          | inr (inl at) ↦ inr (inl
+              (key_member n d.second task.reduced.second o.key node o.tuple.second is.second at))
+          | inr (inr at) ↦ inr (inr
+              (key_member n d.third task.reduced.third o.key node o.tuple.third is.third at))
         ];
-        first = member_stands n d.first task.reduced.first o.key node o.tuple.first is.first deep.first;
-        second = member_stands n d.second task.reduced.second o.key node o.tuple.second is.second deep.second;
-        third = member_stands n d.third task.reduced.third o.key node o.tuple.third is.third deep.third;
+        first = member_stands n d.first task.reduced.first o.key node o.tuple.first is.first
+            deep.first;
+        second = member_stands n d.second task.reduced.second o.key node o.tuple.second is.second
+            deep.second;
+        third = member_stands n d.third task.reduced.third o.key node o.tuple.third is.third
+            deep.third;
         asker = asked_by root newest last inner ends opens o m opened made;
         other = not_again last (wait o) behind;
       }
@@ -100,4 +122,5 @@ module _ (n : ℕ) (rule : Rule) (d : Diagrams) (roots : Tuple) (task : IsTask n
   asks_are_sound place waiting last r inner ends m a there =
       let (o, k, is) = map_has wait a m.opens (subst (Has a) m.are there) in
       subst (IsSound place.newest last) is
-      (open_sound place.root place.newest last inner ends m.opens o k (m.waits.are_open o k) (m.waits.behind o k) m.made)
+      (open_sound place.root place.newest last inner ends m.opens o k (m.waits.are_open o k)
+      (m.waits.behind o k) m.made)

@@ -8,7 +8,8 @@ use Rattle.canon_file.specs.declared.row.Row.{Row}
 use Rattle.top_down.specs.declared.tuple.Tuple.{Tuple}
 use Rattle.top_down.specs.Tuples.{Targets, level_of_tuple}
 
--- a tuple as it is asked for: the node that is read next for it, and for each member its pointer, which
+-- a tuple as it is asked for: the node that is read next for it, and for each member its pointer,
+-- which
 -- stands twice, or both pointers of a node of the key's level that was read
 pub record Form : Type 0 where
   pub key : ℕ
@@ -35,7 +36,8 @@ form_words f = f.key ∷ f.first.low ∷ f.first.high ∷ f.second.low ∷ f.sec
     ∷ f.third.low ∷ f.third.high ∷ []
 
 abbrev pub words_of : Waiting → List ℕ
-words_of a = a.form.key ∷ a.form.first.low ∷ a.form.first.high ∷ a.form.second.low ∷ a.form.second.high
+words_of a = a.form.key ∷ a.form.first.low ∷ a.form.first.high ∷ a.form.second.low ∷
+    a.form.second.high
     ∷ a.form.third.low ∷ a.form.third.high ∷ a.asker ∷ []
 
 -- one ask comes before another in a queue, which orders asks by their words
@@ -75,7 +77,11 @@ wants key (Some x) m = cond (x.uid == key) false (is_node key m)
 -- the member, or the pointers of the node that it is, where that is at hand
 abbrev pub filled : ℕ → Option Node → Row → Row
 filled key None m = m
-filled key (Some x) m = cond ((x.uid == key) && is_node key m) (record { low = x.low; high = x.high }) m
+filled key (Some x) m = cond ((x.uid == key) && is_node key m) (record {
+  low = x.low;
+  high =
+      x.high;
+}) m
 
 -- the member's node, where it is one of that level that wasn't read, and a truth value else
 abbrev pub unread_at : ℕ → Row → ℕ

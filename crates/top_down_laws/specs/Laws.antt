@@ -18,7 +18,12 @@ use Rattle.top_down.specs.Rules.{Rule, table_for}
 use Rattle.top_down.specs.Asks.{side_arcs}
 use Rattle.top_down_laws.specs.Forms.{Waiting, nobody, comes_before, first_form, form_at, is_node, wants, next_key, IsKey}
 use Rattle.top_down_laws.specs.Readings.{Diagrams, targets_in, AreIn, Reading, Readings, want, filled_form, read_on}
-use Rattle.top_down_laws.specs.Remains.{Place, Numbered, identifier, Remains, IsMet, source_of, side_of, answer_arcs, goal_on, side_waits, next_numbered}
+use Rattle.top_down_laws.specs.Remains.{IsTask, Place, Numbered, identifier, Remains, IsMet, source_of, side_of, answer_arcs, goal_on, side_waits, next_numbered}
+
+-- that holds of each task
+abbrev pub ForEachTask : (ℕ → Rule → Diagrams → Tuple → Type 0) → Type 0
+ForEachTask Law = (n : ℕ) (rule : Rule) (d : Diagrams) (roots : Tuple) → IsTask n rule d roots
+    → Law n rule d roots
 
 -- the function of the roots' tuple
 abbrev pub task_table : ℕ → Rule → Diagrams → Tuple → List Bool
@@ -32,7 +37,8 @@ unread_all d = record {
   third = record { hand = None; unread = d.third };
 }
 
--- where the rule says a constant of the roots, that truth value with no arcs is a diagram of the table
+-- where the rule says a constant of the roots, that truth value with no arcs is a diagram of the
+-- table
 abbrev pub ConstantEnds : ℕ → Rule → Diagrams → Tuple → Type 0
 ConstantEnds n rule d roots = (value : Bool) → rule.goal roots ≡ End value
     → IsDiagramOf n (terminal value) [] (task_table n rule d roots)
@@ -45,57 +51,92 @@ RootIsAsked n rule d roots = (x : Tuple) → rule.goal roots ≡ Go x
 
 -- the asks may wait in any order
 abbrev pub WaitInAnyOrder : ℕ → Rule → Diagrams → Tuple → Type 0
-WaitInAnyOrder n rule d roots = (place : Place) (waiting others : List Waiting) (last : Option Waiting) (r : Readings)
+WaitInAnyOrder n rule d roots =
+    (place : Place) (waiting others : List Waiting) (last : Option Waiting) (r : Readings)
     (inner ends : List Arc) → IsPermutation waiting others
-    → Remains n rule d roots place waiting last r inner ends → Remains n rule d roots place others last r inner ends
+    → Remains n rule d roots place waiting last r inner ends
+    → Remains n rule d roots place others last r inner ends
 
 -- no ask that waits comes before that one
 abbrev pub IsNext : Waiting → List Waiting → Type 0
 IsNext a rest = (b : Waiting) → Has b rest → comes_before b a ≡ false
 
--- where the node of that key is wanted, a node is left to be read, none behind the key, and then that holds
+-- where the node of that key is wanted, a node is left to be read, none behind the key, and then
+-- that holds
 abbrev pub ReadsNode : Bool → Reading → ℕ → (Reading → Type 0) → Type 0
-ReadsNode wanted old key Then = wanted ≡ true → (x : Node) × (unread : List Node) × (old.unread ≡ unread ++ x ∷ [])
+ReadsNode wanted old key Then = wanted ≡ true
+    → (x : Node) × (unread : List Node) × (old.unread ≡ unread ++ x ∷ [])
     × (x.uid ≤ key) × Then (record { hand = Some x; unread = unread })
 
 -- what the first ask wants can be read of each diagram, and what remains stays so
-pub record ReadsNodes (n : ℕ) (rule : Rule) (d : Diagrams) (roots : Tuple) (place : Place) (a : Waiting)
-    (rest : List Waiting) (last : Option Waiting) (r : Readings) (inner ends : List Arc) : Type 0 where
+pub record ReadsNodes (n : ℕ) (rule : Rule) (d : Diagrams) (roots : Tuple) (place : Place)
+    (a : Waiting)
+    (rest : List Waiting) (last : Option Waiting) (r : Readings)
+    (inner ends : List Arc) : Type 0 where
   pub first : ReadsNode (wants a.form.key r.first.hand a.form.first) r.first a.form.key (λ now.
-      Remains n rule d roots place (a ∷ rest) last (record { first = now; second = r.second; third = r.third }) inner ends)
+      Remains n rule d roots place (a ∷ rest) last (record {
+        first = now;
+        second = r.second;
+        third =
+            r.third;
+      }) inner ends)
   pub second : ReadsNode (wants a.form.key r.second.hand a.form.second) r.second a.form.key (λ now.
-      Remains n rule d roots place (a ∷ rest) last (record { first = r.first; second = now; third = r.third }) inner ends)
+      Remains n rule d roots place (a ∷ rest) last (record {
+        first = r.first;
+        second = now;
+        third =
+            r.third;
+      }) inner ends)
   pub third : ReadsNode (wants a.form.key r.third.hand a.form.third) r.third a.form.key (λ now.
-      Remains n rule d roots place (a ∷ rest) last (record { first = r.first; second = r.second; third = now }) inner ends)
+      Remains n rule d roots place (a ∷ rest) last (record {
+        first = r.first;
+        second = r.second;
+        third = now;
+      }) inner ends)
 
 abbrev pub WantedIsRead : ℕ → Rule → Diagrams → Tuple → Type 0
-WantedIsRead n rule d roots = (place : Place) (a : Waiting) (rest : List Waiting) (last : Option Waiting) (r : Readings)
-    (inner ends : List Arc) → Remains n rule d roots place (a ∷ rest) last r inner ends → IsNext a rest
+WantedIsRead n rule d roots =
+    (place : Place) (a : Waiting) (rest : List Waiting) (last : Option Waiting) (r : Readings)
+    (inner ends : List Arc) → Remains n rule d roots place (a ∷ rest) last r inner ends
+    → IsNext a rest
     → ReadsNodes n rule d roots place a rest last r inner ends
 
--- where all that the first ask wants is at hand and another node of its level is left, it is taken and asked again
+-- where all that the first ask wants is at hand and another node of its level is left, it is taken
+-- and asked again
 -- for that node
 abbrev pub AskIsReadOn : ℕ → Rule → Diagrams → Tuple → Type 0
-AskIsReadOn n rule d roots = (place : Place) (a : Waiting) (rest : List Waiting) (last : Option Waiting) (r : Readings)
-    (inner ends : List Arc) → Remains n rule d roots place (a ∷ rest) last r inner ends → IsNext a rest
+AskIsReadOn n rule d roots =
+    (place : Place) (a : Waiting) (rest : List Waiting) (last : Option Waiting) (r : Readings)
+    (inner ends : List Arc) → Remains n rule d roots place (a ∷ rest) last r inner ends
+    → IsNext a rest
     → want r a.form ≡ false → next_key (filled_form r a.form) < 2 ^ 63
-    → Remains n rule d roots place (record { form = read_on r a.form; asker = a.asker } ∷ rest) (Some a) r inner ends
+    → Remains n rule d roots place (record {
+      form = read_on r a.form;
+      asker =
+          a.asker;
+    } ∷ rest) (Some a) r inner ends
 
--- where all that the first ask wants was read, and its tuple is the one that was numbered last, it is taken and
+-- where all that the first ask wants was read, and its tuple is the one that was numbered last, it
+-- is taken and
 -- answered by that number
 abbrev pub KnownIsAnswered : ℕ → Rule → Diagrams → Tuple → Type 0
-KnownIsAnswered n rule d roots = (root : ℕ) (x : Numbered) (a : Waiting) (rest : List Waiting) (last : Option Waiting)
+KnownIsAnswered n rule d roots =
+    (root : ℕ) (x : Numbered) (a : Waiting) (rest : List Waiting) (last : Option Waiting)
     (r : Readings) (inner ends : List Arc)
-    → Remains n rule d roots (record { root = root; newest = Some x }) (a ∷ rest) last r inner ends → IsNext a rest
+    → Remains n rule d roots (record { root = root; newest = Some x }) (a ∷ rest) last r inner ends
+    → IsNext a rest
     → x.form ≡ a.form
     → Remains n rule d roots (record { root = root; newest = Some x }) rest (Some a) r
     (inner ++ answer_arcs a.asker (identifier x)) ends
 
--- where it is another tuple, the ask is answered by the next number of its level, and the tuple's two sides end or
+-- where it is another tuple, the ask is answered by the next number of its level, and the tuple's
+-- two sides end or
 -- are asked for
 abbrev pub NewIsNumbered : ℕ → Rule → Diagrams → Tuple → Type 0
-NewIsNumbered n rule d roots = (place : Place) (a : Waiting) (rest : List Waiting) (last : Option Waiting) (r : Readings)
-    (inner ends : List Arc) → Remains n rule d roots place (a ∷ rest) last r inner ends → IsNext a rest
+NewIsNumbered n rule d roots =
+    (place : Place) (a : Waiting) (rest : List Waiting) (last : Option Waiting) (r : Readings)
+    (inner ends : List Arc) → Remains n rule d roots place (a ∷ rest) last r inner ends
+    → IsNext a rest
     → want r a.form ≡ false → (next_key (filled_form r a.form) < 2 ^ 63 → ⊥)
     → IfSome place.newest (λ x. x.form ≡ a.form → ⊥) → length inner + 1 < level_numbers
     → (let x : Numbered = next_numbered place.newest a.form in
@@ -114,13 +155,17 @@ pub record IsFor (d : Diagrams) (a : Waiting) (x : Tuple) : Type 0 where
 
 -- it is for no other one
 abbrev pub AsksForOne : ℕ → Rule → Diagrams → Tuple → Type 0
-AsksForOne n rule d roots = (place : Place) (waiting : List Waiting) (last : Option Waiting) (r : Readings)
-    (inner ends : List Arc) → Remains n rule d roots place waiting last r inner ends → (a : Waiting) → Has a waiting
+AsksForOne n rule d roots =
+    (place : Place) (waiting : List Waiting) (last : Option Waiting) (r : Readings)
+    (inner ends : List Arc) → Remains n rule d roots place waiting last r inner ends → (a : Waiting)
+    → Has a waiting
     → (x : Tuple) × IsFor d a x × ((y : Tuple) → IsFor d a y → y ≡ x)
 
--- these arcs complete what is written: they are a complete set with all of it, in which each asker leads, on its
+-- these arcs complete what is written: they are a complete set with all of it, in which each asker
+-- leads, on its
 -- side, to a pointer that stands for the function of the tuple that it asks for
-pub record CompletesAsks (n root : ℕ) (rule : Rule) (d : Diagrams) (waiting : List Waiting) (inner ends whole : List Arc)
+pub record CompletesAsks (n root : ℕ) (rule : Rule) (d : Diagrams) (waiting : List Waiting)
+    (inner ends whole : List Arc)
     : Type 0 where
   pub complete : IsComplete n root whole
   pub has_inner : (a : Arc) → Has a inner → Has a whole
@@ -133,15 +178,22 @@ pub record CompletesAsks (n root : ℕ) (rule : Rule) (d : Diagrams) (waiting : 
 
 -- once the root has its number, what completes what is written stands for the table
 abbrev pub WrittenStands : ℕ → Rule → Diagrams → Tuple → Type 0
-WrittenStands n rule d roots = (root : ℕ) (x : Numbered) (waiting : List Waiting) (last : Option Waiting)
+WrittenStands n rule d roots =
+    (root : ℕ) (x : Numbered) (waiting : List Waiting) (last : Option Waiting)
     (r : Readings) (inner ends whole : List Arc)
     → Remains n rule d roots (record { root = root; newest = Some x }) waiting last r inner ends
-    → CompletesAsks n root rule d waiting inner ends whole → StandFor n root whole (task_table n rule d roots)
+    → CompletesAsks n root rule d waiting inner ends whole
+    → StandFor n root whole (task_table n rule d roots)
 
 -- before, nothing is written, and the one ask that waits is for a tuple whose function is the table
 abbrev pub RootStands : ℕ → Rule → Diagrams → Tuple → Type 0
-RootStands n rule d roots = (root : ℕ) (waiting : List Waiting) (last : Option Waiting) (r : Readings)
-    (inner ends : List Arc) → Remains n rule d roots (record { root = root; newest = None }) waiting last r inner ends
+RootStands n rule d roots =
+    (root : ℕ) (waiting : List Waiting) (last : Option Waiting) (r : Readings)
+    (inner ends : List Arc) → Remains n rule d roots (record {
+      root = root;
+      newest =
+          None;
+    }) waiting last r inner ends
     → (inner ≡ []) × (ends ≡ []) × ((a : Waiting) × (x : Tuple) × (waiting ≡ a ∷ []) × IsFor d a x
     × (table_for rule (targets_in d) n 0 x ≡ task_table n rule d roots))
 
@@ -151,7 +203,8 @@ AreDifferent [] = Unit {0}
 AreDifferent (x ∷ xs) = (Has x xs → ⊥) × AreDifferent xs
 
 -- the arcs are in the order of their files, a diagram of the table, two for each tuple that is met
-pub record IsWhole (n : ℕ) (rule : Rule) (d : Diagrams) (roots : Tuple) (root : ℕ) (inner ends : List Arc)
+pub record IsWhole (n : ℕ) (rule : Rule) (d : Diagrams) (roots : Tuple) (root : ℕ)
+    (inner ends : List Arc)
     : Type 0 where
   pub diagram : IsDiagramOf n root (inner ++ ends) (task_table n rule d roots)
   pub inner_order : IsInnerOrder inner
@@ -166,8 +219,10 @@ pub record IsWhole (n : ℕ) (rule : Rule) (d : Diagrams) (roots : Tuple) (root 
 
 -- where nothing waits, so are those that were written
 abbrev pub NothingWaits : ℕ → Rule → Diagrams → Tuple → Type 0
-NothingWaits n rule d roots = (place : Place) (last : Option Waiting) (r : Readings) (inner ends : List Arc)
-    → Remains n rule d roots place [] last r inner ends → IsWhole n rule d roots place.root inner ends
+NothingWaits n rule d roots =
+    (place : Place) (last : Option Waiting) (r : Readings) (inner ends : List Arc)
+    → Remains n rule d roots place [] last r inner ends
+    → IsWhole n rule d roots place.root inner ends
 
 -- a member is a pointer from the key on, or two pointers that lie deeper than the key
 abbrev pub Stands : ℕ → Row → Type 0
@@ -179,7 +234,8 @@ abbrev pub IsAskedBy : Option Numbered → Waiting → Type 0
 IsAskedBy None a = a.asker ≡ nobody
 IsAskedBy (Some x) a = level_of (source_of a.asker) < level_of a.form.key
 
--- the key is a node that a member is, from which all members stand; the asker lies above, and the ask isn't the one
+-- the key is a node that a member is, from which all members stand; the asker lies above, and the
+-- ask isn't the one
 -- that was taken last
 pub record IsSound (newest : Option Numbered) (last : Option Waiting) (a : Waiting) : Type 0 where
   pub key_is : level_of a.form.key < most_variables
@@ -193,6 +249,8 @@ pub record IsSound (newest : Option Numbered) (last : Option Waiting) (a : Waiti
 
 -- so is each ask that waits
 abbrev pub AsksAreSound : ℕ → Rule → Diagrams → Tuple → Type 0
-AsksAreSound n rule d roots = (place : Place) (waiting : List Waiting) (last : Option Waiting) (r : Readings)
-    (inner ends : List Arc) → Remains n rule d roots place waiting last r inner ends → (a : Waiting) → Has a waiting
+AsksAreSound n rule d roots =
+    (place : Place) (waiting : List Waiting) (last : Option Waiting) (r : Readings)
+    (inner ends : List Arc) → Remains n rule d roots place waiting last r inner ends → (a : Waiting)
+    → Has a waiting
     → IsSound place.newest last a

@@ -16,10 +16,16 @@ use Rattle.top_down_laws.specs.Laws.{task_table}
 
 -- the nodes of the canonical diagrams of three tables
 abbrev pub canon_diagrams : ℕ → List Bool → List Bool → List Bool → Diagrams
-canon_diagrams n t u v = record { first = canon_nodes n t; second = canon_nodes n u; third = canon_nodes n v }
+canon_diagrams n t u v = record {
+  first = canon_nodes n t;
+  second = canon_nodes n u;
+  third =
+      canon_nodes n v;
+}
 
 -- a task whose table is that one
-pub record IsTaskFor (n : ℕ) (rule : Rule) (d : Diagrams) (roots : Tuple) (made : List Bool) : Type 0 where
+pub record IsTaskFor (n : ℕ) (rule : Rule) (d : Diagrams) (roots : Tuple)
+    (made : List Bool) : Type 0 where
   pub is_task : IsTask n rule d roots
   pub table_is : task_table n rule d roots ≡ made
 

@@ -29,7 +29,8 @@ pub record AreIn (d : Diagrams) (x : Tuple) : Type 0 where
   pub second : IsIn d.second x.second
   pub third : IsIn d.third x.third
 
--- the nodes are those of a reduced diagram of n variables: their identifiers descend, their pointers lead to
+-- the nodes are those of a reduced diagram of n variables: their identifiers descend, their
+-- pointers lead to
 -- nodes among them, and no two of a level have the same pointers
 pub record IsReduced (n : ℕ) (nodes : List Node) : Type 0 where
   pub proper : (x : Node) → Has x nodes → IsProper n x

@@ -63,7 +63,8 @@ IsBehind last a = IfSome last (λ l. comes_before l a ≡ true)
 abbrev pub asks_by : ℕ → List Open → ℕ
 asks_by w opens = count_by (λ o. o.asker == w) opens
 
--- the asks are open and come behind the last one that was taken, each asker has one at most, and no node at
+-- the asks are open and come behind the last one that was taken, each asker has one at most, and no
+-- node at
 -- hand lies behind one that is still to be read
 pub record Waits (n : ℕ) (rule : Rule) (d : Diagrams) (r : Readings) (last : Option Waiting)
     (opens : List Open) : Type 0 where
@@ -111,34 +112,42 @@ pub record IsUpToForm (targets : Targets) (x : Tuple) (f : Form) : Type 0 where
   pub upto : IsNoLater (form_at targets key x) f
 
 -- tuples are numbered, the newest last, with what grows from the roots' tuple
-pub record IsGrown (n : ℕ) (rule : Rule) (d : Diagrams) (roots : Tuple) (root : ℕ) (newest : Numbered)
+pub record IsGrown (n : ℕ) (rule : Rule) (d : Diagrams) (roots : Tuple) (root : ℕ)
+    (newest : Numbered)
     (last : Option Waiting) (inner ends : List Arc) (opens : List Open) : Type 0 where
   pub used : List ℕ
   pub tuple : ℕ → Tuple
-  pub grows : Grows n root rule (targets_in d) inner ends (map ask_of opens) (identifier newest ∷ used) tuple
+  pub grows : Grows n root rule (targets_in d) inner ends (map ask_of opens)
+      (identifier newest ∷ used) tuple
   pub goes : rule.goal roots ≡ Go (tuple root)
   pub members : (s : ℕ) → Has s (identifier newest ∷ used) → AreIn d (tuple s)
-  pub is_met : (s : ℕ) → Has s (identifier newest ∷ used) → IsMet rule (targets_in d) roots (tuple s)
+  pub is_met : (s : ℕ) → Has s (identifier newest ∷ used)
+      → IsMet rule (targets_in d) roots (tuple s)
   pub few : length used ≤ length inner
   -- tuples are numbered in the order of their forms
   pub form_is : form_at (targets_in d) newest.form.key (tuple (identifier newest)) ≡ newest.form
   pub key_is : IsLastKey newest.form.key (tuple (identifier newest))
-  pub upto : (s : ℕ) → Has s (identifier newest ∷ used) → IsUpToForm (targets_in d) (tuple s) newest.form
+  pub upto : (s : ℕ) → Has s (identifier newest ∷ used)
+      → IsUpToForm (targets_in d) (tuple s) newest.form
   -- the last ask that was taken comes no earlier than those that the newest tuple answered
   pub taken : Waiting
   pub last_is : last ≡ Some taken
   pub reached : IsNoLater newest.form taken.form
   pub answered : (a : Arc) → Has a inner → a.target ≡ identifier newest
-      → comes_before taken (record { form = newest.form; asker = asker_word a.source a.high }) ≡ false
+      → comes_before taken (record { form = newest.form; asker = asker_word a.source a.high })
+      ≡ false
 
 abbrev pub IsMade : (n : ℕ) → Rule → Diagrams → Tuple → ℕ → Option Numbered → Option Waiting →
     List Arc → List Arc → List Open → Type 0
 IsMade n rule d roots root None last inner ends opens = AsksForRoot rule roots root inner ends opens
-IsMade n rule d roots root (Some x) last inner ends opens = IsGrown n rule d roots root x last inner ends opens
+IsMade n rule d roots root (Some x) last inner ends opens =
+    IsGrown n rule d roots root x last inner ends opens
 
--- what remains: the asks that wait, the last one that was taken, how far the diagrams were read, and the arcs
+-- what remains: the asks that wait, the last one that was taken, how far the diagrams were read,
+-- and the arcs
 -- that were written
-pub record Remains (n : ℕ) (rule : Rule) (d : Diagrams) (roots : Tuple) (place : Place) (waiting : List Waiting)
+pub record Remains (n : ℕ) (rule : Rule) (d : Diagrams) (roots : Tuple) (place : Place)
+    (waiting : List Waiting)
     (last : Option Waiting) (r : Readings) (inner ends : List Arc) : Type 0 where
   pub opens : List Open
   pub are : waiting ≡ map (waiting_of (targets_in d)) opens
@@ -152,12 +161,18 @@ is_asker w = nat_lt (level_of (source_of w)) most_variables
 -- the arc that answers an ask; the root's ask has none
 abbrev pub answer_arcs : ℕ → ℕ → List Arc
 answer_arcs asker target =
-    cond (is_asker asker) (record { source = source_of asker; high = side_of asker; target = target } ∷ []) []
+    cond (is_asker asker) (record {
+      source = source_of asker;
+      high = side_of asker;
+      target =
+          target;
+    } ∷ []) []
 
 -- what the rule makes of the tuple on a side, where a form's nodes are at hand
 abbrev pub goal_on : Rule → Readings → Form → Bool → Goal
 goal_on rule r f side =
-    rule.goal (rule.below (level_of f.key) side (on_side false (filled_form r f)) (on_side true (filled_form r f)))
+    rule.goal (rule.below (level_of f.key) side (on_side false (filled_form r f))
+    (on_side true (filled_form r f)))
 
 -- the ask of a new identifier on one side, as it waits
 abbrev pub side_waits : ℕ → Bool → Goal → List Waiting
