@@ -9,8 +9,7 @@ use Rattle.top_down.specs.declared.tuple.Tuple.{Tuple}
 use Rattle.top_down.specs.Tuples.{Targets, level_of_tuple}
 
 -- a tuple as it is asked for: the node that is read next for it, and for each member its pointer,
--- which
--- stands twice, or both pointers of a node of the key's level that was read
+-- which stands twice, or both pointers of a node of the key's level that was read
 pub record Form : Type 0 where
   pub key : ℕ
   pub first : Row
@@ -74,14 +73,14 @@ abbrev pub wants : ℕ → Option Node → Row → Bool
 wants key None m = is_node key m
 wants key (Some x) m = cond (x.uid == key) false (is_node key m)
 
+-- a node's two pointers
+abbrev pub pointers_of : Node → Row
+pointers_of x = record { low = x.low; high = x.high }
+
 -- the member, or the pointers of the node that it is, where that is at hand
 abbrev pub filled : ℕ → Option Node → Row → Row
 filled key None m = m
-filled key (Some x) m = cond ((x.uid == key) && is_node key m) (record {
-  low = x.low;
-  high =
-      x.high;
-}) m
+filled key (Some x) m = cond ((x.uid == key) && is_node key m) (pointers_of x) m
 
 -- the member's node, where it is one of that level that wasn't read, and a truth value else
 abbrev pub unread_at : ℕ → Row → ℕ
@@ -102,7 +101,6 @@ abbrev pub member_at : (ℕ → Row) → ℕ → ℕ → Row
 member_at targets key w = cond (nat_lt w key) (targets w) (twice w)
 
 -- the tuple in that form
-
 abbrev pub form_at : Targets → ℕ → Tuple → Form
 form_at targets key x = record {
   key = key;

@@ -17,10 +17,10 @@ use Rattle.top_down.specs.Tuples.{level_of_tuple}
 use Rattle.top_down.specs.Rules.{Rule, table_for}
 use Rattle.top_down.specs.Asks.{side_arcs}
 use Rattle.top_down_laws.specs.Forms.{Waiting, nobody, comes_before, first_form, form_at, is_node, wants, next_key, IsKey}
-use Rattle.top_down_laws.specs.Readings.{Diagrams, targets_in, AreIn, Reading, Readings, want, filled_form, read_on}
-use Rattle.top_down_laws.specs.Remains.{IsTask, Place, Numbered, identifier, Remains, IsMet, source_of, side_of, answer_arcs, goal_on, side_waits, next_numbered}
+use Rattle.top_down_laws.specs.Readings.{Diagrams, targets_in, AreIn, Reading, Readings, with_first, with_second, with_third, want, filled_form, asked_on}
+use Rattle.top_down_laws.specs.Remains.{IsTask, Place, at_place, Numbered, identifier, Remains, IsMet, source_of, side_of, answer_arcs, goal_on, side_waits, next_numbered}
 
--- that holds of each task
+-- the law holds of each task
 abbrev pub ForEachTask : (ℕ → Rule → Diagrams → Tuple → Type 0) → Type 0
 ForEachTask Law = (n : ℕ) (rule : Rule) (d : Diagrams) (roots : Tuple) → IsTask n rule d roots
     → Law n rule d roots
@@ -46,7 +46,7 @@ ConstantEnds n rule d roots = (value : Bool) → rule.goal roots ≡ End value
 -- at first the tuple that the rule says of the roots is asked for, and nothing was read
 abbrev pub RootIsAsked : ℕ → Rule → Diagrams → Tuple → Type 0
 RootIsAsked n rule d roots = (x : Tuple) → rule.goal roots ≡ Go x
-    → Remains n rule d roots (record { root = node_word (level_of_tuple x) 0; newest = None })
+    → Remains n rule d roots (at_place (node_word (level_of_tuple x) 0) None)
     (record { form = first_form x; asker = nobody } ∷ []) None (unread_all d) [] []
 
 -- the asks may wait in any order
@@ -70,29 +70,14 @@ ReadsNode wanted old key Then = wanted ≡ true
 
 -- what the first ask wants can be read of each diagram, and what remains stays so
 pub record ReadsNodes (n : ℕ) (rule : Rule) (d : Diagrams) (roots : Tuple) (place : Place)
-    (a : Waiting)
-    (rest : List Waiting) (last : Option Waiting) (r : Readings)
+    (a : Waiting) (rest : List Waiting) (last : Option Waiting) (r : Readings)
     (inner ends : List Arc) : Type 0 where
   pub first : ReadsNode (wants a.form.key r.first.hand a.form.first) r.first a.form.key (λ now.
-      Remains n rule d roots place (a ∷ rest) last (record {
-        first = now;
-        second = r.second;
-        third =
-            r.third;
-      }) inner ends)
+      Remains n rule d roots place (a ∷ rest) last (with_first r now) inner ends)
   pub second : ReadsNode (wants a.form.key r.second.hand a.form.second) r.second a.form.key (λ now.
-      Remains n rule d roots place (a ∷ rest) last (record {
-        first = r.first;
-        second = now;
-        third =
-            r.third;
-      }) inner ends)
+      Remains n rule d roots place (a ∷ rest) last (with_second r now) inner ends)
   pub third : ReadsNode (wants a.form.key r.third.hand a.form.third) r.third a.form.key (λ now.
-      Remains n rule d roots place (a ∷ rest) last (record {
-        first = r.first;
-        second = r.second;
-        third = now;
-      }) inner ends)
+      Remains n rule d roots place (a ∷ rest) last (with_third r now) inner ends)
 
 abbrev pub WantedIsRead : ℕ → Rule → Diagrams → Tuple → Type 0
 WantedIsRead n rule d roots =
@@ -102,45 +87,35 @@ WantedIsRead n rule d roots =
     → ReadsNodes n rule d roots place a rest last r inner ends
 
 -- where all that the first ask wants is at hand and another node of its level is left, it is taken
--- and asked again
--- for that node
+-- and asked again for that node
 abbrev pub AskIsReadOn : ℕ → Rule → Diagrams → Tuple → Type 0
 AskIsReadOn n rule d roots =
     (place : Place) (a : Waiting) (rest : List Waiting) (last : Option Waiting) (r : Readings)
     (inner ends : List Arc) → Remains n rule d roots place (a ∷ rest) last r inner ends
-    → IsNext a rest
-    → want r a.form ≡ false → next_key (filled_form r a.form) < 2 ^ 63
-    → Remains n rule d roots place (record {
-      form = read_on r a.form;
-      asker =
-          a.asker;
-    } ∷ rest) (Some a) r inner ends
+    → IsNext a rest → want r a.form ≡ false → next_key (filled_form r a.form) < 2 ^ 63
+    → Remains n rule d roots place (asked_on r a ∷ rest) (Some a) r inner ends
 
 -- where all that the first ask wants was read, and its tuple is the one that was numbered last, it
--- is taken and
--- answered by that number
+-- is taken and answered by that number
 abbrev pub KnownIsAnswered : ℕ → Rule → Diagrams → Tuple → Type 0
 KnownIsAnswered n rule d roots =
     (root : ℕ) (x : Numbered) (a : Waiting) (rest : List Waiting) (last : Option Waiting)
     (r : Readings) (inner ends : List Arc)
-    → Remains n rule d roots (record { root = root; newest = Some x }) (a ∷ rest) last r inner ends
-    → IsNext a rest
-    → x.form ≡ a.form
-    → Remains n rule d roots (record { root = root; newest = Some x }) rest (Some a) r
+    → Remains n rule d roots (at_place root (Some x)) (a ∷ rest) last r inner ends
+    → IsNext a rest → x.form ≡ a.form
+    → Remains n rule d roots (at_place root (Some x)) rest (Some a) r
     (inner ++ answer_arcs a.asker (identifier x)) ends
 
 -- where it is another tuple, the ask is answered by the next number of its level, and the tuple's
--- two sides end or
--- are asked for
+-- two sides end or are asked for
 abbrev pub NewIsNumbered : ℕ → Rule → Diagrams → Tuple → Type 0
 NewIsNumbered n rule d roots =
     (place : Place) (a : Waiting) (rest : List Waiting) (last : Option Waiting) (r : Readings)
     (inner ends : List Arc) → Remains n rule d roots place (a ∷ rest) last r inner ends
-    → IsNext a rest
-    → want r a.form ≡ false → (next_key (filled_form r a.form) < 2 ^ 63 → ⊥)
+    → IsNext a rest → want r a.form ≡ false → (next_key (filled_form r a.form) < 2 ^ 63 → ⊥)
     → IfSome place.newest (λ x. x.form ≡ a.form → ⊥) → length inner + 1 < level_numbers
     → (let x : Numbered = next_numbered place.newest a.form in
-    Remains n rule d roots (record { root = place.root; newest = Some x })
+    Remains n rule d roots (at_place place.root (Some x))
     (side_waits (identifier x) false (goal_on rule r a.form false)
     ++ (side_waits (identifier x) true (goal_on rule r a.form true) ++ rest)) (Some a) r
     (inner ++ answer_arcs a.asker (identifier x))
@@ -157,16 +132,14 @@ pub record IsFor (d : Diagrams) (a : Waiting) (x : Tuple) : Type 0 where
 abbrev pub AsksForOne : ℕ → Rule → Diagrams → Tuple → Type 0
 AsksForOne n rule d roots =
     (place : Place) (waiting : List Waiting) (last : Option Waiting) (r : Readings)
-    (inner ends : List Arc) → Remains n rule d roots place waiting last r inner ends → (a : Waiting)
-    → Has a waiting
+    (inner ends : List Arc) → Remains n rule d roots place waiting last r inner ends
+    → (a : Waiting) → Has a waiting
     → (x : Tuple) × IsFor d a x × ((y : Tuple) → IsFor d a y → y ≡ x)
 
 -- these arcs complete what is written: they are a complete set with all of it, in which each asker
--- leads, on its
--- side, to a pointer that stands for the function of the tuple that it asks for
+-- leads, on its side, to a pointer that stands for the function of the tuple that it asks for
 pub record CompletesAsks (n root : ℕ) (rule : Rule) (d : Diagrams) (waiting : List Waiting)
-    (inner ends whole : List Arc)
-    : Type 0 where
+    (inner ends whole : List Arc) : Type 0 where
   pub complete : IsComplete n root whole
   pub has_inner : (a : Arc) → Has a inner → Has a whole
   pub has_ends : (a : Arc) → Has a ends → Has a whole
@@ -181,7 +154,7 @@ abbrev pub WrittenStands : ℕ → Rule → Diagrams → Tuple → Type 0
 WrittenStands n rule d roots =
     (root : ℕ) (x : Numbered) (waiting : List Waiting) (last : Option Waiting)
     (r : Readings) (inner ends whole : List Arc)
-    → Remains n rule d roots (record { root = root; newest = Some x }) waiting last r inner ends
+    → Remains n rule d roots (at_place root (Some x)) waiting last r inner ends
     → CompletesAsks n root rule d waiting inner ends whole
     → StandFor n root whole (task_table n rule d roots)
 
@@ -189,11 +162,7 @@ WrittenStands n rule d roots =
 abbrev pub RootStands : ℕ → Rule → Diagrams → Tuple → Type 0
 RootStands n rule d roots =
     (root : ℕ) (waiting : List Waiting) (last : Option Waiting) (r : Readings)
-    (inner ends : List Arc) → Remains n rule d roots (record {
-      root = root;
-      newest =
-          None;
-    }) waiting last r inner ends
+    (inner ends : List Arc) → Remains n rule d roots (at_place root None) waiting last r inner ends
     → (inner ≡ []) × (ends ≡ []) × ((a : Waiting) × (x : Tuple) × (waiting ≡ a ∷ []) × IsFor d a x
     × (table_for rule (targets_in d) n 0 x ≡ task_table n rule d roots))
 
@@ -204,8 +173,7 @@ AreDifferent (x ∷ xs) = (Has x xs → ⊥) × AreDifferent xs
 
 -- the arcs are in the order of their files, a diagram of the table, two for each tuple that is met
 pub record IsWhole (n : ℕ) (rule : Rule) (d : Diagrams) (roots : Tuple) (root : ℕ)
-    (inner ends : List Arc)
-    : Type 0 where
+    (inner ends : List Arc) : Type 0 where
   pub diagram : IsDiagramOf n root (inner ++ ends) (task_table n rule d roots)
   pub inner_order : IsInnerOrder inner
   pub end_order : IsEndOrder ends
@@ -235,8 +203,7 @@ IsAskedBy None a = a.asker ≡ nobody
 IsAskedBy (Some x) a = level_of (source_of a.asker) < level_of a.form.key
 
 -- the key is a node that a member is, from which all members stand; the asker lies above, and the
--- ask isn't the one
--- that was taken last
+-- ask isn't the one that was taken last
 pub record IsSound (newest : Option Numbered) (last : Option Waiting) (a : Waiting) : Type 0 where
   pub key_is : level_of a.form.key < most_variables
   pub here : (is_node a.form.key a.form.first ≡ true)
@@ -251,6 +218,6 @@ pub record IsSound (newest : Option Numbered) (last : Option Waiting) (a : Waiti
 abbrev pub AsksAreSound : ℕ → Rule → Diagrams → Tuple → Type 0
 AsksAreSound n rule d roots =
     (place : Place) (waiting : List Waiting) (last : Option Waiting) (r : Readings)
-    (inner ends : List Arc) → Remains n rule d roots place waiting last r inner ends → (a : Waiting)
-    → Has a waiting
+    (inner ends : List Arc) → Remains n rule d roots place waiting last r inner ends
+    → (a : Waiting) → Has a waiting
     → IsSound place.newest last a

@@ -7,7 +7,7 @@ use Rattle.canon_file.specs.NodeFiles.{IsProper, IsDescending}
 use Rattle.canon_file.specs.Walks.{row_at}
 use Rattle.top_down.specs.declared.tuple.Tuple.{Tuple}
 use Rattle.top_down.specs.Tuples.{Targets}
-use Rattle.top_down_laws.specs.Forms.{Form, wants, filled, next_key}
+use Rattle.top_down_laws.specs.Forms.{Form, Waiting, wants, filled, next_key}
 
 -- the nodes of the diagram of each member, in the order of their file
 pub record Diagrams : Type 0 where
@@ -30,8 +30,7 @@ pub record AreIn (d : Diagrams) (x : Tuple) : Type 0 where
   pub third : IsIn d.third x.third
 
 -- the nodes are those of a reduced diagram of n variables: their identifiers descend, their
--- pointers lead to
--- nodes among them, and no two of a level have the same pointers
+-- pointers lead to nodes among them, and no two of a level have the same pointers
 pub record IsReduced (n : ℕ) (nodes : List Node) : Type 0 where
   pub proper : (x : Node) → Has x nodes → IsProper n x
   pub descend : IsDescending nodes
@@ -100,3 +99,17 @@ read_on r f = record {
   second = filled f.key r.second.hand f.second;
   third = filled f.key r.third.hand f.third;
 }
+
+-- an ask that was read on, as it waits
+abbrev pub asked_on : Readings → Waiting → Waiting
+asked_on r a = record { form = read_on r a.form; asker = a.asker }
+
+-- other readings of one diagram
+abbrev pub with_first : Readings → Reading → Readings
+with_first r now = record { first = now; second = r.second; third = r.third }
+
+abbrev pub with_second : Readings → Reading → Readings
+with_second r now = record { first = r.first; second = now; third = r.third }
+
+abbrev pub with_third : Readings → Reading → Readings
+with_third r now = record { first = r.first; second = r.second; third = now }

@@ -64,8 +64,7 @@ abbrev pub asks_by : ℕ → List Open → ℕ
 asks_by w opens = count_by (λ o. o.asker == w) opens
 
 -- the asks are open and come behind the last one that was taken, each asker has one at most, and no
--- node at
--- hand lies behind one that is still to be read
+-- node at hand lies behind one that is still to be read
 pub record Waits (n : ℕ) (rule : Rule) (d : Diagrams) (r : Readings) (last : Option Waiting)
     (opens : List Open) : Type 0 where
   pub are_open : (o : Open) → Has o opens → IsOpen n rule d o
@@ -87,6 +86,9 @@ identifier x = node_word (level_of x.form.key) x.number
 pub record Place : Type 0 where
   pub root : ℕ
   pub newest : Option Numbered
+
+abbrev pub at_place : ℕ → Option Numbered → Place
+at_place root newest = record { root = root; newest = newest }
 
 -- the root's tuple is asked for, and nothing is written
 pub record AsksForRoot (rule : Rule) (roots : Tuple) (root : ℕ) (inner ends : List Arc)
@@ -113,8 +115,8 @@ pub record IsUpToForm (targets : Targets) (x : Tuple) (f : Form) : Type 0 where
 
 -- tuples are numbered, the newest last, with what grows from the roots' tuple
 pub record IsGrown (n : ℕ) (rule : Rule) (d : Diagrams) (roots : Tuple) (root : ℕ)
-    (newest : Numbered)
-    (last : Option Waiting) (inner ends : List Arc) (opens : List Open) : Type 0 where
+    (newest : Numbered) (last : Option Waiting) (inner ends : List Arc) (opens : List Open)
+    : Type 0 where
   pub used : List ℕ
   pub tuple : ℕ → Tuple
   pub grows : Grows n root rule (targets_in d) inner ends (map ask_of opens)
@@ -144,11 +146,10 @@ IsMade n rule d roots root (Some x) last inner ends opens =
     IsGrown n rule d roots root x last inner ends opens
 
 -- what remains: the asks that wait, the last one that was taken, how far the diagrams were read,
--- and the arcs
--- that were written
+-- and the arcs that were written
 pub record Remains (n : ℕ) (rule : Rule) (d : Diagrams) (roots : Tuple) (place : Place)
-    (waiting : List Waiting)
-    (last : Option Waiting) (r : Readings) (inner ends : List Arc) : Type 0 where
+    (waiting : List Waiting) (last : Option Waiting) (r : Readings) (inner ends : List Arc)
+    : Type 0 where
   pub opens : List Open
   pub are : waiting ≡ map (waiting_of (targets_in d)) opens
   pub waits : Waits n rule d r last opens
@@ -158,15 +159,13 @@ pub record Remains (n : ℕ) (rule : Rule) (d : Diagrams) (roots : Tuple) (place
 abbrev pub is_asker : ℕ → Bool
 is_asker w = nat_lt (level_of (source_of w)) most_variables
 
+-- the arc from an asker to its answer
+abbrev pub arc_from : ℕ → ℕ → Arc
+arc_from asker target = record { source = source_of asker; high = side_of asker; target = target }
+
 -- the arc that answers an ask; the root's ask has none
 abbrev pub answer_arcs : ℕ → ℕ → List Arc
-answer_arcs asker target =
-    cond (is_asker asker) (record {
-      source = source_of asker;
-      high = side_of asker;
-      target =
-          target;
-    } ∷ []) []
+answer_arcs asker target = cond (is_asker asker) (arc_from asker target ∷ []) []
 
 -- what the rule makes of the tuple on a side, where a form's nodes are at hand
 abbrev pub goal_on : Rule → Readings → Form → Bool → Goal
