@@ -8,7 +8,7 @@ use Rattle.top_down.specs.Tuples.{Targets, level_of_tuple, parts}
 use Rattle.top_down_laws.specs.Forms.{Form, least, first_form, form_at, member_at, unread_at, filled, wants, next_key, on_side, twice, IsKey, IsLastKey, IsUpToKey}
 use Rattle.top_down_laws.specs.Readings.{Diagrams, targets_in, AreIn, AreReduced, Readings, AreReadings, want, filled_form, read_on}
 use Rattle.top_down_laws.proofs.NumberTests.{not_less, Order, Before, Same, Behind, order}
-use Rattle.top_down_laws.proofs.MemberLaws.{waits_behind, waits_there, does_wait, reads_on, side_low, side_high, same_member}
+use Rattle.top_down_laws.proofs.MemberLaws.{waits_behind, waits_there, does_wait, reads_on, side_pointer, same_member}
 
 -- neither of two tests that aren't met
 or_left : (b c : Bool) → (b || c) ≡ false → b ≡ false
@@ -25,8 +25,7 @@ pub same_members : (x y : Tuple) → x.first ≡ y.first → x.second ≡ y.seco
 same_members x y first second third = λ i. record {
   first = first i;
   second = second i;
-  third =
-      third i;
+  third = third i;
 }
 
 -- the three levels are no less than the tuple's
@@ -39,8 +38,7 @@ pub levels_from : (level : ℕ) (x : Tuple) → level ≡ level_of_tuple x → L
 levels_from level x is = record {
   first = omega (arith, is);
   second = omega (arith, is);
-  third =
-      omega (arith, is);
+  third = omega (arith, is);
 }
 
 -- one of three numbers is the least
@@ -162,8 +160,7 @@ module _ (n : ℕ) (d : Diagrams) (reduced : AreReduced n d) where
           (subst (λ v. v < 2 ^ 63) first low) in
           record {
             here = inl (first ∙ here);
-            level =
-                ap level_of (first ∙ here) ∙ level ∙ at.level;
+            level = ap level_of (first ∙ here) ∙ level ∙ at.level;
           }
       | inr (inl second) ↦
           let (_, level, here) =
@@ -182,8 +179,7 @@ module _ (n : ℕ) (d : Diagrams) (reduced : AreReduced n d) where
           (subst (λ v. v < 2 ^ 63) third low) in
           record {
             here = inr (inr (third ∙ here));
-            level =
-                ap level_of (third ∙ here) ∙ level ∙ at.level;
+            level = ap level_of (third ∙ here) ∙ level ∙ at.level;
           }
     ]
       where
@@ -241,18 +237,18 @@ module _ (n : ℕ) (d : Diagrams) (reduced : AreReduced n d) where
       pub side-is : (side : Bool)
           → on_side side (filled_form r form) ≡ parts (targets_in d) (level_of key) side x
       side-is false = λ i. record {
-        first = side_low n d.first reduced.first key node x.first is.first r.first.unread
-            r.first.hand reads.first none_first deep.first is_last.first i;
-        second = side_low n d.second reduced.second key node x.second is.second r.second.unread
-            r.second.hand reads.second none_second deep.second is_last.second i;
-        third = side_low n d.third reduced.third key node x.third is.third r.third.unread
-            r.third.hand reads.third none_third deep.third is_last.third i;
+        first = side_pointer n d.first reduced.first key node x.first is.first r.first.unread
+            r.first.hand reads.first none_first deep.first is_last.first false i;
+        second = side_pointer n d.second reduced.second key node x.second is.second r.second.unread
+            r.second.hand reads.second none_second deep.second is_last.second false i;
+        third = side_pointer n d.third reduced.third key node x.third is.third r.third.unread
+            r.third.hand reads.third none_third deep.third is_last.third false i;
       }
       side-is true = λ i. record {
-        first = side_high n d.first reduced.first key node x.first is.first r.first.unread
-            r.first.hand reads.first none_first deep.first is_last.first i;
-        second = side_high n d.second reduced.second key node x.second is.second r.second.unread
-            r.second.hand reads.second none_second deep.second is_last.second i;
-        third = side_high n d.third reduced.third key node x.third is.third r.third.unread
-            r.third.hand reads.third none_third deep.third is_last.third i;
+        first = side_pointer n d.first reduced.first key node x.first is.first r.first.unread
+            r.first.hand reads.first none_first deep.first is_last.first true i;
+        second = side_pointer n d.second reduced.second key node x.second is.second r.second.unread
+            r.second.hand reads.second none_second deep.second is_last.second true i;
+        third = side_pointer n d.third reduced.third key node x.third is.third r.third.unread
+            r.third.hand reads.third none_third deep.third is_last.third true i;
       }

@@ -55,8 +55,7 @@ module _ (n : ℕ) (rule : Rule) (d : Diagrams) (roots : Tuple) (task : IsTask n
   pub answers_itself : (ask : Open) (f : Form) → f ≡ (wait ask).form
       → comes_before (wait ask) (record {
         form = f;
-        asker =
-            asker_word (source_of ask.asker) (side_of ask.asker);
+        asker = asker_word (source_of ask.asker) (side_of ask.asker);
       }) ≡ false
   answers_itself ask f same =
       let is : record { form = f; asker = asker_word (source_of ask.asker) (side_of ask.asker) }
@@ -144,8 +143,7 @@ module _ (n : ℕ) (rule : Rule) (d : Diagrams) (roots : Tuple) (task : IsTask n
       lifted n rule d roots task (record { root = root; newest = Some x }) a rest last r inner ends
       (λ b bs. x.form ≡ b.form → Remains n rule d roots (record {
         root = root;
-        newest =
-            Some x;
+        newest = Some x;
       }) bs (Some b) r (inner ++ answer_arcs b.asker (identifier x)) ends)
       m next
       (λ ask others w made first is. record {
@@ -153,8 +151,7 @@ module _ (n : ℕ) (rule : Rule) (d : Diagrams) (roots : Tuple) (task : IsTask n
         are = refl;
         waits = others_wait (record {
           root = root;
-          newest =
-              Some x;
+          newest = Some x;
         }) last r inner ends ask others w made first;
         made = known_made root x last r inner ends ask others w made is;
       }) same

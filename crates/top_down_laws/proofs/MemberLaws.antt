@@ -255,19 +255,28 @@ module _ (n : ℕ) (nodes : List Node) (reduced : IsReduced n nodes) where
 
       -- where the key is the last of the level, the member was read where it is of the level
       module _ (deep : level_of key ≤ level_of w) (last : IsUpToKey key w) where
-        pub side_low : (filled key hand (member_at (row_at nodes) key w)).low
-            ≡ onward (row_at nodes) (level_of key) false w
-        side_low = by (order w key)
+        pub side_pointer : (side : Bool)
+            → (let r : Row = filled key hand (member_at (row_at nodes) key w) in cond side r.high r.low)
+            ≡ onward (row_at nodes) (level_of key) side w
+        side_pointer side = by (order w key)
           where
-            read : w ≤ key → (filled key hand (member_at (row_at nodes) key w)).low
-                ≡ onward (row_at nodes) (level_of key) false w
+            either : ℕ → Bool → ℕ
+            either v b = cond b (cond side (row_at nodes v).high (row_at nodes v).low) v
+
+            same_either : (b : Bool) → cond b w w ≡ w
+            same_either true = refl
+            same_either false = refl
+
+            read : w ≤ key
+                → (let r : Row = filled key hand (member_at (row_at nodes) key w) in cond side r.high r.low)
+                ≡ onward (row_at nodes) (level_of key) side w
             read upto =
                 let at : is_at (level_of key) w ≡ true = is_less _ _ (omega (arith, upto)) in
-                ap (λ (r : Row). r.low) (filled_read upto)
-                ∙ sym (ap (λ b. cond b (row_at nodes w).low w) at)
+                ap (λ (r : Row). cond side r.high r.low) (filled_read upto) ∙ sym (ap (either w) at)
 
-            by : Order w key → (filled key hand (member_at (row_at nodes) key w)).low
-                ≡ onward (row_at nodes) (level_of key) false w
+            by : Order w key
+                → (let r : Row = filled key hand (member_at (row_at nodes) key w) in cond side r.high r.low)
+                ≡ onward (row_at nodes) (level_of key) side w
             by (Before before) = read (omega (arith, before))
             by (Same same) = read (omega (arith, same))
             by (Behind behind) =
@@ -275,31 +284,8 @@ module _ (n : ℕ) (nodes : List Node) (reduced : IsReduced n nodes) where
                 omega (arith, behind, upto)) in
                 let at : is_at (level_of key) w ≡ false =
                 not_less _ _ (omega (arith, deep, other)) in
-                ap (λ (r : Row). r.low) (filled_waits behind)
-                ∙ sym (ap (λ b. cond b (row_at nodes w).low w) at)
-
-        pub side_high : (filled key hand (member_at (row_at nodes) key w)).high
-            ≡ onward (row_at nodes) (level_of key) true w
-        side_high = by (order w key)
-          where
-            read : w ≤ key → (filled key hand (member_at (row_at nodes) key w)).high
-                ≡ onward (row_at nodes) (level_of key) true w
-            read upto =
-                let at : is_at (level_of key) w ≡ true = is_less _ _ (omega (arith, upto)) in
-                ap (λ (r : Row). r.high) (filled_read upto)
-                ∙ sym (ap (λ b. cond b (row_at nodes w).high w) at)
-
-            by : Order w key → (filled key hand (member_at (row_at nodes) key w)).high
-                ≡ onward (row_at nodes) (level_of key) true w
-            by (Before before) = read (omega (arith, before))
-            by (Same same) = read (omega (arith, same))
-            by (Behind behind) =
-                let other : level_of w ≢ level_of key = λ same. (let upto : w ≤ key = last same in
-                omega (arith, behind, upto)) in
-                let at : is_at (level_of key) w ≡ false =
-                not_less _ _ (omega (arith, deep, other)) in
-                ap (λ (r : Row). r.high) (filled_waits behind)
-                ∙ sym (ap (λ b. cond b (row_at nodes w).high w) at)
+                ap (λ (r : Row). cond side r.high r.low) (filled_waits behind)
+                ∙ same_either side ∙ sym (ap (either w) at)
 
   -- members that look the same are the same
   pub same_member : (key : ℕ) → key < 2 ^ 63 → (v w : ℕ) → IsIn nodes v → IsIn nodes w

@@ -211,8 +211,7 @@ module _ (n : ℕ) (rule : Rule) (d : Diagrams) (roots : Tuple) (task : IsTask n
               let below : b.target < s = above b.target (g.grows.inner_right b k).1 in
               absurd (omega (arith, target, below))
           | inr (inl is) ↦ subst (λ (c : Arc). comes_before (wait ask) (record {
-            form =
-                (wait ask).form;
+            form = (wait ask).form;
             asker = asker_word c.source c.high;
           }) ≡ false) is
               (answers_itself n rule d roots task ask (wait ask).form refl)
@@ -317,8 +316,7 @@ module _ (n : ℕ) (rule : Rule) (d : Diagrams) (roots : Tuple) (task : IsTask n
         upto = λ t k. record {
           key = ask.key;
           last = last_key;
-          upto =
-              no_later_self (wait ask).form;
+          upto = no_later_self (wait ask).form;
         };
         taken = wait ask;
         last_is = refl;
@@ -359,8 +357,7 @@ module _ (n : ℕ) (rule : Rule) (d : Diagrams) (roots : Tuple) (task : IsTask n
         waits = sides_wait n rule d roots task ask (w.are_open ask (inl refl)) r others s
             (others_wait n rule d roots task (record {
               root = root;
-              newest =
-                  None;
+              newest = None;
             }) last r inner ends ask others w made next) (w.reach ask (inl refl))
             (first_apart last r inner ends ask others w none all_read root made);
         made = first_made last r inner ends ask others w none all_read root made;
@@ -373,8 +370,7 @@ module _ (n : ℕ) (rule : Rule) (d : Diagrams) (roots : Tuple) (task : IsTask n
         waits = sides_wait n rule d roots task ask (w.are_open ask (inl refl)) r others s
             (others_wait n rule d roots task (record {
               root = root;
-              newest =
-                  Some x;
+              newest = Some x;
             }) last r inner ends ask others w made next) (w.reach ask (inl refl))
             (new_apart last r inner ends ask others w none all_read root x made new room);
         made = new_made last r inner ends ask others w none all_read root x made new room;

@@ -2,30 +2,13 @@
 use Rattle.std.proofs.Common.{◌≡◌, ◌≢◌, ℕ, ◌<◌, ◌≤◌, Bool, true, false, refl, arith}
 use Rattle.std.specs.Prelude.{◌==◌, nat_lt}
 use Rattle.std.proofs.lemmas.Bool.Decides.{nat_tests}
+pub use Rattle.std.proofs.lemmas.Bool.{lt-ltb as is_less, le-ltb as not_less, ltb-true as less_is, ltb-false as from_is, eqb-true as same_is, eqb-false as other_is}
 
 pub is_same : (a b : ℕ) → a ≡ b → (a == b) ≡ true
 is_same a b same = grind (arith, nat_tests)
 
 pub is_other : (a b : ℕ) → a ≢ b → (a == b) ≡ false
 is_other a b other = grind (arith, nat_tests)
-
-pub same_is : (a b : ℕ) → (a == b) ≡ true → a ≡ b
-same_is a b test = grind (arith, nat_tests)
-
-pub other_is : (a b : ℕ) → (a == b) ≡ false → a ≢ b
-other_is a b test = grind (arith, nat_tests)
-
-pub is_less : (a b : ℕ) → a < b → nat_lt a b ≡ true
-is_less a b below = grind (arith, nat_tests)
-
-pub not_less : (a b : ℕ) → b ≤ a → nat_lt a b ≡ false
-not_less a b from = grind (arith, nat_tests)
-
-pub less_is : (a b : ℕ) → nat_lt a b ≡ true → a < b
-less_is a b test = grind (arith, nat_tests)
-
-pub from_is : (a b : ℕ) → nat_lt a b ≡ false → b ≤ a
-from_is a b test = grind (arith, nat_tests)
 
 -- a number is before another, the same, or behind it
 pub data Order (a b : ℕ) : Type 0 where

@@ -66,14 +66,12 @@ choice_picks d = record {
       (ended d x.second _ (record {
         first = is.first;
         second = is.second;
-        third =
-            no_member d.third;
+        third = no_member d.third;
       }))
       (ended d x.third _ (record {
         first = is.first;
         second = no_member d.second;
-        third =
-            is.third;
+        third = is.third;
       })))
       (either d (is_end x.second && (x.second == x.third)) _ _ tt is)) says;
   below = λ level side lows highs low high. one_side d side lows highs low high;

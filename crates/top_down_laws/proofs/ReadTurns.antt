@@ -104,15 +104,13 @@ module _ (n : ℕ) (rule : Rule) (d : Diagrams) (roots : Tuple) (task : IsTask n
             nx.upto,
             read (record {
               first = record { hand = Some nx.node; unread = nx.left };
-              second =
-                  r.second;
+              second = r.second;
               third = r.third;
             })
                 (record { first = nx.reading; second = w.reading.second; third = w.reading.third })
                 (λ o m. record {
                   first = omega (arith, nx.upto, later o m);
-                  second =
-                      (w.reach o m).second;
+                  second = (w.reach o m).second;
                   third = (w.reach o m).third;
                 }),
           );
@@ -128,16 +126,14 @@ module _ (n : ℕ) (rule : Rule) (d : Diagrams) (roots : Tuple) (task : IsTask n
               first = r.first;
               second = record {
                 hand = Some nx.node;
-                unread =
-                    nx.left;
+                unread = nx.left;
               };
               third = r.third;
             })
                 (record { first = w.reading.first; second = nx.reading; third = w.reading.third })
                 (λ o m. record {
                   first = (w.reach o m).first;
-                  second =
-                      omega (arith, nx.upto, later o m);
+                  second = omega (arith, nx.upto, later o m);
                   third = (w.reach o m).third;
                 }),
           );
@@ -161,8 +157,7 @@ module _ (n : ℕ) (rule : Rule) (d : Diagrams) (roots : Tuple) (task : IsTask n
                 (λ o m. record {
                   first = (w.reach o m).first;
                   second = (w.reach o m).second;
-                  third =
-                      omega (arith, nx.upto, later o m);
+                  third = omega (arith, nx.upto, later o m);
                 }),
           );
     }
@@ -201,8 +196,7 @@ module _ (n : ℕ) (rule : Rule) (d : Diagrams) (roots : Tuple) (task : IsTask n
       → IsMade n rule d roots root newest last inner ends (ask ∷ others) → IsBehind last a
       → IsMade n rule d roots root newest (Some a) inner ends (record {
         asker = ask.asker;
-        tuple =
-            ask.tuple;
+        tuple = ask.tuple;
         key = key;
       } ∷ others)
   asked_again root None last inner ends ask others key a made behind =
@@ -251,8 +245,7 @@ module _ (n : ℕ) (rule : Rule) (d : Diagrams) (roots : Tuple) (task : IsTask n
       (λ b bs. want r b.form ≡ false → next_key (filled_form r b.form) < 2 ^ 63
       → Remains n rule d roots place (record {
         form = read_on r b.form;
-        asker =
-            b.asker;
+        asker = b.asker;
       } ∷ bs) (Some b) r inner ends) m next
       (λ ask others w made first. again ask others w made first) none low
     where
@@ -262,8 +255,7 @@ module _ (n : ℕ) (rule : Rule) (d : Diagrams) (roots : Tuple) (task : IsTask n
           → want r (wait ask).form ≡ false → next_key (filled_form r (wait ask).form) < 2 ^ 63
           → Remains n rule d roots place (record {
             form = read_on r (wait ask).form;
-            asker =
-                ask.asker;
+            asker = ask.asker;
           } ∷ map wait others) (Some (wait ask)) r inner ends
       again ask others w made first none_wanted below =
           let opened : IsOpen n rule d ask = w.are_open ask (inl refl) in

@@ -31,8 +31,7 @@ side_opens s side (End value) others = others
 side_opens s side (Go y) others = record {
   asker = asker_word s side;
   tuple = y;
-  key =
-      least y;
+  key = least y;
 } ∷ others
 
 -- as it waits, and as an ask
@@ -50,8 +49,7 @@ pub side_opens-ask : (s : ℕ) (side : Bool) (goal : Goal) (others : List Open)
 side_opens-ask s side (End value) others = refl
 side_opens-ask s side (Go y) others = λ i. record {
   source = sym (source-word s side) i;
-  high =
-      sym (side-word s side) i;
+  high = sym (side-word s side) i;
   tuple = y;
 } ∷ map ask_of others
 
@@ -60,8 +58,7 @@ pub one_side : (s : ℕ) (side : Bool) (goal : Goal) (others : List Open) (o : O
     → Has o (side_opens s side goal others)
     → (Has o others) ⊎ ((y : Tuple) × (goal ≡ Go y) × (record {
       asker = asker_word s side;
-      tuple =
-          y;
+      tuple = y;
       key = least y;
     } ≡ o))
 one_side s side (End value) others o m = inl m
@@ -74,8 +71,7 @@ pub side_once : (s : ℕ) (side : Bool) (goal : Goal) (others : List Open)
 side_once s side (End value) others none once = once
 side_once s side (Go y) others none once = asks_added (record {
   asker = asker_word s side;
-  tuple =
-      y;
+  tuple = y;
   key = least y;
 }) others none once
 

@@ -56,8 +56,7 @@ root_is_asked n rule d roots task x goes =
         asker_is = refl;
         goes = goes;
         root_is = refl;
-        no_inner =
-            refl;
+        no_inner = refl;
         no_ends = refl;
       };
     }
@@ -145,8 +144,7 @@ unmapped f xs ys moved = (
   moved.is ∙ sym (map-apply_swaps f xs moved.moves),
   record {
     moves = moved.moves;
-    below =
-        subst (λ k. SwapsInRange k moved.moves) (length-map xs f) moved.below;
+    below = subst (λ k. SwapsInRange k moved.moves) (length-map xs f) moved.below;
     is = refl;
   },
 )

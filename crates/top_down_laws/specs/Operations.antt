@@ -19,8 +19,7 @@ abbrev pub canon_diagrams : ℕ → List Bool → List Bool → List Bool → Di
 canon_diagrams n t u v = record {
   first = canon_nodes n t;
   second = canon_nodes n u;
-  third =
-      canon_nodes n v;
+  third = canon_nodes n v;
 }
 
 -- a task whose table is that one
