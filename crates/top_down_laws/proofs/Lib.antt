@@ -1,0 +1,17 @@
+pub mod NumberTests
+pub mod MemberLaws
+pub mod FormLaws
+pub mod OrderLaws
+pub mod CountLaws
+pub mod StartLaws
+pub mod ReadLaws
+pub mod ReadTurns
+pub mod AskerLaws
+pub mod KnownTurn
+pub mod SideLaws
+pub mod NewTurn
+pub mod EndLaws
+pub mod CanonReduced
+pub mod PickLaws
+pub mod CanonTasks
+pub mod SoundLaws

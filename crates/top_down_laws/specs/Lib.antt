@@ -1,0 +1,5 @@
+pub mod Forms
+pub mod Readings
+pub mod Remains
+pub mod Laws
+pub mod Operations
