@@ -1,17 +1,16 @@
 -- Calls within a turn, one behind the other: what they leave and cost together.
-use Rattle.std.proofs.Common.{◌≡◌, ℕ, ◌+◌, ◌-◌, ◌*◌, ◌≤◌, ◌<◌, ◌∙◌, Bool, List, refl, subst, sym, ap, inl, inr, arith}
+use Rattle.std.proofs.Common.{◌≡◌, ℕ, ◌+◌, ◌≤◌, ◌∙◌, Bool, List, refl, subst, sym, ap, inl, inr, arith}
 use Rattle.std.specs.Prelude.{Result, Ok, Err, IsErrAnd, IfErr, OnOk, IsErrOf, IsTrue, ◌⊎◌, ◌≢◌}
 use Rattle.shelf_model.specs.declared.file_no.FileNo.{FileNo}
 use Rattle.shelf_model.specs.declared.sort_fault.SortFault.{SortFault}
 use Rattle.shelf_model.specs.declared.sort_fault.SortFault.TheVariants.{Shelf, Damaged, RunsSpent, RoomFull}
-use Rattle.shelf_model.specs.File.{File, IsKept}
+use Rattle.shelf_model.specs.File.{IsKept}
 use Rattle.shelf_model.specs.Folder.{file_in}
 use Rattle.shelf_model.specs.Calls.{Told}
-use Rattle.shelf_model.specs.Moments.{Ran, Stays}
+use Rattle.shelf_model.specs.Moments.{Ran}
 use Rattle.shelf_model.specs.Faults.{Faults}
 use Rattle.shelf_model.specs.World.{World, Moment, now}
 use Rattle.shelf_model.proofs.Runs.{told, ran_weakens}
-use Rattle.block_stream.specs.Reads.{Looked}
 use Rattle.arc_file.specs.Pairs.{DuringWrites, WroteBoth}
 use Rattle.arc_file.specs.declared.writer.ArcWriter.{ArcWriter}
 use Rattle.arc_file.specs.Writers.{inner_file, ends_file, SameFiles}
@@ -20,13 +19,12 @@ use Rattle.run_tiers.specs.declared.parts.Parts.{Parts}
 use Rattle.run_tiers.specs.Parts.{Took, IsTaken, OnlyTaken, Spilled, Paid, PaidParts}
 use Rattle.level_queue.specs.declared.queue.LevelQueue.{LevelQueue}
 use Rattle.level_queue.specs.Queues as queues
-use Rattle.sweep_core.specs.Accounts.{CanBeTaken, OnlyOwn, Leaves}
-use Rattle.sweep_core.proofs.Leaving.{own_stays, leaves_then, leaves_more, leaves_ok, leaves_err}
-use Rattle.top_down_sweep.specs.declared.start.Files.{Files}
+use Rattle.sweep_core.specs.Accounts.{CanBeTaken, OnlyOwn}
+use Rattle.sweep_core.proofs.Leaving.{leaves_then, leaves_more, leaves_ok, leaves_err}
 use Rattle.top_down_sweep.specs.declared.machine.Machine.{Machine}
 use Rattle.top_down_sweep.specs.declared.ask.Ask.{Ask}
 use Rattle.top_down_sweep.specs.declared.place.Place.{Place}
-use Rattle.top_down_sweep.specs.Sweeps.{files_in, IsMade, IsServed, IsDamageIn, machine_accounts, Refuses}
+use Rattle.top_down_sweep.specs.Sweeps.{IsServed, IsDamageIn, machine_accounts, Refuses}
 use Rattle.top_down_sweep.specs.Calls.{SameTask, Does}
 
 -- a task that stays, and stays again

@@ -4,3 +4,4 @@ pub mod Phases
 pub mod MemberLaws
 pub mod Numbers
 pub mod Starting
+pub mod FuelLaws

@@ -7,7 +7,6 @@ use Rattle.rec_words.specs.declared.node.Node.{Node}
 use Rattle.canon_file.specs.NodeFiles.{IsProper}
 use Rattle.top_down.specs.Tuples.{level_of_tuple}
 use Rattle.top_down_sweep.specs.declared.ask.Member.{Member}
-use Rattle.top_down_sweep.specs.declared.ask.Members.{Members}
 use Rattle.top_down_sweep.specs.declared.ask.Ask.{Ask}
 use Rattle.top_down_sweep.specs.declared.operand.Operands.{Operands}
 use Rattle.top_down_sweep.specs.Members.{is_node, wants, filled, waiting, all_waiting, least, want, all_filled, IsResolved}

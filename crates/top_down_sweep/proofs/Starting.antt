@@ -1,5 +1,5 @@
 -- What a start leaves: operands were looked at, and then the files of arcs were cut.
-use Rattle.std.proofs.Common.{◌≡◌, ℕ, ◌≤◌, ◌+◌, ◌∙◌, Bool, List, subst, sym, ap, arith}
+use Rattle.std.proofs.Common.{ℕ, ◌∙◌, Bool, subst, sym, ap}
 use Rattle.shelf_model.specs.declared.file_no.FileNo.{FileNo}
 use Rattle.shelf_model.specs.File.{IsKept}
 use Rattle.shelf_model.specs.Folder.{Folder, file_in}

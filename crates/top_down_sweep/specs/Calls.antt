@@ -5,7 +5,7 @@ use Rattle.shelf_model.specs.Faults.{Faults}
 use Rattle.shelf_model.specs.World.{World, file}
 use Rattle.arc_file.specs.declared.writer.ArcWriter.{ArcWriter}
 use Rattle.arc_file.specs.Writers.{inner_file, ends_file, AreInStep}
-use Rattle.level_queue.specs.Queues.{shown}
+use Rattle.level_queue.specs.Queues.{shown, last_of, IsNoLess}
 use Rattle.sweep_core.specs.Accounts.{Leaves}
 use Rattle.sweep_core.specs.Sweeps.{IsFirm}
 use Rattle.top_down_sweep.specs.declared.ask.Ask.{Ask}
@@ -13,6 +13,7 @@ use Rattle.top_down_sweep.specs.declared.place.Phase.{Phase}
 use Rattle.top_down_sweep.specs.declared.place.Phase.TheVariants.{Fresh, Asking, Ended}
 use Rattle.top_down_sweep.specs.declared.machine.Machine.{Machine}
 use Rattle.top_down_sweep.specs.declared.sweep.TopDownSweep.{TopDownSweep}
+use Rattle.top_down_sweep.specs.Items.{IsAsk, ask_cmp}
 use Rattle.top_down_sweep.specs.Soundness.{is_sound}
 use Rattle.top_down_sweep.specs.Sweeps.{files_in, machine_accounts, IsSoundMachine, Refuses}
 
@@ -45,7 +46,13 @@ pub record Does {S T : Type 0} (tells : S → Bool) (world : S → World) (count
   pub same : SameTask old new
   pub refused : IfErr result (Refuses new)
 
--- the first ask is shown, and is one that may be answered then
-pub record IsShown (is_first : Bool) (m : Machine) (a : Ask) : Type 0 where
+-- the ask is shown as the first one: it is a value that isn't less than the last one taken
+pub record IsFirst (m : Machine) (a : Ask) : Type 0 where
   pub shown_is : shown m.queue ≡ Some a
+  pub value : IsAsk a
+  pub no_less : IsNoLess ask_cmp (last_of m.queue) a
+
+-- and it is one that may be answered then
+pub record IsShown (is_first : Bool) (m : Machine) (a : Ask) : Type 0 where
+  pub first : IsFirst m a
   pub sound : is_sound is_first a ≡ true

@@ -5,4 +5,5 @@ pub mod Deepening
 pub mod Members
 pub mod Soundness
 pub mod Sweeps
+pub mod Fuel
 pub mod Calls

@@ -1,5 +1,5 @@
 //! The answering of an ask.
-ghost use Rattle.std.specs.Prelude.{◌≡◌, ◌<◌};
+ghost use Rattle.std.specs.Prelude.{◌≡◌, ◌<◌, ◌≤◌};
 ghost use Rattle.rec_words.specs.Words.{level_of};
 
 use crate::Operation;
@@ -17,7 +17,7 @@ impl<'r> Machine<'r> {
     ghost use Rattle.std.specs.Prelude.{◌+◌, Some, OnOk, IfOk, true, cond};
     ghost use Rattle.rec_words.specs.Words.{terminal_level};
     ghost use Rattle.arc_file.specs.Writers.{inner_count};
-    ghost use Rattle.level_queue.specs.Queues.{shown, last_of};
+    ghost use Rattle.level_queue.specs.Queues.{shown, last_of, load_of};
     ghost use Rattle.top_down.specs.Tuples.{level_of_tuple};
     ghost use Rattle.top_down_sweep.specs.Members.{IsResolved};
     ghost use Rattle.top_down_sweep.specs.Soundness.{is_none, is_sound, is_asker, next_numbered, identifier};
@@ -39,6 +39,8 @@ impl<'r> Machine<'r> {
         ensures does { Does S.tells S.world S.faults 56 3 shelf.old shelf.new self.old self.new result }
         ensures fit { OnOk result (IsFit S.tells S.world shelf.new self.new) }
         ensures rest { self.new ≡ record self.old { queue = self.new.queue; parts = self.new.parts } }
+        ensures load { OnOk result (load_of self.new.queue ≡ load_of self.old.queue) }
+        ensures last { OnOk result (last_of self.new.queue ≡ Some ask.now) }
     {
         self.take(ask, shelf)?;
         let again = Ask {
@@ -65,6 +67,9 @@ impl<'r> Machine<'r> {
         ensures does { Does S.tells S.world S.faults 105 6 shelf.old shelf.new self.old self.new result }
         ensures fit { OnOk result (IsFit S.tells S.world shelf.new self.new) }
         ensures phase { OnOk result (IsAsking self.new.place.phase) }
+        ensures operands { self.new.operands ≡ self.old.operands }
+        ensures load { OnOk result (load_of self.new.queue ≤ load_of self.old.queue + 1) }
+        ensures last { OnOk result (last_of self.new.queue ≡ Some ask.now) }
     {
         self.take(ask, shelf)?;
         if let Some(known) = asking.known(ask) {
@@ -145,6 +150,8 @@ impl<'r> Machine<'r> {
         ensures does { Does S.tells S.world S.faults 48 3 shelf.old shelf.new self.old self.new result }
         ensures fit { OnOk result (IsFit S.tells S.world shelf.new self.new) }
         ensures place { self.new.place ≡ self.old.place }
+        ensures operands { self.new.operands ≡ self.old.operands }
+        ensures load { OnOk result (load_of self.new.queue ≤ load_of self.old.queue + 1) }
         ensures last { last_of self.new.queue ≡ last_of self.old.queue }
     {
         let lows = members.on_side(false);
@@ -177,6 +184,7 @@ impl<'r> Machine<'r> {
         ensures does { Does S.tells S.world S.faults 48 3 shelf.old shelf.new self.old self.new result }
         ensures fit { OnOk result (IsFit S.tells S.world shelf.new self.new) }
         ensures rest { self.new ≡ record self.old { queue = self.new.queue; parts = self.new.parts } }
+        ensures load { OnOk result (load_of self.new.queue ≡ load_of self.old.queue + 1) }
         ensures last { last_of self.new.queue ≡ last_of self.old.queue }
     {
         let Some(key) = key_of(tuple) else {

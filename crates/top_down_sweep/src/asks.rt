@@ -4,11 +4,12 @@ use crate::machine::Machine;
 use shelf_model::{Shelf, SortFault};
 
 impl<'r> Machine<'r> {
-    ghost use Rattle.std.specs.Prelude.{◌≡◌, Some, OnOk, IfOk, IfSome};
-    ghost use Rattle.level_queue.specs.Queues.{shown, last_of, IsNoLess};
+    ghost use Rattle.std.specs.Prelude.{◌≡◌, ◌+◌, Some, OnOk, IfOk, IfSome};
+    ghost use Rattle.run_merge.specs.Lists.{Lightens};
+    ghost use Rattle.level_queue.specs.Queues.{shown, last_of, load_of, IsNoLess};
     ghost use Rattle.top_down_sweep.specs.Items.{ask_cmp};
     ghost use Rattle.top_down_sweep.specs.Sweeps.{IsAsking};
-    ghost use Rattle.top_down_sweep.specs.Calls.{Does, IsFit};
+    ghost use Rattle.top_down_sweep.specs.Calls.{Does, IsFit, IsFirst};
 
     /// The first ask, which stays.
     pub(crate) fn first_ask<S: Shelf>(&mut self, shelf: &mut S) -> Result<Option<Ask>, SortFault>
@@ -17,7 +18,8 @@ impl<'r> Machine<'r> {
         ensures fit { OnOk result (IsFit S.tells S.world shelf.new self.new) }
         ensures rest { self.new ≡ record self.old { queue = self.new.queue } }
         ensures last { last_of self.new.queue ≡ last_of self.old.queue }
-        ensures shown { IfOk result (λ found. IfSome found (λ a. shown self.new.queue ≡ Some a)) }
+        ensures load { OnOk result (load_of self.new.queue ≡ load_of self.old.queue) }
+        ensures shown { IfOk result (λ found. IfSome found (IsFirst self.new)) }
     {
         self.queue.peek(shelf)
     }
@@ -30,6 +32,7 @@ impl<'r> Machine<'r> {
         ensures does { Does S.tells S.world S.faults 8 0 shelf.old shelf.new self.old self.new result }
         ensures fit { OnOk result (IsFit S.tells S.world shelf.new self.new) }
         ensures rest { self.new ≡ record self.old { queue = self.new.queue; parts = self.new.parts } }
+        ensures load { OnOk result (Lightens (load_of self.old.queue) (load_of self.new.queue)) }
         ensures last { OnOk result (last_of self.new.queue ≡ Some ask.now) }
     {
         self.queue.take(&mut self.parts, shelf)?;
@@ -43,6 +46,7 @@ impl<'r> Machine<'r> {
         ensures does { Does S.tells S.world S.faults 48 3 shelf.old shelf.new self.old self.new result }
         ensures fit { OnOk result (IsFit S.tells S.world shelf.new self.new) }
         ensures rest { self.new ≡ record self.old { queue = self.new.queue; parts = self.new.parts } }
+        ensures load { OnOk result (load_of self.new.queue ≡ load_of self.old.queue + 1) }
         ensures last { last_of self.new.queue ≡ last_of self.old.queue }
     {
         self.queue.push(ask, &mut self.parts, shelf)

@@ -16,11 +16,11 @@ pub(crate) struct Operand<'r> {
 }
 
 impl<'r> Operand<'r> {
-    ghost use Rattle.std.specs.Prelude.{OnOk, IfErr};
+    ghost use Rattle.std.specs.Prelude.{◌+◌, OnOk, IfErr};
     ghost use Rattle.shelf_model.specs.Calls.{Told};
     ghost use Rattle.block_stream.specs.Reads.{Looked};
     ghost use Rattle.run_tiers.specs.Faults.{OnlySortShelf};
-    ghost use Rattle.node_file.specs.Readers.{trailer_of};
+    ghost use Rattle.node_file.specs.Readers.{trailer_of, left_of};
     ghost use Rattle.top_down_sweep.specs.Members.{wants};
     ghost use Rattle.top_down_sweep.specs.Sweeps.{IsOperand, IsDamageIn};
 
@@ -37,6 +37,7 @@ impl<'r> Operand<'r> {
     /// Reads the next node. That there is none, or that it comes behind the wanted one, is damage.
     pub(crate) fn read<S: Shelf>(&mut self, key: Uid, shelf: &mut S) -> Result<(), SortFault>
         ensures file { self.new.file ≡ self.old.file }
+        ensures fewer { OnOk result (left_of self.old.reader ≡ left_of self.new.reader + 1) }
         ensures is { OnOk result ((n : ℕ) → IsOperand n self.old → IsOperand n self.new) }
         ensures damage { IfErr result (λ e. (n : ℕ) → IsOperand n self.old → IsDamageIn self.old.file e) }
         ensures content { Told S.tells shelf.old shelf.new (Looked 1 (S.world shelf.old) (S.world shelf.new)) }

@@ -13,13 +13,14 @@ use sweep_core::Turn;
 use top_down::{Goal, Tuple};
 
 impl<'r> Machine<'r> {
-    ghost use Rattle.std.specs.Prelude.{◌<◌, None, IsTrue, OnOk, IfOk};
+    ghost use Rattle.std.specs.Prelude.{◌<◌, ◌+◌, None, IsTrue, OnOk, IfOk};
     ghost use Rattle.rec_words.specs.Words.{terminal_level};
     ghost use Rattle.top_down.specs.Tuples.{level_of_tuple};
     ghost use Rattle.level_queue.specs.Queues.{last_of};
-    ghost use Rattle.sweep_core.specs.Sweeps.{StaysEnded};
+    ghost use Rattle.sweep_core.specs.Sweeps.{Falls, StaysEnded};
     ghost use Rattle.top_down_sweep.specs.Soundness.{is_none};
     ghost use Rattle.top_down_sweep.specs.Sweeps.{IsSoundMachine, IsAsking, HasEnded, EndsAt};
+    ghost use Rattle.top_down_sweep.specs.Fuel.{unread, weight, machine_fuel};
     ghost use Rattle.top_down_sweep.specs.Calls.{Does, IsFit, IsShown, IsMachineInStep};
 
     /// Handles the first ask, or ends.
@@ -33,6 +34,7 @@ impl<'r> Machine<'r> {
         ensures does { Does S.tells S.world S.faults 113 6 shelf.old shelf.new self.old self.new result }
         ensures sound { OnOk result (IsSoundMachine self.new) }
         ensures in_step { OnOk result (IsTrue (S.tells shelf.new) → IsMachineInStep self.new (S.world shelf.new)) }
+        ensures falls { Falls (machine_fuel self.old) (machine_fuel self.new) result }
         ensures ends { IfOk result (λ turn. EndsAt turn self.new.place.phase) }
         ensures ended { HasEnded self.old.place.phase → StaysEnded shelf.old shelf.new self.old self.new result }
     {
@@ -54,6 +56,7 @@ impl<'r> Machine<'r> {
         ensures does { Does S.tells S.world S.faults 48 3 shelf.old shelf.new self.old self.new result }
         ensures sound { OnOk result (IsSoundMachine self.new) }
         ensures in_step { OnOk result (IsTrue (S.tells shelf.new) → IsMachineInStep self.new (S.world shelf.new)) }
+        ensures falls { Falls (machine_fuel self.old) (machine_fuel self.new) result }
         ensures ends { IfOk result (λ turn. EndsAt turn self.new.place.phase) }
     {
         let roots = operation.roots(&self.operands.roots());
@@ -74,6 +77,7 @@ impl<'r> Machine<'r> {
         ensures does { Does S.tells S.world S.faults 48 3 shelf.old shelf.new self.old self.new result }
         ensures fit { OnOk result (IsFit S.tells S.world shelf.new self.new) }
         ensures phase { OnOk result (IsAsking self.new.place.phase) }
+        ensures weight { OnOk result (weight self.new ≡ weight self.old + 1) }
     {
         let Some(key) = key_of(tuple) else {
             unreachable!();
@@ -102,6 +106,7 @@ impl<'r> Machine<'r> {
         ensures does { Does S.tells S.world S.faults 113 6 shelf.old shelf.new self.old self.new result }
         ensures sound { OnOk result (IsSoundMachine self.new) }
         ensures in_step { OnOk result (IsTrue (S.tells shelf.new) → IsMachineInStep self.new (S.world shelf.new)) }
+        ensures falls { Falls (machine_fuel self.old) (machine_fuel self.new) result }
         ensures ends { IfOk result (λ turn. EndsAt turn self.new.place.phase) }
     {
         let Some(ask) = self.first_ask(shelf)? else {
@@ -128,6 +133,7 @@ impl<'r> Machine<'r> {
         ensures does { Does S.tells S.world S.faults 105 6 shelf.old shelf.new self.old self.new result }
         ensures fit { OnOk result (IsFit S.tells S.world shelf.new self.new) }
         ensures phase { OnOk result (IsAsking self.new.place.phase) }
+        ensures falls { OnOk result (weight self.new < weight self.old) }
     {
         if self.queue.last() == Some(*ask) {
             return self.take(ask, shelf);
@@ -148,6 +154,7 @@ impl<'r> Machine<'r> {
         ensures does { Does S.tells S.world S.faults 1 0 shelf.old shelf.new self.old self.new result }
         ensures fit { OnOk result (IsFit S.tells S.world shelf.new self.new) }
         ensures rest { self.new ≡ record self.old { operands = self.new.operands } }
+        ensures falls { OnOk result (unread self.new.operands < unread self.old.operands) }
     {
         if self.operands.first.wants(&ask.members.first, ask.key) {
             return self.operands.first.read(ask.key, shelf);

@@ -1,7 +1,9 @@
-use Rattle.std.proofs.Common.{ap, sym, subst, arith}
+use Rattle.std.proofs.Common.{◌∙◌, ap, sym, subst, arith}
 use Rattle.top_down_sweep.specs.declared.place.Place.{Place}
+use Rattle.top_down_sweep.specs.declared.machine.Machine.{Machine}
 use Rattle.top_down_sweep.specs.Sweeps.{IsAsking}
-use Rattle.top_down_sweep.proofs.Doing.{then_more, refused_second, on_ok}
+use Rattle.top_down_sweep.proofs.Doing.{then_more, does_more, does_err, refused_second, on_ok}
+use Rattle.top_down_sweep.proofs.Phases.{still_asking}
 use Rattle.top_down_sweep.proofs.machine.Machine.answer.Goals as goal
 
 -- the ask was taken, and its arc was put
@@ -32,3 +34,13 @@ returns-clause-does g c = then_more g.S.Shelf.tells g.S.Shelf.world g.S.Shelf.fa
 pub returns-clause-phase : goal.returns-clause-phase
 returns-clause-phase g c = on_ok c.ask_side-2.result
     (subst (λ (p : Place). IsAsking p.phase) (sym c.ask_side-2.ensures.place) (subst (λ (p : Place). IsAsking p.phase) (sym c.ask_side.ensures.place) c.in_ok-uid.ensures.phase))
+
+-- it couldn't be taken
+pub returns-in_err-take-clause-does : goal.returns-in_err-take-clause-does
+returns-in_err-take-clause-does g c = does_more g.S.Shelf.tells g.S.Shelf.world g.S.Shelf.faults 8 105 0 6 _ _ c.args.self.now c.take.new.self c.from_residual.result (omega arith) (omega arith)
+    (does_err g.S.Shelf.tells g.S.Shelf.world g.S.Shelf.faults 8 0 _ _ c.args.self.now c.take.new.self c.from_residual.result c.take.result c.in_err-take.field-0.0 c.from_residual.ensures.1 c.in_err-take.was c.take.ensures.does)
+
+-- its arc was put, and asks are still answered
+pub returns-in-Some-clause-phase : goal.returns-in-Some-clause-phase
+returns-in-Some-clause-phase g c = on_ok c.put_inner.result (still_asking c.args.self.now c.put_inner.new.self _ c.requires.phase
+    (ap (λ (m : Machine). m.place) c.put_inner.ensures.rest ∙ ap (λ (m : Machine). m.place) c.take.ensures.rest))

@@ -1,7 +1,10 @@
-use Rattle.std.proofs.Common.{◌≡◌, ◌<◌, ◌^◌, subst, sym, ◌∙◌, arith}
+use Rattle.std.proofs.Common.{◌<◌, ◌^◌, subst, sym, ap, ◌∙◌, arith}
 use Rattle.rec_words.specs.Words.{IsNodeWord}
 use Rattle.top_down_sweep.specs.Members.{IsResolved, all_waiting, least}
-use Rattle.top_down_sweep.proofs.Doing.{does_more}
+use Rattle.top_down_sweep.proofs.Doing.{does_more, on_ok}
+use Rattle.top_down_sweep.proofs.Phases.{still_asking}
+use Rattle.top_down_sweep.proofs.FuelLaws.{falls_known, falls_taken, first_behind, no_more_waits, last_is, last_differs}
+use Rattle.top_down_sweep.specs.declared.machine.Machine.{Machine}
 use Rattle.top_down_sweep.proofs.MemberLaws.{and_left, next_later, all_resolved}
 use Rattle.top_down_sweep.proofs.machine.Machine.handle.Goals as goal
 
@@ -25,3 +28,24 @@ answer-requires-clause-resolved g c =
 
 pub returns-in-Some-clause-does : goal.returns-in-Some-clause-does
 returns-in-Some-clause-does g c = does_more g.S.Shelf.tells g.S.Shelf.world g.S.Shelf.faults 56 105 3 6 _ _ _ _ c.ask_again.result (omega arith) (omega arith) c.ask_again.ensures.does
+
+-- the last ask was taken once more
+pub returns-then-eq-clause-falls : goal.returns-then-eq-clause-falls
+returns-then-eq-clause-falls g c = falls_known c.args.self.now c.take.new.self c.args.ask.now c.take.result
+    (last_is _ c.args.ask.now c.last.result c.last.ensures (sym c.eq.ensures ∙ c.if-eq.true))
+    (ap (λ (m : Machine). m.operands) c.take.ensures.rest) c.take.ensures.load c.take.ensures.last
+
+pub returns-in-Some-clause-phase : goal.returns-in-Some-clause-phase
+returns-in-Some-clause-phase g c = on_ok c.ask_again.result (still_asking c.args.self.now c.ask_again.new.self _ c.requires.phase (ap (λ (m : Machine). m.place) c.ask_again.ensures.rest))
+
+-- it was taken, and another one was put
+pub returns-in-Some-clause-falls : goal.returns-in-Some-clause-falls
+returns-in-Some-clause-falls g c = falls_taken c.args.self.now c.ask_again.new.self c.args.ask.now c.ask_again.result
+    (first_behind c.args.self.now c.args.ask.now c.requires.fit.sound.served c.requires.shown.first (last_differs _ c.args.ask.now c.last.result c.last.ensures (sym c.eq.ensures ∙ c.if-eq.false)))
+    (ap (λ (m : Machine). m.operands) c.ask_again.ensures.rest) (no_more_waits c.args.self.now c.ask_again.new.self c.ask_again.result c.ask_again.ensures.load) c.ask_again.ensures.last
+
+-- it was taken, and at most two were put
+pub returns-in-None-clause-falls : goal.returns-in-None-clause-falls
+returns-in-None-clause-falls g c = falls_taken c.args.self.now c.answer.new.self c.args.ask.now c.answer.result
+    (first_behind c.args.self.now c.args.ask.now c.requires.fit.sound.served c.requires.shown.first (last_differs _ c.args.ask.now c.last.result c.last.ensures (sym c.eq.ensures ∙ c.if-eq.false)))
+    c.answer.ensures.operands c.answer.ensures.load c.answer.ensures.last

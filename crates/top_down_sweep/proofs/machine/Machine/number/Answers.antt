@@ -1,4 +1,4 @@
-use Rattle.std.proofs.Common.{◌≡◌, ◌≤◌, ◌<◌, ◌∙◌, ap, sym, subst, arith, rules}
+use Rattle.std.proofs.Common.{◌≡◌, ◌≤◌, ◌<◌, ◌∙◌, ap, sym, subst, arith}
 use Rattle.rec_words.specs.Words.{level_of, level_numbers}
 use Rattle.arc_file.specs.Writers.{inner_count}
 use Rattle.top_down_sweep.specs.declared.place.Numbered.{Numbered}

@@ -1,0 +1,6 @@
+use Rattle.top_down_sweep.proofs.FuelLaws.{first_shown}
+use Rattle.top_down_sweep.proofs.machine.Machine.first_ask.Goals as goal
+
+-- the ask that is answered is a value that isn't less than the last one taken, and is shown
+pub returns-clause-shown : goal.returns-clause-shown
+returns-clause-shown g c = first_shown _ _ c.peek.result c.peek.ensures.last c.peek.ensures.value c.peek.ensures.order c.peek.ensures.shown
