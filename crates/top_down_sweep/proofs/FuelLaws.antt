@@ -240,3 +240,12 @@ last_differs last a found is other same =
     let here : option_eq same_asks (Some a) (Some a) ≡ false = subst (λ o. option_eq same_asks o (Some a) ≡ false) (is ∙ same) other in
     let no : true ≡ false = sym (itself a) ∙ here in
     absurd (cc)
+
+-- an ask was taken, and each of its sides put one at most
+pub two_more : (old taken mid side new : Machine) (result : Result Unit SortFault) → Lightens (load_of old.queue) (load_of taken.queue) → mid.queue ≡ taken.queue
+    → load_of side.queue ≤ load_of mid.queue + 1 → OnOk result (load_of new.queue ≤ load_of side.queue + 1) → OnOk result (load_of new.queue ≤ load_of old.queue + 1)
+two_more old taken mid side new (Err e) lighter same first second = tt
+two_more old taken mid side new (Ok u) lighter same first second =
+    let one : load_of old.queue ≡ load_of taken.queue + 1 = lighter.by_one in
+    let waits : load_of mid.queue ≡ load_of taken.queue = ap (λ (q : LevelQueue Ask). load_of q) same in
+    omega (arith, one, waits, first, second)

@@ -5,3 +5,6 @@ pub mod MemberLaws
 pub mod Numbers
 pub mod Starting
 pub mod FuelLaws
+pub mod Holding
+pub mod OperandReading
+pub mod SoundAsks

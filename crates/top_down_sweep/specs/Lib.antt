@@ -6,4 +6,6 @@ pub mod Members
 pub mod Soundness
 pub mod Sweeps
 pub mod Fuel
+pub mod Waiting
+pub mod Damage
 pub mod Calls

@@ -46,6 +46,7 @@ impl<'r, O: Operation> TopDownSweep<'r, O> {
     ghost use Rattle.sweep_core.specs.Sweeps.{Falls, AtEnd, IsFirm, StaysEnded};
     ghost use Rattle.top_down_sweep.specs.Sweeps.{files_of, made_in, accounts, IsMade, HasMade, IsSound, MakesAtEnd, Refused};
     ghost use Rattle.top_down_sweep.specs.Fuel.{fuel_of};
+    ghost use Rattle.top_down_sweep.specs.Damage.{IsDamage};
     ghost use Rattle.top_down_sweep.specs.Calls.{IsInStep};
 
     /// Handles one ask or reads one node, or ends the sweep. Once it has ended, each further turn answers so and does
@@ -69,6 +70,7 @@ impl<'r, O: Operation> TopDownSweep<'r, O> {
         ensures leaves { Leaves S.tells S.world S.faults
             (accounts O) 113 6 shelf.old shelf.new self.old self.new result }
         ensures refused { IfErr result (Refused self.new) }
+        ensures damage { IfErr result (λ e. IsTrue (S.tells shelf.new) → IsDamage self.new (S.world shelf.new) e) }
     {
         self.machine.turn(&self.operation, shelf)
     }
@@ -77,8 +79,9 @@ impl<'r, O: Operation> TopDownSweep<'r, O> {
 impl<'r, O: Operation> Sweep<'r> for TopDownSweep<'r, O> {
     ghost use Rattle.std.specs.Prelude.{◌≡◌, Some};
     ghost use Rattle.arc_file.specs.declared.unreduced.Unreduced.{Unreduced};
-    ghost use Rattle.top_down_sweep.specs.Sweeps.{accounts, made_in, IsSound, Refused};
+    ghost use Rattle.top_down_sweep.specs.Sweeps.{accounts, made_in, IsSound};
     ghost use Rattle.top_down_sweep.specs.Fuel.{fuel_of};
+    ghost use Rattle.top_down_sweep.specs.Damage.{IsDamage};
     ghost use Rattle.top_down_sweep.specs.Calls.{IsInStep};
 
     ghost Job = { Unreduced };
@@ -91,7 +94,7 @@ impl<'r, O: Operation> Sweep<'r> for TopDownSweep<'r, O> {
 
     ghost accounts = { accounts O };
 
-    ghost damaged = { λ s world e. Refused s e };
+    ghost damaged = { IsDamage };
 
     ghost ready = { IsSound };
 
