@@ -16,6 +16,10 @@ use Rattle.level_queue.specs.declared.queue.LevelQueue.{LevelQueue}
 unfoldable pub held : {T : Type 0} → LevelQueue T → ℕ
 held q = sorters.held q.sorter
 
+-- how many items wait to be given, wherever they stand: it is known from the queue alone, whatever the folder answers
+unfoldable pub load_of : {T : Type 0} → LevelQueue T → ℕ
+load_of q = sorters.load_of q.sorter
+
 -- how many records its room has
 unfoldable pub room_of : {T : Type 0} → LevelQueue T → ℕ
 room_of q = sorters.room_of q.sorter

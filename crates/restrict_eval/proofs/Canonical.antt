@@ -10,7 +10,7 @@ use Rattle.canon_file.specs.Laws.{HasForm}
 use Rattle.node_file.specs.declared.reader.NodeReader.{NodeReader}
 use Rattle.node_file.specs.Nodes.{HasTrailer, HasNodes}
 use Rattle.node_file.specs.Readers.{file_of, trailer_of, AreLeft}
-use Rattle.restrict_eval.specs.Reading.{bytes_of, GivesOf}
+use Rattle.node_reading.specs.Reading.{bytes_of, GivesOf}
 use Rattle.restrict_eval.specs.Canonical.{IsCanonical, AreLeftBut}
 use Rattle.restrict_eval.proofs.Starting.{canonical_trailer}
 

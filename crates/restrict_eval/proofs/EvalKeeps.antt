@@ -31,7 +31,7 @@ use Rattle.std.proofs.lemmas.Bool.{cases_lt}
 use Rattle.std.proofs.lemmas.List.{length-map, append-nil}
 use Rattle.restrict_eval.specs.declared.following.Following.TheVariants.{To, Past, Answered}
 use Rattle.restrict_eval.specs.declared.eval.EvalSweep.{EvalSweep}
-use Rattle.restrict_eval.specs.Reading.{bytes_of, count_of, GivesNode}
+use Rattle.node_reading.specs.Reading.{bytes_of, count_of, GivesNode}
 use Rattle.restrict_eval.specs.Missing.{IsMissedAt}
 use Rattle.restrict_eval.specs.Turns.{AnswersAtEnd, Turns}
 use Rattle.restrict_eval.specs.Eval.{bits_of, fuel_at, answer_at, answer_of, parts_of, side_by, IsReady, IsInStep, IsPlaceAt, IsOn, IsOneOf, IsOnWay, IsFollowed, IsPath, IsPassed, OneTable, RemainsOf, evaluations}

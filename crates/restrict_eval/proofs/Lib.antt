@@ -1,4 +1,3 @@
-pub mod NodeReading
 pub mod Looking
 pub mod Starting
 pub mod Canonical

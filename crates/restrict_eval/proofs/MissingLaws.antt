@@ -7,7 +7,7 @@ use Rattle.rec_words.specs.declared.node.Node.{Node}
 use Rattle.block_stream.specs.Records.{record_at}
 use Rattle.arc_diagrams.proofs.WordLaws.{level-terminal}
 use Rattle.node_file.specs.Nodes.{identifier_at, IsNodeAt, HasTrailer}
-use Rattle.restrict_eval.specs.Reading.{count_of}
+use Rattle.node_reading.specs.Reading.{count_of}
 use Rattle.restrict_eval.specs.Missing.{IsNamed, IsMissedAt}
 use Rattle.restrict_eval.specs.Eval.{IsPath, IsPassed, side_by}
 use Rattle.restrict_eval.proofs.PathLaws.{by_side}

@@ -25,11 +25,11 @@ use Rattle.sweep_core.specs.declared.turn.Turn.TheVariants.{More, Ended}
 use Rattle.restrict_eval.specs.declared.comparing.Comparing.{Comparing}
 use Rattle.restrict_eval.specs.declared.comparing.Comparing.TheVariants.{Level, Ahead, Answered}
 use Rattle.restrict_eval.specs.declared.same.SameSweep.{SameSweep}
-use Rattle.restrict_eval.specs.Reading.{bytes_of, IsReading, IsNodeFault, IsFaultOf, GivesOf, GivesNode}
+use Rattle.node_reading.specs.Reading.{bytes_of, IsReading, IsNodeFault, IsFaultOf, GivesOf, GivesNode}
 use Rattle.restrict_eval.specs.Canonical.{IsCanonical}
 use Rattle.restrict_eval.specs.Turns.{AnswersAtEnd, Turns}
 use Rattle.restrict_eval.specs.Same.{fuel_at, answer_at, answer_of, parts_of, IsReady, IsInStep, Tables, AreCompared, RemainsOf, IsDamage, IsFaultOfEither, comparisons}
-use Rattle.restrict_eval.proofs.NodeReading.{looked_same, still_reading, node_fault_after}
+use Rattle.node_reading.proofs.NodeReading.{looked_same, still_reading, node_fault_after}
 use Rattle.restrict_eval.proofs.Looking.{faults_ok, faults_err, looked_leaves, still_leaves}
 
 -- tables that differ

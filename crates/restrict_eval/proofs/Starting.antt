@@ -23,7 +23,7 @@ use Rattle.node_file.specs.declared.reader.NodeReader.{NodeReader}
 use Rattle.node_file.specs.Nodes.{HasTrailer, HasNodes, IsTrailerDamage}
 use Rattle.node_file.specs.Readers.{file_of, trailer_of, Reads}
 use Rattle.sweep_core.specs.Sweeps.{IsNoDamage}
-use Rattle.restrict_eval.specs.Reading.{bytes_of, count_of, IsReading, IsTrailerFault}
+use Rattle.node_reading.specs.Reading.{bytes_of, count_of, IsReading, IsTrailerFault}
 
 -- the pointer that the trailer of a file of nodes has
 root_read : (n r root : ℕ) (xs : List Node) (bytes : List ℕ) → root < 2 ^ 64 → HasTrailer n r bytes → HasNodes n root xs bytes → r ≡ root
@@ -51,17 +51,6 @@ pub canonical_trailer : (n : ℕ) (t : List Bool) (r : NodeReader) (bytes : List
 canonical_trailer n t r bytes form nodes variables has count =
     let root : (trailer_of r).root ≡ canon_root n t = root_read n (trailer_of r).root (canon_root n t) (canon_nodes n t) bytes (root_fits n t form) has nodes in
     λ i. record { root = root i; count = count i; n = variables i }
-
--- a reader has read nothing at first
-pub starts_reading : (r : NodeReader) (f : FileNo) (n : ℕ) (old new : World) → file_of r ≡ f → (trailer_of r).n ≡ n → ((bytes : List ℕ) → Reads r bytes)
-    → HasTrailer n (trailer_of r).root (file old f).bytes × ((trailer_of r).count ≡ length (file old f).bytes / 24 - 1) → (file new f).bytes ≡ (file old f).bytes → IsReading r new
-starts_reading r f n old new place variables reads has same =
-    let bytes : bytes_of r new ≡ (file old f).bytes = ap (λ g. (file new g).bytes) place ∙ same in
-    record {
-      reads = reads (bytes_of r new);
-      trailer = subst (λ b. HasTrailer (trailer_of r).n (trailer_of r).root b) (sym bytes) (subst (λ m. HasTrailer m (trailer_of r).root (file old f).bytes) (sym variables) has.0);
-      count = has.1 ∙ ap count_of (sym bytes);
-    }
 
 -- why a start is refused
 pub trailer_fault : (f : FileNo) (n : ℕ) (old new : World) (e : StreamFault) → (file new f).bytes ≡ (file old f).bytes → IsDamageOf f e → IsTrailerDamage n (file new f).bytes e

@@ -6,7 +6,7 @@ use Rattle.canon_file.specs.Canon.{canon_nodes, canon_root, canon_bytes}
 use Rattle.canon_file.specs.Laws.{HasForm}
 use Rattle.node_file.specs.declared.reader.NodeReader.{NodeReader}
 use Rattle.node_file.specs.Readers.{trailer_of, AreLeft}
-use Rattle.restrict_eval.specs.Reading.{bytes_of}
+use Rattle.node_reading.specs.Reading.{bytes_of}
 
 -- the file that is read is the canonical one of the table
 pub record IsCanonical (n : ℕ) (t : List Bool) (r : NodeReader) (world : World) : Type 0 where

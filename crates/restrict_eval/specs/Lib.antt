@@ -1,4 +1,3 @@
-pub mod Reading
 pub mod Canonical
 pub mod Accounts
 pub mod Turns

@@ -3,7 +3,7 @@ use Rattle.std.specs.Prelude.{◌≡◌, ◌≢◌, ◌⊎◌, ℕ, ◌+◌, ◌
 use Rattle.rec_words.specs.Words.{node_size, IsNodeWord}
 use Rattle.block_stream.specs.Records.{record_at}
 use Rattle.node_file.specs.Nodes.{identifier_at}
-use Rattle.restrict_eval.specs.Reading.{count_of}
+use Rattle.node_reading.specs.Reading.{count_of}
 
 -- a node at that place, or nearer the file's end, names the pointer on one of its sides
 pub record IsNamed (bytes : List ℕ) (from pointer : ℕ) : Type 0 where

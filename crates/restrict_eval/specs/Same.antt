@@ -14,7 +14,7 @@ use Rattle.sweep_core.specs.Accounts.{Accounts}
 use Rattle.restrict_eval.specs.declared.comparing.Comparing.{Comparing}
 use Rattle.restrict_eval.specs.declared.comparing.Comparing.TheVariants.{Level, Ahead, Answered}
 use Rattle.restrict_eval.specs.declared.same.SameSweep.{SameSweep}
-use Rattle.restrict_eval.specs.Reading.{bytes_of, IsBegun, IsReading, IsNodeFault}
+use Rattle.node_reading.specs.Reading.{bytes_of, IsBegun, IsReading, IsNodeFault}
 use Rattle.restrict_eval.specs.Accounts.{reading_accounts}
 use Rattle.restrict_eval.specs.Turns.{Kind}
 use Rattle.restrict_eval.specs.Canonical.{IsCanonical, AreLeftBut}

@@ -3,9 +3,9 @@ ghost use Rattle.std.specs.Prelude.{◌≡◌};
 ghost use Rattle.rec_words.specs.Words.{level_of};
 
 use crate::following::{Following, Next};
-use crate::reading::next_node;
 use node_file::NodeReader;
 use node_file::laws::canonical_files_are_read;
+use node_reading::next_node;
 use rec_words::{NODE_SIZE, Node, Ptr, Rec};
 use run_merge::Parts;
 use shelf_model::{FileNo, Shelf, SortFault};
@@ -41,7 +41,7 @@ impl<'r> EvalSweep<'r> {
     ghost use Rattle.run_tiers.specs.Faults.{OnlySortShelf};
     ghost use Rattle.sweep_core.specs.Accounts.{Leaves};
     ghost use Rattle.sweep_core.specs.Sweeps.{Falls, AtEnd, StaysEnded, IsNoDamage};
-    ghost use Rattle.restrict_eval.specs.Reading.{count_of, IsTrailerFault, IsFaultOf};
+    ghost use Rattle.node_reading.specs.Reading.{count_of, IsTrailerFault, IsFaultOf};
     ghost use Rattle.restrict_eval.specs.Turns.{AnswersAtEnd, Turns};
     ghost use Rattle.restrict_eval.specs.Eval.{accounts, parts_of, bits_of, answer_of, turns_left, side_by, IsReady, IsInStep, OneTable, RemainsOf, IsDamage, evaluations};
 

@@ -4,7 +4,6 @@
 mod comparing;
 mod eval;
 mod following;
-mod reading;
 mod same;
 
 pub use eval::EvalSweep;

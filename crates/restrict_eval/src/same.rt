@@ -1,8 +1,8 @@
 //! Whether two diagrams stand for the same table.
 use crate::comparing::Comparing;
-use crate::reading::next_node;
 use node_file::NodeReader;
 use node_file::laws::canonical_files_are_read;
+use node_reading::next_node;
 use rec_words::{Node, Rec};
 use run_merge::Parts;
 use shelf_model::{FileNo, Shelf, SortFault};
@@ -35,7 +35,7 @@ impl<'r> SameSweep<'r> {
     ghost use Rattle.run_tiers.specs.Faults.{OnlySortShelf};
     ghost use Rattle.sweep_core.specs.Accounts.{Leaves};
     ghost use Rattle.sweep_core.specs.Sweeps.{Falls, AtEnd, StaysEnded, IsNoDamage};
-    ghost use Rattle.restrict_eval.specs.Reading.{count_of, IsTrailerFault};
+    ghost use Rattle.node_reading.specs.Reading.{count_of, IsTrailerFault};
     ghost use Rattle.restrict_eval.specs.Same.{accounts, parts_of, answer_of, turns_left, IsReady, IsInStep, Tables, RemainsOf, IsDamage, IsFaultOfEither, comparisons};
     ghost use Rattle.restrict_eval.specs.Turns.{AnswersAtEnd, Turns};
 

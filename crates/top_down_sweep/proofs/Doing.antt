@@ -1,10 +1,10 @@
 -- Calls within a turn, one behind the other: what they leave and cost together.
-use Rattle.std.proofs.Common.{◌≡◌, ℕ, ◌+◌, ◌-◌, ◌*◌, ◌≤◌, ◌<◌, ◌∙◌, Bool, List, refl, subst, sym, ap, inl, inr, arith}
+use Rattle.std.proofs.Common.{◌≡◌, ℕ, ◌+◌, ◌≤◌, ◌∙◌, Bool, List, refl, subst, sym, ap, inl, inr, arith}
 use Rattle.std.specs.Prelude.{Result, Ok, Err, IsErrAnd, IfErr, OnOk, IsErrOf, IsTrue, ◌⊎◌, ◌≢◌}
 use Rattle.shelf_model.specs.declared.file_no.FileNo.{FileNo}
 use Rattle.shelf_model.specs.declared.sort_fault.SortFault.{SortFault}
 use Rattle.shelf_model.specs.declared.sort_fault.SortFault.TheVariants.{Shelf, Damaged, RunsSpent, RoomFull}
-use Rattle.shelf_model.specs.File.{File, IsKept}
+use Rattle.shelf_model.specs.File.{IsKept}
 use Rattle.shelf_model.specs.Folder.{file_in}
 use Rattle.shelf_model.specs.Calls.{Told}
 use Rattle.shelf_model.specs.Moments.{Ran, Stays}
@@ -20,13 +20,15 @@ use Rattle.run_tiers.specs.declared.parts.Parts.{Parts}
 use Rattle.run_tiers.specs.Parts.{Took, IsTaken, OnlyTaken, Spilled, Paid, PaidParts}
 use Rattle.level_queue.specs.declared.queue.LevelQueue.{LevelQueue}
 use Rattle.level_queue.specs.Queues as queues
-use Rattle.sweep_core.specs.Accounts.{CanBeTaken, OnlyOwn, Leaves}
+use Rattle.sweep_core.specs.Accounts.{CanBeTaken, OnlyOwn}
 use Rattle.sweep_core.proofs.Leaving.{own_stays, leaves_then, leaves_more, leaves_ok, leaves_err}
-use Rattle.top_down_sweep.specs.declared.start.Files.{Files}
 use Rattle.top_down_sweep.specs.declared.machine.Machine.{Machine}
 use Rattle.top_down_sweep.specs.declared.ask.Ask.{Ask}
 use Rattle.top_down_sweep.specs.declared.place.Place.{Place}
-use Rattle.top_down_sweep.specs.Sweeps.{files_in, IsMade, IsServed, IsDamageIn, machine_accounts, Refuses}
+use Rattle.top_down_sweep.specs.Sweeps.{files_in, IsServed, IsDamageIn, machine_accounts, Refuses}
+use Rattle.sweep_core.specs.Sweeps.{IsNoDamage}
+use Rattle.top_down_sweep.specs.declared.operand.Operands.{Operands}
+use Rattle.top_down_sweep.specs.Damage.{IsMachineDamage}
 use Rattle.top_down_sweep.specs.Calls.{SameTask, Does}
 
 -- a task that stays, and stays again
@@ -51,6 +53,18 @@ damage_refuses q Shelf other damage = tt
 damage_refuses q (Damaged f at) other damage = inl damage
 damage_refuses q RunsSpent other damage = damage
 damage_refuses q RoomFull other damage = absurd damage
+
+-- no damage is said
+no_damage : (q : Machine) (world : World) (e : SortFault) → IsNoDamage e → IsMachineDamage q world e
+no_damage q world Shelf none = tt
+no_damage q world (Damaged f at) none = absurd none
+no_damage q world RunsSpent none = tt
+no_damage q world RoomFull none = tt
+
+-- nor by a full room
+pub full_room : {T : Type 0} (result : Result T SortFault) → IfErr result (λ e. e ≡ RoomFull) → IfErr result IsNoDamage
+full_room (Ok x) is = tt
+full_room (Err e) is = subst IsNoDamage (sym is) tt
 
 -- the files whose parts were taken aren't those that are made
 own_took : (inner ends : FileNo) (before after : Parts) (old m : Moment) → ¬ CanBeTaken before.step before.next inner → ¬ CanBeTaken before.step before.next ends
@@ -83,6 +97,7 @@ module _ {S : Type 0} (tells : S → Bool) (world : S → World) (counts : S →
     leaves = leaves_then tells world counts machine_accounts m n a b s t u p q r one two x.leaves y.leaves;
     same = task_then p q r x.same y.same;
     refused = y.refused;
+    damage = y.damage;
   }
 
   -- a call costs no more than what is more
@@ -92,6 +107,7 @@ module _ {S : Type 0} (tells : S → Bool) (world : S → World) (counts : S →
     leaves = leaves_more tells world counts machine_accounts m n a b s t p q result calls parts x.leaves;
     same = x.same;
     refused = x.refused;
+    damage = x.damage;
   }
 
   -- what is answered instead where nothing failed
@@ -101,6 +117,7 @@ module _ {S : Type 0} (tells : S → Bool) (world : S → World) (counts : S →
     leaves = leaves_ok tells world counts machine_accounts m a s t p q result x d.leaves;
     same = d.same;
     refused = tt;
+    damage = tt;
   }
 
   -- a refusal that is handed on
@@ -111,6 +128,7 @@ module _ {S : Type 0} (tells : S → Bool) (world : S → World) (counts : S →
     leaves = leaves_err tells world counts machine_accounts m a s t p q (Err f) before e is was d.leaves;
     same = d.same;
     refused = subst (λ r. IfErr r (Refuses q)) (was ∙ ap Err (sym is)) d.refused;
+    damage = subst (λ r. IfErr r (λ e. IsTrue (tells t) → IsMachineDamage q (world t) e)) (was ∙ ap Err (sym is)) d.damage;
   }
 
   -- two calls, of which the second one was refused, and two that succeeded
@@ -131,9 +149,9 @@ module _ {S : Type 0} (tells : S → Bool) (world : S → World) (counts : S →
       does_ok most parts s u p r two x (then_more m n a b most parts s t u p q r one two calls more first second)
 
   -- a refusal where no call failed
-  pub does_refused : {A B : Type 0} (m a : ℕ) (s t : S) (p q : Machine) (result : Result A SortFault) (e : SortFault) → e ≢ Shelf → Refuses q e
+  pub does_refused : {A B : Type 0} (m a : ℕ) (s t : S) (p q : Machine) (result : Result A SortFault) (e : SortFault) → e ≢ Shelf → Refuses q e → (IsTrue (tells t) → IsMachineDamage q (world t) e)
       → Does tells world counts m a s t p q result → Does tells world counts m a s t p q (err {T = B} e)
-  does_refused m a s t p q result e other why d = record {
+  does_refused m a s t p q result e other why damage d = record {
     leaves = record {
       made = d.leaves.made;
       making = d.leaves.making;
@@ -151,6 +169,7 @@ module _ {S : Type 0} (tells : S → Bool) (world : S → World) (counts : S →
     };
     same = d.same;
     refused = why;
+    damage = damage;
   }
     where
       err_is : {X : Type 0} → IsErrOf (err {T = X} e) Shelf → e ≡ Shelf
@@ -197,8 +216,13 @@ module _ {S : Type 0} (tells : S → Bool) (world : S → World) (counts : S →
       variables_are = variables;
     };
     refused = by result cause;
+    damage = none result cause;
   }
     where
+      none : {X : Type 0} (r : Result X SortFault) → IfErr r (λ e. e ≡ Shelf) → IfErr r (λ e. IsTrue (tells t) → IsMachineDamage (record p { place = place; writer = w }) (world t) e)
+      none (Ok x) is = tt
+      none (Err e) is = λ told. no_damage _ _ e (subst IsNoDamage (sym is) tt)
+
       by : {X : Type 0} (r : Result X SortFault) → IfErr r (λ e. e ≡ Shelf) → IfErr r (Refuses (record p { place = place; writer = w }))
       by (Ok x) is = tt
       by (Err e) is = subst (Refuses (record p { place = place; writer = w })) (sym is) tt
@@ -207,9 +231,9 @@ module _ {S : Type 0} (tells : S → Bool) (world : S → World) (counts : S →
   pub does_spilled : {T : Type 0} (m a : ℕ) (s t : S) (p : Machine) (q : LevelQueue Ask) (parts : Parts) (result : Result T SortFault) → IsServed p
       → Told tells s t (Spilled p.parts parts (world s) (world t)) → (IsTrue (tells t) → Paid m (queues.credit p.queue) (queues.credit q) (world s) (world t))
       → Took p.parts parts → PaidParts a (queues.stock p.queue) (queues.stock q) p.parts parts
-      → OnlySortShelf (counts s) (counts t) result → IfErr result (Refuses (record p { queue = q; parts = parts }))
+      → OnlySortShelf (counts s) (counts t) result → IfErr result (Refuses (record p { queue = q; parts = parts })) → IfErr result IsNoDamage
       → Does tells world counts m a s t p (record p { queue = q; parts = parts }) result
-  does_spilled m a s t p q parts result served did paid took spent faults refused = record {
+  does_spilled m a s t p q parts result served did paid took spent faults refused undamaged = record {
     leaves = record {
       made = λ f mine. mine;
       making = λ f mine. mine;
@@ -222,4 +246,29 @@ module _ {S : Type 0} (tells : S → Bool) (world : S → World) (counts : S →
     };
     same = record { files_are = refl; variables_are = refl };
     refused = refused;
+    damage = none result undamaged;
+  }
+    where
+      none : {X : Type 0} (r : Result X SortFault) → IfErr r IsNoDamage → IfErr r (λ e. IsTrue (tells t) → IsMachineDamage (record p { queue = q; parts = parts }) (world t) e)
+      none (Ok x) is = tt
+      none (Err e) is = λ told. no_damage _ _ e is
+
+  -- an operand was looked at
+  pub does_looked : {T : Type 0} (n : ℕ) (s t : S) (p : Machine) (o : Operands) (result : Result T SortFault) → files_in (record p { operands = o }) ≡ files_in p
+      → Told tells s t (Looked n (world s) (world t)) → OnlySortShelf (counts s) (counts t) result → IfErr result (Refuses (record p { operands = o }))
+      → IfErr result (λ e. IsTrue (tells t) → IsMachineDamage (record p { operands = o }) (world t) e) → Does tells world counts n 0 s t p (record p { operands = o }) result
+  does_looked n s t p o result files did faults refused damage = record {
+    leaves = record {
+      made = λ f mine. mine;
+      making = λ f mine. mine;
+      step_is = refl;
+      later = omega arith;
+      content = told tells s t _ _ did (λ _ looked. ran_weakens (world s) (world t) (Stays (now (world s))) _ (λ m same. own_stays _ p.parts.step p.parts.next (now (world s)) m same) looked.run);
+      calls = λ is_told. (let few = (did.did is_told).few in omega (arith, few));
+      spent = omega arith;
+      faults = faults;
+    };
+    same = record { files_are = files; variables_are = refl };
+    refused = refused;
+    damage = damage;
   }

@@ -1,5 +1,5 @@
 -- The forms of asks' records.
-use Rattle.std.proofs.Common.{◌≡◌, subst, sym, ℕ, ap}
+use Rattle.std.proofs.Common.{◌≡◌, subst, sym, ℕ}
 use Rattle.rec_words.specs.Words.{IsPointer}
 use Rattle.top_down_sweep.specs.declared.ask.Member.{Member}
 use Rattle.top_down_sweep.specs.Items.{IsMember}

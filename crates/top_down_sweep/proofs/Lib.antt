@@ -4,3 +4,7 @@ pub mod Phases
 pub mod MemberLaws
 pub mod Numbers
 pub mod Starting
+pub mod FuelLaws
+pub mod Holding
+pub mod OperandReading
+pub mod SoundAsks

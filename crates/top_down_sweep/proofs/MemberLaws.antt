@@ -7,7 +7,6 @@ use Rattle.rec_words.specs.declared.node.Node.{Node}
 use Rattle.canon_file.specs.NodeFiles.{IsProper}
 use Rattle.top_down.specs.Tuples.{level_of_tuple}
 use Rattle.top_down_sweep.specs.declared.ask.Member.{Member}
-use Rattle.top_down_sweep.specs.declared.ask.Members.{Members}
 use Rattle.top_down_sweep.specs.declared.ask.Ask.{Ask}
 use Rattle.top_down_sweep.specs.declared.operand.Operands.{Operands}
 use Rattle.top_down_sweep.specs.Members.{is_node, wants, filled, waiting, all_waiting, least, want, all_filled, IsResolved}
@@ -31,7 +30,7 @@ or_right : (b c : Bool) → (b || c) ≡ false → c ≡ false
 or_right true c none = absurd (cc)
 or_right false c none = none
 
-equal : (a b : ℕ) → (a == b) ≡ true → a ≡ b
+pub equal : (a b : ℕ) → (a == b) ≡ true → a ≡ b
 equal a b test = grind (arith, nat_tests)
 
 unequal : (a b : ℕ) → a ≢ b → (a == b) ≡ false
@@ -128,13 +127,13 @@ module _ (n : ℕ) (o : Operands) (a : Ask) (are : AreOperands n o) (keyed : is_
   all_stand : (stands a.key a.members.first && (stands a.key a.members.second && stands a.key a.members.third)) ≡ true
   all_stand = and_right _ _ keyed
 
-  first_stands : Standing a.key (filled a.key o.first.hand a.members.first)
+  pub first_stands : Standing a.key (filled a.key o.first.hand a.members.first)
   first_stands = filled_stands n a.key o.first.hand a.members.first are.first.hand_is (and_left _ _ all_stand)
 
-  second_stands : Standing a.key (filled a.key o.second.hand a.members.second)
+  pub second_stands : Standing a.key (filled a.key o.second.hand a.members.second)
   second_stands = filled_stands n a.key o.second.hand a.members.second are.second.hand_is (and_left _ _ (and_right _ _ all_stand))
 
-  third_stands : Standing a.key (filled a.key o.third.hand a.members.third)
+  pub third_stands : Standing a.key (filled a.key o.third.hand a.members.third)
   third_stands = filled_stands n a.key o.third.hand a.members.third are.third.hand_is (and_right _ _ (and_right _ _ all_stand))
 
   -- what is read next for an ask whose node is at hand comes later

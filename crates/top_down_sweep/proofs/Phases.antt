@@ -1,16 +1,17 @@
 -- What is true in a phase stays while asks are answered.
-use Rattle.std.proofs.Common.{◌≡◌, ℕ, ◌≤◌, ◌<◌, ◌+◌, ◌^◌, subst, sym, arith, refl, Bool, true, false, cond}
-use Rattle.std.specs.Prelude.{Option, Some, None, IfSome, ◌==◌}
-use Rattle.std.proofs.lemmas.Bool.Decides.{nat_tests}
-use Rattle.rec_words.specs.Words.{level_of, node_word, level_numbers}
+use Rattle.std.proofs.Common.{◌≡◌, ◌∙◌, ap, subst, sym}
+use Rattle.std.specs.Prelude.{Option}
 use Rattle.arc_file.specs.declared.writer.ArcWriter.{ArcWriter}
-use Rattle.arc_file.specs.Writers.{inner_count, inner_file, ends_file}
 use Rattle.top_down_sweep.specs.declared.ask.Ask.{Ask}
-use Rattle.top_down_sweep.specs.declared.place.Numbered.{Numbered}
 use Rattle.top_down_sweep.specs.declared.place.Phase.{Phase}
+use Rattle.top_down_sweep.specs.declared.place.Place.{Place}
+use Rattle.top_down_sweep.specs.declared.machine.Machine.{Machine}
 use Rattle.top_down_sweep.specs.declared.place.Phase.TheVariants.{Fresh, Asking, Ended}
+use Rattle.shelf_model.specs.World.{World}
+use Rattle.arc_file.specs.Writers.{AreInStep}
 use Rattle.top_down_sweep.specs.Sweeps.{IsPhaseAt, IsAsking}
-use Rattle.top_down_sweep.specs.Soundness.{next_number}
+use Rattle.top_down_sweep.specs.Waiting.{HoldsSome, HasNoHands}
+use Rattle.top_down_sweep.specs.Calls.{IsStepAt, IsMachineInStep}
 
 -- whatever was taken
 pub phase_taken : (w : ArcWriter) (last now : Option Ask) (phase : Phase) → IsAsking phase → IsPhaseAt w last phase → IsPhaseAt w now phase
@@ -21,3 +22,24 @@ phase_taken w last now (Ended made) is at = absurd is
 -- asks are answered in that phase
 pub is_asking : (phase : Phase) (s : _) → phase ≡ Asking s → IsAsking phase
 is_asking phase s same = subst IsAsking (sym same) tt
+
+-- they are where the place stays
+pub still_asking : (p q : Machine) (s : _) → p.place.phase ≡ Asking s → q.place ≡ p.place → IsAsking q.place.phase
+still_asking p q s is same = is_asking q.place.phase s (ap (λ (place : Place). place.phase) same ∙ is)
+
+-- what a folder holds while asks are answered
+pub step_at : (m : Machine) (world : World) → IsAsking m.place.phase → AreInStep m.writer world → HoldsSome 1 m world → IsMachineInStep m world
+step_at m world is writes holds = by m.place.phase is
+  where
+    by : (phase : Phase) → IsAsking phase → IsStepAt phase m world
+    by Fresh is = absurd is
+    by (Asking s) is = (writes, holds)
+    by (Ended made) is = absurd is
+
+-- what it holds before the root is asked for
+pub fresh_step : (m : Machine) (world : World) → m.place.phase ≡ Fresh → IsMachineInStep m world → AreInStep m.writer world × HoldsSome 0 m world × HasNoHands m.operands
+fresh_step m world is step = subst (λ p. IsStepAt p m world) is step
+
+-- and while asks are answered
+pub asking_step : (m : Machine) (world : World) (s : _) → m.place.phase ≡ Asking s → IsMachineInStep m world → AreInStep m.writer world × HoldsSome 1 m world
+asking_step m world s is step = subst (λ p. IsStepAt p m world) is step

@@ -1,14 +1,18 @@
 -- What a start leaves: operands were looked at, and then the files of arcs were cut.
-use Rattle.std.proofs.Common.{◌≡◌, ℕ, ◌≤◌, ◌+◌, ◌∙◌, Bool, List, subst, sym, ap, arith}
+use Rattle.node_file.specs.Readers.{file_of}
+use Rattle.std.proofs.Common.{refl, arith, ◌≡◌, ◌≢◌, ℕ, ◌≤◌, ◌∙◌, Bool, subst, sym, ap}
 use Rattle.shelf_model.specs.declared.file_no.FileNo.{FileNo}
-use Rattle.shelf_model.specs.File.{IsKept}
+use Rattle.shelf_model.specs.File.{File, IsKept}
 use Rattle.shelf_model.specs.Folder.{Folder, file_in}
 use Rattle.shelf_model.specs.Calls.{Told}
 use Rattle.shelf_model.specs.Moments.{Ran, Stays}
-use Rattle.shelf_model.specs.World.{World, Moment, now}
+use Rattle.shelf_model.specs.World.{World, Moment, now, file}
 use Rattle.shelf_model.proofs.Runs.{told, told_then, ran_weakens, ran_joins, ran_end}
 use Rattle.block_stream.specs.Reads.{Looked}
 use Rattle.arc_file.specs.Pairs.{DuringCuts, CutBoth}
+use Rattle.node_file.specs.declared.reader.NodeReader.{NodeReader}
+use Rattle.node_reading.specs.Reading.{IsReading}
+use Rattle.node_reading.proofs.NodeReading.{still_reading}
 
 -- while no file changes, none is cut
 uncut : (inner ends : FileNo) (old m : Moment) → Stays old m → DuringCuts inner 0 ends 0 old m
@@ -41,3 +45,17 @@ module _ {S : Type 0} (tells : S → Bool) (world : S → World) (inner ends : F
       (ran_weakens (world s) (world t) (Stays (now (world s))) (DuringCuts inner 0 ends 0 (now (world s))) (λ m stays. uncut inner ends (now (world s)) m stays) looked.run)
       (ran_weakens (world t) (world u) (DuringCuts inner 0 ends 0 (now (world t))) (DuringCuts inner 0 ends 0 (now (world s)))
       (λ m during. cut_since inner ends (now (world s)) (now (world t)) m same during) cut.run))
+
+-- a reader has read its file as it is
+pub still_after : (n : ℕ) (r : NodeReader) (old new : World) → Looked n old new → IsReading r old → IsReading r new
+still_after n r old new looked reading =
+    still_reading r r old new refl (ap (λ (d : Folder). (file_in d (file_of r)).bytes) (ran_end old new (Stays (now old)) looked.run)) reading reading.reads
+
+-- no more calls were made than more
+pub looked_few : {S : Type 0} (tells : S → Bool) (world : S → World) (m n : ℕ) (s t : S) → m ≤ n → Told tells s t (Looked m (world s) (world t)) → Told tells s t (Looked n (world s) (world t))
+looked_few tells world m n s t more did = told tells s t _ _ did (λ _ looked. record { run = looked.run; few = (let few = looked.few in omega (arith, few, more)) })
+
+-- each file but the two that were cut is as it was
+pub others_uncut : (n : ℕ) (inner ends f : FileNo) (old new : World) → CutBoth n inner 0 ends 0 old new → f ≢ inner → f ≢ ends → (file new f).bytes ≡ (file old f).bytes
+others_uncut n inner ends f old new cut first second =
+    ap (λ (x : File). x.bytes) ((ran_end old new (DuringCuts inner 0 ends 0 (now old)) cut.run).others f first second)

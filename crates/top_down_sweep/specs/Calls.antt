@@ -3,9 +3,8 @@ use Rattle.std.specs.Prelude.{◌≡◌, ℕ, Bool, IsTrue, Result, IfErr, Some,
 use Rattle.shelf_model.specs.declared.sort_fault.SortFault.{SortFault}
 use Rattle.shelf_model.specs.Faults.{Faults}
 use Rattle.shelf_model.specs.World.{World, file}
-use Rattle.arc_file.specs.declared.writer.ArcWriter.{ArcWriter}
 use Rattle.arc_file.specs.Writers.{inner_file, ends_file, AreInStep}
-use Rattle.level_queue.specs.Queues.{shown}
+use Rattle.level_queue.specs.Queues.{shown, last_of, IsNoLess}
 use Rattle.sweep_core.specs.Accounts.{Leaves}
 use Rattle.sweep_core.specs.Sweeps.{IsFirm}
 use Rattle.top_down_sweep.specs.declared.ask.Ask.{Ask}
@@ -13,17 +12,21 @@ use Rattle.top_down_sweep.specs.declared.place.Phase.{Phase}
 use Rattle.top_down_sweep.specs.declared.place.Phase.TheVariants.{Fresh, Asking, Ended}
 use Rattle.top_down_sweep.specs.declared.machine.Machine.{Machine}
 use Rattle.top_down_sweep.specs.declared.sweep.TopDownSweep.{TopDownSweep}
+use Rattle.top_down_sweep.specs.Items.{IsAsk, ask_cmp}
 use Rattle.top_down_sweep.specs.Soundness.{is_sound}
+use Rattle.top_down_sweep.specs.Waiting.{HasNoHands, HoldsSome, HoldsFirst}
+use Rattle.top_down_sweep.specs.Damage.{IsMachineDamage}
 use Rattle.top_down_sweep.specs.Sweeps.{files_in, machine_accounts, IsSoundMachine, Refuses}
 
--- its files of arcs end behind the arcs that were put; once it has ended, they stay whatever a stop leaves
-abbrev pub IsStepAt : Phase → ArcWriter → World → Type 0
-IsStepAt Fresh w world = AreInStep w world
-IsStepAt (Asking s) w world = AreInStep w world
-IsStepAt (Ended made) w world = IsFirm (file world (inner_file w)) × IsFirm (file world (ends_file w))
+-- its files of arcs end behind the arcs that were put, and asks that fit wait; once it has ended, the files stay
+-- whatever a stop leaves
+abbrev pub IsStepAt : Phase → Machine → World → Type 0
+IsStepAt Fresh m world = AreInStep m.writer world × HoldsSome 0 m world × HasNoHands m.operands
+IsStepAt (Asking s) m world = AreInStep m.writer world × HoldsSome 1 m world
+IsStepAt (Ended made) m world = IsFirm (file world (inner_file m.writer)) × IsFirm (file world (ends_file m.writer))
 
 abbrev pub IsMachineInStep : Machine → World → Type 0
-IsMachineInStep m world = IsStepAt m.place.phase m.writer world
+IsMachineInStep m world = IsStepAt m.place.phase m world
 
 abbrev pub IsInStep : {O : Type 0} → TopDownSweep O → World → Type 0
 IsInStep s world = IsMachineInStep s.machine world
@@ -33,19 +36,34 @@ pub record IsFit {S : Type 0} (tells : S → Bool) (world : S → World) (shelf 
   pub sound : IsSoundMachine m
   pub at_work : IsTrue (tells shelf) → AreInStep m.writer (world shelf)
 
+-- where the folder tells its content, asks that fit wait, and no more than so many while no tuple has a number
+abbrev pub HoldsAt : {S : Type 0} → (S → Bool) → (S → World) → ℕ → S → Machine → Type 0
+HoldsAt tells world most shelf m = IsTrue (tells shelf) → HoldsSome most m (world shelf)
+
+-- and that ask is the first of them
+abbrev pub HoldsFirstAt : {S : Type 0} → (S → Bool) → (S → World) → S → Machine → Ask → Type 0
+HoldsFirstAt tells world shelf m a = IsTrue (tells shelf) → HoldsFirst a m (world shelf)
+
 -- what no call changes
 pub record SameTask (old new : Machine) : Type 0 where
   pub files_are : files_in new ≡ files_in old
   pub variables_are : new.place.variables ≡ old.place.variables
 
--- what a call leaves and costs, and why it is refused
+-- what a call leaves and costs, why it is refused, and where damage is then
 pub record Does {S T : Type 0} (tells : S → Bool) (world : S → World) (counts : S → Faults)
     (most_calls most_parts : ℕ) (before after : S) (old new : Machine) (result : Result T SortFault) : Type 0 where
   pub leaves : Leaves tells world counts machine_accounts most_calls most_parts before after old new result
   pub same : SameTask old new
   pub refused : IfErr result (Refuses new)
+  pub damage : IfErr result (λ e. IsTrue (tells after) → IsMachineDamage new (world after) e)
 
--- the first ask is shown, and is one that may be answered then
-pub record IsShown (is_first : Bool) (m : Machine) (a : Ask) : Type 0 where
+-- the ask is shown as the first one: it is a value that isn't less than the last one taken
+pub record IsFirst (m : Machine) (a : Ask) : Type 0 where
   pub shown_is : shown m.queue ≡ Some a
+  pub value : IsAsk a
+  pub no_less : IsNoLess ask_cmp (last_of m.queue) a
+
+-- and it is one that may be answered then
+pub record IsShown (is_first : Bool) (m : Machine) (a : Ask) : Type 0 where
+  pub first : IsFirst m a
   pub sound : is_sound is_first a ≡ true

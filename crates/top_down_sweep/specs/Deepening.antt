@@ -11,7 +11,7 @@ use Rattle.top_down.specs.declared.tuple.Tuple.{Tuple}
 use Rattle.top_down.specs.declared.tuple.Goal.{Goal}
 use Rattle.top_down.specs.declared.tuple.Goal.TheVariants.{End, Go}
 use Rattle.top_down.specs.Tuples.{unused, level_of_tuple}
-use Rattle.top_down.specs.Operations.{is_end, is_one, decides, ends_or, two, strong, sorted, product_goal, product_rule, choice_goal, choice_rule, quantify_goal, quantify_rule, restrict_rule}
+use Rattle.top_down.specs.Operations.{is_end, is_one, decides, ends_or, two, strong, product_goal, product_rule, choice_goal, choice_rule, quantify_goal, quantify_rule, restrict_rule}
 use Rattle.top_down_sweep.specs.Rules.{Deepens}
 
 -- where a tuple is asked for, it keeps P

@@ -1,5 +1,5 @@
 -- what makes asks values that can be spilled
-use Rattle.std.specs.Prelude.{◌≡◌, ℕ, ◌<◌, ◌≤◌, ◌^◌, All, zero, suc, refl}
+use Rattle.std.specs.Prelude.{◌≡◌, ◌<◌, ◌^◌, All, zero, suc, refl}
 use Rattle.std.specs.Ordering.{nat_cmp, ordering_then}
 use Rattle.std.specs.Cmp.Lexicographic.{slice_cmp}
 use Rattle.std.specs.declared.cmp.Ordering.{Ordering}
@@ -9,7 +9,7 @@ use Rattle.rec_words.specs.RecordLaws.{then_equal, pointer_fits}
 use Rattle.top_down_sweep.specs.declared.ask.Member.{Member}
 use Rattle.top_down_sweep.specs.declared.ask.Members.{Members}
 use Rattle.top_down_sweep.specs.declared.ask.Ask.{Ask}
-use Rattle.top_down_sweep.specs.Items.{ask_words, IsMember, IsAsk, member_cmp, members_cmp, ask_cmp}
+use Rattle.top_down_sweep.specs.Items.{ask_words, IsAsk, member_cmp, members_cmp, ask_cmp}
 
 -- two comparisons and others behind them, one after the other
 then_flat : (a b c : Ordering) → ordering_then (ordering_then a b) c ≡ ordering_then a (ordering_then b c)

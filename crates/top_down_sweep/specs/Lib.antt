@@ -5,4 +5,7 @@ pub mod Deepening
 pub mod Members
 pub mod Soundness
 pub mod Sweeps
+pub mod Fuel
+pub mod Waiting
+pub mod Damage
 pub mod Calls

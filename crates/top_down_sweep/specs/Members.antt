@@ -1,5 +1,5 @@
 -- The members of asks, and the node that is read next for them.
-use Rattle.std.specs.Prelude.{◌≡◌, ℕ, ◌==◌, ◌&&◌, ◌||◌, ◌<◌, min, Bool, true, false, cond, Option, Some, None}
+use Rattle.std.specs.Prelude.{ℕ, ◌==◌, ◌&&◌, ◌||◌, ◌<◌, min, Bool, true, false, cond, Option, Some, None}
 use Rattle.rec_words.specs.Words.{terminal, level_of}
 use Rattle.rec_words.specs.declared.node.Node.{Node}
 use Rattle.top_down.specs.declared.tuple.Tuple.{Tuple}

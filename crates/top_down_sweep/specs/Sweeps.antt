@@ -5,7 +5,10 @@ use Rattle.shelf_model.specs.declared.sort_fault.SortFault.{SortFault}
 use Rattle.shelf_model.specs.declared.sort_fault.SortFault.TheVariants.{Shelf, Damaged, RunsSpent, RoomFull}
 use Rattle.rec_words.specs.Words.{level_of}
 use Rattle.canon_file.specs.NodeFiles.{IsProper}
+use Rattle.rec_words.specs.declared.node.Node.{Node}
+use Rattle.node_file.specs.declared.reader.NodeReader.{NodeReader}
 use Rattle.node_file.specs.Readers as nodes
+use Rattle.node_reading.specs.Reading.{IsBegun}
 use Rattle.arc_file.specs.declared.unreduced.Unreduced.{Unreduced}
 use Rattle.arc_file.specs.declared.writer.ArcWriter.{ArcWriter}
 use Rattle.arc_file.specs.Writers as arcs
@@ -57,11 +60,18 @@ machine_accounts = record {
   stock = λ m. queues.stock m.queue;
 }
 
+-- the node at hand is the one that was given last; while there is none, all nodes are left
+abbrev pub IsGivenAt : NodeReader → Option Node → Type 0
+IsGivenAt r None = nodes.left_of r ≡ (nodes.trailer_of r).count
+IsGivenAt r (Some x) = nodes.given_of r ≡ Some x.uid
+
 -- the operand's reader reads its file, and the node at hand may stand there
 pub record IsOperand (n : ℕ) (o : Operand) : Type 0 where
   pub file_is : nodes.file_of o.reader ≡ o.file
   pub variables_are : (nodes.trailer_of o.reader).n ≡ n
   pub hand_is : IfSome o.hand (IsProper n)
+  pub given_is : IsGivenAt o.reader o.hand
+  pub begun : IsBegun o.reader
 
 -- all three are
 pub record AreOperands (n : ℕ) (o : Operands) : Type 0 where
@@ -83,7 +93,7 @@ pub record HasMade (inner ends : FileNo) (made : Unreduced) : Type 0 where
   pub inner_few : made.inner_count ≤ 2 ^ 46
   pub ends_few : made.ends_count ≤ 2 ^ 46
 
--- at first nothing was taken; the numbers of a level are no more than the arcs to nodes
+-- at first nothing was taken or read; the numbers of a level are no more than the arcs to nodes
 abbrev pub IsPhaseAt : ArcWriter → Option Ask → Phase → Type 0
 IsPhaseAt w last Fresh = last ≡ None
 IsPhaseAt w last (Asking s) = IfSome s.last (λ x. x.number ≤ arcs.inner_count w)

@@ -4,20 +4,25 @@ use crate::machine::Machine;
 use shelf_model::{Shelf, SortFault};
 
 impl<'r> Machine<'r> {
-    ghost use Rattle.std.specs.Prelude.{◌≡◌, Some, OnOk, IfOk, IfSome};
-    ghost use Rattle.level_queue.specs.Queues.{shown, last_of, IsNoLess};
+    ghost use Rattle.std.specs.Prelude.{◌≡◌, ◌+◌, IsTrue, Some, OnOk, IfOk, IfSome};
+    ghost use Rattle.run_merge.specs.Lists.{Lightens};
+    ghost use Rattle.level_queue.specs.Queues.{shown, last_of, load_of, IsNoLess};
     ghost use Rattle.top_down_sweep.specs.Items.{ask_cmp};
     ghost use Rattle.top_down_sweep.specs.Sweeps.{IsAsking};
-    ghost use Rattle.top_down_sweep.specs.Calls.{Does, IsFit};
+    ghost use Rattle.top_down_sweep.specs.Waiting.{is_first_at, Fits};
+    ghost use Rattle.top_down_sweep.specs.Calls.{Does, IsFit, IsFirst, HoldsAt, HoldsFirstAt};
 
     /// The first ask, which stays.
     pub(crate) fn first_ask<S: Shelf>(&mut self, shelf: &mut S) -> Result<Option<Ask>, SortFault>
         requires fit { IsFit S.tells S.world shelf.old self.old }
+        requires holds { HoldsAt S.tells S.world 1 shelf.old self.old }
         ensures does { Does S.tells S.world S.faults 8 0 shelf.old shelf.new self.old self.new result }
         ensures fit { OnOk result (IsFit S.tells S.world shelf.new self.new) }
+        ensures holds { IfOk result (λ found. IfSome found (HoldsFirstAt S.tells S.world shelf.new self.new)) }
         ensures rest { self.new ≡ record self.old { queue = self.new.queue } }
         ensures last { last_of self.new.queue ≡ last_of self.old.queue }
-        ensures shown { IfOk result (λ found. IfSome found (λ a. shown self.new.queue ≡ Some a)) }
+        ensures load { OnOk result (load_of self.new.queue ≡ load_of self.old.queue) }
+        ensures shown { IfOk result (λ found. IfSome found (IsFirst self.new)) }
     {
         self.queue.peek(shelf)
     }
@@ -27,9 +32,12 @@ impl<'r> Machine<'r> {
         requires asking { IsAsking self.old.place.phase }
         requires shown { shown self.old.queue ≡ Some ask.now }
         requires fit { IsFit S.tells S.world shelf.old self.old }
+        requires holds { HoldsAt S.tells S.world 1 shelf.old self.old }
         ensures does { Does S.tells S.world S.faults 8 0 shelf.old shelf.new self.old self.new result }
         ensures fit { OnOk result (IsFit S.tells S.world shelf.new self.new) }
+        ensures holds { OnOk result (HoldsAt S.tells S.world 0 shelf.new self.new) }
         ensures rest { self.new ≡ record self.old { queue = self.new.queue; parts = self.new.parts } }
+        ensures load { OnOk result (Lightens (load_of self.old.queue) (load_of self.new.queue)) }
         ensures last { OnOk result (last_of self.new.queue ≡ Some ask.now) }
     {
         self.queue.take(&mut self.parts, shelf)?;
@@ -39,10 +47,14 @@ impl<'r> Machine<'r> {
     /// Puts an ask into the queue.
     pub(crate) fn push<S: Shelf>(&mut self, ask: Ask, shelf: &mut S) -> Result<(), SortFault>
         requires order { IsNoLess ask_cmp (last_of self.old.queue) ask }
+        requires fits { IsTrue (S.tells shelf.old) → Fits (is_first_at self.old.place.phase) self.old.operands ask }
         requires fit { IsFit S.tells S.world shelf.old self.old }
+        requires holds { HoldsAt S.tells S.world 0 shelf.old self.old }
         ensures does { Does S.tells S.world S.faults 48 3 shelf.old shelf.new self.old self.new result }
         ensures fit { OnOk result (IsFit S.tells S.world shelf.new self.new) }
+        ensures holds { OnOk result (HoldsAt S.tells S.world 1 shelf.new self.new) }
         ensures rest { self.new ≡ record self.old { queue = self.new.queue; parts = self.new.parts } }
+        ensures load { OnOk result (load_of self.new.queue ≡ load_of self.old.queue + 1) }
         ensures last { last_of self.new.queue ≡ last_of self.old.queue }
     {
         self.queue.push(ask, &mut self.parts, shelf)

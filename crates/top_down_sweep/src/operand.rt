@@ -16,13 +16,16 @@ pub(crate) struct Operand<'r> {
 }
 
 impl<'r> Operand<'r> {
-    ghost use Rattle.std.specs.Prelude.{OnOk, IfErr};
+    ghost use Rattle.std.specs.Prelude.{◌+◌, ◌*◌, ◌<◌, IsTrue, OnOk, IfErr, IfSome};
     ghost use Rattle.shelf_model.specs.Calls.{Told};
     ghost use Rattle.block_stream.specs.Reads.{Looked};
     ghost use Rattle.run_tiers.specs.Faults.{OnlySortShelf};
-    ghost use Rattle.node_file.specs.Readers.{trailer_of};
+    ghost use Rattle.node_file.specs.Readers.{trailer_of, left_of};
     ghost use Rattle.top_down_sweep.specs.Members.{wants};
+    ghost use Rattle.node_reading.specs.Reading.{IsReading};
     ghost use Rattle.top_down_sweep.specs.Sweeps.{IsOperand, IsDamageIn};
+    ghost use Rattle.top_down_sweep.specs.Waiting.{IsReadTo};
+    ghost use Rattle.top_down_sweep.specs.Damage.{IsReadDamage};
 
     /// Whether the member is that node, which isn't at hand.
     pub(crate) fn wants(&self, member: &Member, key: Uid) -> bool
@@ -37,8 +40,17 @@ impl<'r> Operand<'r> {
     /// Reads the next node. That there is none, or that it comes behind the wanted one, is damage.
     pub(crate) fn read<S: Shelf>(&mut self, key: Uid, shelf: &mut S) -> Result<(), SortFault>
         ensures file { self.new.file ≡ self.old.file }
+        ensures fewer { OnOk result (left_of self.old.reader ≡ left_of self.new.reader + 1) }
         ensures is { OnOk result ((n : ℕ) → IsOperand n self.old → IsOperand n self.new) }
+        ensures hand { OnOk result (IsReadTo key self.new) }
         ensures damage { IfErr result (λ e. (n : ℕ) → IsOperand n self.old → IsDamageIn self.old.file e) }
+
+        // what its file holds
+        ensures reads { OnOk result (IsTrue (S.tells shelf.new) → (n : ℕ) → IsOperand n self.old →
+            IsReading self.old.reader (S.world shelf.old) → IsReading self.new.reader (S.world shelf.new)) }
+        ensures damaged { IfErr result (λ e. IsTrue (S.tells shelf.new) → (n : ℕ) → IsOperand n self.old →
+            IsReading self.old.reader (S.world shelf.old) → IfSome self.old.hand (λ x. x.uid < key) →
+            IsReadDamage n self.old.file key (S.world shelf.new) e) }
         ensures content { Told S.tells shelf.old shelf.new (Looked 1 (S.world shelf.old) (S.world shelf.new)) }
         ensures faults { OnlySortShelf (S.faults shelf.old) (S.faults shelf.new) result }
     {
@@ -52,6 +64,7 @@ impl<'r> Operand<'r> {
 
     /// Damage at the node that was read last, or at the front where there is none.
     pub(crate) fn damage(&self) -> SortFault
+        ensures place { result ≡ SortFault.Damaged self.now.file (left_of self.now.reader * 24) }
         ensures damage { IsDamageIn self.now.file result }
         ensures cause { result ≢ SortFault.Shelf }
     {

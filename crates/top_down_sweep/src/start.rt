@@ -95,11 +95,12 @@ impl<'r, O: Operation> TopDownSweep<'r, O> {
 }
 
 impl<'r> Operands<'r> {
-    ghost use Rattle.std.specs.Prelude.{IfOk, IfErr};
+    ghost use Rattle.std.specs.Prelude.{IsTrue, IfOk, IfErr};
     ghost use Rattle.shelf_model.specs.Calls.{Told};
     ghost use Rattle.block_stream.specs.Reads.{Looked};
     ghost use Rattle.run_tiers.specs.Faults.{OnlySortShelf};
     ghost use Rattle.top_down_sweep.specs.Sweeps.{AreOperands, HaveFiles, IsStartDamage};
+    ghost use Rattle.top_down_sweep.specs.Waiting.{HasNoHands, AreReading};
 
     // Begins with no node at hand.
     fn start<S: Shelf>(
@@ -111,6 +112,8 @@ impl<'r> Operands<'r> {
         requires enough { 264 ≤ length room.old }
         ensures are { IfOk result (AreOperands n) }
         ensures files { IfOk result (HaveFiles files.now) }
+        ensures unread { IfOk result HasNoHands }
+        ensures reading { IfOk result (λ o. IsTrue (S.tells shelf.new) → AreReading o (S.world shelf.new)) }
         ensures damage { IfErr result (IsStartDamage files.now) }
         ensures content { Told S.tells shelf.old shelf.new (Looked 6 (S.world shelf.old) (S.world shelf.new)) }
         ensures faults { OnlySortShelf (S.faults shelf.old) (S.faults shelf.new) result }
@@ -129,10 +132,11 @@ impl<'r> Operands<'r> {
 }
 
 impl<'r> Operand<'r> {
-    ghost use Rattle.std.specs.Prelude.{IfOk, IfErr};
+    ghost use Rattle.std.specs.Prelude.{IsTrue, IfOk, IfErr};
     ghost use Rattle.shelf_model.specs.Calls.{Told};
     ghost use Rattle.block_stream.specs.Reads.{Looked};
     ghost use Rattle.run_tiers.specs.Faults.{OnlySortShelf};
+    ghost use Rattle.node_reading.specs.Reading.{IsReading};
     ghost use Rattle.top_down_sweep.specs.Sweeps.{IsOperand, IsDamageIn};
 
     // Begins with no node at hand.
@@ -145,6 +149,8 @@ impl<'r> Operand<'r> {
         requires enough { 8 ≤ length window.old }
         ensures is { IfOk result (IsOperand n) }
         ensures file { IfOk result (λ o. o.file ≡ file) }
+        ensures unread { IfOk result (λ o. o.hand ≡ None) }
+        ensures reading { IfOk result (λ o. IsTrue (S.tells shelf.new) → IsReading o.reader (S.world shelf.new)) }
         ensures damage { IfErr result (IsDamageIn file) }
         ensures content { Told S.tells shelf.old shelf.new (Looked 2 (S.world shelf.old) (S.world shelf.new)) }
         ensures faults { OnlySortShelf (S.faults shelf.old) (S.faults shelf.new) result }

@@ -5,7 +5,7 @@ use crate::place::Phase;
 use arc_file::Unreduced;
 use run_merge::Parts;
 use shelf_model::{Shelf, SortFault};
-use sweep_core::Turn;
+use sweep_core::{Sweep, Turn};
 
 /// An operation on diagrams, level by level from the root down. It makes the arcs of a diagram that isn't reduced.
 ///
@@ -43,8 +43,10 @@ impl<'r, O: Operation> TopDownSweep<'r, O> {
     ghost use Rattle.shelf_model.specs.declared.file_no.FileNo.{FileNo};
     ghost use Rattle.shelf_model.specs.World.{file};
     ghost use Rattle.sweep_core.specs.Accounts.{Leaves};
-    ghost use Rattle.sweep_core.specs.Sweeps.{AtEnd, IsFirm, StaysEnded};
+    ghost use Rattle.sweep_core.specs.Sweeps.{Falls, AtEnd, IsFirm, StaysEnded};
     ghost use Rattle.top_down_sweep.specs.Sweeps.{files_of, made_in, accounts, IsMade, HasMade, IsSound, MakesAtEnd, Refused};
+    ghost use Rattle.top_down_sweep.specs.Fuel.{fuel_of};
+    ghost use Rattle.top_down_sweep.specs.Damage.{IsDamage};
     ghost use Rattle.top_down_sweep.specs.Calls.{IsInStep};
 
     /// Handles one ask or reads one node, or ends the sweep. Once it has ended, each further turn answers so and does
@@ -59,6 +61,7 @@ impl<'r, O: Operation> TopDownSweep<'r, O> {
         ensures ends { IfOk result (λ turn. MakesAtEnd turn (made_in self.new)) }
         ensures made { OnOk result (IfSome (made_in self.new)
             (HasMade (files_of self.new).inner (files_of self.new).ends)) }
+        ensures falls { Falls (fuel_of self.old) (fuel_of self.new) result }
         ensures ended { IsSome (made_in self.old) → StaysEnded shelf.old shelf.new self.old self.new result }
         ensures firm { AtEnd result (IsTrue (S.tells shelf.new) → (f : FileNo) → IsMade (files_of self.new) f →
             IsFirm (file (S.world shelf.new) f)) }
@@ -67,7 +70,37 @@ impl<'r, O: Operation> TopDownSweep<'r, O> {
         ensures leaves { Leaves S.tells S.world S.faults
             (accounts O) 113 6 shelf.old shelf.new self.old self.new result }
         ensures refused { IfErr result (Refused self.new) }
+        ensures damage { IfErr result (λ e. IsTrue (S.tells shelf.new) → IsDamage self.new (S.world shelf.new) e) }
     {
         self.machine.turn(&self.operation, shelf)
+    }
+}
+
+impl<'r, O: Operation> Sweep<'r> for TopDownSweep<'r, O> {
+    ghost use Rattle.std.specs.Prelude.{◌≡◌, Some};
+    ghost use Rattle.arc_file.specs.declared.unreduced.Unreduced.{Unreduced};
+    ghost use Rattle.top_down_sweep.specs.Sweeps.{accounts, made_in, IsSound};
+    ghost use Rattle.top_down_sweep.specs.Fuel.{fuel_of};
+    ghost use Rattle.top_down_sweep.specs.Damage.{IsDamage};
+    ghost use Rattle.top_down_sweep.specs.Calls.{IsInStep};
+
+    ghost Job = { Unreduced };
+
+    ghost remains = { λ s world made. made_in s ≡ Some made };
+
+    ghost fuel = { fuel_of };
+
+    ghost left = { λ s world made. fuel_of s };
+
+    ghost accounts = { accounts O };
+
+    ghost damaged = { IsDamage };
+
+    ghost ready = { IsSound };
+
+    ghost in_step = { IsInStep };
+
+    fn turn<S: Shelf>(&mut self, shelf: &mut S) -> Result<Turn, SortFault> {
+        TopDownSweep::turn(self, shelf)
     }
 }

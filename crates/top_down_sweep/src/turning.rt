@@ -13,14 +13,17 @@ use sweep_core::Turn;
 use top_down::{Goal, Tuple};
 
 impl<'r> Machine<'r> {
-    ghost use Rattle.std.specs.Prelude.{◌<◌, None, IsTrue, OnOk, IfOk};
+    ghost use Rattle.std.specs.Prelude.{◌<◌, ◌+◌, Some, None, true, IsTrue, OnOk, IfOk};
     ghost use Rattle.rec_words.specs.Words.{terminal_level};
     ghost use Rattle.top_down.specs.Tuples.{level_of_tuple};
-    ghost use Rattle.level_queue.specs.Queues.{last_of};
-    ghost use Rattle.sweep_core.specs.Sweeps.{StaysEnded};
+    ghost use Rattle.level_queue.specs.Queues.{shown, last_of};
+    ghost use Rattle.top_down_sweep.specs.Members.{want};
+    ghost use Rattle.sweep_core.specs.Sweeps.{Falls, StaysEnded};
     ghost use Rattle.top_down_sweep.specs.Soundness.{is_none};
     ghost use Rattle.top_down_sweep.specs.Sweeps.{IsSoundMachine, IsAsking, HasEnded, EndsAt};
-    ghost use Rattle.top_down_sweep.specs.Calls.{Does, IsFit, IsShown, IsMachineInStep};
+    ghost use Rattle.top_down_sweep.specs.Fuel.{unread, weight, machine_fuel};
+    ghost use Rattle.top_down_sweep.specs.Waiting.{is_first_at, HasNoHands};
+    ghost use Rattle.top_down_sweep.specs.Calls.{Does, IsFit, IsShown, IsMachineInStep, HoldsAt, HoldsFirstAt};
 
     /// Handles the first ask, or ends.
     pub(crate) fn turn<O: Operation, S: Shelf>(
@@ -33,6 +36,7 @@ impl<'r> Machine<'r> {
         ensures does { Does S.tells S.world S.faults 113 6 shelf.old shelf.new self.old self.new result }
         ensures sound { OnOk result (IsSoundMachine self.new) }
         ensures in_step { OnOk result (IsTrue (S.tells shelf.new) → IsMachineInStep self.new (S.world shelf.new)) }
+        ensures falls { Falls (machine_fuel self.old) (machine_fuel self.new) result }
         ensures ends { IfOk result (λ turn. EndsAt turn self.new.place.phase) }
         ensures ended { HasEnded self.old.place.phase → StaysEnded shelf.old shelf.new self.old self.new result }
     {
@@ -51,9 +55,12 @@ impl<'r> Machine<'r> {
     ) -> Result<Turn, SortFault>
         requires phase { self.old.place.phase ≡ Phase.Fresh }
         requires fit { IsFit S.tells S.world shelf.old self.old }
+        requires holds { HoldsAt S.tells S.world 0 shelf.old self.old }
+        requires unread { IsTrue (S.tells shelf.old) → HasNoHands self.old.operands }
         ensures does { Does S.tells S.world S.faults 48 3 shelf.old shelf.new self.old self.new result }
         ensures sound { OnOk result (IsSoundMachine self.new) }
         ensures in_step { OnOk result (IsTrue (S.tells shelf.new) → IsMachineInStep self.new (S.world shelf.new)) }
+        ensures falls { Falls (machine_fuel self.old) (machine_fuel self.new) result }
         ensures ends { IfOk result (λ turn. EndsAt turn self.new.place.phase) }
     {
         let roots = operation.roots(&self.operands.roots());
@@ -71,9 +78,14 @@ impl<'r> Machine<'r> {
         requires node { level_of_tuple tuple.now < terminal_level }
         requires none { last_of self.old.queue ≡ None }
         requires fit { IsFit S.tells S.world shelf.old self.old }
+        requires fresh { self.old.place.phase ≡ Phase.Fresh }
+        requires holds { HoldsAt S.tells S.world 0 shelf.old self.old }
+        requires unread { IsTrue (S.tells shelf.old) → HasNoHands self.old.operands }
         ensures does { Does S.tells S.world S.faults 48 3 shelf.old shelf.new self.old self.new result }
         ensures fit { OnOk result (IsFit S.tells S.world shelf.new self.new) }
         ensures phase { OnOk result (IsAsking self.new.place.phase) }
+        ensures holds { OnOk result (HoldsAt S.tells S.world 1 shelf.new self.new) }
+        ensures weight { OnOk result (weight self.new ≡ weight self.old + 1) }
     {
         let Some(key) = key_of(tuple) else {
             unreachable!();
@@ -99,9 +111,11 @@ impl<'r> Machine<'r> {
     ) -> Result<Turn, SortFault>
         requires phase { self.old.place.phase ≡ Phase.Asking asking.now }
         requires fit { IsFit S.tells S.world shelf.old self.old }
+        requires holds { HoldsAt S.tells S.world 1 shelf.old self.old }
         ensures does { Does S.tells S.world S.faults 113 6 shelf.old shelf.new self.old self.new result }
         ensures sound { OnOk result (IsSoundMachine self.new) }
         ensures in_step { OnOk result (IsTrue (S.tells shelf.new) → IsMachineInStep self.new (S.world shelf.new)) }
+        ensures falls { Falls (machine_fuel self.old) (machine_fuel self.new) result }
         ensures ends { IfOk result (λ turn. EndsAt turn self.new.place.phase) }
     {
         let Some(ask) = self.first_ask(shelf)? else {
@@ -125,9 +139,12 @@ impl<'r> Machine<'r> {
         requires phase { self.old.place.phase ≡ Phase.Asking asking.now }
         requires shown { IsShown (is_none asking.now.last) self.old ask.now }
         requires fit { IsFit S.tells S.world shelf.old self.old }
+        requires first { HoldsFirstAt S.tells S.world shelf.old self.old ask.now }
         ensures does { Does S.tells S.world S.faults 105 6 shelf.old shelf.new self.old self.new result }
         ensures fit { OnOk result (IsFit S.tells S.world shelf.new self.new) }
         ensures phase { OnOk result (IsAsking self.new.place.phase) }
+        ensures holds { OnOk result (HoldsAt S.tells S.world 1 shelf.new self.new) }
+        ensures falls { OnOk result (weight self.new < weight self.old) }
     {
         if self.queue.last() == Some(*ask) {
             return self.take(ask, shelf);
@@ -144,10 +161,15 @@ impl<'r> Machine<'r> {
 
     // Reads the next node of an operand that the ask wants.
     fn read_wanted<S: Shelf>(&mut self, ask: &Ask, shelf: &mut S) -> Result<(), SortFault>
+        requires wanted { want self.old.operands ask.now ≡ true }
+        requires shown { shown self.old.queue ≡ Some ask.now }
         requires fit { IsFit S.tells S.world shelf.old self.old }
+        requires first { HoldsFirstAt S.tells S.world shelf.old self.old ask.now }
         ensures does { Does S.tells S.world S.faults 1 0 shelf.old shelf.new self.old self.new result }
         ensures fit { OnOk result (IsFit S.tells S.world shelf.new self.new) }
         ensures rest { self.new ≡ record self.old { operands = self.new.operands } }
+        ensures holds { OnOk result (HoldsAt S.tells S.world 1 shelf.new self.new) }
+        ensures falls { OnOk result (unread self.new.operands < unread self.old.operands) }
     {
         if self.operands.first.wants(&ask.members.first, ask.key) {
             return self.operands.first.read(ask.key, shelf);

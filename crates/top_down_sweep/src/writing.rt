@@ -7,7 +7,7 @@ use shelf_model::{Shelf, SortFault};
 use sweep_core::Turn;
 
 impl<'r> Machine<'r> {
-    ghost use Rattle.std.specs.Prelude.{◌≡◌, ◌+◌, ◌^◌, ◌≤◌, IsTrue, OnOk, IfOk, length};
+    ghost use Rattle.std.specs.Prelude.{◌≡◌, ℕ, ◌+◌, ◌^◌, ◌≤◌, IsTrue, OnOk, IfOk, length};
     ghost use Rattle.arc_file.specs.declared.arc.Arc.{Arc};
     ghost use Rattle.std.specs.Prelude.{[], ◌∷◌};
     ghost use Rattle.arc_file.specs.Files.{inner_arcs};
@@ -15,13 +15,15 @@ impl<'r> Machine<'r> {
     ghost use Rattle.sweep_core.specs.declared.turn.Turn.TheVariants as turns;
     ghost use Rattle.top_down_sweep.specs.declared.place.Phase.TheVariants as phases;
     ghost use Rattle.top_down_sweep.specs.Sweeps.{IsSoundMachine};
-    ghost use Rattle.top_down_sweep.specs.Calls.{Does, IsFit, IsMachineInStep};
+    ghost use Rattle.top_down_sweep.specs.Calls.{Does, IsFit, IsMachineInStep, HoldsAt};
 
     /// Puts an arc into the file that its target chooses.
     pub(crate) fn put<S: Shelf>(&mut self, arc: Arc, shelf: &mut S) -> Result<(), SortFault>
         requires fit { IsFit S.tells S.world shelf.old self.old }
         ensures does { Does S.tells S.world S.faults 1 0 shelf.old shelf.new self.old self.new result }
         ensures fit { OnOk result (IsFit S.tells S.world shelf.new self.new) }
+        ensures holds { (most : ℕ) → HoldsAt S.tells S.world most shelf.old self.old →
+            OnOk result (HoldsAt S.tells S.world most shelf.new self.new) }
         ensures rest { self.new ≡ record self.old { writer = self.new.writer } }
         ensures count { OnOk result
             (inner_count self.new.writer ≡ inner_count self.old.writer + length (inner_arcs (arc ∷ []))) }

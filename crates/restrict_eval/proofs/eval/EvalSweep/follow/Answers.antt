@@ -1,6 +1,6 @@
 use Rattle.std.proofs.Common.{subst}
 use Rattle.std.specs.Prelude.{Ok}
-use Rattle.restrict_eval.specs.Reading.{GivesNode}
+use Rattle.node_reading.specs.Reading.{GivesNode}
 use Rattle.restrict_eval.proofs.EvalKeeps.{value_found, misses_first, follows}
 use Rattle.restrict_eval.proofs.eval.EvalSweep.follow.Goals as goal
 

@@ -1,6 +1,6 @@
 use Rattle.std.proofs.Common.{subst}
 use Rattle.std.specs.Prelude.{Ok}
-use Rattle.restrict_eval.specs.Reading.{GivesNode}
+use Rattle.node_reading.specs.Reading.{GivesNode}
 use Rattle.restrict_eval.proofs.EvalKeeps.{reads_on, misses_beside}
 use Rattle.restrict_eval.proofs.eval.EvalSweep.read_on.Goals as goal
 

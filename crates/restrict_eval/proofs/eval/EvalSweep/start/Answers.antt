@@ -5,8 +5,7 @@ use Rattle.node_file.specs.declared.trailer.Trailer.{Trailer}
 use Rattle.node_file.specs.Nodes.{HasNodes}
 use Rattle.node_file.specs.Readers.{trailer_of}
 use Rattle.bool_tables.specs.Steps.{bits_at}
-use Rattle.restrict_eval.proofs.NodeReading.{looked_same}
-use Rattle.restrict_eval.proofs.Starting.{starts_reading}
+use Rattle.node_reading.proofs.NodeReading.{looked_same, starts_reading}
 use Rattle.restrict_eval.proofs.Canonical.{begins_canonical}
 use Rattle.restrict_eval.proofs.EvalKeeps.{bits_long, begins_path, begins_way}
 use Rattle.restrict_eval.proofs.eval.EvalSweep.start.Goals as goal

@@ -2,8 +2,8 @@ use Rattle.std.proofs.Common.{◌∙◌, sym, subst}
 use Rattle.std.specs.Prelude.{Ok}
 use Rattle.restrict_eval.specs.Same.{comparisons}
 use Rattle.restrict_eval.specs.Turns.{Turns}
-use Rattle.restrict_eval.specs.Reading.{GivesNode}
-use Rattle.restrict_eval.proofs.NodeReading.{is_handed}
+use Rattle.node_reading.specs.Reading.{GivesNode}
+use Rattle.node_reading.proofs.NodeReading.{is_handed}
 use Rattle.restrict_eval.proofs.SameKeeps.{trailers_apart, trailers_alike, trailers_differ, left_read, left_ends, left_refused}
 use Rattle.restrict_eval.proofs.same.SameSweep.read_left.Goals as goal
 

@@ -1,7 +1,7 @@
 use Rattle.std.proofs.Common.{◌∙◌, sym, subst}
 use Rattle.restrict_eval.specs.Same.{comparisons}
 use Rattle.restrict_eval.specs.Turns.{Turns}
-use Rattle.restrict_eval.proofs.NodeReading.{is_handed}
+use Rattle.node_reading.proofs.NodeReading.{is_handed}
 use Rattle.restrict_eval.proofs.SameKeeps.{found_apart, found_alike, right_read, right_differs, right_refused}
 use Rattle.restrict_eval.proofs.same.SameSweep.read_right.Goals as goal
 

@@ -2,9 +2,9 @@ use Rattle.std.proofs.Common.{◌∙◌, ◌+◌, [], sym, ap, subst, refl, inr}
 use Rattle.block_stream.proofs.WriteRuns.{looked_on}
 use Rattle.canon_file.specs.Canon.{canon_nodes, canon_root}
 use Rattle.node_file.specs.Nodes.{HasNodes}
-use Rattle.restrict_eval.specs.Reading.{count_of}
-use Rattle.restrict_eval.proofs.NodeReading.{if_handed, looked_same}
-use Rattle.restrict_eval.proofs.Starting.{starts_reading, trailer_fault, no_damage, two_faults}
+use Rattle.node_reading.specs.Reading.{count_of}
+use Rattle.node_reading.proofs.NodeReading.{if_handed, looked_same, starts_reading}
+use Rattle.restrict_eval.proofs.Starting.{trailer_fault, no_damage, two_faults}
 use Rattle.restrict_eval.proofs.Canonical.{begins_canonical, begins_left}
 use Rattle.restrict_eval.proofs.same.SameSweep.start.Goals as goal
 

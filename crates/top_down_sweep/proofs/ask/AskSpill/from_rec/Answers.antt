@@ -1,6 +1,5 @@
-use Rattle.std.proofs.Common.{◌≡◌, subst, arith, rules}
+use Rattle.std.proofs.Common.{rules}
 use Rattle.rec_words.specs.Words.{IsNodeWord}
-use Rattle.top_down_sweep.specs.Items.{IsMember}
 use Rattle.top_down_sweep.proofs.ItemForms.{is_member}
 use Rattle.top_down_sweep.proofs.ask.AskSpill.from_rec.Goals as goal
 

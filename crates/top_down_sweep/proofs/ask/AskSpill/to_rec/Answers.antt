@@ -1,4 +1,4 @@
-use Rattle.std.proofs.Common.{◌≡◌, ◌<◌, ◌^◌, subst}
+use Rattle.std.proofs.Common.{◌<◌, ◌^◌, subst}
 use Rattle.rec_words.specs.Words.{IsPointer}
 use Rattle.top_down_sweep.proofs.ask.AskSpill.to_rec.Goals as goal
 

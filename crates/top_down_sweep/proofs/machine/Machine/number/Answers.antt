@@ -1,4 +1,5 @@
-use Rattle.std.proofs.Common.{◌≡◌, ◌≤◌, ◌<◌, ◌∙◌, ap, sym, subst, arith, rules}
+use Rattle.top_down_sweep.proofs.Holding.{numbered_at}
+use Rattle.std.proofs.Common.{◌≡◌, ◌≤◌, ◌<◌, ◌∙◌, ap, sym, subst, arith, refl}
 use Rattle.rec_words.specs.Words.{level_of, level_numbers}
 use Rattle.arc_file.specs.Writers.{inner_count}
 use Rattle.top_down_sweep.specs.declared.place.Numbered.{Numbered}
@@ -39,3 +40,7 @@ returns-clause-level g c =
     let arcs = few_arcs c.put_inner.new.self.writer in
     omega (arith, number, arcs, fits) in
     same ∙ level_of_node (level_of c.next-next.result.key) c.next-next.result.number few ∙ ap (λ (x : Numbered). level_of x.key) c.next-next.ensures
+
+-- asks wait as before, and the first tuple has its number
+pub returns-clause-holds : goal.returns-clause-holds
+returns-clause-holds g c = numbered_at g.S.Shelf.tells g.S.Shelf.world _ c.put_inner.new.self _ _ refl refl (c.in_ok-put_inner.ensures.holds 0 c.requires.holds)

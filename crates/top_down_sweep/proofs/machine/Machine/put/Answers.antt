@@ -1,3 +1,4 @@
+use Rattle.top_down_sweep.proofs.Holding.{written_at}
 use Rattle.std.proofs.Common.{refl, rules}
 use Rattle.top_down_sweep.proofs.Doing.{does_wrote}
 use Rattle.top_down_sweep.proofs.machine.Machine.put.Goals as goal
@@ -10,3 +11,14 @@ returns-in_err-put-clause-does g c = does_wrote g.S.Shelf.tells g.S.Shelf.world 
 pub returns-clause-does : goal.returns-clause-does
 returns-clause-does g c = does_wrote g.S.Shelf.tells g.S.Shelf.world g.S.Shelf.faults 1 _ _ c.args.self.now c.args.self.now.place c.put.new.self _ refl
     c.put.ensures.same c.put.ensures.content (search rules) tt
+
+-- asks wait as before
+pub returns-clause-holds : goal.returns-clause-holds
+returns-clause-holds g c most holds = written_at g.S.Shelf.tells g.S.Shelf.world most 1 _ _ c.args.self.now _ refl
+    (λ j. record {
+      first = c.args.self.now.operands.first.file;
+      second = c.args.self.now.operands.second.file;
+      third = c.args.self.now.operands.third.file;
+      inner = c.put.ensures.same.inner_is j;
+      ends = c.put.ensures.same.ends_are j;
+    }) c.requires.fit.sound.operands c.put.ensures.content holds

@@ -1,6 +1,9 @@
-use Rattle.std.proofs.Common.{sym, subst}
+use Rattle.std.proofs.Common.{◌∙◌, [], sym, subst, arith}
 use Rattle.sweep_core.specs.Accounts.{CanBeTaken}
-use Rattle.top_down_sweep.proofs.Starting.{then_cut}
+use Rattle.top_down_sweep.proofs.Starting.{then_cut, others_uncut}
+use Rattle.top_down_sweep.proofs.Holding.{operands_still}
+use Rattle.top_down_sweep.specs.declared.machine.Machine.{Machine}
+use Rattle.top_down_sweep.specs.declared.place.Phase.TheVariants.{Fresh}
 use Rattle.top_down_sweep.proofs.sweep.TopDownSweep.start.Goals as goal
 
 -- the operands were looked at, and the files of arcs were cut
@@ -22,3 +25,30 @@ returns-clause-ready g c = record {
   operands = c.in_ok-operands.ensures.are;
   phase = c.start-3.ensures.last;
 }
+
+-- no ask waits, and the operands are read from the front on
+pub returns-clause-in_step : goal.returns-clause-in_step
+returns-clause-in_step g c told =
+    let m : Machine = record {
+      place = record { variables = c.args.n; phase = Fresh };
+      operands = c.in_ok-operands.operands;
+      queue = c.start-3.result;
+      writer = c.in_ok-writer.writer;
+      parts = c.args.parts;
+    } in
+    let files = c.in_ok-writer.ensures.files in (
+      c.in_ok-writer.ensures.in_step told,
+      (
+        [],
+        record {
+          wait = c.start-3.ensures.list (g.S.Shelf.world c.start-2.new.shelf);
+          fit = λ k d within. absurd (omega (arith, within));
+          few = λ first. omega arith;
+          no_run = λ f made run. c.start-3.ensures.runs f run;
+          reading = λ apart. operands_still m (g.S.Shelf.world c.start.new.shelf) (g.S.Shelf.world c.start-2.new.shelf) c.in_ok-operands.ensures.are
+              (λ f is_apart. others_uncut 2 c.args.files.inner c.args.files.ends f _ _ (c.start-2.ensures.content.did told) (λ is. is_apart.not_inner (is ∙ sym files.0)) (λ is. is_apart.not_ends (is ∙ sym files.1)))
+              apart (c.in_ok-operands.ensures.reading (c.start-2.ensures.content.before told));
+        },
+      ),
+      c.in_ok-operands.ensures.unread,
+    )

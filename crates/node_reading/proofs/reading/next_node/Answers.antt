@@ -1,9 +1,9 @@
 use Rattle.std.proofs.Common.{sym, subst}
 use Rattle.std.specs.Prelude.{Ok, Err}
-use Rattle.restrict_eval.proofs.NodeReading.{is_handed}
-use Rattle.restrict_eval.specs.Reading.{GivesNode}
-use Rattle.restrict_eval.proofs.NodeReading.{gave}
-use Rattle.restrict_eval.proofs.reading.next_node.Goals as goal
+use Rattle.node_reading.proofs.NodeReading.{is_handed}
+use Rattle.node_reading.specs.Reading.{GivesNode}
+use Rattle.node_reading.proofs.NodeReading.{gave}
+use Rattle.node_reading.proofs.reading.next_node.Goals as goal
 
 -- the call was refused
 pub returns-in_err-next : goal.returns-in_err-next

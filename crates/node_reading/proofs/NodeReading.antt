@@ -1,6 +1,6 @@
 -- The reading of the next node of a file.
-use Rattle.std.proofs.Common.{◌≡◌, ℕ, ◌+◌, ◌-◌, ◌<◌, ◌≤◌, ◌∙◌, Bool, List, refl, sym, subst, ap, inl, inr, arith}
-use Rattle.std.specs.Prelude.{Result, Option, Ok, Err, Some, None, IsTrue, IsSome, OnOk, IfErr, IsErrAnd}
+use Rattle.std.proofs.Common.{◌≡◌, ℕ, ◌+◌, ◌-◌, ◌*◌, ◌/◌, ◌<◌, ◌≤◌, ◌∙◌, Bool, List, refl, sym, subst, ap, inl, inr, arith}
+use Rattle.std.specs.Prelude.{length, Result, Option, Ok, Err, Some, None, IsTrue, IsSome, OnOk, IfErr, IsErrAnd}
 use Rattle.rec_words.specs.declared.node.Node.{Node}
 use Rattle.shelf_model.specs.declared.file_no.FileNo.{FileNo}
 use Rattle.shelf_model.specs.declared.fault.StreamFault.{StreamFault}
@@ -22,7 +22,7 @@ use Rattle.shelf_model.specs.Folder.{file_in}
 use Rattle.shelf_model.specs.World.{now}
 use Rattle.shelf_model.specs.Moments.{Stays}
 use Rattle.shelf_model.proofs.Runs.{ran_end}
-use Rattle.restrict_eval.specs.Reading.{bytes_of, count_of, IsBegun, IsReading, IsDamagedNode, IsNodeFault, IsFaultOf, Rises, IsItsNode, GivesOf, GivesNode}
+use Rattle.node_reading.specs.Reading.{bytes_of, count_of, IsBegun, IsReading, IsDamagedNode, IsNodeFault, IsFaultOf, Rises, IsItsNode, GivesOf, GivesNode}
 
 -- a look leaves the bytes of each file
 pub looked_same : (n : ℕ) (f g : FileNo) (old new : World) → Looked n old new → g ≡ f → (file new g).bytes ≡ (file old f).bytes
@@ -142,6 +142,17 @@ still_reading old new before after trailer same reading reads = record {
   trailer = subst (λ (t : Trailer). HasTrailer t.n t.root (bytes_of new after)) (sym trailer) (subst (HasTrailer (trailer_of old).n (trailer_of old).root) (sym same) reading.trailer);
   count = ap (λ (t : Trailer). t.count) trailer ∙ reading.count ∙ ap count_of (sym same);
 }
+
+-- a reader has read nothing at first
+pub starts_reading : (r : NodeReader) (f : FileNo) (n : ℕ) (old new : World) → file_of r ≡ f → (trailer_of r).n ≡ n → ((bytes : List ℕ) → Reads r bytes)
+    → HasTrailer n (trailer_of r).root (file old f).bytes × ((trailer_of r).count ≡ length (file old f).bytes / 24 - 1) → (file new f).bytes ≡ (file old f).bytes → IsReading r new
+starts_reading r f n old new place variables reads has same =
+    let bytes : bytes_of r new ≡ (file old f).bytes = ap (λ g. (file new g).bytes) place ∙ same in
+    record {
+      reads = reads (bytes_of r new);
+      trailer = subst (λ b. HasTrailer (trailer_of r).n (trailer_of r).root b) (sym bytes) (subst (λ m. HasTrailer m (trailer_of r).root (file old f).bytes) (sym variables) has.0);
+      count = has.1 ∙ ap count_of (sym bytes);
+    }
 
 -- what was damaged before a call is so after it
 pub node_fault_after : (old new : NodeReader) (before after : World) (e : SortFault) → file_of new ≡ file_of old → trailer_of new ≡ trailer_of old → bytes_of new after ≡ bytes_of old before

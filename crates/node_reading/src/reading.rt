@@ -1,13 +1,13 @@
 //! The reading of a node file within a turn.
 ghost use Rattle.std.specs.Prelude.{IsTrue};
-ghost use Rattle.restrict_eval.specs.Reading.{IsBegun, IsReading, GivesNode};
+ghost use Rattle.node_reading.specs.Reading.{IsBegun, IsReading, GivesNode};
 
 use node_file::NodeReader;
 use rec_words::Node;
 use shelf_model::{Shelf, SortFault};
 
 /// The next node of a file, from the root on.
-pub(crate) fn next_node<'r, S: Shelf>(
+pub fn next_node<'r, S: Shelf>(
     nodes: &mut NodeReader<'r>,
     shelf: &mut S,
 ) -> Result<Option<Node>, SortFault>

@@ -1,0 +1,21 @@
+use Rattle.std.proofs.Common.{subst}
+use Rattle.std.specs.Prelude.{IsSome}
+use Rattle.node_reading.proofs.NodeReading.{starts_reading}
+use Rattle.top_down_sweep.proofs.Holding.{looked_same}
+use Rattle.top_down_sweep.proofs.operand.Operand.start.Goals as goal
+
+-- no node was given
+pub returns-clause-is : goal.returns-clause-is
+returns-clause-is g c = record {
+  file_is = c.in_ok-reader.ensures.file;
+  variables_are = c.in_ok-reader.ensures.variables;
+  hand_is = tt;
+  given_is = c.in_ok-reader.ensures.place;
+  begun = λ given. (let none = subst IsSome c.in_ok-reader.ensures.given given in absurd (cc));
+}
+
+-- the trailer is that of the file
+pub returns-clause-reading : goal.returns-clause-reading
+returns-clause-reading g c told = starts_reading c.in_ok-reader.reader c.args.file c.args.n (g.S.Shelf.world c.args.shelf.now) (g.S.Shelf.world c.start.new.shelf)
+    c.in_ok-reader.ensures.file c.in_ok-reader.ensures.variables c.in_ok-reader.ensures.reads (c.in_ok-reader.ensures.trailer told)
+    (looked_same (g.S.Shelf.world c.args.shelf.now) (g.S.Shelf.world c.start.new.shelf) (c.start.ensures.content.did told).run c.args.file)

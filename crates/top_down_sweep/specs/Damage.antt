@@ -1,0 +1,66 @@
+-- Where an operand's file is damaged.
+use Rattle.std.specs.Prelude.{◌≡◌, ◌⊎◌, ℕ, ◌+◌, ◌*◌, ◌<◌, true, List, Some}
+use Rattle.rec_words.specs.Words.{node_size}
+use Rattle.shelf_model.specs.declared.file_no.FileNo.{FileNo}
+use Rattle.shelf_model.specs.declared.sort_fault.SortFault.{SortFault}
+use Rattle.shelf_model.specs.declared.sort_fault.SortFault.TheVariants.{Shelf, Damaged, RunsSpent, RoomFull}
+use Rattle.shelf_model.specs.World.{World, file}
+use Rattle.node_file.specs.Nodes.{identifier_at}
+use Rattle.node_reading.specs.Reading.{count_of, IsDamagedNode}
+use Rattle.level_queue.specs.Queues as queues
+use Rattle.top_down_sweep.specs.declared.ask.Ask.{Ask}
+use Rattle.top_down_sweep.specs.declared.ask.Member.{Member}
+use Rattle.top_down_sweep.specs.declared.operand.Operand.{Operand}
+use Rattle.top_down_sweep.specs.declared.machine.Machine.{Machine}
+use Rattle.top_down_sweep.specs.declared.sweep.TopDownSweep.{TopDownSweep}
+use Rattle.top_down_sweep.specs.Members.{is_node}
+use Rattle.top_down_sweep.specs.Sweeps.{files_in}
+use Rattle.top_down_sweep.specs.Waiting.{AreApart}
+
+-- that node isn't there: the record at the place comes behind it, and the one that is read before that comes before it
+pub record IsPassed (bytes : List ℕ) (key at : ℕ) : Type 0 where
+  pub place : ℕ
+  pub among : place < count_of bytes
+  pub at_is : at ≡ place * node_size
+  pub behind : key < identifier_at place bytes
+  pub before : place + 1 < count_of bytes → identifier_at (place + 1) bytes < key
+
+-- nor is it there where each node of the file comes before it
+pub record IsBehindAll (bytes : List ℕ) (key at : ℕ) : Type 0 where
+  pub at_is : at ≡ 0
+  pub before : 0 < count_of bytes → identifier_at 0 bytes < key
+
+-- a node is asked for that isn't there
+abbrev pub IsAbsent : List ℕ → ℕ → ℕ → Type 0
+IsAbsent bytes key at = IsPassed bytes key at ⊎ IsBehindAll bytes key at
+
+-- the file is damaged where a record isn't that of a node that may stand there, or isn't in order, or where the node of
+-- the key isn't there
+abbrev pub IsReadDamage : ℕ → FileNo → ℕ → World → SortFault → Type 0
+IsReadDamage n read key world Shelf = Unit
+IsReadDamage n read key world (Damaged f at) = (f ≡ read)
+    × (IsDamagedNode n (file world read).bytes at ⊎ IsAbsent (file world read).bytes key at)
+IsReadDamage n read key world RunsSpent = ⊥
+IsReadDamage n read key world RoomFull = ⊥
+
+-- so the operand is, in which the member is the node of the key
+abbrev pub IsOperandDamage : ℕ → Operand → ℕ → Member → World → FileNo → ℕ → Type 0
+IsOperandDamage n o key m world f at = (is_node key m ≡ true) × IsReadDamage n o.file key world (Damaged f at)
+
+-- an operand is damaged, in which the first ask wants a node
+pub record IsAskDamage (m : Machine) (world : World) (f : FileNo) (at : ℕ) : Type 0 where
+  pub ask : Ask
+  pub shown_is : queues.shown m.queue ≡ Some ask
+  pub damaged : IsOperandDamage m.place.variables m.operands.first ask.key ask.members.first world f at
+      ⊎ (IsOperandDamage m.place.variables m.operands.second ask.key ask.members.second world f at
+      ⊎ IsOperandDamage m.place.variables m.operands.third ask.key ask.members.third world f at)
+
+-- damage is that of an operand, where they are apart from what the sweep writes
+abbrev pub IsMachineDamage : Machine → World → SortFault → Type 0
+IsMachineDamage m world Shelf = Unit
+IsMachineDamage m world (Damaged f at) = AreApart (files_in m) m.parts.step → IsAskDamage m world f at
+IsMachineDamage m world RunsSpent = Unit
+IsMachineDamage m world RoomFull = Unit
+
+abbrev pub IsDamage : {O : Type 0} → TopDownSweep O → World → SortFault → Type 0
+IsDamage s world e = IsMachineDamage s.machine world e

@@ -1,0 +1,87 @@
+-- The asks that wait, and what was read of the operands, where a folder tells its content.
+use Rattle.std.specs.Prelude.{◌≡◌, ◌≢◌, ℕ, ◌<◌, ◌≤◌, Bool, true, false, List, ◌∷◌, All, length, None, IfSome}
+use Rattle.rec_words.specs.Words.{level_of}
+use Rattle.shelf_model.specs.declared.file_no.FileNo.{FileNo}
+use Rattle.shelf_model.specs.World.{World}
+use Rattle.level_queue.specs.declared.queue.LevelQueue.{LevelQueue}
+use Rattle.level_queue.specs.Queues as queues
+use Rattle.node_reading.specs.Reading.{IsReading}
+use Rattle.top_down_sweep.specs.declared.ask.Ask.{Ask}
+use Rattle.top_down_sweep.specs.declared.operand.Operand.{Operand}
+use Rattle.top_down_sweep.specs.declared.operand.Operands.{Operands}
+use Rattle.top_down_sweep.specs.declared.place.Phase.{Phase}
+use Rattle.top_down_sweep.specs.declared.place.Phase.TheVariants.{Fresh, Asking, Ended}
+use Rattle.top_down_sweep.specs.declared.machine.Machine.{Machine}
+use Rattle.top_down_sweep.specs.declared.start.Files.{Files}
+use Rattle.top_down_sweep.specs.Items.{ask_words, IsAsk, ask_cmp}
+use Rattle.top_down_sweep.specs.Soundness.{is_none, is_sound}
+use Rattle.top_down_sweep.specs.Sweeps.{files_in, IsMade}
+
+-- in that world these asks wait, and they ascend
+abbrev pub Waits : LevelQueue Ask → World → List Ask → Type 0
+Waits q world asks = queues.Lists IsAsk ask_words ask_cmp q world asks
+
+-- no tuple has a number yet
+abbrev pub is_first_at : Phase → Bool
+is_first_at Fresh = true
+is_first_at (Asking s) = is_none s.last
+is_first_at (Ended made) = false
+
+-- the node at hand, where there is one, comes no later than that one
+abbrev pub IsReadTo : ℕ → Operand → Type 0
+IsReadTo key o = IfSome o.hand (λ x. x.uid ≤ key)
+
+-- the ask may be answered, and no operand was read past its node
+pub record Fits (is_first : Bool) (o : Operands) (a : Ask) : Type 0 where
+  pub sound : is_sound is_first a ≡ true
+  pub first : IsReadTo a.key o.first
+  pub second : IsReadTo a.key o.second
+  pub third : IsReadTo a.key o.third
+
+-- no operand is one of the files that the sweep makes or of the parts that it may take
+pub record IsApart (files : Files) (step : ℕ) (f : FileNo) : Type 0 where
+  pub not_inner : f ≢ files.inner
+  pub not_ends : f ≢ files.ends
+  pub no_part : f.step ≡ step → f.part < 3
+
+pub record AreApart (files : Files) (step : ℕ) : Type 0 where
+  pub first : IsApart files step files.first
+  pub second : IsApart files step files.second
+  pub third : IsApart files step files.third
+
+-- what was read of the operands is as their files say
+pub record AreReading (o : Operands) (world : World) : Type 0 where
+  pub first : IsReading o.first.reader world
+  pub second : IsReading o.second.reader world
+  pub third : IsReading o.third.reader world
+
+-- no operand was read past that level
+abbrev pub IsReadWithin : ℕ → Operand → Type 0
+IsReadWithin level o = IfSome o.hand (λ x. level_of x.uid ≤ level)
+
+pub record AreReadTo (level : ℕ) (o : Operands) : Type 0 where
+  pub first : IsReadWithin level o.first
+  pub second : IsReadWithin level o.second
+  pub third : IsReadWithin level o.third
+
+-- no node is at hand
+pub record HasNoHands (o : Operands) : Type 0 where
+  pub first : o.first.hand ≡ None
+  pub second : o.second.hand ≡ None
+  pub third : o.third.hand ≡ None
+
+-- those asks wait, and all fit; no more than so many wait while no tuple has a number; none stands in a file that the
+-- sweep makes; and the operands are read as their files say, where they are apart
+pub record Holds (most : ℕ) (m : Machine) (world : World) (asks : List Ask) : Type 0 where
+  pub wait : Waits m.queue world asks
+  pub fit : All (Fits (is_first_at m.place.phase) m.operands) asks
+  pub few : is_first_at m.place.phase ≡ true → length asks ≤ most
+  pub no_run : (f : FileNo) → IsMade (files_in m) f → ¬ queues.IsRunOf m.queue f
+  pub reading : AreApart (files_in m) m.parts.step → AreReading m.operands world
+
+abbrev pub HoldsSome : ℕ → Machine → World → Type 0
+HoldsSome most m world = (asks : List Ask) × Holds most m world asks
+
+-- that ask is the first of those that wait
+abbrev pub HoldsFirst : Ask → Machine → World → Type 0
+HoldsFirst a m world = (rest : List Ask) × Holds 1 m world (a ∷ rest)
