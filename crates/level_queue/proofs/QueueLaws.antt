@@ -21,7 +21,7 @@ use Rattle.run_merge.specs.declared.sorter.Sorter.{Sorter}
 use Rattle.run_tiers.specs.declared.parts.Parts.{Parts}
 use Rattle.run_tiers.specs.Parts.{Took, Spilled}
 use Rattle.run_merge.specs.Sorters as sorters
-use Rattle.run_merge.proofs.Ascending.{none_less}
+use Rattle.run_files.proofs.RecordOrder.{none_less}
 use Rattle.run_merge.proofs.SorterLaws.{credit_bounded, list_counted, list_kept, list_kept_unchanged, list_kept_with_parts, serves_on}
 use Rattle.level_queue.specs.declared.queue.LevelQueue.{LevelQueue}
 use Rattle.level_queue.specs.Queues.{held, credit, IsRunOf, IsNoLess, IsReached, AnswersNoLess, Serves, Lists}

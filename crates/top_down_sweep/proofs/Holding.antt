@@ -25,7 +25,7 @@ use Rattle.arc_file.specs.Pairs.{DuringWrites, WroteBoth}
 use Rattle.arc_file.specs.Writers.{inner_file, ends_file}
 use Rattle.run_tiers.specs.declared.parts.Parts.{Parts}
 use Rattle.run_tiers.specs.Parts.{IsTaken, OnlyTaken, Spilled, Took}
-use Rattle.run_merge.proofs.Ascending.{none_less}
+use Rattle.run_files.proofs.RecordOrder.{none_less}
 use Rattle.run_merge.specs.Lists.{Joins, Shows, Gives}
 use Rattle.level_queue.specs.declared.queue.LevelQueue.{LevelQueue}
 use Rattle.level_queue.specs.Queues as queues
