@@ -21,7 +21,7 @@ use Rattle.run_sorter.specs.declared.sorter.Sorter.{Sorter}
 use Rattle.run_tiers.specs.declared.parts.Parts.{Parts}
 use Rattle.run_tiers.specs.Parts.{Took, Spilled}
 use Rattle.run_sorter.specs.Sorters as sorters
-use Rattle.record_room.proofs.Ascending.{none_less}
+use Rattle.run_files.proofs.RecordOrder.{none_less}
 use Rattle.run_sorter.proofs.SorterLaws.{credit_bounded, list_counted, list_kept, list_kept_unchanged, list_kept_with_parts, serves_on}
 use Rattle.run_queue.specs.declared.queue.LevelQueue.{LevelQueue}
 use Rattle.run_queue.specs.Queues.{held, credit, IsRunOf, IsNoLess, IsReached, AnswersNoLess, IsOutOfOrder, IsBelow, IsQueueFault, IsQueueCause, Serves, Lists}

@@ -1,5 +1,7 @@
-//! Cases of sorters with runs over a folder in memory.
+//! Cases of sorters and queues with runs, over a folder in memory.
 #![tactic(auto)]
 
 #[cfg(test)]
-mod tests;
+mod queues;
+#[cfg(test)]
+mod sorters;
