@@ -17,6 +17,10 @@ use Rattle.top_down_laws.proofs.NumberTests.{is_same, is_other, same_is, is_less
 abbrev pub row_of_node : Node → Row
 row_of_node x = record { low = x.low; high = x.high }
 
+-- the pointer of a row on a side
+abbrev pub pointer_on : Bool → Row → ℕ
+pointer_on side r = cond side r.high r.low
+
 pub row_at-node : (nodes : List Node) → IsDescending nodes → (x : Node) → Has x nodes →
     row_at nodes x.uid ≡ row_of_node x
 row_at-node [] down x m = absurd m
@@ -256,7 +260,7 @@ module _ (n : ℕ) (nodes : List Node) (reduced : IsReduced n nodes) where
       -- where the key is the last of the level, the member was read where it is of the level
       module _ (deep : level_of key ≤ level_of w) (last : IsUpToKey key w) where
         pub side_pointer : (side : Bool)
-            → (let r : Row = filled key hand (member_at (row_at nodes) key w) in cond side r.high r.low)
+            → pointer_on side (filled key hand (member_at (row_at nodes) key w))
             ≡ onward (row_at nodes) (level_of key) side w
         side_pointer side = by (order w key)
           where
@@ -268,14 +272,14 @@ module _ (n : ℕ) (nodes : List Node) (reduced : IsReduced n nodes) where
             same_either false = refl
 
             read : w ≤ key
-                → (let r : Row = filled key hand (member_at (row_at nodes) key w) in cond side r.high r.low)
+                → pointer_on side (filled key hand (member_at (row_at nodes) key w))
                 ≡ onward (row_at nodes) (level_of key) side w
             read upto =
                 let at : is_at (level_of key) w ≡ true = is_less _ _ (omega (arith, upto)) in
-                ap (λ (r : Row). cond side r.high r.low) (filled_read upto) ∙ sym (ap (either w) at)
+                ap (pointer_on side) (filled_read upto) ∙ sym (ap (either w) at)
 
             by : Order w key
-                → (let r : Row = filled key hand (member_at (row_at nodes) key w) in cond side r.high r.low)
+                → pointer_on side (filled key hand (member_at (row_at nodes) key w))
                 ≡ onward (row_at nodes) (level_of key) side w
             by (Before before) = read (omega (arith, before))
             by (Same same) = read (omega (arith, same))
@@ -284,7 +288,7 @@ module _ (n : ℕ) (nodes : List Node) (reduced : IsReduced n nodes) where
                 omega (arith, behind, upto)) in
                 let at : is_at (level_of key) w ≡ false =
                 not_less _ _ (omega (arith, deep, other)) in
-                ap (λ (r : Row). cond side r.high r.low) (filled_waits behind)
+                ap (pointer_on side) (filled_waits behind)
                 ∙ same_either side ∙ sym (ap (either w) at)
 
   -- members that look the same are the same
