@@ -1,6 +1,6 @@
 -- How many turns a sweep has made.
 use Rattle.std.proofs.Common.{◌≡◌, ◌≢◌, ℕ, ◌+◌, ◌*◌, ◌≤◌, ◌<◌, ◌∙◌, ◌^◌, Bool, true, false, cond, List, [], ◌∷◌, ◌++◌, refl, subst, sym, ap, inl, inr, arith}
-use Rattle.std.specs.Prelude.{◌⊎◌, suc, Option, Some, None, map, length, ◌==◌, ◌&&◌, ◌||◌}
+use Rattle.std.specs.Prelude.{◌⊎◌, suc, Option, Some, None, map, length, ◌==◌, ◌&&◌}
 use Rattle.std.specs.List.{sum_by}
 use Rattle.std.proofs.lemmas.List.{length-append, length-map}
 use Rattle.std.proofs.lemmas.List.Sums.{sum_by-cons}
@@ -21,7 +21,7 @@ use Rattle.top_down_laws.specs.Readings.{Diagrams, targets_in, IsReduced, Readin
 use Rattle.top_down_laws.specs.Remains.{IsTask, waiting_of, ask_of, IsMade, Place, at_place, Numbered, identifier, source_of, Remains, IsMet, answer_arcs, side_waits, next_numbered}
 use Rattle.top_down_laws.specs.Laws.{unread_all, AreDifferent, IsSound}
 use Rattle.top_down_laws.specs.Turns.{waits_at, stages, unread_count, IsCounted, CountBegins, CountInAnyOrder, ReadIsCounted, ReadOnIsCounted, KnownIsCounted, NewIsCounted, TurnsAreFew}
-use Rattle.top_down_laws.proofs.NumberTests.{is_same, is_other, same_is}
+use Rattle.top_down_laws.proofs.NumberTests.{or_left, or_right, is_same, is_other, same_is}
 use Rattle.top_down_laws.proofs.MemberLaws.{hand_in}
 use Rattle.top_down_laws.proofs.AskerLaws.{answer-node}
 use Rattle.top_down_laws.proofs.FormLaws.{one_least}
@@ -91,14 +91,6 @@ module _ (n : ℕ) (nodes : List Node) (reduced : IsReduced n nodes) (key level 
           ap (λ c. waits_at level (cond c (record { low = x.low; high = x.high }) m)) is
           ∙ filled_waits_not n nodes reduced unread x reading level
       by false same none_wanted = absurd (let no : true ≡ false = sym is ∙ none_wanted in cc)
-
-or_left : (b c : Bool) → (b || c) ≡ false → b ≡ false
-or_left true c none = none
-or_left false c none = refl
-
-or_right : (b c : Bool) → (b || c) ≡ false → c ≡ false
-or_right true c none = absurd cc
-or_right false c none = none
 
 -- the asks that wait, by their stages
 abbrev all_stages : List Waiting → ℕ
