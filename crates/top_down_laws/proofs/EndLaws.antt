@@ -105,7 +105,7 @@ module _ (n : ℕ) (rule : Rule) (d : Diagrams) (roots : Tuple) (task : IsTask n
       )
 
   -- the tuples of identifiers
-  different : (tuple : ℕ → Tuple) (used : List ℕ) → AreNumbered used → ((s t : ℕ) → Has s used
+  pub different : (tuple : ℕ → Tuple) (used : List ℕ) → AreNumbered used → ((s t : ℕ) → Has s used
       → Has t used → tuple s ≡ tuple t → s ≡ t)
       → AreDifferent (map tuple used)
   different tuple [] numbered differ = tt

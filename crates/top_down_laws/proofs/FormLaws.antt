@@ -1,23 +1,14 @@
 -- What the form of a tuple is while nodes of its level are read.
 use Rattle.std.proofs.Common.{◌≡◌, ℕ, ◌≤◌, ◌<◌, ◌∙◌, ◌^◌, Bool, true, false, refl, subst, sym, ap, inl, inr, arith}
-use Rattle.std.specs.Prelude.{◌⊎◌, ◌||◌, min}
+use Rattle.std.specs.Prelude.{◌⊎◌, min}
 use Rattle.rec_words.specs.Words.{level_of}
 use Rattle.canon_file.specs.declared.row.Row.{Row}
 use Rattle.top_down.specs.declared.tuple.Tuple.{Tuple}
 use Rattle.top_down.specs.Tuples.{Targets, level_of_tuple, parts}
 use Rattle.top_down_laws.specs.Forms.{Form, least, first_form, form_at, member_at, unread_at, filled, wants, next_key, on_side, twice, IsKey, IsLastKey, IsUpToKey}
 use Rattle.top_down_laws.specs.Readings.{Diagrams, targets_in, AreIn, AreReduced, Readings, AreReadings, want, filled_form, read_on}
-use Rattle.top_down_laws.proofs.NumberTests.{not_less, Order, Before, Same, Behind, order}
+use Rattle.top_down_laws.proofs.NumberTests.{or_left, or_right, not_less, Order, Before, Same, Behind, order}
 use Rattle.top_down_laws.proofs.MemberLaws.{waits_behind, waits_there, does_wait, reads_on, side_pointer, same_member}
-
--- neither of two tests that aren't met
-or_left : (b c : Bool) → (b || c) ≡ false → b ≡ false
-or_left true c none = none
-or_left false c none = refl
-
-or_right : (b c : Bool) → (b || c) ≡ false → c ≡ false
-or_right true c none = absurd cc
-or_right false c none = none
 
 -- tuples with the same members are the same
 pub same_members : (x y : Tuple) → x.first ≡ y.first → x.second ≡ y.second → x.third ≡ y.third

@@ -15,3 +15,4 @@ pub mod CanonReduced
 pub mod PickLaws
 pub mod CanonTasks
 pub mod SoundLaws
+pub mod TurnCounts

@@ -9,20 +9,20 @@ use Rattle.canon_file.specs.Members.{Has}
 use Rattle.canon_file.specs.NodeFiles.{IsDescending}
 use Rattle.canon_file.specs.Walks.{is_at, row_at}
 use Rattle.arc_diagrams.specs.Arcs.{onward}
-use Rattle.top_down_laws.specs.Forms.{twice, is_node, wants, filled, unread_at, member_at, IsUpToKey}
+use Rattle.top_down_laws.specs.Forms.{pointers_of, twice, is_node, wants, filled, unread_at, member_at, IsUpToKey}
 use Rattle.top_down_laws.specs.Readings.{IsIn, IsReduced, IsReadTo}
 use Rattle.top_down_laws.proofs.NumberTests.{is_same, is_other, same_is, is_less, not_less, Order, Before, Same, Behind, order}
 
--- a node's pointers
-abbrev pub row_of_node : Node → Row
-row_of_node x = record { low = x.low; high = x.high }
+-- the pointer of a row on a side
+abbrev pub pointer_on : Bool → Row → ℕ
+pointer_on side r = cond side r.high r.low
 
 pub row_at-node : (nodes : List Node) → IsDescending nodes → (x : Node) → Has x nodes →
-    row_at nodes x.uid ≡ row_of_node x
+    row_at nodes x.uid ≡ pointers_of x
 row_at-node [] down x m = absurd m
 row_at-node (y ∷ ys) down x (inl e) =
     let same : (y.uid == x.uid) ≡ true = is_same y.uid x.uid (ap (λ (z : Node). z.uid) e) in
-    rw same (ap row_of_node e)
+    rw same (ap pointers_of e)
 row_at-node (y ∷ ys) down x (inr m) =
     let below : x.uid < y.uid = down.0 x m in
     let other : (y.uid == x.uid) ≡ false = is_other y.uid x.uid (λ same. omega (
@@ -50,7 +50,7 @@ module _ (n : ℕ) (nodes : List Node) (reduced : IsReduced n nodes) where
       → (row_at nodes w).low ≢ (row_at nodes w).high
   two_pointers w is low =
       let (x, m, uid) = node_in nodes w is low in
-      let row : row_at nodes w ≡ row_of_node x =
+      let row : row_at nodes w ≡ pointers_of x =
       ap (row_at nodes) (sym uid) ∙ row_at-node nodes reduced.descend x m in
       λ same. (reduced.proper x m).differ
       (sym (ap (λ (r : Row). r.low) row) ∙ same ∙ ap (λ (r : Row). r.high) row)
@@ -75,7 +75,7 @@ module _ (n : ℕ) (nodes : List Node) (reduced : IsReduced n nodes) where
   stays key None r other = refl
   stays key (Some x) r other = by (x.uid == key) (is_node key r) other
     where
-      by : (b c : Bool) → c ≡ false → cond (b && c) (row_of_node x) r ≡ r
+      by : (b c : Bool) → c ≡ false → cond (b && c) (pointers_of x) r ≡ r
       by true true other = absurd cc
       by true false other = refl
       by false c other = refl
@@ -94,9 +94,9 @@ module _ (n : ℕ) (nodes : List Node) (reduced : IsReduced n nodes) where
       both = (λ j. is_same w key is j && is_same w key is j)
 
       by : (b : Bool) → (x.uid == key) ≡ b → cond b false (is_node key (twice w)) ≡ false →
-          cond (b && is_node key (twice w)) (row_of_node x) (twice w) ≡ row_at nodes w
+          cond (b && is_node key (twice w)) (pointers_of x) (twice w) ≡ row_at nodes w
       by true same none =
-          ap (λ c. cond c (row_of_node x) (twice w)) both
+          ap (λ c. cond c (pointers_of x) (twice w)) both
           ∙ sym (row_at-node nodes reduced.descend x (hand_in nodes unread x reading))
           ∙ ap (row_at nodes) (same_is x.uid key same ∙ sym is)
       by false same none = let no : true ≡ false = sym both ∙ none in absurd cc
@@ -256,7 +256,7 @@ module _ (n : ℕ) (nodes : List Node) (reduced : IsReduced n nodes) where
       -- where the key is the last of the level, the member was read where it is of the level
       module _ (deep : level_of key ≤ level_of w) (last : IsUpToKey key w) where
         pub side_pointer : (side : Bool)
-            → (let r : Row = filled key hand (member_at (row_at nodes) key w) in cond side r.high r.low)
+            → pointer_on side (filled key hand (member_at (row_at nodes) key w))
             ≡ onward (row_at nodes) (level_of key) side w
         side_pointer side = by (order w key)
           where
@@ -268,14 +268,14 @@ module _ (n : ℕ) (nodes : List Node) (reduced : IsReduced n nodes) where
             same_either false = refl
 
             read : w ≤ key
-                → (let r : Row = filled key hand (member_at (row_at nodes) key w) in cond side r.high r.low)
+                → pointer_on side (filled key hand (member_at (row_at nodes) key w))
                 ≡ onward (row_at nodes) (level_of key) side w
             read upto =
                 let at : is_at (level_of key) w ≡ true = is_less _ _ (omega (arith, upto)) in
-                ap (λ (r : Row). cond side r.high r.low) (filled_read upto) ∙ sym (ap (either w) at)
+                ap (pointer_on side) (filled_read upto) ∙ sym (ap (either w) at)
 
             by : Order w key
-                → (let r : Row = filled key hand (member_at (row_at nodes) key w) in cond side r.high r.low)
+                → pointer_on side (filled key hand (member_at (row_at nodes) key w))
                 ≡ onward (row_at nodes) (level_of key) side w
             by (Before before) = read (omega (arith, before))
             by (Same same) = read (omega (arith, same))
@@ -284,7 +284,7 @@ module _ (n : ℕ) (nodes : List Node) (reduced : IsReduced n nodes) where
                 omega (arith, behind, upto)) in
                 let at : is_at (level_of key) w ≡ false =
                 not_less _ _ (omega (arith, deep, other)) in
-                ap (λ (r : Row). cond side r.high r.low) (filled_waits behind)
+                ap (pointer_on side) (filled_waits behind)
                 ∙ same_either side ∙ sym (ap (either w) at)
 
   -- members that look the same are the same
@@ -314,7 +314,7 @@ module _ (n : ℕ) (nodes : List Node) (reduced : IsReduced n nodes) where
           let (y, k, uid_y) = node_in nodes w in_w (omega (arith, less_w, node)) in
           let rows : row_at nodes v ≡ row_at nodes w =
           sym (was_read key node v in_v less_v) ∙ same ∙ was_read key node w in_w less_w in
-          let nodes_same : row_of_node x ≡ row_of_node y =
+          let nodes_same : pointers_of x ≡ pointers_of y =
           sym (row_at-node nodes reduced.descend x m) ∙ ap (row_at nodes) uid_x ∙ rows
           ∙ ap (row_at nodes) (sym uid_y)
           ∙ row_at-node nodes reduced.descend y k in

@@ -1,6 +1,6 @@
--- Tests on numbers, and what they decide.
+-- Tests, and what they decide.
 use Rattle.std.proofs.Common.{◌≡◌, ◌≢◌, ℕ, ◌<◌, ◌≤◌, Bool, true, false, refl, arith}
-use Rattle.std.specs.Prelude.{◌==◌, nat_lt}
+use Rattle.std.specs.Prelude.{◌==◌, ◌||◌, nat_lt}
 use Rattle.std.proofs.lemmas.Bool.Decides.{nat_tests}
 pub use Rattle.std.proofs.lemmas.Bool.{lt-ltb as is_less, le-ltb as not_less, ltb-true as less_is, ltb-false as from_is, eqb-true as same_is, eqb-false as other_is}
 
@@ -9,6 +9,15 @@ is_same a b same = grind (arith, nat_tests)
 
 pub is_other : (a b : ℕ) → a ≢ b → (a == b) ≡ false
 is_other a b other = grind (arith, nat_tests)
+
+-- neither of two tests that aren't met
+pub or_left : (b c : Bool) → (b || c) ≡ false → b ≡ false
+or_left true c none = none
+or_left false c none = refl
+
+pub or_right : (b c : Bool) → (b || c) ≡ false → c ≡ false
+or_right true c none = absurd cc
+or_right false c none = none
 
 -- a number is before another, the same, or behind it
 pub data Order (a b : ℕ) : Type 0 where

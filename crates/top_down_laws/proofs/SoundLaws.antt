@@ -10,12 +10,12 @@ use Rattle.arc_file.specs.declared.arc.Arc.{Arc}
 use Rattle.top_down.specs.declared.tuple.Tuple.{Tuple}
 use Rattle.top_down.specs.Rules.{Rule}
 use Rattle.top_down.proofs.TurnLaws.{goes_below}
-use Rattle.top_down_laws.specs.Forms.{Waiting, comes_before, is_node, member_at}
+use Rattle.top_down_laws.specs.Forms.{pointers_of, Waiting, comes_before, is_node, member_at}
 use Rattle.top_down_laws.specs.Readings.{Diagrams, targets_in, IsIn, IsReduced}
 use Rattle.top_down_laws.specs.Remains.{IsTask, Open, waiting_of, ask_of, source_of, side_of, IsOpen, IsBehind, Numbered, identifier, IsMade}
 use Rattle.top_down_laws.specs.Laws.{Stands, IsAskedBy, IsSound, AsksAreSound}
 use Rattle.top_down_laws.proofs.NumberTests.{is_same, Order, Before, Same, Behind, order}
-use Rattle.top_down_laws.proofs.MemberLaws.{row_of_node, row_at-node, node_in, was_read, waits}
+use Rattle.top_down_laws.proofs.MemberLaws.{row_at-node, node_in, was_read, waits}
 use Rattle.top_down_laws.proofs.FormLaws.{Levels, levels_from}
 use Rattle.top_down_laws.proofs.OrderLaws.{not_before_self}
 use Rattle.top_down_laws.proofs.ReadTurns.{open_key}
@@ -29,7 +29,7 @@ member_stands n nodes reduced key node w is deep = by (order w key)
     read : w < key → Stands key (member_at (row_at nodes) key w)
     read before =
         let (x, m, uid) = node_in nodes w is (omega (arith, before, node)) in
-        let row : row_of_node x ≡ member_at (row_at nodes) key w =
+        let row : pointers_of x ≡ member_at (row_at nodes) key w =
         sym (row_at-node nodes reduced.descend x m) ∙ ap (row_at nodes) uid
         ∙ sym (was_read n nodes reduced key node w is before) in
         let proper = reduced.proper x m in

@@ -3,3 +3,4 @@ pub mod Readings
 pub mod Remains
 pub mod Laws
 pub mod Operations
+pub mod Turns

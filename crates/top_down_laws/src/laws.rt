@@ -3,6 +3,7 @@
 ghost use Rattle.std.specs.Prelude.{ℕ};
 ghost use Rattle.top_down_laws.specs.Laws.{ForEachTask, ConstantEnds, RootIsAsked, WaitInAnyOrder, WantedIsRead, AskIsReadOn, KnownIsAnswered, NewIsNumbered, AsksForOne, NothingWaits, WrittenStands, RootStands, AsksAreSound};
 ghost use Rattle.top_down_laws.specs.Operations.{ProductIsTask, ChoiceIsTask, QuantifyIsTask, RestrictIsTask};
+ghost use Rattle.top_down_laws.specs.Turns.{CountBegins, CountInAnyOrder, ReadIsCounted, ReadOnIsCounted, KnownIsCounted, NewIsCounted, TurnsAreFew};
 
 /// An operation, a choice, a quantifier or a restriction on canonical diagrams is the task of its
 /// table.
@@ -74,4 +75,16 @@ pub fn what_is_written_stands_for_the_table()
 /// stand from it, the asker lies above it, and it is not the ask that was taken last.
 pub fn asks_that_wait_are_sound()
     ensures { ForEachTask AsksAreSound }
+{}
+
+/// The turns of a sweep are counted by what they read, ask again, answer and number. With what is
+/// still owed they are no more than the nodes, six for each tuple that is met, and three.
+pub fn turns_are_counted()
+    ensures begins { CountBegins }
+    ensures any_order { CountInAnyOrder }
+    ensures read { ReadIsCounted }
+    ensures read_on { ForEachTask ReadOnIsCounted }
+    ensures known { ForEachTask KnownIsCounted }
+    ensures numbered { ForEachTask NewIsCounted }
+    ensures few { ForEachTask TurnsAreFew }
 {}
