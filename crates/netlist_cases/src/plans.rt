@@ -1,12 +1,13 @@
 // Plans of small netlists, and of one that has too many steps.
-ghost use Rattle.std.specs.Prelude.{◌≡◌, ℕ, ◌<◌, length, map, slice_index, nat_lt, IsTrue, IfOk};
+ghost use Rattle.std.specs.Prelude.{◌≡◌, ℕ, ◌<◌, ◌≤◌, length, map, slice_index, nat_lt, IsTrue, IfOk};
 ghost use Rattle.std.specs.List.{list_all};
 ghost use Rattle.blif_reader.specs.Answers.{net_of};
+ghost use Rattle.net_plan.specs.Planners.{signals_of};
 
 use crate::slashed::text;
 use blif_reader::{Netlist, read_netlist};
 use bool_tables::{Bin, Planned, Step, eval_steps};
-use net_plan::{NetPlan, PlanFault, plan_signals};
+use net_plan::{NetPlan, PlanFault, Planner, plan_signals};
 use std::alloc::{AllocError, Global};
 use std::test::Fail;
 
@@ -127,6 +128,68 @@ fn numbers_the_steps_of_what_is_wanted(rt: HostRuntime) -> Result<(), Fail> {
         let numbered = numbers_so(rt.alloc(), slashed, names, first, count, made)?;
         assert!(rt; numbered, "{slashed} {names:?}");
     }
+    Ok(())
+}
+
+/// Whether the planner's plan of these signals over two inputs has so many steps, and makes them
+/// in these.
+fn plans_on(
+    alloc: Global,
+    planner: &mut Planner,
+    net: &Netlist,
+    names: &[&str],
+    first: u32,
+    count: usize,
+    made: &[u32],
+) -> Result<bool, Fail>
+    requires serves { signals_of planner.old ≡ length (net_of net.now).names }
+    requires inputs { (net_of net.now).inputs ≡ 2 }
+    requires first { first ≤ 1048576 }
+    ensures { signals_of planner.new ≡ signals_of planner.old }
+{
+    let wanted = signals(alloc, net, names)?;
+    let plan = planner.plan(alloc, net, &[0, 1], wanted.as_slice(), first)?;
+    Ok(plan.steps.items().len() == count && plan.made.items() == made)
+}
+
+/// Whether the planner has no plan of these signals over two inputs.
+fn plans_none(
+    alloc: Global,
+    planner: &mut Planner,
+    net: &Netlist,
+    names: &[&str],
+    first: u32,
+) -> Result<bool, Fail>
+    requires serves { signals_of planner.old ≡ length (net_of net.now).names }
+    requires inputs { (net_of net.now).inputs ≡ 2 }
+    requires first { first ≤ 1048576 }
+    ensures { signals_of planner.new ≡ signals_of planner.old }
+{
+    let wanted = signals(alloc, net, names)?;
+    let plan = planner.plan(alloc, net, &[0, 1], wanted.as_slice(), first);
+    Ok(matches!(plan.err(), Some(PlanFault::TooManySteps)))
+}
+
+/// Whether one planner plans the half adder as new tables do, whatever it planned before, and what
+/// it refused.
+fn plans_request_after_request(alloc: Global) -> Result<bool, Fail> {
+    let bytes = text(alloc, HALF_ADDER)?;
+    let net = read_netlist(alloc, bytes.as_slice())?;
+    if net.input_count() != 2 {
+        return Ok(false);
+    }
+    let mut planner = Planner::new(alloc, &net)?;
+    Ok(
+        plans_on(alloc, &mut planner, &net, &["s", "c"], 0, 36, &[30, 21])?
+            && plans_on(alloc, &mut planner, &net, &["b"], 7, 1, &[7])?
+            && plans_none(alloc, &mut planner, &net, &["s", "c"], 1048575)?
+            && plans_on(alloc, &mut planner, &net, &["s", "c"], 9, 36, &[39, 30])?,
+    )
+}
+
+#[test]
+fn plans_again_with_the_same_tables(rt: HostRuntime) -> Result<(), Fail> {
+    assert!(rt; plans_request_after_request(rt.alloc())?);
     Ok(())
 }
 

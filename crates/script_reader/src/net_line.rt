@@ -63,7 +63,7 @@ impl<'a> Planning<'a> {
         Ok(levels)
     }
 
-    /// What lines keep of a netlist.
+    /// The levels of a netlist's inputs, and new tables to plan with.
     fn net_tables(&self, alloc: Global, net: &Netlist) -> Result<NetTables, Refusal>
         ensures { GivesTables (net_of net.now) (state_of self.now) result }
     {
@@ -73,7 +73,7 @@ impl<'a> Planning<'a> {
         })
     }
 
-    /// What is kept of a netlist, and what may be where nothing is.
+    /// What is kept of a netlist, or the same made anew where nothing is.
     fn tables_of(
         &self,
         alloc: Global,
