@@ -70,7 +70,8 @@ pub record HasNoHands (o : Operands) : Type 0 where
   pub second : o.second.hand ≡ None
   pub third : o.third.hand ≡ None
 
--- those asks wait, and all fit; no more than so many wait while no tuple has a number; none stands in a file that the
+-- those asks wait, and all fit; no more than so many wait while no tuple has a number; none stands
+-- in a file that the
 -- sweep makes; and the operands are read as their files say, where they are apart
 pub record Holds (most : ℕ) (m : Machine) (world : World) (asks : List Ask) : Type 0 where
   pub wait : Waits m.queue world asks
