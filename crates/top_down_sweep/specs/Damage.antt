@@ -37,8 +37,7 @@ abbrev pub IsAbsent : List ℕ → ℕ → ℕ → Type 0
 IsAbsent bytes key at = IsPassed bytes key at ⊎ IsBehindAll bytes key at
 
 -- the file is damaged where a record isn't that of a node that may stand there, or isn't in order,
--- or where the node of
--- the key isn't there
+-- or where the node of the key isn't there
 abbrev pub IsReadDamage : ℕ → FileNo → ℕ → World → SortFault → Type 0
 IsReadDamage n read key world Shelf = Unit
 IsReadDamage n read key world (Damaged f at) = (f ≡ read)
@@ -48,8 +47,8 @@ IsReadDamage n read key world RoomFull = ⊥
 
 -- so the operand is, in which the member is the node of the key
 abbrev pub IsOperandDamage : ℕ → Operand → ℕ → Member → World → FileNo → ℕ → Type 0
-IsOperandDamage n o key m world f at = (is_node key m ≡ true) × IsReadDamage n o.file key world
-    (Damaged f at)
+IsOperandDamage n o key m world f at = (is_node key m ≡ true)
+    × IsReadDamage n o.file key world (Damaged f at)
 
 -- a call of the folder failed, or an operand's file has no trailer for n variables where one had to
 -- stand
@@ -61,8 +60,8 @@ IsStartFault files n world e = IsTrailerFault files.first n world e
 pub record IsAskDamage (m : Machine) (world : World) (f : FileNo) (at : ℕ) : Type 0 where
   pub ask : Ask
   pub shown_is : queues.shown m.queue ≡ Some ask
-  pub damaged : IsOperandDamage m.place.variables m.operands.first ask.key ask.members.first world f
-      at
+  pub damaged :
+      IsOperandDamage m.place.variables m.operands.first ask.key ask.members.first world f at
       ⊎ (IsOperandDamage m.place.variables m.operands.second ask.key ask.members.second world f at
       ⊎ IsOperandDamage m.place.variables m.operands.third ask.key ask.members.third world f at)
 

@@ -1,8 +1,7 @@
 -- What falls with each turn of a sweep, whatever the folder answers.
 --
 -- Asks are taken in their order, and one that equals the last one taken is taken without effect. So
--- each ask is taken
--- with effect at most once, and puts at most two others into the queue.
+-- each ask is taken with effect at most once, and puts at most two others into the queue.
 use Rattle.std.specs.Prelude.{ℕ, ◌+◌, ◌-◌, ◌*◌, ◌^◌, List, [], ◌∷◌, Option, Some, None}
 use Rattle.node_file.specs.Readers.{left_of}
 use Rattle.level_queue.specs.Queues.{last_of, load_of}
