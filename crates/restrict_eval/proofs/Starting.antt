@@ -52,14 +52,6 @@ canonical_trailer n t r bytes form nodes variables has count =
     let root : (trailer_of r).root ≡ canon_root n t = root_read n (trailer_of r).root (canon_root n t) (canon_nodes n t) bytes (root_fits n t form) has nodes in
     λ i. record { root = root i; count = count i; n = variables i }
 
--- why a start is refused
-pub trailer_fault : (f : FileNo) (n : ℕ) (old new : World) (e : StreamFault) → (file new f).bytes ≡ (file old f).bytes → IsDamageOf f e → IsTrailerDamage n (file new f).bytes e
-    → IsTrailerFault f n old (handed_on e)
-trailer_fault f n old new stream.Shelf same place damage = tt
-trailer_fault f n old new (stream.Damaged g at) same place damage =
-    let there : IsTrailerDamage n (file old f).bytes (stream.Damaged g at) = subst (λ bytes. IsTrailerDamage n bytes (stream.Damaged g at)) same damage in
-    (place, there.0, there.1)
-
 pub no_damage : (e : StreamFault) → e ≡ stream.Shelf → IsNoDamage (handed_on e)
 no_damage e is = subst (λ f. IsNoDamage (handed_on f)) (sym is) tt
 

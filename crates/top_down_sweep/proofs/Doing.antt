@@ -48,7 +48,8 @@ on_ok (Ok x) p = p
 on_ok (Err e) p = tt
 
 -- damage in a file that is read
-pub damage_refuses : (q : Machine) (e : SortFault) → e ≢ Shelf → IsDamageIn q.operands.first.file e → Refuses q e
+pub damage_refuses : (q : Machine) (e : SortFault) → e ≢ Shelf → IsDamageIn q.operands.first.file e
+    → Refuses q e
 damage_refuses q Shelf other damage = tt
 damage_refuses q (Damaged f at) other damage = inl damage
 damage_refuses q RunsSpent other damage = damage
@@ -62,56 +63,72 @@ no_damage q world RunsSpent none = tt
 no_damage q world RoomFull none = tt
 
 -- nor by a full room
-pub full_room : {T : Type 0} (result : Result T SortFault) → IfErr result (λ e. e ≡ RoomFull) → IfErr result IsNoDamage
+pub full_room : {T : Type 0} (result : Result T SortFault) → IfErr result (λ e. e ≡ RoomFull)
+    → IfErr result IsNoDamage
 full_room (Ok x) is = tt
 full_room (Err e) is = subst IsNoDamage (sym is) tt
 
 -- the files whose parts were taken aren't those that are made
-own_took : (inner ends : FileNo) (before after : Parts) (old m : Moment) → ¬ CanBeTaken before.step before.next inner → ¬ CanBeTaken before.step before.next ends
-    → OnlyTaken before after old m → OnlyOwn (λ f. (f ≡ inner) ⊎ (f ≡ ends)) before.step before.next old m
+own_took : (inner ends : FileNo) (before after : Parts) (old m : Moment)
+    → ¬ CanBeTaken before.step before.next inner → ¬ CanBeTaken before.step before.next ends
+    → OnlyTaken before after old m → OnlyOwn (λ f. (f ≡ inner) ⊎ (f ≡ ends)) before.step before.next
+    old m
 own_took inner ends before after old m first second only = record {
   others = λ f other apart. only f (λ t. apart (record { step_is = t.step_is; from = t.from }));
-  kept = λ f mine front kept. subst (λ file. IsKept front file) (sym (only f (λ t. untaken f mine t))) kept;
+  kept = λ f mine front kept. subst (λ file. IsKept front file)
+      (sym (only f (λ t. untaken f mine t))) kept;
 }
   where
     untaken : (f : FileNo) → (f ≡ inner) ⊎ (f ≡ ends) → IsTaken before after f → ⊥
-    untaken f (inl is) t = first (subst (CanBeTaken before.step before.next) is (record { step_is = t.step_is; from = t.from }))
-    untaken f (inr is) t = second (subst (CanBeTaken before.step before.next) is (record { step_is = t.step_is; from = t.from }))
+    untaken f (inl is) t = first (subst (CanBeTaken before.step before.next) is
+        (record { step_is = t.step_is; from = t.from }))
+    untaken f (inr is) t = second (subst (CanBeTaken before.step before.next) is
+        (record { step_is = t.step_is; from = t.from }))
 
 -- those that were written to are
-own_wrote : (inner ends : FileNo) (step next : ℕ) (old m : Moment) → DuringWrites inner ends old m → OnlyOwn (λ f. (f ≡ inner) ⊎ (f ≡ ends)) step next old m
+own_wrote : (inner ends : FileNo) (step next : ℕ) (old m : Moment) → DuringWrites inner ends old m
+    → OnlyOwn (λ f. (f ≡ inner) ⊎ (f ≡ ends)) step next old m
 own_wrote inner ends step next old m during = record {
   others = λ f other apart. during.others f (λ is. other (inl is)) (λ is. other (inr is));
   kept = λ f mine front kept. by f mine front kept;
 }
   where
-    by : (f : FileNo) → (f ≡ inner) ⊎ (f ≡ ends) → (front : List ℕ) → IsKept front (file_in old.folder f) → IsKept front (file_in m.folder f)
-    by f (inl is) front kept = subst (λ g. IsKept front (file_in m.folder g)) (sym is) (during.first_kept front (subst (λ g. IsKept front (file_in old.folder g)) is kept))
-    by f (inr is) front kept = subst (λ g. IsKept front (file_in m.folder g)) (sym is) (during.second_kept front (subst (λ g. IsKept front (file_in old.folder g)) is kept))
+    by : (f : FileNo) → (f ≡ inner) ⊎ (f ≡ ends) → (front : List ℕ)
+        → IsKept front (file_in old.folder f) → IsKept front (file_in m.folder f)
+    by f (inl is) front kept = subst (λ g. IsKept front (file_in m.folder g)) (sym is)
+        (during.first_kept front (subst (λ g. IsKept front (file_in old.folder g)) is kept))
+    by f (inr is) front kept = subst (λ g. IsKept front (file_in m.folder g)) (sym is)
+        (during.second_kept front (subst (λ g. IsKept front (file_in old.folder g)) is kept))
 
 module _ {S : Type 0} (tells : S → Bool) (world : S → World) (counts : S → Faults) where
   -- one call after another
-  pub does_then : {A B : Type 0} (m n a b : ℕ) (s t u : S) (p q r : Machine) (one : Result A SortFault) (two : Result B SortFault)
-      → Does tells world counts m a s t p q one → Does tells world counts n b t u q r two → Does tells world counts (m + n) (a + b) s u p r two
+  pub does_then : {A B : Type 0} (m n a b : ℕ) (s t u : S) (p q r : Machine)
+      (one : Result A SortFault) (two : Result B SortFault)
+      → Does tells world counts m a s t p q one → Does tells world counts n b t u q r two
+      → Does tells world counts (m + n) (a + b) s u p r two
   does_then m n a b s t u p q r one two x y = record {
-    leaves = leaves_then tells world counts machine_accounts m n a b s t u p q r one two x.leaves y.leaves;
+    leaves = leaves_then tells world counts machine_accounts m n a b s t u p q r one two x.leaves
+        y.leaves;
     same = task_then p q r x.same y.same;
     refused = y.refused;
     damage = y.damage;
   }
 
   -- a call costs no more than what is more
-  pub does_more : {T : Type 0} (m n a b : ℕ) (s t : S) (p q : Machine) (result : Result T SortFault) → m ≤ n → a ≤ b
+  pub does_more : {T : Type 0} (m n a b : ℕ) (s t : S) (p q : Machine) (result : Result T SortFault)
+      → m ≤ n → a ≤ b
       → Does tells world counts m a s t p q result → Does tells world counts n b s t p q result
   does_more m n a b s t p q result calls parts x = record {
-    leaves = leaves_more tells world counts machine_accounts m n a b s t p q result calls parts x.leaves;
+    leaves = leaves_more tells world counts machine_accounts m n a b s t p q result calls parts
+        x.leaves;
     same = x.same;
     refused = x.refused;
     damage = x.damage;
   }
 
   -- what is answered instead where nothing failed
-  pub does_ok : {A B : Type 0} (m a : ℕ) (s t : S) (p q : Machine) (result : Result A SortFault) (x : B)
+  pub does_ok : {A B : Type 0} (m a : ℕ) (s t : S) (p q : Machine) (result : Result A SortFault)
+      (x : B)
       → Does tells world counts m a s t p q result → Does tells world counts m a s t p q (Ok x)
   does_ok m a s t p q result x d = record {
     leaves = leaves_ok tells world counts machine_accounts m a s t p q result x d.leaves;
@@ -121,36 +138,56 @@ module _ {S : Type 0} (tells : S → Bool) (world : S → World) (counts : S →
   }
 
   -- a refusal that is handed on
-  pub does_err : {A B : Type 0} (m a : ℕ) (s t : S) (p q : Machine) (result : Result A SortFault) (before : Result B SortFault) (e : SortFault)
-      → IsErrAnd result (λ f. f ≡ e) → before ≡ Err e → Does tells world counts m a s t p q before → Does tells world counts m a s t p q result
+  pub does_err : {A B : Type 0} (m a : ℕ) (s t : S) (p q : Machine) (result : Result A SortFault)
+      (before : Result B SortFault) (e : SortFault)
+      → IsErrAnd result (λ f. f ≡ e) → before ≡ Err e → Does tells world counts m a s t p q before
+      → Does tells world counts m a s t p q result
   does_err m a s t p q (Ok x) before e is was d = absurd is
   does_err m a s t p q (Err f) before e is was d = record {
-    leaves = leaves_err tells world counts machine_accounts m a s t p q (Err f) before e is was d.leaves;
+    leaves = leaves_err tells world counts machine_accounts m a s t p q (Err f) before e is was
+        d.leaves;
     same = d.same;
     refused = subst (λ r. IfErr r (Refuses q)) (was ∙ ap Err (sym is)) d.refused;
-    damage = subst (λ r. IfErr r (λ e. IsTrue (tells t) → IsMachineDamage q (world t) e)) (was ∙ ap Err (sym is)) d.damage;
+    damage = subst (λ r. IfErr r (λ e. IsTrue (tells t) → IsMachineDamage q (world t) e))
+        (was ∙ ap Err (sym is)) d.damage;
   }
 
   -- two calls, of which the second one was refused, and two that succeeded
-  pub refused_second : {A B C : Type 0} (m n a b most parts : ℕ) (s t u : S) (p q r : Machine) (one : Result A SortFault) (two : Result B SortFault) (result : Result C SortFault) (e : SortFault)
-      → m + n ≤ most → a + b ≤ parts → Does tells world counts m a s t p q one → Does tells world counts n b t u q r two
-      → IsErrAnd result (λ f. f ≡ e) → two ≡ Err e → Does tells world counts most parts s u p r result
+  pub refused_second : {A B C : Type 0} (m n a b most parts : ℕ) (s t u : S) (p q r : Machine)
+      (one : Result A SortFault) (two : Result B SortFault) (result : Result C SortFault)
+      (e : SortFault)
+      → m + n ≤ most → a + b ≤ parts → Does tells world counts m a s t p q one
+      → Does tells world counts n b t u q r two
+      → IsErrAnd result (λ f. f ≡ e) → two ≡ Err e
+      → Does tells world counts most parts s u p r result
   refused_second m n a b most parts s t u p q r one two result e calls more x y is was =
-      does_more (m + n) most (a + b) parts s u p r result calls more (does_err (m + n) (a + b) s u p r result two e is was (does_then m n a b s t u p q r one two x y))
+      does_more (m + n) most (a + b) parts s u p r result calls more
+      (does_err (m + n) (a + b) s u p r result two e is was
+      (does_then m n a b s t u p q r one two x y))
 
-  pub then_more : {A B : Type 0} (m n a b most parts : ℕ) (s t u : S) (p q r : Machine) (one : Result A SortFault) (two : Result B SortFault)
-      → m + n ≤ most → a + b ≤ parts → Does tells world counts m a s t p q one → Does tells world counts n b t u q r two → Does tells world counts most parts s u p r two
+  pub then_more : {A B : Type 0} (m n a b most parts : ℕ) (s t u : S) (p q r : Machine)
+      (one : Result A SortFault) (two : Result B SortFault)
+      → m + n ≤ most → a + b ≤ parts → Does tells world counts m a s t p q one
+      → Does tells world counts n b t u q r two → Does tells world counts most parts s u p r two
   then_more m n a b most parts s t u p q r one two calls more x y =
-      does_more (m + n) most (a + b) parts s u p r two calls more (does_then m n a b s t u p q r one two x y)
+      does_more (m + n) most (a + b) parts s u p r two calls more
+      (does_then m n a b s t u p q r one two x y)
 
-  pub then_ok : {A B C : Type 0} (m n a b most parts : ℕ) (s t u : S) (p q r : Machine) (one : Result A SortFault) (two : Result B SortFault) (x : C)
-      → m + n ≤ most → a + b ≤ parts → Does tells world counts m a s t p q one → Does tells world counts n b t u q r two → Does tells world counts most parts s u p r (Ok x)
+  pub then_ok : {A B C : Type 0} (m n a b most parts : ℕ) (s t u : S) (p q r : Machine)
+      (one : Result A SortFault) (two : Result B SortFault) (x : C)
+      → m + n ≤ most → a + b ≤ parts → Does tells world counts m a s t p q one
+      → Does tells world counts n b t u q r two
+      → Does tells world counts most parts s u p r (Ok x)
   then_ok m n a b most parts s t u p q r one two x calls more first second =
-      does_ok most parts s u p r two x (then_more m n a b most parts s t u p q r one two calls more first second)
+      does_ok most parts s u p r two x (then_more m n a b most parts s t u p q r one two calls more
+      first second)
 
   -- a refusal where no call failed
-  pub does_refused : {A B : Type 0} (m a : ℕ) (s t : S) (p q : Machine) (result : Result A SortFault) (e : SortFault) → e ≢ Shelf → Refuses q e → (IsTrue (tells t) → IsMachineDamage q (world t) e)
-      → Does tells world counts m a s t p q result → Does tells world counts m a s t p q (err {T = B} e)
+  pub does_refused : {A B : Type 0} (m a : ℕ) (s t : S) (p q : Machine)
+      (result : Result A SortFault) (e : SortFault) → e ≢ Shelf → Refuses q e
+      → (IsTrue (tells t) → IsMachineDamage q (world t) e)
+      → Does tells world counts m a s t p q result
+      → Does tells world counts m a s t p q (err {T = B} e)
   does_refused m a s t p q result e other why damage d = record {
     leaves = record {
       made = d.leaves.made;
@@ -176,31 +213,42 @@ module _ {S : Type 0} (tells : S → Bool) (world : S → World) (counts : S →
       err_is is = cc
 
   -- a write to the two files that are made
-  pub own_both : (inner ends : FileNo) (step next n : ℕ) (s t : S) → Told tells s t (WroteBoth n inner ends (world s) (world t))
-      → Told tells s t (Ran (OnlyOwn (λ f. (f ≡ inner) ⊎ (f ≡ ends)) step next (now (world s))) (world s) (world t))
+  pub own_both : (inner ends : FileNo) (step next n : ℕ) (s t : S)
+      → Told tells s t (WroteBoth n inner ends (world s) (world t))
+      → Told tells s t (Ran (OnlyOwn (λ f. (f ≡ inner) ⊎ (f ≡ ends)) step next (now (world s)))
+      (world s) (world t))
   own_both inner ends step next n s t did = told tells s t _ _ did (λ _ wrote.
-      ran_weakens (world s) (world t) (DuringWrites inner ends (now (world s))) (OnlyOwn (λ f. (f ≡ inner) ⊎ (f ≡ ends)) step next (now (world s)))
+      ran_weakens (world s) (world t) (DuringWrites inner ends (now (world s)))
+      (OnlyOwn (λ f. (f ≡ inner) ⊎ (f ≡ ends)) step next (now (world s)))
       (λ m during. own_wrote inner ends step next (now (world s)) m during) wrote.run)
 
   -- parts that were taken
-  pub own_spilled : (inner ends : FileNo) (before after : Parts) (s t : S) → ¬ CanBeTaken before.step before.next inner → ¬ CanBeTaken before.step before.next ends
+  pub own_spilled : (inner ends : FileNo) (before after : Parts) (s t : S)
+      → ¬ CanBeTaken before.step before.next inner → ¬ CanBeTaken before.step before.next ends
       → Told tells s t (Spilled before after (world s) (world t))
-      → Told tells s t (Ran (OnlyOwn (λ f. (f ≡ inner) ⊎ (f ≡ ends)) before.step before.next (now (world s))) (world s) (world t))
+      → Told tells s t (Ran (OnlyOwn (λ f. (f ≡ inner) ⊎ (f ≡ ends)) before.step before.next
+      (now (world s))) (world s) (world t))
   own_spilled inner ends before after s t first second did = told tells s t _ _ did (λ _ ran.
-      ran_weakens (world s) (world t) (OnlyTaken before after (now (world s))) (OnlyOwn (λ f. (f ≡ inner) ⊎ (f ≡ ends)) before.step before.next (now (world s)))
+      ran_weakens (world s) (world t) (OnlyTaken before after (now (world s)))
+      (OnlyOwn (λ f. (f ≡ inner) ⊎ (f ≡ ends)) before.step before.next (now (world s)))
       (λ m only. own_took inner ends before after (now (world s)) m first second only) ran)
 
   -- only the files of arcs were written to
-  pub does_wrote : {T : Type 0} (n : ℕ) (s t : S) (p : Machine) (place : Place) (w : ArcWriter) (result : Result T SortFault) → place.variables ≡ p.place.variables
-      → SameFiles p.writer w → Told tells s t (WroteBoth n (inner_file p.writer) (ends_file p.writer) (world s) (world t))
-      → OnlySortShelf (counts s) (counts t) result → IfErr result (λ e. e ≡ Shelf) → Does tells world counts n 0 s t p (record p { place = place; writer = w }) result
+  pub does_wrote : {T : Type 0} (n : ℕ) (s t : S) (p : Machine) (place : Place) (w : ArcWriter)
+      (result : Result T SortFault) → place.variables ≡ p.place.variables
+      → SameFiles p.writer w → Told tells s t (WroteBoth n (inner_file p.writer)
+      (ends_file p.writer) (world s) (world t))
+      → OnlySortShelf (counts s) (counts t) result → IfErr result (λ e. e ≡ Shelf)
+      → Does tells world counts n 0 s t p (record p { place = place; writer = w }) result
   does_wrote n s t p place w result variables same did faults cause = record {
     leaves = record {
       made = λ f mine. subst (λ v. v) (λ j. (f ≡ same.inner_is j) ⊎ (f ≡ same.ends_are j)) mine;
-      making = λ f mine. subst (λ v. v) (λ j. (f ≡ sym same.inner_is j) ⊎ (f ≡ sym same.ends_are j)) mine;
+      making = λ f mine. subst (λ v. v) (λ j. (f ≡ sym same.inner_is j) ⊎ (f ≡ sym same.ends_are j))
+          mine;
       step_is = refl;
       later = omega arith;
-      content = own_both (inner_file p.writer) (ends_file p.writer) p.parts.step p.parts.next n s t did;
+      content = own_both (inner_file p.writer) (ends_file p.writer) p.parts.step p.parts.next n s t
+          did;
       calls = λ is_told. (let few = (did.did is_told).few in omega (arith, few));
       spent = omega arith;
       faults = faults;
@@ -219,51 +267,67 @@ module _ {S : Type 0} (tells : S → Bool) (world : S → World) (counts : S →
     damage = none result cause;
   }
     where
-      none : {X : Type 0} (r : Result X SortFault) → IfErr r (λ e. e ≡ Shelf) → IfErr r (λ e. IsTrue (tells t) → IsMachineDamage (record p { place = place; writer = w }) (world t) e)
+      none : {X : Type 0} (r : Result X SortFault) → IfErr r (λ e. e ≡ Shelf)
+          → IfErr r (λ e. IsTrue (tells t) → IsMachineDamage
+          (record p { place = place; writer = w }) (world t) e)
       none (Ok x) is = tt
       none (Err e) is = λ told. no_damage _ _ e (subst IsNoDamage (sym is) tt)
 
-      by : {X : Type 0} (r : Result X SortFault) → IfErr r (λ e. e ≡ Shelf) → IfErr r (Refuses (record p { place = place; writer = w }))
+      by : {X : Type 0} (r : Result X SortFault) → IfErr r (λ e. e ≡ Shelf)
+          → IfErr r (Refuses (record p { place = place; writer = w }))
       by (Ok x) is = tt
       by (Err e) is = subst (Refuses (record p { place = place; writer = w })) (sym is) tt
 
   -- only files whose parts were taken were
-  pub does_spilled : {T : Type 0} (m a : ℕ) (s t : S) (p : Machine) (q : LevelQueue Ask) (parts : Parts) (result : Result T SortFault) → IsServed p
-      → Told tells s t (Spilled p.parts parts (world s) (world t)) → (IsTrue (tells t) → Paid m (queues.credit p.queue) (queues.credit q) (world s) (world t))
+  pub does_spilled : {T : Type 0} (m a : ℕ) (s t : S) (p : Machine) (q : LevelQueue Ask)
+      (parts : Parts) (result : Result T SortFault) → IsServed p
+      → Told tells s t (Spilled p.parts parts (world s) (world t))
+      → (IsTrue (tells t) → Paid m (queues.credit p.queue) (queues.credit q) (world s)
+      (world t))
       → Took p.parts parts → PaidParts a (queues.stock p.queue) (queues.stock q) p.parts parts
-      → OnlySortShelf (counts s) (counts t) result → IfErr result (Refuses (record p { queue = q; parts = parts })) → IfErr result IsNoDamage
+      → OnlySortShelf (counts s) (counts t) result
+      → IfErr result (Refuses (record p { queue = q; parts = parts })) → IfErr result IsNoDamage
       → Does tells world counts m a s t p (record p { queue = q; parts = parts }) result
-  does_spilled m a s t p q parts result served did paid took spent faults refused undamaged = record {
-    leaves = record {
-      made = λ f mine. mine;
-      making = λ f mine. mine;
-      step_is = took.step_is;
-      later = took.later;
-      content = own_spilled (inner_file p.writer) (ends_file p.writer) p.parts parts s t served.inner_made served.ends_made did;
-      calls = paid;
-      spent = (let all = spent in omega (arith, all));
-      faults = faults;
-    };
-    same = record { files_are = refl; variables_are = refl };
-    refused = refused;
-    damage = none result undamaged;
-  }
+  does_spilled m a s t p q parts result served did paid took spent faults refused undamaged =
+      record {
+        leaves = record {
+          made = λ f mine. mine;
+          making = λ f mine. mine;
+          step_is = took.step_is;
+          later = took.later;
+          content = own_spilled (inner_file p.writer) (ends_file p.writer) p.parts parts s t
+              served.inner_made served.ends_made did;
+          calls = paid;
+          spent = (let all = spent in omega (arith, all));
+          faults = faults;
+        };
+        same = record { files_are = refl; variables_are = refl };
+        refused = refused;
+        damage = none result undamaged;
+      }
     where
-      none : {X : Type 0} (r : Result X SortFault) → IfErr r IsNoDamage → IfErr r (λ e. IsTrue (tells t) → IsMachineDamage (record p { queue = q; parts = parts }) (world t) e)
+      none : {X : Type 0} (r : Result X SortFault) → IfErr r IsNoDamage
+          → IfErr r (λ e. IsTrue (tells t) → IsMachineDamage (record p { queue = q; parts = parts })
+          (world t) e)
       none (Ok x) is = tt
       none (Err e) is = λ told. no_damage _ _ e is
 
   -- an operand was looked at
-  pub does_looked : {T : Type 0} (n : ℕ) (s t : S) (p : Machine) (o : Operands) (result : Result T SortFault) → files_in (record p { operands = o }) ≡ files_in p
-      → Told tells s t (Looked n (world s) (world t)) → OnlySortShelf (counts s) (counts t) result → IfErr result (Refuses (record p { operands = o }))
-      → IfErr result (λ e. IsTrue (tells t) → IsMachineDamage (record p { operands = o }) (world t) e) → Does tells world counts n 0 s t p (record p { operands = o }) result
+  pub does_looked : {T : Type 0} (n : ℕ) (s t : S) (p : Machine) (o : Operands)
+      (result : Result T SortFault) → files_in (record p { operands = o }) ≡ files_in p
+      → Told tells s t (Looked n (world s) (world t)) → OnlySortShelf (counts s) (counts t) result
+      → IfErr result (Refuses (record p { operands = o }))
+      → IfErr result (λ e. IsTrue (tells t) → IsMachineDamage (record p { operands = o }) (world t)
+      e) → Does tells world counts n 0 s t p (record p { operands = o }) result
   does_looked n s t p o result files did faults refused damage = record {
     leaves = record {
       made = λ f mine. mine;
       making = λ f mine. mine;
       step_is = refl;
       later = omega arith;
-      content = told tells s t _ _ did (λ _ looked. ran_weakens (world s) (world t) (Stays (now (world s))) _ (λ m same. own_stays _ p.parts.step p.parts.next (now (world s)) m same) looked.run);
+      content = told tells s t _ _ did (λ _ looked. ran_weakens (world s) (world t)
+          (Stays (now (world s))) _ (λ m same. own_stays _ p.parts.step p.parts.next (now (world s))
+          m same) looked.run);
       calls = λ is_told. (let few = (did.did is_told).few in omega (arith, few));
       spent = omega arith;
       faults = faults;

@@ -36,7 +36,8 @@ tail_fits : (x : ℕ) (xs : List ℕ) → AreWords (x ∷ xs) → AreWords xs
 tail_fits x xs fit = λ k d within. fit (suc k) d (omega (arith, within))
 
 -- of two numbers that are continued by as many digits, the one that was less stays less
-continued_less : (a b : ℕ) (xs ys : List ℕ) → a < b → length xs ≡ length ys → AreWords xs → AreWords ys → continued a xs < continued b ys
+continued_less : (a b : ℕ) (xs ys : List ℕ) → a < b → length xs ≡ length ys → AreWords xs
+    → AreWords ys → continued a xs < continued b ys
 unfolding continued
 continued_less a b [] [] less same first second = less
 continued_less a b [] (y ∷ ys) less same first second = absurd (omega (arith, same))
@@ -44,10 +45,13 @@ continued_less a b (x ∷ xs) [] less same first second = absurd (omega (arith, 
 continued_less a b (x ∷ xs) (y ∷ ys) less same first second =
     let fits : x < 2 ^ 64 = head_fits x xs first in
     let more : a * 2 ^ 64 + x < b * 2 ^ 64 + y = omega (arith, less, fits) in
-    continued_less (a * 2 ^ 64 + x) (b * 2 ^ 64 + y) xs ys more (omega (arith, same)) (tail_fits x xs first) (tail_fits y ys second)
+    continued_less (a * 2 ^ 64 + x) (b * 2 ^ 64 + y) xs ys more (omega (arith, same))
+    (tail_fits x xs first) (tail_fits y ys second)
 
--- of one number that is continued by different words in turn, the one whose words aren't less is greater
-continued_more : (a : ℕ) (xs ys : List ℕ) → length xs ≡ length ys → AreWords xs → AreWords ys → is_lt (slice_cmp nat_cmp xs ys) ≡ false → xs ≢ ys
+-- of one number that is continued by different words in turn, the one whose words aren't less is
+-- greater
+continued_more : (a : ℕ) (xs ys : List ℕ) → length xs ≡ length ys → AreWords xs → AreWords ys
+    → is_lt (slice_cmp nat_cmp xs ys) ≡ false → xs ≢ ys
     → continued a ys < continued a xs
 unfolding continued
 continued_more a [] [] same first second none differ = absurd (differ refl)
@@ -56,14 +60,20 @@ continued_more a (x ∷ xs) [] same first second none differ = absurd (omega (ar
 continued_more a (x ∷ xs) (y ∷ ys) same first second none differ =
     let long : length xs ≡ length ys = omega (arith, same) in
     by (nat_cmp x y) (ranked x y (nat_cmp x y) refl) none
-    (λ is tied. continued_more (a * 2 ^ 64 + x) xs ys long (tail_fits x xs first) (tail_fits y ys second) tied (λ e. differ (λ i. is i ∷ e i)))
-    (λ above. continued_less (a * 2 ^ 64 + y) (a * 2 ^ 64 + x) ys xs (omega (arith, above)) (sym long) (tail_fits y ys second) (tail_fits x xs first))
+    (λ is tied. continued_more (a * 2 ^ 64 + x) xs ys long (tail_fits x xs first)
+    (tail_fits y ys second) tied (λ e. differ (λ i. is i ∷ e i)))
+    (λ above. continued_less (a * 2 ^ 64 + y) (a * 2 ^ 64 + x) ys xs (omega (arith, above))
+    (sym long) (tail_fits y ys second) (tail_fits x xs first))
   where
-    by : (o : Ordering) → MatchOrdering o (x < y) (x ≡ y) (y < x) → is_lt (ordering_then o (slice_cmp nat_cmp xs ys)) ≡ false
-        → (x ≡ y → is_lt (slice_cmp nat_cmp xs ys) ≡ false → continued (a * 2 ^ 64 + x) ys < continued (a * 2 ^ 64 + x) xs)
-        → (y < x → continued (a * 2 ^ 64 + y) ys < continued (a * 2 ^ 64 + x) xs) → continued (a * 2 ^ 64 + y) ys < continued (a * 2 ^ 64 + x) xs
+    by : (o : Ordering) → MatchOrdering o (x < y) (x ≡ y) (y < x)
+        → is_lt (ordering_then o (slice_cmp nat_cmp xs ys)) ≡ false
+        → (x ≡ y → is_lt (slice_cmp nat_cmp xs ys) ≡ false
+        → continued (a * 2 ^ 64 + x) ys < continued (a * 2 ^ 64 + x) xs)
+        → (y < x → continued (a * 2 ^ 64 + y) ys < continued (a * 2 ^ 64 + x) xs)
+        → continued (a * 2 ^ 64 + y) ys < continued (a * 2 ^ 64 + x) xs
     by Less below none again greater = absurd (cc)
-    by Equal is none again greater = subst (λ z. continued (a * 2 ^ 64 + z) ys < continued (a * 2 ^ 64 + x) xs) is (again is none)
+    by Equal is none again greater = subst (λ z. continued (a * 2 ^ 64 + z) ys < continued
+        (a * 2 ^ 64 + x) xs) is (again is none)
     by Greater above none again greater = greater above
 
 -- eight words with nothing in them
@@ -79,7 +89,8 @@ zeros_fit (suc (suc (suc (suc zero)))) d within = omega arith
 zeros_fit (suc (suc (suc (suc (suc zero))))) d within = omega arith
 zeros_fit (suc (suc (suc (suc (suc (suc zero)))))) d within = omega arith
 zeros_fit (suc (suc (suc (suc (suc (suc (suc zero))))))) d within = omega arith
-zeros_fit (suc (suc (suc (suc (suc (suc (suc (suc k)))))))) d within = absurd (omega (arith, within))
+zeros_fit (suc (suc (suc (suc (suc (suc (suc (suc k)))))))) d within = absurd
+    (omega (arith, within))
 
 -- there are no more asks than eight words can say
 rank_fits : (a : Ask) → IsAsk a → rank_of a < 2 ^ 512
@@ -87,7 +98,8 @@ unfolding continued rank_of
 rank_fits a is = continued_less 0 1 (ask_words a) zeros (omega arith) refl (ask_fits a is) zeros_fit
 
 -- an ask that isn't less than the last one taken, and isn't that one, leaves fewer behind it
-pub takes_on : (last : Option Ask) (a : Ask) → IsAsk a → IfSome last IsAsk → IsNoLess ask_cmp last a → last ≢ Some a
+pub takes_on : (last : Option Ask) (a : Ask) → IsAsk a → IfSome last IsAsk → IsNoLess ask_cmp last a
+    → last ≢ Some a
     → asks_behind (Some a) < asks_behind last
 unfolding asks_behind rank_of
 takes_on None a is was no_less differ = (let fits = rank_fits a is in omega (arith, fits))
@@ -101,41 +113,60 @@ takes_on (Some l) a is was no_less differ =
         (ap is_lt (sym (ask_order a l)) ∙ no_less) (λ e. differ (ap Some (sym (same_ask a l e))))
 
 -- what the queue answers as its first ask is shown from then on
-pub first_shown : (m : Machine) (last : Option Ask) (result : Result (Option Ask) SortFault) → last_of m.queue ≡ last → GivesValue IsAsk result → AnswersNoLess ask_cmp last result
+pub first_shown : (m : Machine) (last : Option Ask) (result : Result (Option Ask) SortFault)
+    → last_of m.queue ≡ last → GivesValue IsAsk result → AnswersNoLess ask_cmp last result
     → IsShown (shown m.queue) result → IfOk result (λ found. IfSome found (IsFirst m))
 first_shown m last (Ok None) same value order shows = tt
-first_shown m last (Ok (Some a)) same value order shows = record { shown_is = shows; value = value; no_less = subst (λ l. IsNoLess ask_cmp l a) (sym same) order }
+first_shown m last (Ok (Some a)) same value order shows =
+    record {
+      shown_is = shows;
+      value = value;
+      no_less = subst (λ l. IsNoLess ask_cmp l a) (sym same)
+          order;
+    }
 first_shown m last (Err e) same value order shows = tt
 
 -- where it is taken with effect, fewer are behind it
-pub first_behind : (m : Machine) (a : Ask) → IsServed m → IsFirst m a → last_of m.queue ≢ Some a → asks_behind (Some a) < asks_behind (last_of m.queue)
-first_behind m a served first differ = takes_on (last_of m.queue) a first.value (by (last_of m.queue) served.values.reached) first.no_less differ
+pub first_behind : (m : Machine) (a : Ask) → IsServed m → IsFirst m a → last_of m.queue ≢ Some a
+    → asks_behind (Some a) < asks_behind (last_of m.queue)
+first_behind m a served first differ = takes_on (last_of m.queue) a first.value
+    (by (last_of m.queue) served.values.reached) first.no_less differ
   where
-    by : (last : Option Ask) → IfSome last (IsReached IsAsk ask_words m.queue.sorter) → IfSome last IsAsk
+    by : (last : Option Ask) → IfSome last (IsReached IsAsk ask_words m.queue.sorter)
+        → IfSome last IsAsk
     by None was = tt
     by (Some l) was = was.value
 
 -- where the last ask is taken once more, one less waits
-pub falls_known : (old new : Machine) (a : Ask) (result : Result Unit SortFault) → last_of old.queue ≡ Some a → new.operands ≡ old.operands
-    → OnOk result (Lightens (load_of old.queue) (load_of new.queue)) → OnOk result (last_of new.queue ≡ Some a) → OnOk result (weight new < weight old)
+pub falls_known : (old new : Machine) (a : Ask) (result : Result Unit SortFault)
+    → last_of old.queue ≡ Some a → new.operands ≡ old.operands
+    → OnOk result (Lightens (load_of old.queue) (load_of new.queue))
+    → OnOk result (last_of new.queue ≡ Some a) → OnOk result (weight new < weight old)
 falls_known old new a (Err e) known same lighter last = tt
 falls_known old new a (Ok u) known same lighter last =
-    let behind : asks_behind (last_of new.queue) ≡ asks_behind (last_of old.queue) = ap asks_behind (last ∙ sym known) in
+    let behind : asks_behind (last_of new.queue) ≡ asks_behind (last_of old.queue) = ap asks_behind
+    (last ∙ sym known) in
     let nodes : unread new.operands ≡ unread old.operands = ap unread same in
     let one : load_of old.queue ≡ load_of new.queue + 1 = lighter.by_one in
     omega (arith, behind, nodes, one)
 
 -- where a node is read, one less is to be read
-pub falls_read : (old new : Machine) (result : Result Unit SortFault) → new.queue ≡ old.queue → OnOk result (unread new.operands < unread old.operands) → OnOk result (weight new < weight old)
+pub falls_read : (old new : Machine) (result : Result Unit SortFault) → new.queue ≡ old.queue
+    → OnOk result (unread new.operands < unread old.operands)
+    → OnOk result (weight new < weight old)
 falls_read old new (Err e) same fewer = tt
 falls_read old new (Ok u) same fewer =
-    let behind : asks_behind (last_of new.queue) ≡ asks_behind (last_of old.queue) = ap (λ (q : LevelQueue Ask). asks_behind (last_of q)) same in
-    let waits : load_of new.queue ≡ load_of old.queue = ap (λ (q : LevelQueue Ask). load_of q) same in
+    let behind : asks_behind (last_of new.queue) ≡ asks_behind (last_of old.queue) = ap
+    (λ (q : LevelQueue Ask). asks_behind (last_of q)) same in
+    let waits : load_of new.queue ≡ load_of old.queue = ap (λ (q : LevelQueue Ask). load_of q) same
+    in
     omega (arith, behind, waits, fewer)
 
 -- where an ask is taken with effect, it puts two at most
-pub falls_taken : (old new : Machine) (a : Ask) (result : Result Unit SortFault) → asks_behind (Some a) < asks_behind (last_of old.queue) → new.operands ≡ old.operands
-    → OnOk result (load_of new.queue ≤ load_of old.queue + 1) → OnOk result (last_of new.queue ≡ Some a) → OnOk result (weight new < weight old)
+pub falls_taken : (old new : Machine) (a : Ask) (result : Result Unit SortFault)
+    → asks_behind (Some a) < asks_behind (last_of old.queue) → new.operands ≡ old.operands
+    → OnOk result (load_of new.queue ≤ load_of old.queue + 1)
+    → OnOk result (last_of new.queue ≡ Some a) → OnOk result (weight new < weight old)
 falls_taken old new a (Err e) fewer same few last = tt
 falls_taken old new a (Ok u) fewer same few last =
     let behind : asks_behind (last_of new.queue) ≡ asks_behind (Some a) = ap asks_behind last in
@@ -143,11 +174,14 @@ falls_taken old new a (Ok u) fewer same few last =
     omega (arith, behind, nodes, few, fewer)
 
 -- where an ask is put, one more waits
-pub weight_put : (old new : Machine) (result : Result Unit SortFault) → new.operands ≡ old.operands → last_of new.queue ≡ last_of old.queue
-    → OnOk result (load_of new.queue ≡ load_of old.queue + 1) → OnOk result (weight new ≡ weight old + 1)
+pub weight_put : (old new : Machine) (result : Result Unit SortFault) → new.operands ≡ old.operands
+    → last_of new.queue ≡ last_of old.queue
+    → OnOk result (load_of new.queue ≡ load_of old.queue + 1)
+    → OnOk result (weight new ≡ weight old + 1)
 weight_put old new (Err e) same last more = tt
 weight_put old new (Ok u) same last more =
-    let behind : asks_behind (last_of new.queue) ≡ asks_behind (last_of old.queue) = ap asks_behind last in
+    let behind : asks_behind (last_of new.queue) ≡ asks_behind (last_of old.queue) = ap asks_behind
+    last in
     let nodes : unread new.operands ≡ unread old.operands = ap unread same in
     omega (arith, behind, nodes, more)
 
@@ -158,23 +192,30 @@ asking_fuel (Asking s) n is = refl
 asking_fuel (Ended made) n is = absurd is
 
 -- the end leaves none
-pub end_falls : (before : ℕ) (m : Machine) (made : Unreduced) (result : Result Turn SortFault) → IfOk result (λ t. t ≡ turns.Ended) → OnOk result (m.place.phase ≡ Ended made)
+pub end_falls : (before : ℕ) (m : Machine) (made : Unreduced) (result : Result Turn SortFault)
+    → IfOk result (λ t. t ≡ turns.Ended) → OnOk result (m.place.phase ≡ Ended made)
     → Falls before (machine_fuel m) result
 end_falls before m made (Ok turns.More) is at = absurd (cc)
 end_falls before m made (Ok turns.Ended) is at = ap (λ p. fuel_at p (weight m)) at
 end_falls before m made (Err e) is at = tt
 
 -- the first ask was handled
-pub handle_falls : (old mid new : Machine) (s : _) → old.place.phase ≡ Asking s → IsAsking new.place.phase → mid ≡ record old { queue = mid.queue }
-    → last_of mid.queue ≡ last_of old.queue → load_of mid.queue ≡ load_of old.queue → weight new < weight mid → Falls (machine_fuel old) (machine_fuel new) (Ok turns.More)
+pub handle_falls : (old mid new : Machine) (s : _) → old.place.phase ≡ Asking s
+    → IsAsking new.place.phase → mid ≡ record old { queue = mid.queue }
+    → last_of mid.queue ≡ last_of old.queue → load_of mid.queue ≡ load_of old.queue
+    → weight new < weight mid → Falls (machine_fuel old) (machine_fuel new) (Ok turns.More)
 handle_falls old mid new s asking is rest last load falls =
     let before : machine_fuel old ≡ weight old + 1 = ap (λ p. fuel_at p (weight old)) asking in
     let after : machine_fuel new ≡ weight new + 1 = asking_fuel new.place.phase (weight new) is in
-    let behind : asks_behind (last_of mid.queue) ≡ asks_behind (last_of old.queue) = ap asks_behind last in
-    let nodes : unread mid.operands ≡ unread old.operands = ap (λ (m : Machine). unread m.operands) rest in
+    let behind : asks_behind (last_of mid.queue) ≡ asks_behind (last_of old.queue) = ap asks_behind
+    last in
+    let nodes : unread mid.operands ≡ unread old.operands = ap (λ (m : Machine). unread m.operands)
+    rest in
     (omega (arith, after), omega (arith, before, after, behind, nodes, load, falls))
 
-pub no_more_waits : (old new : Machine) (result : Result Unit SortFault) → OnOk result (load_of new.queue ≡ load_of old.queue) → OnOk result (load_of new.queue ≤ load_of old.queue + 1)
+pub no_more_waits : (old new : Machine) (result : Result Unit SortFault)
+    → OnOk result (load_of new.queue ≡ load_of old.queue)
+    → OnOk result (load_of new.queue ≤ load_of old.queue + 1)
 no_more_waits old new (Err e) same = tt
 no_more_waits old new (Ok u) same = omega (arith, same)
 
@@ -183,7 +224,8 @@ abbrev same_pair : Member → Member → Bool
 same_pair x y = eqb x.low y.low && eqb x.high y.high
 
 abbrev same_asks : Ask → Ask → Bool
-same_asks x y = eqb x.key y.key && ((same_pair x.members.first y.members.first && (same_pair x.members.second y.members.second && same_pair x.members.third y.members.third))
+same_asks x y = eqb x.key y.key && ((same_pair x.members.first y.members.first &&
+    (same_pair x.members.second y.members.second && same_pair x.members.third y.members.third))
     && eqb x.asker y.asker)
 
 both_left : (b c : Bool) → (b && c) ≡ true → b ≡ true
@@ -201,51 +243,77 @@ pair_low : (x y : Member) → same_pair x y ≡ true → x.low ≡ y.low
 pair_low x y same = same_number x.low y.low (both_left (eqb x.low y.low) (eqb x.high y.high) same)
 
 pair_high : (x y : Member) → same_pair x y ≡ true → x.high ≡ y.high
-pair_high x y same = same_number x.high y.high (both_right (eqb x.low y.low) (eqb x.high y.high) same)
+pair_high x y same = same_number x.high y.high
+    (both_right (eqb x.low y.low) (eqb x.high y.high) same)
 
 alike : (x y : Ask) → same_asks x y ≡ true → x ≡ y
 alike x y same =
     let first : Bool = same_pair x.members.first y.members.first in
     let second : Bool = same_pair x.members.second y.members.second in
     let third : Bool = same_pair x.members.third y.members.third in
-    let rest = both_right (eqb x.key y.key) ((first && (second && third)) && eqb x.asker y.asker) same in
+    let rest = both_right (eqb x.key y.key) ((first && (second && third)) && eqb x.asker y.asker)
+    same in
     let members = both_left (first && (second && third)) (eqb x.asker y.asker) rest in
     let first_same = both_left first (second && third) members in
     let others = both_right first (second && third) members in
     let second_same = both_left second third others in
     let third_same = both_right second third others in
     λ i. record {
-      key = same_number x.key y.key (both_left (eqb x.key y.key) ((first && (second && third)) && eqb x.asker y.asker) same) i;
+      key = same_number x.key y.key (both_left (eqb x.key y.key)
+          ((first && (second && third)) && eqb x.asker y.asker) same) i;
       members = record {
-        first = record { low = pair_low x.members.first y.members.first first_same i; high = pair_high x.members.first y.members.first first_same i };
-        second = record { low = pair_low x.members.second y.members.second second_same i; high = pair_high x.members.second y.members.second second_same i };
-        third = record { low = pair_low x.members.third y.members.third third_same i; high = pair_high x.members.third y.members.third third_same i };
+        first = record {
+          low = pair_low x.members.first y.members.first first_same i;
+          high =
+              pair_high x.members.first y.members.first first_same i;
+        };
+        second = record {
+          low = pair_low x.members.second y.members.second second_same i;
+          high =
+              pair_high x.members.second y.members.second second_same i;
+        };
+        third = record {
+          low = pair_low x.members.third y.members.third third_same i;
+          high =
+              pair_high x.members.third y.members.third third_same i;
+        };
       };
-      asker = same_number x.asker y.asker (both_right (first && (second && third)) (eqb x.asker y.asker) rest) i;
+      asker = same_number x.asker y.asker (both_right (first && (second && third))
+          (eqb x.asker y.asker) rest) i;
     }
 
 own_number : (a : ℕ) → eqb a a ≡ true
 own_number a = grind (arith, tests)
 
 itself : (x : Ask) → same_asks x x ≡ true
-itself x = λ i. own_number x.key i && (((own_number x.members.first.low i && own_number x.members.first.high i)
-    && ((own_number x.members.second.low i && own_number x.members.second.high i) && (own_number x.members.third.low i && own_number x.members.third.high i))) && own_number x.asker i)
+itself x = λ i. own_number x.key i && (((own_number x.members.first.low i && own_number
+    x.members.first.high i)
+    && ((own_number x.members.second.low i && own_number x.members.second.high i) &&
+    (own_number x.members.third.low i && own_number x.members.third.high i))) && own_number
+    x.asker i)
 
-pub last_is : (last : Option Ask) (a : Ask) (found : Option Ask) → found ≡ last → option_eq same_asks found (Some a) ≡ true → last ≡ Some a
+pub last_is : (last : Option Ask) (a : Ask) (found : Option Ask) → found ≡ last
+    → option_eq same_asks found (Some a) ≡ true → last ≡ Some a
 last_is last a None is same = absurd (cc)
 last_is last a (Some x) is same = sym is ∙ ap Some (alike x a same)
 
-pub last_differs : (last : Option Ask) (a : Ask) (found : Option Ask) → found ≡ last → option_eq same_asks found (Some a) ≡ false → last ≢ Some a
+pub last_differs : (last : Option Ask) (a : Ask) (found : Option Ask) → found ≡ last
+    → option_eq same_asks found (Some a) ≡ false → last ≢ Some a
 last_differs last a found is other same =
-    let here : option_eq same_asks (Some a) (Some a) ≡ false = subst (λ o. option_eq same_asks o (Some a) ≡ false) (is ∙ same) other in
+    let here : option_eq same_asks (Some a) (Some a) ≡ false =
+    subst (λ o. option_eq same_asks o (Some a) ≡ false) (is ∙ same) other in
     let no : true ≡ false = sym (itself a) ∙ here in
     absurd (cc)
 
 -- an ask was taken, and each of its sides put one at most
-pub two_more : (old taken mid side new : Machine) (result : Result Unit SortFault) → Lightens (load_of old.queue) (load_of taken.queue) → mid.queue ≡ taken.queue
-    → load_of side.queue ≤ load_of mid.queue + 1 → OnOk result (load_of new.queue ≤ load_of side.queue + 1) → OnOk result (load_of new.queue ≤ load_of old.queue + 1)
+pub two_more : (old taken mid side new : Machine) (result : Result Unit SortFault)
+    → Lightens (load_of old.queue) (load_of taken.queue) → mid.queue ≡ taken.queue
+    → load_of side.queue ≤ load_of mid.queue + 1
+    → OnOk result (load_of new.queue ≤ load_of side.queue + 1)
+    → OnOk result (load_of new.queue ≤ load_of old.queue + 1)
 two_more old taken mid side new (Err e) lighter same first second = tt
 two_more old taken mid side new (Ok u) lighter same first second =
     let one : load_of old.queue ≡ load_of taken.queue + 1 = lighter.by_one in
-    let waits : load_of mid.queue ≡ load_of taken.queue = ap (λ (q : LevelQueue Ask). load_of q) same in
+    let waits : load_of mid.queue ≡ load_of taken.queue = ap (λ (q : LevelQueue Ask). load_of q)
+    same in
     omega (arith, one, waits, first, second)

@@ -53,62 +53,90 @@ use Rattle.top_down_sweep.specs.Calls.{HoldsAt, HoldsFirstAt}
 
 -- each file apart from what is written stays
 abbrev pub SameApart : Files → ℕ → World → World → Type 0
-SameApart files step old new = (f : FileNo) → IsApart files step f → (file new f).bytes ≡ (file old f).bytes
+SameApart files step old new = (f : FileNo) → IsApart files step f
+    → (file new f).bytes ≡ (file old f).bytes
 
-apart_written : (m : Machine) (n : ℕ) (old new : World) → WroteBoth n (inner_file m.writer) (ends_file m.writer) old new → SameApart (files_in m) m.parts.step old new
+apart_written : (m : Machine) (n : ℕ) (old new : World)
+    → WroteBoth n (inner_file m.writer) (ends_file m.writer) old new
+    → SameApart (files_in m) m.parts.step old new
 apart_written m n old new wrote f apart =
-    ap (λ (x : File). x.bytes) ((ran_end old new (DuringWrites (inner_file m.writer) (ends_file m.writer) (now old)) wrote.run).others f apart.not_inner apart.not_ends)
+    ap (λ (x : File). x.bytes) ((ran_end old new
+    (DuringWrites (inner_file m.writer) (ends_file m.writer) (now old)) wrote.run).others f
+    apart.not_inner apart.not_ends)
 
-apart_spilled : (m : Machine) (after : Parts) (old new : World) → 3 ≤ m.parts.next → Spilled m.parts after old new → SameApart (files_in m) m.parts.step old new
+apart_spilled : (m : Machine) (after : Parts) (old new : World) → 3 ≤ m.parts.next
+    → Spilled m.parts after old new → SameApart (files_in m) m.parts.step old new
 apart_spilled m after old new past spilled f apart =
     ap (λ (x : File). x.bytes) (ran_end old new (OnlyTaken m.parts after (now old)) spilled f
-    (λ taken. let early : f.part < 3 = apart.no_part taken.step_is in let from : m.parts.next ≤ f.part = taken.from in absurd (omega (arith, early, from, past))))
+    (λ taken. let early : f.part < 3 = apart.no_part taken.step_is in let from : m.parts.next
+    ≤ f.part = taken.from in absurd (omega (arith, early, from, past))))
 
-pub looked_same : (old new : World) → Ran (Stays (now old)) old new → (f : FileNo) → (file new f).bytes ≡ (file old f).bytes
-looked_same old new ran f = ap (λ (d : Folder). (file_in d f).bytes) (ran_end old new (Stays (now old)) ran)
+pub looked_same : (old new : World) → Ran (Stays (now old)) old new → (f : FileNo)
+    → (file new f).bytes ≡ (file old f).bytes
+looked_same old new ran f = ap (λ (d : Folder). (file_in d f).bytes)
+    (ran_end old new (Stays (now old)) ran)
 
 -- a reader has read its file as it is
-still : (r : NodeReader) (old new : World) → bytes_of r new ≡ bytes_of r old → IsReading r old → IsReading r new
+still : (r : NodeReader) (old new : World) → bytes_of r new ≡ bytes_of r old → IsReading r old
+    → IsReading r new
 still r old new same reading = still_reading r r old new refl same reading reading.reads
 
-operand_still : (n : ℕ) (o : Operand) (old new : World) → IsOperand n o → (file new o.file).bytes ≡ (file old o.file).bytes → IsReading o.reader old → IsReading o.reader new
-operand_still n o old new is same = still o.reader old new (ap (λ f. (file new f).bytes) is.file_is ∙ same ∙ sym (ap (λ f. (file old f).bytes) is.file_is))
+operand_still : (n : ℕ) (o : Operand) (old new : World) → IsOperand n o
+    → (file new o.file).bytes ≡ (file old o.file).bytes → IsReading o.reader old
+    → IsReading o.reader new
+operand_still n o old new is same = still o.reader old new
+    (ap (λ f. (file new f).bytes) is.file_is ∙ same ∙ sym (ap (λ f. (file old f).bytes) is.file_is))
 
-pub operands_still : (m : Machine) (old new : World) → AreOperands m.place.variables m.operands → SameApart (files_in m) m.parts.step old new → AreApart (files_in m) m.parts.step
+pub operands_still : (m : Machine) (old new : World) → AreOperands m.place.variables m.operands
+    → SameApart (files_in m) m.parts.step old new → AreApart (files_in m) m.parts.step
     → AreReading m.operands old → AreReading m.operands new
 operands_still m old new are same apart reading = record {
-  first = operand_still _ m.operands.first old new are.first (same m.operands.first.file apart.first) reading.first;
-  second = operand_still _ m.operands.second old new are.second (same m.operands.second.file apart.second) reading.second;
-  third = operand_still _ m.operands.third old new are.third (same m.operands.third.file apart.third) reading.third;
+  first = operand_still _ m.operands.first old new are.first
+      (same m.operands.first.file apart.first) reading.first;
+  second = operand_still _ m.operands.second old new are.second
+      (same m.operands.second.file apart.second) reading.second;
+  third = operand_still _ m.operands.third old new are.third
+      (same m.operands.third.file apart.third) reading.third;
 }
 
 -- arcs were put
-pub holds_written : (most n : ℕ) (m q : Machine) (old new : World) (asks : List Ask) → q ≡ record m { writer = q.writer } → files_in q ≡ files_in m
-    → AreOperands m.place.variables m.operands → WroteBoth n (inner_file m.writer) (ends_file m.writer) old new → Holds most m old asks → Holds most q new asks
+pub holds_written : (most n : ℕ) (m q : Machine) (old new : World) (asks : List Ask)
+    → q ≡ record m { writer = q.writer } → files_in q ≡ files_in m
+    → AreOperands m.place.variables m.operands
+    → WroteBoth n (inner_file m.writer) (ends_file m.writer) old new → Holds most m old asks
+    → Holds most q new asks
 holds_written most n m q old new asks rest files are wrote hold =
-    let same : files_in (record m { writer = q.writer }) ≡ files_in m = ap files_in (sym rest) ∙ files in
-    let during = ran_end old new (DuringWrites (inner_file m.writer) (ends_file m.writer) (now old)) wrote.run in
-    let unwritten : (f : FileNo) → queues.IsRunOf m.queue f → (file new f).bytes ≡ (file old f).bytes =
-    λ f run. ap (λ (x : File). x.bytes) (during.others f (λ is. hold.no_run f (inl is) run) (λ is. hold.no_run f (inr is) run)) in
+    let same : files_in (record m { writer = q.writer }) ≡ files_in m = ap files_in (sym rest)
+    ∙ files in
+    let during = ran_end old new (DuringWrites (inner_file m.writer) (ends_file m.writer) (now old))
+    wrote.run in
+    let unwritten : (f : FileNo) → queues.IsRunOf m.queue f
+    → (file new f).bytes ≡ (file old f).bytes =
+    λ f run. ap (λ (x : File). x.bytes) (during.others f (λ is. hold.no_run f (inl is) run)
+    (λ is. hold.no_run f (inr is) run)) in
     subst (λ (p : Machine). Holds most p new asks) (sym rest) (record {
       wait = queue_kept IsAsk ask_words ask_cmp m.queue old new asks unwritten hold.wait;
       fit = hold.fit;
       few = hold.few;
       no_run = λ f made. hold.no_run f (subst (λ fs. IsMade fs f) same made);
-      reading = λ apart. (let before : AreApart (files_in m) m.parts.step = subst (λ fs. AreApart fs m.parts.step) same apart in
-          operands_still m old new are (apart_written m n old new wrote) before (hold.reading before));
+      reading = λ apart. (let before : AreApart (files_in m) m.parts.step =
+          subst (λ fs. AreApart fs m.parts.step) same apart in
+          operands_still m old new are (apart_written m n old new wrote) before
+          (hold.reading before));
     })
 
 -- a tuple got a number, when none of the asks waits that waited while no tuple had one
-pub holds_numbered : (m q : Machine) (place : Place) (world : World) (asks : List Ask) → q ≡ record m { place = place } → is_first_at place.phase ≡ false
+pub holds_numbered : (m q : Machine) (place : Place) (world : World) (asks : List Ask)
+    → q ≡ record m { place = place } → is_first_at place.phase ≡ false
     → Holds 0 m world asks → Holds 0 q world asks
-holds_numbered m q place world asks rest later hold = subst (λ (p : Machine). Holds 0 p world asks) (sym rest) (record {
-  wait = hold.wait;
-  fit = subst (λ b. All (Fits b m.operands) asks) (sym later) (by (is_first_at m.place.phase) refl);
-  few = λ first. (let no : true ≡ false = sym first ∙ later in absurd (cc));
-  no_run = hold.no_run;
-  reading = hold.reading;
-})
+holds_numbered m q place world asks rest later hold = subst (λ (p : Machine). Holds 0 p world asks)
+    (sym rest) (record {
+      wait = hold.wait;
+      fit = subst (λ b. All (Fits b m.operands) asks) (sym later) (by (is_first_at m.place.phase) refl);
+      few = λ first. (let no : true ≡ false = sym first ∙ later in absurd (cc));
+      no_run = hold.no_run;
+      reading = hold.reading;
+    })
   where
     by : (b : Bool) → is_first_at m.place.phase ≡ b → All (Fits false m.operands) asks
     by true is = (let none = hold.few is in λ k d within. absurd (omega (arith, none, within)))
@@ -128,7 +156,8 @@ holds_more m world (asks, hold) = (
 )
 
 -- once tuples have numbers it doesn't matter how many wait
-pub holds_later : (most : ℕ) (m : Machine) (world : World) → is_first_at m.place.phase ≡ false → HoldsSome 1 m world → HoldsSome most m world
+pub holds_later : (most : ℕ) (m : Machine) (world : World) → is_first_at m.place.phase ≡ false
+    → HoldsSome 1 m world → HoldsSome most m world
 holds_later most m world later (asks, hold) = (
   asks,
   record {
@@ -141,23 +170,35 @@ holds_later most m world later (asks, hold) = (
 )
 
 -- runs of the queue in files that aren't made
-runs_apart : (m : Machine) (q : LevelQueue Ask) (after : Parts) → IsServed m → ((f : FileNo) → queues.IsRunOf q f → queues.IsRunOf m.queue f ⊎ IsTaken m.parts after f)
-    → ((f : FileNo) → IsMade (files_in m) f → ¬ queues.IsRunOf m.queue f) → (f : FileNo) → IsMade (files_in m) f → ¬ queues.IsRunOf q f
-runs_apart m q after served runs apart f made run = elim (runs f run) [ inl old ↦ apart f made old | inr taken ↦ untaken made taken ]
+runs_apart : (m : Machine) (q : LevelQueue Ask) (after : Parts) → IsServed m
+    → ((f : FileNo) → queues.IsRunOf q f → queues.IsRunOf m.queue f ⊎ IsTaken m.parts after f)
+    → ((f : FileNo) → IsMade (files_in m) f → ¬ queues.IsRunOf m.queue f) → (f : FileNo)
+    → IsMade (files_in m) f → ¬ queues.IsRunOf q f
+runs_apart m q after served runs apart f made run = elim (runs f run)
+    [ inl old ↦ apart f made old | inr taken ↦ untaken made taken ]
   where
     untaken : IsMade (files_in m) f → IsTaken m.parts after f → ⊥
-    untaken (inl is) t = served.inner_made (subst (CanBeTaken m.parts.step m.parts.next) is (record { step_is = t.step_is; from = t.from }))
-    untaken (inr is) t = served.ends_made (subst (CanBeTaken m.parts.step m.parts.next) is (record { step_is = t.step_is; from = t.from }))
+    untaken (inl is) t = served.inner_made (subst (CanBeTaken m.parts.step m.parts.next) is
+        (record { step_is = t.step_is; from = t.from }))
+    untaken (inr is) t = served.ends_made (subst (CanBeTaken m.parts.step m.parts.next) is
+        (record { step_is = t.step_is; from = t.from }))
 
-module _ (m : Machine) (q : LevelQueue Ask) (after : Parts) (old new : World) (served : IsServed m) (are : AreOperands m.place.variables m.operands)
-    (spilled : Spilled m.parts after old new) (took : Took m.parts after) (runs : (f : FileNo) → queues.IsRunOf q f → queues.IsRunOf m.queue f ⊎ IsTaken m.parts after f) where
-  still_read : (most : ℕ) (asks : List Ask) → Holds most m old asks → AreApart (files_in m) after.step → AreReading m.operands new
+module _ (m : Machine) (q : LevelQueue Ask) (after : Parts) (old new : World) (served : IsServed m)
+    (are : AreOperands m.place.variables m.operands)
+    (spilled : Spilled m.parts after old new) (took : Took m.parts after)
+    (runs : (f : FileNo) → queues.IsRunOf q f
+    → queues.IsRunOf m.queue f ⊎ IsTaken m.parts after f) where
+  still_read : (most : ℕ) (asks : List Ask) → Holds most m old asks
+      → AreApart (files_in m) after.step → AreReading m.operands new
   still_read most asks hold apart =
-      let before : AreApart (files_in m) m.parts.step = subst (AreApart (files_in m)) took.step_is apart in
-      operands_still m old new are (apart_spilled m after old new served.serves.past_made spilled) before (hold.reading before)
+      let before : AreApart (files_in m) m.parts.step = subst (AreApart (files_in m)) took.step_is
+      apart in
+      operands_still m old new are (apart_spilled m after old new served.serves.past_made spilled)
+      before (hold.reading before)
 
   -- the first ask was taken
-  pub holds_taken : (found : Option Ask) (asks : List Ask) → Gives (Waits q new) asks (Ok found) → Holds 1 m old asks → HoldsSome 0 (record m { queue = q; parts = after }) new
+  pub holds_taken : (found : Option Ask) (asks : List Ask) → Gives (Waits q new) asks (Ok found)
+      → Holds 1 m old asks → HoldsSome 0 (record m { queue = q; parts = after }) new
   holds_taken None asks given hold = (
     [],
     record {
@@ -172,31 +213,38 @@ module _ (m : Machine) (q : LevelQueue Ask) (after : Parts) (old new : World) (s
     given.0,
     record {
       wait = given.2;
-      fit = All-tail (Fits (is_first_at m.place.phase) m.operands) a given.0 (subst (All (Fits (is_first_at m.place.phase) m.operands)) given.1 hold.fit);
-      few = λ first. (let few = hold.few first in let long : length asks ≡ length (a ∷ given.0) = ap length given.1 in omega (arith, few, long));
+      fit = All-tail (Fits (is_first_at m.place.phase) m.operands) a given.0
+          (subst (All (Fits (is_first_at m.place.phase) m.operands)) given.1 hold.fit);
+      few = λ first. (let few = hold.few first in let long : length asks ≡ length (a ∷ given.0) = ap
+          length given.1 in omega (arith, few, long));
       no_run = runs_apart m q after served runs hold.no_run;
       reading = still_read 1 asks hold;
     },
   )
 
   -- an ask was put
-  pub holds_put : (a : Ask) (result : Result Unit SortFault) (asks : List Ask) → Joins (Waits q new) a asks result → Fits (is_first_at m.place.phase) m.operands a
+  pub holds_put : (a : Ask) (result : Result Unit SortFault) (asks : List Ask)
+      → Joins (Waits q new) a asks result → Fits (is_first_at m.place.phase) m.operands a
       → Holds 0 m old asks → OnOk result (HoldsSome 1 (record m { queue = q; parts = after }) new)
   holds_put a (Err e) asks joined fits hold = tt
   holds_put a (Ok u) asks joined fits hold = (
     joined.0,
     record {
       wait = joined.2;
-      fit = All-permutation (Fits (is_first_at m.place.phase) m.operands) (a ∷ asks) joined.0 joined.1 (All-cons (Fits (is_first_at m.place.phase) m.operands) a asks fits hold.fit);
-      few = λ first. (let few = hold.few first in let long : length joined.0 ≡ length (a ∷ asks) = length_permutation (a ∷ asks) joined.0 joined.1 in omega (arith, few, long));
+      fit = All-permutation (Fits (is_first_at m.place.phase) m.operands) (a ∷ asks) joined.0
+          joined.1 (All-cons (Fits (is_first_at m.place.phase) m.operands) a asks fits hold.fit);
+      few = λ first. (let few = hold.few first in let long : length joined.0 ≡ length (a ∷ asks) =
+          length_permutation (a ∷ asks) joined.0 joined.1 in omega (arith, few, long));
       no_run = runs_apart m q after served runs hold.no_run;
       reading = still_read 0 asks hold;
     },
   )
 
 -- the first ask is shown
-pub holds_shown : (m : Machine) (q : LevelQueue Ask) (old new : World) (found : Option Ask) (asks : List Ask) → AreOperands m.place.variables m.operands
-    → Shows (Waits q new) asks (Ok found) → Ran (Stays (now old)) old new → ((f : FileNo) → queues.IsRunOf q f → queues.IsRunOf m.queue f) → Holds 1 m old asks
+pub holds_shown : (m : Machine) (q : LevelQueue Ask) (old new : World) (found : Option Ask)
+    (asks : List Ask) → AreOperands m.place.variables m.operands
+    → Shows (Waits q new) asks (Ok found) → Ran (Stays (now old)) old new
+    → ((f : FileNo) → queues.IsRunOf q f → queues.IsRunOf m.queue f) → Holds 1 m old asks
     → IfSome found (λ a. HoldsFirst a (record m { queue = q }) new)
 holds_shown m q old new None asks are shown ran runs hold = tt
 holds_shown m q old new (Some a) asks are shown ran runs hold = (
@@ -206,33 +254,41 @@ holds_shown m q old new (Some a) asks are shown ran runs hold = (
     fit = subst (All (Fits (is_first_at m.place.phase) m.operands)) shown.1 hold.fit;
     few = λ first. subst (λ (xs : List Ask). length xs ≤ 1) shown.1 (hold.few first);
     no_run = λ f made run. hold.no_run f made (runs f run);
-    reading = λ apart. operands_still m old new are (λ f _. looked_same old new ran f) apart (hold.reading apart);
+    reading = λ apart. operands_still m old new are (λ f _. looked_same old new ran f) apart
+        (hold.reading apart);
   },
 )
 
 -- the order of asks
 member_total : (f : Ask → Member) → IsTotalOrder (λ (x y : Ask). member_cmp (f x) (f y))
-member_total f = then_total (on_total (λ a. (f a).low) nat_cmp_total) (on_total (λ a. (f a).high) nat_cmp_total)
+member_total f = then_total (on_total (λ a. (f a).low) nat_cmp_total)
+    (on_total (λ a. (f a).high) nat_cmp_total)
 
 ask_total : IsTotalOrder ask_cmp
 ask_total =
     then_total (on_total (λ (a : Ask). a.key) nat_cmp_total)
-    (then_total (then_total (member_total (λ a. a.members.first)) (then_total (member_total (λ a. a.members.second)) (member_total (λ a. a.members.third))))
+    (then_total (then_total (member_total (λ a. a.members.first))
+    (then_total (member_total (λ a. a.members.second)) (member_total (λ a. a.members.third))))
     (on_total (λ (a : Ask). a.asker) nat_cmp_total))
 
 key_from : (a b : Ask) → is_lt (ask_cmp b a) ≡ false → a.key ≤ b.key
 key_from a b none = by (nat_cmp b.key a.key) (ranked b.key a.key (nat_cmp b.key a.key) refl) none
   where
-    by : (o : Ordering) → MatchOrdering o (b.key < a.key) (b.key ≡ a.key) (a.key < b.key) → is_lt (ordering_then o (ordering_then (members_cmp b.members a.members) (nat_cmp b.asker a.asker))) ≡ false → a.key ≤ b.key
+    by : (o : Ordering) → MatchOrdering o (b.key < a.key) (b.key ≡ a.key) (a.key < b.key)
+        → is_lt (ordering_then o (ordering_then (members_cmp b.members a.members)
+        (nat_cmp b.asker a.asker))) ≡ false → a.key ≤ b.key
     by Less below none = absurd (cc)
     by Equal same none = omega (arith, same)
     by Greater above none = omega (arith, above)
 
 -- no key of those that wait is less than the first one's
-keys_from : (a : Ask) (rest : List Ask) → IsSorted ask_cmp (a ∷ rest) → All (λ (b : Ask). a.key ≤ b.key) (a ∷ rest)
+keys_from : (a : Ask) (rest : List Ask) → IsSorted ask_cmp (a ∷ rest)
+    → All (λ (b : Ask). a.key ≤ b.key) (a ∷ rest)
 keys_from a rest up =
-    let order : IsStrictWeakOrder (λ (x y : Ask). is_lt (ask_cmp x y)) = ranks_by ask_total (λ (x : Ask). x) in
-    λ k d within. key_from a (get_or (a ∷ rest) k d) (none_less (λ (x y : Ask). is_lt (ask_cmp x y)) order a rest up k d within)
+    let order : IsStrictWeakOrder (λ (x y : Ask). is_lt (ask_cmp x y)) = ranks_by ask_total
+    (λ (x : Ask). x) in
+    λ k d within. key_from a (get_or (a ∷ rest) k d)
+    (none_less (λ (x y : Ask). is_lt (ask_cmp x y)) order a rest up k d within)
 
 read_to : (o : Operand) (k l : ℕ) → k ≤ l → IsReadTo k o → IsReadTo l o
 read_to o k l later read = by o.hand read
@@ -242,14 +298,18 @@ read_to o k l later read = by o.hand read
     by (Some x) read = omega (arith, read, later)
 
 -- a node was read that the first ask wants
-pub holds_read : (m : Machine) (o : Operands) (old new : World) (a : Ask) → files_in (record m { operands = o }) ≡ files_in m → IsReadTo a.key o.first → IsReadTo a.key o.second → IsReadTo a.key o.third
-    → Ran (Stays (now old)) old new → (AreApart (files_in m) m.parts.step → AreReading m.operands old → AreReading o new)
+pub holds_read : (m : Machine) (o : Operands) (old new : World) (a : Ask)
+    → files_in (record m { operands = o }) ≡ files_in m → IsReadTo a.key o.first
+    → IsReadTo a.key o.second → IsReadTo a.key o.third
+    → Ran (Stays (now old)) old new → (AreApart (files_in m) m.parts.step
+    → AreReading m.operands old → AreReading o new)
     → HoldsFirst a m old → HoldsSome 1 (record m { operands = o }) new
 holds_read m o old new a files first second third ran on (rest, hold) =
     let keys = keys_from a rest hold.wait.sorter.ascends in (
       a ∷ rest,
       record {
-        wait = queue_kept IsAsk ask_words ask_cmp m.queue old new (a ∷ rest) (λ f run. looked_same old new ran f) hold.wait;
+        wait = queue_kept IsAsk ask_words ask_cmp m.queue old new (a ∷ rest)
+            (λ f run. looked_same old new ran f) hold.wait;
         fit = λ k d within. record {
           sound = (hold.fit k d within).sound;
           first = read_to o.first a.key _ (keys k d within) first;
@@ -258,19 +318,23 @@ holds_read m o old new a files first second third ran on (rest, hold) =
         };
         few = hold.few;
         no_run = λ f made. hold.no_run f (subst (λ fs. IsMade fs f) files made);
-        reading = λ apart. (let before : AreApart (files_in m) m.parts.step = subst (λ fs. AreApart fs m.parts.step) files apart in on before (hold.reading before));
+        reading = λ apart. (let before : AreApart (files_in m) m.parts.step =
+            subst (λ fs. AreApart fs m.parts.step) files apart in on before (hold.reading before));
       },
     )
 
 -- the first ask that waits fits
-pub first_fits : (a : Ask) (m : Machine) (world : World) → HoldsFirst a m world → Fits (is_first_at m.place.phase) m.operands a
+pub first_fits : (a : Ask) (m : Machine) (world : World) → HoldsFirst a m world
+    → Fits (is_first_at m.place.phase) m.operands a
 first_fits a m world (rest, hold) = hold.fit 0 a (omega arith)
 
-pub first_holds : (a : Ask) (m : Machine) (world : World) → HoldsFirst a m world → HoldsSome 1 m world
+pub first_holds : (a : Ask) (m : Machine) (world : World) → HoldsFirst a m world
+    → HoldsSome 1 m world
 first_holds a m world (rest, hold) = (a ∷ rest, hold)
 
 -- what follows of each refusal
-pub if_err_map : {A : Type 0} {P Q : SortFault → Type 0} (result : Result A SortFault) → ((e : SortFault) → P e → Q e) → IfErr result P → IfErr result Q
+pub if_err_map : {A : Type 0} {P Q : SortFault → Type 0} (result : Result A SortFault)
+    → ((e : SortFault) → P e → Q e) → IfErr result P → IfErr result Q
 if_err_map (Ok x) f is = tt
 if_err_map (Err e) f is = f e is
 
@@ -280,45 +344,62 @@ third_wanted false true d first second any = absurd (cc)
 third_wanted false false d first second any = any
 
 -- what follows of a call where a folder tells its content
-pub on_told : {A : Type 0} (T P : Type 0) (result : Result A SortFault) → (T → OnOk result P) → OnOk result (T → P)
+pub on_told : {A : Type 0} (T P : Type 0) (result : Result A SortFault) → (T → OnOk result P)
+    → OnOk result (T → P)
 on_told T P (Ok x) f = f
 on_told T P (Err e) f = tt
 
 module _ {S : Type 0} (tells : S → Bool) (world : S → World) where
   -- the first ask was shown
-  pub shown_at : (s t : S) (m : Machine) (q : LevelQueue Ask) (result : Result (Option Ask) SortFault) → AreOperands m.place.variables m.operands
+  pub shown_at : (s t : S) (m : Machine) (q : LevelQueue Ask)
+      (result : Result (Option Ask) SortFault) → AreOperands m.place.variables m.operands
       → Told tells s t (Ran (Stays (now (world s))) (world s) (world t))
-      → (IsTrue (tells t) → (asks : List Ask) → Waits m.queue (world s) asks → Shows (Waits q (world t)) asks result)
+      → (IsTrue (tells t) → (asks : List Ask) → Waits m.queue (world s) asks
+      → Shows (Waits q (world t)) asks result)
       → ((f : FileNo) → queues.IsRunOf q f → queues.IsRunOf m.queue f) → HoldsAt tells world 1 s m
       → IfOk result (λ found. IfSome found (HoldsFirstAt tells world t (record m { queue = q })))
   shown_at s t m q (Ok None) are did list runs holds = tt
   shown_at s t m q (Ok (Some a)) are did list runs holds = λ told.
       let (asks, hold) = holds (did.before told) in
-      holds_shown m q (world s) (world t) (Some a) asks are (list told asks hold.wait) (did.did told) runs hold
+      holds_shown m q (world s) (world t) (Some a) asks are (list told asks hold.wait)
+      (did.did told) runs hold
   shown_at s t m q (Err e) are did list runs holds = tt
 
   -- it was taken
-  pub taken_at : (s t : S) (m : Machine) (q : LevelQueue Ask) (after : Parts) (found : Option Ask) → IsServed m → AreOperands m.place.variables m.operands
-      → Told tells s t (Spilled m.parts after (world s) (world t)) → Took m.parts after → ((f : FileNo) → queues.IsRunOf q f → queues.IsRunOf m.queue f ⊎ IsTaken m.parts after f)
-      → (IsTrue (tells t) → (asks : List Ask) → Waits m.queue (world s) asks → Gives (Waits q (world t)) asks (Ok found))
+  pub taken_at : (s t : S) (m : Machine) (q : LevelQueue Ask) (after : Parts) (found : Option Ask)
+      → IsServed m → AreOperands m.place.variables m.operands
+      → Told tells s t (Spilled m.parts after (world s) (world t)) → Took m.parts after
+      → ((f : FileNo) → queues.IsRunOf q f → queues.IsRunOf m.queue f ⊎ IsTaken m.parts after f)
+      → (IsTrue (tells t) → (asks : List Ask) → Waits m.queue (world s) asks
+      → Gives (Waits q (world t)) asks (Ok found))
       → HoldsAt tells world 1 s m → HoldsAt tells world 0 t (record m { queue = q; parts = after })
   taken_at s t m q after found served are did took runs list holds = λ told.
       let (asks, hold) = holds (did.before told) in
-      holds_taken m q after (world s) (world t) served are (did.did told) took runs found asks (list told asks hold.wait) hold
+      holds_taken m q after (world s) (world t) served are (did.did told) took runs found asks
+      (list told asks hold.wait) hold
 
   -- an ask was put
-  pub put_at : (s t : S) (m : Machine) (q : LevelQueue Ask) (after : Parts) (a : Ask) (result : Result Unit SortFault) → IsServed m → AreOperands m.place.variables m.operands
-      → Told tells s t (Spilled m.parts after (world s) (world t)) → Took m.parts after → ((f : FileNo) → queues.IsRunOf q f → queues.IsRunOf m.queue f ⊎ IsTaken m.parts after f)
-      → (IsTrue (tells t) → (asks : List Ask) → Waits m.queue (world s) asks → Joins (Waits q (world t)) a asks result)
+  pub put_at : (s t : S) (m : Machine) (q : LevelQueue Ask) (after : Parts) (a : Ask)
+      (result : Result Unit SortFault) → IsServed m → AreOperands m.place.variables m.operands
+      → Told tells s t (Spilled m.parts after (world s) (world t)) → Took m.parts after
+      → ((f : FileNo) → queues.IsRunOf q f → queues.IsRunOf m.queue f ⊎ IsTaken m.parts after f)
+      → (IsTrue (tells t) → (asks : List Ask) → Waits m.queue (world s) asks
+      → Joins (Waits q (world t)) a asks result)
       → (IsTrue (tells s) → Fits (is_first_at m.place.phase) m.operands a)
-      → HoldsAt tells world 0 s m → OnOk result (HoldsAt tells world 1 t (record m { queue = q; parts = after }))
-  put_at s t m q after a result served are did took runs list fits holds = on_told (IsTrue (tells t)) (HoldsSome 1 (record m { queue = q; parts = after }) (world t)) result (λ told.
+      → HoldsAt tells world 0 s m → OnOk result
+      (HoldsAt tells world 1 t (record m { queue = q; parts = after }))
+  put_at s t m q after a result served are did took runs list fits holds = on_told
+      (IsTrue (tells t)) (HoldsSome 1 (record m { queue = q; parts = after }) (world t)) result
+      (λ told.
       let (asks, hold) = holds (did.before told) in
-      holds_put m q after (world s) (world t) served are (did.did told) took runs a result asks (list told asks hold.wait) (fits (did.before told)) hold)
+      holds_put m q after (world s) (world t) served are (did.did told) took runs a result asks
+      (list told asks hold.wait) (fits (did.before told)) hold)
 
   -- an arc was put
-  pub written_at : (most n : ℕ) (s t : S) (m q : Machine) → q ≡ record m { writer = q.writer } → files_in q ≡ files_in m → AreOperands m.place.variables m.operands
-      → Told tells s t (WroteBoth n (inner_file m.writer) (ends_file m.writer) (world s) (world t)) → HoldsAt tells world most s m → HoldsAt tells world most t q
+  pub written_at : (most n : ℕ) (s t : S) (m q : Machine) → q ≡ record m { writer = q.writer }
+      → files_in q ≡ files_in m → AreOperands m.place.variables m.operands
+      → Told tells s t (WroteBoth n (inner_file m.writer) (ends_file m.writer) (world s) (world t))
+      → HoldsAt tells world most s m → HoldsAt tells world most t q
   written_at most n s t m q rest files are did holds = λ told.
       let (asks, hold) = holds (did.before told) in
       (asks, holds_written most n m q (world s) (world t) asks rest files are (did.did told) hold)
@@ -328,71 +409,104 @@ module _ {S : Type 0} (tells : S → Bool) (world : S → World) where
   more_at s m holds told = holds_more m (world s) (holds told)
 
   -- a tuple got a number
-  pub numbered_at : (s : S) (m q : Machine) (place : Place) → q ≡ record m { place = place } → is_first_at place.phase ≡ false → HoldsAt tells world 0 s m → HoldsAt tells world 0 s q
-  numbered_at s m q place rest later holds told = let (asks, hold) = holds told in (asks, holds_numbered m q place (world s) asks rest later hold)
+  pub numbered_at : (s : S) (m q : Machine) (place : Place) → q ≡ record m { place = place }
+      → is_first_at place.phase ≡ false → HoldsAt tells world 0 s m → HoldsAt tells world 0 s q
+  numbered_at s m q place rest later holds told = let (asks, hold) = holds told in
+      (asks, holds_numbered m q place (world s) asks rest later hold)
 
-  pub first_at : (s : S) (m : Machine) (a : Ask) → HoldsFirstAt tells world s m a → HoldsAt tells world 1 s m
+  pub first_at : (s : S) (m : Machine) (a : Ask) → HoldsFirstAt tells world s m a
+      → HoldsAt tells world 1 s m
   first_at s m a first told = first_holds a m (world s) (first told)
 
 -- an ask that is put again fits
-pub again_fits : (m q : Machine) (a b : Ask) → q ≡ record m { queue = q.queue; parts = q.parts } → a.key < b.key → is_sound (is_first_at m.place.phase) b ≡ true
+pub again_fits : (m q : Machine) (a b : Ask) → q ≡ record m { queue = q.queue; parts = q.parts }
+    → a.key < b.key → is_sound (is_first_at m.place.phase) b ≡ true
     → Fits (is_first_at m.place.phase) m.operands a → Fits (is_first_at q.place.phase) q.operands b
-again_fits m q a b rest later sound fits = subst (λ (p : Machine). Fits (is_first_at p.place.phase) p.operands b) (sym rest) (record {
-  sound = sound;
-  first = read_to m.operands.first a.key b.key (omega (arith, later)) fits.first;
-  second = read_to m.operands.second a.key b.key (omega (arith, later)) fits.second;
-  third = read_to m.operands.third a.key b.key (omega (arith, later)) fits.third;
-})
+again_fits m q a b rest later sound fits = subst (λ (p : Machine). Fits (is_first_at p.place.phase)
+    p.operands b) (sym rest) (record {
+      sound = sound;
+      first = read_to m.operands.first a.key b.key (omega (arith, later)) fits.first;
+      second = read_to m.operands.second a.key b.key (omega (arith, later)) fits.second;
+      third = read_to m.operands.third a.key b.key (omega (arith, later)) fits.third;
+    })
 
 -- no operand was read past the level of an ask that fits
-pub read_level : (b : Bool) (o : Operands) (a : Ask) (level : ℕ) → level ≡ level_of a.key → Fits b o a → AreReadTo level o
-read_level b o a level is fits = record { first = by o.first.hand fits.first; second = by o.second.hand fits.second; third = by o.third.hand fits.third }
+pub read_level : (b : Bool) (o : Operands) (a : Ask) (level : ℕ) → level ≡ level_of a.key
+    → Fits b o a → AreReadTo level o
+read_level b o a level is fits = record {
+  first = by o.first.hand fits.first;
+  second = by
+      o.second.hand fits.second;
+  third = by o.third.hand fits.third;
+}
   where
-    by : (hand : Option Node) → IfSome hand (λ x. x.uid ≤ a.key) → IfSome hand (λ x. level_of x.uid ≤ level)
+    by : (hand : Option Node) → IfSome hand (λ x. x.uid ≤ a.key)
+        → IfSome hand (λ x. level_of x.uid ≤ level)
     by None read = tt
     by (Some x) read = omega (arith, read, is)
 
 -- an ask of a deeper level fits
-pub deeper_fits : (first : Bool) (o : Operands) (level : ℕ) (b : Ask) → level < level_of b.key → AreReadTo level o → is_sound first b ≡ true → Fits first o b
-deeper_fits first o level b deeper read sound = record { sound = sound; first = by o.first.hand read.first; second = by o.second.hand read.second; third = by o.third.hand read.third }
+pub deeper_fits : (first : Bool) (o : Operands) (level : ℕ) (b : Ask) → level < level_of b.key
+    → AreReadTo level o → is_sound first b ≡ true → Fits first o b
+deeper_fits first o level b deeper read sound =
+    record {
+      sound = sound;
+      first = by o.first.hand read.first;
+      second = by o.second.hand
+          read.second;
+      third = by o.third.hand read.third;
+    }
   where
-    by : (hand : Option Node) → IfSome hand (λ x. level_of x.uid ≤ level) → IfSome hand (λ x. x.uid ≤ b.key)
+    by : (hand : Option Node) → IfSome hand (λ x. level_of x.uid ≤ level)
+        → IfSome hand (λ x. x.uid ≤ b.key)
     by None read = tt
     by (Some x) read = omega (arith, read, deeper)
 
 -- where no node is at hand each sound ask fits
-pub fresh_fits : (first : Bool) (o : Operands) (b : Ask) → HasNoHands o → is_sound first b ≡ true → Fits first o b
-fresh_fits first o b none sound = record { sound = sound; first = by o.first none.first; second = by o.second none.second; third = by o.third none.third }
+pub fresh_fits : (first : Bool) (o : Operands) (b : Ask) → HasNoHands o → is_sound first b ≡ true
+    → Fits first o b
+fresh_fits first o b none sound = record {
+  sound = sound;
+  first = by o.first none.first;
+  second = by
+      o.second none.second;
+  third = by o.third none.third;
+}
   where
     by : (x : Operand) → x.hand ≡ None → IsReadTo b.key x
     by x is = subst (λ hand. IfSome hand (λ n. n.uid ≤ b.key)) (sym is) tt
 
 -- the first ask of those that wait is sound
-pub never_unsound : (m q : Machine) (a : Ask) (s : Asking) (world : World) → m.place.phase ≡ phases.Asking s → q ≡ record m { queue = q.queue } → HoldsFirst a q world
+pub never_unsound : (m q : Machine) (a : Ask) (s : Asking) (world : World)
+    → m.place.phase ≡ phases.Asking s → q ≡ record m { queue = q.queue } → HoldsFirst a q world
     → is_sound (is_none s.last) a ≡ false → ⊥
 never_unsound m q a s world is rest first unsound =
     let phase : q.place.phase ≡ phases.Asking s = ap (λ (p : Machine). p.place.phase) rest ∙ is in
-    let sound : is_sound (is_none s.last) a ≡ true = subst (λ p. is_sound (is_first_at p) a ≡ true) phase (first_fits a q world first).sound in
+    let sound : is_sound (is_none s.last) a ≡ true = subst (λ p. is_sound (is_first_at p) a ≡ true)
+    phase (first_fits a q world first).sound in
     let no : true ≡ false = sym sound ∙ unsound in
     absurd (cc)
 
 -- the place changes, and as before a tuple has a number or none has
-pub holds_placed : (most : ℕ) (m q : Machine) (place : Place) (world : World) → q ≡ record m { place = place } → is_first_at place.phase ≡ is_first_at m.place.phase
+pub holds_placed : (most : ℕ) (m q : Machine) (place : Place) (world : World)
+    → q ≡ record m { place = place } → is_first_at place.phase ≡ is_first_at m.place.phase
     → HoldsSome most m world → HoldsSome most q world
-holds_placed most m q place world rest same (asks, hold) = subst (λ (p : Machine). HoldsSome most p world) (sym rest) (
-  asks,
-  record {
-    wait = hold.wait;
-    fit = subst (λ b. All (Fits b m.operands) asks) (sym same) hold.fit;
-    few = λ first. hold.few (sym same ∙ first);
-    no_run = hold.no_run;
-    reading = hold.reading;
-  },
-)
+holds_placed most m q place world rest same (asks, hold) =
+    subst (λ (p : Machine). HoldsSome most p world) (sym rest) (
+      asks,
+      record {
+        wait = hold.wait;
+        fit = subst (λ b. All (Fits b m.operands) asks) (sym same) hold.fit;
+        few = λ first. hold.few (sym same ∙ first);
+        no_run = hold.no_run;
+        reading = hold.reading;
+      },
+    )
 
 -- the files stay where one operand's stays
 
-pub first_files : (m : Machine) (x : Operand) → x.file ≡ m.operands.first.file → files_in (record m { operands = record m.operands { first = x } }) ≡ files_in m
+pub first_files : (m : Machine) (x : Operand) → x.file ≡ m.operands.first.file
+    → files_in (record m { operands = record m.operands { first = x } }) ≡ files_in m
 first_files m x same i = record {
   first = same i;
   second = m.operands.second.file;
@@ -402,35 +516,50 @@ first_files m x same i = record {
 }
 
 -- the first operand was refused
-pub first_damage : (m : Machine) (x : Operand) (a : Ask) (world : World) (e : SortFault) → x.file ≡ m.operands.first.file → queues.shown m.queue ≡ Some a
-    → is_node a.key a.members.first ≡ true → (AreApart (files_in m) m.parts.step → IsReadDamage m.place.variables m.operands.first.file a.key world e)
+pub first_damage : (m : Machine) (x : Operand) (a : Ask) (world : World) (e : SortFault)
+    → x.file ≡ m.operands.first.file → queues.shown m.queue ≡ Some a
+    → is_node a.key a.members.first ≡ true → (AreApart (files_in m) m.parts.step
+    → IsReadDamage m.place.variables m.operands.first.file a.key world e)
     → IsMachineDamage (record m { operands = record m.operands { first = x } }) world e
 first_damage m x a world Shelf same shown asked damage = tt
 first_damage m x a world (Damaged f at) same shown asked damage = λ apart.
-    let before : AreApart (files_in m) m.parts.step = subst (λ fs. AreApart fs m.parts.step) (first_files m x same) apart in
+    let before : AreApart (files_in m) m.parts.step = subst (λ fs. AreApart fs m.parts.step)
+    (first_files m x same) apart in
     record {
       ask = a;
       shown_is = shown;
-      damaged = inl (asked, subst (λ g. IsReadDamage m.place.variables g a.key world (Damaged f at)) (sym same) (damage before));
+      damaged = inl (
+        asked,
+        subst (λ g. IsReadDamage m.place.variables g a.key world (Damaged f at))
+            (sym same) (damage before),
+      );
     }
 first_damage m x a world RunsSpent same shown asked damage = tt
 first_damage m x a world RoomFull same shown asked damage = tt
 
 -- the first operand's next node was read
-pub first_read : (told : Type 0) (m : Machine) (x : Operand) (a : Ask) (result : Result Unit SortFault) (old new : World) → AreOperands m.place.variables m.operands → x.file ≡ m.operands.first.file
-    → OnOk result (IsReadTo a.key x) → (told → IsReading m.operands.first.reader old → OnOk result (IsReading x.reader new)) → (told → Ran (Stays (now old)) old new)
-    → (told → HoldsFirst a m old) → OnOk result (told → HoldsSome 1 (record m { operands = record m.operands { first = x } }) new)
+pub first_read : (told : Type 0) (m : Machine) (x : Operand) (a : Ask)
+    (result : Result Unit SortFault) (old new : World) → AreOperands m.place.variables m.operands
+    → x.file ≡ m.operands.first.file
+    → OnOk result (IsReadTo a.key x) → (told → IsReading m.operands.first.reader old
+    → OnOk result (IsReading x.reader new)) → (told → Ran (Stays (now old)) old new)
+    → (told → HoldsFirst a m old) → OnOk result
+    (told → HoldsSome 1 (record m { operands = record m.operands { first = x } }) new)
 first_read told m x a (Err e) old new are same to reads ran first = tt
 first_read told m x a (Ok u) old new are same to reads ran first = λ is.
     let fits = first_fits a m old (first is) in
-    holds_read m (record m.operands { first = x }) old new a (first_files m x same) to fits.second fits.third (ran is)
+    holds_read m (record m.operands { first = x }) old new a (first_files m x same) to fits.second
+    fits.third (ran is)
     (λ apart reading. record {
       first = reads is reading.first;
-      second = operand_still _ m.operands.second old new are.second (looked_same old new (ran is) m.operands.second.file) reading.second;
-      third = operand_still _ m.operands.third old new are.third (looked_same old new (ran is) m.operands.third.file) reading.third;
+      second = operand_still _ m.operands.second old new are.second
+          (looked_same old new (ran is) m.operands.second.file) reading.second;
+      third = operand_still _ m.operands.third old new are.third
+          (looked_same old new (ran is) m.operands.third.file) reading.third;
     }) (first is)
 
-pub second_files : (m : Machine) (x : Operand) → x.file ≡ m.operands.second.file → files_in (record m { operands = record m.operands { second = x } }) ≡ files_in m
+pub second_files : (m : Machine) (x : Operand) → x.file ≡ m.operands.second.file
+    → files_in (record m { operands = record m.operands { second = x } }) ≡ files_in m
 second_files m x same i = record {
   first = m.operands.first.file;
   second = same i;
@@ -440,35 +569,50 @@ second_files m x same i = record {
 }
 
 -- the second operand was refused
-pub second_damage : (m : Machine) (x : Operand) (a : Ask) (world : World) (e : SortFault) → x.file ≡ m.operands.second.file → queues.shown m.queue ≡ Some a
-    → is_node a.key a.members.second ≡ true → (AreApart (files_in m) m.parts.step → IsReadDamage m.place.variables m.operands.second.file a.key world e)
+pub second_damage : (m : Machine) (x : Operand) (a : Ask) (world : World) (e : SortFault)
+    → x.file ≡ m.operands.second.file → queues.shown m.queue ≡ Some a
+    → is_node a.key a.members.second ≡ true → (AreApart (files_in m) m.parts.step
+    → IsReadDamage m.place.variables m.operands.second.file a.key world e)
     → IsMachineDamage (record m { operands = record m.operands { second = x } }) world e
 second_damage m x a world Shelf same shown asked damage = tt
 second_damage m x a world (Damaged f at) same shown asked damage = λ apart.
-    let before : AreApart (files_in m) m.parts.step = subst (λ fs. AreApart fs m.parts.step) (second_files m x same) apart in
+    let before : AreApart (files_in m) m.parts.step = subst (λ fs. AreApart fs m.parts.step)
+    (second_files m x same) apart in
     record {
       ask = a;
       shown_is = shown;
-      damaged = inr (inl (asked, subst (λ g. IsReadDamage m.place.variables g a.key world (Damaged f at)) (sym same) (damage before)));
+      damaged = inr (inl (
+        asked,
+        subst (λ g. IsReadDamage m.place.variables g a.key world
+            (Damaged f at)) (sym same) (damage before),
+      ));
     }
 second_damage m x a world RunsSpent same shown asked damage = tt
 second_damage m x a world RoomFull same shown asked damage = tt
 
 -- the second operand's next node was read
-pub second_read : (told : Type 0) (m : Machine) (x : Operand) (a : Ask) (result : Result Unit SortFault) (old new : World) → AreOperands m.place.variables m.operands → x.file ≡ m.operands.second.file
-    → OnOk result (IsReadTo a.key x) → (told → IsReading m.operands.second.reader old → OnOk result (IsReading x.reader new)) → (told → Ran (Stays (now old)) old new)
-    → (told → HoldsFirst a m old) → OnOk result (told → HoldsSome 1 (record m { operands = record m.operands { second = x } }) new)
+pub second_read : (told : Type 0) (m : Machine) (x : Operand) (a : Ask)
+    (result : Result Unit SortFault) (old new : World) → AreOperands m.place.variables m.operands
+    → x.file ≡ m.operands.second.file
+    → OnOk result (IsReadTo a.key x) → (told → IsReading m.operands.second.reader old
+    → OnOk result (IsReading x.reader new)) → (told → Ran (Stays (now old)) old new)
+    → (told → HoldsFirst a m old) → OnOk result
+    (told → HoldsSome 1 (record m { operands = record m.operands { second = x } }) new)
 second_read told m x a (Err e) old new are same to reads ran first = tt
 second_read told m x a (Ok u) old new are same to reads ran first = λ is.
     let fits = first_fits a m old (first is) in
-    holds_read m (record m.operands { second = x }) old new a (second_files m x same) fits.first to fits.third (ran is)
+    holds_read m (record m.operands { second = x }) old new a (second_files m x same) fits.first to
+    fits.third (ran is)
     (λ apart reading. record {
-      first = operand_still _ m.operands.first old new are.first (looked_same old new (ran is) m.operands.first.file) reading.first;
+      first = operand_still _ m.operands.first old new are.first
+          (looked_same old new (ran is) m.operands.first.file) reading.first;
       second = reads is reading.second;
-      third = operand_still _ m.operands.third old new are.third (looked_same old new (ran is) m.operands.third.file) reading.third;
+      third = operand_still _ m.operands.third old new are.third
+          (looked_same old new (ran is) m.operands.third.file) reading.third;
     }) (first is)
 
-pub third_files : (m : Machine) (x : Operand) → x.file ≡ m.operands.third.file → files_in (record m { operands = record m.operands { third = x } }) ≡ files_in m
+pub third_files : (m : Machine) (x : Operand) → x.file ≡ m.operands.third.file
+    → files_in (record m { operands = record m.operands { third = x } }) ≡ files_in m
 third_files m x same i = record {
   first = m.operands.first.file;
   second = m.operands.second.file;
@@ -478,30 +622,44 @@ third_files m x same i = record {
 }
 
 -- the third operand was refused
-pub third_damage : (m : Machine) (x : Operand) (a : Ask) (world : World) (e : SortFault) → x.file ≡ m.operands.third.file → queues.shown m.queue ≡ Some a
-    → is_node a.key a.members.third ≡ true → (AreApart (files_in m) m.parts.step → IsReadDamage m.place.variables m.operands.third.file a.key world e)
+pub third_damage : (m : Machine) (x : Operand) (a : Ask) (world : World) (e : SortFault)
+    → x.file ≡ m.operands.third.file → queues.shown m.queue ≡ Some a
+    → is_node a.key a.members.third ≡ true → (AreApart (files_in m) m.parts.step
+    → IsReadDamage m.place.variables m.operands.third.file a.key world e)
     → IsMachineDamage (record m { operands = record m.operands { third = x } }) world e
 third_damage m x a world Shelf same shown asked damage = tt
 third_damage m x a world (Damaged f at) same shown asked damage = λ apart.
-    let before : AreApart (files_in m) m.parts.step = subst (λ fs. AreApart fs m.parts.step) (third_files m x same) apart in
+    let before : AreApart (files_in m) m.parts.step = subst (λ fs. AreApart fs m.parts.step)
+    (third_files m x same) apart in
     record {
       ask = a;
       shown_is = shown;
-      damaged = inr (inr (asked, subst (λ g. IsReadDamage m.place.variables g a.key world (Damaged f at)) (sym same) (damage before)));
+      damaged = inr (inr (
+        asked,
+        subst (λ g. IsReadDamage m.place.variables g a.key world
+            (Damaged f at)) (sym same) (damage before),
+      ));
     }
 third_damage m x a world RunsSpent same shown asked damage = tt
 third_damage m x a world RoomFull same shown asked damage = tt
 
 -- the third operand's next node was read
-pub third_read : (told : Type 0) (m : Machine) (x : Operand) (a : Ask) (result : Result Unit SortFault) (old new : World) → AreOperands m.place.variables m.operands → x.file ≡ m.operands.third.file
-    → OnOk result (IsReadTo a.key x) → (told → IsReading m.operands.third.reader old → OnOk result (IsReading x.reader new)) → (told → Ran (Stays (now old)) old new)
-    → (told → HoldsFirst a m old) → OnOk result (told → HoldsSome 1 (record m { operands = record m.operands { third = x } }) new)
+pub third_read : (told : Type 0) (m : Machine) (x : Operand) (a : Ask)
+    (result : Result Unit SortFault) (old new : World) → AreOperands m.place.variables m.operands
+    → x.file ≡ m.operands.third.file
+    → OnOk result (IsReadTo a.key x) → (told → IsReading m.operands.third.reader old
+    → OnOk result (IsReading x.reader new)) → (told → Ran (Stays (now old)) old new)
+    → (told → HoldsFirst a m old) → OnOk result
+    (told → HoldsSome 1 (record m { operands = record m.operands { third = x } }) new)
 third_read told m x a (Err e) old new are same to reads ran first = tt
 third_read told m x a (Ok u) old new are same to reads ran first = λ is.
     let fits = first_fits a m old (first is) in
-    holds_read m (record m.operands { third = x }) old new a (third_files m x same) fits.first fits.second to (ran is)
+    holds_read m (record m.operands { third = x }) old new a (third_files m x same) fits.first
+    fits.second to (ran is)
     (λ apart reading. record {
-      first = operand_still _ m.operands.first old new are.first (looked_same old new (ran is) m.operands.first.file) reading.first;
-      second = operand_still _ m.operands.second old new are.second (looked_same old new (ran is) m.operands.second.file) reading.second;
+      first = operand_still _ m.operands.first old new are.first
+          (looked_same old new (ran is) m.operands.first.file) reading.first;
+      second = operand_still _ m.operands.second old new are.second
+          (looked_same old new (ran is) m.operands.second.file) reading.second;
       third = reads is reading.third;
     }) (first is)

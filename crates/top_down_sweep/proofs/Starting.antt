@@ -18,44 +18,66 @@ use Rattle.node_reading.proofs.NodeReading.{still_reading}
 uncut : (inner ends : FileNo) (old m : Moment) → Stays old m → DuringCuts inner 0 ends 0 old m
 uncut inner ends old m same = record {
   others = λ f _ _. ap (λ (d : Folder). file_in d f) same;
-  first_kept = λ front _ kept. subst (λ (d : Folder). IsKept front (file_in d inner)) (sym same) kept;
-  second_kept = λ front _ kept. subst (λ (d : Folder). IsKept front (file_in d ends)) (sym same) kept;
+  first_kept = λ front _ kept. subst (λ (d : Folder). IsKept front (file_in d inner)) (sym same)
+      kept;
+  second_kept = λ front _ kept. subst (λ (d : Folder). IsKept front (file_in d ends)) (sym same)
+      kept;
 }
 
 -- a cut from a moment at which the folder was the same
-cut_since : (inner ends : FileNo) (old mid m : Moment) → Stays old mid → DuringCuts inner 0 ends 0 mid m → DuringCuts inner 0 ends 0 old m
+cut_since : (inner ends : FileNo) (old mid m : Moment) → Stays old mid
+    → DuringCuts inner 0 ends 0 mid m → DuringCuts inner 0 ends 0 old m
 cut_since inner ends old mid m same cut = record {
   others = λ f first second. cut.others f first second ∙ ap (λ (d : Folder). file_in d f) same;
-  first_kept = λ front short kept. cut.first_kept front short (subst (λ (d : Folder). IsKept front (file_in d inner)) (sym same) kept);
-  second_kept = λ front short kept. cut.second_kept front short (subst (λ (d : Folder). IsKept front (file_in d ends)) (sym same) kept);
+  first_kept = λ front short kept. cut.first_kept front short
+      (subst (λ (d : Folder). IsKept front (file_in d inner)) (sym same) kept);
+  second_kept = λ front short kept. cut.second_kept front short
+      (subst (λ (d : Folder). IsKept front (file_in d ends)) (sym same) kept);
 }
 
 module _ {S : Type 0} (tells : S → Bool) (world : S → World) (inner ends : FileNo) where
   -- files were looked at
-  pub only_looked : (n : ℕ) (s t : S) → Told tells s t (Looked n (world s) (world t)) → Told tells s t (Ran (DuringCuts inner 0 ends 0 (now (world s))) (world s) (world t))
+  pub only_looked : (n : ℕ) (s t : S) → Told tells s t (Looked n (world s) (world t))
+      → Told tells s t (Ran (DuringCuts inner 0 ends 0 (now (world s))) (world s) (world t))
   only_looked n s t did = told tells s t _ _ did (λ _ looked.
-      ran_weakens (world s) (world t) (Stays (now (world s))) (DuringCuts inner 0 ends 0 (now (world s))) (λ m same. uncut inner ends (now (world s)) m same) looked.run)
+      ran_weakens (world s) (world t) (Stays (now (world s)))
+      (DuringCuts inner 0 ends 0 (now (world s)))
+      (λ m same. uncut inner ends (now (world s)) m same) looked.run)
 
   -- and then two were cut
-  pub then_cut : (n k : ℕ) (s t u : S) → Told tells s t (Looked n (world s) (world t)) → Told tells t u (CutBoth k inner 0 ends 0 (world t) (world u))
+  pub then_cut : (n k : ℕ) (s t u : S) → Told tells s t (Looked n (world s) (world t))
+      → Told tells t u (CutBoth k inner 0 ends 0 (world t) (world u))
       → Told tells s u (Ran (DuringCuts inner 0 ends 0 (now (world s))) (world s) (world u))
   then_cut n k s t u first second = told_then tells s t u _ _ _ first second (λ _ looked cut.
       let same = ran_end (world s) (world t) (Stays (now (world s))) looked.run in
       ran_joins (world s) (world t) (world u) (DuringCuts inner 0 ends 0 (now (world s)))
-      (ran_weakens (world s) (world t) (Stays (now (world s))) (DuringCuts inner 0 ends 0 (now (world s))) (λ m stays. uncut inner ends (now (world s)) m stays) looked.run)
-      (ran_weakens (world t) (world u) (DuringCuts inner 0 ends 0 (now (world t))) (DuringCuts inner 0 ends 0 (now (world s)))
+      (ran_weakens (world s) (world t) (Stays (now (world s)))
+      (DuringCuts inner 0 ends 0 (now (world s)))
+      (λ m stays. uncut inner ends (now (world s)) m stays) looked.run)
+      (ran_weakens (world t) (world u) (DuringCuts inner 0 ends 0 (now (world t)))
+      (DuringCuts inner 0 ends 0 (now (world s)))
       (λ m during. cut_since inner ends (now (world s)) (now (world t)) m same during) cut.run))
 
 -- a reader has read its file as it is
-pub still_after : (n : ℕ) (r : NodeReader) (old new : World) → Looked n old new → IsReading r old → IsReading r new
+pub still_after : (n : ℕ) (r : NodeReader) (old new : World) → Looked n old new → IsReading r old
+    → IsReading r new
 still_after n r old new looked reading =
-    still_reading r r old new refl (ap (λ (d : Folder). (file_in d (file_of r)).bytes) (ran_end old new (Stays (now old)) looked.run)) reading reading.reads
+    still_reading r r old new refl (ap (λ (d : Folder). (file_in d (file_of r)).bytes)
+    (ran_end old new (Stays (now old)) looked.run)) reading reading.reads
 
 -- no more calls were made than more
-pub looked_few : {S : Type 0} (tells : S → Bool) (world : S → World) (m n : ℕ) (s t : S) → m ≤ n → Told tells s t (Looked m (world s) (world t)) → Told tells s t (Looked n (world s) (world t))
-looked_few tells world m n s t more did = told tells s t _ _ did (λ _ looked. record { run = looked.run; few = (let few = looked.few in omega (arith, few, more)) })
+pub looked_few : {S : Type 0} (tells : S → Bool) (world : S → World) (m n : ℕ) (s t : S) → m ≤ n
+    → Told tells s t (Looked m (world s) (world t)) → Told tells s t (Looked n (world s) (world t))
+looked_few tells world m n s t more did = told tells s t _ _ did
+    (λ _ looked. record {
+      run = looked.run;
+      few = (let few = looked.few in omega (arith, few, more));
+    })
 
 -- each file but the two that were cut is as it was
-pub others_uncut : (n : ℕ) (inner ends f : FileNo) (old new : World) → CutBoth n inner 0 ends 0 old new → f ≢ inner → f ≢ ends → (file new f).bytes ≡ (file old f).bytes
+pub others_uncut : (n : ℕ) (inner ends f : FileNo) (old new : World)
+    → CutBoth n inner 0 ends 0 old new → f ≢ inner → f ≢ ends
+    → (file new f).bytes ≡ (file old f).bytes
 others_uncut n inner ends f old new cut first second =
-    ap (λ (x : File). x.bytes) ((ran_end old new (DuringCuts inner 0 ends 0 (now old)) cut.run).others f first second)
+    ap (λ (x : File). x.bytes) ((ran_end old new (DuringCuts inner 0 ends 0 (now old))
+    cut.run).others f first second)

@@ -18,12 +18,14 @@ use Rattle.top_down_sweep.specs.Waiting.{HasNoHands, HoldsSome, HoldsFirst}
 use Rattle.top_down_sweep.specs.Damage.{IsMachineDamage}
 use Rattle.top_down_sweep.specs.Sweeps.{files_in, machine_accounts, IsSoundMachine, Refuses}
 
--- its files of arcs end behind the arcs that were put, and asks that fit wait; once it has ended, the files stay
+-- its files of arcs end behind the arcs that were put, and asks that fit wait; once it has ended,
+-- the files stay
 -- whatever a stop leaves
 abbrev pub IsStepAt : Phase → Machine → World → Type 0
 IsStepAt Fresh m world = AreInStep m.writer world × HoldsSome 0 m world × HasNoHands m.operands
 IsStepAt (Asking s) m world = AreInStep m.writer world × HoldsSome 1 m world
-IsStepAt (Ended made) m world = IsFirm (file world (inner_file m.writer)) × IsFirm (file world (ends_file m.writer))
+IsStepAt (Ended made) m world = IsFirm (file world (inner_file m.writer)) × IsFirm
+    (file world (ends_file m.writer))
 
 abbrev pub IsMachineInStep : Machine → World → Type 0
 IsMachineInStep m world = IsStepAt m.place.phase m world
@@ -32,11 +34,13 @@ abbrev pub IsInStep : {O : Type 0} → TopDownSweep O → World → Type 0
 IsInStep s world = IsMachineInStep s.machine world
 
 -- within a turn it is sound, and its files hold what it takes them to hold
-pub record IsFit {S : Type 0} (tells : S → Bool) (world : S → World) (shelf : S) (m : Machine) : Type 0 where
+pub record IsFit {S : Type 0} (tells : S → Bool) (world : S → World) (shelf : S) (m : Machine) :
+    Type 0 where
   pub sound : IsSoundMachine m
   pub at_work : IsTrue (tells shelf) → AreInStep m.writer (world shelf)
 
--- where the folder tells its content, asks that fit wait, and no more than so many while no tuple has a number
+-- where the folder tells its content, asks that fit wait, and no more than so many while no tuple
+-- has a number
 abbrev pub HoldsAt : {S : Type 0} → (S → Bool) → (S → World) → ℕ → S → Machine → Type 0
 HoldsAt tells world most shelf m = IsTrue (tells shelf) → HoldsSome most m (world shelf)
 
@@ -51,8 +55,10 @@ pub record SameTask (old new : Machine) : Type 0 where
 
 -- what a call leaves and costs, why it is refused, and where damage is then
 pub record Does {S T : Type 0} (tells : S → Bool) (world : S → World) (counts : S → Faults)
-    (most_calls most_parts : ℕ) (before after : S) (old new : Machine) (result : Result T SortFault) : Type 0 where
-  pub leaves : Leaves tells world counts machine_accounts most_calls most_parts before after old new result
+    (most_calls most_parts : ℕ) (before after : S) (old new : Machine) (result : Result T SortFault)
+    : Type 0 where
+  pub leaves : Leaves tells world counts machine_accounts most_calls most_parts before after old new
+      result
   pub same : SameTask old new
   pub refused : IfErr result (Refuses new)
   pub damage : IfErr result (λ e. IsTrue (tells after) → IsMachineDamage new (world after) e)

@@ -6,18 +6,20 @@ use Rattle.shelf_model.specs.declared.sort_fault.SortFault.{SortFault}
 use Rattle.shelf_model.specs.declared.sort_fault.SortFault.TheVariants.{Shelf, Damaged, RunsSpent, RoomFull}
 use Rattle.shelf_model.specs.World.{World, file}
 use Rattle.node_file.specs.Nodes.{identifier_at}
-use Rattle.node_reading.specs.Reading.{count_of, IsDamagedNode}
+use Rattle.node_reading.specs.Reading.{count_of, IsDamagedNode, IsTrailerFault}
 use Rattle.level_queue.specs.Queues as queues
 use Rattle.top_down_sweep.specs.declared.ask.Ask.{Ask}
 use Rattle.top_down_sweep.specs.declared.ask.Member.{Member}
 use Rattle.top_down_sweep.specs.declared.operand.Operand.{Operand}
 use Rattle.top_down_sweep.specs.declared.machine.Machine.{Machine}
+use Rattle.top_down_sweep.specs.declared.start.Files.{Files}
 use Rattle.top_down_sweep.specs.declared.sweep.TopDownSweep.{TopDownSweep}
 use Rattle.top_down_sweep.specs.Members.{is_node}
 use Rattle.top_down_sweep.specs.Sweeps.{files_in}
 use Rattle.top_down_sweep.specs.Waiting.{AreApart}
 
--- that node isn't there: the record at the place comes behind it, and the one that is read before that comes before it
+-- that node isn't there: the record at the place comes behind it, and the one that is read before
+-- that comes before it
 pub record IsPassed (bytes : List ℕ) (key at : ℕ) : Type 0 where
   pub place : ℕ
   pub among : place < count_of bytes
@@ -34,8 +36,8 @@ pub record IsBehindAll (bytes : List ℕ) (key at : ℕ) : Type 0 where
 abbrev pub IsAbsent : List ℕ → ℕ → ℕ → Type 0
 IsAbsent bytes key at = IsPassed bytes key at ⊎ IsBehindAll bytes key at
 
--- the file is damaged where a record isn't that of a node that may stand there, or isn't in order, or where the node of
--- the key isn't there
+-- the file is damaged where a record isn't that of a node that may stand there, or isn't in order,
+-- or where the node of the key isn't there
 abbrev pub IsReadDamage : ℕ → FileNo → ℕ → World → SortFault → Type 0
 IsReadDamage n read key world Shelf = Unit
 IsReadDamage n read key world (Damaged f at) = (f ≡ read)
@@ -45,20 +47,29 @@ IsReadDamage n read key world RoomFull = ⊥
 
 -- so the operand is, in which the member is the node of the key
 abbrev pub IsOperandDamage : ℕ → Operand → ℕ → Member → World → FileNo → ℕ → Type 0
-IsOperandDamage n o key m world f at = (is_node key m ≡ true) × IsReadDamage n o.file key world (Damaged f at)
+IsOperandDamage n o key m world f at = (is_node key m ≡ true)
+    × IsReadDamage n o.file key world (Damaged f at)
+
+-- a call of the folder failed, or an operand's file has no trailer for n variables where one had to
+-- stand
+abbrev pub IsStartFault : Files → ℕ → World → SortFault → Type 0
+IsStartFault files n world e = IsTrailerFault files.first n world e
+    ⊎ (IsTrailerFault files.second n world e ⊎ IsTrailerFault files.third n world e)
 
 -- an operand is damaged, in which the first ask wants a node
 pub record IsAskDamage (m : Machine) (world : World) (f : FileNo) (at : ℕ) : Type 0 where
   pub ask : Ask
   pub shown_is : queues.shown m.queue ≡ Some ask
-  pub damaged : IsOperandDamage m.place.variables m.operands.first ask.key ask.members.first world f at
+  pub damaged :
+      IsOperandDamage m.place.variables m.operands.first ask.key ask.members.first world f at
       ⊎ (IsOperandDamage m.place.variables m.operands.second ask.key ask.members.second world f at
       ⊎ IsOperandDamage m.place.variables m.operands.third ask.key ask.members.third world f at)
 
 -- damage is that of an operand, where they are apart from what the sweep writes
 abbrev pub IsMachineDamage : Machine → World → SortFault → Type 0
 IsMachineDamage m world Shelf = Unit
-IsMachineDamage m world (Damaged f at) = AreApart (files_in m) m.parts.step → IsAskDamage m world f at
+IsMachineDamage m world (Damaged f at) = AreApart (files_in m) m.parts.step
+    → IsAskDamage m world f at
 IsMachineDamage m world RunsSpent = Unit
 IsMachineDamage m world RoomFull = Unit
 

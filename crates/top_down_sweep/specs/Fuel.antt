@@ -1,7 +1,7 @@
 -- What falls with each turn of a sweep, whatever the folder answers.
 --
--- Asks are taken in their order, and one that equals the last one taken is taken without effect. So each ask is taken
--- with effect at most once, and puts at most two others into the queue.
+-- Asks are taken in their order, and one that equals the last one taken is taken without effect. So
+-- each ask is taken with effect at most once, and puts at most two others into the queue.
 use Rattle.std.specs.Prelude.{ℕ, ◌+◌, ◌-◌, ◌*◌, ◌^◌, List, [], ◌∷◌, Option, Some, None}
 use Rattle.node_file.specs.Readers.{left_of}
 use Rattle.level_queue.specs.Queues.{last_of, load_of}
@@ -31,7 +31,8 @@ asks_behind (Some a) = 2 ^ 512 - (rank_of a + 1)
 abbrev pub unread : Operands → ℕ
 unread o = left_of o.first.reader + left_of o.second.reader + left_of o.third.reader
 
--- two for each ask that can still be taken with effect, one for each that waits, and one for each node that wasn't read
+-- two for each ask that can still be taken with effect, one for each that waits, and one for each
+-- node that wasn't read
 abbrev pub weight : Machine → ℕ
 weight m = 2 * asks_behind (last_of m.queue) + load_of m.queue + unread m.operands
 

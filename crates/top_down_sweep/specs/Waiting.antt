@@ -38,12 +38,13 @@ pub record Fits (is_first : Bool) (o : Operands) (a : Ask) : Type 0 where
   pub second : IsReadTo a.key o.second
   pub third : IsReadTo a.key o.third
 
--- no operand is one of the files that the sweep makes or of the parts that it may take
+-- the file is none of those that the sweep makes, and none of the parts that it may take
 pub record IsApart (files : Files) (step : ℕ) (f : FileNo) : Type 0 where
   pub not_inner : f ≢ files.inner
   pub not_ends : f ≢ files.ends
   pub no_part : f.step ≡ step → f.part < 3
 
+-- so are all operands
 pub record AreApart (files : Files) (step : ℕ) : Type 0 where
   pub first : IsApart files step files.first
   pub second : IsApart files step files.second
@@ -55,10 +56,11 @@ pub record AreReading (o : Operands) (world : World) : Type 0 where
   pub second : IsReading o.second.reader world
   pub third : IsReading o.third.reader world
 
--- no operand was read past that level
+-- the operand wasn't read past that level
 abbrev pub IsReadWithin : ℕ → Operand → Type 0
 IsReadWithin level o = IfSome o.hand (λ x. level_of x.uid ≤ level)
 
+-- so is none of them
 pub record AreReadTo (level : ℕ) (o : Operands) : Type 0 where
   pub first : IsReadWithin level o.first
   pub second : IsReadWithin level o.second
@@ -70,8 +72,8 @@ pub record HasNoHands (o : Operands) : Type 0 where
   pub second : o.second.hand ≡ None
   pub third : o.third.hand ≡ None
 
--- those asks wait, and all fit; no more than so many wait while no tuple has a number; none stands in a file that the
--- sweep makes; and the operands are read as their files say, where they are apart
+-- those asks wait, and all fit; no more than so many wait while no tuple has a number; none stands
+-- in a file that the sweep makes; and the operands are read as their files say, where they are apart
 pub record Holds (most : ℕ) (m : Machine) (world : World) (asks : List Ask) : Type 0 where
   pub wait : Waits m.queue world asks
   pub fit : All (Fits (is_first_at m.place.phase) m.operands) asks
@@ -79,6 +81,7 @@ pub record Holds (most : ℕ) (m : Machine) (world : World) (asks : List Ask) : 
   pub no_run : (f : FileNo) → IsMade (files_in m) f → ¬ queues.IsRunOf m.queue f
   pub reading : AreApart (files_in m) m.parts.step → AreReading m.operands world
 
+-- some asks wait so
 abbrev pub HoldsSome : ℕ → Machine → World → Type 0
 HoldsSome most m world = (asks : List Ask) × Holds most m world asks
 

@@ -38,6 +38,7 @@ impl<'r, O: Operation> TopDownSweep<'r, O> {
     ghost use Rattle.run_tiers.specs.Parts.{Paid};
     ghost use Rattle.sweep_core.specs.Accounts.{CanBeTaken};
     ghost use Rattle.top_down_sweep.specs.Sweeps.{files_of, parts_of, made_in, credit_of, stock_of, room_of, IsSound, IsStartDamage};
+    ghost use Rattle.top_down_sweep.specs.Damage.{IsStartFault};
     ghost use Rattle.top_down_sweep.specs.Calls.{IsInStep};
 
     /// Begins an operation on diagrams of `n` variables, with the part numbers that its queue may take.
@@ -73,6 +74,7 @@ impl<'r, O: Operation> TopDownSweep<'r, O> {
         ensures stock { IfOk result (λ s. stock_of s ≡ 0) }
         ensures faults { OnlySortShelf (S.faults shelf.old) (S.faults shelf.new) result }
         ensures refused { IfErr result (IsStartDamage files) }
+        ensures damage { IfErr result (λ e. IsTrue (S.tells shelf.new) → IsStartFault files n (S.world shelf.old) e) }
     {
         let (reading, rest) = room.split_at_mut(3 * READING);
         let (writing, asking) = rest.split_at_mut(WRITING);
@@ -101,6 +103,7 @@ impl<'r> Operands<'r> {
     ghost use Rattle.run_tiers.specs.Faults.{OnlySortShelf};
     ghost use Rattle.top_down_sweep.specs.Sweeps.{AreOperands, HaveFiles, IsStartDamage};
     ghost use Rattle.top_down_sweep.specs.Waiting.{HasNoHands, AreReading};
+    ghost use Rattle.top_down_sweep.specs.Damage.{IsStartFault};
 
     // Begins with no node at hand.
     fn start<S: Shelf>(
@@ -115,6 +118,8 @@ impl<'r> Operands<'r> {
         ensures unread { IfOk result HasNoHands }
         ensures reading { IfOk result (λ o. IsTrue (S.tells shelf.new) → AreReading o (S.world shelf.new)) }
         ensures damage { IfErr result (IsStartDamage files.now) }
+        ensures trailer { IfErr result (λ e. IsTrue (S.tells shelf.new) →
+            IsStartFault files.now n (S.world shelf.old) e) }
         ensures content { Told S.tells shelf.old shelf.new (Looked 6 (S.world shelf.old) (S.world shelf.new)) }
         ensures faults { OnlySortShelf (S.faults shelf.old) (S.faults shelf.new) result }
     {
@@ -136,7 +141,7 @@ impl<'r> Operand<'r> {
     ghost use Rattle.shelf_model.specs.Calls.{Told};
     ghost use Rattle.block_stream.specs.Reads.{Looked};
     ghost use Rattle.run_tiers.specs.Faults.{OnlySortShelf};
-    ghost use Rattle.node_reading.specs.Reading.{IsReading};
+    ghost use Rattle.node_reading.specs.Reading.{IsReading, IsTrailerFault};
     ghost use Rattle.top_down_sweep.specs.Sweeps.{IsOperand, IsDamageIn};
 
     // Begins with no node at hand.
@@ -152,6 +157,8 @@ impl<'r> Operand<'r> {
         ensures unread { IfOk result (λ o. o.hand ≡ None) }
         ensures reading { IfOk result (λ o. IsTrue (S.tells shelf.new) → IsReading o.reader (S.world shelf.new)) }
         ensures damage { IfErr result (IsDamageIn file) }
+        ensures trailer { IfErr result (λ e. IsTrue (S.tells shelf.new) →
+            IsTrailerFault file n (S.world shelf.old) e) }
         ensures content { Told S.tells shelf.old shelf.new (Looked 2 (S.world shelf.old) (S.world shelf.new)) }
         ensures faults { OnlySortShelf (S.faults shelf.old) (S.faults shelf.new) result }
     {

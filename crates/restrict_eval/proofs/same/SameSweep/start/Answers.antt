@@ -3,8 +3,8 @@ use Rattle.block_stream.proofs.WriteRuns.{looked_on}
 use Rattle.canon_file.specs.Canon.{canon_nodes, canon_root}
 use Rattle.node_file.specs.Nodes.{HasNodes}
 use Rattle.node_reading.specs.Reading.{count_of}
-use Rattle.node_reading.proofs.NodeReading.{if_handed, looked_same, starts_reading}
-use Rattle.restrict_eval.proofs.Starting.{trailer_fault, no_damage, two_faults}
+use Rattle.node_reading.proofs.NodeReading.{if_handed, looked_same, starts_reading, trailer_fault}
+use Rattle.restrict_eval.proofs.Starting.{no_damage, two_faults}
 use Rattle.restrict_eval.proofs.Canonical.{begins_canonical, begins_left}
 use Rattle.restrict_eval.proofs.same.SameSweep.start.Goals as goal
 

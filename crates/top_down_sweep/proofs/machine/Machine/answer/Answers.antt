@@ -15,74 +15,117 @@ use Rattle.top_down_sweep.proofs.machine.Machine.answer.Goals as goal
 
 -- the ask was taken, and its arc was put
 pub returns-in-Some-clause-does : goal.returns-in-Some-clause-does
-returns-in-Some-clause-does g c = then_more g.S.Shelf.tells g.S.Shelf.world g.S.Shelf.faults 8 1 0 0 105 6 _ _ _ c.args.self.now c.take.new.self c.put_inner.new.self c.take.result c.put_inner.result
+returns-in-Some-clause-does g c = then_more g.S.Shelf.tells g.S.Shelf.world g.S.Shelf.faults 8 1 0 0
+    105 6 _ _ _ c.args.self.now c.take.new.self c.put_inner.new.self c.take.result
+    c.put_inner.result
     (omega arith) (omega arith) c.take.ensures.does c.put_inner.ensures.does
 
 -- it was taken, and its tuple got a number
 pub returns-in_err-uid-clause-does : goal.returns-in_err-uid-clause-does
-returns-in_err-uid-clause-does g c = refused_second g.S.Shelf.tells g.S.Shelf.world g.S.Shelf.faults 8 1 0 0 105 6 _ _ _ c.args.self.now c.take.new.self c.number.new.self c.take.result c.number.result
-    c.from_residual-in_err-uid.result c.in_err-uid.field-0.0 (omega arith) (omega arith) c.take.ensures.does c.number.ensures.does c.from_residual-in_err-uid.ensures.1 c.in_err-uid.was
+returns-in_err-uid-clause-does g c = refused_second g.S.Shelf.tells g.S.Shelf.world g.S.Shelf.faults
+    8 1 0 0 105 6 _ _ _ c.args.self.now c.take.new.self c.number.new.self c.take.result
+    c.number.result
+    c.from_residual-in_err-uid.result c.in_err-uid.field-0.0 (omega arith) (omega arith)
+    c.take.ensures.does c.number.ensures.does c.from_residual-in_err-uid.ensures.1
+    c.in_err-uid.was
 
 -- and one side was answered or asked for
 pub returns-in_err-ask_side-clause-does : goal.returns-in_err-ask_side-clause-does
-returns-in_err-ask_side-clause-does g c = refused_second g.S.Shelf.tells g.S.Shelf.world g.S.Shelf.faults 9 48 0 3 105 6 _ _ _ c.args.self.now c.number.new.self c.ask_side.new.self c.number.result c.ask_side.result
+returns-in_err-ask_side-clause-does g c = refused_second g.S.Shelf.tells g.S.Shelf.world
+    g.S.Shelf.faults 9 48 0 3 105 6 _ _ _ c.args.self.now c.number.new.self c.ask_side.new.self
+    c.number.result c.ask_side.result
     c.from_residual-in_err-ask_side.result c.in_err-ask_side.field-0.0 (omega arith) (omega arith)
-    (then_more g.S.Shelf.tells g.S.Shelf.world g.S.Shelf.faults 8 1 0 0 9 0 _ _ _ c.args.self.now c.take.new.self c.number.new.self c.take.result c.number.result (omega arith) (omega arith)
-    c.take.ensures.does c.number.ensures.does) c.ask_side.ensures.does c.from_residual-in_err-ask_side.ensures.1 c.in_err-ask_side.was
+    (then_more g.S.Shelf.tells g.S.Shelf.world g.S.Shelf.faults 8 1 0 0 9 0 _ _ _ c.args.self.now
+    c.take.new.self c.number.new.self c.take.result c.number.result (omega arith) (omega arith)
+    c.take.ensures.does c.number.ensures.does) c.ask_side.ensures.does
+    c.from_residual-in_err-ask_side.ensures.1 c.in_err-ask_side.was
 
 -- and so was the other
 pub returns-clause-does : goal.returns-clause-does
-returns-clause-does g c = then_more g.S.Shelf.tells g.S.Shelf.world g.S.Shelf.faults 57 48 3 3 105 6 _ _ _ c.args.self.now c.ask_side.new.self c.ask_side-2.new.self c.ask_side.result c.ask_side-2.result
+returns-clause-does g c = then_more g.S.Shelf.tells g.S.Shelf.world g.S.Shelf.faults 57 48 3 3 105 6
+    _ _ _ c.args.self.now c.ask_side.new.self c.ask_side-2.new.self c.ask_side.result
+    c.ask_side-2.result
     (omega arith) (omega arith)
-    (then_more g.S.Shelf.tells g.S.Shelf.world g.S.Shelf.faults 9 48 0 3 57 3 _ _ _ c.args.self.now c.number.new.self c.ask_side.new.self c.number.result c.ask_side.result (omega arith) (omega arith)
-    (then_more g.S.Shelf.tells g.S.Shelf.world g.S.Shelf.faults 8 1 0 0 9 0 _ _ _ c.args.self.now c.take.new.self c.number.new.self c.take.result c.number.result (omega arith) (omega arith)
+    (then_more g.S.Shelf.tells g.S.Shelf.world g.S.Shelf.faults 9 48 0 3 57 3 _ _ _ c.args.self.now
+    c.number.new.self c.ask_side.new.self c.number.result c.ask_side.result (omega arith)
+    (omega arith)
+    (then_more g.S.Shelf.tells g.S.Shelf.world g.S.Shelf.faults 8 1 0 0 9 0 _ _ _ c.args.self.now
+    c.take.new.self c.number.new.self c.take.result c.number.result (omega arith) (omega arith)
     c.take.ensures.does c.number.ensures.does) c.ask_side.ensures.does) c.ask_side-2.ensures.does
 
 pub returns-clause-phase : goal.returns-clause-phase
 returns-clause-phase g c = on_ok c.ask_side-2.result
-    (subst (λ (p : Place). IsAsking p.phase) (sym c.ask_side-2.ensures.place) (subst (λ (p : Place). IsAsking p.phase) (sym c.ask_side.ensures.place) c.in_ok-uid.ensures.phase))
+    (subst (λ (p : Place). IsAsking p.phase) (sym c.ask_side-2.ensures.place)
+    (subst (λ (p : Place). IsAsking p.phase) (sym c.ask_side.ensures.place)
+    c.in_ok-uid.ensures.phase))
 
 -- it couldn't be taken
 pub returns-in_err-take-clause-does : goal.returns-in_err-take-clause-does
-returns-in_err-take-clause-does g c = does_more g.S.Shelf.tells g.S.Shelf.world g.S.Shelf.faults 8 105 0 6 _ _ c.args.self.now c.take.new.self c.from_residual.result (omega arith) (omega arith)
-    (does_err g.S.Shelf.tells g.S.Shelf.world g.S.Shelf.faults 8 0 _ _ c.args.self.now c.take.new.self c.from_residual.result c.take.result c.in_err-take.field-0.0 c.from_residual.ensures.1 c.in_err-take.was c.take.ensures.does)
+returns-in_err-take-clause-does g c = does_more g.S.Shelf.tells g.S.Shelf.world g.S.Shelf.faults 8
+    105 0 6 _ _ c.args.self.now c.take.new.self c.from_residual.result (omega arith) (omega arith)
+    (does_err g.S.Shelf.tells g.S.Shelf.world g.S.Shelf.faults 8 0 _ _ c.args.self.now
+    c.take.new.self c.from_residual.result c.take.result c.in_err-take.field-0.0
+    c.from_residual.ensures.1 c.in_err-take.was c.take.ensures.does)
 
 -- its arc was put, and asks are still answered
 pub returns-in-Some-clause-phase : goal.returns-in-Some-clause-phase
-returns-in-Some-clause-phase g c = on_ok c.put_inner.result (still_asking c.args.self.now c.put_inner.new.self _ c.requires.phase
-    (ap (λ (m : Machine). m.place) c.put_inner.ensures.rest ∙ ap (λ (m : Machine). m.place) c.take.ensures.rest))
+returns-in-Some-clause-phase g c = on_ok c.put_inner.result
+    (still_asking c.args.self.now c.put_inner.new.self _ c.requires.phase
+    (ap (λ (m : Machine). m.place) c.put_inner.ensures.rest ∙ ap (λ (m : Machine). m.place)
+    c.take.ensures.rest))
 
 -- the ask is the first of those that wait
 pub take-requires-clause-holds : goal.take-requires-clause-holds
-take-requires-clause-holds g c = first_at g.S.Shelf.tells g.S.Shelf.world _ c.args.self.now c.args.ask.now c.requires.first
+take-requires-clause-holds g c = first_at g.S.Shelf.tells g.S.Shelf.world _ c.args.self.now
+    c.args.ask.now c.requires.first
 
 pub returns-in-Some-clause-holds : goal.returns-in-Some-clause-holds
-returns-in-Some-clause-holds g c = on_ok_weaker c.put_inner.result (more_at g.S.Shelf.tells g.S.Shelf.world _ c.put_inner.new.self) (c.put_inner.ensures.holds 0 c.in_ok-take.ensures.holds)
+returns-in-Some-clause-holds g c = on_ok_weaker c.put_inner.result
+    (more_at g.S.Shelf.tells g.S.Shelf.world _ c.put_inner.new.self)
+    (c.put_inner.ensures.holds 0 c.in_ok-take.ensures.holds)
 
 -- no operand was read past its level
 pub ask_side-requires-clause-read : goal.ask_side-requires-clause-read
 ask_side-requires-clause-read g c told =
-    let fits = first_fits c.args.ask.now c.args.self.now _ (c.requires.first (c.take.ensures.does.leaves.content.before (c.number.ensures.does.leaves.content.before told))) in
-    let same : c.number.new.self.operands ≡ c.args.self.now.operands = ap (λ (m : Machine). m.operands) c.number.ensures.rest ∙ ap (λ (m : Machine). m.operands) c.take.ensures.rest in
-    subst (λ (o : Operands). AreReadTo (level_of c.in_ok-uid.uid) o) (sym same) (read_level _ c.args.self.now.operands c.args.ask.now (level_of c.in_ok-uid.uid) c.in_ok-uid.ensures.level fits)
+    let fits = first_fits c.args.ask.now c.args.self.now _
+    (c.requires.first (c.take.ensures.does.leaves.content.before
+    (c.number.ensures.does.leaves.content.before told))) in
+    let same : c.number.new.self.operands ≡ c.args.self.now.operands = ap
+    (λ (m : Machine). m.operands) c.number.ensures.rest ∙ ap (λ (m : Machine). m.operands)
+    c.take.ensures.rest in
+    subst (λ (o : Operands). AreReadTo (level_of c.in_ok-uid.uid) o) (sym same)
+    (read_level _ c.args.self.now.operands c.args.ask.now (level_of c.in_ok-uid.uid)
+    c.in_ok-uid.ensures.level fits)
 
 pub ask_side-requires-2-clause-read : goal.ask_side-requires-2-clause-read
 ask_side-requires-2-clause-read g c told =
     let fits = first_fits c.args.ask.now c.args.self.now _
-    (c.requires.first (c.take.ensures.does.leaves.content.before (c.number.ensures.does.leaves.content.before (c.ask_side.ensures.does.leaves.content.before told)))) in
-    let same : c.ask_side.new.self.operands ≡ c.args.self.now.operands = c.ask_side.ensures.operands ∙ ap (λ (m : Machine). m.operands) c.number.ensures.rest ∙ ap (λ (m : Machine). m.operands) c.take.ensures.rest in
-    subst (λ (o : Operands). AreReadTo (level_of c.in_ok-uid.uid) o) (sym same) (read_level _ c.args.self.now.operands c.args.ask.now (level_of c.in_ok-uid.uid) c.in_ok-uid.ensures.level fits)
+    (c.requires.first (c.take.ensures.does.leaves.content.before
+    (c.number.ensures.does.leaves.content.before
+    (c.ask_side.ensures.does.leaves.content.before told)))) in
+    let same : c.ask_side.new.self.operands ≡ c.args.self.now.operands = c.ask_side.ensures.operands
+    ∙ ap (λ (m : Machine). m.operands) c.number.ensures.rest ∙ ap (λ (m : Machine). m.operands)
+    c.take.ensures.rest in
+    subst (λ (o : Operands). AreReadTo (level_of c.in_ok-uid.uid) o) (sym same)
+    (read_level _ c.args.self.now.operands c.args.ask.now (level_of c.in_ok-uid.uid)
+    c.in_ok-uid.ensures.level fits)
 
 pub ask_side-requires-2-clause-numbered : goal.ask_side-requires-2-clause-numbered
-ask_side-requires-2-clause-numbered g c = subst (λ (p : Place). is_first_at p.phase ≡ false) (sym c.ask_side.ensures.place) c.in_ok-uid.ensures.numbered
+ask_side-requires-2-clause-numbered g c = subst (λ (p : Place). is_first_at p.phase ≡ false)
+    (sym c.ask_side.ensures.place) c.in_ok-uid.ensures.numbered
 
 pub returns-clause-holds : goal.returns-clause-holds
-returns-clause-holds g c = on_ok_weaker c.ask_side-2.result (more_at g.S.Shelf.tells g.S.Shelf.world _ c.ask_side-2.new.self) c.ask_side-2.ensures.holds
+returns-clause-holds g c = on_ok_weaker c.ask_side-2.result
+    (more_at g.S.Shelf.tells g.S.Shelf.world _ c.ask_side-2.new.self) c.ask_side-2.ensures.holds
 
 -- and at most two were put
 pub returns-clause-load : goal.returns-clause-load
-returns-clause-load g c = two_more c.args.self.now c.take.new.self c.number.new.self c.ask_side.new.self c.ask_side-2.new.self c.ask_side-2.result c.in_ok-take.ensures.load
-    (ap (λ (m : Machine). m.queue) c.number.ensures.rest) c.in_ok-ask_side.ensures.load c.ask_side-2.ensures.load
+returns-clause-load g c = two_more c.args.self.now c.take.new.self c.number.new.self
+    c.ask_side.new.self c.ask_side-2.new.self c.ask_side-2.result c.in_ok-take.ensures.load
+    (ap (λ (m : Machine). m.queue) c.number.ensures.rest) c.in_ok-ask_side.ensures.load
+    c.ask_side-2.ensures.load
 
 pub returns-clause-last : goal.returns-clause-last
-returns-clause-last g c = on_ok c.ask_side-2.result (c.ask_side-2.ensures.last ∙ c.ask_side.ensures.last ∙ ap (λ (m : Machine). last_of m.queue) c.number.ensures.rest ∙ c.in_ok-take.ensures.last)
+returns-clause-last g c = on_ok c.ask_side-2.result
+    (c.ask_side-2.ensures.last ∙ c.ask_side.ensures.last ∙ ap (λ (m : Machine). last_of m.queue)
+    c.number.ensures.rest ∙ c.in_ok-take.ensures.last)

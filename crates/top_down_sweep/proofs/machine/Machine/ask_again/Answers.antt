@@ -5,14 +5,18 @@ use Rattle.top_down_sweep.proofs.machine.Machine.ask_again.Goals as goal
 
 -- an ask was taken and another one was put
 pub returns-clause-does : goal.returns-clause-does
-returns-clause-does g c = then_more g.S.Shelf.tells g.S.Shelf.world g.S.Shelf.faults 8 48 0 3 56 3 _ _ _ c.args.self.now c.take.new.self c.push.new.self c.take.result c.push.result
+returns-clause-does g c = then_more g.S.Shelf.tells g.S.Shelf.world g.S.Shelf.faults 8 48 0 3 56 3 _
+    _ _ c.args.self.now c.take.new.self c.push.new.self c.take.result c.push.result
     (omega arith) (omega arith) c.take.ensures.does c.push.ensures.does
 
 -- the ask is the first of those that wait
 pub take-requires-clause-holds : goal.take-requires-clause-holds
-take-requires-clause-holds g c = first_at g.S.Shelf.tells g.S.Shelf.world _ c.args.self.now c.args.ask.now c.requires.first
+take-requires-clause-holds g c = first_at g.S.Shelf.tells g.S.Shelf.world _ c.args.self.now
+    c.args.ask.now c.requires.first
 
 -- it fits with the members that were read
 pub push-requires-clause-fits : goal.push-requires-clause-fits
-push-requires-clause-fits g c told = again_fits c.args.self.now c.take.new.self c.args.ask.now _ c.take.ensures.rest c.requires.later c.requires.sound
-    (first_fits c.args.ask.now c.args.self.now _ (c.requires.first (c.take.ensures.does.leaves.content.before told)))
+push-requires-clause-fits g c told = again_fits c.args.self.now c.take.new.self c.args.ask.now _
+    c.take.ensures.rest c.requires.later c.requires.sound
+    (first_fits c.args.ask.now c.args.self.now _
+    (c.requires.first (c.take.ensures.does.leaves.content.before told)))

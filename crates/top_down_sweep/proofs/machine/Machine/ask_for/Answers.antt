@@ -8,6 +8,11 @@ use Rattle.top_down_sweep.proofs.machine.Machine.ask_for.Goals as goal
 
 -- the ask fits, since no operand was read past its source's level
 pub push-requires-clause-fits : goal.push-requires-clause-fits
-push-requires-clause-fits g c told = subst (λ (m : Members). Fits (is_first_at c.args.self.now.place.phase) c.args.self.now.operands (record { key = c.in-Some.key; members = m; asker = c.word.result })) (sym c.of.ensures)
-    (deeper_fits _ c.args.self.now.operands (level_of c.args.source.uid) _ (side_deeper c.args.tuple.now _ _ c.in-Some.ensures.1 c.requires.deeper) (c.requires.read told)
-    (side_sound _ c.args.source c.args.tuple.now _ _ c.requires.numbered c.in-Some.ensures.1 c.word.ensures c.requires.deeper c.requires.node))
+push-requires-clause-fits g c told = subst (λ (m : Members). Fits
+    (is_first_at c.args.self.now.place.phase) c.args.self.now.operands
+    (record { key = c.in-Some.key; members = m; asker = c.word.result })) (sym c.of.ensures)
+    (deeper_fits _ c.args.self.now.operands (level_of c.args.source.uid) _
+    (side_deeper c.args.tuple.now _ _ c.in-Some.ensures.1 c.requires.deeper)
+    (c.requires.read told)
+    (side_sound _ c.args.source c.args.tuple.now _ _ c.requires.numbered c.in-Some.ensures.1
+    c.word.ensures c.requires.deeper c.requires.node))

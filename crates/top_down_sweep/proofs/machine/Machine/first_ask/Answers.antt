@@ -4,8 +4,11 @@ use Rattle.top_down_sweep.proofs.machine.Machine.first_ask.Goals as goal
 
 -- the ask that is answered is a value that isn't less than the last one taken, and is shown
 pub returns-clause-shown : goal.returns-clause-shown
-returns-clause-shown g c = first_shown _ _ c.peek.result c.peek.ensures.last c.peek.ensures.value c.peek.ensures.order c.peek.ensures.shown
+returns-clause-shown g c = first_shown _ _ c.peek.result c.peek.ensures.last c.peek.ensures.value
+    c.peek.ensures.order c.peek.ensures.shown
 
 -- it is the first one of those that wait
 pub returns-clause-holds : goal.returns-clause-holds
-returns-clause-holds g c = shown_at g.S.Shelf.tells g.S.Shelf.world _ _ c.args.self.now c.peek.new.self c.peek.result c.requires.fit.sound.operands c.peek.ensures.content c.peek.ensures.list c.peek.ensures.runs c.requires.holds
+returns-clause-holds g c = shown_at g.S.Shelf.tells g.S.Shelf.world _ _ c.args.self.now
+    c.peek.new.self c.peek.result c.requires.fit.sound.operands c.peek.ensures.content
+    c.peek.ensures.list c.peek.ensures.runs c.requires.holds

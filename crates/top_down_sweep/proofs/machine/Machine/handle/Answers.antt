@@ -19,49 +19,72 @@ pub ask_again-requires-clause-later : goal.ask_again-requires-clause-later
 ask_again-requires-clause-later g c =
     let s = c.args.self.now in
     let a = c.args.ask.now in
-    let node : IsNodeWord a.key = omega (arith, c.level_at.ensures.level, c.level_at.ensures.below) in
-    subst (λ k. a.key < k) (sym c.in-Some.ensures.1) (subst (λ v. v) (λ j. a.key < least (all_waiting (sym c.level_at.ensures.level j) (sym c.filled-members.ensures j)))
-    (next_later s.place.variables s.operands a c.requires.fit.sound.operands (and_left _ _ c.requires.shown.sound) node (sym c.want.ensures ∙ c.if-want.false)))
+    let node : IsNodeWord a.key = omega (arith, c.level_at.ensures.level, c.level_at.ensures.below)
+    in
+    subst (λ k. a.key < k) (sym c.in-Some.ensures.1)
+    (subst (λ v. v) (λ j. a.key < least (all_waiting (sym c.level_at.ensures.level j)
+    (sym c.filled-members.ensures j)))
+    (next_later s.place.variables s.operands a c.requires.fit.sound.operands
+    (and_left _ _ c.requires.shown.sound) node (sym c.want.ensures ∙ c.if-want.false)))
 
 -- and where nothing is, all was read
 pub answer-requires-clause-resolved : goal.answer-requires-clause-resolved
 answer-requires-clause-resolved g c =
     let s = c.args.self.now in
     let a = c.args.ask.now in
-    let node : IsNodeWord a.key = omega (arith, c.level_at.ensures.level, c.level_at.ensures.below) in
-    subst (IsResolved _) (sym c.filled-members.ensures) (all_resolved s.place.variables s.operands a c.requires.fit.sound.operands (and_left _ _ c.requires.shown.sound) node
-    (λ below. c.in-None.ensures (subst (λ v. v) (λ j. least (all_waiting (sym c.level_at.ensures.level j) (sym c.filled-members.ensures j)) < 2 ^ 63) below)))
+    let node : IsNodeWord a.key = omega (arith, c.level_at.ensures.level, c.level_at.ensures.below)
+    in
+    subst (IsResolved _) (sym c.filled-members.ensures)
+    (all_resolved s.place.variables s.operands a c.requires.fit.sound.operands
+    (and_left _ _ c.requires.shown.sound) node
+    (λ below. c.in-None.ensures (subst (λ v. v)
+    (λ j. least (all_waiting (sym c.level_at.ensures.level j) (sym c.filled-members.ensures j))
+    < 2 ^ 63) below)))
 
 pub returns-in-Some-clause-does : goal.returns-in-Some-clause-does
-returns-in-Some-clause-does g c = does_more g.S.Shelf.tells g.S.Shelf.world g.S.Shelf.faults 56 105 3 6 _ _ _ _ c.ask_again.result (omega arith) (omega arith) c.ask_again.ensures.does
+returns-in-Some-clause-does g c = does_more g.S.Shelf.tells g.S.Shelf.world g.S.Shelf.faults 56 105
+    3 6 _ _ _ _ c.ask_again.result (omega arith) (omega arith) c.ask_again.ensures.does
 
 -- the last ask was taken once more
 pub returns-then-eq-clause-falls : goal.returns-then-eq-clause-falls
-returns-then-eq-clause-falls g c = falls_known c.args.self.now c.take.new.self c.args.ask.now c.take.result
+returns-then-eq-clause-falls g c = falls_known c.args.self.now c.take.new.self c.args.ask.now
+    c.take.result
     (last_is _ c.args.ask.now c.last.result c.last.ensures (sym c.eq.ensures ∙ c.if-eq.true))
     (ap (λ (m : Machine). m.operands) c.take.ensures.rest) c.take.ensures.load c.take.ensures.last
 
 pub returns-in-Some-clause-phase : goal.returns-in-Some-clause-phase
-returns-in-Some-clause-phase g c = on_ok c.ask_again.result (still_asking c.args.self.now c.ask_again.new.self _ c.requires.phase (ap (λ (m : Machine). m.place) c.ask_again.ensures.rest))
+returns-in-Some-clause-phase g c = on_ok c.ask_again.result
+    (still_asking c.args.self.now c.ask_again.new.self _ c.requires.phase
+    (ap (λ (m : Machine). m.place) c.ask_again.ensures.rest))
 
 -- it was taken, and another one was put
 pub returns-in-Some-clause-falls : goal.returns-in-Some-clause-falls
-returns-in-Some-clause-falls g c = falls_taken c.args.self.now c.ask_again.new.self c.args.ask.now c.ask_again.result
-    (first_behind c.args.self.now c.args.ask.now c.requires.fit.sound.served c.requires.shown.first (last_differs _ c.args.ask.now c.last.result c.last.ensures (sym c.eq.ensures ∙ c.if-eq.false)))
-    (ap (λ (m : Machine). m.operands) c.ask_again.ensures.rest) (no_more_waits c.args.self.now c.ask_again.new.self c.ask_again.result c.ask_again.ensures.load) c.ask_again.ensures.last
+returns-in-Some-clause-falls g c = falls_taken c.args.self.now c.ask_again.new.self c.args.ask.now
+    c.ask_again.result
+    (first_behind c.args.self.now c.args.ask.now c.requires.fit.sound.served c.requires.shown.first
+    (last_differs _ c.args.ask.now c.last.result c.last.ensures
+    (sym c.eq.ensures ∙ c.if-eq.false)))
+    (ap (λ (m : Machine). m.operands) c.ask_again.ensures.rest)
+    (no_more_waits c.args.self.now c.ask_again.new.self c.ask_again.result
+    c.ask_again.ensures.load) c.ask_again.ensures.last
 
 -- it was taken, and at most two were put
 pub returns-in-None-clause-falls : goal.returns-in-None-clause-falls
-returns-in-None-clause-falls g c = falls_taken c.args.self.now c.answer.new.self c.args.ask.now c.answer.result
-    (first_behind c.args.self.now c.args.ask.now c.requires.fit.sound.served c.requires.shown.first (last_differs _ c.args.ask.now c.last.result c.last.ensures (sym c.eq.ensures ∙ c.if-eq.false)))
+returns-in-None-clause-falls g c = falls_taken c.args.self.now c.answer.new.self c.args.ask.now
+    c.answer.result
+    (first_behind c.args.self.now c.args.ask.now c.requires.fit.sound.served c.requires.shown.first
+    (last_differs _ c.args.ask.now c.last.result c.last.ensures
+    (sym c.eq.ensures ∙ c.if-eq.false)))
     c.answer.ensures.operands c.answer.ensures.load c.answer.ensures.last
 
 -- the ask is the first of those that wait
 pub take-requires-clause-holds : goal.take-requires-clause-holds
-take-requires-clause-holds g c = first_at g.S.Shelf.tells g.S.Shelf.world _ c.args.self.now c.args.ask.now c.requires.first
+take-requires-clause-holds g c = first_at g.S.Shelf.tells g.S.Shelf.world _ c.args.self.now
+    c.args.ask.now c.requires.first
 
 pub returns-then-eq-clause-holds : goal.returns-then-eq-clause-holds
-returns-then-eq-clause-holds g c = on_ok_weaker c.take.result (more_at g.S.Shelf.tells g.S.Shelf.world _ c.take.new.self) c.take.ensures.holds
+returns-then-eq-clause-holds g c = on_ok_weaker c.take.result
+    (more_at g.S.Shelf.tells g.S.Shelf.world _ c.take.new.self) c.take.ensures.holds
 
 pub read_wanted-requires-clause-wanted : goal.read_wanted-requires-clause-wanted
 read_wanted-requires-clause-wanted g c = sym c.want.ensures ∙ c.if-want.true
@@ -71,8 +94,15 @@ pub ask_again-requires-clause-sound : goal.ask_again-requires-clause-sound
 ask_again-requires-clause-sound g c =
     let s = c.args.self.now in
     let a = c.args.ask.now in
-    let node : IsNodeWord a.key = omega (arith, c.level_at.ensures.level, c.level_at.ensures.below) in
-    subst (λ (m : Members). is_sound (is_first_at s.place.phase) (record { key = c.in-Some.key; members = m; asker = a.asker }) ≡ true) (sym c.filled-members.ensures)
-    (again_sound s.place.variables s.operands a c.in-Some.key c.requires.fit.sound.operands (and_left _ _ c.requires.shown.sound) node
-    (c.in-Some.ensures.1 ∙ (λ j. least (all_waiting (c.level_at.ensures.level j) (c.filled-members.ensures j)))) (subst (λ k. k < 2 ^ 63) (sym c.in-Some.ensures.1) c.in-Some.ensures.0)
-    (is_first_at s.place.phase) (subst (λ b. is_sound b a ≡ true) (sym (ap is_first_at c.requires.phase)) c.requires.shown.sound))
+    let node : IsNodeWord a.key = omega (arith, c.level_at.ensures.level, c.level_at.ensures.below)
+    in
+    subst (λ (m : Members). is_sound (is_first_at s.place.phase)
+    (record { key = c.in-Some.key; members = m; asker = a.asker }) ≡ true)
+    (sym c.filled-members.ensures)
+    (again_sound s.place.variables s.operands a c.in-Some.key c.requires.fit.sound.operands
+    (and_left _ _ c.requires.shown.sound) node
+    (c.in-Some.ensures.1 ∙ (λ j. least (all_waiting (c.level_at.ensures.level j)
+    (c.filled-members.ensures j)))) (subst (λ k. k < 2 ^ 63) (sym c.in-Some.ensures.1)
+    c.in-Some.ensures.0)
+    (is_first_at s.place.phase) (subst (λ b. is_sound b a ≡ true)
+    (sym (ap is_first_at c.requires.phase)) c.requires.shown.sound))

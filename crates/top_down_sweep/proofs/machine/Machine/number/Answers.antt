@@ -12,7 +12,8 @@ pub returns-clause-fit : goal.returns-clause-fit
 returns-clause-fit g c =
     let s = c.args.self.now in
     let fit = c.in_ok-put_inner.ensures.fit in
-    let fits = number_fits s.writer c.put_inner.new.self.writer _ s.place.phase c.args.asking.now c.args.ask.now c.requires.phase c.requires.fit.sound.phase c.requires.sound
+    let fits = number_fits s.writer c.put_inner.new.self.writer _ s.place.phase c.args.asking.now
+    c.args.ask.now c.requires.phase c.requires.fit.sound.phase c.requires.sound
     c.in_ok-put_inner.ensures.count in
     record {
       sound = record {
@@ -23,7 +24,8 @@ returns-clause-fit g c =
           ends_made = fit.sound.served.ends_made;
         };
         operands = fit.sound.operands;
-        phase = subst (λ (x : Numbered). x.number ≤ inner_count c.put_inner.new.self.writer) (sym c.next-next.ensures) fits;
+        phase = subst (λ (x : Numbered). x.number ≤ inner_count c.put_inner.new.self.writer)
+            (sym c.next-next.ensures) fits;
       };
       at_work = fit.at_work;
     }
@@ -31,16 +33,20 @@ returns-clause-fit g c =
 -- it is that of the ask's key
 pub returns-clause-level : goal.returns-clause-level
 returns-clause-level g c =
-    let same : level_of c.uid-uid.result ≡ level_of (identifier c.next-next.result) = ap level_of c.uid-uid.ensures in
+    let same : level_of c.uid-uid.result ≡ level_of (identifier c.next-next.result) = ap level_of
+    c.uid-uid.ensures in
     let s = c.args.self.now in
-    let fits = number_fits s.writer c.put_inner.new.self.writer _ s.place.phase c.args.asking.now c.args.ask.now c.requires.phase c.requires.fit.sound.phase c.requires.sound
+    let fits = number_fits s.writer c.put_inner.new.self.writer _ s.place.phase c.args.asking.now
+    c.args.ask.now c.requires.phase c.requires.fit.sound.phase c.requires.sound
     c.in_ok-put_inner.ensures.count in
     let few : c.next-next.result.number < level_numbers =
     let number = ap (λ (x : Numbered). x.number) c.next-next.ensures in
     let arcs = few_arcs c.put_inner.new.self.writer in
     omega (arith, number, arcs, fits) in
-    same ∙ level_of_node (level_of c.next-next.result.key) c.next-next.result.number few ∙ ap (λ (x : Numbered). level_of x.key) c.next-next.ensures
+    same ∙ level_of_node (level_of c.next-next.result.key) c.next-next.result.number few ∙ ap
+    (λ (x : Numbered). level_of x.key) c.next-next.ensures
 
 -- asks wait as before, and the first tuple has its number
 pub returns-clause-holds : goal.returns-clause-holds
-returns-clause-holds g c = numbered_at g.S.Shelf.tells g.S.Shelf.world _ c.put_inner.new.self _ _ refl refl (c.in_ok-put_inner.ensures.holds 0 c.requires.holds)
+returns-clause-holds g c = numbered_at g.S.Shelf.tells g.S.Shelf.world _ c.put_inner.new.self _ _
+    refl refl (c.in_ok-put_inner.ensures.holds 0 c.requires.holds)

@@ -5,16 +5,19 @@ use Rattle.top_down_sweep.proofs.machine.Machine.put.Goals as goal
 
 -- only the files of arcs were written to
 pub returns-in_err-put-clause-does : goal.returns-in_err-put-clause-does
-returns-in_err-put-clause-does g c = does_wrote g.S.Shelf.tells g.S.Shelf.world g.S.Shelf.faults 1 _ _ c.args.self.now c.args.self.now.place c.put.new.self c.from_residual.result refl
+returns-in_err-put-clause-does g c = does_wrote g.S.Shelf.tells g.S.Shelf.world g.S.Shelf.faults 1 _
+    _ c.args.self.now c.args.self.now.place c.put.new.self c.from_residual.result refl
     c.put.ensures.same c.put.ensures.content (search rules) (search rules)
 
 pub returns-clause-does : goal.returns-clause-does
-returns-clause-does g c = does_wrote g.S.Shelf.tells g.S.Shelf.world g.S.Shelf.faults 1 _ _ c.args.self.now c.args.self.now.place c.put.new.self _ refl
+returns-clause-does g c = does_wrote g.S.Shelf.tells g.S.Shelf.world g.S.Shelf.faults 1 _ _
+    c.args.self.now c.args.self.now.place c.put.new.self _ refl
     c.put.ensures.same c.put.ensures.content (search rules) tt
 
 -- asks wait as before
 pub returns-clause-holds : goal.returns-clause-holds
-returns-clause-holds g c most holds = written_at g.S.Shelf.tells g.S.Shelf.world most 1 _ _ c.args.self.now _ refl
+returns-clause-holds g c most holds = written_at g.S.Shelf.tells g.S.Shelf.world most 1 _ _
+    c.args.self.now _ refl
     (λ j. record {
       first = c.args.self.now.operands.first.file;
       second = c.args.self.now.operands.second.file;

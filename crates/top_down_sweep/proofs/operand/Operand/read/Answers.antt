@@ -8,8 +8,11 @@ use Rattle.top_down_sweep.proofs.operand.Operand.read.Goals as goal
 
 -- the reader refused it
 pub returns-in_err-hand-clause-damaged : goal.returns-in_err-hand-clause-damaged
-returns-in_err-hand-clause-damaged g c = if_handed _ c.from_residual.result _ c.from_residual.ensures.1 (λ told n is reading behind.
-    let gives = gave g.S.Shelf.tells g.S.Shelf.world g.S.Shelf.faults c.args.shelf.now c.next.new.shelf c.args.self.now.reader c.next.new.self (Err c.in_err-hand.field-0.0) is.begun (λ _. reading) (record {
+returns-in_err-hand-clause-damaged g c = if_handed _ c.from_residual.result _
+    c.from_residual.ensures.1 (λ told n is reading behind.
+    let gives = gave g.S.Shelf.tells g.S.Shelf.world g.S.Shelf.faults c.args.shelf.now
+    c.next.new.shelf c.args.self.now.reader c.next.new.self (Err c.in_err-hand.field-0.0)
+    is.begun (λ _. reading) (record {
       file_is = c.in_err-hand.ensures.file;
       trailer_is = c.in_err-hand.ensures.trailer;
       goes = c.in_err-hand.ensures.place;
@@ -20,12 +23,16 @@ returns-in_err-hand-clause-damaged g c = if_handed _ c.from_residual.result _ c.
       content = c.in_err-hand.ensures.content;
       faults = c.in_err-hand.ensures.faults;
     }) in
-    fault_read n c.args.self.now c.next.new.self (g.S.Shelf.world c.args.shelf.now) (g.S.Shelf.world c.next.new.shelf) c.args.key is reading behind c.in_err-hand.ensures.file c.in_err-hand.ensures.trailer (gives.same told) _ (gives.damage told))
+    fault_read n c.args.self.now c.next.new.self (g.S.Shelf.world c.args.shelf.now)
+    (g.S.Shelf.world c.next.new.shelf) c.args.key is reading behind c.in_err-hand.ensures.file
+    c.in_err-hand.ensures.trailer (gives.same told) _ (gives.damage told))
 
 -- a node was read
 pub returns-in-Some-clause-reads : goal.returns-in-Some-clause-reads
 returns-in-Some-clause-reads g c told n is reading =
-    (gave g.S.Shelf.tells g.S.Shelf.world g.S.Shelf.faults c.args.shelf.now c.next.new.shelf c.args.self.now.reader c.next.new.self (Ok c.in_ok-hand.hand) is.begun (λ _. reading) (record {
+    (gave g.S.Shelf.tells g.S.Shelf.world g.S.Shelf.faults c.args.shelf.now c.next.new.shelf
+    c.args.self.now.reader c.next.new.self (Ok c.in_ok-hand.hand) is.begun (λ _. reading)
+    (record {
       file_is = c.in_ok-hand.ensures.file;
       trailer_is = c.in_ok-hand.ensures.trailer;
       goes = c.in_ok-hand.ensures.place;
@@ -40,7 +47,9 @@ returns-in-Some-clause-reads g c told n is reading =
 -- there is none, or it comes behind the wanted one
 pub returns-in_default-clause-damaged : goal.returns-in_default-clause-damaged
 returns-in_default-clause-damaged g c told n is reading behind =
-    let gives = gave g.S.Shelf.tells g.S.Shelf.world g.S.Shelf.faults c.args.shelf.now c.next.new.shelf c.args.self.now.reader c.next.new.self (Ok c.in_ok-hand.hand) is.begun (λ _. reading) (record {
+    let gives = gave g.S.Shelf.tells g.S.Shelf.world g.S.Shelf.faults c.args.shelf.now
+    c.next.new.shelf c.args.self.now.reader c.next.new.self (Ok c.in_ok-hand.hand) is.begun
+    (λ _. reading) (record {
       file_is = c.in_ok-hand.ensures.file;
       trailer_is = c.in_ok-hand.ensures.trailer;
       goes = c.in_ok-hand.ensures.place;
@@ -51,10 +60,15 @@ returns-in_default-clause-damaged g c told n is reading behind =
       content = c.in_ok-hand.ensures.content;
       faults = c.in_ok-hand.ensures.faults;
     }) in
-    let later : (x : Node) → c.in_ok-hand.hand ≡ Some x → c.args.key < x.uid = λ x found. elim c.in_default.branch [
+    let later : (x : Node) → c.in_ok-hand.hand ≡ Some x
+    → c.args.key < x.uid = λ x found. elim c.in_default.branch [
       | in_default-via-in-Some+else-le w ↦ (let no = sym w.le.ensures ∙ w.if-le.false in
           let behind_key : c.args.key < w.in-Some.node.uid = grind (arith, tests) in
-          subst (λ (y : Node). c.args.key < y.uid) (same_some w.in-Some.node x (sym w.in-Some.is ∙ found)) behind_key)
+          subst (λ (y : Node). c.args.key < y.uid)
+          (same_some w.in-Some.node x (sym w.in-Some.is ∙ found)) behind_key)
       | in_default-via-in_default w ↦ absurd (w.in_default.not-Some x found)
     ] in
-    next_refused n c.args.self.now c.next.new.self (g.S.Shelf.world c.args.shelf.now) (g.S.Shelf.world c.next.new.shelf) c.args.key is reading behind c.in_ok-hand.ensures.file c.in_ok-hand.ensures.trailer (gives.same told) c.in_ok-hand.hand _ gives.rises (gives.value told) later c.damage.ensures.place
+    next_refused n c.args.self.now c.next.new.self (g.S.Shelf.world c.args.shelf.now)
+    (g.S.Shelf.world c.next.new.shelf) c.args.key is reading behind c.in_ok-hand.ensures.file
+    c.in_ok-hand.ensures.trailer (gives.same told) c.in_ok-hand.hand _ gives.rises
+    (gives.value told) later c.damage.ensures.place

@@ -1,6 +1,6 @@
-use Rattle.std.proofs.Common.{subst}
+use Rattle.std.proofs.Common.{refl, subst}
 use Rattle.std.specs.Prelude.{IsSome}
-use Rattle.node_reading.proofs.NodeReading.{starts_reading}
+use Rattle.node_reading.proofs.NodeReading.{starts_reading, trailer_fault, if_handed}
 use Rattle.top_down_sweep.proofs.Holding.{looked_same}
 use Rattle.top_down_sweep.proofs.operand.Operand.start.Goals as goal
 
@@ -16,6 +16,17 @@ returns-clause-is g c = record {
 
 -- the trailer is that of the file
 pub returns-clause-reading : goal.returns-clause-reading
-returns-clause-reading g c told = starts_reading c.in_ok-reader.reader c.args.file c.args.n (g.S.Shelf.world c.args.shelf.now) (g.S.Shelf.world c.start.new.shelf)
-    c.in_ok-reader.ensures.file c.in_ok-reader.ensures.variables c.in_ok-reader.ensures.reads (c.in_ok-reader.ensures.trailer told)
-    (looked_same (g.S.Shelf.world c.args.shelf.now) (g.S.Shelf.world c.start.new.shelf) (c.start.ensures.content.did told).run c.args.file)
+returns-clause-reading g c told = starts_reading c.in_ok-reader.reader c.args.file c.args.n
+    (g.S.Shelf.world c.args.shelf.now) (g.S.Shelf.world c.start.new.shelf)
+    c.in_ok-reader.ensures.file c.in_ok-reader.ensures.variables c.in_ok-reader.ensures.reads
+    (c.in_ok-reader.ensures.trailer told)
+    (looked_same (g.S.Shelf.world c.args.shelf.now) (g.S.Shelf.world c.start.new.shelf)
+    (c.start.ensures.content.did told).run c.args.file)
+
+-- it has no trailer where it had to stand
+pub returns-in_err-reader-clause-trailer : goal.returns-in_err-reader-clause-trailer
+returns-in_err-reader-clause-trailer g c = if_handed _ c.from_residual.result _
+    c.from_residual.ensures.1 (λ told.
+    let old = g.S.Shelf.world c.args.shelf.now in
+    trailer_fault c.args.file c.args.n old old c.in_err-reader.field-0.0 refl
+    c.in_err-reader.ensures.damage (c.in_err-reader.ensures.damaged told))

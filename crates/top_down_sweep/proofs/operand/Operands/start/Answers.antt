@@ -1,4 +1,6 @@
-use Rattle.std.proofs.Common.{arith}
+use Rattle.node_reading.proofs.NodeReading.{if_handed, trailer_before}
+use Rattle.top_down_sweep.proofs.Holding.{looked_same}
+use Rattle.std.proofs.Common.{◌∙◌, inl, inr, arith}
 use Rattle.block_stream.proofs.WriteRuns.{looked_on}
 use Rattle.top_down_sweep.proofs.Starting.{still_after, looked_few}
 use Rattle.top_down_sweep.proofs.operand.Operands.start.Goals as goal
@@ -9,16 +11,54 @@ returns-clause-reading g c told =
     let before = c.start-3.ensures.content.before told in
     let first = c.start-2.ensures.content.before before in
     record {
-      first = still_after 2 _ _ _ (c.start-3.ensures.content.did told) (still_after 2 _ _ _ (c.start-2.ensures.content.did before) (c.in_ok-first.ensures.reading first));
-      second = still_after 2 _ _ _ (c.start-3.ensures.content.did told) (c.in_ok-second.ensures.reading before);
+      first = still_after 2 _ _ _ (c.start-3.ensures.content.did told)
+          (still_after 2 _ _ _ (c.start-2.ensures.content.did before)
+          (c.in_ok-first.ensures.reading first));
+      second = still_after 2 _ _ _ (c.start-3.ensures.content.did told)
+          (c.in_ok-second.ensures.reading before);
       third = c.in_ok-third.ensures.reading told;
     }
 
 pub returns-in_err-second-clause-content : goal.returns-in_err-second-clause-content
-returns-in_err-second-clause-content g c = looked_few g.S.Shelf.tells g.S.Shelf.world 4 6 _ _ (omega arith) (looked_on g.S.Shelf.tells g.S.Shelf.world 2 2 _ _ _ c.start.ensures.content c.start-2.ensures.content)
+returns-in_err-second-clause-content g c = looked_few g.S.Shelf.tells g.S.Shelf.world 4 6 _ _
+    (omega arith) (looked_on g.S.Shelf.tells g.S.Shelf.world 2 2 _ _ _ c.start.ensures.content
+    c.start-2.ensures.content)
 
 pub returns-in_err-third-clause-content : goal.returns-in_err-third-clause-content
-returns-in_err-third-clause-content g c = looked_on g.S.Shelf.tells g.S.Shelf.world 4 2 _ _ _ (looked_on g.S.Shelf.tells g.S.Shelf.world 2 2 _ _ _ c.start.ensures.content c.start-2.ensures.content) c.start-3.ensures.content
+returns-in_err-third-clause-content g c = looked_on g.S.Shelf.tells g.S.Shelf.world 4 2 _ _ _
+    (looked_on g.S.Shelf.tells g.S.Shelf.world 2 2 _ _ _ c.start.ensures.content
+    c.start-2.ensures.content) c.start-3.ensures.content
 
 pub returns-clause-content : goal.returns-clause-content
-returns-clause-content g c = looked_on g.S.Shelf.tells g.S.Shelf.world 4 2 _ _ _ (looked_on g.S.Shelf.tells g.S.Shelf.world 2 2 _ _ _ c.start.ensures.content c.start-2.ensures.content) c.start-3.ensures.content
+returns-clause-content g c = looked_on g.S.Shelf.tells g.S.Shelf.world 4 2 _ _ _
+    (looked_on g.S.Shelf.tells g.S.Shelf.world 2 2 _ _ _ c.start.ensures.content
+    c.start-2.ensures.content) c.start-3.ensures.content
+
+-- one of the files has no trailer where it had to stand
+pub returns-in_err-first-clause-trailer : goal.returns-in_err-first-clause-trailer
+returns-in_err-first-clause-trailer g c = if_handed _ c.from_residual.result _
+    c.from_residual.ensures.1 (λ told. inl (c.in_err-first.ensures.trailer told))
+
+pub returns-in_err-second-clause-trailer : goal.returns-in_err-second-clause-trailer
+returns-in_err-second-clause-trailer g c = if_handed _ c.from_residual-in_err-second.result _
+    c.from_residual-in_err-second.ensures.1 (λ told.
+    let f = c.args.files.now.second in
+    let old = g.S.Shelf.world c.args.shelf.now in
+    let mid = g.S.Shelf.world c.start.new.shelf in
+    let looked = c.start.ensures.content.did (c.start-2.ensures.content.before told) in
+    inr (inl (trailer_before f c.args.n old mid _ (looked_same old mid looked.run f)
+    (c.in_err-second.ensures.trailer told))))
+
+pub returns-in_err-third-clause-trailer : goal.returns-in_err-third-clause-trailer
+returns-in_err-third-clause-trailer g c = if_handed _ c.from_residual-in_err-third.result _
+    c.from_residual-in_err-third.ensures.1 (λ told.
+    let f = c.args.files.now.third in
+    let old = g.S.Shelf.world c.args.shelf.now in
+    let mid = g.S.Shelf.world c.start.new.shelf in
+    let last = g.S.Shelf.world c.start-2.new.shelf in
+    let before = c.start-3.ensures.content.before told in
+    let first = c.start.ensures.content.did (c.start-2.ensures.content.before before) in
+    let second = c.start-2.ensures.content.did before in
+    inr (inr (trailer_before f c.args.n old last _
+    (looked_same mid last second.run f ∙ looked_same old mid first.run f)
+    (c.in_err-third.ensures.trailer told))))

@@ -1,4 +1,7 @@
-use Rattle.std.proofs.Common.{◌∙◌, [], sym, subst, arith}
+use Rattle.node_reading.proofs.NodeReading.{if_handed}
+use Rattle.shelf_model.specs.SortFaults.{handed_on}
+use Rattle.top_down_sweep.specs.Damage.{IsStartFault}
+use Rattle.std.proofs.Common.{inl, ◌∙◌, [], sym, subst, arith}
 use Rattle.sweep_core.specs.Accounts.{CanBeTaken}
 use Rattle.top_down_sweep.proofs.Starting.{then_cut, others_uncut}
 use Rattle.top_down_sweep.proofs.Holding.{operands_still}
@@ -52,3 +55,8 @@ returns-clause-in_step g c told =
       ),
       c.in_ok-operands.ensures.unread,
     )
+
+-- the files of arcs couldn't be cut
+pub returns-in_err-writer-clause-damage : goal.returns-in_err-writer-clause-damage
+returns-in_err-writer-clause-damage g c = if_handed _ c.from_residual-in_err-writer.result _ c.from_residual-in_err-writer.ensures.1
+    (λ told. subst (λ e. IsStartFault c.args.files c.args.n (g.S.Shelf.world c.args.shelf.now) (handed_on e)) (sym c.in_err-writer.ensures.cause) (inl tt))
