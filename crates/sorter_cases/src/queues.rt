@@ -87,7 +87,14 @@ fn queue_agrees<S: Shelf>(
     for turn in 0..2 * TURNS {
         random = next_random(random);
         let action = if turn < TURNS { (random >> 33) % 4 } else { 1 };
-        if !queue_turn(action, (random >> 40) % 500, &mut plain, queue, parts, shelf)? {
+        if !queue_turn(
+            action,
+            (random >> 40) % 500,
+            &mut plain,
+            queue,
+            parts,
+            shelf,
+        )? {
             return Ok(false);
         }
     }
