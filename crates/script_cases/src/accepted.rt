@@ -454,7 +454,26 @@ fn plans_names_levels_and_blanks(rt: HostRuntime) -> Result<(), AllocError> {
 
 #[test]
 fn plans_whole_scripts(rt: HostRuntime) -> Result<(), AllocError> {
-    let cases: [(&str, u32, &[Made], &[(u32, u32)]); 4] = [
+    let cases: [(&str, u32, &[Made], &[(u32, u32)]); 5] = [
+        (
+            "vars a b\nvar f a\nvar g b\nand h f g\ndrop f",
+            2,
+            &[
+                (Step::Var { level: 0 }, 13, 1),
+                (Step::Var { level: 1 }, 21, 1),
+                (
+                    Step::Pair {
+                        op: AND,
+                        left: 0,
+                        right: 1,
+                    },
+                    29,
+                    1,
+                ),
+                (Step::Drop { gone: 0 }, 0, 0),
+            ],
+            &[(2, 0), (3, 1), (4, 2), (5, 3)],
+        ),
         (
             "vars a b\nvar f a\nvar g b\nand h f g",
             2,

@@ -30,17 +30,36 @@ fn declares(alloc: Global, bytes: &[u8], n: u32) -> bool {
     }
 }
 
-/// Whether 65,535 variables are accepted, one more is refused, and a name that stands twice before that.
+/// Whether 65,535 variables are accepted, one more is refused, before a fault of the next line, and
+/// a name that stands twice before that.
 fn counts_variables(alloc: Global) -> Result<bool, AllocError> {
     let most = variables(alloc, 65535)?;
     let mut more = variables(alloc, 65536)?;
     let refused = refuses(alloc, more.as_slice(), 1, ScriptKind::TooManyVariables);
+    let mut behind = variables(alloc, 65536)?;
+    behind.extend_from_slice(b"\nfoo")?;
     more.extend_from_slice(b" 00000")?;
     Ok(
         refused
+            && refuses(alloc, behind.as_slice(), 1, ScriptKind::TooManyVariables)
             && declares(alloc, most.as_slice(), 65535)
             && refuses(alloc, more.as_slice(), 1, ScriptKind::Variable),
     )
+}
+
+/// Whether too many variables are refused for their place where they don't stand on the first line
+/// with words.
+fn refuses_late_variables(alloc: Global) -> Result<bool, AllocError> {
+    let mut late = Vec::new(alloc);
+    late.extend_from_slice(b"const z 0\n")?;
+    late.extend_from_slice(variables(alloc, 65536)?.as_slice())?;
+    Ok(refuses(alloc, late.as_slice(), 2, ScriptKind::Word))
+}
+
+#[test]
+fn refuses_many_variables_on_a_later_line_as_words(rt: HostRuntime) -> Result<(), AllocError> {
+    assert!(rt; refuses_late_variables(rt.alloc())?);
+    Ok(())
 }
 
 #[test]

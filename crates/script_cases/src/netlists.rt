@@ -425,6 +425,43 @@ fn counts_steps(alloc: Global) -> Result<bool, AllocError> {
     )
 }
 
+/// Lines that are refused for another fault where there is no room for a step either.
+const FAULTY: [(&str, ScriptKind); 7] = [
+    ("const j 2", ScriptKind::Word),
+    ("size q", ScriptKind::UnknownName),
+    ("net j q", ScriptKind::UnknownName),
+    ("var j b", ScriptKind::Variable),
+    ("eval k 2", ScriptKind::Bits),
+    (
+        "const nnnnnnnnnnnnnnnnnnnnnnnnnnnnnnnnnnnnnnnnnnnnnnnnnnnnnnnnnnnnnnnn 0",
+        ScriptKind::NameLength,
+    ),
+    ("const k 0", ScriptKind::NameTaken),
+];
+
+/// Whether each of these lines is refused for its other fault, behind 1,048,576 steps.
+fn refuses_without_room(alloc: Global) -> Result<bool, AllocError> {
+    let text = many_rows(alloc, 262143)?;
+    let Ok(net) = read_netlist(alloc, text.as_slice()) else {
+        return Ok(false);
+    };
+    for (line, kind) in FAULTY {
+        let mut text = Vec::new(alloc);
+        text.extend_from_slice(b"inputs\nconst k 0\nnet x f\n")?;
+        text.extend_from_slice(line.as_bytes())?;
+        if !is_fault(read_with(alloc, text.as_slice(), Some(&net)), 4, kind) {
+            return Ok(false);
+        }
+    }
+    Ok(true)
+}
+
+#[test]
+fn refuses_other_faults_before_too_many_steps(rt: HostRuntime) -> Result<(), AllocError> {
+    assert!(rt; refuses_without_room(rt.alloc())?);
+    Ok(())
+}
+
 #[test]
 fn refuses_more_steps_than_there_may_be(rt: HostRuntime) -> Result<(), AllocError> {
     assert!(rt; counts_steps(rt.alloc())?);

@@ -1,6 +1,7 @@
 // Scripts that are refused: each way in which a line may be at fault, and the order in which faults count.
 use crate::whole::refuses;
 use script_reader::ScriptKind;
+use std::alloc::{AllocError, Global};
 
 /// Refused for their keyword or for the number of their words, with the line and the kind of the first fault.
 const WORDS: [(&str, u32, ScriptKind); 41] = [
@@ -50,7 +51,7 @@ const WORDS: [(&str, u32, ScriptKind); 41] = [
 ];
 
 /// Refused for other words that stand where they must not, or for the netlist that isn't there.
-const PLACES: [(&str, u32, ScriptKind); 23] = [
+const PLACES: [(&str, u32, ScriptKind); 29] = [
     // The bits of an evaluation may be left out where there is no variable, and there alone.
     ("vars a\nconst z 0\neval z", 3, ScriptKind::Word),
     ("vars a\neval f", 2, ScriptKind::Word),
@@ -59,6 +60,17 @@ const PLACES: [(&str, u32, ScriptKind); 23] = [
     ("const a 01", 1, ScriptKind::Word),
     ("restrict p h a 2", 1, ScriptKind::Word),
     ("restrict p h a 10", 1, ScriptKind::Word),
+    // Before a name that was dropped, a variable, bits, and the name that the line gives.
+    ("vars a\nconst z 0\ndrop z\neval z", 4, ScriptKind::Word),
+    ("vars a\nvar f a\nrestrict g f b 2", 3, ScriptKind::Word),
+    ("vars a\nvars b b", 2, ScriptKind::Word),
+    ("vars a\nvar f a\neval f 2 0", 3, ScriptKind::Word),
+    (
+        "const nnnnnnnnnnnnnnnnnnnnnnnnnnnnnnnnnnnnnnnnnnnnnnnnnnnnnnnnnnnnnnnn 2",
+        1,
+        ScriptKind::Word,
+    ),
+    ("const z 0\nconst z 2", 2, ScriptKind::Word),
     // Variables are named on the first line with words.
     ("vars a\nvars b", 2, ScriptKind::Word),
     ("const z 0\nvars a", 2, ScriptKind::Word),
@@ -86,7 +98,7 @@ const PLACES: [(&str, u32, ScriptKind); 23] = [
 ];
 
 /// Refused for an operand.
-const OPERANDS: [(&str, u32, ScriptKind); 34] = [
+const OPERANDS: [(&str, u32, ScriptKind); 35] = [
     // Names that no earlier line gave.
     ("vars a\nnot h f", 2, ScriptKind::UnknownName),
     ("not f f", 1, ScriptKind::UnknownName),
@@ -138,6 +150,11 @@ const OPERANDS: [(&str, u32, ScriptKind); 34] = [
         ScriptKind::Dropped,
     ),
     ("const z 0\ndrop z\nnot z z", 3, ScriptKind::Dropped),
+    (
+        "const z 0\ndrop z\nnot nnnnnnnnnnnnnnnnnnnnnnnnnnnnnnnnnnnnnnnnnnnnnnnnnnnnnnnnnnnnnnnn z",
+        3,
+        ScriptKind::Dropped,
+    ),
     // From left to right.
     ("const z 0\ndrop z\nand h z y", 3, ScriptKind::Dropped),
     ("const z 0\ndrop z\nand h y z", 3, ScriptKind::UnknownName),
@@ -219,6 +236,53 @@ const NAMES: [(&str, u32, ScriptKind); 39] = [
     ("const\tz\t2", 1, ScriptKind::Word),
     ("const z 0\n\nsize y\n", 3, ScriptKind::UnknownName),
 ];
+
+/// Lines that are refused behind those of `BEFORE`, each of another kind.
+const FAULTY: [(&str, ScriptKind); 8] = [
+    ("foo", ScriptKind::Word),
+    ("net g s", ScriptKind::NoNetlist),
+    ("size q", ScriptKind::UnknownName),
+    ("size d", ScriptKind::Dropped),
+    ("var g b", ScriptKind::Variable),
+    ("eval f 2", ScriptKind::Bits),
+    (
+        "const nnnnnnnnnnnnnnnnnnnnnnnnnnnnnnnnnnnnnnnnnnnnnnnnnnnnnnnnnnnnnnnn 0",
+        ScriptKind::NameLength,
+    ),
+    ("const f 0", ScriptKind::NameTaken),
+];
+
+/// A variable, a diagram, and one that was dropped.
+const BEFORE: &str = "vars a\nvar f a\nvar d a\ndrop d\n";
+
+/// Whether a script of lines that are in order, of one that isn't and of another one is refused for
+/// the former.
+fn refuses_the_first(
+    alloc: Global,
+    first: &str,
+    kind: ScriptKind,
+    second: &str,
+) -> Result<bool, AllocError> {
+    let mut text = Vec::new(alloc);
+    text.extend_from_slice(BEFORE.as_bytes())?;
+    text.extend_from_slice(first.as_bytes())?;
+    text.push(b'\n')?;
+    text.extend_from_slice(second.as_bytes())?;
+    Ok(refuses(alloc, text.as_slice(), 5, kind))
+}
+
+#[test]
+fn refuses_the_first_of_two_faulty_lines(rt: HostRuntime) -> Result<(), AllocError> {
+    for (first, kind) in FAULTY {
+        for (second, _) in FAULTY {
+            assert!(rt;
+                refuses_the_first(rt.alloc(), first, kind, second)?,
+                "{first:?} {second:?}"
+            );
+        }
+    }
+    Ok(())
+}
 
 #[test]
 fn refuses_words(rt: HostRuntime) {
