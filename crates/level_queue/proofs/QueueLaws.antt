@@ -1,6 +1,6 @@
 -- the list of a queue from that of its sorter
-use Rattle.std.proofs.Common.{◌≡◌, ℕ, ◌*◌, ◌≤◌, false, List, ◌∷◌, All, length, subst, ap, ◌∙◌}
-use Rattle.std.specs.Prelude.{Option, Some, None, Result, Ok, Err, IfSome}
+use Rattle.std.proofs.Common.{◌≡◌, ℕ, ◌*◌, ◌≤◌, true, false, true≢false, List, ◌∷◌, All, length, refl, sym, subst, ap, ◌∙◌, inl, inr, arith}
+use Rattle.std.specs.Prelude.{Option, Some, None, Result, Ok, Err, IfSome, IsErrAnd}
 use Rattle.std.specs.List.Sorted.{IsPermutation, IsSorted}
 use Rattle.std.specs.Ordering.{nat_cmp, is_lt}
 use Rattle.std.specs.Cmp.Lexicographic.{slice_cmp}
@@ -24,16 +24,19 @@ use Rattle.run_merge.specs.Sorters as sorters
 use Rattle.run_files.proofs.RecordOrder.{none_less}
 use Rattle.run_merge.proofs.SorterLaws.{credit_bounded, list_counted, list_kept, list_kept_unchanged, list_kept_with_parts, serves_on}
 use Rattle.level_queue.specs.declared.queue.LevelQueue.{LevelQueue}
-use Rattle.level_queue.specs.Queues.{held, credit, IsRunOf, IsNoLess, IsReached, AnswersNoLess, Serves, Lists}
+use Rattle.level_queue.specs.Queues.{held, credit, IsRunOf, IsNoLess, IsReached, AnswersNoLess, IsOutOfOrder, IsBelow, IsQueueFault, IsQueueCause, Serves, Lists}
+
+abbrev err_of : {T : Type 0} → SortFault → Result (Option T) SortFault
+err_of e = Err e
 
 -- what follows from the list of which an item joined the other
 joins_so : {T : Type 0} (P Q : List T → Type 0) (x : T) (xs : List T) (result : Result Unit SortFault)
-    → ((ys : List T) → IsPermutation (x ∷ xs) ys → P ys → Q ys) → (P xs → Q xs) → Joins P x xs result → Joins Q x xs result
-joins_so P Q x xs (Ok u) joined kept is = (is.0, is.1, joined is.0 is.1 is.2)
-joins_so P Q x xs (Err RoomFull) joined kept is = kept is
-joins_so P Q x xs (Err Shelf) joined kept is = tt
-joins_so P Q x xs (Err (Damaged f at)) joined kept is = is
-joins_so P Q x xs (Err RunsSpent) joined kept is = tt
+    → ((ys : List T) → IsPermutation (x ∷ xs) ys → P ys → Q ys) → Joins P x xs result → Joins Q x xs result
+joins_so P Q x xs (Ok u) joined is = (is.0, is.1, joined is.0 is.1 is.2)
+joins_so P Q x xs (Err Shelf) joined is = tt
+joins_so P Q x xs (Err (Damaged f at)) joined is = is
+joins_so P Q x xs (Err RunsSpent) joined is = tt
+joins_so P Q x xs (Err RoomFull) joined is = is
 
 -- what follows from the list of which the first item is shown
 shows_so : {T : Type 0} (P Q : List T → Type 0) (xs : List T) (result : Result (Option T) SortFault) → (P xs → Q xs) → Shows P xs result → Shows Q xs result
@@ -53,7 +56,7 @@ queue_joined {T = T} is_value words cmp q s old new x xs result no_less list joi
     let after : LevelQueue T = record { sorter = s; last = q.last } in
     joins_so (sorters.Lists is_value words cmp s new) (Lists is_value words cmp after new) x xs result
     (λ ys moved sorted. record { sorter = sorted; reached = All-permutation (IsNoLess cmp q.last) (x ∷ xs) ys moved (All-cons (IsNoLess cmp q.last) x xs no_less list.reached) })
-    (λ sorted. record { sorter = sorted; reached = list.reached }) joined
+    joined
 
 -- the first item is shown
 pub queue_shown : {T : Type 0} (is_value : T → Type 0) (words : T → List ℕ) (cmp : T → T → Ordering) (q : LevelQueue T) (s : Sorter T) (old new : World) (xs : List T) (result : Result (Option T) SortFault)
@@ -105,18 +108,14 @@ queue_kept_unchanged is_value words cmp q old new xs ran list =
 -- and where parts that can serve the queue were taken
 pub queue_kept_with_parts : {T : Type 0} (is_value : T → Type 0) (words : T → List ℕ) (cmp : T → T → Ordering) (q : LevelQueue T) (before after : Parts) (old new : World) (xs : List T)
     → Serves before q → Spilled before after old new → Lists is_value words cmp q old xs → Lists is_value words cmp q new xs
-unfolding IsRunOf
+unfolding Serves
 queue_kept_with_parts is_value words cmp q before after old new xs serves spilled list =
-    let sorter : sorters.Serves before q.sorter = record { past_made = serves.past_made; runs_made = serves.runs_made } in
-    record { sorter = list_kept_with_parts is_value words cmp q.sorter before after old new xs sorter spilled list.sorter; reached = list.reached }
+    record { sorter = list_kept_with_parts is_value words cmp q.sorter before after old new xs serves spilled list.sorter; reached = list.reached }
 
 -- parts that can serve a queue still can when some of them were taken
 pub queue_serves_on : {T : Type 0} (q : LevelQueue T) (old new : Parts) → Serves old q → Took old new → Serves new q
-unfolding IsRunOf
-queue_serves_on q old new serves took =
-    let sorter : sorters.Serves old q.sorter = record { past_made = serves.past_made; runs_made = serves.runs_made } in
-    let on : sorters.Serves new q.sorter = serves_on q.sorter old new sorter took in
-    record { past_made = on.past_made; runs_made = on.runs_made }
+unfolding Serves
+queue_serves_on q old new serves took = serves_on q.sorter old new serves took
 
 -- the last item taken stays below the records that are left where an item that isn't less joins
 pub reached_joined : {T : Type 0} (is_value : T → Type 0) (words : T → List ℕ) (cmp : T → T → Ordering) (last : Option T) (old new : Sorter T) (x : T)
@@ -126,24 +125,75 @@ reached_joined is_value words cmp None old new x joins no_less reached = tt
 reached_joined is_value words cmp (Some l) old new x joins no_less reached =
     record { value = reached.value; above = joins l reached.value no_less reached.above }
 
--- and where the first one is shown or taken, which isn't less
-pub reached_stays : {T : Type 0} (is_value : T → Type 0) (words : T → List ℕ) (last : Option T) (old new : Sorter T) (result : Result (Option T) SortFault)
-    → ((r : Rec) → sorters.IsAbove r old → sorters.IsAbove r new × sorters.AnswersAbove words r result)
-    → IfSome last (IsReached is_value words old) → IfSome last (IsReached is_value words new)
-reached_stays is_value words None old new result above reached = tt
-reached_stays is_value words (Some l) old new result above reached =
-    record { value = reached.value; above = (above (record_of words l) reached.above).0 }
+-- and where none of the room becomes less
+pub reached_stays : {T : Type 0} (is_value : T → Type 0) (words : T → List ℕ) (last : Option T) (old new : Sorter T)
+    → ((r : Rec) → sorters.IsAbove r old → sorters.IsAbove r new) → IfSome last (IsReached is_value words old) → IfSome last (IsReached is_value words new)
+reached_stays is_value words None old new above reached = tt
+reached_stays is_value words (Some l) old new above reached = record { value = reached.value; above = above (record_of words l) reached.above }
 
-pub answered_above : {T : Type 0} (is_value : T → Type 0) (words : T → List ℕ) (cmp : T → T → Ordering)
+-- an item in order isn't less than the last one taken
+pub answers_ordered : {T : Type 0} (cmp : T → T → Ordering) (last item : Option T) → IfSome item (IsNoLess cmp last) → AnswersNoLess cmp last (Ok item)
+answers_ordered cmp last None order = tt
+answers_ordered cmp last (Some x) order = order
+
+-- the first of a list of which none is less than the last one taken is in order
+pub listed_in_order : {T : Type 0} (P : List T → Type 0) (cmp : T → T → Ordering) (xs : List T) (last item : Option T) → IsOutOfOrder cmp last item → All (IsNoLess cmp last) xs → Shows P xs (Ok item) → ⊥
+listed_in_order P cmp xs None item out reached shown = out
+listed_in_order P cmp xs (Some l) None out reached shown = out
+listed_in_order {T = T} P cmp xs (Some l) (Some x) out reached (rest, is, now) =
+    let all : All (IsNoLess cmp (Some l)) (x ∷ rest) = subst (All (IsNoLess cmp (Some l))) is reached in
+    let first : is_lt (cmp x l) ≡ false = all 0 x (omega arith) in
+    true≢false (sym out ∙ first)
+
+-- so is an item of the room
+pub own_in_order : {T : Type 0} (is_value : T → Type 0) (words : T → List ℕ) (cmp : T → T → Ordering)
     → ((x y : T) → is_value x → is_value y → cmp x y ≡ slice_cmp nat_cmp (words x) (words y))
-    → (last : Option T) (old new : Sorter T) (result : Result (Option T) SortFault) → GivesValue is_value result
-    → ((r : Rec) → sorters.IsAbove r old → sorters.IsAbove r new × sorters.AnswersAbove words r result)
-    → IfSome last (IsReached is_value words old) → AnswersNoLess cmp last result
-answered_above is_value words cmp ordered last old new (Err e) value above reached = tt
-answered_above is_value words cmp ordered last old new (Ok None) value above reached = tt
-answered_above is_value words cmp ordered None old new (Ok (Some x)) value above reached = tt
-answered_above is_value words cmp ordered (Some l) old new (Ok (Some x)) value above reached =
-    ap is_lt (ordered x l value reached.value) ∙ (above (record_of words l) reached.above).1
+    → (s : Sorter T) (last item : Option T) → IsOutOfOrder cmp last item → GivesValue is_value (Ok item) → sorters.AnswersOwn words s (Ok item) → IfSome last (IsReached is_value words s) → sorters.first_place_of s ≡ None → ⊥
+own_in_order is_value words cmp ordered s None item out value own reached none = out
+own_in_order is_value words cmp ordered s (Some l) None out value own reached none = out
+own_in_order is_value words cmp ordered s (Some l) (Some x) out value own reached none =
+    let first : is_lt (cmp x l) ≡ false = ap is_lt (ordered x l value reached.value) ∙ own none (record_of words l) reached.above in
+    true≢false (sym out ∙ first)
+
+-- an item out of order is that of a run at that place
+pub below_there : {T : Type 0} (is_value : T → Type 0) (words : T → List ℕ) (cmp : T → T → Ordering) (s : Sorter T) (world : World) (last item : Option T) (f : FileNo) (at : ℕ) → IsOutOfOrder cmp last item
+    → GivesValue is_value (Ok item) → sorters.first_place_of s ≡ Some (f, at) → sorters.AnswersThere words s world (Ok item) → IsBelow is_value words cmp last s world f at
+below_there is_value words cmp s world None item f at out value place there = absurd out
+below_there is_value words cmp s world (Some l) None f at out value place there = absurd out
+below_there is_value words cmp s world (Some l) (Some x) f at out value place there =
+    (x, l, value, refl, out, subst (λ o. IfSome o (sorters.IsNextRecord s world (record_of words x))) place there)
+
+-- of a list nothing is shown where the sorter shows nothing of its own because of the shelf
+pub shows_on : {T : Type 0} (P Q : List T → Type 0) (xs : List T) (r : Result (Option T) SortFault) (e : SortFault) → IsErrAnd r (λ y. y ≡ e) → Shows P xs (Err e) → Shows Q xs r
+shows_on P Q xs (Ok o) e is shows = absurd is
+shows_on {T = T} P Q xs (Err Shelf) e is shows = tt
+shows_on {T = T} P Q xs (Err (Damaged f at)) e is shows = subst (λ (y : SortFault). Shows P xs (err_of {T = T} y)) (sym is) shows
+shows_on {T = T} P Q xs (Err RunsSpent) e is shows = subst (λ (y : SortFault). Shows P xs (err_of {T = T} y)) (sym is) shows
+shows_on {T = T} P Q xs (Err RoomFull) e is shows = subst (λ (y : SortFault). Shows P xs (err_of {T = T} y)) (sym is) shows
+
+-- the same where one is to be given
+pub gives_on : {T : Type 0} (P Q : List T → Type 0) (xs : List T) (r : Result (Option T) SortFault) (e : SortFault) → IsErrAnd r (λ y. y ≡ e) → Shows P xs (Err e) → Gives Q xs r
+gives_on P Q xs (Ok o) e is shows = absurd is
+gives_on {T = T} P Q xs (Err Shelf) e is shows = tt
+gives_on {T = T} P Q xs (Err (Damaged f at)) e is shows = subst (λ (y : SortFault). Shows P xs (err_of {T = T} y)) (sym is) shows
+gives_on {T = T} P Q xs (Err RunsSpent) e is shows = subst (λ (y : SortFault). Shows P xs (err_of {T = T} y)) (sym is) shows
+gives_on {T = T} P Q xs (Err RoomFull) e is shows = subst (λ (y : SortFault). Shows P xs (err_of {T = T} y)) (sym is) shows
+
+-- a fault of the sorter is one of the queue
+pub fault_of_sorter : {T : Type 0} (is_value : T → Type 0) (words : T → List ℕ) (cmp : T → T → Ordering) (old new : LevelQueue T) (before after : World) (e : SortFault)
+    → sorters.IsReadFault is_value words old.sorter before e → IsQueueFault is_value words cmp old new before after e
+unfolding sorters.IsReadFault
+fault_of_sorter is_value words cmp old new before after Shelf fault = tt
+fault_of_sorter is_value words cmp old new before after (Damaged f at) fault = inl fault
+fault_of_sorter is_value words cmp old new before after RunsSpent fault = fault
+fault_of_sorter is_value words cmp old new before after RoomFull fault = fault
+
+pub cause_of_sorter : {T : Type 0} (old new : LevelQueue T) (e : SortFault) → sorters.IsReadCause old.sorter e → IsQueueCause old new e
+unfolding sorters.IsReadCause
+cause_of_sorter old new Shelf cause = tt
+cause_of_sorter old new (Damaged f at) cause = inl cause
+cause_of_sorter old new RunsSpent cause = cause
+cause_of_sorter old new RoomFull cause = cause
 
 -- an item that was given is below the records that are left
 pub given_reached : {T : Type 0} (is_value : T → Type 0) (words : T → List ℕ) (s : Sorter T) (o : Option T) (x : T) → o ≡ Some x

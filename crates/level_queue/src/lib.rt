@@ -1,7 +1,8 @@
-//! A queue for items that are handled level by level: no item is pushed that is less than the last one taken.
+//! A queue for items that are handled level by level, more of them than memory has room for: no item is pushed that is
+//! less than the last one taken.
 //!
-//! A `LevelQueue` keeps its items in a lent room. Its contracts are those of a queue whose items may also lie in
-//! files of the folder: which files a call may change, what its calls cost, and how many parts it takes.
+//! A `LevelQueue` keeps its items in a `Sorter`, in a lent room and in runs. Which files a call may change, what its
+//! calls cost, and how many parts it takes, is said of each call.
 #![tactic(auto)]
 
 mod laws;

@@ -1,12 +1,12 @@
 // What no clause says of queues: they give what a plain list gives, with more items than the room has records.
 ghost use Rattle.std.specs.Prelude.{◌≡◌, ◌≤◌, IsTrue, length};
 ghost use Rattle.rec_words.specs.Records.{IsRec};
-ghost use Rattle.run_queue.specs.Queues.{HoldsValues, Serves, IsNoLess};
+ghost use Rattle.level_queue.specs.Queues.{HoldsValues, Serves, IsNoLess};
 
 use crate::sorters::{first_parts, key_of, next_random, put_plain, record_of};
 use rec_words::Rec;
-use run_queue::LevelQueue;
-use run_sorter::Parts;
+use level_queue::LevelQueue;
+use run_merge::Parts;
 use shelf_memory::Bench;
 use shelf_model::{Shelf, SortFault};
 use std::alloc::Global;

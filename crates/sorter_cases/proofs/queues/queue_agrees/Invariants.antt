@@ -1,5 +1,5 @@
 use Rattle.rec_words.specs.Records.{IsRec}
-use Rattle.run_queue.specs.Queues.{HoldsValues, Serves}
+use Rattle.level_queue.specs.Queues.{HoldsValues, Serves}
 use Rattle.sorter_cases.proofs.queues.queue_agrees.Given as goal
 
 -- the items are records, and the parts can serve the queue

@@ -1,5 +1,0 @@
-//! Cases of sorters and queues over a folder in memory.
-#![tactic(auto)]
-
-#[cfg(test)]
-mod tests;
