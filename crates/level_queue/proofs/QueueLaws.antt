@@ -10,7 +10,7 @@ use Rattle.std.proofs.lemmas.List.MinMax.{ranks_by}
 use Rattle.std.proofs.lemmas.List.Elements.{All-tail, All-cons}
 use Rattle.std.proofs.lemmas.List.Sorted.{All-permutation}
 use Rattle.shelf_model.specs.declared.sort_fault.SortFault.{SortFault}
-use Rattle.shelf_model.specs.declared.sort_fault.SortFault.TheVariants.{Shelf, Damaged, RunsSpent, RoomFull}
+use Rattle.shelf_model.specs.declared.sort_fault.SortFault.TheVariants.{Shelf, Damaged, RunsSpent}
 use Rattle.shelf_model.specs.declared.file_no.FileNo.{FileNo}
 use Rattle.shelf_model.specs.Moments.{Ran, Stays}
 use Rattle.shelf_model.specs.World.{World, now, file}
@@ -36,7 +36,6 @@ joins_so P Q x xs (Ok u) joined is = (is.0, is.1, joined is.0 is.1 is.2)
 joins_so P Q x xs (Err Shelf) joined is = tt
 joins_so P Q x xs (Err (Damaged f at)) joined is = is
 joins_so P Q x xs (Err RunsSpent) joined is = tt
-joins_so P Q x xs (Err RoomFull) joined is = is
 
 -- what follows from the list of which the first item is shown
 shows_so : {T : Type 0} (P Q : List T → Type 0) (xs : List T) (result : Result (Option T) SortFault) → (P xs → Q xs) → Shows P xs result → Shows Q xs result
@@ -45,7 +44,6 @@ shows_so P Q xs (Ok None) kept is = (is.0, kept is.1)
 shows_so P Q xs (Err Shelf) kept is = tt
 shows_so P Q xs (Err (Damaged f at)) kept is = is
 shows_so P Q xs (Err RunsSpent) kept is = is
-shows_so P Q xs (Err RoomFull) kept is = is
 
 -- an item that isn't less than the last one taken joins
 pub queue_joined : {T : Type 0} (is_value : T → Type 0) (words : T → List ℕ) (cmp : T → T → Ordering) (q : LevelQueue T) (s : Sorter T) (old new : World) (x : T) (xs : List T) (result : Result Unit SortFault)
@@ -169,7 +167,6 @@ shows_on P Q xs (Ok o) e is shows = absurd is
 shows_on {T = T} P Q xs (Err Shelf) e is shows = tt
 shows_on {T = T} P Q xs (Err (Damaged f at)) e is shows = subst (λ (y : SortFault). Shows P xs (err_of {T = T} y)) (sym is) shows
 shows_on {T = T} P Q xs (Err RunsSpent) e is shows = subst (λ (y : SortFault). Shows P xs (err_of {T = T} y)) (sym is) shows
-shows_on {T = T} P Q xs (Err RoomFull) e is shows = subst (λ (y : SortFault). Shows P xs (err_of {T = T} y)) (sym is) shows
 
 -- the same where one is to be given
 pub gives_on : {T : Type 0} (P Q : List T → Type 0) (xs : List T) (r : Result (Option T) SortFault) (e : SortFault) → IsErrAnd r (λ y. y ≡ e) → Shows P xs (Err e) → Gives Q xs r
@@ -177,7 +174,6 @@ gives_on P Q xs (Ok o) e is shows = absurd is
 gives_on {T = T} P Q xs (Err Shelf) e is shows = tt
 gives_on {T = T} P Q xs (Err (Damaged f at)) e is shows = subst (λ (y : SortFault). Shows P xs (err_of {T = T} y)) (sym is) shows
 gives_on {T = T} P Q xs (Err RunsSpent) e is shows = subst (λ (y : SortFault). Shows P xs (err_of {T = T} y)) (sym is) shows
-gives_on {T = T} P Q xs (Err RoomFull) e is shows = subst (λ (y : SortFault). Shows P xs (err_of {T = T} y)) (sym is) shows
 
 -- a fault of the sorter is one of the queue
 pub fault_of_sorter : {T : Type 0} (is_value : T → Type 0) (words : T → List ℕ) (cmp : T → T → Ordering) (old new : LevelQueue T) (before after : World) (e : SortFault)
@@ -186,14 +182,12 @@ unfolding sorters.IsReadFault
 fault_of_sorter is_value words cmp old new before after Shelf fault = tt
 fault_of_sorter is_value words cmp old new before after (Damaged f at) fault = inl fault
 fault_of_sorter is_value words cmp old new before after RunsSpent fault = fault
-fault_of_sorter is_value words cmp old new before after RoomFull fault = fault
 
 pub cause_of_sorter : {T : Type 0} (old new : LevelQueue T) (e : SortFault) → sorters.IsReadCause old.sorter e → IsQueueCause old new e
 unfolding sorters.IsReadCause
 cause_of_sorter old new Shelf cause = tt
 cause_of_sorter old new (Damaged f at) cause = inl cause
 cause_of_sorter old new RunsSpent cause = cause
-cause_of_sorter old new RoomFull cause = cause
 
 -- an item that was given is below the records that are left
 pub given_reached : {T : Type 0} (is_value : T → Type 0) (words : T → List ℕ) (s : Sorter T) (o : Option T) (x : T) → o ≡ Some x

@@ -4,7 +4,7 @@ use Rattle.std.specs.Ordering.{is_lt}
 use Rattle.std.specs.declared.cmp.Ordering.{Ordering}
 use Rattle.shelf_model.specs.declared.file_no.FileNo.{FileNo}
 use Rattle.shelf_model.specs.declared.sort_fault.SortFault.{SortFault}
-use Rattle.shelf_model.specs.declared.sort_fault.SortFault.TheVariants.{Shelf, Damaged, RunsSpent, RoomFull}
+use Rattle.shelf_model.specs.declared.sort_fault.SortFault.TheVariants.{Shelf, Damaged, RunsSpent}
 use Rattle.shelf_model.specs.World.{World}
 use Rattle.run_files.specs.Items.{record_of}
 use Rattle.run_tiers.specs.declared.parts.Parts.{Parts}
@@ -99,7 +99,6 @@ IsQueueFault is_value words cmp old new before after (Damaged f at) =
     sorters.IsReadFault is_value words old.sorter before (Damaged f at)
     ⊎ IsBelow is_value words cmp old.last new.sorter after f at
 IsQueueFault is_value words cmp old new before after RunsSpent = ⊥
-IsQueueFault is_value words cmp old new before after RoomFull = ⊥
 
 -- whatever the folder holds: damage is at the place of the record that is next of a run, before the call or after it
 abbrev pub IsQueueCause : {T : Type 0} → LevelQueue T → LevelQueue T → SortFault → Type 0
@@ -107,4 +106,3 @@ IsQueueCause old new Shelf = Unit
 IsQueueCause old new (Damaged f at) = sorters.IsReadCause old.sorter (Damaged f at)
     ⊎ (sorters.first_place_of new.sorter ≡ Some (f, at))
 IsQueueCause old new RunsSpent = ⊥
-IsQueueCause old new RoomFull = ⊥

@@ -236,7 +236,6 @@ trailer_before f n old new (sort.Damaged g at) same fault = (
       (subst (HasTrailer n root) (sym same) has),
 )
 trailer_before f n old new sort.RunsSpent same fault = fault
-trailer_before f n old new sort.RoomFull same fault = fault
 
 -- what was damaged before a call is so after it
 pub node_fault_after : (old new : NodeReader) (before after : World) (e : SortFault)
@@ -250,7 +249,6 @@ node_fault_after old new before after (sort.Damaged f at) place trailer same fau
       (subst (λ bytes. IsDamagedNode (trailer_of old).n bytes at) (sym same) fault.1),
 )
 node_fault_after old new before after sort.RunsSpent place trailer same fault = fault
-node_fault_after old new before after sort.RoomFull place trailer same fault = fault
 
 module _ {S : Type 0} (tells : S → Bool) (world : S → World) (counts : S → Faults) where
   -- the next node was given

@@ -4,7 +4,7 @@ use Rattle.rec_words.specs.Words.{node_size}
 use Rattle.rec_words.specs.declared.node.Node.{Node}
 use Rattle.shelf_model.specs.declared.file_no.FileNo.{FileNo}
 use Rattle.shelf_model.specs.declared.sort_fault.SortFault.{SortFault}
-use Rattle.shelf_model.specs.declared.sort_fault.SortFault.TheVariants.{Shelf, Damaged, RunsSpent, RoomFull}
+use Rattle.shelf_model.specs.declared.sort_fault.SortFault.TheVariants.{Shelf, Damaged, RunsSpent}
 use Rattle.shelf_model.specs.Calls.{Told}
 use Rattle.shelf_model.specs.Faults.{Faults}
 use Rattle.shelf_model.specs.World.{World, file}
@@ -48,14 +48,12 @@ abbrev pub IsNodeFault : NodeReader → World → SortFault → Type 0
 IsNodeFault r world Shelf = Unit
 IsNodeFault r world (Damaged f at) = (f ≡ file_of r) × IsDamagedNode (trailer_of r).n (bytes_of r world) at
 IsNodeFault r world RunsSpent = ⊥
-IsNodeFault r world RoomFull = ⊥
 
 -- a call of the folder failed, or the file is damaged
 abbrev pub IsFaultOf : FileNo → SortFault → Type 0
 IsFaultOf file Shelf = Unit
 IsFaultOf file (Damaged f at) = f ≡ file
 IsFaultOf file RunsSpent = ⊥
-IsFaultOf file RoomFull = ⊥
 
 -- a call of the folder failed, or the file of that number has no trailer for n variables where one had to stand
 abbrev pub IsTrailerFault : FileNo → ℕ → World → SortFault → Type 0
@@ -63,7 +61,6 @@ IsTrailerFault f n world Shelf = Unit
 IsTrailerFault f n world (Damaged g at) = (g ≡ f) × (at ≡ length (file world f).bytes - node_size)
     × ((root : ℕ) → ¬ HasTrailer n root (file world f).bytes)
 IsTrailerFault f n world RunsSpent = ⊥
-IsTrailerFault f n world RoomFull = ⊥
 
 -- a node is the next one from the end on, its identifier above the one before; None is answered at the front alone
 abbrev pub Rises : NodeReader → NodeReader → Result (Option Node) SortFault → Type 0

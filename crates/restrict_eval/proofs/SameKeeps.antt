@@ -6,7 +6,7 @@ use Rattle.std.specs.Option.{option_eq}
 use Rattle.bool_tables.specs.Tables.{same_bits}
 use Rattle.rec_words.specs.declared.node.Node.{Node}
 use Rattle.shelf_model.specs.declared.sort_fault.SortFault.{SortFault}
-use Rattle.shelf_model.specs.declared.sort_fault.SortFault.TheVariants.{Shelf, Damaged, RunsSpent, RoomFull}
+use Rattle.shelf_model.specs.declared.sort_fault.SortFault.TheVariants.{Shelf, Damaged, RunsSpent}
 use Rattle.shelf_model.specs.Faults.{Faults}
 use Rattle.shelf_model.specs.World.{World}
 use Rattle.canon_file.specs.Canon.{canon_nodes, canon_root}
@@ -121,25 +121,21 @@ left_damage : (e : SortFault) (s : SameSweep) (world : World) → IsNodeFault s.
 left_damage Shelf s world fault = tt
 left_damage (Damaged f at) s world fault = inl fault
 left_damage RunsSpent s world fault = fault
-left_damage RoomFull s world fault = fault
 
 right_damage : (e : SortFault) (s : SameSweep) (world : World) → IsNodeFault s.right world e → IsDamage s world e
 right_damage Shelf s world fault = tt
 right_damage (Damaged f at) s world fault = inr fault
 right_damage RunsSpent s world fault = fault
-right_damage RoomFull s world fault = fault
 
 pub first_fault : (f g : FileNo) (e : SortFault) → IsFaultOf f e → IsFaultOfEither f g e
 first_fault f g Shelf fault = tt
 first_fault f g (Damaged h at) fault = inl fault
 first_fault f g RunsSpent fault = fault
-first_fault f g RoomFull fault = fault
 
 pub second_fault : (f g : FileNo) (e : SortFault) → IsFaultOf g e → IsFaultOfEither f g e
 second_fault f g Shelf fault = tt
 second_fault f g (Damaged h at) fault = inr fault
 second_fault f g RunsSpent fault = fault
-second_fault f g RoomFull fault = fault
 
 module _ {S : Type 0} (tells : S → Bool) (world : S → World) (counts : S → Faults) where
   -- the trailers differ

@@ -5,7 +5,7 @@ use Rattle.bool_tables.specs.Steps.{bits_at}
 use Rattle.rec_words.specs.Words.{level_of, terminal, IsTerminal, IsNodeWord, IsPointer}
 use Rattle.rec_words.specs.declared.node.Node.{Node}
 use Rattle.shelf_model.specs.declared.sort_fault.SortFault.{SortFault}
-use Rattle.shelf_model.specs.declared.sort_fault.SortFault.TheVariants.{Shelf, Damaged, RunsSpent, RoomFull}
+use Rattle.shelf_model.specs.declared.sort_fault.SortFault.TheVariants.{Shelf, Damaged, RunsSpent}
 use Rattle.shelf_model.specs.World.{World}
 use Rattle.list_laws.specs.Members.{Has}
 use Rattle.canon_file.specs.Canon.{canon_nodes}
@@ -131,7 +131,6 @@ IsDamage s world Shelf = Unit
 IsDamage s world (Damaged f at) = IsNodeFault s.nodes world (Damaged f at)
     ⊎ ((f ≡ file_of s.nodes) × IsMissedAt (bytes_of s.nodes world) at)
 IsDamage s world RunsSpent = ⊥
-IsDamage s world RoomFull = ⊥
 
 -- where a node leads to on the side that the bit of its level names
 abbrev pub side_by : List Bool → Node → ℕ

@@ -4,7 +4,7 @@ use Rattle.bool_tables.specs.Tables.{same_bits}
 use Rattle.rec_words.specs.declared.node.Node.{Node}
 use Rattle.shelf_model.specs.declared.file_no.FileNo.{FileNo}
 use Rattle.shelf_model.specs.declared.sort_fault.SortFault.{SortFault}
-use Rattle.shelf_model.specs.declared.sort_fault.SortFault.TheVariants.{Shelf, Damaged, RunsSpent, RoomFull}
+use Rattle.shelf_model.specs.declared.sort_fault.SortFault.TheVariants.{Shelf, Damaged, RunsSpent}
 use Rattle.shelf_model.specs.World.{World}
 use Rattle.canon_file.specs.Canon.{canon_nodes}
 use Rattle.node_file.specs.declared.reader.NodeReader.{NodeReader}
@@ -82,14 +82,12 @@ abbrev pub IsDamage : SameSweep → World → SortFault → Type 0
 IsDamage s world Shelf = Unit
 IsDamage s world (Damaged f at) = IsNodeFault s.left world (Damaged f at) ⊎ IsNodeFault s.right world (Damaged f at)
 IsDamage s world RunsSpent = ⊥
-IsDamage s world RoomFull = ⊥
 
 -- a call of the folder failed, or one of the two files is damaged
 abbrev pub IsFaultOfEither : FileNo → FileNo → SortFault → Type 0
 IsFaultOfEither f g Shelf = Unit
 IsFaultOfEither f g (Damaged h at) = (h ≡ f) ⊎ (h ≡ g)
 IsFaultOfEither f g RunsSpent = ⊥
-IsFaultOfEither f g RoomFull = ⊥
 
 -- what is seen of comparisons
 abbrev pub comparisons : Kind SameSweep

@@ -471,7 +471,6 @@ module _ {S : Type 0} (tells : S → Bool) (world : S → World) (law : (s : S) 
       by_fault sort.Shelf of_folder sound damaged = folder_failed old s ready made
       by_fault (sort.Damaged f at) of_folder sound damaged = entry_damaged f at old s ready made sound damaged
       by_fault sort.RunsSpent of_folder sound damaged = absurd of_folder
-      by_fault sort.RoomFull of_folder sound damaged = absurd of_folder
 
   -- what a step that was made leaves for its commit
   module _ (e : Entry) (is_for : IsEntryFor p.step k e) (old s : S) (ready : IsTrue (tells old) → IsReady k (now (world old)).folder) (made : Told tells old s (Ran (OnlyMade p.step k (now (world old))) (world old) (world s)))

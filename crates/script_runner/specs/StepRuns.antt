@@ -159,4 +159,3 @@ abbrev pub stopped_by : SortFault → Finish
 stopped_by sort.Shelf = FolderFault
 stopped_by (sort.Damaged f at) = Damaged f at
 stopped_by sort.RunsSpent = FolderFault
-stopped_by sort.RoomFull = FolderFault

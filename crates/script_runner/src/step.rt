@@ -59,6 +59,6 @@ fn stopped_by(fault: SortFault) -> Finish
     match fault {
         SortFault::Shelf => Finish::FolderFault,
         SortFault::Damaged { file, at } => Finish::Damaged { file, at },
-        SortFault::RunsSpent | SortFault::RoomFull => unreachable!(),
+        SortFault::RunsSpent => unreachable!(),
     }
 }

@@ -13,9 +13,6 @@ pub enum SortFault {
     /// A new file is needed, and the step has no part number left.
     #[error("the step has no part number left")]
     RunsSpent,
-    /// The list has as many items as the lent room has records.
-    #[error("the room is full")]
-    RoomFull,
 }
 
 impl From<Failed> for SortFault {

@@ -37,7 +37,6 @@ abbrev pub IsOfFolder : SortFault → Type 0
 IsOfFolder sort.Shelf = Unit
 IsOfFolder (sort.Damaged f at) = Unit
 IsOfFolder sort.RunsSpent = ⊥
-IsOfFolder sort.RoomFull = ⊥
 
 -- a call answered Shelf only where the folder's count rose, and no other count changed
 pub record OnlyStep {T : Type 0} (old new : Faults) (result : Result T SortFault) : Type 0 where

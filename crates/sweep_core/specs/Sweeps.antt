@@ -1,7 +1,7 @@
 -- What the turns of a sweep do.
 use Rattle.std.specs.Prelude.{◌≡◌, ℕ, ◌+◌, ◌<◌, ◌≤◌, Result, Ok, Err}
 use Rattle.shelf_model.specs.declared.sort_fault.SortFault.{SortFault}
-use Rattle.shelf_model.specs.declared.sort_fault.SortFault.TheVariants.{Shelf, Damaged, RunsSpent, RoomFull}
+use Rattle.shelf_model.specs.declared.sort_fault.SortFault.TheVariants.{Shelf, Damaged, RunsSpent}
 use Rattle.shelf_model.specs.File.{File, firm_file}
 use Rattle.sweep_core.specs.declared.turn.Turn.{Turn}
 use Rattle.sweep_core.specs.declared.turn.Turn.TheVariants.{More, Ended}
@@ -39,4 +39,3 @@ abbrev pub IsNoDamage : SortFault → Type 0
 IsNoDamage Shelf = Unit
 IsNoDamage (Damaged f at) = ⊥
 IsNoDamage RunsSpent = Unit
-IsNoDamage RoomFull = Unit
