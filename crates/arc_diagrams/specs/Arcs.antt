@@ -11,7 +11,8 @@ use Rattle.arc_file.specs.declared.arc.Arc.{Arc}
 -- the target of the first arc from that source on that side, or the truth value 0 where there is none
 abbrev pub target_on : List Arc → ℕ → Bool → ℕ
 target_on [] source side = terminal false
-target_on (a ∷ arcs) source side = cond ((a.source == source) && same_bit a.high side) a.target (target_on arcs source side)
+target_on (a ∷ arcs) source side = cond ((a.source == source) && same_bit a.high side) a.target
+    (target_on arcs source side)
 
 -- the two targets of a node
 abbrev pub targets_of : List Arc → ℕ → Row
@@ -51,9 +52,11 @@ table_of_arcs n root arcs = table_of (targets_of arcs) n 0 root
 -- at each place, following from the root the sides that the place's digits name ends in the truth value of the table
 pub record StandFor (n root : ℕ) (arcs : List Arc) (t : List Bool) : Type 0 where
   pub whole : length t ≡ 2 ^ n
-  pub walks : (bits : List Bool) → length bits ≡ n → walk (targets_of arcs) 0 bits root ≡ terminal (value_at t (place_of_bits bits))
+  pub walks : (bits : List Bool) → length bits ≡ n
+      → walk (targets_of arcs) 0 bits root ≡ terminal (value_at t (place_of_bits bits))
 
 -- the two arcs of each node
 abbrev pub arcs_of : List Node → List Arc
 arcs_of [] = []
-arcs_of (x ∷ xs) = record { source = x.uid; high = false; target = x.low } ∷ record { source = x.uid; high = true; target = x.high } ∷ arcs_of xs
+arcs_of (x ∷ xs) = record { source = x.uid; high = false; target = x.low }
+    ∷ record { source = x.uid; high = true; target = x.high } ∷ arcs_of xs

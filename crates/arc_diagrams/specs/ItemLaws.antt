@@ -28,17 +28,21 @@ side_order true false = refl
 side_order true true = refl
 
 -- the orders are those of the words
-pub final_arc_order : (x y : FinalArc) → IsFinalArc x → IsFinalArc y → final_arc_cmp x y ≡ slice_cmp nat_cmp (final_arc_words x) (final_arc_words y)
+pub final_arc_order : (x y : FinalArc) → IsFinalArc x → IsFinalArc y
+    → final_arc_cmp x y ≡ slice_cmp nat_cmp (final_arc_words x) (final_arc_words y)
 final_arc_order x y arc other =
     (λ j. ordering_then (source_order x.source y.source arc.source_is other.source_is j)
     (ordering_then (side_order x.high y.high j) (then_equal (nat_cmp x.target y.target) j)))
 
 pub name_order : (x y : Name) → IsName x → IsName y → name_cmp x y ≡ slice_cmp nat_cmp (name_words x) (name_words y)
 name_order x y name other =
-    (λ j. ordering_then (source_order x.source y.source name.source_is other.source_is j) (then_equal (nat_cmp x.pointer y.pointer) j))
+    (λ j. ordering_then (source_order x.source y.source name.source_is other.source_is j)
+    (then_equal (nat_cmp x.pointer y.pointer) j))
 
-pub source_row_order : (x y : SourceRow) → source_row_cmp x y ≡ slice_cmp nat_cmp (source_row_words x) (source_row_words y)
-source_row_order x y = (λ j. ordering_then (nat_cmp x.low y.low) (ordering_then (nat_cmp x.high y.high) (then_equal (nat_cmp x.source y.source) j)))
+pub source_row_order : (x y : SourceRow) → source_row_cmp x y ≡ slice_cmp nat_cmp (source_row_words x)
+    (source_row_words y)
+source_row_order x y = (λ j. ordering_then (nat_cmp x.low y.low)
+    (ordering_then (nat_cmp x.high y.high) (then_equal (nat_cmp x.source y.source) j)))
 
 -- items with the same words are the same
 same_from_top : (s t : ℕ) → IsNodeWord s → IsNodeWord t → from_top s ≡ from_top t → s ≡ t

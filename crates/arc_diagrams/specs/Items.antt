@@ -52,7 +52,8 @@ pub record IsName (m : Name) : Type 0 where
 
 -- arcs with greater sources come first, then low ones
 abbrev pub final_arc_cmp : FinalArc → FinalArc → Ordering
-final_arc_cmp = then_cmp (flip_args (on (λ (a : FinalArc). a.source) nat_cmp)) (then_cmp (on (λ (a : FinalArc). a.high) bool_cmp) (on (λ (a : FinalArc). a.target) nat_cmp))
+final_arc_cmp = then_cmp (flip_args (on (λ (a : FinalArc). a.source) nat_cmp))
+    (then_cmp (on (λ (a : FinalArc). a.high) bool_cmp) (on (λ (a : FinalArc). a.target) nat_cmp))
 
 -- so do names
 abbrev pub name_cmp : Name → Name → Ordering
@@ -60,4 +61,5 @@ name_cmp = then_cmp (flip_args (on (λ (m : Name). m.source) nat_cmp)) (on (λ (
 
 -- rows ascend by their pairs, then by their sources
 abbrev pub source_row_cmp : SourceRow → SourceRow → Ordering
-source_row_cmp = then_cmp (on (λ (r : SourceRow). r.low) nat_cmp) (then_cmp (on (λ (r : SourceRow). r.high) nat_cmp) (on (λ (r : SourceRow). r.source) nat_cmp))
+source_row_cmp = then_cmp (on (λ (r : SourceRow). r.low) nat_cmp)
+    (then_cmp (on (λ (r : SourceRow). r.high) nat_cmp) (on (λ (r : SourceRow). r.source) nat_cmp))

@@ -45,12 +45,15 @@ FindsFinal n = (root : ℕ) (arcs : List Arc) → n ≤ 65535 → IsComplete n r
 
 -- with no level done, the arcs to truth values are the queue, and no other arc is read
 abbrev pub BeginsReduction : ℕ → Type 0
-BeginsReduction n = (root : ℕ) (inner ends : List Arc) (known : Option ℕ) → n ≤ 65535 → IsComplete n root (inner ++ ends)
-    → ((a : Arc) → Has a inner → level_of a.target < n) → ((a : Arc) → Has a ends → n ≤ level_of a.target) → (IsTerminal root → known ≡ Some root)
+BeginsReduction n = (root : ℕ) (inner ends : List Arc) (known : Option ℕ) → n ≤ 65535
+    → IsComplete n root (inner ++ ends)
+    → ((a : Arc) → Has a inner → level_of a.target < n) → ((a : Arc) → Has a ends → n ≤ level_of a.target)
+    → (IsTerminal root → known ≡ Some root)
     → Remains n root n (inner ++ ends) ends inner [] known
 
 -- with no arc left in the queue none is left to be read, and the nodes and the root are canonical
 abbrev pub EndsReduction : ℕ → Type 0
-EndsReduction n = (root i : ℕ) (arcs unread : List Arc) (nodes : List Node) (known : Option ℕ) (t : List Bool) → i ≤ n → n ≤ 65535 → length arcs ≤ 2 ^ 47
+EndsReduction n = (root i : ℕ) (arcs unread : List Arc) (nodes : List Node) (known : Option ℕ) (t : List Bool) → i ≤ n
+    → n ≤ 65535 → length arcs ≤ 2 ^ 47
     → IsDiagramOf n root arcs t → Remains n root i arcs [] unread nodes known
     → (unread ≡ []) × (nodes ≡ canon_nodes n t) × (known ≡ Some (canon_root n t))

@@ -1,4 +1,5 @@
--- what remains to be done of a reduction that goes from the deepest level to the first, between two levels and within one
+-- what remains to be done of a reduction that goes from the deepest level to the first, between two levels and within
+-- one
 use Rattle.std.specs.Prelude.{◌≡◌, ◌⊎◌, ◌-◌, ◌<◌, ◌≤◌, ◌==◌, ◌&&◌, ℕ, suc, Bool, true, false, cond, List, [], ◌∷◌, ◌++◌, map, Option, Some, None}
 use Rattle.rec_words.specs.Words.{level_of}
 use Rattle.rec_words.specs.declared.node.Node.{Node}
@@ -23,12 +24,14 @@ nodes_from n arcs i = final_nodes n arcs (n - i) i
 
 -- an arc of the set from a level below `above` to level `to` or a deeper one, with its final target
 abbrev pub Comes : ℕ → ℕ → ℕ → List Arc → Arc → Type 0
-Comes n above to arcs q = (a : Arc) × Has a arcs × (level_of a.source < above) × (to ≤ level_of a.target) × (final_arc n arcs a ≡ q)
+Comes n above to arcs q = (a : Arc) × Has a arcs × (level_of a.source < above) × (to ≤ level_of a.target)
+    × (final_arc n arcs a ≡ q)
 
 -- the queue has those arcs and no others
 pub record Queues (n above to : ℕ) (arcs queue : List Arc) : Type 0 where
   pub from : (q : Arc) → Has q queue → Comes n above to arcs q
-  pub each : (a : Arc) → Has a arcs → level_of a.source < above → to ≤ level_of a.target → Has (final_arc n arcs a) queue
+  pub each : (a : Arc) → Has a arcs → level_of a.source < above → to ≤ level_of a.target
+      → Has (final_arc n arcs a) queue
 
 -- the arcs that aren't read yet are those to nodes of levels below i
 pub record Leaves (i : ℕ) (arcs unread : List Arc) : Type 0 where
@@ -48,16 +51,19 @@ pub record Remains (n root i : ℕ) (arcs queue unread : List Arc) (nodes : List
 
 -- the source is among the rows or the names
 abbrev pub IsCollected : List SourceRow → List Name → ℕ → Type 0
-IsCollected rows names source = ((r : SourceRow) × Has r rows × (r.source ≡ source)) ⊎ ((m : Name) × Has m names × (m.source ≡ source))
+IsCollected rows names source = ((r : SourceRow) × Has r rows × (r.source ≡ source))
+    ⊎ ((m : Name) × Has m names × (m.source ≡ source))
 
 -- the row is that of a source of level i
 abbrev pub IsRightRow : ℕ → ℕ → List Arc → SourceRow → Type 0
 IsRightRow n i arcs r =
-    (a : Arc) × Has a arcs × (level_of a.source ≡ i) × (a.source ≡ r.source) × (final_pair n arcs a.source ≡ pair r) × (differs (pair r) ≡ true)
+    (a : Arc) × Has a arcs × (level_of a.source ≡ i) × (a.source ≡ r.source) × (final_pair n arcs a.source ≡ pair r)
+    × (differs (pair r) ≡ true)
 
 -- the name is that of a source of level i
 abbrev pub IsRightName : ℕ → ℕ → List Arc → Name → Type 0
-IsRightName n i arcs m = (a : Arc) × Has a arcs × (level_of a.source ≡ i) × (a.source ≡ m.source) × (final_pointer n arcs a.source ≡ m.pointer)
+IsRightName n i arcs m = (a : Arc) × Has a arcs × (level_of a.source ≡ i) × (a.source ≡ m.source)
+    × (final_pointer n arcs a.source ≡ m.pointer)
 
 -- while the sources of level i are collected, the greatest first: the queue has the arcs that weren't
 -- taken, noted those of the source at hand, and the rows and names the sources before it
@@ -79,15 +85,18 @@ pub record Collects (n i : ℕ) (arcs queue noted : List Arc) (rows : List Sourc
 abbrev pub distinct_after : Option Row → List Row → List Row
 distinct_after last [] = []
 distinct_after None (x ∷ xs) = x ∷ distinct_after (Some x) xs
-distinct_after (Some p) (x ∷ xs) = cond ((p.low == x.low) && (p.high == x.high)) (distinct_after (Some p) xs) (x ∷ distinct_after (Some x) xs)
+distinct_after (Some p) (x ∷ xs) = cond ((p.low == x.low) && (p.high == x.high)) (distinct_after (Some p) xs)
+    (x ∷ distinct_after (Some x) xs)
 
 -- no row is before one that stands in front of it
 abbrev pub IsRising : List Row → Type 0
 IsRising [] = Unit {0}
 IsRising (x ∷ xs) = ((y : Row) → Has y xs → row_before y x ≡ false) × IsRising xs
 
--- while the rows of level i are numbered, in ascending order: done has those with a number, last is the one numbered last
-pub record Numbers (n i : ℕ) (arcs : List Arc) (done : List Row) (last : Option Row) (rows : List SourceRow) (names : List Name) : Type 0 where
+-- while the rows of level i are numbered, in ascending order: done has those with a number, last is the one numbered
+-- last
+pub record Numbers (n i : ℕ) (arcs : List Arc) (done : List Row) (last : Option Row) (rows : List SourceRow)
+    (names : List Name) : Type 0 where
   pub whole : final_rows n arcs i ≡ done ++ distinct_after last (map pair rows)
   pub ends : (p : Row) → last ≡ Some p → (front : List Row) × (done ≡ front ++ p ∷ [])
   pub each : (a : Arc) → Has a arcs → level_of a.source ≡ i → IsCollected rows names a.source
@@ -114,7 +123,8 @@ pub record Forwards (n i : ℕ) (arcs queue unread : List Arc) (names : List Nam
 -- is known or the root still has its name
 pub record FindsRoot (n root i : ℕ) (arcs : List Arc) (names : List Name) (known : Option ℕ) : Type 0 where
   pub deeper : suc i ≤ level_of root → known ≡ Some (final_pointer n arcs root)
-  pub here : level_of root ≡ i → (known ≡ Some (final_pointer n arcs root)) ⊎ ((m : Name) × Has m names × (m.source ≡ root))
+  pub here : level_of root ≡ i → (known ≡ Some (final_pointer n arcs root)) ⊎
+      ((m : Name) × Has m names × (m.source ≡ root))
 
 -- the arcs of the source at hand, of which the targets on some sides are known
 abbrev pub side_arcs : ℕ → Bool → Option ℕ → List Arc
@@ -125,7 +135,8 @@ abbrev pub noted_arcs : ℕ → Option ℕ → Option ℕ → List Arc
 noted_arcs source low high = side_arcs source false low ++ side_arcs source true high
 
 -- the deeper levels are done, and the sources of level i are collected
-pub record IsCollecting (n root i : ℕ) (arcs queue noted unread : List Arc) (rows : List SourceRow) (names : List Name) (nodes : List Node) (known : Option ℕ) : Type 0 where
+pub record IsCollecting (n root i : ℕ) (arcs queue noted unread : List Arc) (rows : List SourceRow) (names : List Name)
+    (nodes : List Node) (known : Option ℕ) : Type 0 where
   pub level : i < n
   pub collects : Collects n i arcs queue noted rows names
   pub leaves : Leaves (suc i) arcs unread
@@ -133,7 +144,8 @@ pub record IsCollecting (n root i : ℕ) (arcs queue noted unread : List Arc) (r
   pub root_known : KnowsRoot n root (suc i) arcs known
 
 -- then its rows are numbered
-pub record IsNumbering (n root i : ℕ) (arcs queue unread : List Arc) (done : List Row) (last : Option Row) (rows : List SourceRow) (names : List Name) (nodes : List Node) (known : Option ℕ) : Type 0 where
+pub record IsNumbering (n root i : ℕ) (arcs queue unread : List Arc) (done : List Row) (last : Option Row)
+    (rows : List SourceRow) (names : List Name) (nodes : List Node) (known : Option ℕ) : Type 0 where
   pub level : i < n
   pub numbers : Numbers n i arcs done last rows names
   pub queued : Queues n i (suc i) arcs queue
@@ -142,7 +154,8 @@ pub record IsNumbering (n root i : ℕ) (arcs queue unread : List Arc) (done : L
   pub root_known : KnowsRoot n root (suc i) arcs known
 
 -- and the arcs to it get their final targets
-pub record IsForwarding (n root i : ℕ) (arcs queue unread : List Arc) (names : List Name) (nodes : List Node) (known : Option ℕ) : Type 0 where
+pub record IsForwarding (n root i : ℕ) (arcs queue unread : List Arc) (names : List Name) (nodes : List Node)
+    (known : Option ℕ) : Type 0 where
   pub level : i < n
   pub forwards : Forwards n i arcs queue unread names
   pub made : nodes ≡ nodes_from n arcs i

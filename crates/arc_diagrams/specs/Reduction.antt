@@ -50,4 +50,5 @@ final_nodes n arcs (suc h) i = final_nodes n arcs h (suc i) ++ numbered i 0 (fin
 pub record AreFinal (n : ℕ) (arcs : List Arc) : Type 0 where
   pub ends : (w : ℕ) → IsTerminal w → final_pointer n arcs w ≡ w
   pub sources : (a : Arc) → Has a arcs
-      → final_pointer n arcs a.source ≡ word_in (level_of a.source) (final_rows n arcs (level_of a.source)) (final_pair n arcs a.source)
+      → final_pointer n arcs a.source ≡ word_in (level_of a.source) (final_rows n arcs (level_of a.source))
+      (final_pair n arcs a.source)

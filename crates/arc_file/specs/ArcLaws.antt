@@ -28,11 +28,14 @@ then_then Greater b c = refl
 
 -- the order of arcs is that of their words
 pub arc_order : (x y : Arc) → IsArc x → IsArc y
-    → ordering_then (bool_cmp x.high y.high) (ordering_then (nat_cmp x.source y.source) (nat_cmp x.target y.target)) ≡ slice_cmp nat_cmp (arc_words x) (arc_words y)
+    → ordering_then (bool_cmp x.high y.high) (ordering_then (nat_cmp x.source y.source) (nat_cmp x.target y.target))
+    ≡ slice_cmp nat_cmp (arc_words x) (arc_words y)
 arc_order x y arc other =
     then_then (bool_cmp x.high y.high) (nat_cmp x.source y.source) (nat_cmp x.target y.target)
-    ∙ ap (λ o. ordering_then o (nat_cmp x.target y.target)) (first_order x.high y.high x.source y.source arc.source_is other.source_is)
-    ∙ ap (λ o. ordering_then (nat_cmp (side_word x.high x.source) (side_word y.high y.source)) o) (then_equal (nat_cmp x.target y.target))
+    ∙ ap (λ o. ordering_then o (nat_cmp x.target y.target))
+    (first_order x.high y.high x.source y.source arc.source_is other.source_is)
+    ∙ ap (λ o. ordering_then (nat_cmp (side_word x.high x.source) (side_word y.high y.source)) o)
+    (then_equal (nat_cmp x.target y.target))
 
 -- the first word says the side and the source
 same_side : (h k : Bool) (s t : ℕ) → IsNodeWord s → IsNodeWord t → side_word h s ≡ side_word k t → (h ≡ k) × (s ≡ t)

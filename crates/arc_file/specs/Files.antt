@@ -21,7 +21,8 @@ end_arcs = filter (λ a. not (nat_lt a.target (2 ^ 63)))
 
 -- the order of arcs to nodes: by the target, then by the source, the low one before the high one
 abbrev pub inner_cmp : Arc → Arc → Ordering
-inner_cmp a b = ordering_then (nat_cmp a.target b.target) (ordering_then (nat_cmp a.source b.source) (bool_cmp a.high b.high))
+inner_cmp a b = ordering_then (nat_cmp a.target b.target)
+    (ordering_then (nat_cmp a.source b.source) (bool_cmp a.high b.high))
 
 -- the order of arcs to truth values: by the source, the low one before the high one
 abbrev pub end_cmp : Arc → Arc → Ordering
@@ -75,4 +76,5 @@ pub record IsMisplaced (kind : Kind) (place : ℕ) (bytes : List ℕ) (given : O
 
 -- at that place stands no whole record of such an arc, or that of one that isn't in order with the arc behind it
 abbrev pub IsDamagedArc : Kind → ℕ → List ℕ → Option Arc → Type 0
-IsDamagedArc kind place bytes given = ((a : Arc) → ¬ IsArcAt kind place bytes a) ⊎ ((a : Arc) × (next : Arc) × IsMisplaced kind place bytes given a next)
+IsDamagedArc kind place bytes given = ((a : Arc) → ¬ IsArcAt kind place bytes a)
+    ⊎ ((a : Arc) × (next : Arc) × IsMisplaced kind place bytes given a next)

@@ -15,8 +15,10 @@ pub record DuringWrites (f g : FileNo) (old m : Moment) : Type 0 where
 -- at each moment every other file is as it was, and what was sure of these two up to a length of each is sure
 pub record DuringCuts (f : FileNo) (to : ℕ) (g : FileNo) (until : ℕ) (old m : Moment) : Type 0 where
   pub others : (q : FileNo) → q ≢ f → q ≢ g → file_in m.folder q ≡ file_in old.folder q
-  pub first_kept : (front : List ℕ) → length front ≤ to → IsKept front (file_in old.folder f) → IsKept front (file_in m.folder f)
-  pub second_kept : (front : List ℕ) → length front ≤ until → IsKept front (file_in old.folder g) → IsKept front (file_in m.folder g)
+  pub first_kept : (front : List ℕ) → length front ≤ to → IsKept front (file_in old.folder f)
+      → IsKept front (file_in m.folder f)
+  pub second_kept : (front : List ℕ) → length front ≤ until → IsKept front (file_in old.folder g)
+      → IsKept front (file_in m.folder g)
 
 -- two files were written to, by at most n calls
 pub record WroteBoth (n : ℕ) (f g : FileNo) (old new : World) : Type 0 where

@@ -52,10 +52,11 @@ pub record AreLeft (kind : Kind) (s : ArcStream) (bytes : List ℕ) (xs : List A
   pub lead : All (Leads kind) xs
   pub ordered : IsInOrderBefore kind xs s.given
 
--- an arc is the next one from the end on, and the one that was given before doesn't come before it; None is answered at the
--- front alone, and damage is that of the next record from the end on
+-- an arc is the next one from the end on, and the one that was given before doesn't come before it; None is answered at
+-- the front alone, and damage is that of the next record from the end on
 abbrev pub GoesUp : Kind → ArcStream → ArcStream → Result (Option Arc) StreamFault → Type 0
-GoesUp kind old new (Ok (Some a)) = IsArc a × Leads kind a × (left_of old ≡ left_of new + 1) × IfSome old.given (λ g. is_before kind g a ≡ false) × (new.given ≡ Some a)
+GoesUp kind old new (Ok (Some a)) = IsArc a × Leads kind a × (left_of old ≡ left_of new + 1)
+    × IfSome old.given (λ g. is_before kind g a ≡ false) × (new.given ≡ Some a)
 GoesUp kind old new (Ok None) = (left_of old ≡ 0) × (left_of new ≡ 0) × (new.given ≡ old.given)
 GoesUp kind old new (Err e) = (0 < left_of old) × IsDamageAt (file_of old) 2 (left_of old - 1) e
 

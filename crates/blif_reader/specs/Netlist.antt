@@ -19,7 +19,8 @@ pub record Cover : Type 0 where
   pub value : Bool
   pub rows : List (List ℕ)
 
--- a netlist: the number of inputs, the names of all signals, the signals that each reads, the covers of the blocks, and the outputs
+-- a netlist: the number of inputs, the names of all signals, the signals that each reads, the covers of the blocks, and
+-- the outputs
 pub record Net : Type 0 where
   pub inputs : ℕ
   pub names : List (List ℕ)
@@ -97,7 +98,8 @@ abbrev pub net_of_text : List Statement → Net
 net_of_text ss = record {
   inputs = length (words_in Inputs ss);
   names = names_of ss;
-  edges = replicate (length (words_in Inputs ss)) [] ++ map (λ words. map (signal_of (names_of ss)) words) (reads_of ss);
+  edges = replicate (length (words_in Inputs ss)) [] ++ map (λ words. map (signal_of (names_of ss)) words)
+      (reads_of ss);
   covers = covers_of ss;
   outputs = map (signal_of (names_of ss)) (words_in Outputs ss);
 }
@@ -137,7 +139,8 @@ line_of_signal net s = (slice_index_or net.covers (s - net.inputs) (record { lin
 -- a netlist without cycles is accepted; the fault of another one is on the line of the first block that lies on a cycle
 abbrev pub IsSettled : Net → Result Net BlifFault → Type 0
 IsSettled net (Ok accepted) = (accepted ≡ net) × IsAcyclic net.edges
-IsSettled net (Err f) = (s : ℕ) × IsFirstOnCycle net.edges s × (f ≡ record { line = line_of_signal net s; kind = fault.Cycle })
+IsSettled net (Err f) = (s : ℕ) × IsFirstOnCycle net.edges s
+    × (f ≡ record { line = line_of_signal net s; kind = fault.Cycle })
 
 abbrev pub Settles : Result Net BlifFault → Result Net BlifFault → Type 0
 Settles (Err f) result = result ≡ Err f
@@ -152,7 +155,8 @@ pub record IsRow (inputs : ℕ) (cells : List ℕ) : Type 0 where
   pub size : length cells ≡ inputs
   pub characters : list_all is_cell cells ≡ true
 
--- what every netlist keeps, but for cycles: its inputs are few, its names differ, its numbers are those of signals, and its rows have a character for each input
+-- what every netlist keeps, but for cycles: its inputs are few, its names differ, its numbers are those of signals, and
+-- its rows have a character for each input
 pub record IsTables (net : Net) : Type 0 where
   pub few : length net.names < 4294967294
   pub few_inputs : net.inputs ≤ 65535
@@ -162,8 +166,11 @@ pub record IsTables (net : Net) : Type 0 where
   pub graph : IsGraph net.edges
   pub leaves : (s : ℕ) → s < net.inputs → length (slice_index_or net.edges s []) ≡ 0
   pub outputs : (i : ℕ) → i < length net.outputs → slice_index net.outputs i < length net.names
-  pub rows : (k : ℕ) → k < length net.covers → length (slice_index_or net.covers k (record { line = 0; value = true; rows = [] })).rows < 2 ^ 32
-  pub cells : (k : ℕ) → k < length net.covers → All (IsRow (length (slice_index_or net.edges (net.inputs + k) []))) (slice_index_or net.covers k (record { line = 0; value = true; rows = [] })).rows
+  pub rows : (k : ℕ) → k < length net.covers
+      → length (slice_index_or net.covers k (record { line = 0; value = true; rows = [] })).rows < 2 ^ 32
+  pub cells : (k : ℕ) → k < length net.covers
+      → All (IsRow (length (slice_index_or net.edges (net.inputs + k) [])))
+      (slice_index_or net.covers k (record { line = 0; value = true; rows = [] })).rows
 
 -- a netlist: its signals are numbered, and no block depends on itself
 pub record IsNet (net : Net) : Type 0 where

@@ -31,7 +31,8 @@ on_line n (Err kind) = Err (record { line = n; kind = kind })
 
 -- a line as a statement, behind what stands before it
 abbrev pub statement : Context → Line → Result Statement BlifFault
-statement context l = on_line l.number (kind_of context l.words) >>= λ kind. Ok (record { line = l.number; kind = kind; words = l.words })
+statement context l = on_line l.number (kind_of context l.words) >>= λ kind. Ok
+    (record { line = l.number; kind = kind; words = l.words })
 
 -- what stands before the line behind a statement
 abbrev pub after_statement : Context → Statement → Context
@@ -47,7 +48,8 @@ at_end Ended = Ok []
 -- the statements of the lines, or the fault of the first that has one
 unfoldable pub statements : Context → List Line → Result (List Statement) BlifFault
 statements context [] = at_end context
-statements context (l ∷ ls) = statement context l >>= λ s. statements (after_statement context s) ls >>= λ ss. Ok (s ∷ ss)
+statements context (l ∷ ls) = statement context l >>= λ s. statements (after_statement context s) ls >>= λ ss. Ok
+    (s ∷ ss)
 
 -- the statements of a text
 abbrev pub parsed : List ℕ → Result (List Statement) BlifFault

@@ -112,7 +112,8 @@ impl Netlist {
         requires { (i : ℕ) → i < length wanted.now → slice_index wanted.now i < length (net_of self.now).names }
         ensures order { IfOk result (λ v. v.items ≡ visits (net_of self.now).edges wanted.now) }
         ensures above { IfOk result (λ v. IsTopological (net_of self.now).edges v.items) }
-        ensures signals { IfOk result (λ v. (k : ℕ) → k < length v.items → slice_index v.items k < length (net_of self.now).names) }
+        ensures signals { IfOk result (λ v. (k : ℕ) → k < length v.items →
+            slice_index v.items k < length (net_of self.now).names) }
     {
         visit_order(alloc, self.tables.edges.as_slice(), wanted)
     }

@@ -23,6 +23,7 @@ abbrev pub Holds : {T : Type 0} → Appender T → World → List ℕ → Type 0
 Holds a world bytes = IsWriting a.filling a.window.now world bytes
 
 -- what its file is to hold is whole records, which are those of these values
-pub record HoldsItems {T : Type 0} (is_value : T → Type 0) (words : T → List ℕ) (a : Appender T) (world : World) (xs : List T) : Type 0 where
+pub record HoldsItems {T : Type 0} (is_value : T → Type 0) (words : T → List ℕ) (a : Appender T) (world : World)
+    (xs : List T) : Type 0 where
   pub items : AreItems is_value words a.filling.words 0 (written_of a world) xs
   pub all : length (written_of a world) ≡ length xs * (8 * a.filling.words)

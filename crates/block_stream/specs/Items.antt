@@ -18,18 +18,21 @@ abbrev pub item_bytes : {T : Type 0} → (T → List ℕ) → ℕ → T → List
 item_bytes words k x = flat_map (to_be_bytes w64) (take k (words x))
 
 -- the records from a place on are whole, and are those of these values
-pub record AreItems {T : Type 0} (is_value : T → Type 0) (words : T → List ℕ) (k place : ℕ) (bytes : List ℕ) (xs : List T) : Type 0 where
+pub record AreItems {T : Type 0} (is_value : T → Type 0) (words : T → List ℕ) (k place : ℕ) (bytes : List ℕ)
+    (xs : List T) : Type 0 where
   pub values : All is_value xs
   pub whole : (place + length xs) * (8 * k) ≤ length bytes
   pub same : map (item_record words) xs ≡ records_of k (length xs) (from_place k place bytes)
 
 -- these values stand between the stream's place and the end of its range
-pub record AreAhead {T : Type 0} (is_value : T → Type 0) (words : T → List ℕ) (r : Reading) (bytes : List ℕ) (xs : List T) : Type 0 where
+pub record AreAhead {T : Type 0} (is_value : T → Type 0) (words : T → List ℕ) (r : Reading) (bytes : List ℕ)
+    (xs : List T) : Type 0 where
   pub items : AreItems is_value words r.words (place_of r) bytes xs
   pub all : place_of r + length xs ≡ r.bound
 
 -- these values stand between the front of the range and the stream's place
-pub record AreBehind {T : Type 0} (is_value : T → Type 0) (words : T → List ℕ) (r : Reading) (bytes : List ℕ) (xs : List T) : Type 0 where
+pub record AreBehind {T : Type 0} (is_value : T → Type 0) (words : T → List ℕ) (r : Reading) (bytes : List ℕ)
+    (xs : List T) : Type 0 where
   pub items : AreItems is_value words r.words r.bound bytes xs
   pub all : r.bound + length xs ≡ place_of r
 

@@ -31,7 +31,8 @@ pub record IsRecordOf {T : Type 0} (words : T → List ℕ) (k place : ℕ) (byt
 
 -- the record at a place isn't whole, or is that of no value
 abbrev pub IsDamaged : {T : Type 0} → (T → Type 0) → (T → List ℕ) → ℕ → ℕ → List ℕ → Type 0
-IsDamaged {T} is_value words k place bytes = IsWhole k place bytes → (x : T) → is_value x → words x ≢ (record_at k place bytes).w
+IsDamaged {T} is_value words k place bytes = IsWhole k place bytes → (x : T) → is_value x
+    → words x ≢ (record_at k place bytes).w
 
 -- damage is that of a file, at the place of a record in bytes
 abbrev pub IsDamageAt : FileNo → ℕ → ℕ → StreamFault → Type 0
@@ -62,7 +63,8 @@ IsFillDamage is_value words k place bytes Shelf = Unit
 IsFillDamage is_value words k place bytes (Damaged f at) = IsDamaged is_value words k place bytes
 
 -- what is answered of the record at a place: its value, or damage where it is damaged
-abbrev pub IsAnswer : {T : Type 0} → (T → Type 0) → (T → List ℕ) → ℕ → ℕ → List ℕ → Result (Option T) StreamFault → Type 0
+abbrev pub IsAnswer : {T : Type 0} → (T → Type 0) → (T → List ℕ) → ℕ → ℕ → List ℕ → Result (Option T) StreamFault
+    → Type 0
 IsAnswer is_value words k place bytes (Ok (Some x)) = IsRecordOf words k place bytes x
 IsAnswer is_value words k place bytes (Ok None) = Unit
 IsAnswer is_value words k place bytes (Err Shelf) = Unit
@@ -122,13 +124,16 @@ pub record IsBackward (r : Reading) (room : ℕ) : Type 0 where
 abbrev pub GoesOn : {T : Type 0} → (T → Type 0) → Reading → Reading → Result (Option T) StreamFault → Type 0
 GoesOn is_value old new (Ok (Some x)) = is_value x × (place_of old < old.bound) × (place_of new ≡ place_of old + 1)
 GoesOn is_value old new (Ok None) = (place_of old ≡ old.bound) × (place_of new ≡ old.bound)
-GoesOn is_value old new (Err e) = (place_of old < old.bound) × IsDamageAt old.file old.words (place_of old) e × (place_of new ≡ place_of old)
+GoesOn is_value old new (Err e) = (place_of old < old.bound) × IsDamageAt old.file old.words (place_of old) e
+    × (place_of new ≡ place_of old)
 
--- a value was the last of what is left of the range, and the place goes back by one; None is answered at the range's front alone
+-- a value was the last of what is left of the range, and the place goes back by one; None is answered at the range's
+-- front alone
 abbrev pub GoesBack : {T : Type 0} → (T → Type 0) → Reading → Reading → Result (Option T) StreamFault → Type 0
 GoesBack is_value old new (Ok (Some x)) = is_value x × (old.bound < place_of old) × (place_of old ≡ place_of new + 1)
 GoesBack is_value old new (Ok None) = (place_of old ≡ old.bound) × (place_of new ≡ old.bound)
-GoesBack is_value old new (Err e) = (old.bound < place_of old) × IsDamageAt old.file old.words (place_of old - 1) e × (place_of new ≡ place_of old)
+GoesBack is_value old new (Err e) = (old.bound < place_of old) × IsDamageAt old.file old.words (place_of old - 1) e
+    × (place_of new ≡ place_of old)
 
 -- a window waits with a record that wasn't given, or none is left between the place and the bound
 abbrev pub Waits : Reading → Reading → Result Bool StreamFault → Type 0

@@ -1,4 +1,5 @@
--- Records in the bytes of a file: one behind the other, each of so many words, and each word in eight bytes, the highest first.
+-- Records in the bytes of a file: one behind the other, each of so many words, and each word in eight bytes, the
+-- highest first.
 use Rattle.std.specs.Prelude.{ℕ, zero, suc, ◌+◌, ◌-◌, ◌*◌, ◌/◌, ◌^◌, ◌≤◌, min, List, [], ◌∷◌, ◌++◌, length, take, drop, replicate}
 use Rattle.std.specs.List.{flat_map}
 use Rattle.std.specs.Int.{w64, to_be_bytes, from_be_bytes}

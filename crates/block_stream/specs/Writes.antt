@@ -18,7 +18,8 @@ pub record DuringWrite (f : FileNo) (old m : Moment) : Type 0 where
 -- at each moment every other file is as it was, and what was sure of this one up to a length is sure
 pub record DuringCut (f : FileNo) (to : ℕ) (old m : Moment) : Type 0 where
   pub others : OnlyChanged (λ q. q ≡ f) old m
-  pub kept : (front : List ℕ) → length front ≤ to → IsKept front (file_in old.folder f) → IsKept front (file_in m.folder f)
+  pub kept : (front : List ℕ) → length front ≤ to → IsKept front (file_in old.folder f)
+      → IsKept front (file_in m.folder f)
 
 -- a file was written to, by at most n calls
 pub record Wrote (n : ℕ) (f : FileNo) (old new : World) : Type 0 where

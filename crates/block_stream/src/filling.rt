@@ -104,7 +104,8 @@ pub fn flush_records<S: Shelf>(
     ensures settled { OnOk result (filling.new.waiting ≡ 0) }
     ensures bytes { OnOk result (IsTrue (S.tells shelf.new) →
         IsWriting filling.new window.now (S.world shelf.new) (written filling.old window.now (S.world shelf.old))) }
-    ensures content { Told S.tells shelf.old shelf.new (Wrote 1 filling.old.file (S.world shelf.old) (S.world shelf.new)) }
+    ensures content { Told S.tells shelf.old shelf.new
+        (Wrote 1 filling.old.file (S.world shelf.old) (S.world shelf.new)) }
     ensures faults { OnlyFolder (S.faults shelf.old) (S.faults shelf.new) result }
 {
     if filling.waiting == 0 {
@@ -137,7 +138,8 @@ fn make_room<S: Shelf>(window: &[Rec], filling: &mut Filling, shelf: &mut S) -> 
         (S.world shelf.new).clock ≡ (S.world shelf.old).clock }
     ensures bytes { OnOk result (IsTrue (S.tells shelf.new) →
         IsWriting filling.new window.now (S.world shelf.new) (written filling.old window.now (S.world shelf.old))) }
-    ensures content { Told S.tells shelf.old shelf.new (Wrote 1 filling.old.file (S.world shelf.old) (S.world shelf.new)) }
+    ensures content { Told S.tells shelf.old shelf.new
+        (Wrote 1 filling.old.file (S.world shelf.old) (S.world shelf.new)) }
     ensures faults { OnlyFolder (S.faults shelf.old) (S.faults shelf.new) result }
 {
     if filling.waiting < piece_len(window.len(), filling.words) {
@@ -166,7 +168,8 @@ pub fn put_record<S: Shelf>(
         filling.old.waiting < piece_records filling.old.words (length window.old) →
         (S.world shelf.new).clock ≡ (S.world shelf.old).clock }
     ensures cause { IfErr result (λ e. e ≡ StreamFault.Shelf) }
-    ensures content { Told S.tells shelf.old shelf.new (Wrote 1 filling.old.file (S.world shelf.old) (S.world shelf.new)) }
+    ensures content { Told S.tells shelf.old shelf.new
+        (Wrote 1 filling.old.file (S.world shelf.old) (S.world shelf.new)) }
     ensures faults { OnlyShelf (S.faults shelf.old) (S.faults shelf.new) result }
 {
     make_room(window, filling, shelf)?;
@@ -191,7 +194,8 @@ pub fn settle_records<S: Shelf>(
         file (S.world shelf.new) filling.old.file ≡ firm_file (written filling.old window.now (S.world shelf.old))) }
     ensures in_step { OnOk result (IsTrue (S.tells shelf.new) → InStep filling.new (S.world shelf.new)) }
     ensures cause { IfErr result (λ e. e ≡ StreamFault.Shelf) }
-    ensures content { Told S.tells shelf.old shelf.new (Wrote 2 filling.old.file (S.world shelf.old) (S.world shelf.new)) }
+    ensures content { Told S.tells shelf.old shelf.new
+        (Wrote 2 filling.old.file (S.world shelf.old) (S.world shelf.new)) }
     ensures faults { OnlyShelf (S.faults shelf.old) (S.faults shelf.new) result }
 {
     let f = filling.file;

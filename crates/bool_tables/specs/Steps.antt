@@ -29,12 +29,14 @@ step_value n tables (Var level) p = digit n level p
 step_value n tables (Pair op left right) p =
     op_value op (value_at (table_of_step tables left) p) (value_at (table_of_step tables right) p)
 step_value n tables (Ite test if_one if_zero) p =
-    cond (value_at (table_of_step tables test) p) (value_at (table_of_step tables if_one) p) (value_at (table_of_step tables if_zero) p)
+    cond (value_at (table_of_step tables test) p) (value_at (table_of_step tables if_one) p)
+    (value_at (table_of_step tables if_zero) p)
 step_value n tables (Quantify kind operand level) p =
     quant_value kind
     (value_at (table_of_step tables operand) (with_digit n level false p))
     (value_at (table_of_step tables operand) (with_digit n level true p))
-step_value n tables (Restrict operand level value) p = value_at (table_of_step tables operand) (with_digit n level value p)
+step_value n tables (Restrict operand level value) p = value_at (table_of_step tables operand)
+    (with_digit n level value p)
 step_value n tables (Drop gone) p = false
 step_value n tables (Same left right) p = false
 step_value n tables (Leq left right) p = false

@@ -1,4 +1,5 @@
--- truth tables: a table of n variables has one value for each of the 2 ^ n places, and the n binary digits of a place are the values of the variables
+-- truth tables: a table of n variables has one value for each of the 2 ^ n places, and the n binary digits of a place
+-- are the values of the variables
 use Rattle.std.specs.Prelude.{ℕ, ◌+◌, ◌-◌, ◌/◌, ◌%◌, ◌^◌, ◌==◌, Bool, true, false, cond, not, ◌&&◌, List, [], ◌∷◌, length, get_or, take, drop, map}
 use Rattle.std.specs.List.{range_with_len}
 

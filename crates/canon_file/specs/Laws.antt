@@ -10,7 +10,8 @@ use Rattle.canon_file.specs.Canon.{canon_nodes, canon_root, canon_bytes}
 use Rattle.canon_file.specs.NodeFiles.{IsNodeFile}
 use Rattle.canon_file.specs.Walks.{walk, table_of, row_at}
 
--- the table has n variables, no more than there are levels, and its canonical form is defined: no level has more rows than numbers
+-- the table has n variables, no more than there are levels, and its canonical form is defined: no level has more rows
+-- than numbers
 pub record HasForm (n : ℕ) (t : List Bool) : Type 0 where
   pub few : n ≤ most_variables
   pub whole : length t ≡ 2 ^ n
@@ -40,4 +41,5 @@ PiecesAreParts i h = (t : List Bool) → length t ≡ 2 ^ (i + h) → pieces i h
 -- the rows of a level ascend, each before all that follow, and are the pairs of the pieces that split
 pub record AreRows (f : List Bool → ℕ) (h : ℕ) (ps : List (List Bool)) : Type 0 where
   pub ascend : IsAscending row_before (rows_with f h ps)
-  pub pairs : (r : Row) → Has r (rows_with f h ps) ↔ ((p : List Bool) × Has p ps × (splits h p ≡ true) × (row_of f h p ≡ r))
+  pub pairs : (r : Row) → Has r (rows_with f h ps) ↔
+      ((p : List Bool) × Has p ps × (splits h p ≡ true) × (row_of f h p ≡ r))

@@ -6,7 +6,8 @@ use Rattle.rec_words.specs.declared.node.Node.{Node}
 use Rattle.list_laws.specs.Members.{Has}
 use Rattle.canon_file.specs.Canon.{canon_nodes, canon_root}
 
--- the node may stand in a file for n variables: its level is below n, and its two pointers differ, each a truth value or a node of a deeper level
+-- the node may stand in a file for n variables: its level is below n, and its two pointers differ, each a truth value
+-- or a node of a deeper level
 pub record IsProper (n : ℕ) (x : Node) : Type 0 where
   pub words : IsNode x
   pub level : level_of x.uid < n

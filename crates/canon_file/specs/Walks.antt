@@ -35,4 +35,5 @@ row_at (x ∷ xs) w = cond (x.uid == w) (record { low = x.low; high = x.high }) 
 -- the pointers of the nodes of level i, and of each deeper one, are the rows of the levels
 abbrev pub Agrees : (ℕ → Row) → ℕ → List (List Row) → Type 0
 Agrees arcs i [] = Unit {0}
-Agrees arcs i (rs ∷ deeper) = ((k : ℕ) → k < length rs → arcs (row_word i k) ≡ get_or rs k nowhere) × Agrees arcs (suc i) deeper
+Agrees arcs i (rs ∷ deeper) = ((k : ℕ) → k < length rs → arcs (row_word i k) ≡ get_or rs k nowhere)
+    × Agrees arcs (suc i) deeper

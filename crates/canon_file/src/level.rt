@@ -21,7 +21,8 @@ pub fn add_level(
     requires level { level ≤ deepest_level }
     requires few { length pointers.now ≤ level_numbers }
     ensures pointers { IfOk result (λ above. above.items ≡ words_above level pointers.now) }
-    ensures nodes { OnOk result (bytes.new.items ≡ bytes.old.items ++ node_bytes (numbered level 0 (distinct_rows pointers.now))) }
+    ensures nodes { OnOk result (bytes.new.items ≡ bytes.old.items ++ node_bytes
+        (numbered level 0 (distinct_rows pointers.now))) }
 {
     let pairs = pairs_of(alloc, pointers)?;
     let rows = rows_of(alloc, pairs.as_slice())?;
@@ -81,7 +82,8 @@ fn add_nodes(level: u16, rows: &[Row], bytes: &mut Vec<u8>) -> Result<(), AllocE
 
 /// Adds one node to the bytes.
 fn add_node(uid: Ptr, row: Row, bytes: &mut Vec<u8>) -> Result<(), AllocError>
-    ensures { OnOk result (bytes.new.items ≡ bytes.old.items ++ node_bytes (record { uid = uid; low = row.low; high = row.high } ∷ [])) }
+    ensures { OnOk result (bytes.new.items ≡ bytes.old.items ++ node_bytes
+        (record { uid = uid; low = row.low; high = row.high } ∷ [])) }
 {
     add_word(uid.word(), bytes)?;
     add_word(row.low.word(), bytes)?;

@@ -35,18 +35,22 @@ unfoldable pub visit : ℕ → List (List ℕ) → List ℕ → ℕ → List ℕ
 visit zero g seen s = seen
 visit (suc d) g seen s = if has seen s then seen else fold (λ us t. visit d g us t) seen (edges_of g s) ++ s ∷ []
 
--- the nodes that are visited from some nodes in order; no way through different nodes is longer than the graph has nodes
+-- the nodes that are visited from some nodes in order; no way through different nodes is longer than the graph has
+-- nodes
 abbrev pub visits : List (List ℕ) → List ℕ → List ℕ
 visits g roots = fold (λ us t. visit (length g) g us t) [] roots
 
 -- each node stands behind those that it leads to
 abbrev pub IsTopological : List (List ℕ) → List ℕ → Type 0
-IsTopological g order = (k i : ℕ) → k < length order → i < length (edges_of g (slice_index order k)) → has (take k order) (slice_index (edges_of g (slice_index order k)) i) ≡ true
+IsTopological g order = (k i : ℕ) → k < length order → i < length (edges_of g (slice_index order k))
+    → has (take k order) (slice_index (edges_of g (slice_index order k)) i) ≡ true
 
 -- no edge leads to a node with a larger number
 abbrev pub NeverRises : List (List ℕ) → List ℕ → Type 0
-NeverRises g numbers = (s i : ℕ) → s < length g → i < length (edges_of g s) → slice_index numbers (slice_index (edges_of g s) i) ≤ slice_index numbers s
+NeverRises g numbers = (s i : ℕ) → s < length g → i < length (edges_of g s)
+    → slice_index numbers (slice_index (edges_of g s) i) ≤ slice_index numbers s
 
 -- each edge of a node leads to a smaller number
 abbrev pub FallsAt : List (List ℕ) → List ℕ → ℕ → Type 0
-FallsAt g numbers s = (i : ℕ) → i < length (edges_of g s) → slice_index numbers (slice_index (edges_of g s) i) < slice_index numbers s
+FallsAt g numbers s = (i : ℕ) → i < length (edges_of g s)
+    → slice_index numbers (slice_index (edges_of g s) i) < slice_index numbers s

@@ -31,9 +31,11 @@ pub record IsWalk (g : List (List ℕ)) (place order : List ℕ) (stack : List F
   pub done : (s : ℕ) → s < length g → has order s ≡ is_done (slice_index place s)
   pub way : (s : ℕ) → s < length g → slice_index place s < 4294967294 → slice_index place s < length stack
   pub back : (s : ℕ) → s < length g → slice_index place s < 4294967294 → node_at stack (slice_index place s) ≡ s
-  pub past : (p i : ℕ) → p < length stack → i < next_at stack p → has order (slice_index (edges_of g (node_at stack p)) i) ≡ true
+  pub past : (p i : ℕ) → p < length stack → i < next_at stack p
+      → has order (slice_index (edges_of g (node_at stack p)) i) ≡ true
   pub chain : (p : ℕ) → p + 1 < length stack → next_at stack p < length (edges_of g (node_at stack p))
-  pub links : (p : ℕ) → p + 1 < length stack → slice_index (edges_of g (node_at stack p)) (next_at stack p) ≡ node_at stack (p + 1)
+  pub links : (p : ℕ) → p + 1 < length stack
+      → slice_index (edges_of g (node_at stack p)) (next_at stack p) ≡ node_at stack (p + 1)
   pub above : IsTopological g order
   pub inside : (k : ℕ) → k < length order → slice_index order k < length g
 
@@ -41,7 +43,8 @@ pub record IsWalk (g : List (List ℕ)) (place order : List ℕ) (stack : List F
 unfoldable pub resumed : ℕ → List (List ℕ) → List Frame → List ℕ → List ℕ
 resumed zero g stack seen = seen
 resumed (suc d) g [] seen = seen
-resumed (suc d) g (f ∷ fs) seen = fold (λ us t. visit d g us t) (resumed d g fs seen) (drop f.next (edges_of g f.node)) ++ f.node ∷ []
+resumed (suc d) g (f ∷ fs) seen = fold (λ us t. visit d g us t) (resumed d g fs seen)
+    (drop f.next (edges_of g f.node)) ++ f.node ∷ []
 
 -- the work that a frame may still make
 abbrev pub frame_work : List (List ℕ) → Frame → ℕ
@@ -52,13 +55,15 @@ unfoldable pub work : List (List ℕ) → List ℕ → List Frame → ℕ
 work g place stack = count_by is_new place * (2 + sum_by (λ es. length es) g) + sum_by (frame_work g) stack
 
 -- one step of a walk: it is still one, the order that it leads to stays, and less work is left
-pub record StepsTo (g : List (List ℕ)) (place order : List ℕ) (stack : List Frame) (place2 order2 : List ℕ) (stack2 : List Frame) : Type 0 where
+pub record StepsTo (g : List (List ℕ)) (place order : List ℕ) (stack : List Frame) (place2 order2 : List ℕ)
+    (stack2 : List Frame) : Type 0 where
   pub walk : IsWalk g place2 order2 stack2
   pub same : resumed (length g) g stack2 order2 ≡ resumed (length g) g stack order
   pub less : work g place2 stack2 < work g place stack
 
 -- a root was visited: the way is empty again, and the order is the one that the visit leaves
-pub record Visited (g : List (List ℕ)) (seen : List ℕ) (root : ℕ) (place2 order2 : List ℕ) (stack2 : List Frame) : Type 0 where
+pub record Visited (g : List (List ℕ)) (seen : List ℕ) (root : ℕ) (place2 order2 : List ℕ)
+    (stack2 : List Frame) : Type 0 where
   pub walk : IsWalk g place2 order2 stack2
   pub empty : stack2 ≡ []
   pub order : order2 ≡ visit (length g) g seen root

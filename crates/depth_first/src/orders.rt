@@ -30,7 +30,8 @@ pub fn visit_order(alloc: Global, edges: &[Vec<u32>], roots: &[u32]) -> Result<V
 fn some_cycle(alloc: Global, edges: &[Vec<u32>]) -> Result<Option<u32>, AllocError>
     requires few { length edges.now < 4294967294 }
     requires graph { IsGraph (graph_of edges.now) }
-    ensures { IfOk result (λ found. MatchOption found (IsAcyclic (graph_of edges.now)) (λ t. (t < length edges.now) × Reaches (graph_of edges.now) t t)) }
+    ensures { IfOk result (λ found. MatchOption found (IsAcyclic (graph_of edges.now))
+        (λ t. (t < length edges.now) × Reaches (graph_of edges.now) t t)) }
 {
     let mut walk = new_walk(alloc, edges.len())?;
     for root in 0..edges.len() as u32 {
@@ -44,7 +45,8 @@ fn some_cycle(alloc: Global, edges: &[Vec<u32>]) -> Result<Option<u32>, AllocErr
 /// Whether each node has a number below the bound, or at it.
 fn all_at_most(targets: &[u32], numbers: &[u32], bound: u32) -> bool
     requires { (i : ℕ) → i < length targets.now → slice_index targets.now i < length numbers.now }
-    ensures { result ≡ true → (i : ℕ) → i < length targets.now → slice_index numbers.now (slice_index targets.now i) ≤ bound }
+    ensures { result ≡ true → (i : ℕ) → i < length targets.now →
+        slice_index numbers.now (slice_index targets.now i) ≤ bound }
 {
     for target in targets {
         if numbers[*target as usize] > bound {
@@ -106,7 +108,8 @@ fn first_of(alloc: Global, edges: &[Vec<u32>], known: u32) -> Result<u32, AllocE
 pub fn first_cycle(alloc: Global, edges: &[Vec<u32>]) -> Result<Option<u32>, AllocError>
     requires few { length edges.now < 4294967294 }
     requires graph { IsGraph (graph_of edges.now) }
-    ensures { IfOk result (λ found. MatchOption found (IsAcyclic (graph_of edges.now)) (IsFirstOnCycle (graph_of edges.now))) }
+    ensures { IfOk result (λ found. MatchOption found (IsAcyclic (graph_of edges.now))
+        (IsFirstOnCycle (graph_of edges.now))) }
 {
     match some_cycle(alloc, edges)? {
         None => Ok(None),

@@ -45,7 +45,8 @@ fn follow(walk: &mut Walk, frame: Frame) -> Result<(), AllocError>
     ensures size { length walk.new.place.items ≡ length walk.old.place.items }
     ensures place { OnOk result (walk.new.place.items ≡ walk.old.place.items) }
     ensures order { OnOk result (walk.new.order.items ≡ walk.old.order.items) }
-    ensures stack { OnOk result (walk.new.stack.items ≡ walk.old.stack.items ++ record { node = frame.node; next = frame.next + 1 } ∷ []) }
+    ensures stack { OnOk result (walk.new.stack.items ≡ walk.old.stack.items
+        ++ record { node = frame.node; next = frame.next + 1 } ∷ []) }
 {
     walk.stack.push(Frame {
         node: frame.node,
@@ -59,9 +60,11 @@ fn enter(walk: &mut Walk, frame: Frame, node: u32) -> Result<(), AllocError>
     requires inside { node < length walk.old.place.items }
     requires few { length walk.old.stack.items < 4294967294 }
     ensures size { length walk.new.place.items ≡ length walk.old.place.items }
-    ensures place { OnOk result (walk.new.place.items ≡ slice_set walk.old.place.items node (length walk.old.stack.items + 1)) }
+    ensures place { OnOk result (walk.new.place.items ≡ slice_set walk.old.place.items node
+        (length walk.old.stack.items + 1)) }
     ensures order { OnOk result (walk.new.order.items ≡ walk.old.order.items) }
-    ensures stack { OnOk result (walk.new.stack.items ≡ (walk.old.stack.items ++ frame ∷ []) ++ record { node = node; next = 0 } ∷ []) }
+    ensures stack { OnOk result (walk.new.stack.items ≡
+        (walk.old.stack.items ++ frame ∷ []) ++ record { node = node; next = 0 } ∷ []) }
 {
     walk.place[node as usize] = walk.stack.len() as u32 + 1;
     walk.stack.push(frame)?;
@@ -76,9 +79,13 @@ pub(crate) fn step(
     frame: Frame,
 ) -> Result<Option<u32>, AllocError>
     requires graph { IsGraph (graph_of edges.now) }
-    requires before { IsWalk (graph_of edges.now) walk.old.place.items walk.old.order.items (walk.old.stack.items ++ frame ∷ []) }
+    requires before { IsWalk (graph_of edges.now) walk.old.place.items walk.old.order.items
+        (walk.old.stack.items ++ frame ∷ []) }
     ensures size { length walk.new.place.items ≡ length walk.old.place.items }
-    ensures walked { IfOk result (λ found. MatchOption found (StepsTo (graph_of edges.now) walk.old.place.items walk.old.order.items (walk.old.stack.items ++ frame ∷ []) walk.new.place.items walk.new.order.items walk.new.stack.items) (λ t. (t < length edges.now) × Reaches (graph_of edges.now) t t)) }
+    ensures walked { IfOk result (λ found. MatchOption found
+        (StepsTo (graph_of edges.now) walk.old.place.items walk.old.order.items
+        (walk.old.stack.items ++ frame ∷ []) walk.new.place.items walk.new.order.items walk.new.stack.items)
+        (λ t. (t < length edges.now) × Reaches (graph_of edges.now) t t)) }
 {
     let targets = edges[frame.node as usize].as_slice();
     if frame.next >= targets.len() {
@@ -104,7 +111,10 @@ fn last_step(edges: &[Vec<u32>], walk: &mut Walk) -> Result<Option<u32>, AllocEr
     requires before { IsWalk (graph_of edges.now) walk.old.place.items walk.old.order.items walk.old.stack.items }
     requires left { 0 < length walk.old.stack.items }
     ensures size { length walk.new.place.items ≡ length walk.old.place.items }
-    ensures walked { IfOk result (λ found. MatchOption found (StepsTo (graph_of edges.now) walk.old.place.items walk.old.order.items walk.old.stack.items walk.new.place.items walk.new.order.items walk.new.stack.items) (λ t. (t < length edges.now) × Reaches (graph_of edges.now) t t)) }
+    ensures walked { IfOk result (λ found. MatchOption found
+        (StepsTo (graph_of edges.now) walk.old.place.items walk.old.order.items walk.old.stack.items
+        walk.new.place.items walk.new.order.items walk.new.stack.items)
+        (λ t. (t < length edges.now) × Reaches (graph_of edges.now) t t)) }
 {
     match walk.stack.pop() {
         Some(frame) => step(edges, walk, frame),
@@ -136,7 +146,9 @@ pub(crate) fn visit_root(
     requires before { IsWalk (graph_of edges.now) walk.old.place.items walk.old.order.items walk.old.stack.items }
     requires empty { walk.old.stack.items ≡ [] }
     ensures size { length walk.new.place.items ≡ length walk.old.place.items }
-    ensures walked { IfOk result (λ found. MatchOption found (Visited (graph_of edges.now) walk.old.order.items root walk.new.place.items walk.new.order.items walk.new.stack.items) (λ t. (t < length edges.now) × Reaches (graph_of edges.now) t t)) }
+    ensures walked { IfOk result (λ found. MatchOption found
+        (Visited (graph_of edges.now) walk.old.order.items root walk.new.place.items walk.new.order.items
+        walk.new.stack.items) (λ t. (t < length edges.now) × Reaches (graph_of edges.now) t t)) }
 {
     let place = walk.place[root as usize];
     if place == DONE {
@@ -163,7 +175,9 @@ pub(crate) fn visit_roots(
     requires empty { walk.old.stack.items ≡ [] }
     requires none { walk.old.order.items ≡ [] }
     ensures size { length walk.new.place.items ≡ length walk.old.place.items }
-    ensures walked { IfOk result (λ found. MatchOption found (WalkOver (graph_of edges.now) roots.now walk.new.place.items walk.new.order.items walk.new.stack.items) (λ t. (t < length edges.now) × Reaches (graph_of edges.now) t t)) }
+    ensures walked { IfOk result (λ found. MatchOption found
+        (WalkOver (graph_of edges.now) roots.now walk.new.place.items walk.new.order.items walk.new.stack.items)
+        (λ t. (t < length edges.now) × Reaches (graph_of edges.now) t t)) }
 {
     for root in roots {
         if let Some(found) = visit_root(edges, walk, *root)? {

@@ -5,4 +5,11 @@ use Rattle.shelf_model.specs.World.{World}
 
 -- the content of a station that tells none: it is never claimed
 pub nothing : World
-nothing = record { clock = 0; moment = λ k. record { folder = empty; said = [] }; texts = λ path. None; home = []; inside = false; strays = 0 }
+nothing = record {
+  clock = 0;
+  moment = λ k. record { folder = empty; said = [] };
+  texts = λ path. None;
+  home = [];
+  inside = false;
+  strays = 0;
+}

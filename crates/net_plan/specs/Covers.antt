@@ -49,7 +49,11 @@ cube first steps cells ts = columns first (put first steps (Const true)) cells t
 
 -- the sum so far, or the cube
 abbrev pub summed : ℕ → Draft → Draft → Draft
-summed first sum c = record { steps = ((c.steps ++ Pair either sum.at c.at ∷ []) ++ Drop sum.at ∷ []) ++ Drop c.at ∷ []; at = first + length c.steps }
+summed first sum c = record {
+  steps = ((c.steps ++ Pair either sum.at c.at ∷ []) ++ Drop sum.at ∷ [])
+      ++ Drop c.at ∷ [];
+  at = first + length c.steps;
+}
 
 -- a sum with one more row
 abbrev pub row : ℕ → Draft → List ℕ → List ℕ → Draft

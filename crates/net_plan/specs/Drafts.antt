@@ -5,7 +5,8 @@ use Rattle.net_plan.specs.declared.fault.PlanFault.{PlanFault}
 use Rattle.net_plan.specs.declared.fault.PlanFault.TheVariants.{Memory, TooManySteps}
 use Rattle.net_plan.specs.Covers.{Draft}
 
--- the steps and the number are those of the draft, whose steps have numbers below 1,048,576; or memory ran out, or the draft has more
+-- the steps and the number are those of the draft, whose steps have numbers below 1,048,576; or memory ran out, or the
+-- draft has more
 abbrev pub Drafts : ℕ → List Step → List Step → Draft → Result ℕ PlanFault → Type 0
 Drafts first old new draft (Ok at) = (new ≡ draft.steps) × (at ≡ draft.at) × (first + length new ≤ 1048576)
 Drafts first old new draft (Err Memory) = Unit {0}

@@ -16,7 +16,8 @@ pub record Planning : Type 0 where
 abbrev pub signal_draft : Net → List ℕ → ℕ → Planning → ℕ → Draft
 signal_draft net levels first p s =
     if nat_lt s net.inputs then put first p.steps (Var (slice_index levels s))
-    else block first p.steps (cover_at net s).value (cover_at net s).rows (map (slice_index p.made) (edges_of net.edges s))
+    else block first p.steps (cover_at net s).value (cover_at net s).rows
+    (map (slice_index p.made) (edges_of net.edges s))
 
 -- the signal was made
 abbrev pub with_signal : Planning → ℕ → Draft → Planning
@@ -25,7 +26,8 @@ with_signal p s d = record { steps = d.steps; made = slice_set p.made s d.at }
 -- the steps of signals in order
 abbrev pub make_signals : Net → List ℕ → ℕ → Planning → List ℕ → Planning
 make_signals net levels first p [] = p
-make_signals net levels first p (s ∷ ss) = make_signals net levels first (with_signal p s (signal_draft net levels first p s)) ss
+make_signals net levels first p (s ∷ ss) = make_signals net levels first
+    (with_signal p s (signal_draft net levels first p s)) ss
 
 -- a signal that isn't wanted is dropped
 abbrev pub drop_one : List ℕ → List ℕ → ℕ → List Step
@@ -41,7 +43,8 @@ made_signals net levels wanted first = make_signals net levels first (no_plan ne
 
 abbrev pub plan_steps : Net → List ℕ → List ℕ → ℕ → List Step
 plan_steps net levels wanted first =
-    (made_signals net levels wanted first).steps ++ flat_map (drop_one wanted (made_signals net levels wanted first).made) (visits net.edges wanted)
+    (made_signals net levels wanted first).steps ++ flat_map
+    (drop_one wanted (made_signals net levels wanted first).made) (visits net.edges wanted)
 
 -- the numbers of the steps that made the wanted signals
 abbrev pub plan_made : Net → List ℕ → List ℕ → ℕ → List ℕ

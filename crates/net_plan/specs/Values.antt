@@ -18,11 +18,13 @@ covers [] values = true
 covers (c ∷ cells) [] = true
 covers (c ∷ cells) (v ∷ values) = holds c v && covers cells values
 
--- the value that a cover gives: the output of its rows where some row covers, and the other value where none does; the output of no rows is 1
+-- the value that a cover gives: the output of its rows where some row covers, and the other value where none does; the
+-- output of no rows is 1
 abbrev pub cover_value : Cover → List Bool → Bool
 cover_value cover values = if list_any (λ row. covers row values) cover.rows then cover.value else not cover.value
 
--- a signal has a value: an input has its own, and a block has the one that its cover gives to the values of the signals that it reads
+-- a signal has a value: an input has its own, and a block has the one that its cover gives to the values of the signals
+-- that it reads
 pub data HasValue (net : Net) (inputs : ℕ → Bool) : ℕ → Bool → Type 0 where
   input : (s : ℕ) → s < net.inputs → HasValue net inputs s (inputs s)
   block : (s : ℕ) (value : ℕ → Bool) → IsBlock net s
@@ -45,5 +47,6 @@ steps_of planned = map (λ s. s.step) planned
 -- behind any steps with numbers below first, the steps make the table of each wanted signal
 abbrev pub MakeTables : Net → List ℕ → List ℕ → ℕ → List Step → List ℕ → Type 0
 MakeTables net levels wanted first steps made =
-    (n i : ℕ) (before : List (List Bool)) (planned : List Planned) → length before ≡ first → steps_of planned ≡ steps → i < length wanted
+    (n i : ℕ) (before : List (List Bool)) (planned : List Planned) → length before ≡ first → steps_of planned ≡ steps
+    → i < length wanted
     → IsTableOf n net levels (slice_index wanted i) (table_of_step (tables_after n before planned) (slice_index made i))

@@ -21,7 +21,8 @@ fn push_column(
     signal: u32,
 ) -> Result<u32, PlanFault>
     requires { first + length steps.old.items ≤ 1048576 }
-    ensures { Drafts first steps.old.items steps.new.items (column first (record { steps = steps.old.items; at = at }) cell signal) result }
+    ensures { Drafts first steps.old.items steps.new.items
+        (column first (record { steps = steps.old.items; at = at }) cell signal) result }
 {
     if cell == b'1' {
         join_steps(first, steps, BOTH, at, signal)
@@ -53,7 +54,9 @@ fn push_cube(
 
 /// The sum of what was summed and a cube; both are dropped.
 fn push_sum(first: u32, steps: &mut Vec<Step>, sum: u32, cube: u32) -> Result<u32, PlanFault>
-    ensures { Drafts first steps.old.items steps.new.items (summed first (record { steps = steps.old.items; at = sum }) (record { steps = steps.old.items; at = cube })) result }
+    ensures { Drafts first steps.old.items steps.new.items
+        (summed first (record { steps = steps.old.items; at = sum })
+        (record { steps = steps.old.items; at = cube })) result }
 {
     let made = put_step(
         first,
@@ -77,7 +80,8 @@ fn push_row(
     cells: &[u8],
     signals: &[u32],
 ) -> Result<u32, PlanFault>
-    ensures { Drafts first steps.old.items steps.new.items (row first (record { steps = steps.old.items; at = sum }) cells.now signals.now) result }
+    ensures { Drafts first steps.old.items steps.new.items
+        (row first (record { steps = steps.old.items; at = sum }) cells.now signals.now) result }
 {
     let cube = push_cube(first, steps, cells, signals)?;
     push_sum(first, steps, sum, cube)
@@ -86,7 +90,8 @@ fn push_row(
 /// The complement of a sum, where the rows have output 0.
 fn push_sign(first: u32, steps: &mut Vec<Step>, value: bool, sum: u32) -> Result<u32, PlanFault>
     requires { first + length steps.old.items ≤ 1048576 }
-    ensures { Drafts first steps.old.items steps.new.items (signed first value (record { steps = steps.old.items; at = sum })) result }
+    ensures { Drafts first steps.old.items steps.new.items
+        (signed first value (record { steps = steps.old.items; at = sum })) result }
 {
     if value {
         return Ok(sum);
@@ -103,7 +108,9 @@ fn push_rows(
     signals: &[u32],
 ) -> Result<u32, PlanFault>
     requires { IsBlock (net_of net.now) signal }
-    ensures { Drafts first steps.old.items steps.new.items (rows first (put first steps.old.items (Const false)) (cover_at (net_of net.now) signal).rows signals.now) result }
+    ensures { Drafts first steps.old.items steps.new.items
+        (rows first (put first steps.old.items (Const false))
+        (cover_at (net_of net.now) signal).rows signals.now) result }
 {
     let mut sum = put_step(first, steps, Step::Const { value: false })?;
     for place in 0..net.row_count(signal) {
@@ -121,7 +128,9 @@ pub(crate) fn push_block(
     signals: &[u32],
 ) -> Result<u32, PlanFault>
     requires { IsBlock (net_of net.now) signal }
-    ensures { Drafts first steps.old.items steps.new.items (block first steps.old.items (cover_at (net_of net.now) signal).value (cover_at (net_of net.now) signal).rows signals.now) result }
+    ensures { Drafts first steps.old.items steps.new.items
+        (block first steps.old.items (cover_at (net_of net.now) signal).value
+        (cover_at (net_of net.now) signal).rows signals.now) result }
 {
     let sum = push_rows(first, steps, net, signal, signals)?;
     push_sign(first, steps, net.row_output(signal), sum)

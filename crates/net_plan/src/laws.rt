@@ -8,12 +8,14 @@ ghost use Rattle.net_plan.specs.WellFormed.{StaysWellFormed};
 
 /// A signal has at most one value.
 pub fn values_are_unique()
-    ensures { (net : Net) (inputs : ℕ → Bool) (s : ℕ) (v w : Bool) → HasValue net inputs s v → HasValue net inputs s w → v ≡ w }
+    ensures { (net : Net) (inputs : ℕ → Bool) (s : ℕ) (v w : Bool) → HasValue net inputs s v → HasValue net inputs s w →
+        v ≡ w }
 {}
 
 /// Each signal of a netlist has a value.
 pub fn values_exist()
-    ensures { (net : Net) (inputs : ℕ → Bool) (s : ℕ) → IsNet net → s < length net.names → (v : Bool) × HasValue net inputs s v }
+    ensures { (net : Net) (inputs : ℕ → Bool) (s : ℕ) → IsNet net → s < length net.names →
+        (v : Bool) × HasValue net inputs s v }
 {}
 
 /// The steps of a netlist's signals go on with any well-formed plan.

@@ -55,7 +55,9 @@ fn push_signal(
     requires levels { length levels.now ≡ (net_of net.now).inputs }
     requires signals { length made.now ≡ length (net_of net.now).names }
     requires inside { signal < length (net_of net.now).names }
-    ensures { Drafts first steps.old.items steps.new.items (signal_draft (net_of net.now) levels.now first (record { steps = steps.old.items; made = made.now }) signal) result }
+    ensures { Drafts first steps.old.items steps.new.items
+        (signal_draft (net_of net.now) levels.now first
+        (record { steps = steps.old.items; made = made.now }) signal) result }
 {
     if signal < net.input_count() {
         return put_step(
@@ -86,10 +88,13 @@ fn push_signals(
     requires inside { (k : ℕ) → k < length visited.now → slice_index visited.now k < length (net_of net.now).names }
     requires few { first + length steps.old.items ≤ 1048576 }
     requires others { IsBlankBut visited.now 0 made.old.items }
-    ensures steps { Plans first steps.new.items (make_signals (net_of net.now) levels.now first (record { steps = steps.old.items; made = made.old.items }) visited.now).steps result }
+    ensures steps { Plans first steps.new.items (make_signals (net_of net.now) levels.now first
+        (record { steps = steps.old.items; made = made.old.items }) visited.now).steps result }
     ensures size { length made.new.items ≡ length made.old.items }
     ensures others { IsBlankBut visited.now 0 made.new.items }
-    ensures made { OnOk result (made.new.items ≡ (make_signals (net_of net.now) levels.now first (record { steps = steps.old.items; made = made.old.items }) visited.now).made) }
+    ensures made { OnOk result (made.new.items
+        ≡ (make_signals (net_of net.now) levels.now first
+        (record { steps = steps.old.items; made = made.old.items }) visited.now).made) }
 {
     for signal in visited {
         let number = push_signal(alloc, first, steps, net, levels, *signal, made.as_slice())?;
@@ -122,7 +127,8 @@ fn push_drops(
     requires kept { IsWanted (length made.now) wanted.now kept.now }
     requires inside { (k : ℕ) → k < length visited.now → slice_index visited.now k < length made.now }
     requires few { first + length steps.old.items ≤ 1048576 }
-    ensures { Plans first steps.new.items (steps.old.items ++ flat_map (drop_one wanted.now made.now) visited.now) result }
+    ensures { Plans first steps.new.items (steps.old.items ++ flat_map
+        (drop_one wanted.now made.now) visited.now) result }
 {
     for signal in visited {
         if !kept[*signal as usize] {

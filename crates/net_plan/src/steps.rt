@@ -58,7 +58,8 @@ pub(crate) fn join_steps(
     at: u32,
     other: u32,
 ) -> Result<u32, PlanFault>
-    ensures { Drafts first steps.old.items steps.new.items (join first op (record { steps = steps.old.items; at = at }) other) result }
+    ensures { Drafts first steps.old.items steps.new.items
+        (join first op (record { steps = steps.old.items; at = at }) other) result }
 {
     let made = put_step(
         first,

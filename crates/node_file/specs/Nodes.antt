@@ -18,7 +18,8 @@ identifier_at place bytes = slice_index (record_at 3 place bytes).w 0
 
 -- the node's level is below n, and its two pointers differ, each a truth value or a node of a deeper level
 abbrev pub is_sound : ℕ → Node → Bool
-is_sound n x = nat_lt (level_of x.uid) n && not (x.low == x.high) && nat_lt (level_of x.uid) (level_of x.low) && nat_lt (level_of x.uid) (level_of x.high)
+is_sound n x = nat_lt (level_of x.uid) n && not (x.low == x.high) && nat_lt (level_of x.uid) (level_of x.low) && nat_lt
+    (level_of x.uid) (level_of x.high)
 
 -- a whole record stands at that place, and it is that of this node, which may stand in a file for n variables
 pub record IsNodeAt (n place : ℕ) (bytes : List ℕ) (x : Node) : Type 0 where
@@ -42,8 +43,8 @@ pub record IsRoot (count root : ℕ) : Type 0 where
   pub none : count ≡ 0 → IsTerminal root
   pub some : 0 < count → IsNodeWord root
 
--- a trailer is a root, how many nodes there are, and n; the root is the identifier of the last node, or a truth value where there
--- is none
+-- a trailer is a root, how many nodes there are, and n; the root is the identifier of the last node, or a truth value
+-- where there is none
 pub record IsTrailer (n count root : ℕ) (trailer last : Rec) : Type 0 where
   pub root_is : slice_index trailer.w 0 ≡ root
   pub count_is : slice_index trailer.w 1 ≡ count

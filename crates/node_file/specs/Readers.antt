@@ -48,7 +48,8 @@ pub record Reads (r : NodeReader) (bytes : List ℕ) : Type 0 where
   pub loaded : stream.Reads r.nodes bytes
   pub last : IfSome r.given (λ g. identifier_at (left_of r) bytes ≡ g)
 
--- these nodes are not yet given: they may stand in a file for so many variables, and their identifiers descend to the one given last
+-- these nodes are not yet given: they may stand in a file for so many variables, and their identifiers descend to the
+-- one given last
 pub record AreLeft (r : NodeReader) (bytes : List ℕ) (xs : List Node) : Type 0 where
   pub behind : AreBehind IsNode node_words (stream.reading_of r.nodes) bytes xs
   pub proper : (x : Node) → Has x xs → IsProper r.trailer.n x
@@ -57,7 +58,8 @@ pub record AreLeft (r : NodeReader) (bytes : List ℕ) (xs : List Node) : Type 0
 
 -- a node is the next one from the end on, its identifier above the one before; None is answered at the front alone
 abbrev pub GoesUp : NodeReader → NodeReader → Result (Option Node) StreamFault → Type 0
-GoesUp old new (Ok (Some x)) = IsProper old.trailer.n x × (left_of old ≡ left_of new + 1) × IfSome old.given (λ g. g < x.uid) × (new.given ≡ Some x.uid)
+GoesUp old new (Ok (Some x)) = IsProper old.trailer.n x × (left_of old ≡ left_of new + 1)
+    × IfSome old.given (λ g. g < x.uid) × (new.given ≡ Some x.uid)
 GoesUp old new (Ok None) = (left_of old ≡ 0) × (left_of new ≡ 0) × (new.given ≡ old.given)
 GoesUp old new (Err e) = (0 < left_of old) × IsDamageOf (file_of old) e
 

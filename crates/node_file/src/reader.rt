@@ -105,7 +105,8 @@ impl<'r> NodeReader<'r> {
             let bytes = (file (S.world shelf.old) f).bytes in
             IsTrailerDamage n bytes e ⊎ IsMetBetween n place (length bytes / node_size - 1) bytes e) }
         ensures content { Told S.tells shelf.old shelf.new
-            (Looked (2 + (length (file (S.world shelf.old) f).bytes / node_size - 1 - place)) (S.world shelf.old) (S.world shelf.new)) }
+            (Looked (2 + (length (file (S.world shelf.old) f).bytes / node_size - 1 - place)) (S.world shelf.old)
+            (S.world shelf.new)) }
         ensures faults { OnlyShelf (S.faults shelf.old) (S.faults shelf.new) result }
     {
         let mut reader = NodeReader::start(f, n, window, shelf)?;
@@ -204,7 +205,8 @@ fn damaged_place(node: &Node, given: Option<u64>, place: u64, n: u32) -> Option<
     requires few { place < 2 ^ 63 }
     ensures { MatchOption result
         ((is_sound n node.now ≡ true) × IfSome given (λ g. g < node.now.uid))
-        (λ at. ((at ≡ place) × (is_sound n node.now ≡ false)) ⊎ ((at ≡ place + 1) × ((g : ℕ) × (given ≡ Some g) × (node.now.uid ≤ g)))) }
+        (λ at. ((at ≡ place) × (is_sound n node.now ≡ false)) ⊎
+        ((at ≡ place + 1) × ((g : ℕ) × (given ≡ Some g) × (node.now.uid ≤ g)))) }
 {
     if !is_sound_node(node, n) {
         return Some(place);

@@ -30,7 +30,8 @@ pub(crate) const ZERO_OF_TWO: &[u8; 24] = b"\x80\x00\x00\x00\x00\x00\x00\x00\
       \x00\x00\x00\x00\x00\x00\x00\x00\
       \x00\x00\x00\x00\x00\x00\x00\x02";
 
-/// The entry of a variable's step: its number, kind 1, a name of one letter, one node, one turn, and 3 as its next part.
+/// The entry of a variable's step: its number, kind 1, a name of one letter, one node, one turn, and 3 as its next
+/// part.
 pub(crate) fn entry(step: u8, name: u8) -> [u8; 128] {
     let mut bytes = [0; 128];
     bytes[3] = step;
@@ -43,7 +44,8 @@ pub(crate) fn entry(step: u8, name: u8) -> [u8; 128] {
     bytes
 }
 
-/// The files of a folder of three or four steps but for its gates and the first step's node file, and some that stay empty.
+/// The files of a folder of three or four steps but for its gates and the first step's node file, and some that stay
+/// empty.
 const FILES: [FileNo; 15] = [
     JOB,
     CATALOGUE,
@@ -62,7 +64,8 @@ const FILES: [FileNo; 15] = [
     FileNo { step: 4, part: 0 },
 ];
 
-/// Whether the files of two folders read alike, and their gates are as long: what the bytes of a gate are means nothing.
+/// Whether the files of two folders read alike, and their gates are as long: what the bytes of a gate are means
+/// nothing.
 pub(crate) fn same_files(a: &Bench, b: &Bench) -> bool {
     a.file(FIRST) == b.file(FIRST) && same_files_but_the_first(a, b)
 }

@@ -34,8 +34,10 @@ then_equal Equal = refl
 then_equal Greater = refl
 
 -- the order of nodes is that of their words
-pub node_order : (x y : Node) → ordering_then (nat_cmp x.uid y.uid) (ordering_then (nat_cmp x.low y.low) (nat_cmp x.high y.high)) ≡ slice_cmp nat_cmp (node_words x) (node_words y)
-node_order x y = ap (λ o. ordering_then (nat_cmp x.uid y.uid) (ordering_then (nat_cmp x.low y.low) o)) (then_equal (nat_cmp x.high y.high))
+pub node_order : (x y : Node) → ordering_then (nat_cmp x.uid y.uid)
+    (ordering_then (nat_cmp x.low y.low) (nat_cmp x.high y.high)) ≡ slice_cmp nat_cmp (node_words x) (node_words y)
+node_order x y = ap (λ o. ordering_then (nat_cmp x.uid y.uid) (ordering_then (nat_cmp x.low y.low) o))
+    (then_equal (nat_cmp x.high y.high))
 
 -- pointers fit 64 bits
 pub pointer_fits : (w : ℕ) → IsPointer w → w < 2 ^ 64

@@ -5,7 +5,8 @@ use bool_tables::{Bin, Planned, Step};
 use script_reader::{LineEnd, ScriptKind};
 use std::alloc::{AllocError, Global};
 
-/// Two inputs, `a` and `b`, their conjunction `f`, the complement `g` of the first, and `h`, which has rows of output 0.
+/// Two inputs, `a` and `b`, their conjunction `f`, the complement `g` of the first, and `h`, which has rows of output
+/// 0.
 const NET: &str =
     ".model m\n.inputs a b\n.outputs f g\n.names a b f\n11 1\n.names a g\n0 1\n.names b h\n1 0\n.end\n";
 

@@ -115,7 +115,8 @@ put_plan s number names steps made =
 abbrev pub plan_signals : State → ℕ → List Word → Net → List ℕ → List ℕ → Result State ScriptKind
 plan_signals s number names net levels wanted =
     names_fit s names >>= λ _.
-    put_plan s number names (plan_steps net levels wanted (length s.steps)) (plan_made net levels wanted (length s.steps))
+    put_plan s number names (plan_steps net levels wanted (length s.steps))
+    (plan_made net levels wanted (length s.steps))
 
 -- a line that asks for signals: none twice, each is one of the netlist's, and each input of it is a variable
 abbrev pub plan_net : Option Net → State → ℕ → List Word → Result State ScriptKind

@@ -53,7 +53,8 @@ keyword_in known s words =
 
 -- a line with words: what is known behind it, or its first fault
 abbrev pub plan_words : List (List ℕ) → Option blif.Net → State → ℕ → List Word → Result State ScriptKind
-plan_words known netlist s number words = keyword_in known s words >>= λ k. plan_request netlist (begin s) number k words
+plan_words known netlist s number words = keyword_in known s words >>= λ k. plan_request netlist
+    (begin s) number k words
 
 -- a line, by its words; one without words means nothing
 abbrev pub plan_line : List (List ℕ) → Option blif.Net → State → ℕ → List Word → Result State ScriptKind
@@ -66,7 +67,8 @@ behind known netlist (Ok s) line = on_line line.number (plan_line known netlist 
 behind known netlist (Err fault) line = Err fault
 
 -- lines behind others, up to the first fault
-abbrev pub plan_lines : List (List ℕ) → Option blif.Net → Result State ScriptFault → List Line → Result State ScriptFault
+abbrev pub plan_lines : List (List ℕ) → Option blif.Net → Result State ScriptFault → List Line
+    → Result State ScriptFault
 plan_lines known netlist before [] = before
 plan_lines known netlist before (line ∷ lines) = plan_lines known netlist (behind known netlist before line) lines
 

@@ -133,7 +133,8 @@ pub record StandsStill (old new : Bench) : Type 0 where
 pub record StandsStillBut (f : FileNo) (old new : Bench) : Type 0 where
   pub tells_is : tells_of new ≡ tells_of old
   pub clock_is : clock_of new ≡ clock_of old
-  pub moments_are : IsTrue (tells_of old) → (k : ℕ) → k < clock_of old → (world_of new).moment k ≡ (world_of old).moment k
+  pub moments_are : IsTrue (tells_of old) → (k : ℕ) → k < clock_of old
+      → (world_of new).moment k ≡ (world_of old).moment k
   pub told_are : IsTrue (tells_of old) → SameBut f (world_of old) (world_of new)
   pub told_said : IsTrue (tells_of old) → (now (world_of new)).said ≡ (now (world_of old)).said
   pub inside_is : (world_of new).inside ≡ (world_of old).inside

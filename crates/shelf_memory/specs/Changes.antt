@@ -13,7 +13,12 @@ file_of stored = record { bytes = stored.bytes.items; firm = stored.firm; reach 
 -- the file after a change: what failed puts no bytes and cuts none
 abbrev pub changed : Change → File → File
 changed (Appended piece) file = appended piece.items file
-changed (Torn count) file = record { bytes = file.bytes; firm = file.firm; reach = max file.reach (length file.bytes + count) }
+changed (Torn count) file = record {
+  bytes = file.bytes;
+  firm = file.firm;
+  reach = max file.reach
+      (length file.bytes + count);
+}
 changed (Cut to) file = cut_to to file
 changed (Loosened to) file = record { bytes = file.bytes; firm = min file.firm to; reach = file.reach }
 changed Synced file = firm_file file.bytes

@@ -19,4 +19,5 @@ chosen_of Firm f file = sure_of file
 chosen_of Present f file = file.bytes
 chosen_of (Fill byte) f file = filled_of byte file
 chosen_of (Mixed number) f file =
-    cond ((f.step + f.part + number) % 3 == 0) (sure_of file) (cond ((f.step + f.part + number) % 3 == 1) file.bytes (filled_of 255 file))
+    cond ((f.step + f.part + number) % 3 == 0) (sure_of file)
+    (cond ((f.step + f.part + number) % 3 == 1) file.bytes (filled_of 255 file))

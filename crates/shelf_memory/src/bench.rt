@@ -110,7 +110,12 @@ impl Bench {
     ///
     /// It takes the place of the file that was watched before. It takes no memory.
     pub fn fail_when(&mut self, f: FileNo, size: u64)
-        ensures watch { watch_of self.new ≡ Some (record { file = f; size = size; met = nat_le size (length (file_at self.old f).bytes) }) }
+        ensures watch { watch_of self.new ≡ Some (record {
+          file = f;
+          size = size;
+          met = nat_le size
+              (length (file_at self.old f).bytes);
+        }) }
         ensures lists { (n : ℕ) → lists self.new n ≡ lists self.old n }
         ensures still { StandsStill self.old self.new }
         ensures texts { SameTexts self.old self.new }
@@ -162,7 +167,8 @@ impl Bench {
 
     // A call that reaches for the folder and changes nothing.
     pub(crate) fn look(&mut self, fails: bool) -> Result<(), Failed>
-        ensures content { Told tells_of self.old self.new (OnShelf (world_of self.old) (world_of self.new) × (now (world_of self.new) ≡ now (world_of self.old))) }
+        ensures content { Told tells_of self.old self.new
+            (OnShelf (world_of self.old) (world_of self.new) × (now (world_of self.new) ≡ now (world_of self.old))) }
         ensures faults { OnlyFolder (faults_of self.old) (faults_of self.new) result }
         ensures exactly { FailsExactly (IsTrue fails) result self.old self.new }
     {
@@ -175,7 +181,8 @@ impl Bench {
     pub(crate) fn reach(&mut self, f: FileNo, change: Change, fails: bool) -> Result<(), Failed>
         requires fits { FitsIn change (stored_in self.old.disk.files f) }
         requires harmless { IsTrue fails → (changed change (file_at self.old f)).bytes ≡ (file_at self.old f).bytes }
-        ensures content { Told tells_of self.old self.new (OnShelf (world_of self.old) (world_of self.new) × SameBut f (world_of self.old) (world_of self.new)
+        ensures content { Told tells_of self.old self.new
+            (OnShelf (world_of self.old) (world_of self.new) × SameBut f (world_of self.old) (world_of self.new)
             × (file (world_of self.new) f ≡ changed change (file (world_of self.old) f))) }
         ensures faults { OnlyFolder (faults_of self.old) (faults_of self.new) result }
         ensures exactly { FailsExactly (IsTrue fails) result self.old self.new }
@@ -188,7 +195,8 @@ impl Bench {
     // A call that puts a piece at the end of a file.
     pub(crate) fn put(&mut self, f: FileNo, piece: &[u8]) -> Result<(), Failed>
         requires { length (file_at self.old f).bytes + length piece.now ≤ longest }
-        ensures content { Told tells_of self.old self.new (OnShelf (world_of self.old) (world_of self.new) × SameBut f (world_of self.old) (world_of self.new)
+        ensures content { Told tells_of self.old self.new
+            (OnShelf (world_of self.old) (world_of self.new) × SameBut f (world_of self.old) (world_of self.new)
             × (file (world_of self.new) f ≡ appended piece.now (file (world_of self.old) f))) }
         ensures faults { OnlyFolder (faults_of self.old) (faults_of self.new) result }
         ensures exactly { FailsExactly (IsTrue false) result self.old self.new }

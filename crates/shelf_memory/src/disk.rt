@@ -122,7 +122,8 @@ impl Disk {
         ensures err { OnErr result (Stays self.old self.new × (self.new.events.items ≡ self.old.events.items)) }
         ensures others { StaysBut f self.old self.new }
         ensures clock { self.new.clock ≡ self.old.clock }
-        ensures past { self.old.clock < 2 ^ 64 - 1 → (k : ℕ) → k < self.old.clock → moment_of self.new.events.items k ≡ moment_of self.old.events.items k }
+        ensures past { self.old.clock < 2 ^ 64 - 1 → (k : ℕ) → k < self.old.clock →
+            moment_of self.new.events.items k ≡ moment_of self.old.events.items k }
     {
         let stored = Stored::firm(self.alloc, bytes)?;
         let copy = Vec::from_slice(self.alloc, bytes)?;
@@ -139,10 +140,13 @@ impl Disk {
     fn note(&mut self, was: u64, call: Call)
         requires reserved { vec_len self.old.events < vec_capacity self.old.events }
         requires dark { self.old.clock ≡ 2 ^ 64 - 1 }
-        requires agrees { was + 1 < 2 ^ 64 - 1 → Agrees (was + 1) (stored_in self.old.files) self.old.said.items (self.old.events.items ++ Called call ∷ []) }
+        requires agrees { was + 1 < 2 ^ 64 - 1 →
+            Agrees (was + 1) (stored_in self.old.files) self.old.said.items
+            (self.old.events.items ++ Called call ∷ []) }
         ensures stays { Stays self.old self.new }
         ensures clock { self.new.clock ≡ min (was + 1) (2 ^ 64 - 1) }
-        ensures events { self.new.clock < 2 ^ 64 - 1 → self.new.events.items ≡ self.old.events.items ++ Called call ∷ [] }
+        ensures events { self.new.clock < 2 ^ 64 - 1 →
+            self.new.events.items ≡ self.old.events.items ++ Called call ∷ [] }
     {
         if was < u64::MAX - 1 {
             self.events.push_reserved(Event::Called(call));

@@ -34,7 +34,8 @@ impl Shelf for Bench {
     }
 
     fn read_at(&mut self, f: FileNo, at: u64, buf: &mut [u8]) -> Result<usize, Failed>
-        ensures content { Told tells_of self.old self.new (DidRead f at buf.old buf.new result (world_of self.old) (world_of self.new)) }
+        ensures content { Told tells_of self.old self.new
+            (DidRead f at buf.old buf.new result (world_of self.old) (world_of self.new)) }
         ensures faults { OnlyFolder (faults_of self.old) (faults_of self.new) result }
         ensures most { IfOk result (λ k. k ≤ length buf.old) }
         ensures exactly { FailsExactly (IsTrue (fails_next self.old)) result self.old self.new }
@@ -47,10 +48,12 @@ impl Shelf for Bench {
     fn append(&mut self, f: FileNo, at: u64, bytes: &[u8]) -> Result<(), Failed>
         requires small { (0 < length bytes.now) × (length bytes.now ≤ most_piece) }
         requires at_end { IsTrue (tells_of self.old) → at ≡ length (file (world_of self.old) f).bytes }
-        ensures content { Told tells_of self.old self.new (Appended f bytes.now result (world_of self.old) (world_of self.new)) }
+        ensures content { Told tells_of self.old self.new
+            (Appended f bytes.now result (world_of self.old) (world_of self.new)) }
         ensures faults { OnlyFolder (faults_of self.old) (faults_of self.new) result }
         ensures most { longest < at + length bytes.now → IsErr result }
-        ensures exactly { FailsExactly (IsTrue (fails_next self.old) ⊎ (longest < max at (length (file_at self.old f).bytes) + length bytes.now)) result self.old self.new }
+        ensures exactly { FailsExactly (IsTrue (fails_next self.old) ⊎
+            (longest < max at (length (file_at self.old f).bytes) + length bytes.now)) result self.old self.new }
     {
         let fails = self.fails_next();
         let size = bytes_of(&self.disk.files, f).len() as u64;

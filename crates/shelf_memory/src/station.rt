@@ -15,7 +15,8 @@ impl Station for Bench {
     ghost use Rattle.shelf_memory.specs.Texts.{text_at};
 
     fn enter(&mut self, path: &str) -> Result<(), Failed>
-        ensures content { Told tells_of self.old self.new (Entered path.now result (world_of self.old) (world_of self.new)) }
+        ensures content { Told tells_of self.old self.new
+            (Entered path.now result (world_of self.old) (world_of self.new)) }
         ensures faults { OnlyFolder (faults_of self.old) (faults_of self.new) result }
         ensures exactly { FailsExactly (IsTrue (fails_next self.old)) result self.old self.new }
     {
@@ -27,11 +28,14 @@ impl Station for Bench {
     }
 
     fn fetch(&mut self, path: &str, at: u64, buf: &mut [u8]) -> Result<usize, Failed>
-        ensures content { Told tells_of self.old self.new (Fetched path.now at buf.old buf.new result (world_of self.old) (world_of self.new)) }
+        ensures content { Told tells_of self.old self.new
+            (Fetched path.now at buf.old buf.new result (world_of self.old) (world_of self.new)) }
         ensures faults { OnlyText path.now (faults_of self.old) (faults_of self.new) result }
-        ensures others { IsTrue (tells_of self.new) → OtherTextsSame path.now (world_of self.old) (faults_of self.old) (faults_of self.new) }
+        ensures others { IsTrue (tells_of self.new) →
+            OtherTextsSame path.now (world_of self.old) (faults_of self.old) (faults_of self.new) }
         ensures most { IfOk result (λ k. k ≤ length buf.old) }
-        ensures exactly { FailsExactly (IsTrue (fails_next self.old) ⊎ (text_at self.old.texts path.now ≡ None)) result self.old self.new }
+        ensures exactly { FailsExactly (IsTrue (fails_next self.old) ⊎
+            (text_at self.old.texts path.now ≡ None)) result self.old self.new }
     {
         let fails = self.fails_next();
         let refused = self.disk.keep().is_err();
@@ -47,7 +51,8 @@ impl Station for Bench {
     }
 
     fn say(&mut self, bytes: &[u8]) -> Result<(), Failed>
-        ensures content { Told tells_of self.old self.new (Said bytes.now result (world_of self.old) (world_of self.new)) }
+        ensures content { Told tells_of self.old self.new
+            (Said bytes.now result (world_of self.old) (world_of self.new)) }
         ensures faults { OnlySay (faults_of self.old) (faults_of self.new) result }
         ensures exactly { FailsExactly (IsTrue (fails_next self.old)) result self.old self.new }
     {
@@ -69,7 +74,8 @@ impl Bench {
 
     // A saying that fails, and says nothing.
     fn keep_silent(&mut self) -> Result<(), Failed>
-        ensures content { Told tells_of self.old self.new (Elsewhere (world_of self.old) (world_of self.new) × (now (world_of self.new) ≡ now (world_of self.old))) }
+        ensures content { Told tells_of self.old self.new
+            (Elsewhere (world_of self.old) (world_of self.new) × (now (world_of self.new) ≡ now (world_of self.old))) }
         ensures faults { OnlySay (faults_of self.old) (faults_of self.new) result }
         ensures exactly { FailsExactly Unit result self.old self.new }
     {

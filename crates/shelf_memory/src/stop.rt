@@ -21,10 +21,14 @@ impl Bench {
     /// The next life over what a stop leaves: the same texts, and the files as the choice takes them, all firm.
     pub fn stop(self, choice: Choice) -> Result<Bench, AllocError>
         ensures fresh { IfOk result (λ next. IsFresh next) }
-        ensures files { IfOk result (λ next. (f : FileNo) → file (world_of next) f ≡ firm_file (chosen_of choice f (file_at self f))) }
-        ensures told { IfOk result (λ next. IsTrue (tells_of self) → (f : FileNo) → file (world_of next) f ≡ firm_file (chosen_of choice f (file (world_of self) f))) }
-        ensures texts { IfOk result (λ next. (path : List ℕ) → (world_of next).texts path ≡ (world_of self).texts path) }
-        ensures image { IfOk result (λ next. IsTrue (tells_of self) → (image : Image) × IsImage (now (world_of self)).folder image
+        ensures files { IfOk result (λ next. (f : FileNo) →
+            file (world_of next) f ≡ firm_file (chosen_of choice f (file_at self f))) }
+        ensures told { IfOk result (λ next. IsTrue (tells_of self) → (f : FileNo) →
+            file (world_of next) f ≡ firm_file (chosen_of choice f (file (world_of self) f))) }
+        ensures texts { IfOk result (λ next. (path : List ℕ) →
+            (world_of next).texts path ≡ (world_of self).texts path) }
+        ensures image { IfOk result (λ next. IsTrue (tells_of self) →
+            (image : Image) × IsImage (now (world_of self)).folder image
             × ((f : FileNo) → file (world_of next) f ≡ firm_file (bytes_in image f))) }
     {
         let mut next = Bench::empty(self.alloc);
@@ -56,7 +60,8 @@ impl Bench {
         requires fresh { IsFresh self.old }
         requires files { (f : FileNo) → file_at self.old f ≡ no_file }
         ensures fresh { OnOk result (IsFresh self.new) }
-        ensures files { OnOk result ((f : FileNo) → file_at self.new f ≡ firm_file (chosen_of choice f (stored_in files.now f))) }
+        ensures files { OnOk result ((f : FileNo) →
+            file_at self.new f ≡ firm_file (chosen_of choice f (stored_in files.now f))) }
         ensures texts { SameTexts self.old self.new }
     {
         for (f, stored) in files {

@@ -69,7 +69,8 @@ pub fn count_fault(texts: &mut BTreeMap<String, Text>, others: &mut u64, path: &
     ensures texts { (q : List ℕ) → text_at texts.new q ≡ text_at texts.old q }
     ensures here { count_at others.new texts.new path.now ≡ raised true (count_at others.old texts.old path.now) }
     ensures later { (q : List ℕ) → count_at others.old texts.old q ≤ count_at others.new texts.new q }
-    ensures apart { (q : List ℕ) → q ≢ path.now → IsTrue (is_some (text_at texts.old q)) → count_at others.new texts.new q ≡ count_at others.old texts.old q }
+    ensures apart { (q : List ℕ) → q ≢ path.now → IsTrue (is_some (text_at texts.old q)) →
+        count_at others.new texts.new q ≡ count_at others.old texts.old q }
 {
     match texts.get_mut(path) {
         Some(text) => text.faults = raise(true, text.faults),

@@ -52,7 +52,8 @@ pub record Measured (f : FileNo) (result : Result ℕ Failed) (old new : World) 
   pub same : now new ≡ now old
   pub ok : IfOk result (λ n. n ≡ length (file old f).bytes)
 
-pub record DidRead (f : FileNo) (at : ℕ) (before after : List ℕ) (result : Result ℕ Failed) (old new : World) : Type 0 where
+pub record DidRead (f : FileNo) (at : ℕ) (before after : List ℕ) (result : Result ℕ Failed)
+    (old new : World) : Type 0 where
   pub shelf : OnShelf old new
   pub same : now new ≡ now old
   pub ok : IfOk result (Copied (file old f).bytes at before after)
@@ -62,7 +63,8 @@ pub record Appended (f : FileNo) (piece : List ℕ) (result : Result Unit Failed
   pub shelf : OnShelf old new
   pub others : SameBut f old new
   pub ok : OnOk result (file new f ≡ appended piece (file old f))
-  pub failed : OnErr result (length (file old f).bytes + length piece ≤ longest → TornAppend (length piece) (file old f) (file new f))
+  pub failed : OnErr result (length (file old f).bytes + length piece ≤ longest
+      → TornAppend (length piece) (file old f) (file new f))
   pub refused : longest < length (file old f).bytes + length piece → now new ≡ now old
 
 pub record WasCut (f : FileNo) (to : ℕ) (result : Result Unit Failed) (old new : World) : Type 0 where
@@ -98,7 +100,8 @@ pub record Elsewhere (old new : World) : Type 0 where
   pub strays_are : new.strays ≡ old.strays
 
 -- a path without a text can't be fetched
-pub record Fetched (path : List ℕ) (at : ℕ) (before after : List ℕ) (result : Result ℕ Failed) (old new : World) : Type 0 where
+pub record Fetched (path : List ℕ) (at : ℕ) (before after : List ℕ) (result : Result ℕ Failed)
+    (old new : World) : Type 0 where
   pub elsewhere : Elsewhere old new
   pub said_is : (now new).said ≡ (now old).said
   pub ok : IfOk result (λ k. (text : List ℕ) × (old.texts path ≡ Some text) × Copied text at before after k)
@@ -107,4 +110,5 @@ pub record Fetched (path : List ℕ) (at : ℕ) (before after : List ℕ) (resul
 pub record Said (piece : List ℕ) (result : Result Unit Failed) (old new : World) : Type 0 where
   pub elsewhere : Elsewhere old new
   pub ok : OnOk result ((now new).said ≡ (now old).said ++ piece)
-  pub failed : OnErr result ((front : List ℕ) × (rest : List ℕ) × (piece ≡ front ++ rest) × ((now new).said ≡ (now old).said ++ front))
+  pub failed : OnErr result ((front : List ℕ) × (rest : List ℕ) × (piece ≡ front ++ rest)
+      × ((now new).said ≡ (now old).said ++ front))

@@ -22,7 +22,8 @@ Image = FinMap file_cmp (List ℕ)
 abbrev pub file_in : Folder → FileNo → File
 file_in folder f = unwrap_or (get folder f) no_file
 
--- every file outside these is as it was: where one file may change, `OnlyChanges (λ q. q ≡ f)` says `q ≢ f` of the others
+-- every file outside these is as it was: where one file may change, `OnlyChanges (λ q. q ≡ f)` says `q ≢ f` of the
+-- others
 abbrev pub OnlyChanges : (FileNo → Type 0) → Folder → Folder → Type 0
 OnlyChanges these old new = (f : FileNo) → ¬ (these f) → file_in new f ≡ file_in old f
 

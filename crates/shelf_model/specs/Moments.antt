@@ -27,8 +27,9 @@ InEveryImage P m = (image : Image) → IsImage m.folder image → P m.said image
 abbrev pub Stays : Moment → Moment → Type 0
 Stays old m = m.folder ≡ old.folder
 
--- at that moment every file outside these is as it was then; `proofs/Changing` joins runs of it and widens it, so that a
--- crate's own relation is an instance, as `OnlyFile f = OnlyChanged (λ q. q ≡ f)` or `OnlyTaken before after = OnlyChanged (IsTaken before after)`
+-- at that moment every file outside these is as it was then; `proofs/Changing` joins runs of it and widens it, so that
+-- a crate's own relation is an instance, as `OnlyFile f = OnlyChanged (λ q. q ≡ f)` or `OnlyTaken before after =
+-- OnlyChanged (IsTaken before after)`
 abbrev pub OnlyChanged : (FileNo → Type 0) → Moment → Moment → Type 0
 OnlyChanged these old m = OnlyChanges these old.folder m.folder
 

@@ -37,7 +37,8 @@ pub trait Shelf {
     /// fewer where the file ends.
     fn read_at(&mut self, f: FileNo, at: u64, buf: &mut [u8]) -> Result<usize, Failed>
         requires small { (0 < length buf.old) × (length buf.old ≤ most_piece) }
-        ensures content { Told tells self.old self.new (DidRead f at buf.old buf.new result (world self.old) (world self.new)) }
+        ensures content { Told tells self.old self.new
+            (DidRead f at buf.old buf.new result (world self.old) (world self.new)) }
         ensures faults { OnlyFolder (faults self.old) (faults self.new) result }
         ensures most { IfOk result (λ k. k ≤ length buf.old) };
 

@@ -27,7 +27,8 @@ kind_of (Size operand) = 3
 abbrev pub bit_of : Bool → ℕ
 bit_of value = if value then 1 else 0
 
--- whether two functions are equal, whether one implies the other, or a function's value; 0 where nothing of that kind is asked
+-- whether two functions are equal, whether one implies the other, or a function's value; 0 where nothing of that kind
+-- is asked
 abbrev pub answer_of : Job → Step → ℕ
 answer_of job (Const value) = 0
 answer_of job (Var level) = 0
@@ -59,8 +60,9 @@ count_of job k (Size operand) = nodes_at job operand
 abbrev pub name_of : Job → Planned → List ℕ
 name_of job planned = if makes_diagram planned.step then take planned.name_len (drop planned.name_at job.text) else []
 
--- 16 turns for each node of the operands, and for one more: the work of a step that compares no nodes level by level, which are a
--- constant, a variable, a drop, a size, an equality and a value. Of the other steps it lacks the tuples of nodes that their sweeps visit
+-- 16 turns for each node of the operands, and for one more: the work of a step that compares no nodes level by level,
+-- which are a constant, a variable, a drop, a size, an equality and a value. Of the other steps it lacks the tuples of
+-- nodes that their sweeps visit
 abbrev pub work_of : Job → Step → ℕ
 work_of job step = 16 * (sum_by (nodes_at job) (operands step) + 1)
 

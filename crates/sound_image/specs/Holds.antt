@@ -18,7 +18,8 @@ pub record KeepsEntries (job : Job) (count : ℕ) (folder : Folder) : Type 0 whe
   pub front : List ℕ
   pub size : length front ≡ 128 * count
   pub kept : IsKept front (file_in folder catalogue)
-  pub each : (k : ℕ) → k < count → (e : Entry) × IsEntryOfStep job k e × (take 128 (drop (128 * k) front) ≡ entry_bytes e)
+  pub each : (k : ℕ) → k < count → (e : Entry) × IsEntryOfStep job k e ×
+      (take 128 (drop (128 * k) front) ≡ entry_bytes e)
 
 -- the job is stored, so many of its steps are committed, and nothing of them is pending
 pub record Holds (job : Job) (count : ℕ) (folder : Folder) : Type 0 where
@@ -26,12 +27,14 @@ pub record Holds (job : Job) (count : ℕ) (folder : Folder) : Type 0 where
   pub ready : IsReady count folder
   pub few : count ≤ length job.steps
   pub entries : KeepsEntries job count folder
-  pub files : (s : ℕ) → IsTrue (is_live (take count job.steps) s) → file_in folder (node_file s) ≡ firm_file (file_of job s)
+  pub files : (s : ℕ) → IsTrue (is_live (take count job.steps) s)
+      → file_in folder (node_file s) ≡ firm_file (file_of job s)
   pub gates : (s : ℕ) → s < length job.steps → file_in folder (checkpoint_gate s) ≡ no_file
 
 -- the step's own file, where it makes a diagram
 abbrev pub IsMade : Job → ℕ → Folder → Type 0
-IsMade job k folder = IsTrue (makes_diagram (step_at job k).step) → file_in folder (node_file k) ≡ firm_file (file_of job k)
+IsMade job k folder = IsTrue (makes_diagram (step_at job k).step)
+    → file_in folder (node_file k) ≡ firm_file (file_of job k)
 
 -- every file but the node file of a step is as it was
 abbrev pub OnlyNodeFile : ℕ → Folder → Folder → Type 0

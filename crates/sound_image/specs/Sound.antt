@@ -1,4 +1,5 @@
--- What an image shows of a job, and which images are sound for it. An image is taken by its reading, the bytes of each file.
+-- What an image shows of a job, and which images are sound for it. An image is taken by its reading, the bytes of each
+-- file.
 use Rattle.std.specs.Prelude.{◌≡◌, ◌⊎◌, ℕ, ◌<◌, ◌≤◌, false, IsTrue, List, [], length, take}
 use Rattle.bool_tables.specs.Plans.{is_live}
 use Rattle.shelf_model.specs.declared.file_no.FileNo.{FileNo}

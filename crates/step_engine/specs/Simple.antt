@@ -21,7 +21,8 @@ takes_one_turn (Leq left right) = false
 takes_one_turn (Eval operand at) = false
 takes_one_turn (Size operand) = true
 
--- the step may be run under that number: it names earlier steps and levels of n variables, and its name stands in the text
+-- the step may be run under that number: it names earlier steps and levels of n variables, and its name stands in the
+-- text
 pub record MayRun (n : ℕ) (text : List ℕ) (number : ℕ) (p : Planned) : Type 0 where
   pub few_variables : n ≤ 65535
   pub few_steps : number < 1048576

@@ -22,7 +22,17 @@ diagram_entry text p number nodes = record {
 -- a drop or an answer of that kind, which counts so much and has no name
 abbrev pub nameless_entry : ℕ → ℕ → ℕ → Entry
 nameless_entry number kind count =
-    record { number = number; kind = kind; answer = 0; count = count; turns = 1; parts = 3; name_len = 0; name = replicate 63 0 }
+    record {
+      number = number;
+      kind = kind;
+      answer = 0;
+      count = count;
+      turns = 1;
+      parts = 3;
+      name_len = 0;
+      name =
+          replicate 63 0;
+    }
 
 -- an entry that can be committed for a step under that number, whatever the folder holds
 pub record IsEntryFor (step : Step) (number : ℕ) (e : Entry) : Type 0 where

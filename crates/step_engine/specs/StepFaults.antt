@@ -16,7 +16,8 @@ use Rattle.catalogue.specs.Entries.{IsEntryOf}
 -- the entry of step k is damaged where no entry of that step and of that kind stands whole at its place
 abbrev pub IsKindFault : ℕ → ℕ → (FileNo → List ℕ) → StreamFault → Type 0
 IsKindFault k kind r stream.Shelf = Unit
-IsKindFault k kind r (stream.Damaged f at) = (f ≡ catalogue) × (at ≡ 128 * k) × ((e : Entry) → IsEntryOf k r e → e.kind ≢ kind)
+IsKindFault k kind r (stream.Damaged f at) = (f ≡ catalogue) × (at ≡ 128 * k)
+    × ((e : Entry) → IsEntryOf k r e → e.kind ≢ kind)
 
 -- a size finds the entry of its diagram damaged, and for any other step a call of the folder failed
 abbrev pub IsStepFault : Step → (FileNo → List ℕ) → SortFault → Type 0

@@ -6,7 +6,8 @@ ghost use Rattle.step_engine.specs.StepEntries.{diagram_entry, nameless_entry};
 use bool_tables::Planned;
 use catalogue::Entry;
 
-/// The next part number of a step that took none: the parts before it are the node file, the checkpoints and their gate.
+/// The next part number of a step that took none: the parts before it are the node file, the checkpoints and their
+/// gate.
 const FIRST_PART: u64 = 3;
 
 /// The entry of a diagram with so many nodes.

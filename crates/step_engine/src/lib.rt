@@ -1,4 +1,5 @@
-//! The steps of a plan, one at a time: a step is run, its caller commits its entry, and what it leaves behind is tidied up.
+//! The steps of a plan, one at a time: a step is run, its caller commits its entry, and what it leaves behind is tidied
+//! up.
 #![tactic(auto)]
 
 mod diagrams;

@@ -42,12 +42,15 @@ pub fn run_step<S: Shelf>(
     ensures calls { IsTrue (S.tells shelf.new)
         → (S.world shelf.new).clock ≤ (S.world shelf.old).clock + 5 }
     ensures fits { IfOk result (IsEntryFor planned.now.step number) }
-    ensures entry { IfOk result (λ e. IsTrue (S.tells shelf.new) → (job : Job) → IsStepOf job n text.now number planned.now →
+    ensures entry { IfOk result (λ e. IsTrue (S.tells shelf.new) → (job : Job) →
+        IsStepOf job n text.now number planned.now →
         ((of : ℕ) → planned.now.step ≡ variants.Size of → Holds job number (now (S.world shelf.old)).folder) →
         IsEntryOfStep job number e) }
-    ensures made { IfOk result (λ e. IsTrue (S.tells shelf.new) → (job : Job) → IsStepOf job n text.now number planned.now →
+    ensures made { IfOk result (λ e. IsTrue (S.tells shelf.new) → (job : Job) →
+        IsStepOf job n text.now number planned.now →
         IsMade job number (now (S.world shelf.new)).folder) }
-    ensures sound { IfErr result (λ fault. IsTrue (S.tells shelf.new) → (job : Job) → IsStepOf job n text.now number planned.now →
+    ensures sound { IfErr result (λ fault. IsTrue (S.tells shelf.new) → (job : Job) →
+        IsStepOf job n text.now number planned.now →
         Holds job number (now (S.world shelf.old)).folder → fault ≡ sort.Shelf) }
     ensures damaged { IfErr result (λ fault. IsTrue (S.tells shelf.new) →
         IsStepFault planned.now.step (present (now (S.world shelf.new)).folder) fault) }

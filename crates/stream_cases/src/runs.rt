@@ -53,8 +53,8 @@ fn merge_four<S: Shelf>(shelf: &mut S) -> Result<u64, StreamFault> {
     Ok(merged.end)
 }
 
-// Whether four runs are one with their keys in turn. The calls that made it: 13 that read each run by eights, one that cut
-// the file, and 13 that wrote it by pieces of 32.
+// Whether four runs are one with their keys in turn. The calls that made it: 13 that read each run by eights, one that
+// cut the file, and 13 that wrote it by pieces of 32.
 fn merges_in_turn(bench: &mut Bench) -> Result<bool, Fail> {
     write_run(FIRST, 2, bench)?;
     write_run(SECOND, 0, bench)?;

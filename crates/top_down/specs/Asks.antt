@@ -1,4 +1,5 @@
--- the arcs that a sweep from the root to the leaves has made, the asks that are open, and the identifiers that it has used
+-- the arcs that a sweep from the root to the leaves has made, the asks that are open, and the identifiers that it has
+-- used
 use Rattle.std.specs.Prelude.{◌≡◌, ◌⊎◌, ◌+◌, ◌*◌, ◌<◌, ◌≤◌, ◌==◌, ℕ, suc, Bool, true, false, cond, List, [], ◌∷◌, ◌++◌, length}
 use Rattle.rec_words.specs.Words.{terminal, node_word, level_of}
 use Rattle.canon_file.specs.Members.{Has}
@@ -37,11 +38,13 @@ AreNumbered (s ∷ used) = (s ≡ next_identifier used (level_of s)) × IsUpTo u
 -- the source has an arc or an ask on that side
 abbrev pub IsServed : List Arc → List Arc → List Ask → ℕ → Bool → Type 0
 IsServed inner ends asks s side =
-    ((a : Arc) × (Has a inner ⊎ Has a ends) × (a.source ≡ s) × (a.high ≡ side)) ⊎ ((e : Ask) × Has e asks × (e.source ≡ s) × (e.high ≡ side))
+    ((a : Arc) × (Has a inner ⊎ Has a ends) × (a.source ≡ s) × (a.high ≡ side))
+    ⊎ ((e : Ask) × Has e asks × (e.source ≡ s) × (e.high ≡ side))
 
 -- what a sweep has made: the arcs to nodes and those to truth values, the asks that are open, and the identifiers
 -- that are used, where tuple tells which tuple each of them answers
-pub record Grows (n root : ℕ) (rule : Rule) (targets : Targets) (inner ends : List Arc) (asks : List Ask) (used : List ℕ) (tuple : ℕ → Tuple) : Type 0 where
+pub record Grows (n root : ℕ) (rule : Rule) (targets : Targets) (inner ends : List Arc) (asks : List Ask)
+    (used : List ℕ) (tuple : ℕ → Tuple) : Type 0 where
   -- the root is used, and each other identifier is the target of an arc
   pub begins : Has root used
   pub met : (s : ℕ) → Has s used → (root ≡ s) ⊎ ((a : Arc) × Has a inner × (a.target ≡ s))
@@ -58,7 +61,8 @@ pub record Grows (n root : ℕ) (rule : Rule) (targets : Targets) (inner ends : 
       × (rule.goal (below_on rule targets a.high (tuple a.source)) ≡ Go (tuple a.target))
   pub end_right : (a : Arc) → Has a ends → (value : Bool) × Has a.source used × (a.target ≡ terminal value)
       × (rule.goal (below_on rule targets a.high (tuple a.source)) ≡ End value)
-  pub ask_right : (e : Ask) → Has e asks → Has e.source used × (rule.goal (below_on rule targets e.high (tuple e.source)) ≡ Go e.tuple)
+  pub ask_right : (e : Ask) → Has e asks → Has e.source used ×
+      (rule.goal (below_on rule targets e.high (tuple e.source)) ≡ Go e.tuple)
   -- both kinds of arcs are in the order of their file
   pub inner_order : IsInnerOrder inner
   pub end_order : IsEndOrder ends
@@ -78,10 +82,12 @@ side_asks s side (Go x) = record { source = s; high = side; tuple = x } ∷ []
 
 -- those of both sides
 abbrev pub new_arcs : Rule → Targets → ℕ → Tuple → List Arc
-new_arcs rule targets s x = side_arcs s false (rule.goal (below_on rule targets false x)) ++ side_arcs s true (rule.goal (below_on rule targets true x))
+new_arcs rule targets s x = side_arcs s false (rule.goal (below_on rule targets false x)) ++ side_arcs s true
+    (rule.goal (below_on rule targets true x))
 
 abbrev pub new_asks : Rule → Targets → ℕ → Tuple → List Ask
-new_asks rule targets s x = side_asks s false (rule.goal (below_on rule targets false x)) ++ side_asks s true (rule.goal (below_on rule targets true x))
+new_asks rule targets s x = side_asks s false (rule.goal (below_on rule targets false x)) ++ side_asks s true
+    (rule.goal (below_on rule targets true x))
 
 -- the tuples, with that of one identifier more
 abbrev pub with_tuple : ℕ → Tuple → (ℕ → Tuple) → ℕ → Tuple
@@ -89,7 +95,8 @@ with_tuple s x tuple v = cond (v == s) x (tuple v)
 
 -- the arcs complete what is made: they are a complete set with all that is kept, in which the source of each ask
 -- leads on its side to a pointer that stands for the function of the ask's tuple
-pub record Completes (n root : ℕ) (rule : Rule) (targets : Targets) (inner ends : List Arc) (asks : List Ask) (whole : List Arc) : Type 0 where
+pub record Completes (n root : ℕ) (rule : Rule) (targets : Targets) (inner ends : List Arc) (asks : List Ask)
+    (whole : List Arc) : Type 0 where
   pub complete : IsComplete n root whole
   pub has_inner : (a : Arc) → Has a inner → Has a whole
   pub has_ends : (a : Arc) → Has a ends → Has a whole

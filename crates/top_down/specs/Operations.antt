@@ -76,7 +76,8 @@ choice_rule = record {
 
 -- an operation on the variable of one level: from that level's nodes on the members' values are joined by f, and
 -- above the step is still to be made of the first member
-abbrev pub variable_rule : ℕ → (Bool → Bool → Bool → Bool) → (ℕ → Step) → (Tuple → Tuple → Tuple) → (Tuple → Goal) → (ℕ → Tuple → Bool) → Rule
+abbrev pub variable_rule : ℕ → (Bool → Bool → Bool → Bool) → (ℕ → Step) → (Tuple → Tuple → Tuple) → (Tuple → Goal)
+    → (ℕ → Tuple → Bool) → Rule
 variable_rule variable f step at_variable goal may_ask = record {
   below = λ level side low high. cond (level == variable) (at_variable low high) (same_side level side low high);
   goal = goal;
@@ -109,13 +110,15 @@ quantify_goal kind x =
 -- down to the variable a tuple is one pointer, which stands twice; a node of the variable leads to both its pointers
 abbrev pub quantify_rule : Quant → ℕ → Rule
 quantify_rule kind variable =
-    variable_rule variable (λ b c d. quant_value kind b c) (λ k. Quantify kind 0 k) (λ low high. two low.first high.first)
+    variable_rule variable (λ b c d. quant_value kind b c) (λ k. Quantify kind 0 k)
+    (λ low high. two low.first high.first)
     (quantify_goal kind) (λ i x. nat_lt variable i || (x.first == x.second))
 
 -- a restriction: a node of the variable leads to its pointer on the side of the value
 abbrev pub restrict_rule : ℕ → Bool → Rule
 restrict_rule variable value =
-    variable_rule variable (λ b c d. b) (λ k. Restrict 0 k value) (λ low high. cond value high low) (λ x. ends_or x.first x) always
+    variable_rule variable (λ b c d. b) (λ k. Restrict 0 k value) (λ low high. cond value high low)
+    (λ x. ends_or x.first x) always
 
 -- the operator of an implication
 abbrev pub implies : Bin

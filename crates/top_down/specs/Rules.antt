@@ -20,12 +20,14 @@ pub record Rule : Type 0 where
 -- the tuple on a side
 abbrev pub below_on : Rule → Targets → Bool → Tuple → Tuple
 below_on rule targets side x =
-    rule.below (level_of_tuple x) side (parts targets (level_of_tuple x) false x) (parts targets (level_of_tuple x) true x)
+    rule.below (level_of_tuple x) side (parts targets (level_of_tuple x) false x)
+    (parts targets (level_of_tuple x) true x)
 
 -- the table of h variables from level i on that a tuple stands for
 abbrev pub table_for : Rule → Targets → ℕ → ℕ → Tuple → List Bool
 table_for rule targets h i x =
-    rule.table h i (table_of targets.first h i x.first) (table_of targets.second h i x.second) (table_of targets.third h i x.third)
+    rule.table h i (table_of targets.first h i x.first) (table_of targets.second h i x.second)
+    (table_of targets.third h i x.third)
 
 -- the tuple may be asked for from level i on, where diagrams have n variables
 pub record IsAsked (n : ℕ) (rule : Rule) (i : ℕ) (x : Tuple) : Type 0 where

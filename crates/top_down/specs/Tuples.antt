@@ -22,7 +22,8 @@ pub record Targets : Type 0 where
   pub second : ℕ → Row
   pub third : ℕ → Row
 
--- where the members lead on a side from level i: a node of the level to its pointer there, and any other pointer to itself
+-- where the members lead on a side from level i: a node of the level to its pointer there, and any other pointer to
+-- itself
 abbrev pub parts : Targets → ℕ → Bool → Tuple → Tuple
 parts targets i side x = record {
   first = onward targets.first i side x.first;
@@ -47,7 +48,8 @@ pub record AreFrom (n i : ℕ) (x : Tuple) : Type 0 where
 
 -- a node's two pointers lie deeper than it, each a truth value or a node of a level below n
 abbrev pub IsDeepening : ℕ → (ℕ → Row) → Type 0
-IsDeepening n targets = (w : ℕ) → level_of w < n → IsFrom n (suc (level_of w)) (targets w).low × IsFrom n (suc (level_of w)) (targets w).high
+IsDeepening n targets = (w : ℕ) → level_of w < n
+    → IsFrom n (suc (level_of w)) (targets w).low × IsFrom n (suc (level_of w)) (targets w).high
 
 -- so do those of each member's diagram
 pub record AreDeepening (n : ℕ) (targets : Targets) : Type 0 where

@@ -13,15 +13,18 @@ pub fn answering_an_ask_keeps_what_is_made()
     ensures first { (n : ℕ) (rule : Rule) (targets : Targets) → IsRule n rule targets → FirstGrows n rule targets }
     ensures known { (n : ℕ) (rule : Rule) (targets : Targets) → IsRule n rule targets → KnownGrows n rule targets }
     ensures renewed { (n : ℕ) (rule : Rule) (targets : Targets) → IsRule n rule targets → NewGrows n rule targets }
-    ensures any_order { (n : ℕ) (rule : Rule) (targets : Targets) → IsRule n rule targets → AsksInAnyOrder n rule targets }
+    ensures any_order { (n : ℕ) (rule : Rule) (targets : Targets) → IsRule n rule targets →
+        AsksInAnyOrder n rule targets }
     ensures full { NumbersAreFull }
 {}
 
 /// What is made, completed by what stands for the open asks, stands for the table of the roots, and with no
 /// ask open it is a diagram of that table.
 pub fn what_is_made_stands_for_the_roots()
-    ensures opened { (n : ℕ) (rule : Rule) (targets : Targets) → n ≤ most_variables → IsRule n rule targets → OpenStands n rule targets }
-    ensures closed { (n : ℕ) (rule : Rule) (targets : Targets) → n ≤ most_variables → IsRule n rule targets → ClosedStands n rule targets }
+    ensures opened { (n : ℕ) (rule : Rule) (targets : Targets) → n ≤ most_variables → IsRule n rule targets →
+        OpenStands n rule targets }
+    ensures closed { (n : ℕ) (rule : Rule) (targets : Targets) → n ≤ most_variables → IsRule n rule targets →
+        ClosedStands n rule targets }
 {}
 
 /// An operation's rule makes the operation's table of two canonical diagrams, pair of pointers by pair of
