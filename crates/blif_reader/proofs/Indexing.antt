@@ -1,5 +1,6 @@
 -- Indexes by bytes, and the places of names.
 use Rattle.std.proofs.Common.{◌≡◌, ◌⊎◌, inl, inr, ⊎_elim, ℕ, ◌+◌, ◌<◌, Bool, true, false, cond, ◌||◌, List, [], ◌∷◌, ◌++◌, length, get_or, drop, map, Option, Some, None, is_some, Vec, refl, sym, ap, ap₂, ◌∙◌, subst, append_assoc}
+use Rattle.std.proofs.lemmas.Bool.{cases_Bool}
 use Rattle.std.specs.List.{position_from}
 use Rattle.std.specs.Str.{bytes_eq}
 use Rattle.std.specs.BTreeMap as tree
@@ -13,10 +14,6 @@ use Rattle.std.proofs.lemmas.List.{append-nil, map_push, drop_more}
 use Rattle.std.proofs.lemmas.List.Folds.{list_any-append}
 use Rattle.blif_reader.specs.Index.{Index, found_in, Puts}
 use Rattle.blif_reader.specs.Parts.{Use, is_one, first_again}
-
-cases_bool : (b : Bool) → (b ≡ true) ⊎ (b ≡ false)
-cases_bool true = inl refl
-cases_bool false = inr refl
 
 other_entries : {K X : Type 0} (eq : K → K → Bool) (test : K → Bool) (old new : List (K × X)) → KeepsOthers eq test old new → (other : K → Bool) → IsKeyTest eq other → AreApart test other → lookup other new ≡ lookup other old
 unfolding KeepsOthers
@@ -43,7 +40,7 @@ puts_word old new key word n e h q = ⊎_elim
     (λ (no : bytes_eq word q ≡ false).
     let away : bytes_eq key.items q ≡ false = ap (λ l. bytes_eq l q) e ∙ no in
     other_entries _ _ _ _ h.3 (λ k. is_eq (slice_cmp nat_cmp q k.items)) (λ x y. (eq_by_cmp_equiv nat_list_cmp_total).congr q x.items y.items) (λ k. apart_in_order key.items q k.items away) ∙ sym (ap (λ b. cond b (Some n) (found_in old q)) no))
-    (cases_bool (bytes_eq word q))
+    (cases_Bool (bytes_eq word q))
 
 -- the name in front of those that an index has
 pub places_before : (old new : Index) (names : List (List ℕ)) (place : ℕ) → place < length names → Puts old new (get_or names place []) place
@@ -57,7 +54,7 @@ words_more old new words word n puts so_far q =
     ap is_some (puts q) ∙ ⊎_elim
     (λ (y : bytes_eq word q ≡ true). ap (λ b. is_some (cond b (Some n) (found_in old q))) y ∙ sym (ap (λ b. is_one words q || (b || false)) (nat_list_eq_equiv.symm q word ∙ y) ∙ or-true (is_one words q)))
     (λ (no : bytes_eq word q ≡ false). ap (λ b. is_some (cond b (Some n) (found_in old q))) no ∙ so_far q ∙ sym (ap (λ b. is_one words q || (b || false)) (nat_list_eq_equiv.symm q word ∙ no) ∙ or-false (is_one words q)))
-    (cases_bool (bytes_eq word q))
+    (cases_Bool (bytes_eq word q))
     ∙ sym (list_any-append (bytes_eq q) words (word ∷ []))
   where
     or-true : (b : Bool) → (b || true) ≡ true

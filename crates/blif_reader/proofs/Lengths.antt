@@ -3,7 +3,7 @@ use Rattle.std.proofs.Common.{◌≡◌, ◌⊎◌, inl, inr, ⊎_elim, ℕ, zer
 use Rattle.std.specs.Prelude.{nat_lt}
 use Rattle.std.specs.List.{position_from, list_any, All}
 use Rattle.std.proofs.lemmas.List.{length-map, length-replicate, get_or-replicate, get_or_append_left, get_or-append_right, get_or-map}
-use Rattle.std.proofs.lemmas.Bool.{cases_lt, ltb-false}
+use Rattle.std.proofs.lemmas.Bool.{cases_Bool, cases_lt, ltb-false}
 use Rattle.std.specs.Str.{bytes_eq}
 use Rattle.blif_reader.specs.declared.fault.BlifFault.{BlifFault}
 use Rattle.blif_reader.specs.declared.fault.BlifKind.{BlifKind}
@@ -19,10 +19,6 @@ use Rattle.blif_reader.specs.Netlist.{Cover, IsRow, IsTables, names_of, net_of_t
 use Rattle.blif_reader.proofs.Apart.{names_differ}
 use Rattle.blif_reader.proofs.Rows.{covers_fit}
 use Rattle.std.proofs.lemmas.List.Elements.{All-from_recursion}
-
-cases_bool : (b : Bool) → (b ≡ true) ⊎ (b ≡ false)
-cases_bool true = inl refl
-cases_bool false = inr refl
 
 -- a driven word is an input or a block's output
 drivers_count : (ss : List Statement) → length (uses_in Drivers ss) ≡ length (uses_in Inputs ss) + length (uses_in Blocks ss)
@@ -50,7 +46,7 @@ length_filter : (s : Statement) (ss : List Statement) → length (filter begins_
 length_filter s ss = ⊎_elim
     (λ (e : begins_block s ≡ true). ap (λ b. length (cond b (s ∷ filter begins_block ss) (filter begins_block ss))) e ∙ sym (ap (λ b. cond b 1 0 + length (filter begins_block ss)) e ∙ omega arith))
     (λ (e : begins_block s ≡ false). ap (λ b. length (cond b (s ∷ filter begins_block ss) (filter begins_block ss))) e ∙ sym (ap (λ b. cond b 1 0 + length (filter begins_block ss)) e ∙ omega arith))
-    (cases_bool (begins_block s))
+    (cases_Bool (begins_block s))
 
 -- a block drives one word
 one_output : (k : Kind) (words : List (List ℕ)) → 0 < length words → length (block_words k words) ≡ cond (is_names k) 1 0
@@ -80,7 +76,7 @@ covers_count (s ∷ ss) =
     let b : length (cover_before s ss) ≡ cond (begins_block s) 1 0 = ⊎_elim
     (λ (e : begins_block s ≡ true). ap (λ b. length (cond b (block_cover s ss ∷ []) [])) e ∙ sym (ap (λ b. cond b 1 0) e))
     (λ (e : begins_block s ≡ false). ap (λ b. length (cond b (block_cover s ss ∷ []) [])) e ∙ sym (ap (λ b. cond b 1 0) e))
-    (cases_bool (begins_block s)) in
+    (cases_Bool (begins_block s)) in
     let f = length_filter s ss in
     omega (arith, covers_count ss)
 
@@ -113,7 +109,7 @@ cover_rows (s ∷ ss) k d lt = ⊎_elim
     let same : covers_of (s ∷ ss) ≡ covers_of ss = ap (λ b. cond b (block_cover s ss ∷ []) [] ++ covers_of ss) e in
     let lt2 : k < length (covers_of ss) = subst (λ cs. k < length cs) same lt in
     subst (λ cs. length (get_or cs k d).rows ≤ length (s ∷ ss)) (sym same) (omega (arith, cover_rows ss k d lt2)))
-    (cases_bool (begins_block s))
+    (cases_Bool (begins_block s))
   where
     first : (k : ℕ) → ((j : ℕ) → j < length (covers_of ss) → length (get_or (covers_of ss) j d).rows ≤ length ss) → begins_block s ≡ true → k < length (covers_of (s ∷ ss)) → length (get_or (covers_of (s ∷ ss)) k d).rows ≤ length (s ∷ ss)
     first zero others e lt = subst (λ cs. length (get_or cs zero d).rows ≤ length (s ∷ ss)) (sym (ap (λ b. cond b (block_cover s ss ∷ []) [] ++ covers_of ss) e)) (omega (arith, rows_short ss))
@@ -127,11 +123,11 @@ position_inside t i [] some = absurd (omega arith)
 position_inside t i (x ∷ []) some = ⊎_elim
     (λ (e : t x ≡ true). subst (λ b. unwrap_or (cond b (Some i) None) 0 < i + length (x ∷ [])) (sym e) (omega arith))
     (λ (e : t x ≡ false). subst (λ b. unwrap_or (cond b (Some i) None) 0 < i + length (x ∷ [])) (sym e) (omega arith))
-    (cases_bool (t x))
+    (cases_Bool (t x))
 position_inside t i (x ∷ y ∷ ys) some = ⊎_elim
     (λ (e : t x ≡ true). subst (λ b. unwrap_or (cond b (Some i) (position_from t (i + 1) (y ∷ ys))) 0 < i + length (x ∷ y ∷ ys)) (sym e) (omega arith))
     (λ (e : t x ≡ false). subst (λ b. unwrap_or (cond b (Some i) (position_from t (i + 1) (y ∷ ys))) 0 < i + length (x ∷ y ∷ ys)) (sym e) (let h = position_inside t (i + 1) (y ∷ ys) (omega arith) in omega (arith, h)))
-    (cases_bool (t x))
+    (cases_Bool (t x))
 
 -- each number of a word is that of a signal, where there is one
 numbers_inside : (names words : List (List ℕ)) (i : ℕ) → 0 < length names → i < length (map (signal_of names) words) → get_or (map (signal_of names) words) i 0 < length names

@@ -4,14 +4,14 @@ use Rattle.std.specs.List.{count_by, fold}
 use Rattle.std.proofs.lemmas.List.{get_or-replicate, length-replicate, take_all, get_or-take, length-take}
 use Rattle.std.proofs.Math.ListN.{get_or-eq_default}
 use Rattle.std.proofs.lemmas.List.Folds.{sum_by-replicate}
-use Rattle.std.proofs.lemmas.Bool.{cases_lt}
+use Rattle.std.proofs.lemmas.Bool.{cases_Bool, cases_lt}
 use Rattle.depth_first.specs.declared.walk.Frame.{Frame}
 use Rattle.depth_first.specs.Graph.{has, edges_of, IsGraph, IsAcyclic, IsTopological, NeverRises, FallsAt, Reaches, directly, through, visit}
 use Rattle.depth_first.specs.Walk.{IsWalk, is_new}
 use Rattle.depth_first.proofs.Frames.{has_last, has_still}
 use Rattle.depth_first.proofs.Keeps.{before_or_last}
 use Rattle.depth_first.proofs.Resumes.{visit_seen, visit_new}
-use Rattle.depth_first.proofs.Searches.{has_where, cases_bool}
+use Rattle.depth_first.proofs.Searches.{has_where}
 
 fits_new : (n s : ℕ) → get_or (replicate n 4294967295) s 0 < 4294967296
 fits_new zero s = omega arith
@@ -53,14 +53,14 @@ visit_keeps zero g seen s t h = h
 visit_keeps (suc d) g seen s t h = ⊎_elim
     (λ (e : has seen s ≡ true). ap (λ us. has us t) (visit_seen (suc d) g seen s e) ∙ h)
     (λ (e : has seen s ≡ false). ap (λ us. has us t) (visit_new d g seen s e) ∙ has_still (fold (λ us u. visit d g us u) seen (edges_of g s)) s t (fold_keeps d g seen (edges_of g s) t (λ us u k. visit_keeps d g us u t k) h))
-    (cases_bool (has seen s))
+    (cases_Bool (has seen s))
 
 -- a visit sees its node
 pub visit_sees : (d : ℕ) (g : List (List ℕ)) (seen : List ℕ) (s : ℕ) → has (visit (suc d) g seen s) s ≡ true
 visit_sees d g seen s = ⊎_elim
     (λ (e : has seen s ≡ true). ap (λ us. has us s) (visit_seen (suc d) g seen s e) ∙ e)
     (λ (e : has seen s ≡ false). ap (λ us. has us s) (visit_new d g seen s e) ∙ has_last (fold (λ us u. visit d g us u) seen (edges_of g s)) s)
-    (cases_bool (has seen s))
+    (cases_Bool (has seen s))
 
 -- where each node stands behind those that it leads to, each of these stands before it
 edge_before : (g : List (List ℕ)) (order : List ℕ) → IsTopological g order → (s u k : ℕ) → has (take k order) s ≡ true → has (edges_of g s) u ≡ true → (i : ℕ) × (i < k) × (has (take i order) u ≡ true)

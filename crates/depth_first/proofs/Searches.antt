@@ -1,15 +1,10 @@
 -- What each step of a search keeps, and what its end says.
 use Rattle.std.proofs.Common.{◌≡◌, ◌≢◌, ◌⊎◌, inl, inr, ℕ, zero, suc, ◌+◌, ◌<◌, ◌≤◌, ◌==◌, ◌||◌, Bool, true, false, List, [], ◌∷◌, ◌++◌, length, get_or, replicate, refl, sym, ap, ◌∙◌, subst, arith, ⊎_elim}
-use Rattle.std.proofs.lemmas.Bool.{cases_eq, eqb-true}
+use Rattle.std.proofs.lemmas.Bool.{cases_Bool, cases_eq, eqb-true}
 use Rattle.std.proofs.lemmas.List.{get_or-replicate, length-replicate}
 use Rattle.depth_first.specs.Graph.{has, edges_of, IsGraph, Reaches, directly, through}
 use Rattle.depth_first.specs.Search.{Spreads, IsSearch, reached_at}
 use Rattle.depth_first.proofs.Frames.{has_push, has_last, has_other, has_at}
-
--- a test has one of two answers
-pub cases_bool : (b : Bool) → (b ≡ true) ⊎ (b ≡ false)
-cases_bool true = inl refl
-cases_bool false = inr refl
 
 or_left : (a b : Bool) → a ≡ true → (a || b) ≡ true
 or_left true b e = refl
@@ -29,7 +24,7 @@ has_where [] x h = absurd (cc)
 has_where (y ∷ ys) x h = ⊎_elim
     (λ (e : (y == x) ≡ true). (0, omega arith, eqb-true y x e))
     (λ (e : (y == x) ≡ false). let r = has_where ys x (or_cases (y == x) (has ys x) h e) in (suc r.0, omega (arith, r.1), r.2))
-    (cases_bool (y == x))
+    (cases_Bool (y == x))
 
 -- a node that is reached directly, and then through others
 reaches_on : (g : List (List ℕ)) (s u t : ℕ) → Reaches g s u → has (edges_of g u) t ≡ true → Reaches g s t
@@ -81,11 +76,11 @@ module _ (g : List (List ℕ)) (graph : IsGraph g) (node : ℕ) (inside : node <
         found = λ t lt h. ⊎_elim
             (λ (e : reached_at r t ≡ true). k.found t lt e)
             (λ (e : reached_at r t ≡ false). reaches_on g node next t from (or_cases _ _ (sym (s.marks t (omega arith)) ∙ h) e))
-            (cases_bool (reached_at r t));
+            (cases_Bool (reached_at r t));
         waits = λ t h. ⊎_elim
             (λ (e : has w t ≡ true). let o = k.waits t (member t e) in (o.0, still t o.0 o.1))
             (λ (e : has w t ≡ false). let o = s.only t h e in let lt : t < length r = o.0 in (omega arith, o.1))
-            (cases_bool (has w t));
+            (cases_Bool (has w t));
         first = λ i lt. still _ (inside_of i lt) (k.first i lt);
         closed = λ t i lt yes no less. ⊎_elim
             (λ (e : t ≡ next).
@@ -95,11 +90,11 @@ module _ (g : List (List ℕ)) (graph : IsGraph g) (node : ℕ) (inside : node <
             (s.marks _ (omega arith) ∙ or_right _ _ (has_at (edges_of g next) i less2)))
             (λ (ne : t ≢ next). ⊎_elim
             (λ (old : reached_at r t ≡ true).
-            let away : has w t ≡ false = ⊎_elim (λ (y : has w t ≡ true). let h : has w2 t ≡ true = s.keeps t y in absurd (cc)) (λ (n : has w t ≡ false). n) (cases_bool (has w t)) in
+            let away : has w t ≡ false = ⊎_elim (λ (y : has w t ≡ true). let h : has w2 t ≡ true = s.keeps t y in absurd (cc)) (λ (n : has w t ≡ false). n) (cases_Bool (has w t)) in
             let away2 : has all t ≡ false = ap (λ us. has us t) split ∙ has_other w next t (λ e. ne (sym e)) ∙ away in
             still _ (graph t i lt less) (k.closed t i lt old away2 less))
             (λ (new : reached_at r t ≡ false). let h : has w2 t ≡ true = s.joins t (omega arith) new yes in absurd (cc))
-            (cases_bool (reached_at r t)))
+            (cases_Bool (reached_at r t)))
             (cases_eq t next);
       } where
         inside_of : (i : ℕ) → i < length (edges_of g node) → get_or (edges_of g node) i 0 < length g

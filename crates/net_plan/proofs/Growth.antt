@@ -10,10 +10,6 @@ use Rattle.bool_tables.specs.declared.steps.Step.{Step}
 use Rattle.bool_tables.specs.declared.steps.Step.TheVariants.{Const, Pair, Drop}
 use Rattle.net_plan.specs.Covers.{Draft, put, join, column, columns, cube, summed, row, rows, signed, both, left_alone, either, not_both}
 
-cases_bool : (b : Bool) → (b ≡ true) ⊎ (b ≡ false)
-cases_bool true = inl refl
-cases_bool false = inr refl
-
 join_grows : (first : ℕ) (op : Bin) (d : Draft) (t : ℕ) → length d.steps ≤ length (join first op d t).steps
 join_grows first op d t = omega (arith, length-append (d.steps ++ Pair op d.at t ∷ []) (Drop d.at ∷ []), length-append d.steps (Pair op d.at t ∷ []))
 

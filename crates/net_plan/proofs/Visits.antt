@@ -1,12 +1,11 @@
 -- What a visit reaches.
-use Rattle.std.proofs.Common.{◌≡◌, ⊎_elim, ℕ, zero, suc, ◌-◌, ◌<◌, ◌==◌, true, false, List, [], ◌∷◌, length, get_or, sym, ap, ◌∙◌, arith}
+use Rattle.std.proofs.Common.{◌≡◌, ℕ, zero, suc, ◌-◌, ◌<◌, ◌==◌, true, false, List, [], ◌∷◌, length, get_or, sym, ap, ◌∙◌, arith}
 use Rattle.std.specs.List.{fold}
-use Rattle.std.proofs.lemmas.Bool.{cases_Bool, eqb-true}
+use Rattle.std.proofs.lemmas.Bool.{eqb-true}
 use Rattle.std.proofs.lemmas.Grind.{get_or_default_zero}
 use Rattle.std.proofs.lemmas.List.Folds.{Any-from_list_any}
 use Rattle.depth_first.specs.Graph.{edges_of, has, visit, visits}
-use Rattle.depth_first.proofs.Frames.{has_still, has_last}
-use Rattle.depth_first.proofs.Resumes.{visit_seen, visit_new}
+use Rattle.depth_first.proofs.Descents.{visit_keeps, visit_sees}
 
 -- where a number of a list stands
 pub has_place : (xs : List ℕ) (t : ℕ) → has xs t ≡ true → (i : ℕ) × (i < length xs) × (get_or xs i 0 ≡ t)
@@ -19,25 +18,9 @@ fold_keeps : (f : List ℕ → ℕ → List ℕ) (x : ℕ) → ((us : List ℕ) 
 fold_keeps f x step us [] h = h
 fold_keeps f x step us (t ∷ ts) h = fold_keeps f x step (f us t) ts (step us t h)
 
-visit_keeps : (d : ℕ) (g : List (List ℕ)) (seen : List ℕ) (s x : ℕ) → has seen x ≡ true → has (visit d g seen s) x ≡ true
-unfolding visit
-visit_keeps zero g seen s x h = h
-visit_keeps (suc d) g seen s x h =
-    ⊎_elim
-    (λ (e : has seen s ≡ true). ap (λ us. has us x) (visit_seen (suc d) g seen s e) ∙ h)
-    (λ (e : has seen s ≡ false). ap (λ us. has us x) (visit_new d g seen s e) ∙ has_still _ s x (fold_keeps (λ us t. visit d g us t) x (λ us t. visit_keeps d g us t x) seen (edges_of g s) h))
-    (cases_Bool (has seen s))
-
-visit_has : (d : ℕ) (g : List (List ℕ)) (seen : List ℕ) (s : ℕ) → has (visit (suc d) g seen s) s ≡ true
-visit_has d g seen s =
-    ⊎_elim
-    (λ (e : has seen s ≡ true). ap (λ us. has us s) (visit_seen (suc d) g seen s e) ∙ e)
-    (λ (e : has seen s ≡ false). ap (λ us. has us s) (visit_new d g seen s e) ∙ has_last (fold (λ us t. visit d g us t) seen (edges_of g s)) s)
-    (cases_Bool (has seen s))
-
 fold_has : (d : ℕ) (g : List (List ℕ)) (us ts : List ℕ) (i : ℕ) → i < length ts → has (fold (λ vs t. visit (suc d) g vs t) us ts) (get_or ts i 0) ≡ true
 fold_has d g us [] i b = absurd (omega arith)
-fold_has d g us (t ∷ ts) zero b = fold_keeps (λ vs u. visit (suc d) g vs u) t (λ vs u. visit_keeps (suc d) g vs u t) (visit (suc d) g us t) ts (visit_has d g us t)
+fold_has d g us (t ∷ ts) zero b = fold_keeps (λ vs u. visit (suc d) g vs u) t (λ vs u. visit_keeps (suc d) g vs u t) (visit (suc d) g us t) ts (visit_sees d g us t)
 fold_has d g us (t ∷ ts) (suc i) b = fold_has d g (visit (suc d) g us t) ts i (omega arith)
 
 -- each root is visited
