@@ -51,9 +51,9 @@ on_ok (Err e) p = tt
 pub damage_refuses : (q : Machine) (e : SortFault) → e ≢ Shelf → IsDamageIn q.operands.first.file e
     → Refuses q e
 damage_refuses q Shelf other damage = tt
-damage_refuses q (Damaged f at) other damage = inl damage
-damage_refuses q RunsSpent other damage = damage
-damage_refuses q RoomFull other damage = absurd damage
+damage_refuses q (Damaged f at) other damage = inl (inl damage)
+damage_refuses q RunsSpent other damage = absurd damage
+damage_refuses q RoomFull other damage = damage
 
 -- no damage is said
 no_damage : (q : Machine) (world : World) (e : SortFault) → IsNoDamage e → IsMachineDamage q world e
@@ -61,12 +61,6 @@ no_damage q world Shelf none = tt
 no_damage q world (Damaged f at) none = absurd none
 no_damage q world RunsSpent none = tt
 no_damage q world RoomFull none = tt
-
--- nor by a full room
-pub full_room : {T : Type 0} (result : Result T SortFault) → IfErr result (λ e. e ≡ RoomFull)
-    → IfErr result IsNoDamage
-full_room (Ok x) is = tt
-full_room (Err e) is = subst IsNoDamage (sym is) tt
 
 -- the files whose parts were taken aren't those that are made
 own_took : (inner ends : FileNo) (before after : Parts) (old m : Moment)
@@ -286,7 +280,8 @@ module _ {S : Type 0} (tells : S → Bool) (world : S → World) (counts : S →
       (world t))
       → Took p.parts parts → PaidParts a (queues.stock p.queue) (queues.stock q) p.parts parts
       → OnlySortShelf (counts s) (counts t) result
-      → IfErr result (Refuses (record p { queue = q; parts = parts })) → IfErr result IsNoDamage
+      → IfErr result (Refuses (record p { queue = q; parts = parts }))
+      → IfErr result (λ e. IsTrue (tells t) → IsNoDamage e)
       → Does tells world counts m a s t p (record p { queue = q; parts = parts }) result
   does_spilled m a s t p q parts result served did paid took spent faults refused undamaged =
       record {
@@ -306,11 +301,11 @@ module _ {S : Type 0} (tells : S → Bool) (world : S → World) (counts : S →
         damage = none result undamaged;
       }
     where
-      none : {X : Type 0} (r : Result X SortFault) → IfErr r IsNoDamage
+      none : {X : Type 0} (r : Result X SortFault) → IfErr r (λ e. IsTrue (tells t) → IsNoDamage e)
           → IfErr r (λ e. IsTrue (tells t) → IsMachineDamage (record p { queue = q; parts = parts })
           (world t) e)
       none (Ok x) is = tt
-      none (Err e) is = λ told. no_damage _ _ e is
+      none (Err e) is = λ told. no_damage _ _ e (is told)
 
   -- an operand was looked at
   pub does_looked : {T : Type 0} (n : ℕ) (s t : S) (p : Machine) (o : Operands)

@@ -8,13 +8,13 @@ use Rattle.std.specs.declared.cmp.Ordering.{Ordering}
 use Rattle.std.specs.declared.cmp.Ordering.TheVariants.{Less, Equal, Greater}
 use Rattle.std.proofs.lemmas.Cmp.{ranked}
 use Rattle.shelf_model.specs.declared.sort_fault.SortFault.{SortFault}
-use Rattle.run_merge.specs.Lists.{GivesValue, IsShown, Lightens}
+use Rattle.run_merge.specs.Lists.{GivesValue, IsShown, AnswersShown, CountsDown}
 use Rattle.arc_file.specs.declared.unreduced.Unreduced.{Unreduced}
 use Rattle.sweep_core.specs.declared.turn.Turn.{Turn}
 use Rattle.sweep_core.specs.declared.turn.Turn.TheVariants as turns
 use Rattle.sweep_core.specs.Sweeps.{Falls}
 use Rattle.level_queue.specs.declared.queue.LevelQueue.{LevelQueue}
-use Rattle.level_queue.specs.Queues.{shown, last_of, load_of, IsNoLess, AnswersNoLess, IsReached}
+use Rattle.level_queue.specs.Queues.{shown, last_of, held, IsNoLess, AnswersNoLess, IsReached}
 use Rattle.top_down_sweep.specs.declared.ask.Ask.{Ask}
 use Rattle.top_down_sweep.specs.declared.ask.Member.{Member}
 use Rattle.top_down_sweep.specs.Items.{ask_words, IsAsk, ask_cmp}
@@ -137,18 +137,24 @@ first_behind m a served first differ = takes_on (last_of m.queue) a first.value
     by None was = tt
     by (Some l) was = was.value
 
+-- where the ask that was shown is taken, one less waits
+pub taken_count : (old new : ℕ) (first found : Option Ask) (a : Ask) → first ≡ Some a
+    → AnswersShown first (Ok found) → CountsDown old new (Ok found) → old ≡ new + 1
+taken_count old new None found a is again count = absurd (cc)
+taken_count old new (Some b) None a is again count = absurd (cc)
+taken_count old new (Some b) (Some x) a is again count = count
+
 -- where the last ask is taken once more, one less waits
 pub falls_known : (old new : Machine) (a : Ask) (result : Result Unit SortFault)
     → last_of old.queue ≡ Some a → new.operands ≡ old.operands
-    → OnOk result (Lightens (load_of old.queue) (load_of new.queue))
+    → OnOk result (held old.queue ≡ held new.queue + 1)
     → OnOk result (last_of new.queue ≡ Some a) → OnOk result (weight new < weight old)
 falls_known old new a (Err e) known same lighter last = tt
 falls_known old new a (Ok u) known same lighter last =
     let behind : asks_behind (last_of new.queue) ≡ asks_behind (last_of old.queue) = ap asks_behind
     (last ∙ sym known) in
     let nodes : unread new.operands ≡ unread old.operands = ap unread same in
-    let one : load_of old.queue ≡ load_of new.queue + 1 = lighter.by_one in
-    omega (arith, behind, nodes, one)
+    omega (arith, behind, nodes, lighter)
 
 -- where a node is read, one less is to be read
 pub falls_read : (old new : Machine) (result : Result Unit SortFault) → new.queue ≡ old.queue
@@ -158,14 +164,14 @@ falls_read old new (Err e) same fewer = tt
 falls_read old new (Ok u) same fewer =
     let behind : asks_behind (last_of new.queue) ≡ asks_behind (last_of old.queue) = ap
     (λ (q : LevelQueue Ask). asks_behind (last_of q)) same in
-    let waits : load_of new.queue ≡ load_of old.queue = ap (λ (q : LevelQueue Ask). load_of q) same
+    let waits : held new.queue ≡ held old.queue = ap (λ (q : LevelQueue Ask). held q) same
     in
     omega (arith, behind, waits, fewer)
 
 -- where an ask is taken with effect, it puts two at most
 pub falls_taken : (old new : Machine) (a : Ask) (result : Result Unit SortFault)
     → asks_behind (Some a) < asks_behind (last_of old.queue) → new.operands ≡ old.operands
-    → OnOk result (load_of new.queue ≤ load_of old.queue + 1)
+    → OnOk result (held new.queue ≤ held old.queue + 1)
     → OnOk result (last_of new.queue ≡ Some a) → OnOk result (weight new < weight old)
 falls_taken old new a (Err e) fewer same few last = tt
 falls_taken old new a (Ok u) fewer same few last =
@@ -176,7 +182,7 @@ falls_taken old new a (Ok u) fewer same few last =
 -- where an ask is put, one more waits
 pub weight_put : (old new : Machine) (result : Result Unit SortFault) → new.operands ≡ old.operands
     → last_of new.queue ≡ last_of old.queue
-    → OnOk result (load_of new.queue ≡ load_of old.queue + 1)
+    → OnOk result (held new.queue ≡ held old.queue + 1)
     → OnOk result (weight new ≡ weight old + 1)
 weight_put old new (Err e) same last more = tt
 weight_put old new (Ok u) same last more =
@@ -202,7 +208,7 @@ end_falls before m made (Err e) is at = tt
 -- the first ask was handled
 pub handle_falls : (old mid new : Machine) (s : _) → old.place.phase ≡ Asking s
     → IsAsking new.place.phase → mid ≡ record old { queue = mid.queue }
-    → last_of mid.queue ≡ last_of old.queue → load_of mid.queue ≡ load_of old.queue
+    → last_of mid.queue ≡ last_of old.queue → held mid.queue ≡ held old.queue
     → weight new < weight mid → Falls (machine_fuel old) (machine_fuel new) (Ok turns.More)
 handle_falls old mid new s asking is rest last load falls =
     let before : machine_fuel old ≡ weight old + 1 = ap (λ p. fuel_at p (weight old)) asking in
@@ -214,8 +220,8 @@ handle_falls old mid new s asking is rest last load falls =
     (omega (arith, after), omega (arith, before, after, behind, nodes, load, falls))
 
 pub no_more_waits : (old new : Machine) (result : Result Unit SortFault)
-    → OnOk result (load_of new.queue ≡ load_of old.queue)
-    → OnOk result (load_of new.queue ≤ load_of old.queue + 1)
+    → OnOk result (held new.queue ≡ held old.queue)
+    → OnOk result (held new.queue ≤ held old.queue + 1)
 no_more_waits old new (Err e) same = tt
 no_more_waits old new (Ok u) same = omega (arith, same)
 
@@ -307,13 +313,12 @@ last_differs last a found is other same =
 
 -- an ask was taken, and each of its sides put one at most
 pub two_more : (old taken mid side new : Machine) (result : Result Unit SortFault)
-    → Lightens (load_of old.queue) (load_of taken.queue) → mid.queue ≡ taken.queue
-    → load_of side.queue ≤ load_of mid.queue + 1
-    → OnOk result (load_of new.queue ≤ load_of side.queue + 1)
-    → OnOk result (load_of new.queue ≤ load_of old.queue + 1)
+    → held old.queue ≡ held taken.queue + 1 → mid.queue ≡ taken.queue
+    → held side.queue ≤ held mid.queue + 1
+    → OnOk result (held new.queue ≤ held side.queue + 1)
+    → OnOk result (held new.queue ≤ held old.queue + 1)
 two_more old taken mid side new (Err e) lighter same first second = tt
 two_more old taken mid side new (Ok u) lighter same first second =
-    let one : load_of old.queue ≡ load_of taken.queue + 1 = lighter.by_one in
-    let waits : load_of mid.queue ≡ load_of taken.queue = ap (λ (q : LevelQueue Ask). load_of q)
+    let waits : held mid.queue ≡ held taken.queue = ap (λ (q : LevelQueue Ask). held q)
     same in
-    omega (arith, one, waits, first, second)
+    omega (arith, lighter, waits, first, second)

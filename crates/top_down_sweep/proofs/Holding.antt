@@ -50,6 +50,7 @@ use Rattle.top_down_sweep.specs.Waiting.{Waits, is_first_at, IsReadTo, AreReadTo
 use Rattle.top_down_sweep.specs.Members.{is_node}
 use Rattle.top_down_sweep.specs.Damage.{IsReadDamage, IsMachineDamage}
 use Rattle.top_down_sweep.specs.Calls.{HoldsAt, HoldsFirstAt}
+use Rattle.top_down_sweep.proofs.OwnRuns.{serves_past}
 
 -- each file apart from what is written stays
 abbrev pub SameApart : Files → ℕ → World → World → Type 0
@@ -193,7 +194,7 @@ module _ (m : Machine) (q : LevelQueue Ask) (after : Parts) (old new : World) (s
   still_read most asks hold apart =
       let before : AreApart (files_in m) m.parts.step = subst (AreApart (files_in m)) took.step_is
       apart in
-      operands_still m old new are (apart_spilled m after old new served.serves.past_made spilled)
+      operands_still m old new are (apart_spilled m after old new (serves_past m.parts m.queue served.serves) spilled)
       before (hold.reading before)
 
   -- the first ask was taken

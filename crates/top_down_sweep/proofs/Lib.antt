@@ -8,3 +8,5 @@ pub mod FuelLaws
 pub mod Holding
 pub mod OperandReading
 pub mod SoundAsks
+pub mod OwnRuns
+pub mod QueueCalls

@@ -4,7 +4,7 @@
 -- each ask is taken with effect at most once, and puts at most two others into the queue.
 use Rattle.std.specs.Prelude.{ℕ, ◌+◌, ◌-◌, ◌*◌, ◌^◌, List, [], ◌∷◌, Option, Some, None}
 use Rattle.node_file.specs.Readers.{left_of}
-use Rattle.level_queue.specs.Queues.{last_of, load_of}
+use Rattle.level_queue.specs.Queues.{last_of, held}
 use Rattle.top_down_sweep.specs.declared.ask.Ask.{Ask}
 use Rattle.top_down_sweep.specs.declared.operand.Operands.{Operands}
 use Rattle.top_down_sweep.specs.declared.place.Phase.{Phase}
@@ -34,7 +34,7 @@ unread o = left_of o.first.reader + left_of o.second.reader + left_of o.third.re
 -- two for each ask that can still be taken with effect, one for each that waits, and one for each
 -- node that wasn't read
 abbrev pub weight : Machine → ℕ
-weight m = 2 * asks_behind (last_of m.queue) + load_of m.queue + unread m.operands
+weight m = 2 * asks_behind (last_of m.queue) + held m.queue + unread m.operands
 
 -- no more turns than these are made, whatever the folder answers: none where the sweep has ended
 abbrev pub fuel_at : Phase → ℕ → ℕ

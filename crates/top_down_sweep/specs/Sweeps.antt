@@ -13,6 +13,7 @@ use Rattle.arc_file.specs.declared.unreduced.Unreduced.{Unreduced}
 use Rattle.arc_file.specs.declared.writer.ArcWriter.{ArcWriter}
 use Rattle.arc_file.specs.Writers as arcs
 use Rattle.run_tiers.specs.declared.parts.Parts.{Parts}
+use Rattle.run_tiers.specs.Parts.{WasTaken}
 use Rattle.level_queue.specs.Queues as queues
 use Rattle.sweep_core.specs.Accounts.{Accounts, CanBeTaken}
 use Rattle.sweep_core.specs.declared.turn.Turn.{Turn}
@@ -105,12 +106,13 @@ pub record IsSoundMachine (m : Machine) : Type 0 where
   pub operands : AreOperands m.place.variables m.operands
   pub phase : IsPhaseAt m.writer (queues.last_of m.queue) m.place.phase
 
--- why it can't go on: a call of the folder failed, an operand is damaged, or the queue's room is full
+-- why it can't go on: a call of the folder failed, an operand is damaged or a file whose part was taken, or no part
+-- number is left
 abbrev pub Refuses : Machine → SortFault → Type 0
 Refuses m Shelf = Unit
-Refuses m (Damaged f at) = IsRead (files_in m) f
-Refuses m RunsSpent = ⊥
-Refuses m RoomFull = queues.held m.queue ≡ queues.room_of m.queue
+Refuses m (Damaged f at) = IsRead (files_in m) f ⊎ WasTaken m.parts f
+Refuses m RunsSpent = 2 ^ 32 ≤ m.parts.next
+Refuses m RoomFull = ⊥
 
 -- a call of the folder failed, or that file is damaged
 abbrev pub IsDamageIn : FileNo → SortFault → Type 0
@@ -167,9 +169,6 @@ credit_of s = queues.credit s.machine.queue
 
 abbrev pub stock_of : {O : Type 0} → TopDownSweep O → ℕ
 stock_of s = queues.stock s.machine.queue
-
-abbrev pub room_of : {O : Type 0} → TopDownSweep O → ℕ
-room_of s = queues.room_of s.machine.queue
 
 abbrev pub IsSound : {O : Type 0} → TopDownSweep O → Type 0
 IsSound s = IsSoundMachine s.machine

@@ -17,7 +17,7 @@ impl<'r> Machine<'r> {
     ghost use Rattle.std.specs.Prelude.{ℕ, ◌+◌, Some, OnOk, IfOk, IsTrue, true, false, cond};
     ghost use Rattle.rec_words.specs.Words.{terminal_level};
     ghost use Rattle.arc_file.specs.Writers.{inner_count};
-    ghost use Rattle.level_queue.specs.Queues.{shown, last_of, load_of};
+    ghost use Rattle.level_queue.specs.Queues.{shown, last_of, held};
     ghost use Rattle.top_down.specs.Tuples.{level_of_tuple};
     ghost use Rattle.top_down_sweep.specs.Members.{IsResolved};
     ghost use Rattle.top_down_sweep.specs.Soundness.{is_none, is_sound, is_asker, next_numbered, identifier};
@@ -44,7 +44,7 @@ impl<'r> Machine<'r> {
         ensures fit { OnOk result (IsFit S.tells S.world shelf.new self.new) }
         ensures rest { self.new ≡ record self.old { queue = self.new.queue; parts = self.new.parts } }
         ensures holds { OnOk result (HoldsAt S.tells S.world 1 shelf.new self.new) }
-        ensures load { OnOk result (load_of self.new.queue ≡ load_of self.old.queue) }
+        ensures load { OnOk result (held self.new.queue ≡ held self.old.queue) }
         ensures last { OnOk result (last_of self.new.queue ≡ Some ask.now) }
     {
         self.take(ask, shelf)?;
@@ -75,7 +75,7 @@ impl<'r> Machine<'r> {
         ensures holds { OnOk result (HoldsAt S.tells S.world 1 shelf.new self.new) }
         ensures phase { OnOk result (IsAsking self.new.place.phase) }
         ensures operands { self.new.operands ≡ self.old.operands }
-        ensures load { OnOk result (load_of self.new.queue ≤ load_of self.old.queue + 1) }
+        ensures load { OnOk result (held self.new.queue ≤ held self.old.queue + 1) }
         ensures last { OnOk result (last_of self.new.queue ≡ Some ask.now) }
     {
         self.take(ask, shelf)?;
@@ -167,7 +167,7 @@ impl<'r> Machine<'r> {
         ensures holds { OnOk result (HoldsAt S.tells S.world 0 shelf.new self.new) }
         ensures place { self.new.place ≡ self.old.place }
         ensures operands { self.new.operands ≡ self.old.operands }
-        ensures load { OnOk result (load_of self.new.queue ≤ load_of self.old.queue + 1) }
+        ensures load { OnOk result (held self.new.queue ≤ held self.old.queue + 1) }
         ensures last { last_of self.new.queue ≡ last_of self.old.queue }
     {
         let lows = members.on_side(false);
@@ -204,7 +204,7 @@ impl<'r> Machine<'r> {
         ensures fit { OnOk result (IsFit S.tells S.world shelf.new self.new) }
         ensures rest { self.new ≡ record self.old { queue = self.new.queue; parts = self.new.parts } }
         ensures holds { OnOk result (HoldsAt S.tells S.world 0 shelf.new self.new) }
-        ensures load { OnOk result (load_of self.new.queue ≡ load_of self.old.queue + 1) }
+        ensures load { OnOk result (held self.new.queue ≡ held self.old.queue + 1) }
         ensures last { last_of self.new.queue ≡ last_of self.old.queue }
     {
         let Some(key) = key_of(tuple) else {

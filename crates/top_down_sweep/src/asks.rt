@@ -5,8 +5,7 @@ use shelf_model::{Shelf, SortFault};
 
 impl<'r> Machine<'r> {
     ghost use Rattle.std.specs.Prelude.{◌≡◌, ◌+◌, IsTrue, Some, OnOk, IfOk, IfSome};
-    ghost use Rattle.run_merge.specs.Lists.{Lightens};
-    ghost use Rattle.level_queue.specs.Queues.{shown, last_of, load_of, IsNoLess};
+    ghost use Rattle.level_queue.specs.Queues.{shown, last_of, held, IsNoLess};
     ghost use Rattle.top_down_sweep.specs.Items.{ask_cmp};
     ghost use Rattle.top_down_sweep.specs.Sweeps.{IsAsking};
     ghost use Rattle.top_down_sweep.specs.Waiting.{is_first_at, Fits};
@@ -21,7 +20,7 @@ impl<'r> Machine<'r> {
         ensures holds { IfOk result (λ found. IfSome found (HoldsFirstAt S.tells S.world shelf.new self.new)) }
         ensures rest { self.new ≡ record self.old { queue = self.new.queue } }
         ensures last { last_of self.new.queue ≡ last_of self.old.queue }
-        ensures load { OnOk result (load_of self.new.queue ≡ load_of self.old.queue) }
+        ensures load { OnOk result (held self.new.queue ≡ held self.old.queue) }
         ensures shown { IfOk result (λ found. IfSome found (IsFirst self.new)) }
     {
         self.queue.peek(shelf)
@@ -37,7 +36,7 @@ impl<'r> Machine<'r> {
         ensures fit { OnOk result (IsFit S.tells S.world shelf.new self.new) }
         ensures holds { OnOk result (HoldsAt S.tells S.world 0 shelf.new self.new) }
         ensures rest { self.new ≡ record self.old { queue = self.new.queue; parts = self.new.parts } }
-        ensures load { OnOk result (Lightens (load_of self.old.queue) (load_of self.new.queue)) }
+        ensures load { OnOk result (held self.old.queue ≡ held self.new.queue + 1) }
         ensures last { OnOk result (last_of self.new.queue ≡ Some ask.now) }
     {
         self.queue.take(&mut self.parts, shelf)?;
@@ -54,7 +53,7 @@ impl<'r> Machine<'r> {
         ensures fit { OnOk result (IsFit S.tells S.world shelf.new self.new) }
         ensures holds { OnOk result (HoldsAt S.tells S.world 1 shelf.new self.new) }
         ensures rest { self.new ≡ record self.old { queue = self.new.queue; parts = self.new.parts } }
-        ensures load { OnOk result (load_of self.new.queue ≡ load_of self.old.queue + 1) }
+        ensures load { OnOk result (held self.new.queue ≡ held self.old.queue + 1) }
         ensures last { last_of self.new.queue ≡ last_of self.old.queue }
     {
         self.queue.push(ask, &mut self.parts, shelf)

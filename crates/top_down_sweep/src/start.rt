@@ -29,7 +29,7 @@ pub struct Files {
 }
 
 impl<'r, O: Operation> TopDownSweep<'r, O> {
-    ghost use Rattle.std.specs.Prelude.{◌≢◌, ◌+◌, IsTrue, IfOk, IfErr};
+    ghost use Rattle.std.specs.Prelude.{◌≢◌, IsTrue, IfOk, IfErr};
     ghost use Rattle.shelf_model.specs.World.{now};
     ghost use Rattle.shelf_model.specs.Calls.{Told};
     ghost use Rattle.shelf_model.specs.Moments.{Ran};
@@ -37,7 +37,7 @@ impl<'r, O: Operation> TopDownSweep<'r, O> {
     ghost use Rattle.run_tiers.specs.Faults.{OnlySortShelf};
     ghost use Rattle.run_tiers.specs.Parts.{Paid};
     ghost use Rattle.sweep_core.specs.Accounts.{CanBeTaken};
-    ghost use Rattle.top_down_sweep.specs.Sweeps.{files_of, parts_of, made_in, credit_of, stock_of, room_of, IsSound, IsStartDamage};
+    ghost use Rattle.top_down_sweep.specs.Sweeps.{files_of, parts_of, made_in, credit_of, stock_of, IsSound, IsStartDamage};
     ghost use Rattle.top_down_sweep.specs.Damage.{IsStartFault};
     ghost use Rattle.top_down_sweep.specs.Calls.{IsInStep};
 
@@ -63,7 +63,6 @@ impl<'r, O: Operation> TopDownSweep<'r, O> {
         ensures files { IfOk result (λ s. files_of s ≡ files) }
         ensures parts { IfOk result (λ s. parts_of s ≡ parts) }
         ensures made { IfOk result (λ s. made_in s ≡ None) }
-        ensures room { IfOk result (λ s. room_of s + 520 ≡ length room.entry.now) }
 
         // what the call leaves, and what it costs
         ensures content { Told S.tells shelf.old shelf.new

@@ -1,6 +1,18 @@
+use Rattle.std.proofs.Common.{arith}
+use Rattle.top_down_sweep.proofs.QueueCalls.{does_shown}
 use Rattle.top_down_sweep.proofs.Holding.{shown_at}
 use Rattle.top_down_sweep.proofs.FuelLaws.{first_shown}
 use Rattle.top_down_sweep.proofs.machine.Machine.first_ask.Goals as goal
+
+-- no file was changed
+pub returns-clause-does : goal.returns-clause-does
+returns-clause-does g c =
+    let served = c.requires.fit.sound.served in
+    does_shown g.S.Shelf.tells g.S.Shelf.world g.S.Shelf.faults 8 _ _ c.args.self.now c.peek.new.self
+    c.peek.result served c.peek.ensures.content
+    (λ told. let paid = c.peek.ensures.calls told in omega (arith, paid))
+    c.peek.ensures.spent c.peek.ensures.faults (c.peek.ensures.serves c.args.self.now.parts served.serves)
+    c.peek.ensures.values c.peek.ensures.cause c.peek.ensures.list c.requires.holds
 
 -- the ask that is answered is a value that isn't less than the last one taken, and is shown
 pub returns-clause-shown : goal.returns-clause-shown

@@ -1,15 +1,16 @@
-use Rattle.top_down_sweep.proofs.Holding.{put_at}
 use Rattle.std.proofs.Common.{rules}
-use Rattle.top_down_sweep.proofs.Doing.{does_spilled, full_room}
+use Rattle.top_down_sweep.specs.Sweeps.{IsServed}
+use Rattle.top_down_sweep.proofs.Holding.{put_at}
+use Rattle.top_down_sweep.proofs.Doing.{on_ok}
+use Rattle.top_down_sweep.proofs.QueueCalls.{does_put, spilled_at_work}
 use Rattle.top_down_sweep.proofs.machine.Machine.push.Goals as goal
 
 -- only files of parts that were taken changed
 pub returns-clause-does : goal.returns-clause-does
-returns-clause-does g c = does_spilled g.S.Shelf.tells g.S.Shelf.world g.S.Shelf.faults 48 3 _ _
-    c.args.self.now c.push.new.self c.push.new.parts c.push.result c.requires.fit.sound.served
+returns-clause-does g c = does_put g.S.Shelf.tells g.S.Shelf.world g.S.Shelf.faults 48 3 _ _
+    c.args.self.now c.push.new.self c.push.new.parts c.args.ask c.push.result c.requires.fit.sound.served
     c.push.ensures.content (λ told. c.push.ensures.calls told) c.push.ensures.parts
-    c.push.ensures.spent c.push.ensures.faults (search rules)
-    (full_room c.push.result c.push.ensures.cause)
+    c.push.ensures.spent c.push.ensures.faults c.push.ensures.cause c.push.ensures.list c.requires.holds
 
 -- it waits too
 pub returns-clause-holds : goal.returns-clause-holds
@@ -18,3 +19,19 @@ returns-clause-holds g c = put_at g.S.Shelf.tells g.S.Shelf.world _ _ c.args.sel
     c.requires.fit.sound.operands
     c.push.ensures.content c.push.ensures.parts c.push.ensures.runs c.push.ensures.list
     c.requires.fits c.requires.holds
+
+pub returns-clause-fit : goal.returns-clause-fit
+returns-clause-fit g c =
+    let s = c.args.self.now in
+    let sound = c.requires.fit.sound in
+    let served : IsServed (record s { queue = c.push.new.self; parts = c.push.new.parts }) = search
+    rules in
+    on_ok c.push.result (record {
+      sound = record {
+        served = served;
+        operands = sound.operands;
+        phase = search rules;
+      };
+      at_work = λ told. spilled_at_work s _ _ _ sound.served (c.push.ensures.content.did told)
+          (c.requires.fit.at_work (c.push.ensures.content.before told));
+    })

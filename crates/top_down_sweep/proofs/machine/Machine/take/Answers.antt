@@ -1,16 +1,36 @@
 use Rattle.top_down_sweep.proofs.Holding.{taken_at}
 use Rattle.std.proofs.Common.{rules}
-use Rattle.top_down_sweep.proofs.Doing.{does_spilled}
+use Rattle.level_queue.specs.Queues.{held, shown}
+use Rattle.top_down_sweep.proofs.Doing.{does_ok, does_err}
+use Rattle.top_down_sweep.proofs.QueueCalls.{does_taken, spilled_at_work}
+use Rattle.top_down_sweep.proofs.FuelLaws.{taken_count}
 use Rattle.top_down_sweep.proofs.Phases.{phase_taken}
 use Rattle.top_down_sweep.specs.Sweeps.{IsServed}
 use Rattle.top_down_sweep.proofs.machine.Machine.take.Goals as goal
 
 -- only files of parts that were taken changed
 pub returns-clause-does : goal.returns-clause-does
-returns-clause-does g c = does_spilled g.S.Shelf.tells g.S.Shelf.world g.S.Shelf.faults 8 0 _ _
-    c.args.self.now c.take.new.self c.take.new.parts _ c.requires.fit.sound.served
+returns-clause-does g c = does_ok g.S.Shelf.tells g.S.Shelf.world g.S.Shelf.faults 8 0 _ _ _ _ c.take.result _
+    (does_taken g.S.Shelf.tells g.S.Shelf.world g.S.Shelf.faults 8 0 _ _
+    c.args.self.now c.take.new.self c.take.new.parts c.take.result c.requires.fit.sound.served
     c.take.ensures.content (λ told. c.take.ensures.calls told) c.take.ensures.parts
-    c.take.ensures.spent (search rules) tt tt
+    c.take.ensures.spent c.take.ensures.faults c.take.ensures.serves c.take.ensures.values
+    c.take.ensures.cause c.take.ensures.list c.requires.holds)
+
+pub returns-in_err-take-clause-does : goal.returns-in_err-take-clause-does
+returns-in_err-take-clause-does g c = does_err g.S.Shelf.tells g.S.Shelf.world g.S.Shelf.faults 8 0 _ _ _ _
+    c.from_residual.result c.take.result c.in_err-take.field-0.0 c.from_residual.ensures.1 c.in_err-take.was
+    (does_taken g.S.Shelf.tells g.S.Shelf.world g.S.Shelf.faults 8 0 _ _
+    c.args.self.now c.take.new.self c.take.new.parts c.take.result c.requires.fit.sound.served
+    c.take.ensures.content (λ told. c.take.ensures.calls told) c.take.ensures.parts
+    c.take.ensures.spent c.take.ensures.faults c.take.ensures.serves c.take.ensures.values
+    c.take.ensures.cause c.take.ensures.list c.requires.holds)
+
+-- one ask less waits
+pub returns-clause-load : goal.returns-clause-load
+returns-clause-load g c = taken_count (held c.args.self.now.queue) (held c.take.new.self)
+    (shown c.args.self.now.queue) c.in_ok-take.field-0 c.args.ask.now c.requires.shown
+    c.in_ok-take.ensures.again c.in_ok-take.ensures.count
 
 -- the ask was taken while asks are answered
 pub returns-clause-fit : goal.returns-clause-fit
@@ -25,7 +45,8 @@ returns-clause-fit g c =
         operands = sound.operands;
         phase = phase_taken s.writer _ _ s.place.phase c.requires.asking sound.phase;
       };
-      at_work = search rules;
+      at_work = λ told. spilled_at_work s _ _ _ sound.served (c.take.ensures.content.did told)
+          (c.requires.fit.at_work (c.take.ensures.content.before told));
     }
 
 -- the others still wait
