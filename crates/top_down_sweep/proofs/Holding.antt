@@ -57,7 +57,7 @@ abbrev pub SameApart : Files → ℕ → World → World → Type 0
 SameApart files step old new = (f : FileNo) → IsApart files step f
     → (file new f).bytes ≡ (file old f).bytes
 
-apart_written : (m : Machine) (n : ℕ) (old new : World)
+pub apart_written : (m : Machine) (n : ℕ) (old new : World)
     → WroteBoth n (inner_file m.writer) (ends_file m.writer) old new
     → SameApart (files_in m) m.parts.step old new
 apart_written m n old new wrote f apart =
@@ -65,7 +65,7 @@ apart_written m n old new wrote f apart =
     (DuringWrites (inner_file m.writer) (ends_file m.writer) (now old)) wrote.run).others f
     apart.not_inner apart.not_ends)
 
-apart_spilled : (m : Machine) (after : Parts) (old new : World) → 3 ≤ m.parts.next
+pub apart_spilled : (m : Machine) (after : Parts) (old new : World) → 3 ≤ m.parts.next
     → Spilled m.parts after old new → SameApart (files_in m) m.parts.step old new
 apart_spilled m after old new past spilled f apart =
     ap (λ (x : File). x.bytes) (ran_end old new (OnlyTaken m.parts after (now old)) spilled f
@@ -171,7 +171,7 @@ holds_later most m world later (asks, hold) = (
 )
 
 -- runs of the queue in files that aren't made
-runs_apart : (m : Machine) (q : LevelQueue Ask) (after : Parts) → IsServed m
+pub runs_apart : (m : Machine) (q : LevelQueue Ask) (after : Parts) → IsServed m
     → ((f : FileNo) → queues.IsRunOf q f → queues.IsRunOf m.queue f ⊎ IsTaken m.parts after f)
     → ((f : FileNo) → IsMade (files_in m) f → ¬ queues.IsRunOf m.queue f) → (f : FileNo)
     → IsMade (files_in m) f → ¬ queues.IsRunOf q f
@@ -265,7 +265,7 @@ member_total : (f : Ask → Member) → IsTotalOrder (λ (x y : Ask). member_cmp
 member_total f = then_total (on_total (λ a. (f a).low) nat_cmp_total)
     (on_total (λ a. (f a).high) nat_cmp_total)
 
-ask_total : IsTotalOrder ask_cmp
+pub ask_total : IsTotalOrder ask_cmp
 ask_total =
     then_total (on_total (λ (a : Ask). a.key) nat_cmp_total)
     (then_total (then_total (member_total (λ a. a.members.first))

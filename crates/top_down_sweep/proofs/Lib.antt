@@ -10,3 +10,9 @@ pub mod OperandReading
 pub mod SoundAsks
 pub mod OwnRuns
 pub mod QueueCalls
+pub mod StandingOn
+pub mod FormsOf
+pub mod WorkingOn
+pub mod OperandNext
+pub mod TurnKeeps
+pub mod ReadKeeps

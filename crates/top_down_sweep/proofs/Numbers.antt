@@ -60,3 +60,10 @@ last_few w taken phase s is at = by s.last (last_fits w taken phase s is at)
     by : (last : Option Numbered) → IfSome last (λ x. x.number ≤ inner_count w) → IfSome last (λ x. x.number < level_numbers)
     by None fits = tt
     by (Some x) fits = let few = few_arcs w in omega (arith, fits, few)
+
+-- and there would be with one more
+pub arcs_and_one : (w : ArcWriter) → inner_count w + 1 < level_numbers
+arcs_and_one w =
+    let stored : (filling_of w.inner).stored * (8 * 2) ≤ longest = subst (λ k. (filling_of w.inner).stored * (8 * k) ≤ longest) w.inner_width w.inner.fills.fits in
+    let waits : (filling_of w.inner).waiting * (8 * 2) ≤ most_piece = subst (λ k. (filling_of w.inner).waiting * (8 * k) ≤ most_piece) w.inner_width w.inner.fills.in_piece in
+    omega (arith, stored, waits)

@@ -9,3 +9,5 @@ pub mod Fuel
 pub mod Waiting
 pub mod Damage
 pub mod Calls
+pub mod Meaning
+pub mod Changes

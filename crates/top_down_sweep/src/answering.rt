@@ -24,6 +24,13 @@ impl<'r> Machine<'r> {
     ghost use Rattle.top_down_sweep.specs.Sweeps.{IsTakenTo, IsAsking};
     ghost use Rattle.top_down_sweep.specs.Waiting.{is_first_at, AreReadTo};
     ghost use Rattle.top_down_sweep.specs.Calls.{Does, IsFit, IsShown, HoldsAt, HoldsFirstAt};
+    ghost use Rattle.std.specs.Prelude.{IfErr, ◌++◌, [], ◌∷◌, ◌^◌};
+    ghost use Rattle.sweep_core.specs.Sweeps.{IsNoDamage};
+    ghost use Rattle.top_down_laws.specs.Remains.{answer_arcs};
+    ghost use Rattle.top_down_sweep.specs.Members.{want, all_filled, all_waiting, least};
+    ghost use Rattle.top_down_sweep.specs.Meaning.{Task, Contents, StandsFor, IsHandling, WorksOn};
+    ghost use Rattle.top_down_sweep.specs.Soundness.{asker_word};
+    ghost use Rattle.top_down_sweep.specs.Changes.{AsksInstead, JoinAsks, ServesSide, ask_for, goal_below};
 
     /// Takes an ask, and asks again with the members that were read, for the next node.
     pub(crate) fn ask_again<S: Shelf>(
@@ -46,6 +53,10 @@ impl<'r> Machine<'r> {
         ensures holds { OnOk result (HoldsAt S.tells S.world 1 shelf.new self.new) }
         ensures load { OnOk result (held self.new.queue ≡ held self.old.queue) }
         ensures last { OnOk result (last_of self.new.queue ≡ Some ask.now) }
+        ensures list { OnOk result (IsTrue (S.tells shelf.new) → (k : Contents) →
+            StandsFor self.old (S.world shelf.old) k → AsksInstead self.new (S.world shelf.new) k ask.now
+            (record { key = key; members = members; asker = ask.now.asker })) }
+        ensures undamaged { IfErr result (λ e. IsTrue (S.tells shelf.new) → IsNoDamage e) }
     {
         self.take(ask, shelf)?;
         let again = Ask {
@@ -77,6 +88,11 @@ impl<'r> Machine<'r> {
         ensures operands { self.new.operands ≡ self.old.operands }
         ensures load { OnOk result (held self.new.queue ≤ held self.old.queue + 1) }
         ensures last { OnOk result (last_of self.new.queue ≡ Some ask.now) }
+        ensures keeps { OnOk result (IsTrue (S.tells shelf.new) → (t : Task) → t.rule ≡ O.rule operation.now →
+            want self.old.operands ask.now ≡ false → members.now ≡ all_filled self.old.operands ask.now →
+            (least (all_waiting (level_of ask.now.key) members.now) < 2 ^ 63 → ⊥) →
+            IsHandling t asking.now ask.now self.old (S.world shelf.old) → WorksOn t self.new (S.world shelf.new)) }
+        ensures undamaged { IfErr result (λ e. IsTrue (S.tells shelf.new) → IsNoDamage e) }
     {
         self.take(ask, shelf)?;
         if let Some(known) = asking.known(ask) {
@@ -109,6 +125,14 @@ impl<'r> Machine<'r> {
         ensures numbered { OnOk result (is_first_at self.new.place.phase ≡ false) }
         ensures number { IfOk result (λ uid. uid ≡ identifier (next_numbered asking.now ask.now)) }
         ensures level { IfOk result (λ uid. level_of uid ≡ level_of ask.now.key) }
+        ensures placed { OnOk result (self.new.place.phase
+            ≡ Phase.Asking (record { root = asking.now.root; last = Some (next_numbered asking.now ask.now) })) }
+        ensures written { OnOk result (IsTrue (S.tells shelf.new) → (k : Contents) →
+            StandsFor self.old (S.world shelf.old) k → StandsFor self.new (S.world shelf.new) (record k {
+              inner =
+                  k.inner ++ answer_arcs ask.now.asker (identifier (next_numbered asking.now ask.now));
+            })) }
+        ensures undamaged { IfErr result IsNoDamage }
     {
         let next = asking.next(ask);
         let uid = next.uid();
@@ -135,6 +159,10 @@ impl<'r> Machine<'r> {
         ensures rest { self.new ≡ record self.old { writer = self.new.writer } }
         ensures count { OnOk result (inner_count self.new.writer
             ≡ inner_count self.old.writer + cond (is_asker ask.now.asker) 1 0) }
+        ensures written { OnOk result (IsTrue (S.tells shelf.new) → (k : Contents) →
+            StandsFor self.old (S.world shelf.old) k → StandsFor self.new (S.world shelf.new)
+            (record k { inner = k.inner ++ answer_arcs ask.now.asker target })) }
+        ensures undamaged { IfErr result IsNoDamage }
     {
         let Some(source) = Source::of_word(ask.asker) else {
             return Ok(());
@@ -169,6 +197,10 @@ impl<'r> Machine<'r> {
         ensures operands { self.new.operands ≡ self.old.operands }
         ensures load { OnOk result (held self.new.queue ≤ held self.old.queue + 1) }
         ensures last { last_of self.new.queue ≡ last_of self.old.queue }
+        ensures served { OnOk result (IsTrue (S.tells shelf.new) → (k : Contents) →
+            StandsFor self.old (S.world shelf.old) k → ServesSide self.new (S.world shelf.new) k uid high
+            (goal_below (O.rule operation.now) (level_of uid) high members.now)) }
+        ensures undamaged { IfErr result (λ e. IsTrue (S.tells shelf.new) → IsNoDamage e) }
     {
         let lows = members.on_side(false);
         let highs = members.on_side(true);
@@ -206,6 +238,10 @@ impl<'r> Machine<'r> {
         ensures holds { OnOk result (HoldsAt S.tells S.world 0 shelf.new self.new) }
         ensures load { OnOk result (held self.new.queue ≡ held self.old.queue + 1) }
         ensures last { last_of self.new.queue ≡ last_of self.old.queue }
+        ensures list { OnOk result (IsTrue (S.tells shelf.new) → (k : Contents) →
+            StandsFor self.old (S.world shelf.old) k → JoinAsks self.new (S.world shelf.new) k
+            (ask_for tuple.now (asker_word source) ∷ [])) }
+        ensures undamaged { IfErr result (λ e. IsTrue (S.tells shelf.new) → IsNoDamage e) }
     {
         let Some(key) = key_of(tuple) else {
             unreachable!();

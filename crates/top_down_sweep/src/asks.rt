@@ -10,6 +10,10 @@ impl<'r> Machine<'r> {
     ghost use Rattle.top_down_sweep.specs.Sweeps.{IsAsking};
     ghost use Rattle.top_down_sweep.specs.Waiting.{is_first_at, Fits};
     ghost use Rattle.top_down_sweep.specs.Calls.{Does, IsFit, IsFirst, HoldsAt, HoldsFirstAt};
+    ghost use Rattle.std.specs.Prelude.{IfErr, [], ◌∷◌};
+    ghost use Rattle.sweep_core.specs.Sweeps.{IsNoDamage};
+    ghost use Rattle.top_down_sweep.specs.Meaning.{Contents, StandsFor};
+    ghost use Rattle.top_down_sweep.specs.Changes.{ShowsAsk, TakesAsk, JoinAsks};
 
     /// The first ask, which stays.
     pub(crate) fn first_ask<S: Shelf>(&mut self, shelf: &mut S) -> Result<Option<Ask>, SortFault>
@@ -22,6 +26,9 @@ impl<'r> Machine<'r> {
         ensures last { last_of self.new.queue ≡ last_of self.old.queue }
         ensures load { OnOk result (held self.new.queue ≡ held self.old.queue) }
         ensures shown { IfOk result (λ found. IfSome found (IsFirst self.new)) }
+        ensures list { IfOk result (λ found. IsTrue (S.tells shelf.new) → (k : Contents) →
+            StandsFor self.old (S.world shelf.old) k → ShowsAsk self.new (S.world shelf.new) k found) }
+        ensures undamaged { IfErr result (λ e. IsTrue (S.tells shelf.new) → IsNoDamage e) }
     {
         self.queue.peek(shelf)
     }
@@ -38,6 +45,9 @@ impl<'r> Machine<'r> {
         ensures rest { self.new ≡ record self.old { queue = self.new.queue; parts = self.new.parts } }
         ensures load { OnOk result (held self.old.queue ≡ held self.new.queue + 1) }
         ensures last { OnOk result (last_of self.new.queue ≡ Some ask.now) }
+        ensures list { OnOk result (IsTrue (S.tells shelf.new) → (k : Contents) →
+            StandsFor self.old (S.world shelf.old) k → TakesAsk self.new (S.world shelf.new) k ask.now) }
+        ensures undamaged { IfErr result (λ e. IsTrue (S.tells shelf.new) → IsNoDamage e) }
     {
         self.queue.take(&mut self.parts, shelf)?;
         Ok(())
@@ -55,6 +65,9 @@ impl<'r> Machine<'r> {
         ensures rest { self.new ≡ record self.old { queue = self.new.queue; parts = self.new.parts } }
         ensures load { OnOk result (held self.new.queue ≡ held self.old.queue + 1) }
         ensures last { last_of self.new.queue ≡ last_of self.old.queue }
+        ensures list { OnOk result (IsTrue (S.tells shelf.new) → (k : Contents) →
+            StandsFor self.old (S.world shelf.old) k → JoinAsks self.new (S.world shelf.new) k (ask ∷ [])) }
+        ensures undamaged { IfErr result (λ e. IsTrue (S.tells shelf.new) → IsNoDamage e) }
     {
         self.queue.push(ask, &mut self.parts, shelf)
     }

@@ -26,6 +26,10 @@ impl<'r> Operand<'r> {
     ghost use Rattle.top_down_sweep.specs.Sweeps.{IsOperand, IsDamageIn};
     ghost use Rattle.top_down_sweep.specs.Waiting.{IsReadTo};
     ghost use Rattle.top_down_sweep.specs.Damage.{IsReadDamage};
+    ghost use Rattle.sweep_core.specs.Sweeps.{IsNoDamage};
+    ghost use Rattle.top_down_laws.specs.Readings.{Reading};
+    ghost use Rattle.top_down_sweep.specs.Meaning.{IsReadOf};
+    ghost use Rattle.top_down_sweep.specs.Changes.{HasNext, ReadsNext};
 
     /// Whether the member is that node, which isn't at hand.
     pub(crate) fn wants(&self, member: &Member, key: Uid) -> bool
@@ -51,6 +55,10 @@ impl<'r> Operand<'r> {
         ensures damaged { IfErr result (λ e. IsTrue (S.tells shelf.new) → (n : ℕ) → IsOperand n self.old →
             IsReading self.old.reader (S.world shelf.old) → IfSome self.old.hand (λ x. x.uid < key) →
             IsReadDamage n self.old.file key (S.world shelf.new) e) }
+        ensures next { OnOk result (IsTrue (S.tells shelf.new) → (r : Reading) →
+            IsReadOf self.old (S.world shelf.old) r → ReadsNext self.new (S.world shelf.new) r) }
+        ensures undamaged { IfErr result (λ e. IsTrue (S.tells shelf.new) → (r : Reading) →
+            IsReadOf self.old (S.world shelf.old) r → HasNext key r → IsNoDamage e) }
         ensures content { Told S.tells shelf.old shelf.new (Looked 1 (S.world shelf.old) (S.world shelf.new)) }
         ensures faults { OnlySortShelf (S.faults shelf.old) (S.faults shelf.new) result }
     {
@@ -85,9 +93,12 @@ pub(crate) struct Operands<'r> {
 
 impl<'r> Operands<'r> {
     ghost use Rattle.top_down_sweep.specs.Members.{want, all_filled};
+    ghost use Rattle.top_down_sweep.specs.Meaning.{roots_of};
 
     /// The roots of the diagrams.
-    pub(crate) fn roots(&self) -> Tuple {
+    pub(crate) fn roots(&self) -> Tuple
+        ensures { result ≡ roots_of self.now }
+    {
         Tuple {
             first: self.first.reader.trailer().root,
             second: self.second.reader.trailer().root,

@@ -48,6 +48,8 @@ impl<'r, O: Operation> TopDownSweep<'r, O> {
     ghost use Rattle.top_down_sweep.specs.Fuel.{fuel_of};
     ghost use Rattle.top_down_sweep.specs.Damage.{IsDamage};
     ghost use Rattle.top_down_sweep.specs.Calls.{IsInStep};
+    ghost use Rattle.sweep_core.specs.Sweeps.{IsNoDamage};
+    ghost use Rattle.top_down_sweep.specs.Meaning.{Task, Remains, IsMadeWhere};
 
     /// Handles one ask or reads one node, or ends the sweep. Once it has ended, each further turn answers so and does
     /// nothing.
@@ -71,26 +73,35 @@ impl<'r, O: Operation> TopDownSweep<'r, O> {
             (accounts O) 113 6 shelf.old shelf.new self.old self.new result }
         ensures refused { IfErr result (Refused self.new) }
         ensures damage { IfErr result (λ e. IsTrue (S.tells shelf.new) → IsDamage self.new (S.world shelf.new) e) }
+
+        // what remains of a task: once all is done, the two files are a diagram of its table
+        ensures keeps { OnOk result (IsTrue (S.tells shelf.new) → (t : Task) →
+            Remains O.rule O.begins self.old (S.world shelf.old) t →
+            Remains O.rule O.begins self.new (S.world shelf.new) t) }
+        ensures whole { OnOk result (IsTrue (S.tells shelf.new) → (t : Task) →
+            Remains O.rule O.begins self.old (S.world shelf.old) t →
+            IsMadeWhere t (S.world shelf.new) (made_in self.new)) }
+        ensures undamaged { IfErr result (λ e. IsTrue (S.tells shelf.new) → (t : Task) →
+            Remains O.rule O.begins self.old (S.world shelf.old) t → IsNoDamage e) }
     {
         self.machine.turn(&self.operation, shelf)
     }
 }
 
 impl<'r, O: Operation> Sweep<'r> for TopDownSweep<'r, O> {
-    ghost use Rattle.std.specs.Prelude.{◌≡◌, Some};
-    ghost use Rattle.arc_file.specs.declared.unreduced.Unreduced.{Unreduced};
-    ghost use Rattle.top_down_sweep.specs.Sweeps.{accounts, made_in, IsSound};
+    ghost use Rattle.top_down_sweep.specs.Meaning.{Task, Remains};
+    ghost use Rattle.top_down_sweep.specs.Sweeps.{accounts, IsSound};
     ghost use Rattle.top_down_sweep.specs.Fuel.{fuel_of};
     ghost use Rattle.top_down_sweep.specs.Damage.{IsDamage};
     ghost use Rattle.top_down_sweep.specs.Calls.{IsInStep};
 
-    ghost Job = { Unreduced };
+    ghost Job = { Task };
 
-    ghost remains = { λ s world made. made_in s ≡ Some made };
+    ghost remains = { Remains O.rule O.begins };
 
     ghost fuel = { fuel_of };
 
-    ghost left = { λ s world made. fuel_of s };
+    ghost left = { λ s world t. fuel_of s };
 
     ghost accounts = { accounts O };
 

@@ -24,6 +24,10 @@ impl<'r> Machine<'r> {
     ghost use Rattle.top_down_sweep.specs.Fuel.{unread, weight, machine_fuel};
     ghost use Rattle.top_down_sweep.specs.Waiting.{is_first_at, HasNoHands};
     ghost use Rattle.top_down_sweep.specs.Calls.{Does, IsFit, IsShown, IsMachineInStep, HoldsAt, HoldsFirstAt};
+    ghost use Rattle.std.specs.Prelude.{IfErr};
+    ghost use Rattle.sweep_core.specs.Sweeps.{IsNoDamage};
+    ghost use Rattle.top_down_sweep.specs.declared.place.Asking.{Asking};
+    ghost use Rattle.top_down_sweep.specs.Meaning.{Task, StandsFor, first_contents, IsFresh, IsWorking, IsHandling, WorksOn, RemainsOf};
 
     /// Handles the first ask, or ends.
     pub(crate) fn turn<O: Operation, S: Shelf>(
@@ -39,6 +43,11 @@ impl<'r> Machine<'r> {
         ensures falls { Falls (machine_fuel self.old) (machine_fuel self.new) result }
         ensures ends { IfOk result (λ turn. EndsAt turn self.new.place.phase) }
         ensures ended { HasEnded self.old.place.phase → StaysEnded shelf.old shelf.new self.old self.new result }
+        ensures keeps { OnOk result (IsTrue (S.tells shelf.new) → (t : Task) → t.rule ≡ O.rule operation.now →
+            RemainsOf t (O.begins operation.now) self.old (S.world shelf.old) →
+            RemainsOf t (O.begins operation.now) self.new (S.world shelf.new)) }
+        ensures undamaged { IfErr result (λ e. IsTrue (S.tells shelf.new) → (t : Task) →
+            RemainsOf t (O.begins operation.now) self.old (S.world shelf.old) → IsNoDamage e) }
     {
         match self.place.phase {
             Phase::Fresh => self.begin(operation, shelf),
@@ -62,6 +71,10 @@ impl<'r> Machine<'r> {
         ensures in_step { OnOk result (IsTrue (S.tells shelf.new) → IsMachineInStep self.new (S.world shelf.new)) }
         ensures falls { Falls (machine_fuel self.old) (machine_fuel self.new) result }
         ensures ends { IfOk result (λ turn. EndsAt turn self.new.place.phase) }
+        ensures keeps { OnOk result (IsTrue (S.tells shelf.new) → (t : Task) → t.rule ≡ O.rule operation.now →
+            IsFresh t (O.begins operation.now) self.old (S.world shelf.old) →
+            RemainsOf t (O.begins operation.now) self.new (S.world shelf.new)) }
+        ensures undamaged { IfErr result (λ e. IsTrue (S.tells shelf.new) → IsNoDamage e) }
     {
         let roots = operation.roots(&self.operands.roots());
         match operation.goal(&roots) {
@@ -86,6 +99,10 @@ impl<'r> Machine<'r> {
         ensures phase { OnOk result (IsAsking self.new.place.phase) }
         ensures holds { OnOk result (HoldsAt S.tells S.world 1 shelf.new self.new) }
         ensures weight { OnOk result (weight self.new ≡ weight self.old + 1) }
+        ensures keeps { OnOk result (IsTrue (S.tells shelf.new) → (t : Task) →
+            t.rule.goal t.roots ≡ Goal.Go tuple.now →
+            StandsFor self.old (S.world shelf.old) (first_contents t) → WorksOn t self.new (S.world shelf.new)) }
+        ensures undamaged { IfErr result (λ e. IsTrue (S.tells shelf.new) → IsNoDamage e) }
     {
         let Some(key) = key_of(tuple) else {
             unreachable!();
@@ -117,6 +134,11 @@ impl<'r> Machine<'r> {
         ensures in_step { OnOk result (IsTrue (S.tells shelf.new) → IsMachineInStep self.new (S.world shelf.new)) }
         ensures falls { Falls (machine_fuel self.old) (machine_fuel self.new) result }
         ensures ends { IfOk result (λ turn. EndsAt turn self.new.place.phase) }
+        ensures keeps { OnOk result (IsTrue (S.tells shelf.new) → (t : Task) → t.rule ≡ O.rule operation.now →
+            IsWorking t asking.now self.old (S.world shelf.old) →
+            RemainsOf t (O.begins operation.now) self.new (S.world shelf.new)) }
+        ensures undamaged { IfErr result (λ e. IsTrue (S.tells shelf.new) → (t : Task) →
+            IsWorking t asking.now self.old (S.world shelf.old) → IsNoDamage e) }
     {
         let Some(ask) = self.first_ask(shelf)? else {
             return self.end(asking.root.ptr(), shelf);
@@ -145,6 +167,10 @@ impl<'r> Machine<'r> {
         ensures phase { OnOk result (IsAsking self.new.place.phase) }
         ensures holds { OnOk result (HoldsAt S.tells S.world 1 shelf.new self.new) }
         ensures falls { OnOk result (weight self.new < weight self.old) }
+        ensures keeps { OnOk result (IsTrue (S.tells shelf.new) → (t : Task) → t.rule ≡ O.rule operation.now →
+            IsHandling t asking.now ask.now self.old (S.world shelf.old) → WorksOn t self.new (S.world shelf.new)) }
+        ensures undamaged { IfErr result (λ e. IsTrue (S.tells shelf.new) → (t : Task) →
+            IsHandling t asking.now ask.now self.old (S.world shelf.old) → IsNoDamage e) }
     {
         if self.queue.last() == Some(*ask) {
             return self.take(ask, shelf);
@@ -170,6 +196,10 @@ impl<'r> Machine<'r> {
         ensures rest { self.new ≡ record self.old { operands = self.new.operands } }
         ensures holds { OnOk result (HoldsAt S.tells S.world 1 shelf.new self.new) }
         ensures falls { OnOk result (unread self.new.operands < unread self.old.operands) }
+        ensures keeps { OnOk result (IsTrue (S.tells shelf.new) → (t : Task) → (s : Asking) →
+            IsHandling t s ask.now self.old (S.world shelf.old) → IsWorking t s self.new (S.world shelf.new)) }
+        ensures undamaged { IfErr result (λ e. IsTrue (S.tells shelf.new) → (t : Task) → (s : Asking) →
+            IsHandling t s ask.now self.old (S.world shelf.old) → IsNoDamage e) }
     {
         if self.operands.first.wants(&ask.members.first, ask.key) {
             return self.operands.first.read(ask.key, shelf);

@@ -16,6 +16,10 @@ impl<'r> Machine<'r> {
     ghost use Rattle.top_down_sweep.specs.declared.place.Phase.TheVariants as phases;
     ghost use Rattle.top_down_sweep.specs.Sweeps.{IsSoundMachine};
     ghost use Rattle.top_down_sweep.specs.Calls.{Does, IsFit, IsMachineInStep, HoldsAt};
+    ghost use Rattle.std.specs.Prelude.{IfErr, ◌++◌};
+    ghost use Rattle.arc_file.specs.Files.{end_arcs};
+    ghost use Rattle.sweep_core.specs.Sweeps.{IsNoDamage};
+    ghost use Rattle.top_down_sweep.specs.Meaning.{Contents, StandsFor, AreFilesOf};
 
     /// Puts an arc into the file that its target chooses.
     pub(crate) fn put<S: Shelf>(&mut self, arc: Arc, shelf: &mut S) -> Result<(), SortFault>
@@ -27,6 +31,10 @@ impl<'r> Machine<'r> {
         ensures rest { self.new ≡ record self.old { writer = self.new.writer } }
         ensures count { OnOk result
             (inner_count self.new.writer ≡ inner_count self.old.writer + length (inner_arcs (arc ∷ []))) }
+        ensures written { OnOk result (IsTrue (S.tells shelf.new) → (k : Contents) →
+            StandsFor self.old (S.world shelf.old) k → StandsFor self.new (S.world shelf.new)
+            (record k { inner = k.inner ++ inner_arcs (arc ∷ []); ends = k.ends ++ end_arcs (arc ∷ []) })) }
+        ensures undamaged { IfErr result IsNoDamage }
     {
         self.writer.put(arc, shelf)?;
         Ok(())
@@ -40,6 +48,10 @@ impl<'r> Machine<'r> {
         ensures in_step { OnOk result (IsTrue (S.tells shelf.new) → IsMachineInStep self.new (S.world shelf.new)) }
         ensures turn { IfOk result (λ turn. turn ≡ turns.Ended) }
         ensures made { OnOk result (self.new.place.phase ≡ phases.Ended (made_of self.new.writer root)) }
+        ensures files { OnOk result (IsTrue (S.tells shelf.new) → (k : Contents) →
+            StandsFor self.old (S.world shelf.old) k →
+            AreFilesOf (made_of self.new.writer root) (S.world shelf.new) k.inner k.ends) }
+        ensures undamaged { IfErr result IsNoDamage }
     {
         let made = self.writer.settle(root, shelf)?;
         self.place.phase = Phase::Ended(made);

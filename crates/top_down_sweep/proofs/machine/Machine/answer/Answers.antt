@@ -1,3 +1,15 @@
+use Rattle.std.proofs.Common.{true, ℕ, ◌<◌, ◌^◌, ◌++◌, ◌∙◌, ap, sym, subst, arith, ◌≡◌, false}
+use Rattle.top_down_laws.specs.Remains.{answer_arcs}
+use Rattle.top_down.specs.Asks.{side_arcs}
+use Rattle.top_down_sweep.specs.Soundness.{identifier, next_numbered}
+use Rattle.top_down_sweep.specs.Members.{all_waiting, least}
+use Rattle.top_down_sweep.specs.declared.ask.Members.{Members}
+use Rattle.top_down.specs.declared.tuple.Goal.{Goal}
+use Rattle.std.specs.Prelude.{Bool}
+use Rattle.top_down_sweep.specs.Changes.{goal_below}
+use Rattle.top_down_sweep.specs.Meaning.{Contents, StandsFor}
+use Rattle.top_down_sweep.proofs.FormsOf.{is_known, unknown_where}
+use Rattle.top_down_sweep.proofs.TurnKeeps.{known_works, new_works}
 use Rattle.level_queue.specs.Queues.{last_of}
 use Rattle.top_down_sweep.proofs.FuelLaws.{two_more}
 use Rattle.top_down_sweep.proofs.Holding.{first_at, first_fits, more_at, read_level}
@@ -5,7 +17,6 @@ use Rattle.std.proofs.lemmas.Result.{on_ok_weaker}
 use Rattle.top_down_sweep.specs.Waiting.{is_first_at, AreReadTo}
 use Rattle.rec_words.specs.Words.{level_of}
 use Rattle.top_down_sweep.specs.declared.operand.Operands.{Operands}
-use Rattle.std.proofs.Common.{◌∙◌, ap, sym, subst, arith, ◌≡◌, false}
 use Rattle.top_down_sweep.specs.declared.place.Place.{Place}
 use Rattle.top_down_sweep.specs.declared.machine.Machine.{Machine}
 use Rattle.top_down_sweep.specs.Sweeps.{IsAsking}
@@ -129,3 +140,54 @@ pub returns-clause-last : goal.returns-clause-last
 returns-clause-last g c = on_ok c.ask_side-2.result
     (c.ask_side-2.ensures.last ∙ c.ask_side.ensures.last ∙ ap (λ (m : Machine). last_of m.queue)
     c.number.ensures.rest ∙ c.in_ok-take.ensures.last)
+
+-- a known number answered it
+pub returns-in-Some-clause-keeps : goal.returns-in-Some-clause-keeps
+returns-in-Some-clause-keeps g c = on_ok_weaker c.put_inner.result (λ put told t rule none filled resolved h.
+    let mid = c.put_inner.ensures.does.leaves.content.before told in
+    let taken = c.in_ok-take.ensures.list mid h.contents h.stands in
+    let then : Contents = record h.contents { asks = taken.0 } in
+    known_works t c.args.asking.now c.args.ask.now c.args.self.now c.put_inner.new.self _ _ h
+    c.in-Some.known taken.0
+    (is_known c.args.asking.now.last c.args.ask.now c.in-Some.known (sym c.known.ensures ∙ c.in-Some.is))
+    taken.1
+    (ap (λ (m : Machine). last_of m.queue) c.put_inner.ensures.rest ∙ c.in_ok-take.ensures.last)
+    (ap (λ (m : Machine). m.place.phase) c.put_inner.ensures.rest
+    ∙ ap (λ (m : Machine). m.place.phase) c.take.ensures.rest ∙ c.requires.phase)
+    (put told then taken.2)) c.put_inner.ensures.written
+
+-- its tuple got a number, and its two sides are served
+pub returns-clause-keeps : goal.returns-clause-keeps
+returns-clause-keeps g c = on_ok_weaker c.ask_side-2.result (λ serves told t rule none filled resolved h.
+    let after_low = c.ask_side-2.ensures.does.leaves.content.before told in
+    let after_number = c.ask_side.ensures.does.leaves.content.before after_low in
+    let after_take = c.number.ensures.does.leaves.content.before after_number in
+    let s = c.args.asking.now in
+    let a = c.args.ask.now in
+    let uid = c.in_ok-uid.uid in
+    let taken = c.in_ok-take.ensures.list after_take h.contents h.stands in
+    let first : Contents = record h.contents { asks = taken.0 } in
+    let numbered = c.in_ok-uid.ensures.written after_number first taken.2 in
+    let second : Contents = record first {
+      inner = h.contents.inner ++ answer_arcs a.asker (identifier (next_numbered s a));
+    } in
+    let low = c.in_ok-ask_side.ensures.served after_low second numbered in
+    let goal_of : Bool → Goal = λ side. goal_below (g.O.Operation.rule c.args.operation.now) (level_of uid) side c.args.members.now in
+    let third : Contents = record second {
+      asks = low.0;
+      ends = h.contents.ends ++ side_arcs uid false (goal_of false);
+    } in
+    let high = serves told third low.2 in
+    let uid_is = c.in_ok-uid.ensures.number in
+    new_works t s a c.args.self.now c.ask_side-2.new.self _ _ h uid goal_of taken.0 low.0 high.0 none
+    (λ below. resolved (subst (λ (ms : Members). least (all_waiting (level_of a.key) ms) < 2 ^ 63) (sym filled) below))
+    (unknown_where s.last a c.known.result c.known.ensures c.in_default.not-Some) uid_is
+    (λ side i. goal_below (sym rule i) (c.in_ok-uid.ensures.level i) side (filled i))
+    taken.1 low.1 high.1
+    (c.ask_side-2.ensures.last ∙ c.ask_side.ensures.last ∙ ap (λ (m : Machine). last_of m.queue) c.number.ensures.rest ∙ c.in_ok-take.ensures.last)
+    (ap (λ (p : Place). p.phase) c.ask_side-2.ensures.place ∙ ap (λ (p : Place). p.phase) c.ask_side.ensures.place ∙ c.in_ok-uid.ensures.placed)
+    (subst (λ (w : ℕ). StandsFor c.ask_side-2.new.self (g.S.Shelf.world c.ask_side-2.new.shelf) (record h.contents {
+      asks = high.0;
+      inner = h.contents.inner ++ answer_arcs a.asker w;
+      ends = (h.contents.ends ++ side_arcs uid false (goal_of false)) ++ side_arcs uid true (goal_of true);
+    })) (sym uid_is) high.2)) c.ask_side-2.ensures.served

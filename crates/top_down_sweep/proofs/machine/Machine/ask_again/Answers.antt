@@ -1,3 +1,5 @@
+use Rattle.top_down_sweep.specs.Meaning.{Contents}
+use Rattle.std.proofs.lemmas.Result.{on_ok_weaker}
 use Rattle.top_down_sweep.proofs.Holding.{first_at, first_fits, again_fits}
 use Rattle.std.proofs.Common.{arith}
 use Rattle.top_down_sweep.proofs.Doing.{then_more}
@@ -20,3 +22,11 @@ push-requires-clause-fits g c told = again_fits c.args.self.now c.take.new.self 
     c.take.ensures.rest c.requires.later c.requires.sound
     (first_fits c.args.ask.now c.args.self.now _
     (c.requires.first (c.take.ensures.does.leaves.content.before told)))
+
+-- it was the first one, and another one joins the others
+pub returns-clause-list : goal.returns-clause-list
+returns-clause-list g c = on_ok_weaker c.push.result (λ joins told k stands.
+    let taken = c.in_ok-take.ensures.list (c.push.ensures.does.leaves.content.before told) k stands
+    in
+    let after : Contents = record k { asks = taken.0 } in
+    (taken.0, taken.1, joins told after taken.2)) c.push.ensures.list

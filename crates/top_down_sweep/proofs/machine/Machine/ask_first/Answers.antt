@@ -1,4 +1,15 @@
-use Rattle.std.proofs.Common.{ap}
+use Rattle.top_down_sweep.proofs.StandingOn.{stands_placed}
+use Rattle.top_down_sweep.specs.Changes.{JoinAsks}
+use Rattle.top_down_sweep.specs.Meaning.{first_contents}
+use Rattle.top_down_laws.specs.Forms.{nobody}
+use Rattle.top_down_sweep.specs.declared.place.Phase.TheVariants as phases
+use Rattle.top_down_sweep.specs.declared.place.Place.{Place}
+use Rattle.top_down_sweep.specs.declared.ask.Ask.{Ask}
+use Rattle.std.specs.Prelude.{None}
+use Rattle.std.proofs.Common.{[], ◌∷◌, refl, ◌∙◌, subst, ap}
+use Rattle.rec_words.specs.Words.{node_word}
+use Rattle.std.proofs.lemmas.Result.{on_ok_weaker}
+use Rattle.top_down_sweep.proofs.TurnKeeps.{asked_works}
 use Rattle.top_down_sweep.specs.declared.machine.Machine.{Machine}
 use Rattle.top_down_sweep.proofs.FuelLaws.{weight_put}
 use Rattle.top_down_sweep.proofs.machine.Machine.ask_first.Goals as goal
@@ -7,3 +18,24 @@ use Rattle.top_down_sweep.proofs.machine.Machine.ask_first.Goals as goal
 pub returns-clause-weight : goal.returns-clause-weight
 returns-clause-weight g c = weight_put c.args.self.now c.push.new.self c.push.result
     (ap (λ (m : Machine). m.operands) c.push.ensures.rest) c.push.ensures.last c.push.ensures.load
+
+-- the root's ask waits
+pub returns-clause-keeps : goal.returns-clause-keeps
+returns-clause-keeps g c = on_ok_weaker c.push.result (λ joins told t goes stands.
+    let m = c.args.self.now in
+    let place : Place = record m.place {
+      phase = phases.Asking (record { root = c.in-Some-of.root; last = None });
+    } in
+    asked_works t m c.push.new.self (g.S.Shelf.world c.args.shelf.now)
+    (g.S.Shelf.world c.push.new.shelf) c.args.tuple.now c.in-Some.key c.in-Some-of.root goes
+    c.in-Some.ensures.1
+    (c.in-Some-of.ensures.1 ∙ c.node.ensures ∙ ap (λ l. node_word l 0) c.level_at.ensures.level)
+    (c.push.ensures.last ∙ c.requires.none) (ap (λ (q : Machine). q.place.phase) c.push.ensures.rest)
+    (subst (λ (a : Ask). JoinAsks c.push.new.self (g.S.Shelf.world c.push.new.shelf)
+    (first_contents t) (a ∷ []))
+    (λ i. record {
+      key = c.in-Some.ensures.1 i;
+      members = c.of-2.ensures i;
+      asker = nobody;
+    }) (joins told (first_contents t) (stands_placed m (record m { place = place }) place
+    (g.S.Shelf.world c.args.shelf.now) (first_contents t) refl stands)))) c.push.ensures.list

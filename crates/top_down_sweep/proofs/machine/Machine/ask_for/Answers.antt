@@ -1,4 +1,7 @@
-use Rattle.std.proofs.Common.{subst, sym}
+use Rattle.top_down_sweep.specs.Changes.{JoinAsks}
+use Rattle.top_down_sweep.specs.declared.ask.Ask.{Ask}
+use Rattle.std.proofs.Common.{[], ◌∷◌, subst, sym}
+use Rattle.std.proofs.lemmas.Result.{on_ok_weaker}
 use Rattle.top_down_sweep.specs.declared.ask.Members.{Members}
 use Rattle.top_down_sweep.specs.Waiting.{is_first_at, Fits}
 use Rattle.rec_words.specs.Words.{level_of}
@@ -16,3 +19,13 @@ push-requires-clause-fits g c told = subst (λ (m : Members). Fits
     (c.requires.read told)
     (side_sound _ c.args.source c.args.tuple.now _ _ c.requires.numbered c.in-Some.ensures.1
     c.word.ensures c.requires.deeper c.requires.node))
+
+-- it is the ask for the tuple
+pub returns-clause-list : goal.returns-clause-list
+returns-clause-list g c = on_ok_weaker c.push.result (λ joins told k stands.
+    subst (λ (a : Ask). JoinAsks c.push.new.self (g.S.Shelf.world c.push.new.shelf) k (a ∷ []))
+    (λ i. record {
+      key = c.in-Some.ensures.1 i;
+      members = c.of.ensures i;
+      asker = c.word.ensures i;
+    }) (joins told k stands)) c.push.ensures.list

@@ -1,3 +1,7 @@
+use Rattle.top_down.specs.Rules.{Rule}
+use Rattle.std.proofs.Common.{◌∙◌, sym, ap}
+use Rattle.list_laws.proofs.AnswerLaws.{on_ok_both}
+use Rattle.top_down_sweep.proofs.TurnKeeps.{works_remain, constant_remains}
 use Rattle.top_down_sweep.proofs.FuelLaws.{end_falls}
 use Rattle.top_down_sweep.proofs.machine.Machine.begin.Goals as goal
 
@@ -5,3 +9,20 @@ use Rattle.top_down_sweep.proofs.machine.Machine.begin.Goals as goal
 pub returns-in-End-clause-falls : goal.returns-in-End-clause-falls
 returns-in-End-clause-falls g c = end_falls _ c.end.new.self _ c.end.result c.end.ensures.turn
     c.end.ensures.made
+
+-- then that truth value is a diagram of the task's table
+pub returns-in-End-clause-keeps : goal.returns-in-End-clause-keeps
+returns-in-End-clause-keeps g c = on_ok_both c.end.result (λ phase files told t rule fresh.
+    constant_remains t (g.O.Operation.begins c.args.operation.now) c.args.self.now c.end.new.self _
+    _ c.in-End.value _ fresh
+    (ap (λ (r : Rule). r.goal t.roots) rule ∙ ap (g.O.Operation.rule c.args.operation.now).goal (sym (c.roots-roots.ensures ∙ ap (g.O.Operation.begins c.args.operation.now) c.roots.ensures ∙ fresh.roots_are))
+    ∙ sym c.goal.ensures ∙ c.in-End.is)
+    c.terminal.ensures phase (files told)) c.end.ensures.made c.end.ensures.files
+
+-- and otherwise the root is asked for
+pub returns-in_ok-ask_first-in-Go-clause-keeps : goal.returns-in_ok-ask_first-in-Go-clause-keeps
+returns-in_ok-ask_first-in-Go-clause-keeps g c told t rule fresh = works_remain t _
+    c.ask_first.new.self.place.phase c.ask_first.new.self _
+    (c.in_ok-ask_first-in-Go.ensures.keeps told t
+    (ap (λ (r : Rule). r.goal t.roots) rule ∙ ap (g.O.Operation.rule c.args.operation.now).goal (sym (c.roots-roots.ensures ∙ ap (g.O.Operation.begins c.args.operation.now) c.roots.ensures ∙ fresh.roots_are))
+    ∙ sym c.goal.ensures ∙ c.in-Go.is) fresh.stands)

@@ -1,4 +1,6 @@
-use Rattle.std.proofs.Common.{refl, rules}
+use Rattle.top_down_sweep.specs.Meaning.{AreFilesOf}
+use Rattle.arc_file.specs.declared.unreduced.Unreduced.{Unreduced}
+use Rattle.std.proofs.Common.{◌∙◌, sym, subst, refl, rules}
 use Rattle.top_down_sweep.proofs.Doing.{does_wrote}
 use Rattle.top_down_sweep.proofs.machine.Machine.end.Goals as goal
 
@@ -10,3 +12,11 @@ returns-in_err-made-clause-does g c = does_wrote g.S.Shelf.tells g.S.Shelf.world
 pub returns-clause-does : goal.returns-clause-does
 returns-clause-does g c = does_wrote g.S.Shelf.tells g.S.Shelf.world g.S.Shelf.faults 4 _ _ c.args.self.now _ c.settle.new.self _ refl
     c.settle.ensures.same c.settle.ensures.content (search rules) tt
+
+-- the files are the arcs that were put
+pub returns-clause-files : goal.returns-clause-files
+returns-clause-files g c told k stands =
+    let held = c.in_ok-made.ensures.arcs told k.inner k.ends stands.written in
+    subst (λ (made : Unreduced). AreFilesOf made (g.S.Shelf.world c.settle.new.shelf) k.inner k.ends)
+    (c.in_ok-made.ensures.made ∙ sym c.in_ok-made.ensures.counts)
+    (record { inner_file = held.1; ends_file = held.2 })

@@ -1,5 +1,6 @@
 use Rattle.std.proofs.Common.{arith}
 use Rattle.top_down_sweep.proofs.QueueCalls.{does_shown}
+use Rattle.top_down_sweep.proofs.StandingOn.{shows_ask, shows_undamaged}
 use Rattle.top_down_sweep.proofs.Holding.{shown_at}
 use Rattle.top_down_sweep.proofs.FuelLaws.{first_shown}
 use Rattle.top_down_sweep.proofs.machine.Machine.first_ask.Goals as goal
@@ -24,3 +25,14 @@ pub returns-clause-holds : goal.returns-clause-holds
 returns-clause-holds g c = shown_at g.S.Shelf.tells g.S.Shelf.world _ _ c.args.self.now
     c.peek.new.self c.peek.result c.requires.fit.sound.operands c.peek.ensures.content
     c.peek.ensures.list c.peek.ensures.runs c.requires.holds
+
+-- the lists that it stands for stay
+pub returns-clause-list : goal.returns-clause-list
+returns-clause-list g c = shows_ask g.S.Shelf.tells g.S.Shelf.world _ _ c.args.self.now
+    c.peek.new.self c.peek.result c.requires.fit.sound.operands c.peek.ensures.content
+    c.peek.ensures.list c.peek.ensures.runs
+
+pub returns-clause-undamaged : goal.returns-clause-undamaged
+returns-clause-undamaged g c = shows_undamaged g.S.Shelf.tells g.S.Shelf.world _ _
+    c.args.self.now c.peek.new.self c.peek.result c.peek.ensures.content c.peek.ensures.list
+    c.requires.holds

@@ -1,3 +1,7 @@
+use Rattle.node_reading.proofs.NodeReading.{if_handed}
+use Rattle.list_laws.proofs.AnswerLaws.{on_ok_both}
+use Rattle.top_down_sweep.specs.Changes.{ShowsAsk}
+use Rattle.top_down_sweep.proofs.TurnKeeps.{handling, works_remain, ended_remains}
 use Rattle.top_down_sweep.proofs.Holding.{never_unsound}
 use Rattle.top_down_sweep.proofs.Phases.{step_at}
 use Rattle.std.proofs.Common.{◌≡◌, ◌∙◌, sym, subst, arith, false}
@@ -73,3 +77,44 @@ handle-requires-clause-first g c = subst (λ found. IfSome found
 pub returns-clause-in_step : goal.returns-clause-in_step
 returns-clause-in_step g c told = step_at c.handle.new.self _ c.in_ok-handle.ensures.phase
     (c.in_ok-handle.ensures.fit.at_work told) (c.in_ok-handle.ensures.holds told)
+
+-- where no ask is left, what was put is of the task
+pub returns-in_default-clause-keeps : goal.returns-in_default-clause-keeps
+returns-in_default-clause-keeps g c = on_ok_both c.end.result (λ phase files told t rule h.
+    ended_remains t (g.O.Operation.begins c.args.operation.now) c.args.asking.now c.args.self.now
+    c.first_ask.new.self c.end.new.self _ _ _ _ h
+    (subst (λ found. ShowsAsk c.first_ask.new.self
+    (g.S.Shelf.world c.first_ask.new.shelf) h.contents found) c.in_default.is
+    (c.in_ok-ask.ensures.list (c.end.ensures.does.leaves.content.before told) h.contents h.stands))
+    c.ptr.ensures.value phase (files told)) c.end.ensures.made c.end.ensures.files
+
+-- and what the handling of the first one leaves remains
+pub returns-clause-keeps : goal.returns-clause-keeps
+returns-clause-keeps g c told t rule h = works_remain t _ c.handle.new.self.place.phase
+    c.handle.new.self _ (c.in_ok-handle.ensures.keeps told t rule
+    (handling t c.args.asking.now c.in-Some.ask c.args.self.now c.first_ask.new.self _ _ h
+    c.first_ask.ensures.last
+    (subst (λ found. ShowsAsk c.first_ask.new.self
+    (g.S.Shelf.world c.first_ask.new.shelf) h.contents found) c.in-Some.is
+    (c.in_ok-ask.ensures.list (c.handle.ensures.does.leaves.content.before told) h.contents
+    h.stands))))
+
+-- no damage is found
+pub returns-then-not-is_sound-clause-undamaged : goal.returns-then-not-is_sound-clause-undamaged
+returns-then-not-is_sound-clause-undamaged g c = λ told t h.
+    absurd (never_unsound c.args.self.now c.first_ask.new.self c.in-Some.ask _ _
+    c.requires.phase c.first_ask.ensures.rest
+    (subst (λ found. IfSome found (HoldsFirstAt g.S.Shelf.tells g.S.Shelf.world
+    c.first_ask.new.shelf c.first_ask.new.self)) c.in-Some.is c.in_ok-ask.ensures.holds told)
+    (subst (λ b. is_sound b c.in-Some.ask ≡ false) c.is_first.ensures
+    (sym c.is_sound.ensures ∙ c.if-not-is_sound.true)))
+
+pub returns-in_err-handle-clause-undamaged : goal.returns-in_err-handle-clause-undamaged
+returns-in_err-handle-clause-undamaged g c = if_handed _ c.from_residual-in_err-handle.result _
+    c.from_residual-in_err-handle.ensures.1 (λ told t h. c.in_err-handle.ensures.undamaged told t
+    (handling t c.args.asking.now c.in-Some.ask c.args.self.now c.first_ask.new.self _ _ h
+    c.first_ask.ensures.last
+    (subst (λ found. ShowsAsk c.first_ask.new.self
+    (g.S.Shelf.world c.first_ask.new.shelf) h.contents found) c.in-Some.is
+    (c.in_ok-ask.ensures.list (c.handle.ensures.does.leaves.content.before told) h.contents
+    h.stands))))

@@ -1,4 +1,7 @@
-use Rattle.top_down_sweep.proofs.Holding.{first_at, more_at}
+use Rattle.list_laws.proofs.AnswerLaws.{on_ok_both}
+use Rattle.top_down_sweep.proofs.Holding.{if_err_map, first_at, more_at}
+use Rattle.top_down_sweep.proofs.TurnKeeps.{again_works}
+use Rattle.top_down_sweep.proofs.WorkingOn.{works_at, not_last}
 use Rattle.std.proofs.lemmas.Result.{on_ok_weaker}
 use Rattle.top_down_sweep.proofs.SoundAsks.{again_sound}
 use Rattle.top_down_sweep.specs.Waiting.{is_first_at}
@@ -106,3 +109,44 @@ ask_again-requires-clause-sound g c =
     c.in-Some.ensures.0)
     (is_first_at s.place.phase) (subst (λ b. is_sound b a ≡ true)
     (sym (ap is_first_at c.requires.phase)) c.requires.shown.sound))
+
+-- what remains of a task: the ask isn't the one that was taken last
+pub returns-then-eq-clause-keeps : goal.returns-then-eq-clause-keeps
+returns-then-eq-clause-keeps g c = on_ok c.take.result (λ told t rule h. absurd (not_last t
+    c.args.asking.now c.args.self.now c.args.ask.now _ h.contents h.rest h.first_is h.stands h.left
+    (last_is _ c.args.ask.now c.last.result c.last.ensures (sym c.eq.ensures ∙ c.if-eq.true))))
+
+pub returns-then-want-clause-keeps : goal.returns-then-want-clause-keeps
+returns-then-want-clause-keeps g c = on_ok_weaker c.read_wanted.result (λ keeps told t rule h.
+    works_at t c.read_wanted.new.self c.args.asking.now _
+    (ap (λ (m : Machine). m.place.phase) c.read_wanted.ensures.rest ∙ c.requires.phase)
+    (keeps told t c.args.asking.now h)) c.read_wanted.ensures.keeps
+
+pub returns-in-Some-clause-keeps : goal.returns-in-Some-clause-keeps
+returns-in-Some-clause-keeps g c = on_ok_both c.ask_again.result (λ last asks told t rule h.
+    again_works t c.args.asking.now c.args.ask.now c.args.self.now c.ask_again.new.self _ _ h
+    c.in-Some.key c.filled-members.result (sym c.want.ensures ∙ c.if-want.false)
+    c.filled-members.ensures (c.in-Some.ensures.1
+    ∙ ap (λ l. least (all_waiting l c.filled-members.result)) c.level_at.ensures.level)
+    (subst (λ k. k < 2 ^ 63) (sym c.in-Some.ensures.1) c.in-Some.ensures.0) last
+    (ap (λ (m : Machine). m.place.phase) c.ask_again.ensures.rest ∙ c.requires.phase)
+    (asks told h.contents h.stands)) c.ask_again.ensures.last c.ask_again.ensures.list
+
+pub returns-in-None-clause-keeps : goal.returns-in-None-clause-keeps
+returns-in-None-clause-keeps g c = on_ok_weaker c.answer.result (λ keeps told t rule h.
+    keeps told t rule (sym c.want.ensures ∙ c.if-want.false) c.filled-members.ensures
+    (λ below. c.in-None.ensures (subst (λ l. least (all_waiting l c.filled-members.result) < 2 ^ 63) (sym c.level_at.ensures.level) below))
+    h) c.answer.ensures.keeps
+
+-- where something of a task remains no damage is found
+pub returns-then-eq-clause-undamaged : goal.returns-then-eq-clause-undamaged
+returns-then-eq-clause-undamaged g c = if_err_map c.take.result (λ e none told t h. none told) c.take.ensures.undamaged
+
+pub returns-then-want-clause-undamaged : goal.returns-then-want-clause-undamaged
+returns-then-want-clause-undamaged g c = if_err_map c.read_wanted.result (λ e none told t h. none told t c.args.asking.now h) c.read_wanted.ensures.undamaged
+
+pub returns-in-Some-clause-undamaged : goal.returns-in-Some-clause-undamaged
+returns-in-Some-clause-undamaged g c = if_err_map c.ask_again.result (λ e none told t h. none told) c.ask_again.ensures.undamaged
+
+pub returns-in-None-clause-undamaged : goal.returns-in-None-clause-undamaged
+returns-in-None-clause-undamaged g c = if_err_map c.answer.result (λ e none told t h. none told) c.answer.ensures.undamaged

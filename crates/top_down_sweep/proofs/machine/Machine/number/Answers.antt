@@ -1,5 +1,11 @@
+use Rattle.top_down_sweep.specs.declared.place.Place.{Place}
+use Rattle.top_down_sweep.proofs.StandingOn.{stands_placed}
+use Rattle.top_down_sweep.specs.Meaning.{StandsFor}
+use Rattle.top_down_sweep.specs.declared.place.Phase.TheVariants as phases
+use Rattle.top_down_laws.specs.Remains.{answer_arcs}
+use Rattle.std.specs.Prelude.{Some}
+use Rattle.std.proofs.Common.{ℕ, ◌++◌, ◌≡◌, ◌≤◌, ◌<◌, ◌∙◌, ap, sym, subst, arith, refl}
 use Rattle.top_down_sweep.proofs.Holding.{numbered_at}
-use Rattle.std.proofs.Common.{◌≡◌, ◌≤◌, ◌<◌, ◌∙◌, ap, sym, subst, arith, refl}
 use Rattle.rec_words.specs.Words.{level_of, level_numbers}
 use Rattle.arc_file.specs.Writers.{inner_count}
 use Rattle.top_down_sweep.specs.declared.place.Numbered.{Numbered}
@@ -50,3 +56,29 @@ returns-clause-level g c =
 pub returns-clause-holds : goal.returns-clause-holds
 returns-clause-holds g c = numbered_at g.S.Shelf.tells g.S.Shelf.world _ c.put_inner.new.self _ _
     refl refl (c.in_ok-put_inner.ensures.holds 0 c.requires.holds)
+
+-- it is the tuple that was numbered last
+pub returns-clause-placed : goal.returns-clause-placed
+returns-clause-placed g c = λ i. phases.Asking (record {
+  root = c.args.asking.now.root;
+  last = Some (c.next-next.ensures i);
+})
+
+-- the arc to it is put
+pub returns-clause-written : goal.returns-clause-written
+returns-clause-written g c told k stands =
+    let m = c.put_inner.new.self in
+    let place : Place = record m.place {
+      phase = phases.Asking (record {
+        root = c.args.asking.now.root;
+        last = Some c.next-next.result;
+      });
+    } in
+    let world = g.S.Shelf.world c.put_inner.new.shelf in
+    let asker = c.args.ask.now.asker in
+    subst (λ (w : ℕ). StandsFor (record m { place = place }) world
+    (record k { inner = k.inner ++ answer_arcs asker w }))
+    (c.uid-uid.ensures ∙ ap identifier c.next-next.ensures)
+    (stands_placed m (record m { place = place }) place world
+    (record k { inner = k.inner ++ answer_arcs asker c.uid-uid.result }) refl
+    (c.in_ok-put_inner.ensures.written told k stands))

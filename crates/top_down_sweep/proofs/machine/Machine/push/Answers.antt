@@ -1,6 +1,7 @@
+use Rattle.top_down_sweep.proofs.StandingOn.{joins_ask, joins_undamaged}
+use Rattle.top_down_sweep.proofs.Holding.{put_at}
 use Rattle.std.proofs.Common.{rules}
 use Rattle.top_down_sweep.specs.Sweeps.{IsServed}
-use Rattle.top_down_sweep.proofs.Holding.{put_at}
 use Rattle.top_down_sweep.proofs.Doing.{on_ok}
 use Rattle.top_down_sweep.proofs.QueueCalls.{does_put, spilled_at_work}
 use Rattle.top_down_sweep.proofs.machine.Machine.push.Goals as goal
@@ -35,3 +36,15 @@ returns-clause-fit g c =
       at_work = λ told. spilled_at_work s _ _ _ sound.served (c.push.ensures.content.did told)
           (c.requires.fit.at_work (c.push.ensures.content.before told));
     })
+
+-- it joins the list
+pub returns-clause-list : goal.returns-clause-list
+returns-clause-list g c = joins_ask g.S.Shelf.tells g.S.Shelf.world _ _ c.args.self.now
+    c.push.new.self c.push.new.parts c.push.ensures.content c.args.ask c.push.result
+    c.requires.fit.sound.served c.requires.fit.sound.operands c.push.ensures.parts
+    c.push.ensures.runs c.push.ensures.list
+
+pub returns-clause-undamaged : goal.returns-clause-undamaged
+returns-clause-undamaged g c = joins_undamaged g.S.Shelf.tells g.S.Shelf.world _ _
+    c.args.self.now c.push.new.self c.push.new.parts c.push.ensures.content c.args.ask
+    c.push.result c.push.ensures.list c.requires.holds

@@ -1,3 +1,5 @@
+use Rattle.top_down_sweep.proofs.WorkingOn.{first_has_next, second_has_next, third_has_next}
+use Rattle.top_down_sweep.proofs.ReadKeeps.{first_kept, second_kept, third_kept}
 use Rattle.std.proofs.Common.{◌≡◌, ◌∙◌, true, sym, rules}
 use Rattle.std.proofs.lemmas.Result.{on_ok_weaker}
 use Rattle.top_down_sweep.specs.Members.{wants}
@@ -102,3 +104,47 @@ returns-clause-holds g c =
     (λ reads. reads told s.place.variables are.third reading) c.read-2.ensures.reads)
     (λ told. (c.read-2.ensures.content.did told).run)
     (λ told. c.requires.first (c.read-2.ensures.content.before told))
+
+-- what remains of a task stays when the first operand's next node was read
+pub returns-then-wants-clause-keeps : goal.returns-then-wants-clause-keeps
+returns-then-wants-clause-keeps g c = on_ok_weaker c.read.result (λ next told t s h.
+    first_kept t s c.args.ask.now c.args.self.now c.read.new.self _ _ h
+    c.requires.fit.sound.operands (sym c.wants.ensures ∙ c.if-wants.true) c.read.ensures.file
+    (c.read.ensures.content.did told).run (next told h.contents.readings.first h.stands.read.first))
+    c.read.ensures.next
+
+pub returns-then-wants-clause-undamaged : goal.returns-then-wants-clause-undamaged
+returns-then-wants-clause-undamaged g c = if_err_map c.read.result (λ e none told t s h.
+    none told h.contents.readings.first h.stands.read.first
+    (first_has_next t s c.args.self.now c.args.ask.now _ h.contents h.rest h.first_is h.stands
+    h.left (sym c.wants.ensures ∙ c.if-wants.true))) c.read.ensures.undamaged
+
+-- what remains of a task stays when the second operand's next node was read
+pub returns-then-wants-2-clause-keeps : goal.returns-then-wants-2-clause-keeps
+returns-then-wants-2-clause-keeps g c = on_ok_weaker c.read-then-wants-2.result (λ next told t s h.
+    second_kept t s c.args.ask.now c.args.self.now c.read-then-wants-2.new.self _ _ h
+    c.requires.fit.sound.operands (sym c.wants-2.ensures ∙ c.if-wants-2.true) c.read-then-wants-2.ensures.file
+    (c.read-then-wants-2.ensures.content.did told).run (next told h.contents.readings.second h.stands.read.second))
+    c.read-then-wants-2.ensures.next
+
+pub returns-then-wants-2-clause-undamaged : goal.returns-then-wants-2-clause-undamaged
+returns-then-wants-2-clause-undamaged g c = if_err_map c.read-then-wants-2.result (λ e none told t s h.
+    none told h.contents.readings.second h.stands.read.second
+    (second_has_next t s c.args.self.now c.args.ask.now _ h.contents h.rest h.first_is h.stands
+    h.left (sym c.wants-2.ensures ∙ c.if-wants-2.true))) c.read-then-wants-2.ensures.undamaged
+
+-- and when the third one's was
+pub returns-clause-keeps : goal.returns-clause-keeps
+returns-clause-keeps g c = on_ok_weaker c.read-2.result (λ next told t s h.
+    third_kept t s c.args.ask.now c.args.self.now c.read-2.new.self _ _ h
+    c.requires.fit.sound.operands (third_wanted _ _ _ (sym c.wants.ensures ∙ c.if-wants.false)
+    (sym c.wants-2.ensures ∙ c.if-wants-2.false) c.requires.wanted) c.read-2.ensures.file
+    (c.read-2.ensures.content.did told).run (next told h.contents.readings.third h.stands.read.third))
+    c.read-2.ensures.next
+
+pub returns-clause-undamaged : goal.returns-clause-undamaged
+returns-clause-undamaged g c = if_err_map c.read-2.result (λ e none told t s h.
+    none told h.contents.readings.third h.stands.read.third
+    (third_has_next t s c.args.self.now c.args.ask.now _ h.contents h.rest h.first_is h.stands
+    h.left (third_wanted _ _ _ (sym c.wants.ensures ∙ c.if-wants.false)
+    (sym c.wants-2.ensures ∙ c.if-wants-2.false) c.requires.wanted))) c.read-2.ensures.undamaged

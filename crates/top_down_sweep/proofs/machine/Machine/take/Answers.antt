@@ -1,3 +1,5 @@
+use Rattle.node_reading.proofs.NodeReading.{if_handed}
+use Rattle.top_down_sweep.proofs.StandingOn.{first_taken, takes_ask, takes_undamaged}
 use Rattle.top_down_sweep.proofs.Holding.{taken_at}
 use Rattle.std.proofs.Common.{rules}
 use Rattle.level_queue.specs.Queues.{held, shown}
@@ -56,3 +58,18 @@ returns-clause-holds g c = taken_at g.S.Shelf.tells g.S.Shelf.world _ _ c.args.s
     c.requires.fit.sound.operands
     c.take.ensures.content c.take.ensures.parts c.take.ensures.runs c.in_ok-take.ensures.list
     c.requires.holds
+
+-- it was the first of the list
+pub returns-clause-list : goal.returns-clause-list
+returns-clause-list g c = takes_ask g.S.Shelf.tells g.S.Shelf.world _ _ c.args.self.now c.take.new.self
+    c.take.new.parts c.take.ensures.content c.args.ask.now c.in_ok-take.field-0
+    c.requires.fit.sound.served c.requires.fit.sound.operands c.take.ensures.parts
+    c.take.ensures.runs c.in_ok-take.ensures.list
+    (first_taken c.in_ok-take.field-0 _ c.args.ask.now c.in_ok-take.ensures.again
+    c.requires.shown)
+
+pub returns-in_err-take-clause-undamaged : goal.returns-in_err-take-clause-undamaged
+returns-in_err-take-clause-undamaged g c = if_handed _ c.from_residual.result _
+    c.from_residual.ensures.1 (takes_undamaged g.S.Shelf.tells g.S.Shelf.world _ _ c.args.self.now
+    c.take.new.self c.take.new.parts c.take.ensures.content c.in_err-take.field-0.0
+    c.in_err-take.ensures.list c.requires.holds)

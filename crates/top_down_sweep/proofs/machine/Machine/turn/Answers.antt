@@ -1,3 +1,7 @@
+use Rattle.top_down_sweep.proofs.Holding.{if_err_map}
+use Rattle.std.proofs.lemmas.Result.{on_ok_weaker}
+use Rattle.std.proofs.Common.{subst}
+use Rattle.top_down_sweep.specs.Meaning.{RemainsIn}
 use Rattle.top_down_sweep.proofs.Phases.{fresh_step, asking_step}
 use Rattle.top_down_sweep.proofs.machine.Machine.turn.Goals as goal
 
@@ -14,3 +18,26 @@ begin-requires-clause-unread g c told = (fresh_step c.args.self.now _ c.in-Fresh
 pub go_on-requires-clause-holds : goal.go_on-requires-clause-holds
 go_on-requires-clause-holds g c told = (asking_step c.args.self.now _ _ c.in-Asking.is
     (c.requires.in_step told)).1
+
+-- what remains of a task in each phase
+pub returns-in-Fresh-clause-keeps : goal.returns-in-Fresh-clause-keeps
+returns-in-Fresh-clause-keeps g c = on_ok_weaker c.begin.result (λ keeps told t rule remains.
+    keeps told t rule (subst (λ p. RemainsIn t (g.O.Operation.begins c.args.operation.now) p c.args.self.now
+    (g.S.Shelf.world c.args.shelf.now)) c.in-Fresh.is remains))
+    c.begin.ensures.keeps
+
+pub returns-in-Asking-clause-keeps : goal.returns-in-Asking-clause-keeps
+returns-in-Asking-clause-keeps g c = on_ok_weaker c.go_on.result (λ keeps told t rule remains.
+    keeps told t rule (subst (λ p. RemainsIn t (g.O.Operation.begins c.args.operation.now) p c.args.self.now
+    (g.S.Shelf.world c.args.shelf.now)) c.in-Asking.is remains))
+    c.go_on.ensures.keeps
+
+-- where something remains no damage is found
+pub returns-in-Fresh-clause-undamaged : goal.returns-in-Fresh-clause-undamaged
+returns-in-Fresh-clause-undamaged g c = if_err_map c.begin.result (λ e none told t remains. none told) c.begin.ensures.undamaged
+
+pub returns-in-Asking-clause-undamaged : goal.returns-in-Asking-clause-undamaged
+returns-in-Asking-clause-undamaged g c = if_err_map c.go_on.result (λ e none told t remains.
+    none told t (subst (λ p. RemainsIn t (g.O.Operation.begins c.args.operation.now) p c.args.self.now
+    (g.S.Shelf.world c.args.shelf.now)) c.in-Asking.is remains))
+    c.go_on.ensures.undamaged

@@ -1,3 +1,6 @@
+use Rattle.node_reading.specs.Reading.{bytes_of}
+use Rattle.top_down_sweep.specs.declared.operand.Operand.{Operand}
+use Rattle.top_down_sweep.proofs.OperandNext.{reads_next, next_undamaged, never_passed}
 use Rattle.std.proofs.Common.{◌≡◌, ◌<◌, ◌∙◌, sym, subst, arith, tests}
 use Rattle.std.specs.Prelude.{Some, Ok, Err}
 use Rattle.rec_words.specs.declared.node.Node.{Node}
@@ -72,3 +75,37 @@ returns-in_default-clause-damaged g c told n is reading behind =
     (g.S.Shelf.world c.next.new.shelf) c.args.key is reading behind c.in_ok-hand.ensures.file
     c.in_ok-hand.ensures.trailer (gives.same told) c.in_ok-hand.hand _ gives.rises
     (gives.value told) later c.damage.ensures.place
+
+-- of the nodes that weren't read the last one was read
+pub returns-in-Some-clause-next : goal.returns-in-Some-clause-next
+returns-in-Some-clause-next g c told r read =
+    let after : Operand = record c.args.self.now {
+      reader = c.next.new.self;
+      hand = c.in_ok-hand.hand;
+    } in
+    reads_next c.args.self.now after c.in-Some.node (g.S.Shelf.world c.args.shelf.now)
+    (g.S.Shelf.world c.next.new.shelf) r c.in_ok-hand.ensures.file c.in_ok-hand.ensures.trailer
+    (c.in_ok-hand.ensures.content.did told) (c.in_ok-hand.ensures.reads told read.reads.reads)
+    (c.in_ok-hand.ensures.items told read.reads.reads r.unread read.left) c.in-Some.is read
+
+-- where one is left no later than the key, no damage is found
+pub returns-in_err-hand-clause-undamaged : goal.returns-in_err-hand-clause-undamaged
+returns-in_err-hand-clause-undamaged g c = if_handed _ c.from_residual.result _
+    c.from_residual.ensures.1 (λ told r read next. next_undamaged c.next.new.self
+    (bytes_of c.args.self.now.reader (g.S.Shelf.world c.args.shelf.now)) r.unread
+    c.in_err-hand.field-0.0
+    (c.in_err-hand.ensures.items told read.reads.reads r.unread read.left))
+
+pub returns-in_default-clause-undamaged : goal.returns-in_default-clause-undamaged
+returns-in_default-clause-undamaged g c told r read next =
+    let later : (x : Node) → c.in_ok-hand.hand ≡ Some x
+    → c.args.key < x.uid = λ x found. elim c.in_default.branch [
+      | in_default-via-in-Some+else-le w ↦ (let no = sym w.le.ensures ∙ w.if-le.false in
+          let behind_key : c.args.key < w.in-Some.node.uid = grind (arith, tests) in
+          subst (λ (y : Node). c.args.key < y.uid)
+          (same_some w.in-Some.node x (sym w.in-Some.is ∙ found)) behind_key)
+      | in_default-via-in_default w ↦ absurd (w.in_default.not-Some x found)
+    ] in
+    absurd (never_passed c.next.new.self
+    (bytes_of c.args.self.now.reader (g.S.Shelf.world c.args.shelf.now)) c.args.key r c.in_ok-hand.hand
+    (c.in_ok-hand.ensures.items told read.reads.reads r.unread read.left) later next)

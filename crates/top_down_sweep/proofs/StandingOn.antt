@@ -1,0 +1,301 @@
+-- The lists that a machine stands for, from call to call.
+use Rattle.std.proofs.Common.{◌≡◌, ℕ, ◌∙◌, Bool, List, [], ◌∷◌, ◌++◌, refl, sym, subst, ap, inl, inr}
+use Rattle.std.specs.Prelude.{◌⊎◌, take, length, Option, Some, None, Result, Ok, Err, IfOk, IfErr, OnOk, IsTrue}
+use Rattle.shelf_model.specs.declared.file_no.FileNo.{FileNo}
+use Rattle.shelf_model.specs.declared.sort_fault.SortFault.{SortFault}
+use Rattle.shelf_model.specs.declared.sort_fault.SortFault.TheVariants.{Shelf, Damaged, RunsSpent, RoomFull}
+use Rattle.shelf_model.specs.File.{File}
+use Rattle.shelf_model.specs.Folder.{Folder, file_in}
+use Rattle.shelf_model.specs.Calls.{Told}
+use Rattle.shelf_model.specs.Moments.{Ran, Stays}
+use Rattle.shelf_model.specs.World.{World, now, file}
+use Rattle.shelf_model.proofs.Runs.{ran_end}
+use Rattle.arc_file.specs.declared.arc.Arc.{Arc}
+use Rattle.arc_file.specs.declared.writer.ArcWriter.{ArcWriter}
+use Rattle.block_stream.specs.declared.appender.Appender.{Appender}
+use Rattle.block_stream.specs.Records.{records_bytes}
+use Rattle.block_stream.specs.Appenders.{filling_of, written_of, HoldsItems}
+use Rattle.block_stream.specs.Items.{AreItems}
+use Rattle.arc_file.specs.Arcs.{arc_words, IsArc}
+use Rattle.arc_file.specs.Pairs.{DuringWrites, WroteBoth}
+use Rattle.arc_file.specs.Writers.{inner_file, ends_file, HoldsArcs}
+use Rattle.run_tiers.specs.declared.parts.Parts.{Parts}
+use Rattle.run_tiers.specs.Parts.{IsTaken, OnlyTaken, Spilled, Took}
+use Rattle.run_merge.specs.Lists.{Joins, Shows, Gives, AnswersShown}
+use Rattle.level_queue.specs.declared.queue.LevelQueue.{LevelQueue}
+use Rattle.level_queue.specs.Queues as queues
+use Rattle.level_queue.proofs.QueueLaws.{queue_kept}
+use Rattle.sweep_core.specs.Accounts.{CanBeTaken}
+use Rattle.sweep_core.specs.Sweeps.{IsNoDamage}
+use Rattle.node_file.specs.Readers.{AreLeft}
+use Rattle.node_reading.specs.Reading.{bytes_of}
+use Rattle.node_reading.proofs.NodeReading.{still_reading}
+use Rattle.top_down_laws.specs.Readings.{Reading, Readings}
+use Rattle.top_down_sweep.specs.declared.ask.Ask.{Ask}
+use Rattle.top_down_sweep.specs.declared.operand.Operand.{Operand}
+use Rattle.top_down_sweep.specs.declared.operand.Operands.{Operands}
+use Rattle.top_down_sweep.specs.declared.place.Place.{Place}
+use Rattle.top_down_sweep.specs.declared.machine.Machine.{Machine}
+use Rattle.top_down_sweep.specs.Items.{ask_words, IsAsk, ask_cmp}
+use Rattle.top_down_sweep.specs.Sweeps.{files_in, IsMade, IsServed, IsOperand, AreOperands}
+use Rattle.top_down_sweep.specs.Waiting.{Waits, AreApart}
+use Rattle.top_down_sweep.specs.Calls.{HoldsAt}
+use Rattle.top_down_sweep.specs.Meaning.{Contents, IsReadOf, AreRead, StandsFor}
+use Rattle.top_down_sweep.specs.Changes.{ShowsAsk, TakesAsk, JoinAsks}
+use Rattle.top_down_sweep.proofs.Holding.{SameApart, apart_written, apart_spilled, looked_same, runs_apart}
+
+-- what was read of an operand stays where the bytes of its file do
+pub read_still : (n : ℕ) (o : Operand) (old new : World) (r : Reading) → IsOperand n o
+    → (file new o.file).bytes ≡ (file old o.file).bytes → IsReadOf o old r → IsReadOf o new r
+read_still n o old new r is same read =
+    let bytes : bytes_of o.reader new ≡ bytes_of o.reader old =
+    ap (λ f. (file new f).bytes) is.file_is ∙ same ∙ sym (ap (λ f. (file old f).bytes) is.file_is)
+    in
+    record {
+      hand_is = read.hand_is;
+      reads = still_reading o.reader o.reader old new refl bytes read.reads read.reads.reads;
+      left = subst (λ b. AreLeft o.reader b r.unread) (sym bytes) read.left;
+    }
+
+pub all_still : (m : Machine) (old new : World) (r : Readings)
+    → AreOperands m.place.variables m.operands → SameApart (files_in m) m.parts.step old new
+    → AreApart (files_in m) m.parts.step → AreRead m.operands old r → AreRead m.operands new r
+all_still m old new r are same apart read = record {
+  first = read_still _ m.operands.first old new r.first are.first
+      (same m.operands.first.file apart.first) read.first;
+  second = read_still _ m.operands.second old new r.second are.second
+      (same m.operands.second.file apart.second) read.second;
+  third = read_still _ m.operands.third old new r.third are.third
+      (same m.operands.third.file apart.third) read.third;
+}
+
+-- and what a writer holds stays where its files do
+held_on : (a : Appender Arc) (old new : World) (xs : List Arc)
+    → file new (filling_of a).file ≡ file old (filling_of a).file
+    → HoldsItems IsArc arc_words a old xs → HoldsItems IsArc arc_words a new xs
+held_on a old new xs same held =
+    let bytes : written_of a new ≡ written_of a old = ap (λ (f : File).
+    f.bytes ++ records_bytes a.filling.words (take a.filling.waiting a.window.now)) same in
+    record {
+      items = subst (λ b. AreItems IsArc arc_words a.filling.words 0 b xs) (sym bytes) held.items;
+      all = ap length bytes ∙ held.all;
+    }
+
+arcs_still : (w : ArcWriter) (old new : World) (inner ends : List Arc)
+    → file new (inner_file w) ≡ file old (inner_file w)
+    → file new (ends_file w) ≡ file old (ends_file w) → HoldsArcs w old inner ends
+    → HoldsArcs w new inner ends
+arcs_still w old new inner ends first second held = record {
+  inner_are = held_on w.inner old new inner first held.inner_are;
+  inner_many = held.inner_many;
+  ends_are = held_on w.ends old new ends second held.ends_are;
+  ends_many = held.ends_many;
+}
+
+-- arcs were put
+pub stands_written : (n : ℕ) (m q : Machine) (old new : World) (k : Contents)
+    (inner ends : List Arc) → q ≡ record m { writer = q.writer } → files_in q ≡ files_in m
+    → AreOperands m.place.variables m.operands
+    → WroteBoth n (inner_file m.writer) (ends_file m.writer) old new
+    → HoldsArcs q.writer new inner ends → StandsFor m old k
+    → StandsFor q new (record k { inner = inner; ends = ends })
+stands_written n m q old new k inner ends rest files are wrote held stands =
+    let same : files_in (record m { writer = q.writer }) ≡ files_in m = ap files_in (sym rest)
+    ∙ files in
+    let during = ran_end old new (DuringWrites (inner_file m.writer) (ends_file m.writer) (now old))
+    wrote.run in
+    let unwritten : (f : FileNo) → queues.IsRunOf m.queue f
+    → (file new f).bytes ≡ (file old f).bytes =
+    λ f run. ap (λ (x : File). x.bytes) (during.others f (λ is. stands.no_run f (inl is) run)
+    (λ is. stands.no_run f (inr is) run)) in
+    subst (λ (p : Machine). StandsFor p new (record k { inner = inner; ends = ends })) (sym rest)
+    (record {
+      asks_are = queue_kept IsAsk ask_words ask_cmp m.queue old new k.asks unwritten
+          stands.asks_are;
+      read = all_still m old new k.readings are (apart_written m n old new wrote) stands.apart
+          stands.read;
+      written = held;
+      no_run = λ f made. stands.no_run f (subst (λ fs. IsMade fs f) same made);
+      apart = subst (λ fs. AreApart fs m.parts.step) (sym same) stands.apart;
+    })
+
+-- a queue has another list, and parts were taken
+pub stands_spilled : (m : Machine) (q : LevelQueue Ask) (after : Parts) (old new : World)
+    (k : Contents) (asks : List Ask) → IsServed m → AreOperands m.place.variables m.operands
+    → Spilled m.parts after old new → Took m.parts after
+    → ((f : FileNo) → queues.IsRunOf q f → queues.IsRunOf m.queue f ⊎ IsTaken m.parts after f)
+    → Waits q new asks → StandsFor m old k
+    → StandsFor (record m { queue = q; parts = after }) new (record k { asks = asks })
+stands_spilled m q after old new k asks served are spilled took runs waits stands = record {
+  asks_are = waits;
+  read = all_still m old new k.readings are
+      (apart_spilled m after old new served.serves.past_made spilled) stands.apart stands.read;
+  written = arcs_still m.writer old new k.inner k.ends (untaken _ served.inner_made)
+      (untaken _ served.ends_made) stands.written;
+  no_run = runs_apart m q after served runs stands.no_run;
+  apart = subst (AreApart (files_in m)) (sym took.step_is) stands.apart;
+}
+  where
+    untaken : (f : FileNo) → ¬ CanBeTaken m.parts.step m.parts.next f → file new f ≡ file old f
+    untaken f free = ran_end old new (OnlyTaken m.parts after (now old)) spilled f
+        (λ taken. free (record { step_is = taken.step_is; from = taken.from }))
+
+-- files were looked at
+stays_same : (old new : World) → Ran (Stays (now old)) old new → (f : FileNo)
+    → file new f ≡ file old f
+stays_same old new ran f = ap (λ (d : Folder). file_in d f) (ran_end old new (Stays (now old)) ran)
+
+pub stands_shown : (m : Machine) (q : LevelQueue Ask) (old new : World) (k : Contents)
+    → AreOperands m.place.variables m.operands → Ran (Stays (now old)) old new
+    → ((f : FileNo) → queues.IsRunOf q f → queues.IsRunOf m.queue f) → Waits q new k.asks
+    → StandsFor m old k → StandsFor (record m { queue = q }) new k
+stands_shown m q old new k are ran runs waits stands = record {
+  asks_are = waits;
+  read = all_still m old new k.readings are (λ f _. looked_same old new ran f) stands.apart
+      stands.read;
+  written = arcs_still m.writer old new k.inner k.ends (stays_same old new ran _)
+      (stays_same old new ran _) stands.written;
+  no_run = λ f made run. stands.no_run f made (runs f run);
+  apart = stands.apart;
+}
+
+-- operands were read
+pub stands_read : (m : Machine) (o : Operands) (old new : World) (k : Contents) (r : Readings)
+    → files_in (record m { operands = o }) ≡ files_in m → Ran (Stays (now old)) old new
+    → AreRead o new r → StandsFor m old k
+    → StandsFor (record m { operands = o }) new (record k { readings = r })
+stands_read m o old new k r files ran read stands = record {
+  asks_are = queue_kept IsAsk ask_words ask_cmp m.queue old new k.asks
+      (λ f run. looked_same old new ran f) stands.asks_are;
+  read = read;
+  written = arcs_still m.writer old new k.inner k.ends (stays_same old new ran _)
+      (stays_same old new ran _) stands.written;
+  no_run = λ f made. stands.no_run f (subst (λ fs. IsMade fs f) files made);
+  apart = subst (λ fs. AreApart fs m.parts.step) (sym files) stands.apart;
+}
+
+-- the place doesn't count
+pub stands_placed : (m q : Machine) (place : Place) (world : World) (k : Contents)
+    → q ≡ record m { place = place } → StandsFor m world k → StandsFor q world k
+stands_placed m q place world k rest stands = subst (λ (p : Machine). StandsFor p world k)
+    (sym rest) (record {
+      asks_are = stands.asks_are;
+      read = stands.read;
+      written = stands.written;
+      no_run = stands.no_run;
+      apart = stands.apart;
+    })
+
+-- no damage is found by a call of the queue
+undamaged_shown : (Now : List Ask → Type 0) (asks : List Ask) (e : SortFault)
+    → Shows Now asks (Err e) → IsNoDamage e
+undamaged_shown Now asks Shelf shown = tt
+undamaged_shown Now asks (Damaged f at) shown = shown
+undamaged_shown Now asks RunsSpent shown = tt
+undamaged_shown Now asks RoomFull shown = tt
+
+undamaged_given : (Now : List Ask → Type 0) (asks : List Ask) (e : SortFault)
+    → Gives Now asks (Err e) → IsNoDamage e
+undamaged_given Now asks Shelf given = tt
+undamaged_given Now asks (Damaged f at) given = given
+undamaged_given Now asks RunsSpent given = tt
+undamaged_given Now asks RoomFull given = tt
+
+undamaged_joined : (Now : List Ask → Type 0) (a : Ask) (asks : List Ask) (e : SortFault)
+    → Joins Now a asks (Err e) → IsNoDamage e
+undamaged_joined Now a asks Shelf joined = tt
+undamaged_joined Now a asks (Damaged f at) joined = joined
+undamaged_joined Now a asks RunsSpent joined = tt
+undamaged_joined Now a asks RoomFull joined = tt
+
+-- where an ask was shown, it is the one that is taken
+pub first_taken : (found shown : Option Ask) (a : Ask) → AnswersShown shown (Ok found)
+    → shown ≡ Some a → found ≡ Some a
+first_taken found None a answers is = absurd (cc)
+first_taken found (Some b) a answers is = cc
+
+module _ {S : Type 0} (tells : S → Bool) (world : S → World) (s t : S) (m : Machine)
+    (q : LevelQueue Ask) where
+  -- the first ask was shown
+  pub shows_ask : (result : Result (Option Ask) SortFault)
+      → AreOperands m.place.variables m.operands
+      → Told tells s t (Ran (Stays (now (world s))) (world s) (world t))
+      → (IsTrue (tells t) → (asks : List Ask) → Waits m.queue (world s) asks
+      → Shows (Waits q (world t)) asks result)
+      → ((f : FileNo) → queues.IsRunOf q f → queues.IsRunOf m.queue f)
+      → IfOk result (λ found. IsTrue (tells t) → (k : Contents) → StandsFor m (world s) k
+      → ShowsAsk (record m { queue = q }) (world t) k found)
+  shows_ask (Err e) are did list runs = tt
+  shows_ask (Ok None) are did list runs = λ told k stands.
+      let shown = list told k.asks stands.asks_are in (
+        shown.0,
+        stands_shown m q (world s) (world t) k are (did.did told) runs shown.1 stands,
+      )
+  shows_ask (Ok (Some a)) are did list runs = λ told k stands.
+      let shown = list told k.asks stands.asks_are in (
+        shown.0,
+        shown.1,
+        stands_shown m q (world s) (world t) k are (did.did told) runs shown.2 stands,
+      )
+
+  pub shows_undamaged : (result : Result (Option Ask) SortFault)
+      → Told tells s t (Ran (Stays (now (world s))) (world s) (world t))
+      → (IsTrue (tells t) → (asks : List Ask) → Waits m.queue (world s) asks
+      → Shows (Waits q (world t)) asks result) → HoldsAt tells world 1 s m
+      → IfErr result (λ e. IsTrue (tells t) → IsNoDamage e)
+  shows_undamaged (Ok found) did list holds = tt
+  shows_undamaged (Err e) did list holds = λ told.
+      let (asks, hold) = holds (did.before told) in
+      undamaged_shown (Waits q (world t)) asks e (list told asks hold.wait)
+
+  module _ (after : Parts) (did : Told tells s t (Spilled m.parts after (world s) (world t))) where
+    -- it was taken
+    pub takes_ask : (a : Ask) (found : Option Ask) → IsServed m
+        → AreOperands m.place.variables m.operands → Took m.parts after
+        → ((f : FileNo) → queues.IsRunOf q f → queues.IsRunOf m.queue f ⊎ IsTaken m.parts after f)
+        → (IsTrue (tells t) → (asks : List Ask) → Waits m.queue (world s) asks
+        → Gives (Waits q (world t)) asks (Ok found)) → found ≡ Some a → IsTrue (tells t)
+        → (k : Contents) → StandsFor m (world s) k
+        → TakesAsk (record m { queue = q; parts = after }) (world t) k a
+    takes_ask a found served are took runs list is = λ told k stands.
+        let given = subst (λ o. Gives (Waits q (world t)) k.asks (Ok o)) is
+        (list told k.asks stands.asks_are) in (
+          given.0,
+          given.1,
+          stands_spilled m q after (world s) (world t) k given.0 served are (did.did told) took runs
+              given.2 stands,
+        )
+
+    pub takes_undamaged : (e : SortFault)
+        → (IsTrue (tells t) → (asks : List Ask) → Waits m.queue (world s) asks
+        → Gives (Waits q (world t)) asks (Err e)) → HoldsAt tells world 1 s m → IsTrue (tells t)
+        → IsNoDamage e
+    takes_undamaged e list holds told =
+        let (asks, hold) = holds (did.before told) in
+        undamaged_given (Waits q (world t)) asks e (list told asks hold.wait)
+
+    -- an ask was put
+    pub joins_ask : (a : Ask) (result : Result Unit SortFault) → IsServed m
+        → AreOperands m.place.variables m.operands → Took m.parts after
+        → ((f : FileNo) → queues.IsRunOf q f → queues.IsRunOf m.queue f ⊎ IsTaken m.parts after f)
+        → (IsTrue (tells t) → (asks : List Ask) → Waits m.queue (world s) asks
+        → Joins (Waits q (world t)) a asks result)
+        → OnOk result (IsTrue (tells t) → (k : Contents) → StandsFor m (world s) k
+        → JoinAsks (record m { queue = q; parts = after }) (world t) k (a ∷ []))
+    joins_ask a (Err e) served are took runs list = tt
+    joins_ask a (Ok u) served are took runs list = λ told k stands.
+        let joined = list told k.asks stands.asks_are in (
+          joined.0,
+          joined.1,
+          stands_spilled m q after (world s) (world t) k joined.0 served are (did.did told) took
+              runs joined.2 stands,
+        )
+
+    pub joins_undamaged : (a : Ask) (result : Result Unit SortFault)
+        → (IsTrue (tells t) → (asks : List Ask) → Waits m.queue (world s) asks
+        → Joins (Waits q (world t)) a asks result) → HoldsAt tells world 0 s m
+        → IfErr result (λ e. IsTrue (tells t) → IsNoDamage e)
+    joins_undamaged a (Ok u) list holds = tt
+    joins_undamaged a (Err e) list holds = λ told.
+        let (asks, hold) = holds (did.before told) in
+        undamaged_joined (Waits q (world t)) a asks e (list told asks hold.wait)

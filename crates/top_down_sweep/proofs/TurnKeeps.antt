@@ -1,0 +1,307 @@
+-- What each kind of turn leaves of a task.
+use Rattle.std.proofs.Common.{◌≡◌, ℕ, ◌<◌, ◌+◌, ◌/◌, ◌%◌, ◌^◌, ◌∙◌, Bool, true, false, cond, List, [], ◌∷◌, ◌++◌, length, refl, sym, subst, ap, arith}
+use Rattle.std.specs.Prelude.{Some, None, map, option_map, nat_lt, ◌==◌}
+use Rattle.std.specs.List.Sorted.{IsPermutation}
+use Rattle.std.proofs.lemmas.Bool.Decides.{nat_tests}
+use Rattle.std.proofs.lemmas.List.{append-nil}
+use Rattle.std.proofs.lemmas.List.Sorted.{IsPermutation-refl, IsPermutation-map, IsPermutation-trans, IsPermutation-append_right}
+use Rattle.rec_words.specs.Words.{level_of, level_numbers, terminal, most_variables, node_word}
+use Rattle.shelf_model.specs.World.{World}
+use Rattle.arc_file.specs.declared.arc.Arc.{Arc}
+use Rattle.arc_file.specs.declared.unreduced.Unreduced.{Unreduced}
+use Rattle.arc_file.specs.Files.{inner_arcs, end_arcs}
+use Rattle.arc_diagrams.specs.Laws.{IsDiagramOf}
+use Rattle.level_queue.specs.Queues as queues
+use Rattle.top_down.specs.declared.tuple.Tuple.{Tuple}
+use Rattle.top_down.specs.declared.tuple.Goal.{Goal}
+use Rattle.top_down.specs.declared.tuple.Goal.TheVariants.{End, Go}
+use Rattle.top_down.specs.Asks.{side_arcs}
+use Rattle.top_down.specs.Tuples.{level_of_tuple}
+use Rattle.top_down_laws.specs.Forms as forms
+use Rattle.top_down_laws.specs.Remains as laws
+use Rattle.top_down_laws.specs.Laws.{IsWhole, unread_all, task_table}
+use Rattle.top_down_laws.proofs.StartLaws.{constant_ends, root_is_asked, in_any_order}
+use Rattle.top_down_laws.proofs.EndLaws.{nothing_waits}
+use Rattle.top_down_sweep.specs.declared.ask.Members.{Members}
+use Rattle.top_down_sweep.specs.declared.ask.Ask.{Ask}
+use Rattle.top_down_sweep.specs.declared.place.Asking.{Asking}
+use Rattle.top_down_sweep.specs.declared.place.Phase.{Phase}
+use Rattle.top_down_sweep.specs.declared.place.Phase.TheVariants as phases
+use Rattle.top_down_sweep.specs.declared.machine.Machine.{Machine}
+use Rattle.top_down_sweep.specs.Members.{want, all_filled, all_waiting, least}
+use Rattle.top_down_sweep.specs.Soundness.{identifier, next_numbered, known}
+use Rattle.top_down_sweep.specs.Meaning.{Task, waiting_of, Contents, StandsFor, IsLeft, IsWorking, IsHandling, IsFresh, first_contents, AreFilesOf, IsMadeOf, RemainsIn, RemainsOf, WorksIn, WorksOn, IsMadeWhere}
+use Rattle.top_down_sweep.specs.Changes.{ShowsAsk, JoinAsks, AsksInstead, ServesSide, side_asks, goal_below, ask_for}
+use Rattle.top_down_sweep.specs.Sweeps.{made_at}
+use Rattle.top_down_sweep.proofs.FormsOf.{IsKnown, is_unknown}
+use Rattle.top_down_sweep.proofs.WorkingOn.{works_at, again_left, known_left, new_left}
+use Rattle.top_down_sweep.proofs.Numbers.{arcs_and_one}
+
+-- where asks are answered, that is what remains
+pub works_remain : (t : Task) (begins : Tuple → Tuple) (p : Phase) (m : Machine) (world : World)
+    → WorksIn t p m world → RemainsIn t begins p m world
+works_remain t begins phases.Fresh m world works = absurd works
+works_remain t begins (phases.Asking s) m world works = works
+works_remain t begins (phases.Ended made) m world works = absurd works
+
+-- the first ask was shown
+pub handling : (t : Task) (s : Asking) (a : Ask) (m q : Machine) (old new : World)
+    (h : IsWorking t s m old) → queues.last_of q.queue ≡ queues.last_of m.queue
+    → ShowsAsk q new h.contents (Some a) → IsHandling t s a q new
+handling t s a m q old new h last shows = record {
+  contents = h.contents;
+  rest = shows.0;
+  first_is = shows.1;
+  stands = shows.2;
+  left = subst (λ o. IsLeft t s o h.contents) (sym last) h.left;
+}
+
+-- an arc that answers an ask goes to the arcs to nodes
+pub stands_answered : (m : Machine) (world : World) (k : Contents) (asker target : ℕ) (a : Arc)
+    → level_of (asker / 2) < most_variables → target < 2 ^ 63
+    → a ≡ record { source = asker / 2; high = asker % 2 == 1; target = target }
+    → StandsFor m world (record k {
+      inner = k.inner ++ inner_arcs (a ∷ []);
+      ends = k.ends ++ end_arcs (a ∷ []);
+    }) → StandsFor m world (record k { inner = k.inner ++ laws.answer_arcs asker target })
+stands_answered m world k asker target a node fits is stands =
+    let there : nat_lt (level_of (asker / 2)) most_variables ≡ true = grind (arith, nat_tests) in
+    let leads : a.target < 2 ^ 63 = subst (λ w. w < 2 ^ 63) (sym (ap (λ (x : Arc). x.target) is))
+    fits in
+    let inner : inner_arcs (a ∷ []) ≡ a ∷ [] = grind (arith, nat_tests) in
+    let ends : end_arcs (a ∷ []) ≡ [] = grind (arith, nat_tests) in
+    let mine : inner_arcs (a ∷ []) ≡ laws.answer_arcs asker target = inner
+    ∙ ap (λ (x : Arc). x ∷ []) is
+    ∙ sym (ap (λ b. cond b (laws.arc_from asker target ∷ []) []) there) in
+    subst (λ v. v) (λ i. StandsFor m world (record k {
+      inner = k.inner ++ mine i;
+      ends = (ap (λ xs. k.ends ++ xs) ends ∙ append-nil k.ends) i;
+    })) stands
+
+-- the root's ask has none
+pub stands_unasked : (m : Machine) (world : World) (k : Contents) (asker target : ℕ)
+    → (level_of (asker / 2) < most_variables → ⊥) → StandsFor m world k
+    → StandsFor m world (record k { inner = k.inner ++ laws.answer_arcs asker target })
+stands_unasked m world k asker target none stands =
+    let there : nat_lt (level_of (asker / 2)) most_variables ≡ false = grind (arith, nat_tests) in
+    let mine : laws.answer_arcs asker target ≡ [] =
+    ap (λ b. cond b (laws.arc_from asker target ∷ []) []) there in
+    subst (λ v. v) (λ i. StandsFor m world (record k {
+      inner = sym (ap (λ xs. k.inner ++ xs) mine ∙ append-nil k.inner) i;
+    })) stands
+
+-- a side that is constant has its arc
+abbrev value_arc : ℕ → Bool → Bool → Arc
+value_arc s side v = record { source = s; high = side; target = terminal v }
+
+pub serves_end : (m : Machine) (world : World) (k : Contents) (s : ℕ) (side value : Bool)
+    (goal : Goal) → goal ≡ End value → (a : Arc)
+    → a ≡ record { source = s; high = side; target = terminal value }
+    → StandsFor m world (record k {
+      inner = k.inner ++ inner_arcs (a ∷ []);
+      ends = k.ends ++ end_arcs (a ∷ []);
+    }) → ServesSide m world k s side goal
+serves_end m world k s side value goal is a arc_is stands =
+    subst (ServesSide m world k s side) (sym is) (
+      k.asks,
+      IsPermutation-refl k.asks,
+      subst (λ v. v) (λ i. StandsFor m world (record k {
+        inner = (ap (λ (x : Arc). k.inner ++ inner_arcs (x ∷ [])) arc_is
+            ∙ ap (λ xs. k.inner ++ xs) (none value) ∙ append-nil k.inner) i;
+        ends = (ap (λ (x : Arc). k.ends ++ end_arcs (x ∷ [])) arc_is
+            ∙ ap (λ xs. k.ends ++ xs) (one value)) i;
+      })) stands,
+    )
+  where
+    none : (v : Bool) → inner_arcs (value_arc s side v ∷ []) ≡ []
+    none true = refl
+    none false = refl
+
+    one : (v : Bool) → end_arcs (value_arc s side v ∷ []) ≡ value_arc s side v ∷ []
+    one true = refl
+    one false = refl
+
+-- and for any other side an ask waits
+pub serves_go : (m : Machine) (world : World) (k : Contents) (s : ℕ) (side : Bool) (x : Tuple)
+    (goal : Goal) → goal ≡ Go x → JoinAsks m world k (side_asks s side (Go x))
+    → ServesSide m world k s side goal
+serves_go m world k s side x goal is joined = subst (ServesSide m world k s side) (sym is) (
+  joined.0,
+  joined.1,
+  subst (λ (xs : List Arc). StandsFor m world (record k { asks = joined.0; ends = xs }))
+      (sym (append-nil k.ends)) joined.2,
+)
+
+module _ (t : Task) (s : Asking) (a : Ask) (m q : Machine) (old new : World)
+    (h : IsHandling t s a m old) where
+  abbrev k : Contents
+  k = h.contents
+
+  -- the ask was read on
+  pub again_works : (key : ℕ) (members : Members) → want m.operands a ≡ false
+      → members ≡ all_filled m.operands a → key ≡ least (all_waiting (level_of a.key) members)
+      → key < 2 ^ 63 → queues.last_of q.queue ≡ Some a → q.place.phase ≡ phases.Asking s
+      → AsksInstead q new k a (record { key = key; members = members; asker = a.asker })
+      → WorksOn t q new
+  again_works key members none filled is below last phase (rest, first_is, (asks, perm, stands)) =
+      works_at t q s new phase (record {
+        contents = record k { asks = asks };
+        stands = stands;
+        left = subst (λ o. IsLeft t s o (record k { asks = asks })) (sym last)
+            (again_left t s m a old k rest first_is h.stands h.left key asks none
+            (is ∙ ap (λ ms. least (all_waiting (level_of a.key) ms)) filled) below
+            (subst (λ (ms : Members). IsPermutation
+            (record { key = key; members = ms; asker = a.asker } ∷ rest) asks) filled perm));
+      })
+
+  -- it was answered by a known number
+  pub known_works : (uid : ℕ) (rest : List Ask) → IsKnown s.last a uid → k.asks ≡ a ∷ rest
+      → queues.last_of q.queue ≡ Some a → q.place.phase ≡ phases.Asking s
+      → StandsFor q new (record k {
+        asks = rest;
+        inner = k.inner ++ laws.answer_arcs a.asker uid;
+      }) → WorksOn t q new
+  known_works uid rest known first_is last phase stands =
+      let then : Contents = record k {
+        asks = rest;
+        inner = k.inner ++ laws.answer_arcs a.asker uid;
+      } in
+      works_at t q s new phase (record {
+        contents = then;
+        stands = stands;
+        left = subst (λ o. IsLeft t s o then) (sym last)
+            (subst (λ w. IsLeft t s (Some a) (record k {
+              asks = rest;
+              inner = k.inner ++ laws.answer_arcs a.asker w;
+            })) (sym known.uid_is) (known_left t s m a old k rest first_is h.stands h.left
+            known.numbered known.last_is known.form_is));
+      })
+
+  -- its tuple got a number
+  pub new_works : (uid : ℕ) (goal : Bool → Goal) (rest asks_low asks : List Ask)
+      → want m.operands a ≡ false
+      → (least (all_waiting (level_of a.key) (all_filled m.operands a)) < 2 ^ 63 → ⊥)
+      → known s.last a ≡ None → uid ≡ identifier (next_numbered s a)
+      → ((side : Bool)
+      → goal side ≡ goal_below t.rule (level_of a.key) side (all_filled m.operands a))
+      → k.asks ≡ a ∷ rest → IsPermutation (side_asks uid false (goal false) ++ rest) asks_low
+      → IsPermutation (side_asks uid true (goal true) ++ asks_low) asks
+      → queues.last_of q.queue ≡ Some a
+      → q.place.phase
+      ≡ phases.Asking (record { root = s.root; last = Some (next_numbered s a) })
+      → StandsFor q new (record k {
+        asks = asks;
+        inner = k.inner ++ laws.answer_arcs a.asker uid;
+        ends = (k.ends ++ side_arcs uid false (goal false)) ++ side_arcs uid true (goal true);
+      }) → WorksOn t q new
+  new_works uid goal rest asks_low asks none resolved unknown uid_is goal_is first_is low high last
+      phase stands =
+      let after : Asking = record { root = s.root; last = Some (next_numbered s a) } in
+      let both : IsPermutation (side_asks uid true (goal true)
+      ++ (side_asks uid false (goal false) ++ rest)) asks =
+      IsPermutation-trans _ _ asks
+      (IsPermutation-append_right (side_asks uid true (goal true)) _ asks_low low) high in
+      let few : length k.inner + 1 < level_numbers =
+      (let fits = arcs_and_one m.writer in let many = h.stands.written.inner_many in
+      omega (arith, fits, many)) in
+      let left = new_left t s m a old k rest first_is h.stands h.left asks none resolved
+      (is_unknown s.last a unknown) few
+      (subst (λ v. v) (λ i. IsPermutation (side_asks (uid_is i) true (goal_is true i)
+      ++ (side_asks (uid_is i) false (goal_is false i) ++ rest)) asks) both) in
+      works_at t q after new phase (record {
+        contents = record k {
+          asks = asks;
+          inner = k.inner ++ laws.answer_arcs a.asker uid;
+          ends = (k.ends ++ side_arcs uid false (goal false)) ++ side_arcs uid true (goal true);
+        };
+        stands = stands;
+        left = subst (λ v. v) (λ i. IsLeft t after (sym last i) (record k {
+          asks = asks;
+          inner = k.inner ++ laws.answer_arcs a.asker (sym uid_is i);
+          ends = (k.ends ++ side_arcs (sym uid_is i) false (sym (goal_is false) i))
+              ++ side_arcs (sym uid_is i) true (sym (goal_is true) i);
+        })) left;
+      })
+
+-- the sweep ended
+made_remains : (t : Task) (begins : Tuple → Tuple) (q : Machine) (new : World) (made : Unreduced)
+    → q.place.phase ≡ phases.Ended made → IsMadeOf t new made → RemainsOf t begins q new
+made_remains t begins q new made is done = subst (λ p. RemainsIn t begins p q new) (sym is) done
+
+pub ended_remains : (t : Task) (begins : Tuple → Tuple) (s : Asking) (m n q : Machine)
+    (old mid new : World) (made : Unreduced) (h : IsWorking t s m old)
+    → ShowsAsk n mid h.contents None → made.root ≡ s.root → q.place.phase ≡ phases.Ended made
+    → ((k : Contents) → StandsFor n mid k → AreFilesOf made new k.inner k.ends)
+    → RemainsOf t begins q new
+ended_remains t begins s m n q old mid new made h (none, stands) root phase files =
+    let k = h.contents in
+    let whole = nothing_waits t.n t.rule t.diagrams t.roots t.is_task
+    (laws.at_place s.root _) (option_map waiting_of (queues.last_of m.queue)) k.readings k.inner
+    k.ends (subst (λ (xs : List Ask). IsLeft t s (queues.last_of m.queue) (record k { asks = xs }))
+    none h.left) in
+    made_remains t begins q new made phase (record {
+      inner = k.inner;
+      ends = k.ends;
+      whole = subst (λ r. IsWhole t.n t.rule t.diagrams t.roots r k.inner k.ends) (sym root) whole;
+      files = files k stands;
+    })
+
+-- no tuple is met where the roots' is constant
+none_met : (t : Task) (targets : _) (value : Bool) → t.rule.goal t.roots ≡ End value → (x : Tuple)
+    → laws.IsMet t.rule targets t.roots x → ⊥
+none_met t targets value is x (laws.AtRoot y goes) = (let no : End value ≡ Go y = sym is ∙ goes in absurd (cc))
+none_met t targets value is x (laws.Below y z side met goes) = none_met t targets value is y met
+
+pub constant_remains : (t : Task) (begins : Tuple → Tuple) (m q : Machine) (old new : World)
+    (value : Bool) (made : Unreduced) → IsFresh t begins m old → t.rule.goal t.roots ≡ End value
+    → made.root ≡ terminal value → q.place.phase ≡ phases.Ended made
+    → ((k : Contents) → StandsFor m old k → AreFilesOf made new k.inner k.ends)
+    → RemainsOf t begins q new
+constant_remains t begins m q old new value made fresh is root phase files =
+    made_remains t begins q new made phase (record {
+      inner = [];
+      ends = [];
+      whole = record {
+        diagram = subst (λ r. IsDiagramOf t.n r [] (task_table t.n t.rule t.diagrams t.roots)) (sym root)
+            (constant_ends t.n t.rule t.diagrams t.roots t.is_task value is);
+        inner_order = λ k d from within. absurd (omega (arith, within));
+        end_order = λ k d from within. absurd (omega (arith, within));
+        inner_lead = λ k d within. absurd (omega (arith, within));
+        ends_lead = λ k d within. absurd (omega (arith, within));
+        tuples = [];
+        different = tt;
+        are_met = λ x has. absurd has;
+        all_met = λ x met. absurd (none_met t _ value is x met);
+        two_each = refl;
+      };
+      files = files (first_contents t) fresh.stands;
+    })
+
+-- the root was asked for
+pub asked_works : (t : Task) (m q : Machine) (old new : World) (x : Tuple) (key root : ℕ)
+    → t.rule.goal t.roots ≡ Go x → key ≡ least x → root ≡ node_word (level_of key) 0
+    → queues.last_of q.queue ≡ None
+    → q.place.phase ≡ phases.Asking (record { root = root; last = None })
+    → JoinAsks q new (first_contents t) (ask_for x forms.nobody ∷ []) → WorksOn t q new
+asked_works t m q old new x key root goes key_is root_is last phase (asks, perm, stands) =
+    let level : level_of key ≡ level_of_tuple x = omega (arith, key_is) in
+    let begun = root_is_asked t.n t.rule t.diagrams t.roots t.is_task x goes in
+    let ordered = in_any_order t.n t.rule t.diagrams t.roots t.is_task
+    (laws.at_place (node_word (level_of_tuple x) 0) None) _ (map waiting_of asks) None
+    (unread_all t.diagrams) [] []
+    (IsPermutation-map waiting_of (ask_for x forms.nobody ∷ []) asks perm) begun in
+    let s : Asking = record { root = root; last = None } in
+    works_at t q s new phase (record {
+      contents = record (first_contents t) { asks = asks };
+      stands = stands;
+      left = subst (λ v. v) (λ i. laws.Remains t.n t.rule t.diagrams t.roots
+          (laws.at_place ((ap (λ l. node_word l 0) (sym level) ∙ sym root_is) i) None) (map waiting_of asks)
+          (option_map waiting_of (sym last i)) (unread_all t.diagrams) [] []) ordered;
+    })
+
+-- what was made, once it is known, is of the task
+pub made_where : (t : Task) (begins : Tuple → Tuple) (p : Phase) (m : Machine) (world : World)
+    → RemainsIn t begins p m world → IsMadeWhere t world (made_at p)
+made_where t begins phases.Fresh m world remains = tt
+made_where t begins (phases.Asking s) m world remains = tt
+made_where t begins (phases.Ended made) m world remains = remains

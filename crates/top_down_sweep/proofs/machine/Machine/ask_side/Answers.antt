@@ -1,0 +1,36 @@
+use Rattle.rec_words.specs.Words.{level_of}
+use Rattle.top_down_sweep.specs.Changes.{goal_below}
+use Rattle.top_down_sweep.proofs.TurnKeeps.{serves_end, serves_go}
+use Rattle.arc_file.specs.declared.arc.Arc.{Arc}
+use Rattle.std.proofs.lemmas.Result.{on_ok_weaker}
+use Rattle.std.proofs.Common.{◌∙◌, ap, sym}
+use Rattle.top_down_sweep.proofs.machine.Machine.ask_side.Goals as goal
+
+-- the side is constant
+pub returns-in-End-clause-served : goal.returns-in-End-clause-served
+returns-in-End-clause-served g c = on_ok_weaker c.put.result (λ put told k stands.
+    let rule = g.O.Operation.rule c.args.operation.now in
+    let arc : Arc = record {
+      source = c.args.uid;
+      high = c.args.high;
+      target = c.terminal.result;
+    } in
+    serves_end c.put.new.self (g.S.Shelf.world c.put.new.shelf) k c.args.uid c.args.high
+    c.in-End.value (goal_below rule (level_of c.args.uid) c.args.high c.args.members.now) ((λ i. rule.goal (rule.below (sym c.level_at.ensures.level i) c.args.high
+    (sym c.on_side-lows.ensures i) (sym c.on_side-highs.ensures i)))
+    ∙ ap rule.goal (sym c.below-below.ensures) ∙ sym c.goal.ensures ∙ c.in-End.is) arc
+    (λ i. record {
+      source = c.args.uid;
+      high = c.args.high;
+      target = c.terminal.ensures i;
+    }) (put told k stands)) c.put.ensures.written
+
+-- it goes on
+pub returns-in-Go-clause-served : goal.returns-in-Go-clause-served
+returns-in-Go-clause-served g c = on_ok_weaker c.ask_for.result (λ joins told k stands.
+    let rule = g.O.Operation.rule c.args.operation.now in
+    serves_go c.ask_for.new.self (g.S.Shelf.world c.ask_for.new.shelf) k c.args.uid c.args.high
+    c.in-Go.tuple (goal_below rule (level_of c.args.uid) c.args.high c.args.members.now) ((λ i. rule.goal (rule.below (sym c.level_at.ensures.level i) c.args.high
+    (sym c.on_side-lows.ensures i) (sym c.on_side-highs.ensures i)))
+    ∙ ap rule.goal (sym c.below-below.ensures) ∙ sym c.goal.ensures ∙ c.in-Go.is)
+    (joins told k stands)) c.ask_for.ensures.list

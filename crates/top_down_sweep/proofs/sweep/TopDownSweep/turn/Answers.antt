@@ -1,0 +1,18 @@
+use Rattle.top_down_sweep.proofs.TurnKeeps.{made_where}
+use Rattle.top_down_sweep.proofs.Holding.{if_err_map}
+use Rattle.std.proofs.lemmas.Result.{on_ok_weaker}
+use Rattle.top_down_sweep.proofs.sweep.TopDownSweep.turn.Goals as goal
+
+-- what the machine keeps is kept
+pub returns-clause-keeps : goal.returns-clause-keeps
+returns-clause-keeps g c = on_ok_weaker c.turn.result
+    (λ keeps told t remains. (remains.0, keeps told t remains.0 remains.1)) c.turn.ensures.keeps
+
+pub returns-clause-whole : goal.returns-clause-whole
+returns-clause-whole g c = on_ok_weaker c.turn.result
+    (λ keeps told t remains. made_where t _ c.turn.new.self.place.phase c.turn.new.self _
+    (keeps told t remains.0 remains.1)) c.turn.ensures.keeps
+
+pub returns-clause-undamaged : goal.returns-clause-undamaged
+returns-clause-undamaged g c = if_err_map c.turn.result
+    (λ e none told t remains. none told t remains.1) c.turn.ensures.undamaged
