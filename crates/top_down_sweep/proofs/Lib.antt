@@ -16,3 +16,4 @@ pub mod WorkingOn
 pub mod OperandNext
 pub mod TurnKeeps
 pub mod ReadKeeps
+pub mod StartKeeps

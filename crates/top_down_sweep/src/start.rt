@@ -40,6 +40,8 @@ impl<'r, O: Operation> TopDownSweep<'r, O> {
     ghost use Rattle.top_down_sweep.specs.Sweeps.{files_of, parts_of, made_in, credit_of, stock_of, IsSound, IsStartDamage};
     ghost use Rattle.top_down_sweep.specs.Damage.{IsStartFault};
     ghost use Rattle.top_down_sweep.specs.Calls.{IsInStep};
+    ghost use Rattle.sweep_core.specs.Sweeps.{IsNoDamage};
+    ghost use Rattle.top_down_sweep.specs.Meaning.{Task, IsTaskOn, Remains};
 
     /// Begins an operation on diagrams of `n` variables, with the part numbers that its queue may take.
     ///
@@ -74,6 +76,14 @@ impl<'r, O: Operation> TopDownSweep<'r, O> {
         ensures faults { OnlySortShelf (S.faults shelf.old) (S.faults shelf.new) result }
         ensures refused { IfErr result (IsStartDamage files) }
         ensures damage { IfErr result (λ e. IsTrue (S.tells shelf.new) → IsStartFault files n (S.world shelf.old) e) }
+
+        // a task on files of its diagrams remains, and none of them is damaged
+        ensures remains { IfOk result (λ s. IsTrue (S.tells shelf.new) → (t : Task) →
+            IsTaskOn t (O.rule operation) (O.begins operation) n files parts.step (S.world shelf.old) →
+            Remains O.rule O.begins s (S.world shelf.new) t) }
+        ensures undamaged { IfErr result (λ e. IsTrue (S.tells shelf.new) → (t : Task) →
+            IsTaskOn t (O.rule operation) (O.begins operation) n files parts.step (S.world shelf.old) →
+            IsNoDamage e) }
     {
         let (reading, rest) = room.split_at_mut(3 * READING);
         let (writing, asking) = rest.split_at_mut(WRITING);
@@ -103,6 +113,10 @@ impl<'r> Operands<'r> {
     ghost use Rattle.top_down_sweep.specs.Sweeps.{AreOperands, HaveFiles, IsStartDamage};
     ghost use Rattle.top_down_sweep.specs.Waiting.{HasNoHands, AreReading};
     ghost use Rattle.top_down_sweep.specs.Damage.{IsStartFault};
+    ghost use Rattle.sweep_core.specs.Sweeps.{IsNoDamage};
+    ghost use Rattle.top_down.specs.declared.tuple.Tuple.{Tuple};
+    ghost use Rattle.top_down_laws.specs.Readings.{Diagrams};
+    ghost use Rattle.top_down_sweep.specs.Meaning.{AreNodeFiles, AreUnread};
 
     // Begins with no node at hand.
     fn start<S: Shelf>(
@@ -119,6 +133,10 @@ impl<'r> Operands<'r> {
         ensures damage { IfErr result (IsStartDamage files.now) }
         ensures trailer { IfErr result (λ e. IsTrue (S.tells shelf.new) →
             IsStartFault files.now n (S.world shelf.old) e) }
+        ensures nodes { IfOk result (λ o. IsTrue (S.tells shelf.new) → (roots : Tuple) → (d : Diagrams) →
+            AreNodeFiles files.now (S.world shelf.old) n roots d → AreUnread o (S.world shelf.new) roots d) }
+        ensures undamaged { IfErr result (λ e. IsTrue (S.tells shelf.new) → (roots : Tuple) → (d : Diagrams) →
+            AreNodeFiles files.now (S.world shelf.old) n roots d → IsNoDamage e) }
         ensures content { Told S.tells shelf.old shelf.new (Looked 6 (S.world shelf.old) (S.world shelf.new)) }
         ensures faults { OnlySortShelf (S.faults shelf.old) (S.faults shelf.new) result }
     {
@@ -142,6 +160,10 @@ impl<'r> Operand<'r> {
     ghost use Rattle.run_tiers.specs.Faults.{OnlySortShelf};
     ghost use Rattle.node_reading.specs.Reading.{IsReading, IsTrailerFault};
     ghost use Rattle.top_down_sweep.specs.Sweeps.{IsOperand, IsDamageIn};
+    ghost use Rattle.std.specs.Prelude.{ℕ, List};
+    ghost use Rattle.rec_words.specs.declared.node.Node.{Node};
+    ghost use Rattle.sweep_core.specs.Sweeps.{IsNoDamage};
+    ghost use Rattle.top_down_sweep.specs.Meaning.{IsNodeFile, IsUnread};
 
     // Begins with no node at hand.
     fn start<S: Shelf>(
@@ -158,6 +180,10 @@ impl<'r> Operand<'r> {
         ensures damage { IfErr result (IsDamageIn file) }
         ensures trailer { IfErr result (λ e. IsTrue (S.tells shelf.new) →
             IsTrailerFault file n (S.world shelf.old) e) }
+        ensures nodes { IfOk result (λ o. IsTrue (S.tells shelf.new) → (root : ℕ) → (nodes : List Node) →
+            IsNodeFile file (S.world shelf.old) n root nodes → IsUnread o (S.world shelf.new) root nodes) }
+        ensures undamaged { IfErr result (λ e. IsTrue (S.tells shelf.new) → (root : ℕ) → (nodes : List Node) →
+            IsNodeFile file (S.world shelf.old) n root nodes → IsNoDamage e) }
         ensures content { Told S.tells shelf.old shelf.new (Looked 2 (S.world shelf.old) (S.world shelf.new)) }
         ensures faults { OnlySortShelf (S.faults shelf.old) (S.faults shelf.new) result }
     {

@@ -1,7 +1,13 @@
+use Rattle.top_down_laws.specs.Laws.{unread_all}
+use Rattle.std.proofs.Common.{◌≡◌, ap, inl, ◌∙◌, [], sym, subst, arith}
+use Rattle.sweep_core.specs.Sweeps.{IsNoDamage}
+use Rattle.top_down_sweep.specs.Waiting.{AreApart}
+use Rattle.top_down_sweep.specs.Sweeps.{files_in}
+use Rattle.top_down_sweep.specs.declared.start.Files.{Files}
+use Rattle.top_down_sweep.proofs.StandingOn.{all_still}
 use Rattle.node_reading.proofs.NodeReading.{if_handed}
 use Rattle.shelf_model.specs.SortFaults.{handed_on}
 use Rattle.top_down_sweep.specs.Damage.{IsStartFault}
-use Rattle.std.proofs.Common.{inl, ◌∙◌, [], sym, subst, arith}
 use Rattle.sweep_core.specs.Accounts.{CanBeTaken}
 use Rattle.top_down_sweep.proofs.Starting.{then_cut, others_uncut}
 use Rattle.top_down_sweep.proofs.Holding.{operands_still}
@@ -60,3 +66,49 @@ returns-clause-in_step g c told =
 pub returns-in_err-writer-clause-damage : goal.returns-in_err-writer-clause-damage
 returns-in_err-writer-clause-damage g c = if_handed _ c.from_residual-in_err-writer.result _ c.from_residual-in_err-writer.ensures.1
     (λ told. subst (λ e. IsStartFault c.args.files c.args.n (g.S.Shelf.world c.args.shelf.now) (handed_on e)) (sym c.in_err-writer.ensures.cause) (inl tt))
+
+-- nothing waits, nothing was read of files of the task's diagrams, and nothing was put
+pub returns-clause-remains : goal.returns-clause-remains
+returns-clause-remains g c told t is =
+    let m : Machine = record {
+      place = record { variables = c.args.n; phase = Fresh };
+      operands = c.in_ok-operands.operands;
+      queue = c.start-3.result;
+      writer = c.in_ok-writer.writer;
+      parts = c.args.parts;
+    } in
+    let made = c.in_ok-writer.ensures.files in
+    let read = c.in_ok-operands.ensures.files in
+    let same : files_in m ≡ c.args.files = λ i. record {
+      first = read.first_is i;
+      second = read.second_is i;
+      third = read.third_is i;
+      inner = made.0 i;
+      ends = made.1 i;
+    } in
+    let apart : AreApart (files_in m) c.args.parts.step = subst (λ (fs : Files). AreApart fs c.args.parts.step) (sym same) is.apart in
+    let unread = c.in_ok-operands.ensures.nodes (c.start-2.ensures.content.before told) is.roots t.diagrams is.nodes_are in (
+      is.rule_is,
+      record {
+        roots_are = ap (g.O.Operation.begins c.args.operation) unread.roots_are ∙ is.begins_are;
+        stands = record {
+          asks_are = c.start-3.ensures.list (g.S.Shelf.world c.start-2.new.shelf);
+          read = all_still m (g.S.Shelf.world c.start.new.shelf) (g.S.Shelf.world c.start-2.new.shelf) (unread_all t.diagrams)
+              c.in_ok-operands.ensures.are
+              (λ f is_apart. others_uncut 2 c.args.files.inner c.args.files.ends f _ _ (c.start-2.ensures.content.did told) (λ it. is_apart.not_inner (it ∙ sym made.0)) (λ it. is_apart.not_ends (it ∙ sym made.1)))
+              apart unread.read;
+          written = c.in_ok-writer.ensures.arcs told;
+          no_run = λ f own run. c.start-3.ensures.runs f run;
+          apart = apart;
+        };
+      },
+    )
+
+-- and no file of them is damaged
+pub returns-in_err-operands-clause-undamaged : goal.returns-in_err-operands-clause-undamaged
+returns-in_err-operands-clause-undamaged g c = if_handed _ c.from_residual.result _ c.from_residual.ensures.1
+    (λ told t is. c.in_err-operands.ensures.undamaged told is.roots t.diagrams is.nodes_are)
+
+pub returns-in_err-writer-clause-undamaged : goal.returns-in_err-writer-clause-undamaged
+returns-in_err-writer-clause-undamaged g c = if_handed _ c.from_residual-in_err-writer.result _ c.from_residual-in_err-writer.ensures.1
+    (λ told t is. subst (λ e. IsNoDamage (handed_on e)) (sym c.in_err-writer.ensures.cause) tt)

@@ -1,0 +1,71 @@
+-- What is read of operands at first.
+use Rattle.std.proofs.Common.{◌≡◌, ℕ, ◌+◌, ◌-◌, ◌*◌, ◌/◌, ◌^◌, ◌<◌, ◌∙◌, List, [], ◌∷◌, length, drop, refl, sym, subst, ap, inl, inr, arith, length-append}
+use Rattle.std.specs.Prelude.{None, slice_index}
+use Rattle.std.proofs.lemmas.List.{drop_at}
+use Rattle.std.proofs.lemmas.Nat.{from_be_bytes-to_be_bytes_8}
+use Rattle.rec_words.specs.RecordLaws.{pointer_fits}
+use Rattle.rec_words.specs.declared.rec.Rec.{Rec}
+use Rattle.list_laws.specs.Members.{Has}
+use Rattle.block_stream.specs.Records.{record_of, record_at}
+use Rattle.canon_file.specs.Canon.{node_bytes, trailer_bytes}
+use Rattle.canon_file.specs.NodeFiles.{IsProper, EndsAt}
+use Rattle.canon_file.proofs.ByteLaws.{length-node_bytes}
+use Rattle.rec_words.specs.declared.node.Node.{Node}
+use Rattle.shelf_model.specs.declared.file_no.FileNo.{FileNo}
+use Rattle.shelf_model.specs.World.{World, file}
+use Rattle.node_file.specs.declared.reader.NodeReader.{NodeReader}
+use Rattle.node_file.specs.Nodes.{HasTrailer, HasNodes}
+use Rattle.node_file.specs.Readers.{file_of, trailer_of, Reads, AreLeft}
+use Rattle.node_reading.proofs.NodeReading.{starts_reading}
+use Rattle.top_down_sweep.specs.Meaning.{IsNodeFile, IsUnread}
+
+-- a file of nodes is one while it stays
+pub moved_file : (f : FileNo) (n root : ℕ) (nodes : List Node) (old new : World)
+    → (file new f).bytes ≡ (file old f).bytes → IsNodeFile f old n root nodes
+    → IsNodeFile f new n root nodes
+moved_file f n root nodes old new same is = subst (HasNodes n root nodes) (sym same) is
+
+-- the root that ends a file of nodes
+root_fits : (n root : ℕ) (xs : List Node) → ((x : Node) → Has x xs → IsProper n x)
+    → EndsAt root xs → root < 2 ^ 64
+root_fits n root [] proper (inl zeros) = omega (arith, zeros)
+root_fits n root [] proper (inr ones) = omega (arith, ones)
+root_fits n root (x ∷ []) proper ends = subst (λ w. w < 2 ^ 64) (sym ends)
+    (pointer_fits x.uid (inl (proper x (inl refl)).words.uid))
+root_fits n root (x ∷ (y ∷ xs)) proper ends = root_fits n root (y ∷ xs)
+    (λ z there. proper z (inr there)) ends
+
+root_read : (n r root : ℕ) (xs : List Node) (bytes : List ℕ) → HasTrailer n r bytes
+    → HasNodes n root xs bytes → r ≡ root
+root_read n r root xs bytes has nodes =
+    let tail : List ℕ = trailer_bytes root (length xs) n in
+    let long : length bytes ≡ 24 * length xs + 24 = ap length nodes.bytes_are
+    ∙ length-append (node_bytes xs) tail ∙ ap (λ k. k + 24) (length-node_bytes xs) in
+    let count : length bytes / 24 - 1 ≡ length xs = omega arith in
+    let long_front : length (node_bytes xs) ≡ length xs * (8 * 3) = length-node_bytes xs
+    ∙ (let same : 24 * length xs ≡ length xs * (8 * 3) = omega arith in same) in
+    let at : drop (length xs * (8 * 3)) bytes ≡ tail =
+    ap (drop (length xs * (8 * 3))) nodes.bytes_are
+    ∙ drop_at (node_bytes xs) tail (length xs * (8 * 3)) long_front in
+    let here : record_at 3 (length bytes / 24 - 1) bytes ≡ record_of 3 tail =
+    (λ i. record_at 3 (count i) bytes) ∙ ap (record_of 3) at in
+    sym has.trailer.root_is ∙ ap (λ (q : Rec). slice_index q.w 0) here
+    ∙ from_be_bytes-to_be_bytes_8 root (root_fits n root xs nodes.proper nodes.ends)
+
+-- a reader begins with all nodes of its file
+pub begins_unread : (r : NodeReader) (f : FileNo) (n root : ℕ) (nodes : List Node)
+    (old new : World) → file_of r ≡ f → (trailer_of r).n ≡ n
+    → ((bytes : List ℕ) → Reads r bytes) → HasTrailer n (trailer_of r).root (file old f).bytes
+    × ((trailer_of r).count ≡ length (file old f).bytes / 24 - 1)
+    → (file new f).bytes ≡ (file old f).bytes → IsNodeFile f old n root nodes
+    → AreLeft r (file old f).bytes nodes
+    → IsUnread (record { file = f; reader = r; hand = None }) new root nodes
+begins_unread r f n root nodes old new place variables reads has same is left = record {
+  root_is = root_read n (trailer_of r).root root nodes (file old f).bytes has.0 is;
+  read = record {
+    hand_is = refl;
+    reads = starts_reading r f n old new place variables reads has same;
+    left = subst (λ b. AreLeft r b nodes)
+        (sym (ap (λ g. (file new g).bytes) place ∙ same)) left;
+  };
+}
