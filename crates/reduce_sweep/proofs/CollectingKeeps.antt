@@ -1,7 +1,7 @@
 -- The collecting of sources keeps what remains of a reduction.
 use Rattle.std.proofs.lemmas.Bool.Decides.{nat_tests}
 use Rattle.std.proofs.Common.{◌≡◌, ◌≢◌, ℕ, ◌≤◌, ◌<◌, arith, refl, ap, sym, subst, ◌∙◌, inl, inr, List, ◌++◌}
-use Rattle.std.specs.Prelude.{◌∷◌, [], ◌==◌, Bool, true, false, cond, Option, Some, None, map}
+use Rattle.std.specs.Prelude.{◌∷◌, [], ◌==◌, Bool, true, false, cond, Option, Some, None, Result, Ok, Err, OnOk, map}
 use Rattle.std.specs.Option.{unwrap_or}
 use Rattle.rec_words.specs.Words.{level_of, terminal}
 use Rattle.rec_words.specs.declared.node.Node.{Node}
@@ -24,6 +24,8 @@ use Rattle.arc_diagrams.proofs.Phases.{one_noted, one_passed, row_closed, name_c
 use Rattle.arc_diagrams.proofs.Collecting.{all_below}
 use Rattle.arc_diagrams.proofs.ItemOrders.{rising}
 use Rattle.arc_diagrams.proofs.RowPlaces.{has_right}
+use Rattle.std.specs.List.Sorted.{IsPermutation}
+use Rattle.shelf_model.specs.declared.sort_fault.SortFault.{SortFault}
 use Rattle.shelf_model.specs.World.{World}
 use Rattle.reduce_sweep.specs.declared.phase.Phase.TheVariants.{Between, Collect, Number}
 use Rattle.reduce_sweep.specs.declared.place.Place.{Place}
@@ -31,7 +33,7 @@ use Rattle.reduce_sweep.specs.declared.source.Source.{Source}
 use Rattle.reduce_sweep.specs.declared.reduce.ReduceSweep.{ReduceSweep}
 use Rattle.reduce_sweep.specs.Sources as sources
 use Rattle.reduce_sweep.specs.Remaining.{Diagram, Contents, Holds, IsTakenTo, IsLeft, IsWorking, RemainsAt, IsBetween, IsCollected, noted, to_collect}
-use Rattle.reduce_sweep.specs.Changes.{JoinsOne, IsClosed, IsAt, IsGreatest, Passes, Closes}
+use Rattle.reduce_sweep.specs.Changes.{JoinsRows, JoinsNames, JoinsOne, IsClosed, IsAt, IsGreatest, Passes, Closes}
 
 -- an arc of the source was noted
 abbrev HasOne : Source → Type 0
@@ -319,3 +321,30 @@ level_opened p u at_last world d k queued a phase place left at greatest passes 
     less : (last : Option FinalArc) → IsTakenTo p.level last → level_of a.source < p.level → IsTakenTo (level_of a.source) last
     less None below shallower = tt
     less (Some x) below shallower = omega (arith, below, shallower)
+
+-- a source whose pointers are equal is closed by its name
+pub name_closes : (s : Source) (t u : ReduceSweep) (told : Type 0) (old new : World) (m : Name) (result : Result Unit SortFault) → differs (pair (sources.row_of s)) ≡ false
+    → m ≡ record { source = (sources.row_of s).source; pointer = (sources.row_of s).low }
+    → OnOk result (told → (k : Contents) → Holds t.ahead t.lists t.writer old k → JoinsNames u new k m)
+    → OnOk result (told → (k : Contents) → Holds t.ahead t.lists t.writer old k → Closes (Some s) u new k)
+name_closes s t u told old new m (Ok x) same is joined = λ tell k holds.
+    let (names, permuted, held) = joined tell k holds in (
+      k.rows,
+      names,
+      subst (λ b. JoinsOne b (sources.row_of s) k.rows k.names k.rows names) (sym same) (refl, subst (λ (v : Name). IsPermutation (v ∷ k.names) names) is permuted),
+      held,
+    )
+name_closes s t u told old new m (Err e) same is joined = tt
+
+-- another one is closed by its row
+pub row_closes : (s : Source) (t u : ReduceSweep) (told : Type 0) (old new : World) (r : SourceRow) (result : Result Unit SortFault) → differs (pair (sources.row_of s)) ≡ true → r ≡ sources.row_of s
+    → OnOk result (told → (k : Contents) → Holds t.ahead t.lists t.writer old k → JoinsRows u new k r)
+    → OnOk result (told → (k : Contents) → Holds t.ahead t.lists t.writer old k → Closes (Some s) u new k)
+row_closes s t u told old new r (Ok x) other is joined = λ tell k holds.
+    let (rows, permuted, held) = joined tell k holds in (
+      rows,
+      k.names,
+      subst (λ b. JoinsOne b (sources.row_of s) k.rows k.names rows k.names) (sym other) (subst (λ (v : SourceRow). IsPermutation (v ∷ k.rows) rows) is permuted, refl),
+      held,
+    )
+row_closes s t u told old new r (Err e) other is joined = tt

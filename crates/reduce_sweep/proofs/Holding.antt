@@ -34,6 +34,7 @@ use Rattle.sweep_core.specs.Accounts.{CanBeTaken}
 use Rattle.reduce_sweep.specs.declared.reduce.Ahead.{Ahead}
 use Rattle.reduce_sweep.specs.declared.reduce.Lists.{Lists}
 use Rattle.reduce_sweep.specs.Sweeps.{IsRun, AreServed}
+use Rattle.reduce_sweep.proofs.RunFiles.{sorter_taken, queue_taken}
 use Rattle.reduce_sweep.specs.Remaining.{Contents, Holds, IsUnread, QueueLists, RowLists, NameLists}
 
 -- the bytes of a file are as they were
@@ -55,8 +56,11 @@ made parts f was free =
 
 run_made : (a : Ahead) (l : Lists) (w : NodeWriter) (parts : Parts) (f : FileNo) → AreServed a l w parts → IsRun a l f → ¬ CanBeTaken parts.step parts.next f
 run_made a l w parts f served run = elim run [
-  | inl q ↦ made parts f (served.queue_served.runs_made f q)
-  | inr other ↦ elim other [ inl q ↦ made parts f (served.rows_served.runs_made f q) | inr q ↦ made parts f (served.names_served.runs_made f q) ]
+  | inl q ↦ made parts f (queue_taken a.queue parts f served.queue_served q)
+  | inr other ↦ elim other [
+    | inl q ↦ made parts f (sorter_taken l.rows parts f served.rows_served q)
+    | inr q ↦ made parts f (sorter_taken l.names parts f served.names_served q)
+  ]
 ]
 
 -- each file but those whose parts can be taken is as it was

@@ -12,10 +12,8 @@ use Rattle.shelf_model.specs.declared.fault.StreamFault.TheVariants.{Shelf, Dama
 use Rattle.shelf_model.specs.declared.sort_fault.SortFault.{SortFault}
 use Rattle.shelf_model.specs.SortFaults.{handed_on}
 use Rattle.shelf_model.specs.declared.file_no.FileNo.{FileNo}
-use Rattle.shelf_model.specs.Folder.{Folder, file_in}
 use Rattle.shelf_model.specs.World.{World, now, file}
 use Rattle.shelf_model.specs.Moments.{Ran, Stays}
-use Rattle.shelf_model.proofs.Runs.{ran_end}
 use Rattle.block_stream.specs.Items.{GivesLast}
 use Rattle.block_stream.specs.Writes.{count_of, Wrote, InStep}
 use Rattle.canon_file.specs.Rows.{row_word}
@@ -52,6 +50,7 @@ use Rattle.reduce_sweep.specs.Damage.{IsDamagedIn, IsDamageOf}
 use Rattle.reduce_sweep.specs.Remaining.{Contents, Holds, IsUnread, IsTakenTo, QueueLists, RowLists, NameLists}
 use Rattle.reduce_sweep.specs.Changes.{JoinsQueue, JoinsRows, JoinsNames, GivesRow, ShowsName, ShowsQueued, IsAt, Passes, PassesInner, is_last, numbered_with, nodes_with, NumbersRow}
 use Rattle.reduce_sweep.proofs.Holding.{undisturbed_wrote, untaken_stays, untaken_spilled, holds_untaken, with_queue, with_rows, with_names, with_inner, with_ends, with_nodes}
+use Rattle.reduce_sweep.proofs.Listing.{bytes_stay, listed_still}
 use Rattle.reduce_sweep.proofs.NextArcs.{rest_is, first_reached, read_on, last_same}
 
 -- what is held stays while parts are taken, and while no file changes
@@ -146,10 +145,6 @@ queue_taken s queue after old new k a o served spilled gives reaches at holds = 
   with_queue s.ahead s.lists s.writer new k queue at.0 (Some a) (rest_is (QueueLists queue new) k.queue at.0 a o at.1 gives)
       (first_reached (QueueLists queue new) k.queue at.0 a (last_of s.ahead.queue) (last_of queue) o at.1 gives reaches) (spilled_holds s after old new k served spilled holds),
 )
-
--- the bytes of a file while none changes
-bytes_stay : (old new : World) (f g : FileNo) → g ≡ f → Ran (Stays (now old)) old new → (file old f).bytes ≡ (file new g).bytes
-bytes_stay old new f g same ran = ap (λ (d : Folder). (file_in d f).bytes) (sym (ran_end old new (Stays (now old)) ran)) ∙ ap (λ h. (file new h).bytes) (sym same)
 
 -- the next arc to a truth value was passed over
 pub end_passes : (s : ReduceSweep) (r : ArcReader) (next end : Option Arc) (old new : World) (k : Contents) (a : FinalArc) → s.ahead.end ≡ end → IsSome end → AreServed s.ahead s.lists s.writer s.parts
@@ -289,13 +284,14 @@ served_put a l w v parts same served = record {
   no_run = λ run. served.no_run (subst (IsRun a l) same run);
 }
 
--- and what was read is as the bytes say
+-- and what was read is as the bytes say, and the lists are known
 pub work_put : (a : Ahead) (l : Lists) (w v : NodeWriter) (parts : Parts) (n : ℕ) (old new : World) → AreServed a l w parts → Wrote n (writers.filling_of w).file old new → InStep (writers.filling_of v) new
-    → IsAtWork a.reader w old → IsAtWork a.reader v new
+    → IsAtWork a l w old → IsAtWork a l v new
 work_put a l w v parts n old new served wrote step work =
     let still = undisturbed_wrote a l w parts n old new served wrote in
     record {
       writes = step;
       reads_inner = subst (λ bytes. streams.Reads Inner (inner_of a.reader) bytes) (sym still.inner) work.reads_inner;
       reads_ends = subst (λ bytes. streams.Reads End (ends_of a.reader) bytes) (sym still.ends) work.reads_ends;
+      listed = listed_still a l old new still work.listed;
     }

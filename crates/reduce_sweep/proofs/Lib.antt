@@ -1,5 +1,8 @@
+mod RunFiles
 mod Holding
 mod Doing
+mod Listing
+mod Refusing
 mod NextArcs
 mod Joining
 mod CollectingKeeps

@@ -172,13 +172,14 @@ module _ (a : Ahead) (w : NodeWriter) (made : Unreduced) (out : FileNo) (opened 
   no_end_yet = subst (λ r. ReadsNothing End r made.ends made.ends_count) (sym begun.ends_kept) begun.no_end
 
   -- so its files hold what it takes them to hold
-  pub work_begins : IsAtWork a.reader w last
-  work_begins = record {
+  pub work_begins : (l : Lists) → AreEmpty a l last → IsAtWork a l w last
+  work_begins l empty = record {
     writes = (nothing_written w second third last begun.looked begun.again begun.written).in_step;
     reads_inner = reads_begun Inner made.inner first second last (inner_of opened) (inner_of read) (inner_of a.reader) a.inner made.inner_count begun.no_inner begun.one_inner begun.inner_kept
         inner_stays.0 (inner_stays.1.1 ∙ inner_stays.1.0 ∙ inner_stays.0);
     reads_ends = reads_begun End made.ends first third last (ends_of read) (ends_of a.reader) (ends_of a.reader) a.end made.ends_count no_end_yet begun.one_end refl
         (ends_stays.1.0 ∙ ends_stays.0) (ends_stays.1.1 ∙ ends_stays.1.0 ∙ ends_stays.0);
+    listed = record { queue_listed = ([], empty.queue_is); rows_listed = ([], empty.rows_is); names_listed = ([], empty.names_is) };
   }
 
   -- and it holds all arcs of whole files

@@ -18,7 +18,7 @@ use Rattle.reduce_sweep.specs.Remaining.{Diagram, IsWorking, RemainsIn, RemainsO
 use Rattle.reduce_sweep.specs.Changes.{IsDoneAt}
 
 -- until it has ended, its files hold what it takes them to hold, and it works on what remains
-pub going_at_work : (p : Phase) (s : ReduceSweep) (world : World) → IsGoing p → IsStepAt p s world → IsAtWork s.ahead.reader s.writer world
+pub going_at_work : (p : Phase) (s : ReduceSweep) (world : World) → IsGoing p → IsStepAt p s world → IsAtWork s.ahead s.lists s.writer world
 going_at_work Between s world going step = step
 going_at_work (Collect x) s world going step = step
 going_at_work (Number x) s world going step = step
@@ -41,7 +41,7 @@ going_left Forward n going = omega arith
 going_left (Ended count) n going = absurd (going count refl)
 
 -- and the other way round
-pub left_step : (p : Phase) (n : ℕ) (s : ReduceSweep) (world : World) → 0 < fuel_at p n → IsAtWork s.ahead.reader s.writer world → IsStepAt p s world
+pub left_step : (p : Phase) (n : ℕ) (s : ReduceSweep) (world : World) → 0 < fuel_at p n → IsAtWork s.ahead s.lists s.writer world → IsStepAt p s world
 left_step Between n s world left work = work
 left_step (Collect x) n s world left work = work
 left_step (Number x) n s world left work = work

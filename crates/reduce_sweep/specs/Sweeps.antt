@@ -1,5 +1,5 @@
 -- What is seen of a reduction, and what it keeps between turns.
-use Rattle.std.specs.Prelude.{◌≡◌, ◌≢◌, ◌⊎◌, ℕ, ◌+◌, ◌*◌, ◌≤◌, ◌<◌, Bool, true, false, Option, Some, None, IsSome}
+use Rattle.std.specs.Prelude.{◌≡◌, ◌≢◌, ◌⊎◌, ℕ, ◌+◌, ◌*◌, ◌^◌, ◌≤◌, ◌<◌, Bool, true, false, Option, Some, None, IsSome}
 use Rattle.shelf_model.specs.declared.file_no.FileNo.{FileNo}
 use Rattle.shelf_model.specs.declared.sort_fault.SortFault.{SortFault}
 use Rattle.shelf_model.specs.declared.sort_fault.SortFault.TheVariants.{Shelf, Damaged, RunsSpent, RoomFull}
@@ -11,6 +11,7 @@ use Rattle.arc_file.specs.Readers.{inner_of, ends_of}
 use Rattle.arc_diagrams.specs.Items.{final_arc_words, IsFinalArc, source_row_words, IsSourceRow, name_words, IsName}
 use Rattle.arc_diagrams.specs.declared.final_arc.FinalArc.{FinalArc}
 use Rattle.run_tiers.specs.declared.parts.Parts.{Parts}
+use Rattle.run_tiers.specs.Parts.{WasTaken}
 use Rattle.run_merge.specs.Sorters as sorters
 use Rattle.level_queue.specs.Queues as queues
 use Rattle.sweep_core.specs.Accounts.{Accounts, CanBeTaken}
@@ -141,18 +142,13 @@ pub record IsSound (r : ReduceSweep) : Type 0 where
   pub variables : r.writer.n ≡ r.place.variables
   pub phase : IsPhaseAt r.place.level (count_of (nodes.filling_of r.writer)) r.place.phase
 
--- one of its lists is as long as its room
-abbrev pub HasFullRoom : ReduceSweep → Type 0
-HasFullRoom r = (queues.held r.ahead.queue ≡ queues.room_of r.ahead.queue)
-    ⊎ ((sorters.held r.lists.rows ≡ sorters.room_of r.lists.rows)
-    ⊎ (sorters.held r.lists.names ≡ sorters.room_of r.lists.names))
-
--- why it can't go on: a call of the folder failed, one of the two arc files is damaged, or a room is full
+-- why it can't go on: a call of the folder failed; one of the two arc files is damaged, or a run of its own, whose part
+-- was taken; or no part number is left
 abbrev pub Refuses : FileNo → FileNo → ReduceSweep → SortFault → Type 0
 Refuses inner ends new Shelf = Unit
-Refuses inner ends new (Damaged f at) = (f ≡ inner) ⊎ (f ≡ ends)
-Refuses inner ends new RunsSpent = ⊥
-Refuses inner ends new RoomFull = HasFullRoom new
+Refuses inner ends new (Damaged f at) = (f ≡ inner) ⊎ ((f ≡ ends) ⊎ WasTaken new.parts f)
+Refuses inner ends new RunsSpent = 2 ^ 32 ≤ new.parts.next
+Refuses inner ends new RoomFull = ⊥
 
 -- the arc that comes next is there to be taken
 abbrev pub IsThere : Ahead → Bool → Type 0

@@ -31,8 +31,6 @@ impl<'r> ReduceSweep<'r> {
     ghost use Rattle.shelf_model.specs.Moments.{Ran};
     ghost use Rattle.run_tiers.specs.Faults.{OnlySortShelf};
     ghost use Rattle.run_tiers.specs.Parts.{Paid};
-    ghost use Rattle.level_queue.specs.Queues as queues;
-    ghost use Rattle.run_merge.specs.Sorters as sorters;
     ghost use Rattle.block_stream.specs.Writes.{DuringCut};
     ghost use Rattle.sweep_core.specs.Accounts.{CanBeTaken};
     ghost use Rattle.sweep_core.specs.Sweeps.{IsNoDamage};
@@ -69,9 +67,6 @@ impl<'r> ReduceSweep<'r> {
         ensures bound { IfOk result (λ r. (sources : ℕ) → made.inner_count + made.ends_count ≡ 2 * sources →
             turns_left r ≤ 8 * sources + 8) }
         ensures count { IfOk result (λ r. count_in r ≡ None) }
-        ensures rooms { IfOk result (λ r. (3 * length room.entry.now ≤ 16 * queues.room_of r.ahead.queue)
-            × (length room.entry.now ≤ 16 * sorters.room_of r.lists.rows)
-            × (length room.entry.now ≤ 16 * sorters.room_of r.lists.names)) }
 
         // what remains
         ensures remains { IfOk result (λ r. IsTrue (S.tells shelf.new) → (d : Diagram) → (inner ends : List Arc) →

@@ -1,4 +1,4 @@
-use Rattle.std.proofs.Common.{◌-◌, ◌^◌, ◌∙◌, ap, sym, subst, refl, arith, rules}
+use Rattle.std.proofs.Common.{◌-◌, ◌^◌, ◌∙◌, ap, sym, subst, refl, arith, rules, IsTrue}
 use Rattle.rec_words.specs.Words.{node_word}
 use Rattle.reduce_sweep.specs.declared.phase.Numbered.{Numbered}
 use Rattle.block_stream.specs.Writes.{count_of}
@@ -6,7 +6,9 @@ use Rattle.node_file.specs.Writers.{filling_of}
 use Rattle.reduce_sweep.specs.Sweeps.{IsNumberedAt}
 use Rattle.reduce_sweep.specs.Changes.{numbered_with}
 use Rattle.reduce_sweep.proofs.Joining.{puts_none, puts_node, numbered_next, served_put, work_put}
+use Rattle.reduce_sweep.specs.declared.phase.Phase.TheVariants.{Number}
 use Rattle.reduce_sweep.proofs.Doing.{own_wrote}
+use Rattle.reduce_sweep.proofs.Refusing.{write_refuses, write_undamaged}
 use Rattle.reduce_sweep.proofs.NumberingKeeps.{phase_numbered}
 use Rattle.reduce_sweep.proofs.reduce.ReduceSweep.put_node.Goals as goal
 
@@ -56,4 +58,26 @@ returns-clause-does g c = record {
   same = record { out_is = c.put.ensures.same.file_is; inner_is = refl; ends_are = refl; variables_are = refl; root_is = refl };
   refused = tt;
   damage = tt;
+}
+
+-- a call of the folder failed
+pub returns-in_err-put-clause-does : goal.returns-in_err-put-clause-does
+returns-in_err-put-clause-does g c = record {
+  leaves = record {
+    made = λ f e. e ∙ c.put.ensures.same.file_is;
+    making = λ f e. e ∙ sym c.put.ensures.same.file_is;
+    step_is = refl;
+    later = omega arith;
+    content = own_wrote g.S.Shelf.tells g.S.Shelf.world g.S.Shelf.faults _ _ _ 1 _ _ c.put.ensures.content;
+    calls = λ told. (let few = (c.put.ensures.content.did told).few in omega (arith, few));
+    spent = omega arith;
+    faults = search rules;
+  };
+  same = record { out_is = c.put.ensures.same.file_is; inner_is = refl; ends_are = refl; variables_are = refl; root_is = refl };
+  refused = write_refuses _ _ (record c.args.self.now {
+    place = record c.args.self.now.place { phase = Number c.with-next.result };
+    writer = c.put.new.self;
+  }) c.from_residual.result c.in_err-put.field-0.0 c.from_residual.ensures.1 c.in_err-put.ensures.cause;
+  damage = write_undamaged (IsTrue (g.S.Shelf.tells c.put.new.shelf)) c.args.self.now.ahead.reader (g.S.Shelf.world c.args.shelf.now) c.from_residual.result c.in_err-put.field-0.0 c.from_residual.ensures.1
+      c.in_err-put.ensures.cause;
 }

@@ -1,5 +1,6 @@
 use Rattle.std.proofs.Common.{refl, rules, IsTrue}
 use Rattle.reduce_sweep.proofs.Joining.{inner_passes, inner_damaged}
+use Rattle.reduce_sweep.proofs.Listing.{work_read_inner}
 use Rattle.reduce_sweep.proofs.reduce.ReduceSweep.read_inner.Goals as goal
 
 -- the arc before it is the next one
@@ -18,4 +19,14 @@ returns-in_err-self-clause-does g c = record {
   damage = inner_damaged c.args.self.now.ahead.reader (g.S.Shelf.world c.args.shelf.now) (IsTrue (g.S.Shelf.tells c.next_inner.new.shelf)) c.from_residual.result c.in_err-self.field-0.0
       c.from_residual.ensures.1 c.in_err-self.ensures.place
       (λ told. c.in_err-self.ensures.value told (c.requires.fit.at_work (c.next_inner.ensures.content.before told)).reads_inner);
+}
+
+-- what was read is as the bytes say, and the lists are known
+pub returns-clause-fit : goal.returns-clause-fit
+returns-clause-fit g c = record {
+  sound = search rules;
+  at_work = λ told.
+      let work = c.requires.fit.at_work (c.next_inner.ensures.content.before told) in
+      work_read_inner c.args.self.now.ahead c.args.self.now.lists c.args.self.now.writer c.args.self.now.parts _ _ c.next_inner.new.self _ c.requires.fit.sound.served
+      (c.next_inner.ensures.content.did told).run c.next_inner.ensures.ends c.next_inner.ensures.file (c.in_ok-self.ensures.reads told work.reads_inner) work;
 }

@@ -54,7 +54,7 @@ returns-clause-ready g c =
       phase = tt;
     }
 
--- it holds nothing yet
+-- it holds nothing yet, and its lists are empty
 pub returns-clause-in_step : goal.returns-clause-in_step
 returns-clause-in_step g c = λ told.
     let left : left_over_of c.start-reader.result ≡ c.args.made = c.start-reader.ensures.left_over in
@@ -76,6 +76,7 @@ returns-clause-in_step g c = λ told.
       one_end = record { place = c.in_ok-end.ensures.file; up = c.in_ok-end.ensures.place; reads = c.in_ok-end.ensures.reads told; arcs = c.in_ok-end.ensures.arcs told };
       written = c.in_ok-writer.ensures.holds cut_told;
     })
+    _ (record { queue_is = c.start-2.ensures.list _; last_is = c.start-2.ensures.last; rows_is = c.start-3.ensures.list _; names_is = c.start-4.ensures.list _ })
 
 -- what remains at first is the whole diagram
 pub returns-clause-remains : goal.returns-clause-remains
