@@ -17,3 +17,4 @@ pub mod OperandNext
 pub mod TurnKeeps
 pub mod ReadKeeps
 pub mod StartKeeps
+pub mod TaskLaws

@@ -1,6 +1,7 @@
 -- The lists that a machine stands for, from call to call.
 use Rattle.std.proofs.Common.{◌≡◌, ℕ, ◌∙◌, Bool, List, [], ◌∷◌, ◌++◌, refl, sym, subst, ap, inl, inr}
 use Rattle.std.specs.Prelude.{◌⊎◌, take, length, Option, Some, None, Result, Ok, Err, IfOk, IfErr, OnOk, IsTrue}
+use Rattle.std.specs.List.Sorted.{IsSorted}
 use Rattle.shelf_model.specs.declared.file_no.FileNo.{FileNo}
 use Rattle.shelf_model.specs.declared.sort_fault.SortFault.{SortFault}
 use Rattle.shelf_model.specs.declared.sort_fault.SortFault.TheVariants.{Shelf, Damaged, RunsSpent, RoomFull}
@@ -43,6 +44,11 @@ use Rattle.top_down_sweep.specs.Calls.{HoldsAt}
 use Rattle.top_down_sweep.specs.Meaning.{Contents, IsReadOf, AreRead, StandsFor}
 use Rattle.top_down_sweep.specs.Changes.{ShowsAsk, TakesAsk, JoinAsks}
 use Rattle.top_down_sweep.proofs.Holding.{SameApart, apart_written, apart_spilled, looked_same, runs_apart}
+
+-- the asks that wait ascend
+pub asks_ascend : (q : LevelQueue Ask) (world : World) (asks : List Ask) → Waits q world asks
+    → IsSorted ask_cmp asks
+asks_ascend q world asks waits = waits.sorter.ascends
 
 -- what was read of an operand stays where the bytes of its file do
 pub read_still : (n : ℕ) (o : Operand) (old new : World) (r : Reading) → IsOperand n o

@@ -29,6 +29,7 @@ use Rattle.top_down_sweep.specs.Members.{want, all_filled, all_waiting, least, w
 use Rattle.top_down_sweep.specs.Soundness.{identifier, next_numbered}
 use Rattle.top_down_sweep.specs.Meaning.{Task, form_of, waiting_of, numbered_of, place_of, Contents, StandsFor, IsLeft, IsWorking, WorksIn, WorksOn}
 use Rattle.top_down_sweep.specs.Changes.{side_asks, goal_below, HasNext}
+use Rattle.top_down_sweep.proofs.StandingOn.{asks_ascend}
 use Rattle.top_down_sweep.proofs.FormsOf.{SameHands, row_wants, form_wants, form_next, form_again, form_goal, side_waiting, form_numbered, first_next}
 
 -- asks are answered in that phase
@@ -65,7 +66,7 @@ module _ (t : Task) (s : Asking) (m : Machine) (a : Ask) (world : World) (k : Co
 
   -- the first ask comes before the others
   next : IsNext (waiting_of a) (map waiting_of rest)
-  next = first_next a rest (subst (IsSorted ask_cmp) first_is stands.asks_are.sorter.ascends)
+  next = first_next a rest (subst (IsSorted ask_cmp) first_is (asks_ascend m.queue world k.asks stands.asks_are))
 
   first_left : laws.Remains t.n t.rule t.diagrams t.roots placed (waiting_of a ∷ map waiting_of rest)
       last k.readings k.inner k.ends

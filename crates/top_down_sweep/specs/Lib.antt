@@ -11,3 +11,4 @@ pub mod Damage
 pub mod Calls
 pub mod Meaning
 pub mod Changes
+pub mod Tasks

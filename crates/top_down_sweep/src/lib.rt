@@ -6,6 +6,7 @@ mod ask;
 mod asks;
 mod choice;
 mod goals;
+pub mod laws;
 mod machine;
 mod members;
 mod operand;
