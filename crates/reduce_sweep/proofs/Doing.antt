@@ -3,7 +3,7 @@ use Rattle.std.proofs.Common.{◌≡◌, ℕ, ◌+◌, ◌-◌, ◌≤◌, ◌�
 use Rattle.std.specs.Prelude.{Result, Ok, Err, IsErrAnd, IfErr, IsTrue}
 use Rattle.shelf_model.specs.declared.file_no.FileNo.{FileNo}
 use Rattle.shelf_model.specs.declared.sort_fault.SortFault.{SortFault}
-use Rattle.shelf_model.specs.declared.sort_fault.SortFault.TheVariants.{Shelf, Damaged, RunsSpent, RoomFull}
+use Rattle.shelf_model.specs.declared.sort_fault.SortFault.TheVariants.{Shelf, Damaged, RunsSpent}
 use Rattle.shelf_model.specs.File.{File, IsKept}
 use Rattle.shelf_model.specs.Folder.{file_in}
 use Rattle.shelf_model.specs.Calls.{Told}
@@ -55,7 +55,6 @@ damage_before r old new (Damaged f at) inner ends damage = elim damage [
   | inr d ↦ inr (damaged_before End (ends_of r) old new f at ends d)
 ]
 damage_before r old new RunsSpent inner ends damage = tt
-damage_before r old new RoomFull inner ends damage = tt
 
 -- what is damaged now is a record that is damaged then, where the bytes of the file are the same
 damaged_after : (kind : Kind) (s t : ArcStream) (old new : World) (f : FileNo) (at : ℕ) → file_of t ≡ file_of s → (file new (file_of s)).bytes ≡ (file old (file_of s)).bytes
@@ -171,7 +170,6 @@ module _ {S : Type 0} (tells : S → Bool) (world : S → World) (counts : S →
       by (Err Shelf) why = why
       by (Err (Damaged f at)) why = why
       by (Err RunsSpent) why = why
-      by (Err RoomFull) why = why
 
   -- where damage is once a turn was refused
   pub damage_after : {T : Type 0} (m a : ℕ) (s t : S) (p q : ReduceSweep) (result : Result T SortFault) → IsSound p → Does tells world counts m a s t p q result
@@ -186,7 +184,6 @@ module _ {S : Type 0} (tells : S → Bool) (world : S → World) (counts : S →
         | inr d ↦ inr (damaged_after End (ends_of p.ahead.reader) (ends_of q.ahead.reader) (world s) (world t) f at x.same.ends_are stay.1 d)
       ]
       by RunsSpent stay damage = tt
-      by RoomFull stay damage = tt
 
   -- a write to the file that is made
   pub own_wrote : (out : FileNo) (step next n : ℕ) (s t : S) → Told tells s t (Wrote n out (world s) (world t))

@@ -4,7 +4,7 @@ use Rattle.std.proofs.Common.{◌≡◌, ◌∙◌, ℕ, List, ap, sym, subst, i
 use Rattle.std.specs.Prelude.{Result, Ok, Err, Option, IfErr, IsErrAnd}
 use Rattle.shelf_model.specs.declared.file_no.FileNo.{FileNo}
 use Rattle.shelf_model.specs.declared.sort_fault.SortFault.{SortFault}
-use Rattle.shelf_model.specs.declared.sort_fault.SortFault.TheVariants.{Shelf, Damaged, RunsSpent, RoomFull}
+use Rattle.shelf_model.specs.declared.sort_fault.SortFault.TheVariants.{Shelf, Damaged, RunsSpent}
 use Rattle.shelf_model.specs.declared.fault.StreamFault.{StreamFault}
 use Rattle.shelf_model.specs.declared.fault.StreamFault.TheVariants as stream
 use Rattle.shelf_model.specs.SortFaults.{handed_on}
@@ -30,7 +30,6 @@ none_joined Old New told r world x (Ok u) listed joins = tt
 none_joined Old New told r world x (Err Shelf) listed joins = λ tell. tt
 none_joined Old New told r world x (Err (Damaged f at)) listed joins = λ tell. (let list = listed tell in absurd (joins tell list.0 list.1))
 none_joined Old New told r world x (Err RunsSpent) listed joins = λ tell. tt
-none_joined Old New told r world x (Err RoomFull) listed joins = λ tell. tt
 
 -- nor where its first item is shown or given
 pub none_shown : {T : Type 0} (Old New : List T → Type 0) (told : Type 0) (r : ArcReader) (world : World) (result : Result (Option T) SortFault) → (told → (xs : List T) × Old xs)
@@ -39,7 +38,6 @@ none_shown Old New told r world (Ok o) listed shows = tt
 none_shown Old New told r world (Err Shelf) listed shows = λ tell. tt
 none_shown Old New told r world (Err (Damaged f at)) listed shows = λ tell. (let list = listed tell in absurd (shows tell list.0 list.1))
 none_shown Old New told r world (Err RunsSpent) listed shows = λ tell. tt
-none_shown Old New told r world (Err RoomFull) listed shows = λ tell. tt
 
 pub none_given : {T : Type 0} (Old New : List T → Type 0) (told : Type 0) (r : ArcReader) (world : World) (result : Result (Option T) SortFault) → (told → (xs : List T) × Old xs)
     → (told → (xs : List T) → Old xs → Gives New xs result) → IfErr result (λ e. told → IsDamageOf r world e)
@@ -47,7 +45,6 @@ none_given Old New told r world (Ok o) listed gives = tt
 none_given Old New told r world (Err Shelf) listed gives = λ tell. tt
 none_given Old New told r world (Err (Damaged f at)) listed gives = λ tell. (let list = listed tell in absurd (gives tell list.0 list.1))
 none_given Old New told r world (Err RunsSpent) listed gives = λ tell. tt
-none_given Old New told r world (Err RoomFull) listed gives = λ tell. tt
 
 -- a push is refused where a run of its own is damaged, or no part number is left
 pub push_refuses : {T : Type 0} (s : Sorter T) (before : Parts) (inner ends : FileNo) (t : ReduceSweep) (e : SortFault) → sorters.Serves before s → Took before t.parts
@@ -56,7 +53,6 @@ unfolding sorters.Serves sorters.IsPushCause
 push_refuses s before inner ends t Shelf serves took cause = tt
 push_refuses s before inner ends t (Damaged f at) serves took cause = inr (inr (place_taken t.parts s.tiers.heads f at (serves_on s before t.parts serves took) cause))
 push_refuses s before inner ends t RunsSpent serves took cause = cause
-push_refuses s before inner ends t RoomFull serves took cause = cause
 
 -- a read is refused where a run is damaged
 pub read_refuses : {T : Type 0} (s : Sorter T) (inner ends : FileNo) (t : ReduceSweep) (e : SortFault) → sorters.Serves t.parts s → sorters.IsReadCause s e → Refuses inner ends t e
@@ -64,7 +60,6 @@ unfolding sorters.Serves sorters.IsReadCause
 read_refuses s inner ends t Shelf serves cause = tt
 read_refuses s inner ends t (Damaged f at) serves cause = inr (inr (next_taken t.parts s.tiers.heads f at serves cause))
 read_refuses s inner ends t RunsSpent serves cause = absurd cause
-read_refuses s inner ends t RoomFull serves cause = absurd cause
 
 -- the same of the queue
 pub queue_push_refuses : {T : Type 0} (q : LevelQueue T) (before : Parts) (inner ends : FileNo) (t : ReduceSweep) (e : SortFault) → queues.Serves before q → Took before t.parts
@@ -81,7 +76,6 @@ queue_read_refuses is_value words old new inner ends t (Damaged f at) before ser
   | inr is ↦ inr (inr (shown_taken is_value words new.sorter t.parts f at serves values.sorter is))
 ]
 queue_read_refuses is_value words old new inner ends t RunsSpent before serves values cause = absurd cause
-queue_read_refuses is_value words old new inner ends t RoomFull before serves values cause = absurd cause
 
 -- a write is refused where a call of the folder failed
 pub write_refuses : {T : Type 0} (inner ends : FileNo) (t : ReduceSweep) (result : Result T SortFault) (fault : StreamFault) → IsErrAnd result (λ e. e ≡ handed_on fault) → fault ≡ stream.Shelf

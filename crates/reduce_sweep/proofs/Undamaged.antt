@@ -10,7 +10,7 @@ use Rattle.block_stream.specs.Reads.{IsRecordOf}
 use Rattle.block_stream.specs.Items.{AreItems}
 use Rattle.block_stream.proofs.ItemLaws.{nth_item}
 use Rattle.shelf_model.specs.declared.sort_fault.SortFault.{SortFault}
-use Rattle.shelf_model.specs.declared.sort_fault.SortFault.TheVariants.{Shelf, Damaged, RunsSpent, RoomFull}
+use Rattle.shelf_model.specs.declared.sort_fault.SortFault.TheVariants.{Shelf, Damaged, RunsSpent}
 use Rattle.shelf_model.specs.File.{File}
 use Rattle.shelf_model.specs.World.{World, file}
 use Rattle.arc_file.specs.declared.arc.Arc.{Arc}
@@ -86,7 +86,6 @@ none_in_files made world (Damaged f at) inner ends has_inner has_ends damage = e
   | inr d ↦ none_last End ends made.ends_count (file world f).bytes (subst (λ (g : File). HasArcs End ends made.ends_count g.bytes) (sym (ap (file world) d.file_is)) has_ends) d.some d.damaged
 ]
 none_in_files made world RunsSpent inner ends has_inner has_ends damage = tt
-none_in_files made world RoomFull inner ends has_inner has_ends damage = tt
 
 -- so a reduction that can't begin with them found no damage
 pub begins_undamaged : {A : Type 0} (told : Type 0) (made : Unreduced) (world : World) (r : Result A SortFault) → IfErr r (λ e. told → IsDamageAtStart made world e)
@@ -109,7 +108,6 @@ none_held s world k (Damaged f at) holds damage = elim damage [
       (subst (λ (g : File). IsUnread End s.ahead.end (ends_of s.ahead.reader) g.bytes k.ends) (sym (ap (file world) d.file_is)) holds.ends_is) d.some d.damaged
 ]
 none_held s world k RunsSpent holds damage = tt
-none_held s world k RoomFull holds damage = tt
 
 -- so a turn of what remains of a diagram finds no damage
 pub turns_undamaged : {A : Type 0} (told : Type 0) (s : ReduceSweep) (world : World) (result : Result A SortFault) → ((d : Diagram) → RemainsOf s world d → IsWorking s world d)

@@ -2,7 +2,7 @@
 use Rattle.std.specs.Prelude.{◌≡◌, ◌⊎◌, ℕ, ◌*◌, ◌-◌, ◌<◌, Option, None}
 use Rattle.shelf_model.specs.declared.file_no.FileNo.{FileNo}
 use Rattle.shelf_model.specs.declared.sort_fault.SortFault.{SortFault}
-use Rattle.shelf_model.specs.declared.sort_fault.SortFault.TheVariants.{Shelf, Damaged, RunsSpent, RoomFull}
+use Rattle.shelf_model.specs.declared.sort_fault.SortFault.TheVariants.{Shelf, Damaged, RunsSpent}
 use Rattle.shelf_model.specs.World.{World, file}
 use Rattle.arc_file.specs.declared.arc.Arc.{Arc}
 use Rattle.arc_file.specs.declared.reader.ArcReader.{ArcReader}
@@ -33,7 +33,6 @@ abbrev pub IsDamageOf : ArcReader → World → SortFault → Type 0
 IsDamageOf r world Shelf = Unit
 IsDamageOf r world (Damaged f at) = IsDamagedIn Inner (inner_of r) world f at ⊎ IsDamagedIn End (ends_of r) world f at
 IsDamageOf r world RunsSpent = Unit
-IsDamageOf r world RoomFull = Unit
 
 -- a record of an arc file is damaged, whatever was read of it
 pub record IsDamagedRecord (kind : Kind) (read : FileNo) (world : World) (f : FileNo) (at : ℕ) : Type 0 where
@@ -50,7 +49,6 @@ IsDamage s world (Damaged f at) =
     IsDamagedRecord Inner (file_of (inner_of s.ahead.reader)) world f at
     ⊎ IsDamagedRecord End (file_of (ends_of s.ahead.reader)) world f at
 IsDamage s world RunsSpent = Unit
-IsDamage s world RoomFull = Unit
 
 -- damage is that of the last arc of either file
 abbrev pub IsDamageAtStart : Unreduced → World → SortFault → Type 0
@@ -59,4 +57,3 @@ IsDamageAtStart made world (Damaged f at) =
     IsDamagedAt Inner made.inner made.inner_count None world f at
     ⊎ IsDamagedAt End made.ends made.ends_count None world f at
 IsDamageAtStart made world RunsSpent = Unit
-IsDamageAtStart made world RoomFull = Unit

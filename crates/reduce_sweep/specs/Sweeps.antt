@@ -2,7 +2,7 @@
 use Rattle.std.specs.Prelude.{◌≡◌, ◌≢◌, ◌⊎◌, ℕ, ◌+◌, ◌*◌, ◌^◌, ◌≤◌, ◌<◌, Bool, true, false, Option, Some, None, IsSome}
 use Rattle.shelf_model.specs.declared.file_no.FileNo.{FileNo}
 use Rattle.shelf_model.specs.declared.sort_fault.SortFault.{SortFault}
-use Rattle.shelf_model.specs.declared.sort_fault.SortFault.TheVariants.{Shelf, Damaged, RunsSpent, RoomFull}
+use Rattle.shelf_model.specs.declared.sort_fault.SortFault.TheVariants.{Shelf, Damaged, RunsSpent}
 use Rattle.block_stream.specs.Writes.{count_of}
 use Rattle.node_file.specs.declared.writer.NodeWriter.{NodeWriter}
 use Rattle.node_file.specs.Writers as nodes
@@ -148,7 +148,6 @@ abbrev pub Refuses : FileNo → FileNo → ReduceSweep → SortFault → Type 0
 Refuses inner ends new Shelf = Unit
 Refuses inner ends new (Damaged f at) = (f ≡ inner) ⊎ ((f ≡ ends) ⊎ WasTaken new.parts f)
 Refuses inner ends new RunsSpent = 2 ^ 32 ≤ new.parts.next
-Refuses inner ends new RoomFull = ⊥
 
 -- the arc that comes next is there to be taken
 abbrev pub IsThere : Ahead → Bool → Type 0
@@ -176,4 +175,3 @@ abbrev pub IsArcDamage : FileNo → FileNo → SortFault → Type 0
 IsArcDamage inner ends Shelf = Unit
 IsArcDamage inner ends (Damaged f at) = (f ≡ inner) ⊎ (f ≡ ends)
 IsArcDamage inner ends RunsSpent = ⊥
-IsArcDamage inner ends RoomFull = ⊥

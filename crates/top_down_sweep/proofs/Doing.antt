@@ -3,7 +3,7 @@ use Rattle.std.proofs.Common.{◌≡◌, ℕ, ◌+◌, ◌≤◌, ◌∙◌, Boo
 use Rattle.std.specs.Prelude.{Result, Ok, Err, IsErrAnd, IfErr, OnOk, IsErrOf, IsTrue, ◌⊎◌, ◌≢◌}
 use Rattle.shelf_model.specs.declared.file_no.FileNo.{FileNo}
 use Rattle.shelf_model.specs.declared.sort_fault.SortFault.{SortFault}
-use Rattle.shelf_model.specs.declared.sort_fault.SortFault.TheVariants.{Shelf, Damaged, RunsSpent, RoomFull}
+use Rattle.shelf_model.specs.declared.sort_fault.SortFault.TheVariants.{Shelf, Damaged, RunsSpent}
 use Rattle.shelf_model.specs.File.{IsKept}
 use Rattle.shelf_model.specs.Folder.{file_in}
 use Rattle.shelf_model.specs.Calls.{Told}
@@ -53,14 +53,12 @@ pub damage_refuses : (q : Machine) (e : SortFault) → e ≢ Shelf → IsDamageI
 damage_refuses q Shelf other damage = tt
 damage_refuses q (Damaged f at) other damage = inl (inl damage)
 damage_refuses q RunsSpent other damage = absurd damage
-damage_refuses q RoomFull other damage = damage
 
 -- no damage is said
 no_damage : (q : Machine) (world : World) (e : SortFault) → IsNoDamage e → IsMachineDamage q world e
 no_damage q world Shelf none = tt
 no_damage q world (Damaged f at) none = absurd none
 no_damage q world RunsSpent none = tt
-no_damage q world RoomFull none = tt
 
 -- the files whose parts were taken aren't those that are made
 own_took : (inner ends : FileNo) (before after : Parts) (old m : Moment)

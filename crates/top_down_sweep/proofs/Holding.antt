@@ -14,7 +14,7 @@ use Rattle.rec_words.specs.Words.{level_of}
 use Rattle.rec_words.specs.declared.node.Node.{Node}
 use Rattle.shelf_model.specs.declared.file_no.FileNo.{FileNo}
 use Rattle.shelf_model.specs.declared.sort_fault.SortFault.{SortFault}
-use Rattle.shelf_model.specs.declared.sort_fault.SortFault.TheVariants.{Shelf, Damaged, RunsSpent, RoomFull}
+use Rattle.shelf_model.specs.declared.sort_fault.SortFault.TheVariants.{Shelf, Damaged, RunsSpent}
 use Rattle.shelf_model.specs.File.{File}
 use Rattle.shelf_model.specs.Folder.{Folder, file_in}
 use Rattle.shelf_model.specs.Calls.{Told}
@@ -536,7 +536,6 @@ first_damage m x a world (Damaged f at) same shown asked damage = λ apart.
       );
     }
 first_damage m x a world RunsSpent same shown asked damage = tt
-first_damage m x a world RoomFull same shown asked damage = tt
 
 -- the first operand's next node was read
 pub first_read : (told : Type 0) (m : Machine) (x : Operand) (a : Ask)
@@ -589,7 +588,6 @@ second_damage m x a world (Damaged f at) same shown asked damage = λ apart.
       ));
     }
 second_damage m x a world RunsSpent same shown asked damage = tt
-second_damage m x a world RoomFull same shown asked damage = tt
 
 -- the second operand's next node was read
 pub second_read : (told : Type 0) (m : Machine) (x : Operand) (a : Ask)
@@ -642,7 +640,6 @@ third_damage m x a world (Damaged f at) same shown asked damage = λ apart.
       ));
     }
 third_damage m x a world RunsSpent same shown asked damage = tt
-third_damage m x a world RoomFull same shown asked damage = tt
 
 -- the third operand's next node was read
 pub third_read : (told : Type 0) (m : Machine) (x : Operand) (a : Ask)

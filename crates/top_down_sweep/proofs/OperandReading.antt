@@ -4,7 +4,7 @@ use Rattle.std.specs.Prelude.{Option, Some, None, Ok, IfSome, ◌==◌, slice_in
 use Rattle.std.proofs.lemmas.Bool.Decides.{nat_tests}
 use Rattle.rec_words.specs.declared.node.Node.{Node}
 use Rattle.shelf_model.specs.declared.sort_fault.SortFault.{SortFault}
-use Rattle.shelf_model.specs.declared.sort_fault.SortFault.TheVariants.{Shelf, Damaged, RunsSpent, RoomFull}
+use Rattle.shelf_model.specs.declared.sort_fault.SortFault.TheVariants.{Shelf, Damaged, RunsSpent}
 use Rattle.shelf_model.specs.World.{World, file}
 use Rattle.node_file.specs.declared.reader.NodeReader.{NodeReader}
 use Rattle.node_file.specs.Nodes.{identifier_at, IsNodeAt}
@@ -123,7 +123,6 @@ module _ (n : ℕ) (o : Operand) (r : NodeReader) (old new : World) (key : ℕ) 
         (subst (λ m. IsDamagedNode m (bytes_of o.reader old) at) is.variables_are fault.1)),
   )
   fault_read RunsSpent fault = fault
-  fault_read RoomFull fault = fault
 
   -- so the operand is damaged where the next node, if there is one, comes behind the key
   pub next_refused : (found : Option Node) (e : SortFault) → Rises o.reader r (Ok found)

@@ -4,7 +4,7 @@ use Rattle.std.specs.Prelude.{Option, Some, None, Result, Ok, Err, IfSome, IfErr
 use Rattle.std.proofs.lemmas.List.Elements.{All-get_or}
 use Rattle.shelf_model.specs.declared.file_no.FileNo.{FileNo}
 use Rattle.shelf_model.specs.declared.sort_fault.SortFault.{SortFault}
-use Rattle.shelf_model.specs.declared.sort_fault.SortFault.TheVariants.{Shelf, Damaged, RunsSpent, RoomFull}
+use Rattle.shelf_model.specs.declared.sort_fault.SortFault.TheVariants.{Shelf, Damaged, RunsSpent}
 use Rattle.run_files.specs.declared.head.Head.{Head}
 use Rattle.run_files.specs.Heads.{IsUsed, head_at, no_head}
 use Rattle.run_tiers.specs.declared.parts.Parts.{Parts}
@@ -82,7 +82,6 @@ push_refuses m old (Ok u) serves cause = tt
 push_refuses m old (Err Shelf) serves cause = tt
 push_refuses m old (Err (Damaged f at)) serves cause = inr (push_taken m.parts old.sorter f at serves cause)
 push_refuses m old (Err RunsSpent) serves cause = cause
-push_refuses m old (Err RoomFull) serves cause = cause
 
 -- where another call is
 pub queue_refuses : {A : Type 0} (m : Machine) (old : LevelQueue Ask) (result : Result A SortFault)
@@ -96,7 +95,6 @@ queue_refuses m old (Err (Damaged f at)) before serves values cause = inr (elim 
   | inr first ↦ first_taken IsAsk ask_words m.parts m.queue.sorter f at serves values.sorter first
 ])
 queue_refuses m old (Err RunsSpent) before serves values cause = absurd cause
-queue_refuses m old (Err RoomFull) before serves values cause = cause
 
 -- no damage is said where it is known what waits
 pub joins_undamaged : {T : Type 0} (P : List T → Type 0) (x : T) (xs : List T) (result : Result Unit SortFault)
@@ -105,7 +103,6 @@ joins_undamaged P x xs (Ok u) joins = tt
 joins_undamaged P x xs (Err Shelf) joins = tt
 joins_undamaged P x xs (Err (Damaged f at)) joins = joins
 joins_undamaged P x xs (Err RunsSpent) joins = tt
-joins_undamaged P x xs (Err RoomFull) joins = tt
 
 pub shows_undamaged : {T : Type 0} (P : List T → Type 0) (xs : List T) (result : Result (Option T) SortFault)
     → Shows P xs result → IfErr result IsNoDamage
@@ -113,7 +110,6 @@ shows_undamaged P xs (Ok found) shows = tt
 shows_undamaged P xs (Err Shelf) shows = tt
 shows_undamaged P xs (Err (Damaged f at)) shows = shows
 shows_undamaged P xs (Err RunsSpent) shows = tt
-shows_undamaged P xs (Err RoomFull) shows = tt
 
 pub gives_undamaged : {T : Type 0} (P : List T → Type 0) (xs : List T) (result : Result (Option T) SortFault)
     → Gives P xs result → IfErr result IsNoDamage
@@ -121,7 +117,6 @@ gives_undamaged P xs (Ok found) gives = tt
 gives_undamaged P xs (Err Shelf) gives = tt
 gives_undamaged P xs (Err (Damaged f at)) gives = gives
 gives_undamaged P xs (Err RunsSpent) gives = tt
-gives_undamaged P xs (Err RoomFull) gives = tt
 
 -- what follows of a refusal where a folder tells its content
 pub told_err : {A : Type 0} (T : Type 0) (P : SortFault → Type 0) (result : Result A SortFault) → (T → IfErr result P)

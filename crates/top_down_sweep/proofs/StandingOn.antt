@@ -4,7 +4,7 @@ use Rattle.std.specs.Prelude.{◌⊎◌, take, length, Option, Some, None, Resul
 use Rattle.std.specs.List.Sorted.{IsSorted}
 use Rattle.shelf_model.specs.declared.file_no.FileNo.{FileNo}
 use Rattle.shelf_model.specs.declared.sort_fault.SortFault.{SortFault}
-use Rattle.shelf_model.specs.declared.sort_fault.SortFault.TheVariants.{Shelf, Damaged, RunsSpent, RoomFull}
+use Rattle.shelf_model.specs.declared.sort_fault.SortFault.TheVariants.{Shelf, Damaged, RunsSpent}
 use Rattle.shelf_model.specs.File.{File}
 use Rattle.shelf_model.specs.Folder.{Folder, file_in}
 use Rattle.shelf_model.specs.Calls.{Told}
@@ -198,21 +198,18 @@ undamaged_shown : (Now : List Ask → Type 0) (asks : List Ask) (e : SortFault)
 undamaged_shown Now asks Shelf shown = tt
 undamaged_shown Now asks (Damaged f at) shown = shown
 undamaged_shown Now asks RunsSpent shown = tt
-undamaged_shown Now asks RoomFull shown = tt
 
 undamaged_given : (Now : List Ask → Type 0) (asks : List Ask) (e : SortFault)
     → Gives Now asks (Err e) → IsNoDamage e
 undamaged_given Now asks Shelf given = tt
 undamaged_given Now asks (Damaged f at) given = given
 undamaged_given Now asks RunsSpent given = tt
-undamaged_given Now asks RoomFull given = tt
 
 undamaged_joined : (Now : List Ask → Type 0) (a : Ask) (asks : List Ask) (e : SortFault)
     → Joins Now a asks (Err e) → IsNoDamage e
 undamaged_joined Now a asks Shelf joined = tt
 undamaged_joined Now a asks (Damaged f at) joined = joined
 undamaged_joined Now a asks RunsSpent joined = tt
-undamaged_joined Now a asks RoomFull joined = tt
 
 -- where an ask was shown, it is the one that is taken
 pub first_taken : (found shown : Option Ask) (a : Ask) → AnswersShown shown (Ok found)

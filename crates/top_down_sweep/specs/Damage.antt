@@ -3,7 +3,7 @@ use Rattle.std.specs.Prelude.{◌≡◌, ◌⊎◌, ℕ, ◌+◌, ◌*◌, ◌<�
 use Rattle.rec_words.specs.Words.{node_size}
 use Rattle.shelf_model.specs.declared.file_no.FileNo.{FileNo}
 use Rattle.shelf_model.specs.declared.sort_fault.SortFault.{SortFault}
-use Rattle.shelf_model.specs.declared.sort_fault.SortFault.TheVariants.{Shelf, Damaged, RunsSpent, RoomFull}
+use Rattle.shelf_model.specs.declared.sort_fault.SortFault.TheVariants.{Shelf, Damaged, RunsSpent}
 use Rattle.shelf_model.specs.World.{World, file}
 use Rattle.node_file.specs.Nodes.{identifier_at}
 use Rattle.node_reading.specs.Reading.{count_of, IsDamagedNode, IsTrailerFault}
@@ -43,7 +43,6 @@ IsReadDamage n read key world Shelf = Unit
 IsReadDamage n read key world (Damaged f at) = (f ≡ read)
     × (IsDamagedNode n (file world read).bytes at ⊎ IsAbsent (file world read).bytes key at)
 IsReadDamage n read key world RunsSpent = ⊥
-IsReadDamage n read key world RoomFull = ⊥
 
 -- so the operand is, in which the member is the node of the key
 abbrev pub IsOperandDamage : ℕ → Operand → ℕ → Member → World → FileNo → ℕ → Type 0
@@ -71,7 +70,6 @@ IsMachineDamage m world Shelf = Unit
 IsMachineDamage m world (Damaged f at) = AreApart (files_in m) m.parts.step
     → IsAskDamage m world f at
 IsMachineDamage m world RunsSpent = Unit
-IsMachineDamage m world RoomFull = Unit
 
 abbrev pub IsDamage : {O : Type 0} → TopDownSweep O → World → SortFault → Type 0
 IsDamage s world e = IsMachineDamage s.machine world e

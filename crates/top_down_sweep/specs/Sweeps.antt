@@ -2,7 +2,7 @@
 use Rattle.std.specs.Prelude.{◌≡◌, ◌⊎◌, ℕ, ◌^◌, ◌≤◌, Option, Some, None, IsSome, IfSome}
 use Rattle.shelf_model.specs.declared.file_no.FileNo.{FileNo}
 use Rattle.shelf_model.specs.declared.sort_fault.SortFault.{SortFault}
-use Rattle.shelf_model.specs.declared.sort_fault.SortFault.TheVariants.{Shelf, Damaged, RunsSpent, RoomFull}
+use Rattle.shelf_model.specs.declared.sort_fault.SortFault.TheVariants.{Shelf, Damaged, RunsSpent}
 use Rattle.rec_words.specs.Words.{level_of}
 use Rattle.canon_file.specs.NodeFiles.{IsProper}
 use Rattle.rec_words.specs.declared.node.Node.{Node}
@@ -112,21 +112,18 @@ abbrev pub Refuses : Machine → SortFault → Type 0
 Refuses m Shelf = Unit
 Refuses m (Damaged f at) = IsRead (files_in m) f ⊎ WasTaken m.parts f
 Refuses m RunsSpent = 2 ^ 32 ≤ m.parts.next
-Refuses m RoomFull = ⊥
 
 -- a call of the folder failed, or that file is damaged
 abbrev pub IsDamageIn : FileNo → SortFault → Type 0
 IsDamageIn file Shelf = Unit
 IsDamageIn file (Damaged f at) = f ≡ file
 IsDamageIn file RunsSpent = ⊥
-IsDamageIn file RoomFull = ⊥
 
 -- a call of the folder failed, or an operand is damaged
 abbrev pub IsStartDamage : Files → SortFault → Type 0
 IsStartDamage files Shelf = Unit
 IsStartDamage files (Damaged f at) = IsRead files f
 IsStartDamage files RunsSpent = ⊥
-IsStartDamage files RoomFull = ⊥
 
 -- what it made, once it has ended
 abbrev pub made_at : Phase → Option Unreduced
