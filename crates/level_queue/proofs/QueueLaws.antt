@@ -19,10 +19,11 @@ use Rattle.run_files.specs.Items.{record_of}
 use Rattle.run_merge.specs.Lists.{Joins, Shows, Gives, GivesValue}
 use Rattle.run_merge.specs.declared.sorter.Sorter.{Sorter}
 use Rattle.run_tiers.specs.declared.parts.Parts.{Parts}
-use Rattle.run_tiers.specs.Parts.{Took, Spilled}
+use Rattle.run_tiers.specs.Parts.{Took, Spilled, WasTaken}
 use Rattle.run_merge.specs.Sorters as sorters
 use Rattle.run_files.proofs.RecordOrder.{none_less}
 use Rattle.run_merge.proofs.SorterLaws.{credit_bounded, list_counted, list_kept, list_kept_unchanged, list_kept_with_parts, serves_on}
+use Rattle.run_merge.proofs.RunFiles.{sorter_taken}
 use Rattle.level_queue.specs.declared.queue.LevelQueue.{LevelQueue}
 use Rattle.level_queue.specs.Queues.{held, credit, IsRunOf, IsNoLess, IsReached, AnswersNoLess, IsOutOfOrder, IsBelow, IsQueueFault, IsQueueCause, Serves, Lists}
 
@@ -196,3 +197,8 @@ given_reached {T = T} is_value words s o x is value above = record {
   value = subst (λ (p : Option T). GivesValue is_value (Ok p)) is value;
   above = subst (λ (p : Option T). sorters.LeavesAbove words s (Ok p)) is above;
 }
+
+-- the runs of a queue that parts can serve are those of parts that were taken
+pub queue_taken : {T : Type 0} (q : LevelQueue T) (parts : Parts) (f : FileNo) → Serves parts q → IsRunOf q f → WasTaken parts f
+unfolding Serves IsRunOf
+queue_taken q parts f serves run = sorter_taken q.sorter parts f serves run

@@ -34,7 +34,8 @@ use Rattle.sweep_core.specs.Accounts.{CanBeTaken}
 use Rattle.reduce_sweep.specs.declared.reduce.Ahead.{Ahead}
 use Rattle.reduce_sweep.specs.declared.reduce.Lists.{Lists}
 use Rattle.reduce_sweep.specs.Sweeps.{IsRun, AreServed}
-use Rattle.reduce_sweep.proofs.RunFiles.{sorter_taken, queue_taken}
+use Rattle.run_merge.proofs.RunFiles.{sorter_taken}
+use Rattle.level_queue.proofs.QueueLaws.{queue_taken}
 use Rattle.reduce_sweep.specs.Remaining.{Contents, Holds, IsUnread, QueueLists, RowLists, NameLists}
 
 -- the bytes of a file are as they were

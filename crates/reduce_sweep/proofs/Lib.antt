@@ -1,4 +1,3 @@
-mod RunFiles
 mod Holding
 mod Doing
 mod Listing

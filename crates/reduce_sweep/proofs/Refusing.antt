@@ -21,7 +21,7 @@ use Rattle.arc_file.specs.declared.reader.ArcReader.{ArcReader}
 use Rattle.reduce_sweep.specs.declared.reduce.ReduceSweep.{ReduceSweep}
 use Rattle.reduce_sweep.specs.Sweeps.{Refuses}
 use Rattle.reduce_sweep.specs.Damage.{IsDamageOf}
-use Rattle.reduce_sweep.proofs.RunFiles.{place_taken, next_taken, shown_taken}
+use Rattle.run_merge.proofs.RunFiles.{push_taken, read_taken, first_taken}
 
 -- a list that some item joins is known: no damage is found
 pub none_joined : {T : Type 0} (Old New : List T → Type 0) (told : Type 0) (r : ArcReader) (world : World) (x : T) (result : Result Unit SortFault) → (told → (xs : List T) × Old xs)
@@ -51,14 +51,14 @@ pub push_refuses : {T : Type 0} (s : Sorter T) (before : Parts) (inner ends : Fi
     → sorters.IsPushCause t.parts s e → Refuses inner ends t e
 unfolding sorters.Serves sorters.IsPushCause
 push_refuses s before inner ends t Shelf serves took cause = tt
-push_refuses s before inner ends t (Damaged f at) serves took cause = inr (inr (place_taken t.parts s.tiers.heads f at (serves_on s before t.parts serves took) cause))
+push_refuses s before inner ends t (Damaged f at) serves took cause = inr (inr (push_taken t.parts s f at (serves_on s before t.parts serves took) cause))
 push_refuses s before inner ends t RunsSpent serves took cause = cause
 
 -- a read is refused where a run is damaged
 pub read_refuses : {T : Type 0} (s : Sorter T) (inner ends : FileNo) (t : ReduceSweep) (e : SortFault) → sorters.Serves t.parts s → sorters.IsReadCause s e → Refuses inner ends t e
 unfolding sorters.Serves sorters.IsReadCause
 read_refuses s inner ends t Shelf serves cause = tt
-read_refuses s inner ends t (Damaged f at) serves cause = inr (inr (next_taken t.parts s.tiers.heads f at serves cause))
+read_refuses s inner ends t (Damaged f at) serves cause = inr (inr (read_taken t.parts s f at serves cause))
 read_refuses s inner ends t RunsSpent serves cause = absurd cause
 
 -- the same of the queue
@@ -73,7 +73,7 @@ unfolding queues.Serves
 queue_read_refuses is_value words old new inner ends t Shelf before serves values cause = tt
 queue_read_refuses is_value words old new inner ends t (Damaged f at) before serves values cause = elim cause [
   | inl read ↦ read_refuses old.sorter inner ends t (Damaged f at) before read
-  | inr is ↦ inr (inr (shown_taken is_value words new.sorter t.parts f at serves values.sorter is))
+  | inr is ↦ inr (inr (first_taken is_value words t.parts new.sorter f at serves values.sorter is))
 ]
 queue_read_refuses is_value words old new inner ends t RunsSpent before serves values cause = absurd cause
 
