@@ -7,6 +7,16 @@ use std::test::Fail;
 /// The words of a run in the station's own folder.
 pub(crate) const RUN: [&str; 5] = ["adiar", "run", "FOLDER", "--script", "script"];
 
+/// The words of such a run in the least room.
+pub(crate) const SMALL: [&str; 6] = [
+    "adiar",
+    "--budget=16384",
+    "run",
+    "FOLDER",
+    "--script",
+    "script",
+];
+
 /// A script of one request.
 pub(crate) const ONE_VARIABLE: &[u8] = b"vars a b c\nvar f b\n";
 

@@ -1,5 +1,5 @@
 // Calls with other words between two runs of one job: they change nothing, and the job goes on.
-use crate::bench_run::{ONE_VARIABLE, RUN, THREE_VARIABLES, bench_with, gives, run};
+use crate::bench_run::{ONE_VARIABLE, RUN, SMALL, THREE_VARIABLES, bench_with, gives, run};
 use crate::files::STEP_GATE;
 use shelf_memory::{Bench, Choice};
 use std::alloc::Global;
@@ -31,8 +31,9 @@ fn goes_on_behind(
 
 #[test]
 fn goes_on_behind_calls_with_other_words(rt: HostRuntime) -> Result<(), Fail> {
-    // The scripts' lengths differ, and byte 15 of a job is the last of its script's length.
-    let cases: [(&[&str], &[u8], u8, &[u8]); 3] = [
+    // The scripts' lengths differ, and byte 15 of a job is the last of its script's length. Bytes 8 to 11 are the
+    // records of its room, 00040000 where none are given and 00004000 for 16,384.
+    let cases: [(&[&str], &[u8], u8, &[u8]); 4] = [
         (
             &["adiar"],
             THREE_VARIABLES,
@@ -46,6 +47,7 @@ fn goes_on_behind_calls_with_other_words(rt: HostRuntime) -> Result<(), Fail> {
             b"",
         ),
         (&RUN, ONE_VARIABLE, 5, b"other job at 15\n"),
+        (&SMALL, THREE_VARIABLES, 5, b"other job at 9\n"),
     ];
     for (words, script, status, said) in cases {
         assert!(rt;

@@ -1,5 +1,5 @@
 // What accepted scripts say, and the bytes that they leave. Numbers in files have the highest byte first.
-use crate::bench_run::{ONE_VARIABLE, RUN, bench_with, gives, run};
+use crate::bench_run::{ONE_VARIABLE, RUN, SMALL, bench_with, gives, run};
 use crate::files::{CATALOGUE, JOB, JOB_GATE, STEP_GATE, ZERO_OF_TWO, entry};
 use shelf_memory::Bench;
 use shelf_model::FileNo;
@@ -56,11 +56,18 @@ fn leaves(alloc: Global, f: FileNo, wanted: &[u8]) -> Result<bool, Fail> {
     Ok(run(alloc, &RUN, &mut bench)? == 0 && bench.file(f) == wanted)
 }
 
-/// Whether a run of the script leaves this job behind an open gate, and a step gate with these bytes.
-fn keeps(alloc: Global, script: &[u8], job: &[u8], gate: &[u8]) -> Result<bool, Fail> {
+/// Whether a run of the script with these words leaves this job behind an open gate, and a step gate with these
+/// bytes.
+fn keeps(
+    alloc: Global,
+    words: &[&str],
+    script: &[u8],
+    job: &[u8],
+    gate: &[u8],
+) -> Result<bool, Fail> {
     let mut bench = bench_with(alloc, script)?;
     Ok(
-        run(alloc, &RUN, &mut bench)? == 0
+        run(alloc, words, &mut bench)? == 0
             && bench.file(JOB) == job
             && bench.file(JOB_GATE) == b"\x00".as_slice()
             && bench.file(STEP_GATE) == gate,
@@ -131,27 +138,39 @@ fn writes_numbers_with_the_highest_byte_first(rt: HostRuntime) -> Result<(), Fai
 
 #[test]
 fn keeps_the_job_and_the_gates(rt: HostRuntime) -> Result<(), Fail> {
-    // A room of 262,144 records, the length of the script, no netlist, and the script; the step gate.
-    let cases: [(&[u8], &[u8], &[u8]); 3] = [
+    // A room of 262,144 or 16,384 records, the length of the script, no netlist, and the script; the step gate.
+    let cases: [(&[&str], &[u8], &[u8], &[u8]); 4] = [
         (
+            &RUN,
             b"vars a\n",
             b"ADIARJ01\x00\x04\x00\x00\x00\x00\x00\x07\xff\xff\xff\xffvars a\n",
             b"",
         ),
         (
+            &RUN,
             ONE_VARIABLE,
             b"ADIARJ01\x00\x04\x00\x00\x00\x00\x00\x13\xff\xff\xff\xffvars a b c\nvar f b\n",
             b"\x00",
         ),
         (
+            &SMALL,
+            ONE_VARIABLE,
+            b"ADIARJ01\x00\x00\x40\x00\x00\x00\x00\x13\xff\xff\xff\xffvars a b c\nvar f b\n",
+            b"\x00",
+        ),
+        (
+            &RUN,
             b"vars a b c\nvar f a\nvar g b\nvar h c\n",
             b"ADIARJ01\x00\x04\x00\x00\x00\x00\x00\x23\xff\xff\xff\xff\
               vars a b c\nvar f a\nvar g b\nvar h c\n",
             b"\x00\x00\x00",
         ),
     ];
-    for (script, job, gate) in cases {
-        assert!(rt; keeps(rt.alloc(), script, job, gate)?, "{script:?}");
+    for (words, script, job, gate) in cases {
+        assert!(rt;
+            keeps(rt.alloc(), words, script, job, gate)?,
+            "{words:?} {script:?}"
+        );
     }
     Ok(())
 }

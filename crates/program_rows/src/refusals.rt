@@ -37,15 +37,39 @@ fn ends_without_a_script(alloc: Global) -> Result<bool, Fail> {
 
 #[test]
 fn says_the_usage_to_other_words(rt: HostRuntime) -> Result<(), Fail> {
-    let cases: [&[&str]; 8] = [
+    let cases: [&[&str]; 17] = [
         &[],
         &["adiar"],
         &["adiar", "run", "FOLDER", "--script"],
         &["adiar", "run", "FOLDER", "--script", "script", "more"],
-        &["adiar", "list", "FOLDER", "--script", "script"],
         &["adiar", "run", "FOLDER", "--netlist", "script"],
         &["adiar", "FOLDER", "run", "--script", "script"],
         &["run", "FOLDER", "--script", "script"],
+        &["adiar", "gen", "FOLDER", "--size", "17"],
+        &["adiar", "gen", "FOLDER", "--size", "0"],
+        &[
+            "adiar", "run", "FOLDER", "--script", "script", "--budget", "16383",
+        ],
+        &[
+            "adiar", "run", "FOLDER", "--script", "script", "--budget", "4194305",
+        ],
+        &[
+            "adiar", "run", "FOLDER", "--script", "script", "--script", "script",
+        ],
+        &["adiar", "list", "FOLDER", "--script", "script"],
+        &["adiar", "list", "FOLDER", "--budget", "16384"],
+        // What the program doesn't do so far.
+        &["adiar", "list", "FOLDER"],
+        &["adiar", "gen", "FOLDER", "--size", "1"],
+        &[
+            "adiar",
+            "run",
+            "FOLDER",
+            "--script",
+            "script",
+            "--netlist",
+            "script",
+        ],
     ];
     for words in cases {
         assert!(rt; says_the_usage(rt.alloc(), words)?, "{words:?}");

@@ -13,7 +13,7 @@ use Rattle.script_reader.specs.declared.plan.Plan.{Plan}
 use Rattle.script_runner.specs.declared.ending.Ending.{Ending}
 use Rattle.script_runner.specs.declared.ending.Ending.TheVariants.{SayFault}
 use Rattle.script_runner.specs.declared.ending.Ending.TheVariants as refusal
-use Rattle.script_runner.specs.Words.{Reading, reading_of}
+use Rattle.script_runner.specs.Asked.{Asked, asked_of}
 use Rattle.script_reader.specs.Reads.{Reads, Refuses}
 use Rattle.script_reader.specs.declared.fault.ScriptFault.{ScriptFault}
 use Rattle.script_reader.specs.declared.fault.ScriptKind.TheVariants as kind
@@ -80,10 +80,10 @@ fetched_runs folder job lines status old mid new looked run = record {
 }
 
 -- the words ask for the plan of the text that was read
-abbrev accepts_read : (words : List (List ℕ)) (reading : Reading) (bytes : List ℕ) (plan : Plan) (w : World) → reading_of words ≡ Some reading → Reads bytes plan
-    → IsText reading.script 1048576 bytes w → Accepts w words plan
-accepts_read words reading bytes plan w words_are accepted read = record {
-  reading = reading;
+abbrev accepts_read : (words : List (List ℕ)) (asked : Asked) (bytes : List ℕ) (plan : Plan) (w : World) → asked_of words ≡ Some asked → Reads bytes plan
+    → IsText asked.script 1048576 bytes w → Accepts w words plan
+accepts_read words asked bytes plan w words_are accepted read = record {
+  asked = asked;
   words_are = words_are;
   text = bytes;
   there = read.there ∙ ap Some (sym (whole_text read.text bytes read.bytes_are (text_is_short bytes plan accepted)));
@@ -92,31 +92,31 @@ accepts_read words reading bytes plan w words_are accepted read = record {
 
 module _ {S : Type 0} (tells : S → Bool) (world : S → World) where
   -- the calls of a run of the script that was read
-  pub few_run : (words : List (List ℕ)) (reading : Reading) (bytes job : List ℕ) (plan : Plan) (old s t : S) → reading_of words ≡ Some reading → Reads bytes plan → job ≡ job_bytes bytes
-      → (IsTrue (tells s) → IsText reading.script 1048576 bytes (world old)) → (IsTrue (tells s) → (world s).clock ≤ (world old).clock + fetch_calls 1048576)
+  pub few_run : (words : List (List ℕ)) (asked : Asked) (bytes job : List ℕ) (plan : Plan) (old s t : S) → asked_of words ≡ Some asked → Reads bytes plan → job ≡ job_bytes asked.budget bytes
+      → (IsTrue (tells s) → IsText asked.script 1048576 bytes (world old)) → (IsTrue (tells s) → (world s).clock ≤ (world old).clock + fetch_calls 1048576)
       → (IsTrue (tells t) → IsTrue (tells s)) → (IsTrue (tells t) → (world t).clock ≤ (world s).clock + 2 + most_calls (length plan.steps) (length plan.lines) (length job))
       → IsTrue (tells t) → MakesFewCalls words (world old) (world t)
-  few_run words reading bytes job plan old s t words_are accepted job_is fetched first before second tells_t =
+  few_run words asked bytes job plan old s t words_are accepted job_is fetched first before second tells_t =
       let tells_s : IsTrue (tells s) = before tells_t in
       let a = first tells_s in
-      let b : (world t).clock ≤ (world s).clock + 2 + most_calls (length plan.steps) (length plan.lines) (length (job_bytes bytes)) =
+      let b : (world t).clock ≤ (world s).clock + 2 + most_calls (length plan.steps) (length plan.lines) (length (job_bytes asked.budget bytes)) =
       subst (λ (x : List ℕ). (world t).clock ≤ (world s).clock + 2 + most_calls (length plan.steps) (length plan.lines) (length x)) job_is (second tells_t) in
-      inr (plan, accepts_read words reading bytes plan (world old) words_are accepted (fetched tells_s), omega (arith, a, b))
+      inr (plan, accepts_read words asked bytes plan (world old) words_are accepted (fetched tells_s), omega (arith, a, b))
 
   -- the script that was read is refused
-  pub answers_refused : (words : List (List ℕ)) (reading : Reading) (bytes line_said : List ℕ) (fault : ScriptFault) (ending : Ending) (old s t : S) → reading_of words ≡ Some reading
+  pub answers_refused : (words : List (List ℕ)) (asked : Asked) (bytes line_said : List ℕ) (fault : ScriptFault) (ending : Ending) (old s t : S) → asked_of words ≡ Some asked
       → (ending ≡ refusal.Script) ⊎ (ending ≡ SayFault) → line_said ≡ refused_line fault → Refuses bytes fault
-      → (IsTrue (tells s) → IsText reading.script 1048576 bytes (world old))
+      → (IsTrue (tells s) → IsText asked.script 1048576 bytes (world old))
       → Told tells old s (OnlyFetched (world old) (world s)) → Told tells s t (SaysOnly line_said (world s) (world t))
       → (ending ≡ refusal.Script → IsTrue (tells t) → said (world t) ≡ said (world s) ++ line_said)
       → Told tells old t (Ends words (status_of ending) (world old) (world t))
-  answers_refused words reading bytes line_said fault ending old s t words_are which line_is refused text looked says whole = record {
+  answers_refused words asked bytes line_said fault ending old s t words_are which line_is refused text looked says whole = record {
     before = λ tells_t. looked.before (says.before tells_t);
     did = λ tells_t.
         let tells_s : IsTrue (tells s) = says.before tells_t in
-        let read : IsText reading.script 1048576 bytes (world old) = text tells_s in
+        let read : IsText asked.script 1048576 bytes (world old) = text tells_s in
         let refuses : IsRefused (world old) words fault = record {
-          reading = reading;
+          asked = asked;
           words_are = words_are;
           text = read.text;
           there = read.there;
@@ -144,25 +144,25 @@ module _ {S : Type 0} (tells : S → Bool) (world : S → World) where
       is_script e (inr x) three = absurd (let eight : status_of e ≡ 8 = ap status_of x in omega (arith, three))
 
   -- the script that was read is run
-  pub answers_run : (words : List (List ℕ)) (reading : Reading) (bytes text job : List ℕ) (plan : Plan) (status : ℕ) (old s t : S) → reading_of words ≡ Some reading
-      → Reads bytes plan → text ≡ bytes → job ≡ job_bytes bytes
-      → (IsTrue (tells s) → IsText reading.script 1048576 bytes (world old))
+  pub answers_run : (words : List (List ℕ)) (asked : Asked) (bytes text job : List ℕ) (plan : Plan) (status : ℕ) (old s t : S) → asked_of words ≡ Some asked
+      → Reads bytes plan → text ≡ bytes → job ≡ job_bytes asked.budget bytes
+      → (IsTrue (tells s) → IsText asked.script 1048576 bytes (world old))
       → Told tells old s (OnlyFetched (world old) (world s))
-      → Told tells s t (RunsIn reading.folder (record { n = plan.n; text = text; steps = plan.steps; bytes = job }) plan.lines status (world s) (world t))
+      → Told tells s t (RunsIn asked.folder (record { n = plan.n; text = text; steps = plan.steps; bytes = job }) plan.lines status (world s) (world t))
       → Told tells old t (Ends words status (world old) (world t))
-  answers_run words reading bytes text job plan status old s t words_are accepted text_is job_is fetched looked run = record {
+  answers_run words asked bytes text job plan status old s t words_are accepted text_is job_is fetched looked run = record {
     before = λ tells_t. looked.before (run.before tells_t);
     did = λ tells_t.
         let tells_s : IsTrue (tells s) = run.before tells_t in
-        let read : IsText reading.script 1048576 bytes (world old) = fetched tells_s in
-        let accepts : Accepts (world old) words plan = accepts_read words reading bytes plan (world old) words_are accepted read in
-        let by_text : RunsIn reading.folder (record { n = plan.n; text = bytes; steps = plan.steps; bytes = job }) plan.lines status (world s) (world t) =
-        subst (λ (x : List ℕ). RunsIn reading.folder (record { n = plan.n; text = x; steps = plan.steps; bytes = job }) plan.lines status (world s) (world t)) text_is (run.did tells_t) in
-        let by_job : RunsIn reading.folder (job_of bytes plan) plan.lines status (world s) (world t) =
-        subst (λ (x : List ℕ). RunsIn reading.folder (record { n = plan.n; text = bytes; steps = plan.steps; bytes = x }) plan.lines status (world s) (world t)) job_is by_text in
+        let read : IsText asked.script 1048576 bytes (world old) = fetched tells_s in
+        let accepts : Accepts (world old) words plan = accepts_read words asked bytes plan (world old) words_are accepted read in
+        let by_text : RunsIn asked.folder (record { n = plan.n; text = bytes; steps = plan.steps; bytes = job }) plan.lines status (world s) (world t) =
+        subst (λ (x : List ℕ). RunsIn asked.folder (record { n = plan.n; text = x; steps = plan.steps; bytes = job }) plan.lines status (world s) (world t)) text_is (run.did tells_t) in
+        let by_job : RunsIn asked.folder (job_of asked.budget bytes plan) plan.lines status (world s) (world t) =
+        subst (λ (x : List ℕ). RunsIn asked.folder (record { n = plan.n; text = bytes; steps = plan.steps; bytes = x }) plan.lines status (world s) (world t)) job_is by_text in
         inr (inr (inr (record {
           plan = plan;
           accepts = accepts;
-          run = fetched_runs reading.folder (job_of bytes plan) plan.lines status (world old) (world s) (world t) (looked.did tells_s) by_job;
+          run = fetched_runs asked.folder (job_of asked.budget bytes plan) plan.lines status (world old) (world s) (world t) (looked.did tells_s) by_job;
         })));
   }

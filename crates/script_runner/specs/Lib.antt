@@ -1,4 +1,4 @@
-pub mod Words
+pub mod Asked
 pub mod Text
 pub mod Shapes
 pub mod Said

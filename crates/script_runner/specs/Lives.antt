@@ -47,9 +47,10 @@ pub record IsLife (folder : Folder) (life : Life) : Type 0 where
   pub said_is : (life.new.moment life.at).said ≡ said life.old ++ life.told
   pub leaves : IsLeftOf (life.new.moment life.at).folder life.left
 
--- the words name this text, which asks for this plan
-pub record RunsPlan (text : List ℕ) (plan : Plan) (life : Life) : Type 0 where
+-- the words give this room, and name this text, which asks for this plan
+pub record RunsPlan (budget : ℕ) (text : List ℕ) (plan : Plan) (life : Life) : Type 0 where
   pub accepts : Accepts life.old life.words plan
+  pub budget_is : accepts.asked.budget ≡ budget
   pub text_is : accepts.text ≡ text
 
 -- the call ended before it entered the folder
@@ -62,25 +63,25 @@ AreStored folder = (image : Image) → IsImage folder image → IsTrue (is_store
 
 -- each call found what the one before left; its words are those of one job, or it stayed out, or
 -- every image stored a job already
-abbrev pub AreLives : List ℕ → Plan → Folder → List Life → Type 0
-AreLives text plan folder [] = Unit
-AreLives text plan folder (life ∷ lives) =
-    IsLife folder life × (RunsPlan text plan life ⊎ StaysOut life ⊎ AreStored folder)
-    × AreLives text plan life.left lives
+abbrev pub AreLives : ℕ → List ℕ → Plan → Folder → List Life → Type 0
+AreLives budget text plan folder [] = Unit
+AreLives budget text plan folder (life ∷ lives) =
+    IsLife folder life × (RunsPlan budget text plan life ⊎ StaysOut life ⊎ AreStored folder)
+    × AreLives budget text plan life.left lives
 
 -- what a call leaves of a folder: each image is sound for the job, no step that all images had is
 -- lost, and a job that all of them store stays; where it ran the job each image has each step whose
 -- line it said, and stores the job where it said its banner
-pub record LifeKeeps (text : List ℕ) (plan : Plan) (folder : Folder) (life : Life) : Type 0 where
-  pub sound : AreSound (job_of text plan) life.left
+pub record LifeKeeps (budget : ℕ) (text : List ℕ) (plan : Plan) (folder : Folder) (life : Life) : Type 0 where
+  pub sound : AreSound (job_of budget text plan) life.left
   pub has_old : (count : ℕ) → ReachesCount count folder → ReachesCount count life.left
   pub still_stored : AreStored folder → AreStored life.left
-  pub has_said : RunsPlan text plan life → (image : Image) → IsImage life.left image
+  pub has_said : RunsPlan budget text plan life → (image : Image) → IsImage life.left image
       → said_count (count_in (present folder)) plan.lines life.told ≤ count_in (bytes_in image)
-  pub has_job : RunsPlan text plan life → 0 < whole_lines life.told → AreStored life.left
+  pub has_job : RunsPlan budget text plan life → 0 < whole_lines life.told → AreStored life.left
 
 -- each call of the list does
-abbrev pub LivesKeep : List ℕ → Plan → Folder → List Life → Type 0
-LivesKeep text plan folder [] = Unit
-LivesKeep text plan folder (life ∷ lives) = LifeKeeps text plan folder life
-    × LivesKeep text plan life.left lives
+abbrev pub LivesKeep : ℕ → List ℕ → Plan → Folder → List Life → Type 0
+LivesKeep budget text plan folder [] = Unit
+LivesKeep budget text plan folder (life ∷ lives) = LifeKeeps budget text plan folder life
+    × LivesKeep budget text plan life.left lives

@@ -3,7 +3,7 @@ use Rattle.std.specs.Prelude.{◌≡◌, ℕ, ◌+◌, ◌≤◌, ◌⊎◌, Lis
 use Rattle.std.specs.List.{list_any}
 use Rattle.shelf_model.specs.World.{World, said}
 use Rattle.shelf_model.specs.Faults.{Faults, Rose}
-use Rattle.script_runner.specs.Words.{Reading, reading_of}
+use Rattle.script_runner.specs.Asked.{Asked, asked_of}
 use Rattle.script_reader.specs.declared.plan.Plan.{Plan}
 use Rattle.script_reader.specs.declared.fault.ScriptFault.{ScriptFault}
 use Rattle.script_reader.specs.Reads.{Reads, Refuses}
@@ -16,18 +16,18 @@ use Rattle.script_runner.specs.Entered.{RunsIn}
 
 -- the words name a script, and the text at its path asks for this plan
 pub record Accepts (w : World) (words : List (List ℕ)) (plan : Plan) : Type 0 where
-  pub reading : Reading
-  pub words_are : reading_of words ≡ Some reading
+  pub asked : Asked
+  pub words_are : asked_of words ≡ Some asked
   pub text : List ℕ
-  pub there : w.texts reading.script ≡ Some text
+  pub there : w.texts asked.script ≡ Some text
   pub accepted : Reads text plan
 
 -- the words name a script, and this is the first fault of the text at its path
 pub record IsRefused (w : World) (words : List (List ℕ)) (fault : ScriptFault) : Type 0 where
-  pub reading : Reading
-  pub words_are : reading_of words ≡ Some reading
+  pub asked : Asked
+  pub words_are : asked_of words ≡ Some asked
   pub text : List ℕ
-  pub there : w.texts reading.script ≡ Some text
+  pub there : w.texts asked.script ≡ Some text
   pub refused : Refuses text fault
 
 -- a line was said, or with 8 a front part of it, and nothing else was done
@@ -38,13 +38,13 @@ pub record SaysLine (line : List ℕ) (good status : ℕ) (old new : World) : Ty
 
 -- the words aren't accepted, and the usage was said
 pub record EndsUsage (words : List (List ℕ)) (status : ℕ) (old new : World) : Type 0 where
-  pub unread : reading_of words ≡ None
+  pub unread : asked_of words ≡ None
   pub says : SaysLine usage_line 2 status old new
 
--- the script couldn't be fetched, or there was no memory: nothing was said and no file touched
+-- the script that the words name couldn't be fetched, or there was no memory: nothing was said and
+-- no file touched
 pub record EndsSilent (words : List (List ℕ)) (status : ℕ) (old new : World) : Type 0 where
-  pub reading : Reading
-  pub words_are : reading_of words ≡ Some reading
+  pub words_are : status ≡ 6 → (asked : Asked) × (asked_of words ≡ Some asked)
   pub status_is : (status ≡ 6) ⊎ (status ≡ 9)
   pub fetched : OnlyFetched old new
 
@@ -58,7 +58,8 @@ pub record EndsRefused (words : List (List ℕ)) (status : ℕ) (old new : World
 pub record EndsRan (words : List (List ℕ)) (status : ℕ) (old new : World) : Type 0 where
   pub plan : Plan
   pub accepts : Accepts old words plan
-  pub run : RunsIn accepts.reading.folder (job_of accepts.text plan) plan.lines status old new
+  pub run : RunsIn accepts.asked.folder (job_of accepts.asked.budget accepts.text plan) plan.lines
+      status old new
 
 -- the program ended in one of four ways
 abbrev pub Ends : List (List ℕ) → ℕ → World → World → Type 0
@@ -66,23 +67,23 @@ Ends words status old new =
     EndsUsage words status old new ⊎ EndsSilent words status old new
     ⊎ EndsRefused words status old new ⊎ EndsRan words status old new
 
--- the words decide between the usage and a run, unless saying failed
+-- the words decide between the usage and a run, unless saying failed or there was no memory
 pub record ByWords (words : List (List ℕ)) (status : ℕ) : Type 0 where
-  pub usage : status ≡ 2 → reading_of words ≡ None
-  pub unread : reading_of words ≡ None → (status ≡ 2) ⊎ (status ≡ 8)
+  pub usage : status ≡ 2 → asked_of words ≡ None
+  pub unread : asked_of words ≡ None → (status ≡ 2) ⊎ (status ≡ 8) ⊎ (status ≡ 9)
   pub known : IsTrue (list_any (λ s. s == status) (0 ∷ 2 ∷ 3 ∷ 5 ∷ 6 ∷ 7 ∷ 8 ∷ 9 ∷ 10 ∷ []))
 
 -- 6, 7 and 8 come only where their count rose: that of the script's path, of the folder, of saying
 pub record StatusHasCause (words : List (List ℕ)) (status : ℕ) (old new : Faults) : Type 0 where
-  pub text_fault : status ≡ 6 → (reading : Reading) × (reading_of words ≡ Some reading)
-      × Rose (old.text reading.script) (new.text reading.script)
+  pub text_fault : status ≡ 6 → (asked : Asked) × (asked_of words ≡ Some asked)
+      × Rose (old.text asked.script) (new.text asked.script)
   pub folder_fault : status ≡ 7 → Rose old.folder new.folder
   pub say_fault : status ≡ 8 → Rose old.say new.say
 
 -- no call failed: neither the count of the script's path rose, nor that of the folder or of saying
 pub record NoneRose (words : List (List ℕ)) (old new : Faults) : Type 0 where
-  pub text_same : (reading : Reading) → reading_of words ≡ Some reading
-      → ¬ (Rose (old.text reading.script) (new.text reading.script))
+  pub text_same : (asked : Asked) → asked_of words ≡ Some asked
+      → ¬ (Rose (old.text asked.script) (new.text asked.script))
   pub folder_same : ¬ (Rose old.folder new.folder)
   pub say_same : ¬ (Rose old.say new.say)
 
@@ -92,5 +93,6 @@ abbrev pub MakesFewCalls : List (List ℕ) → World → World → Type 0
 MakesFewCalls words old new =
     (new.clock ≤ old.clock + fetch_calls 1048576 + 1)
     ⊎ ((plan : Plan) × (accepts : Accepts old words plan)
-    × (new.clock
-    ≤ old.clock + fetch_calls 1048576 + 2 + most_calls (length plan.steps) (length plan.lines) (length (job_bytes accepts.text))))
+    × (new.clock ≤ old.clock + fetch_calls 1048576 + 2
+    + most_calls (length plan.steps) (length plan.lines)
+    (length (job_bytes accepts.asked.budget accepts.text))))

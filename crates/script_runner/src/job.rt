@@ -9,18 +9,15 @@ ghost use Rattle.script_runner.specs.JobOf.{job_bytes};
 use byteorder::{BigEndian, ByteOrder};
 use std::alloc::{AllocError, Global};
 
-/// The records of a run's room.
-pub(crate) const BUDGET: usize = 262_144;
-
-/// The bytes of the job of a script.
+/// The bytes of the job of a script, in a room of that many records.
 #[tactic(auto, unfolding(crate::specs::JobOf::job_bytes))]
-pub(crate) fn job_bytes(alloc: Global, script: &[u8]) -> Result<Vec<u8>, AllocError>
+pub(crate) fn job_bytes(alloc: Global, budget: u32, script: &[u8]) -> Result<Vec<u8>, AllocError>
     requires short { length script.now ≤ 1048576 }
-    ensures { IfOk result (λ job. job.items ≡ job_bytes script.now) }
+    ensures { IfOk result (λ job. job.items ≡ job_bytes budget script.now) }
 {
     let mut head = [0u8; 20];
     head[0..8].copy_from_slice(b"ADIARJ01");
-    BigEndian::write_u32(&mut head[8..12], BUDGET as u32);
+    BigEndian::write_u32(&mut head[8..12], budget);
     BigEndian::write_u32(&mut head[12..16], script.len() as u32);
     head[16..20].copy_from_slice(&[255; 4]);
     let mut job = Vec::new(alloc);

@@ -21,9 +21,9 @@ ghost use Rattle.script_runner.specs.Lives.{Life, AreLives, LivesKeep};
 /// of one job, or any others once every image stores that job, or end before the folder is entered. Every image
 /// that is left is sound for the job, and has each step that all images had and each whose line was said.
 pub fn lives_keep()
-    ensures keeps { (text : List ℕ) (plan : Plan) (folder : Folder) (lives : List Life)
-        → Reads text plan → AreSound (job_of text plan) folder → AreLives text plan folder lives
-        → LivesKeep text plan folder lives }
+    ensures keeps { (budget : ℕ) (text : List ℕ) (plan : Plan) (folder : Folder) (lives : List Life)
+        → Reads text plan → AreSound (job_of budget text plan) folder → AreLives budget text plan folder lives
+        → LivesKeep budget text plan folder lives }
 {}
 
 /// A folder without files is sound for every job: every image of it is.
@@ -35,9 +35,10 @@ pub fn new_folder_is_sound()
 /// and says the whole text, or with 9 before it says anything or changes a file.
 pub fn accepted_runs_end()
     ensures ends { (words : List (List ℕ)) (plan : Plan) (status : ℕ) (old new : World) (before after : Faults)
-        → (accepts : Accepts old words plan) → AreSound (job_of accepts.text plan) (now old).folder
+        → (accepts : Accepts old words plan) → AreSound (job_of accepts.asked.budget accepts.text plan) (now old).folder
         → Ends words status old new → StatusHasCause words status before after → NoneRose words before after
         → ((status ≡ 0)
-        × (said new ≡ said old ++ run_text (job_of accepts.text plan) plan.lines (present (now old).folder)))
+        × (said new ≡ said old
+        ++ run_text (job_of accepts.asked.budget accepts.text plan) plan.lines (present (now old).folder)))
         ⊎ ((status ≡ 9) × OnlyFetched old new) }
 {}

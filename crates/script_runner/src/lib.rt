@@ -2,6 +2,7 @@
 //! their lines.
 #![tactic(auto)]
 
+mod asked;
 mod banner;
 mod ending;
 mod fetch;
@@ -13,7 +14,6 @@ mod program;
 mod run;
 mod say;
 mod step;
-mod words;
 
 pub use finish::Finish;
 pub use program::adiar;

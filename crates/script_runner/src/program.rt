@@ -10,12 +10,13 @@ ghost use Rattle.script_runner.specs.Calls.{most_calls};
 ghost use Rattle.script_runner.specs.Outcome.{Ends, ByWords, StatusHasCause, MakesFewCalls};
 ghost use Rattle.script_runner.specs.Entered.{RunsIn, EndsRun, EndingHasCause};
 
+use crate::asked::asked_run;
 use crate::ending::Ending;
 use crate::fetch::{FetchFault, fetch_text};
-use crate::job::{BUDGET, job_bytes};
+use crate::job::job_bytes;
 use crate::line::{damaged_line, other_job_line, refused_line};
-use crate::words::read_words;
 use crate::{Finish, run_steps};
+use command_words::WordsFault;
 use script_reader::{Plan, ScriptKind, read_script};
 
 /// The most bytes that a script has.
@@ -104,10 +105,12 @@ fn answer<W: Station>(alloc: Global, words: &[String], station: &mut W) -> Endin
     ensures by_words { ByWords (map string_bytes words.now) (status_of result) }
     ensures causes { StatusHasCause (map string_bytes words.now) (status_of result) (W.faults station.old) (W.faults station.new) }
 {
-    let Some(named) = read_words(words) else {
-        return say_refusal(USAGE, Ending::Usage, station);
+    let asked = match asked_run(alloc, words) {
+        Ok(asked) => asked,
+        Err(WordsFault::Memory) => return Ending::NoMemory,
+        Err(WordsFault::Usage) => return say_refusal(USAGE, Ending::Usage, station),
     };
-    let text = match fetch_text(alloc, named.script, MOST_SCRIPT, station) {
+    let text = match fetch_text(alloc, asked.script, MOST_SCRIPT, station) {
         Ok(text) => text,
         Err(FetchFault::Memory) => return Ending::NoMemory,
         Err(FetchFault::Text) => return Ending::TextFault,
@@ -125,28 +128,30 @@ fn answer<W: Station>(alloc: Global, words: &[String], station: &mut W) -> Endin
             }
         },
     };
-    let Ok(job) = job_bytes(alloc, &text) else {
+    let Ok(job) = job_bytes(alloc, asked.budget, &text) else {
         return Ending::NoMemory;
     };
-    let Ok(mut room) = take_room(alloc) else {
+    let Ok(mut room) = take_room(alloc, asked.budget) else {
         return Ending::NoMemory;
     };
-    run_plan(named.folder, &text, &plan, &job, &mut room, station)
+    run_plan(asked.folder, &text, &plan, &job, &mut room, station)
 }
 
 /// The room of a run.
-fn take_room(alloc: Global) -> Result<Vec<Rec>, AllocError>
-    ensures { IfOk result (λ room. length room.items ≡ 262144) }
+fn take_room(alloc: Global, budget: u32) -> Result<Vec<Rec>, AllocError>
+    ensures { IfOk result (λ room. length room.items ≡ budget) }
 {
-    vec![in alloc; Rec { w: [0; 8] }; BUDGET]
+    vec![in alloc; Rec { w: [0; 8] }; budget as usize]
 }
 
 /// The program: does what the words ask for, the first of which is the program's own name, and answers
 /// its exit status.
 ///
-/// `run FOLDER --script FILE` runs the script's job in the folder: it makes the node file of each step
-/// that isn't committed there yet, and says its line once the step is committed. All memory is taken
-/// before the folder is entered. After a stop the same words go on from where the folder stands.
+/// `run FOLDER --script FILE` runs the script's job in the folder, with a room of as many records as
+/// `--budget` says: it makes the node file of each step that isn't committed there yet, and says its
+/// line once the step is committed. All memory is taken before the folder is entered. After a stop the
+/// same words go on from where the folder stands. Other actions, and `--netlist`, aren't accepted so
+/// far.
 ///
 /// | status | comes | said at the end |
 /// |---|---|---|

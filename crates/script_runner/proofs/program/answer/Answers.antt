@@ -2,7 +2,7 @@ use Rattle.std.proofs.Common.{◌≡◌, ◌∙◌, ◌≤◌, length, map, sym,
 use Rattle.std.specs.Prelude.{Err}
 use Rattle.bool_tables.specs.Plans.{IsWellFormed}
 use Rattle.script_reader.proofs.PlanReads.{text_is_short}
-use Rattle.script_runner.specs.Words.{Reading}
+use Rattle.script_runner.specs.Asked.{Asked}
 use Rattle.script_runner.specs.Status.{status_of}
 use Rattle.script_runner.specs.Fetching.{IsText}
 use Rattle.script_runner.specs.JobOf.{job_bytes}
@@ -11,21 +11,21 @@ use Rattle.script_runner.proofs.program.answer.Goals as goal
 
 pub returns-in-Err-Text-clause-causes : goal.returns-in-Err-Text-clause-causes
 returns-in-Err-Text-clause-causes g c =
-    let reading : Reading = record { folder = c.in-Some.named.folder.now; script = c.in-Some.named.script.now } in
+    let asked : Asked = record { folder = c.in-Ok.asked.folder.now; script = c.in-Ok.asked.script.now; budget = c.in-Ok.asked.budget } in
     record {
-      text_fault = λ _. (reading, sym c.in-Some.ensures, c.in-Err-Text.ensures.cause (ap Err c.in-Err-Text.field-0-is));
+      text_fault = λ _. (asked, c.in-Ok.ensures.read, c.in-Err-Text.ensures.cause (ap Err c.in-Err-Text.field-0-is));
       folder_fault = λ seven. absurd (omega (arith, seven));
       say_fault = λ eight. absurd (omega (arith, eight));
     }
 
-pub returns-in_default-kind-clause-content : goal.returns-in_default-kind-clause-content
-returns-in_default-kind-clause-content g c =
-    let reading : Reading = record { folder = c.in-Some.named.folder.now; script = c.in-Some.named.script.now } in
-    answers_refused g.W.Shelf.tells g.W.Shelf.world (map string_bytes c.args.words.now) reading c.deref.result.now c.as_bytes.result.now c.in-Err.fault c.say_refusal-in_default-kind.result _ _ _
-    (sym c.in-Some.ensures) c.say_refusal-in_default-kind.ensures.which (c.as_bytes.ensures.value ∙ c.as_str.ensures.value ∙ c.refused_line.ensures.text)
-    (not_memory c.deref.result.now c.in-Err.fault c.in_default-kind.not-Memory c.in-Err.ensures.refused)
-    (λ tells_now. subst (λ bytes. IsText reading.script 1048576 bytes (g.W.Shelf.world c.args.station.now)) (sym c.deref.ensures.value) (c.in-Ok.ensures.text tells_now))
-    c.in-Ok.ensures.content c.say_refusal-in_default-kind.ensures.content c.say_refusal-in_default-kind.ensures.whole
+pub returns-in_default-clause-content : goal.returns-in_default-clause-content
+returns-in_default-clause-content g c =
+    let asked : Asked = record { folder = c.in-Ok.asked.folder.now; script = c.in-Ok.asked.script.now; budget = c.in-Ok.asked.budget } in
+    answers_refused g.W.Shelf.tells g.W.Shelf.world (map string_bytes c.args.words.now) asked c.deref.result.now c.as_bytes.result.now c.in-Err.fault c.say_refusal-in_default.result _ _ _
+    (c.in-Ok.ensures.read) c.say_refusal-in_default.ensures.which (c.as_bytes.ensures.value ∙ c.as_str.ensures.value ∙ c.refused_line.ensures.text)
+    (not_memory c.deref.result.now c.in-Err.fault c.in_default.not-Memory c.in-Err.ensures.refused)
+    (λ tells_now. subst (λ bytes. IsText asked.script 1048576 bytes (g.W.Shelf.world c.args.station.now)) (sym c.deref.ensures.value) (c.in-Ok-fetch_text.ensures.text tells_now))
+    c.in-Ok-fetch_text.ensures.content c.say_refusal-in_default.ensures.content c.say_refusal-in_default.ensures.whole
 
 pub job_bytes-requires : goal.job_bytes-requires
 job_bytes-requires g c =
@@ -39,30 +39,30 @@ run_plan-requires-clause-plan g c =
 
 pub returns-clause-content : goal.returns-clause-content
 returns-clause-content g c =
-    let reading : Reading = record { folder = c.in-Some.named.folder.now; script = c.in-Some.named.script.now } in
+    let asked : Asked = record { folder = c.in-Ok.asked.folder.now; script = c.in-Ok.asked.script.now; budget = c.in-Ok.asked.budget } in
     let same : c.deref-3.result.now ≡ c.deref.result.now = c.deref-3.ensures.value ∙ sym c.deref.ensures.value in
     let again : c.deref-2.result.now ≡ c.deref.result.now = c.deref-2.ensures.value ∙ sym c.deref.ensures.value in
-    let job : c.deref-4.result.now ≡ job_bytes c.deref.result.now = c.deref-4.ensures.value ∙ c.in-Ok-job_bytes.ensures ∙ ap job_bytes again in
-    answers_run g.W.Shelf.tells g.W.Shelf.world (map string_bytes c.args.words.now) reading c.deref.result.now c.deref-3.result.now c.deref-4.result.now c.in-Ok-read_script.plan (status_of c.run_plan.result) _ _ _
-    (sym c.in-Some.ensures) c.in-Ok-read_script.ensures.read same job
-    (λ tells_now. subst (λ bytes. IsText reading.script 1048576 bytes (g.W.Shelf.world c.args.station.now)) (sym c.deref.ensures.value) (c.in-Ok.ensures.text tells_now))
-    c.in-Ok.ensures.content c.run_plan.ensures.content
+    let job : c.deref-4.result.now ≡ job_bytes asked.budget c.deref.result.now = c.deref-4.ensures.value ∙ c.in-Ok-job_bytes.ensures ∙ ap (job_bytes asked.budget) again in
+    answers_run g.W.Shelf.tells g.W.Shelf.world (map string_bytes c.args.words.now) asked c.deref.result.now c.deref-3.result.now c.deref-4.result.now c.in-Ok-read_script.plan (status_of c.run_plan.result) _ _ _
+    (c.in-Ok.ensures.read) c.in-Ok-read_script.ensures.read same job
+    (λ tells_now. subst (λ bytes. IsText asked.script 1048576 bytes (g.W.Shelf.world c.args.station.now)) (sym c.deref.ensures.value) (c.in-Ok-fetch_text.ensures.text tells_now))
+    c.in-Ok-fetch_text.ensures.content c.run_plan.ensures.content
 
-pub returns-in_default-kind-clause-calls : goal.returns-in_default-kind-clause-calls
-returns-in_default-kind-clause-calls g c t =
-    let fetched = c.in-Ok.ensures.calls (c.say_refusal-in_default-kind.ensures.content.before t) in
-    let said = c.say_refusal-in_default-kind.ensures.calls t in
+pub returns-in_default-clause-calls : goal.returns-in_default-clause-calls
+returns-in_default-clause-calls g c t =
+    let fetched = c.in-Ok-fetch_text.ensures.calls (c.say_refusal-in_default.ensures.content.before t) in
+    let said = c.say_refusal-in_default.ensures.calls t in
     inl (omega (arith, fetched, said))
 
 pub returns-clause-calls : goal.returns-clause-calls
 returns-clause-calls g c =
-    let reading : Reading = record { folder = c.in-Some.named.folder.now; script = c.in-Some.named.script.now } in
+    let asked : Asked = record { folder = c.in-Ok.asked.folder.now; script = c.in-Ok.asked.script.now; budget = c.in-Ok.asked.budget } in
     let again : c.deref-2.result.now ≡ c.deref.result.now = c.deref-2.ensures.value ∙ sym c.deref.ensures.value in
-    let job : c.deref-4.result.now ≡ job_bytes c.deref.result.now = c.deref-4.ensures.value ∙ c.in-Ok-job_bytes.ensures ∙ ap job_bytes again in
-    few_run g.W.Shelf.tells g.W.Shelf.world (map string_bytes c.args.words.now) reading c.deref.result.now c.deref-4.result.now c.in-Ok-read_script.plan _ _ _
-    (sym c.in-Some.ensures) c.in-Ok-read_script.ensures.read job
-    (λ tells_now. subst (λ bytes. IsText reading.script 1048576 bytes (g.W.Shelf.world c.args.station.now)) (sym c.deref.ensures.value) (c.in-Ok.ensures.text tells_now))
-    c.in-Ok.ensures.calls c.run_plan.ensures.content.before c.run_plan.ensures.calls
+    let job : c.deref-4.result.now ≡ job_bytes asked.budget c.deref.result.now = c.deref-4.ensures.value ∙ c.in-Ok-job_bytes.ensures ∙ ap (job_bytes asked.budget) again in
+    few_run g.W.Shelf.tells g.W.Shelf.world (map string_bytes c.args.words.now) asked c.deref.result.now c.deref-4.result.now c.in-Ok-read_script.plan _ _ _
+    (c.in-Ok.ensures.read) c.in-Ok-read_script.ensures.read job
+    (λ tells_now. subst (λ bytes. IsText asked.script 1048576 bytes (g.W.Shelf.world c.args.station.now)) (sym c.deref.ensures.value) (c.in-Ok-fetch_text.ensures.text tells_now))
+    c.in-Ok-fetch_text.ensures.calls c.run_plan.ensures.content.before c.run_plan.ensures.calls
 
 pub returns-in_default-take_room-clause-calls : goal.returns-in_default-take_room-clause-calls
-returns-in_default-take_room-clause-calls g c t = let fetched = c.in-Ok.ensures.calls t in inl (omega (arith, fetched))
+returns-in_default-take_room-clause-calls g c t = let fetched = c.in-Ok-fetch_text.ensures.calls t in inl (omega (arith, fetched))

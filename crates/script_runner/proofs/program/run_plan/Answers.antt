@@ -1,11 +1,7 @@
-use Rattle.std.proofs.Common.{◌≡◌, ◌∙◌, List, length, ap, subst, arith}
-use Rattle.shelf_model.specs.Calls.{Told}
-use Rattle.bool_tables.specs.declared.steps.Planned.{Planned}
+use Rattle.std.proofs.Common.{◌≡◌, ◌∙◌, length, ap, arith}
 use Rattle.sound_image.specs.Jobs.{Job}
-use Rattle.script_reader.specs.declared.plan.LineEnd.{LineEnd}
 use Rattle.script_runner.specs.declared.finish.Finish.TheVariants.{Done, OtherJob, FolderFault, SayFault, Damaged}
 use Rattle.script_runner.specs.declared.ending.Ending.TheVariants as ending
-use Rattle.script_runner.specs.Running.{RunsSteps}
 use Rattle.script_runner.proofs.EnteredRuns.{of_items, enter_failed, entered_runs, entered_other, entered_damage, said_or, whole_line}
 use Rattle.script_runner.proofs.program.run_plan.Goals as goal
 
