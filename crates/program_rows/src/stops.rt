@@ -1,6 +1,6 @@
-// A run that is stopped at any of its calls, or of which any one call fails, and is then run again.
+// A run in the least room that is stopped at any of its calls, or of which any one call fails, and is then run again.
 use crate::bench_run::{
-    DROPPING, DROPPING_TEXT, RUN, THREE_TEXT, THREE_VARIABLES, bench_with, run,
+    DROPPING, DROPPING_TEXT, SMALL, THREE_TEXT, THREE_VARIABLES, bench_with, run,
 };
 use crate::files::{FIRST, STEP_GATE, ZERO_OF_TWO, same_files_but_the_first};
 use crate::parts_said::{Part, front_of, goes_on};
@@ -113,7 +113,7 @@ fn status_at(course: &Course, call: u64) -> u8 {
 /// A folder in which the script was run with no stop.
 fn unstopped(alloc: Global, course: &Course) -> Result<Bench, Fail> {
     let mut bench = bench_with(alloc, course.script)?;
-    run(alloc, &RUN, &mut bench)?;
+    run(alloc, &SMALL, &mut bench)?;
     Ok(bench)
 }
 
@@ -147,7 +147,7 @@ fn ends_well(
 ) -> Result<bool, Fail> {
     let kept = !course.drops || keeps_what_is_not_dropped(bench);
     let committed = bench.file(STEP_GATE).len();
-    let status = run(alloc, &RUN, bench)?;
+    let status = run(alloc, &SMALL, bench)?;
     let told = goes_on(alloc, course.rests, bench.said(), lines, front)?;
     Ok(
         kept && status == 0
@@ -168,7 +168,7 @@ fn outlives_a_stop(
 ) -> Result<bool, Fail> {
     let mut first = bench_with(alloc, course.script)?;
     first.fail_from(call);
-    let status = run(alloc, &RUN, &mut first)?;
+    let status = run(alloc, &SMALL, &mut first)?;
     let Some((lines, _)) = front_of(course.fronts, first.said()) else {
         return Ok(false);
     };
@@ -186,7 +186,7 @@ fn outlives_a_failure(
 ) -> Result<bool, Fail> {
     let mut bench = bench_with(alloc, course.script)?;
     bench.fail_at(call)?;
-    let status = run(alloc, &RUN, &mut bench)?;
+    let status = run(alloc, &SMALL, &mut bench)?;
     let Some((lines, front)) = front_of(course.fronts, bench.said()) else {
         return Ok(false);
     };
