@@ -6,4 +6,5 @@ mod Shared
 pub mod Stored
 mod Synced
 mod Resumed
+mod Looked
 mod Laws

@@ -15,7 +15,7 @@ use Rattle.catalogue.specs.declared.fault.AttachFault.TheVariants.{Shelf, Damage
 use Rattle.catalogue.specs.declared.standing.Standing.{Standing}
 use Rattle.catalogue.specs.Files.{job_file, job_gate, catalogue, step_gate}
 use Rattle.catalogue.specs.Counts.{present, is_stored}
-use Rattle.catalogue.specs.Standings.{standing_of, counted_standing, AreGatesSure, IsAttached}
+use Rattle.catalogue.specs.Standings.{standing_of, counted_standing, counted_or, AreGatesSure, IsAttached}
 use Rattle.catalogue.proofs.Shared.{same_from_shared, shared_self}
 use Rattle.catalogue.proofs.Synced.{synced_reads}
 use Rattle.catalogue.proofs.Stored.{attached, job_gate_not_job_file, step_gate_not_job_file, catalogue_not_job_file}
@@ -51,21 +51,20 @@ this_job job xs same size all is whole even = same_from_shared xs job (omega ari
 pub resumes : (job : List ℕ) (steps : ℕ) (r : FileNo → List ℕ) → IsTrue (is_stored r) → r job_file ≡ job → standing_of job steps r ≡ counted_standing steps (length (r step_gate)) (length (r catalogue))
 resumes job steps r stored same = of_stored job steps r true stored ((bytes_eq-Decides (r job_file) job).1 same)
 
--- where the answer is Ok the catalogue covers the count
-covered : (done size : ℕ) (s : Standing) (short : Bool) → ltb size (128 * done) ≡ short
-    → ◌≡◌ {A = Result Standing AttachFault} (Ok s) (cond short (Err (Damaged catalogue (128 * (size / 128)))) (Ok (record { fresh = false; done = done }))) → (s.done ≡ done) × (128 * done ≤ size)
-covered done size s true is answer = absurd cc
-covered done size s false is answer =
-    let same : s ≡ record { fresh = false; done = done } = cc in
-    (ap (λ (x : Standing). x.done) same, ltb-false size (128 * done) is)
+-- where the answer is Ok it is the count, and the catalogue covers it
+covered : {E : Type 0} (damaged : FileNo → ℕ → E) (done size : ℕ) (s : Standing) (short : Bool) → ltb size (128 * done) ≡ short
+    → ◌≡◌ {A = Result Standing E} (Ok s) (cond short (Err (damaged catalogue (128 * (size / 128)))) (Ok (record { fresh = false; done = done }))) → (s ≡ record { fresh = false; done = done }) × (128 * done ≤ size)
+covered damaged done size s true is answer = absurd cc
+covered damaged done size s false is answer = (cc, ltb-false size (128 * done) is)
 
-counted : (steps done size : ℕ) (s : Standing) (past : Bool)
-    → ◌≡◌ {A = Result Standing AttachFault} (Ok s) (cond past (Err (Damaged step_gate steps)) (cond (ltb size (128 * done)) (Err (Damaged catalogue (128 * (size / 128)))) (Ok (record { fresh = false; done = done })))) → (s.done ≡ done) × (128 * done ≤ size)
-counted steps done size s true answer = absurd cc
-counted steps done size s false answer = covered done size s (ltb size (128 * done)) refl answer
+counted : {E : Type 0} (damaged : FileNo → ℕ → E) (steps done size : ℕ) (s : Standing) (past : Bool)
+    → ◌≡◌ {A = Result Standing E} (Ok s) (cond past (Err (damaged step_gate steps)) (cond (ltb size (128 * done)) (Err (damaged catalogue (128 * (size / 128)))) (Ok (record { fresh = false; done = done }))))
+    → (s ≡ record { fresh = false; done = done }) × (128 * done ≤ size)
+counted damaged steps done size s true answer = absurd cc
+counted damaged steps done size s false answer = covered damaged done size s (ltb size (128 * done)) refl answer
 
-pub counted_ok : (steps done size : ℕ) (s : Standing) → Ok s ≡ counted_standing steps done size → (s.done ≡ done) × (128 * done ≤ size)
-counted_ok steps done size s answer = counted steps done size s (ltb steps done) answer
+pub counted_ok : {E : Type 0} (damaged : FileNo → ℕ → E) (steps done size : ℕ) (s : Standing) → Ok s ≡ counted_or damaged steps done size → (s ≡ record { fresh = false; done = done }) × (128 * done ≤ size)
+counted_ok damaged steps done size s answer = counted damaged steps done size s (ltb steps done) answer
 
 -- the folder after the job was made sure
 pub resumed_ready : (job : List ℕ) (n : ℕ) (w v : World) → AreGatesSure (now w).folder → 0 < length (file w job_gate).bytes → Synced job_file (Ok tt) w v → (file w job_file).bytes ≡ job
@@ -93,8 +92,8 @@ pub resume_ok : (job : List ℕ) (steps : ℕ) (told : Type 0) (result : Result 
     → IfOk result (λ s. told → IsAttached job s.done (now x).folder)
 resume_ok job steps told (Ok s) w v x resumed = λ tells.
     let has : HasResumed job steps (Ok s) w v x = resumed tells in
-    let both = counted_ok steps (length (file w step_gate).bytes) (length (file w catalogue).bytes) s (has.answer (λ e. cc)) in
-    let count : s.done ≡ length (file w step_gate).bytes = both.0 in
+    let both = counted_ok Damaged steps (length (file w step_gate).bytes) (length (file w catalogue).bytes) s (has.answer (λ e. cc)) in
+    let count : s.done ≡ length (file w step_gate).bytes = ap (λ (x : Standing). x.done) both.0 in
     let covers : 128 * length (file w step_gate).bytes ≤ length (file w catalogue).bytes = both.1 in
     subst (IsAttached job s.done) (sym has.stays) (resumed_ready job s.done w v has.sure has.stored has.synced has.same count (omega arith))
 resume_ok job steps told (Err e) w v x resumed = tt

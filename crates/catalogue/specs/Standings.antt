@@ -1,24 +1,30 @@
 -- What files say of a job that is to be attached, and what attaching it leaves.
-use Rattle.std.specs.Prelude.{◌≡◌, ◌≢◌, ◌⊎◌, ℕ, ◌*◌, ◌/◌, ◌≤◌, true, false, List, length, nat_eq, nat_lt, bytes_eq, if◌then◌else◌, Result, Ok, Err}
+use Rattle.std.specs.Prelude.{◌≡◌, ◌≢◌, ◌⊎◌, ℕ, ◌*◌, ◌/◌, ◌≤◌, true, false, List, length, not, nat_eq, nat_lt, bytes_eq, if◌then◌else◌, Result, Ok, Err}
 use Rattle.std.specs.List.{common_prefix_len}
 use Rattle.shelf_model.specs.declared.file_no.FileNo.{FileNo}
 use Rattle.shelf_model.specs.File.{firm_file}
 use Rattle.shelf_model.specs.Folder.{Folder, Image, file_in, bytes_in, IsImage}
 use Rattle.shelf_model.specs.World.{Moment}
 use Rattle.shelf_model.specs.Moments.{OnlyOldImages}
+use Rattle.shelf_model.specs.declared.fault.StreamFault.{StreamFault}
+use Rattle.shelf_model.specs.declared.fault.StreamFault.TheVariants as stream
 use Rattle.catalogue.specs.declared.fault.AttachFault.{AttachFault}
 use Rattle.catalogue.specs.declared.fault.AttachFault.TheVariants.{Damaged, OtherJob}
 use Rattle.catalogue.specs.declared.standing.Standing.{Standing}
 use Rattle.catalogue.specs.Files.{entry_size, job_file, job_gate, catalogue, step_gate}
-use Rattle.catalogue.specs.Counts.{present, is_stored, HasCount}
+use Rattle.catalogue.specs.Counts.{present, is_stored, count_in, HasCount}
 use Rattle.catalogue.specs.Commits.{IsReady}
 
--- the gate counts more than the job's steps, or the catalogue ends before an entry that it counts: a damaged place
-abbrev pub counted_standing : ℕ → ℕ → ℕ → Result Standing AttachFault
-counted_standing steps done size =
-    if nat_lt steps done then Err (Damaged step_gate steps)
-    else (if nat_lt size (entry_size * done) then Err (Damaged catalogue (entry_size * (size / entry_size)))
+-- the gate counts more than the job's steps, or the catalogue ends before an entry that it counts: a place is damaged
+abbrev pub counted_or : {E : Type 0} → (FileNo → ℕ → E) → ℕ → ℕ → ℕ → Result Standing E
+counted_or damaged steps done size =
+    if nat_lt steps done then Err (damaged step_gate steps)
+    else (if nat_lt size (entry_size * done) then Err (damaged catalogue (entry_size * (size / entry_size)))
     else Ok (record { fresh = false; done = done }))
+
+-- so an attach answers of a job with so many steps
+abbrev pub counted_standing : ℕ → ℕ → ℕ → Result Standing AttachFault
+counted_standing = counted_or Damaged
 
 -- fresh where no job is stored; another one is refused at the first byte that differs, or the shorter length
 abbrev pub standing_of : List ℕ → ℕ → (FileNo → List ℕ) → Result Standing AttachFault
@@ -27,6 +33,27 @@ standing_of job steps r =
     (if bytes_eq (r job_file) job then counted_standing steps (length (r step_gate)) (length (r catalogue))
     else Err (OtherJob (common_prefix_len nat_eq (r job_file) job)))
     else Ok (record { fresh = true; done = 0 })
+
+-- the most steps that a job has
+abbrev pub most_steps : ℕ
+most_steps = 1048576
+
+-- the same of whichever job is stored: fresh where there is none
+abbrev pub standing_found : (FileNo → List ℕ) → Result Standing StreamFault
+standing_found r =
+    if is_stored r then counted_or stream.Damaged most_steps (length (r step_gate)) (length (r catalogue))
+    else Ok (record { fresh = true; done = 0 })
+
+-- a job is stored exactly where the standing isn't fresh, and so many steps are committed
+pub record ShowsStanding (s : Standing) (r : FileNo → List ℕ) : Type 0 where
+  pub stored : is_stored r ≡ not s.fresh
+  pub count : count_in r ≡ s.done
+
+-- after a look: that is how the job stands in every image and as it is read, where the catalogue has all entries
+pub record IsLooked (s : Standing) (folder : Folder) : Type 0 where
+  pub reads : ShowsStanding s (present folder)
+  pub covers : entry_size * s.done ≤ length (file_in folder catalogue).bytes
+  pub images : (image : Image) → IsImage folder image → ShowsStanding s (bytes_in image)
 
 -- the job is stored whole, and so many of its steps are committed
 pub record IsStored (job : List ℕ) (n : ℕ) (r : FileNo → List ℕ) : Type 0 where

@@ -1,4 +1,4 @@
-use shelf_model::{Failed, FileNo};
+use shelf_model::{Failed, FileNo, StreamFault};
 use thiserror::Error;
 
 /// Why a job can't be attached to a folder.
@@ -23,5 +23,19 @@ impl From<Failed> for AttachFault {
 
     fn from(_: Failed) -> AttachFault {
         AttachFault::Shelf
+    }
+}
+
+impl From<StreamFault> for AttachFault {
+    ghost use Rattle.std.specs.Prelude.{◌≡◌};
+    ghost use Rattle.catalogue.specs.Faults.{attach_fault};
+
+    ghost from_gives = { λ e f. f ≡ attach_fault e };
+
+    fn from(fault: StreamFault) -> AttachFault {
+        match fault {
+            StreamFault::Shelf => AttachFault::Shelf,
+            StreamFault::Damaged { file, at } => AttachFault::Damaged { file, at },
+        }
     }
 }

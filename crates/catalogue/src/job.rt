@@ -14,8 +14,8 @@ ghost use Rattle.catalogue.specs.Standings.{DuringSyncs, DuringStore, DuringAtta
 
 use crate::compare::shared_with_stored;
 use crate::fault::AttachFault;
-use crate::files::{CATALOGUE, JOB, JOB_GATE, STEP_GATE};
-use crate::layout::ENTRY_SIZE;
+use crate::files::{JOB, JOB_GATE, STEP_GATE};
+use crate::looking::count_at_most;
 use crate::standing::Standing;
 use crate::writes::{lengthen, replace_from};
 use shelf_model::{Failed, Shelf};
@@ -45,8 +45,8 @@ pub fn attach<S: Shelf>(job: &[u8], steps: u32, shelf: &mut S) -> Result<Standin
     resume(job, steps, shelf)
 }
 
-// Makes both gates sure, and answers the length of the job gate.
-fn make_gates_sure<S: Shelf>(shelf: &mut S) -> Result<u64, Failed>
+/// Makes both gates sure, and answers the length of the job gate.
+pub(crate) fn make_gates_sure<S: Shelf>(shelf: &mut S) -> Result<u64, Failed>
     ensures content { Told S.tells shelf.old shelf.new
         (Ran (DuringSyncs (now (S.world shelf.old))) (S.world shelf.old) (S.world shelf.new)) }
     ensures ok { IfOk result (λ n. IsTrue (S.tells shelf.new)
@@ -116,23 +116,5 @@ fn count_steps<S: Shelf>(steps: u32, shelf: &mut S) -> Result<Standing, AttachFa
         → (S.world shelf.new).clock ≤ (S.world shelf.old).clock + 2 }
     ensures faults { OnlyAttach (S.faults shelf.old) (S.faults shelf.new) result }
 {
-    let done = shelf.len(STEP_GATE)?;
-    if done > steps as u64 {
-        return Err(AttachFault::Damaged {
-            file: STEP_GATE,
-            at: steps as u64,
-        });
-    }
-    let size = shelf.len(CATALOGUE)?;
-    let entry = ENTRY_SIZE as u64;
-    if size < entry * done {
-        return Err(AttachFault::Damaged {
-            file: CATALOGUE,
-            at: entry * (size / entry),
-        });
-    }
-    Ok(Standing {
-        fresh: false,
-        done: done as u32,
-    })
+    Ok(count_at_most(steps, shelf)?)
 }

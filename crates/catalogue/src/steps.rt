@@ -5,7 +5,7 @@ ghost use Rattle.shelf_model.specs.Calls.{Told};
 ghost use Rattle.shelf_model.specs.Moments.{Ran, Stays};
 ghost use Rattle.shelf_model.specs.Faults.{OnlyFolder, OnlyShelf};
 ghost use Rattle.catalogue.specs.Counts.{count_in, present};
-ghost use Rattle.catalogue.specs.Entries.{IsEntryOf, IsEntryFault};
+ghost use Rattle.catalogue.specs.Entries.{IsEntry, IsEntryOf, IsEntryFault};
 ghost use Rattle.catalogue.specs.Commits.{IsReady, DuringCommit, IsCommitted};
 
 use crate::files::{CATALOGUE, STEP_GATE};
@@ -23,6 +23,7 @@ pub fn entry<S: Shelf>(k: u32, shelf: &mut S) -> Result<Entry, StreamFault>
         (Ran (Stays (now (S.world shelf.old))) (S.world shelf.old) (S.world shelf.new)) }
     ensures ok { IfOk result (λ e. IsTrue (S.tells shelf.new)
         → IsEntryOf k (present (now (S.world shelf.old)).folder) e) }
+    ensures keeps { IfOk result IsEntry }
     ensures err { IfErr result (λ fault. IsTrue (S.tells shelf.new)
         → IsEntryFault k (present (now (S.world shelf.old)).folder) fault) }
     ensures calls { IsTrue (S.tells shelf.new)
