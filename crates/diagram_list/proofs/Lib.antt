@@ -1,0 +1,4 @@
+mod Steps
+mod Saying
+mod Loops
+mod Listed
