@@ -72,7 +72,7 @@ pub record DuringList (text : List ℕ) (old m : Moment) : Type 0 where
   pub says : FrontSaid text old.said m.said
   pub files : DuringSyncs old m
 
--- a place that is damaged: the gate counts too much, the catalogue ends too soon, or a committed step has no whole entry
+-- a damaged place: the gate counts too much, the catalogue ends too soon, or a committed step has no whole entry
 abbrev pub IsDamagedPlace : FileNo → ℕ → (FileNo → List ℕ) → Type 0
 IsDamagedPlace file at r =
     (standing_found r ≡ Err (stream.Damaged file at)) ⊎ LacksEntry (count_in r) r (stream.Damaged file at)

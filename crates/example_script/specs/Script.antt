@@ -1,4 +1,4 @@
--- The script of a size: it asks twice, from the first bit on and from the last, whether two words of so many bits are equal.
+-- The script of a size: it asks from the first bit on, and from the last, whether two words of so many bits are equal.
 use Rattle.std.specs.Prelude.{ℕ, ◌+◌, ◌-◌, List, [], ◌∷◌, ◌++◌, map, codes}
 use Rattle.std.specs.List.{flat_map, range_with_len}
 use Rattle.example_script.specs.Lines.{numbered, line}
@@ -21,7 +21,8 @@ bit_lines i =
 
 -- whether the last i of n bits are equal
 abbrev pub back_line : ℕ → ℕ → List ℕ
-back_line n i = line (codes "and") (numbered (codes "r") i ∷ numbered (codes "r") (i - 1) ∷ numbered (codes "e") (n + 1 - i) ∷ [])
+back_line n i =
+    line (codes "and") (numbered (codes "r") i ∷ numbered (codes "r") (i - 1) ∷ numbered (codes "e") (n + 1 - i) ∷ [])
 
 -- 5 * n + 5 lines: from no bits on one way, from no bits on the other way, and whether both found the same
 unfoldable pub script_of : ℕ → List ℕ

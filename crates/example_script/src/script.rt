@@ -44,7 +44,8 @@ fn put_variables(size: u32, script: &mut Vec<u8>) -> Result<(), AllocError>
 /// Puts the names of a letter with the numbers from 1 to `size`, each behind a blank.
 fn put_names(letter: u8, size: u32, script: &mut Vec<u8>) -> Result<(), AllocError>
     requires { size ≤ 16 }
-    ensures { OnOk result (script.new.items ≡ script.old.items ++ behind_blanks (map (numbered (letter ∷ [])) (one_to size))) }
+    ensures { OnOk result (script.new.items
+        ≡ script.old.items ++ behind_blanks (map (numbered (letter ∷ [])) (one_to size))) }
 {
     for i in 1..size + 1 {
         put_name(Name::of(letter, i), script)?;
