@@ -11,16 +11,16 @@ use std::alloc::Global;
 use std::test::Fail;
 
 // A budget of 262,144 records, a script of 19 bytes and no netlist.
-const ROW: [u8; 39] =
+pub(crate) const ROW: [u8; 39] =
     *b"ADIARJ01\x00\x04\x00\x00\x00\x00\x00\x13\xff\xff\xff\xffvars a b c\nvar f b\n";
 
-const FRESH: Standing = Standing {
+pub(crate) const FRESH: Standing = Standing {
     fresh: true,
     done: 0,
 };
 
 // A diagram of one node, of a name of one letter.
-fn node(number: u32, letter: u8) -> Entry
+pub(crate) fn node(number: u32, letter: u8) -> Entry
     ensures { result.number ≡ number }
 {
     let mut name = [0; 63];
@@ -38,7 +38,7 @@ fn node(number: u32, letter: u8) -> Entry
 }
 
 // What a later attachment finds, with so many steps committed.
-fn again(done: u32) -> Standing {
+pub(crate) fn again(done: u32) -> Standing {
     Standing { fresh: false, done }
 }
 
