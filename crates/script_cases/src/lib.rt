@@ -7,6 +7,8 @@ mod accepted;
 #[cfg(test)]
 mod built;
 #[cfg(test)]
+mod examples;
+#[cfg(test)]
 mod large;
 #[cfg(test)]
 mod netlists;
