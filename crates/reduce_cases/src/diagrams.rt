@@ -10,22 +10,29 @@ use std::test::Fail;
 pub(crate) enum Sharing {
     /// Each as chance has it, and so the arcs that pass over a level.
     Random,
-    /// Those below a level.
+    /// Those below a level, and arcs pass over each level that they can.
     Below(u16),
 }
 
 impl Sharing {
+    fn may_share(self, level: u16) -> bool {
+        match self {
+            Sharing::Random => true,
+            Sharing::Below(above) => level > above,
+        }
+    }
+
     fn shares(self, level: u16, random: &mut Random) -> bool {
         match self {
             Sharing::Random => random.bit(),
-            Sharing::Below(above) => level > above,
+            Sharing::Below(_) => self.may_share(level),
         }
     }
 
     fn passes_over(self, random: &mut Random) -> bool {
         match self {
             Sharing::Random => random.bit(),
-            Sharing::Below(_) => false,
+            Sharing::Below(_) => true,
         }
     }
 }
@@ -38,10 +45,13 @@ struct Standing<'t> {
     part: &'t [bool],
 }
 
-/// A diagram, with the nodes that its arcs lead to, in the order in which they were met.
+/// A diagram, with the nodes that its arcs lead to, in the order in which they were met, those of them that may be
+/// shared, and how many each level has.
 #[derive(Drop)]
 struct Growing<'t> {
     nodes: Vec<Standing<'t>>,
+    shareable: Vec<Standing<'t>>,
+    counts: [u64; 21],
     sharing: Sharing,
     random: Random,
 }
@@ -53,21 +63,33 @@ impl<'t> Growing<'t> {
         if let [value] = part {
             return Ok(Ptr::terminal(*value));
         }
-        let shares = self.sharing.shares(level, &mut self.random);
-        let mut number = 0u64;
-        for node in &self.nodes {
-            if node.level == level {
-                if shares && node.part == part {
+        if self.sharing.shares(level, &mut self.random) {
+            for node in &self.shareable {
+                if node.level == level && node.part == part {
                     return Ok(node.uid.ptr());
                 }
-                number = number.saturating_add(1);
             }
         }
+        let number = self.next_number(level);
         let pointer = Ptr::node(level.min(65_534), number.min(1 << 20));
         let uid = Uid::of(pointer).ok_or("no node")?;
         self.nodes.reserve(1)?;
         self.nodes.push_reserved(Standing { uid, level, part });
+        if self.sharing.may_share(level) {
+            self.shareable.reserve(1)?;
+            self.shareable.push_reserved(Standing { uid, level, part });
+        }
         Ok(pointer)
+    }
+
+    /// How many nodes the level had, which is one more from then on.
+    fn next_number(&mut self, level: u16) -> u64 {
+        let Some(count) = self.counts.get_mut(usize::from(level)) else {
+            return 0;
+        };
+        let number = *count;
+        *count = number.saturating_add(1);
+        number
     }
 
     /// A level and a part, or deeper ones that stand for the same.
@@ -95,6 +117,8 @@ pub(crate) fn diagram_of(
 ) -> Result<(Ptr, Vec<Arc>), Fail> {
     let mut growing = Growing {
         nodes: Vec::new(alloc),
+        shareable: Vec::new(alloc),
+        counts: [0; 21],
         sharing,
         random,
     };

@@ -50,11 +50,29 @@ pub(crate) fn reduce<S: Shelf>(
     requires files { (made.inner ≡ INNER) × (made.ends ≡ ENDS) }
     requires few { (made.inner_count ≤ 2 ^ 46) × (made.ends_count ≤ 2 ^ 46) }
 {
+    let (count, _taken) = reduce_and_tell(n, made, room, shelf)?;
+    Ok(count)
+}
+
+/// The same, and how many parts were taken.
+pub(crate) fn reduce_and_tell<S: Shelf>(
+    n: u32,
+    made: Unreduced,
+    room: &mut [Rec],
+    shelf: &mut S,
+) -> Result<(Option<u64>, u64), SortFault>
+    requires levels { n ≤ 65535 }
+    requires enough { LEAST_ROOM ≤ length room.old }
+    requires files { (made.inner ≡ INNER) × (made.ends ≡ ENDS) }
+    requires few { (made.inner_count ≤ 2 ^ 46) × (made.ends_count ≤ 2 ^ 46) }
+{
     let sources = (made.inner_count + made.ends_count) / 2;
     let parts = Parts { step: 2, next: 5 };
     let mut sweep = ReduceSweep::start(n, made, OUT, parts, room, shelf)?;
-    match drive(&mut sweep, 8 * sources + 8, shelf)? {
-        Turn::Ended => Ok(sweep.count()),
-        Turn::More => Ok(None),
+    let turn = drive(&mut sweep, 8 * sources + 8, shelf)?;
+    let taken = sweep.parts().next.saturating_sub(5);
+    match turn {
+        Turn::Ended => Ok((sweep.count(), taken)),
+        Turn::More => Ok((None, taken)),
     }
 }

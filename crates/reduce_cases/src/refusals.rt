@@ -2,50 +2,12 @@
 use crate::diagrams::{Sharing, diagram_of};
 use crate::random::Random;
 use crate::reducing::{ENDS, INNER, LEAST_ROOM, OUT, reduce, write_arcs};
-use canon_file::plain_canon;
 use rec_words::Rec;
 use shelf_memory::Bench;
 use shelf_model::{FileNo, SortFault};
 use std::test::Fail;
 
 const EMPTY: Rec = Rec { w: [0; 8] };
-
-// The level of 4,096 sources is wider than the room of its rows, which is less than a quarter of the least room. The
-// levels below it have 2, 12 and 240 nodes, all that functions of three variables have, and the file has the first of
-// these.
-const BELOW: usize = 254 * 24;
-
-const LEVEL_12: u64 = 0x0006_7fff_ffff_ffff;
-
-fn refuses_a_wide_level(rt: HostRuntime) -> Result<bool, Fail> {
-    let mut random = Random::new(1);
-    let table = random.table(rt.alloc(), 16, usize::MAX)?;
-    let wanted = plain_canon(rt.alloc(), 16, table.as_slice())?;
-    let next = wanted.as_slice().get(BELOW..BELOW + 8);
-    let (root, arcs) = diagram_of(rt.alloc(), table.as_slice(), Sharing::Below(12), random)?;
-    let mut bench = Bench::empty(rt.alloc());
-    let made = write_arcs(root, arcs.as_slice(), &mut bench)?;
-    let mut room = vec![in rt.alloc(); EMPTY; LEAST_ROOM]?;
-    let refused = reduce(16, made, room.as_mut_slice(), &mut bench).err();
-    let left = bench.file(OUT);
-    let begun = !left.is_empty() && left.len() <= BELOW && wanted.starts_with(left);
-    let mut wider = vec![in rt.alloc(); EMPTY; 2 * LEAST_ROOM]?;
-    let count = reduce(16, made, wider.as_mut_slice(), &mut bench)?;
-    Ok(
-        next == Some(LEVEL_12.to_be_bytes().as_slice())
-            && refused == Some(SortFault::RoomFull)
-            && begun
-            && bench.file(OUT) == wanted.as_slice()
-            && count == Some((wanted.len() as u64 / 24).saturating_sub(1)),
-    )
-}
-
-#[test]
-fn refuses_a_level_that_is_wider_than_the_room(rt: HostRuntime) -> Result<(), Fail> {
-    let refuses = refuses_a_wide_level(rt)?;
-    assert!(rt; refuses);
-    Ok(())
-}
 
 // The reduction of an exclusive or ends where so many calls succeed, or with the fault of the next one.
 fn ends_at(rt: HostRuntime, call: u64) -> Result<Option<bool>, Fail> {
