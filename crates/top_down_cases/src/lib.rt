@@ -8,6 +8,8 @@ mod random;
 #[cfg(test)]
 mod refusals;
 #[cfg(test)]
+mod runs;
+#[cfg(test)]
 mod shapes;
 #[cfg(test)]
 mod sweeping;

@@ -1,7 +1,8 @@
 //! Operations on tables, by sweeps over the tables' canonical files, and by the values at each place.
 ghost use Rattle.std.specs.Prelude.{◌≡◌, ◌≤◌, IfOk, IfSome, length};
+ghost use Rattle.run_tiers.specs.Parts.{Took};
 ghost use Rattle.top_down_sweep.specs.Sweeps.{HasMade};
-ghost use Rattle.top_down_cases.specs.declared.sweeping.TheConstants.{INNER, ENDS, LEAST_ROOM};
+ghost use Rattle.top_down_cases.specs.declared.sweeping.TheConstants.{INNER, ENDS, LEAST_ROOM, PARTS};
 
 use arc_file::Unreduced;
 use bool_tables::{Bin, Quant};
@@ -54,24 +55,36 @@ pub(crate) const ONE: Files = Files {
     ends: ENDS,
 };
 
-/// The arcs that a sweep makes, and how many turns it takes. None is answered where it takes too many.
+/// The part numbers that are left for a sweep.
+pub(crate) const PARTS: Parts = Parts { step: 3, next: 5 };
+
+/// The arcs that a sweep made, how many turns it took, and the part numbers that are left.
+#[derive(Clone, Copy, Debug, PartialEq, Eq)]
+pub(crate) struct Arcs {
+    pub(crate) made: Unreduced,
+    pub(crate) turns: u64,
+    pub(crate) parts: Parts,
+}
+
+/// Drives a sweep to its end. None is answered where it takes too many turns.
 pub(crate) fn swept<O: Operation, S: Shelf>(
     operation: O,
     n: u32,
     files: Files,
     room: &mut [Rec],
     shelf: &mut S,
-) -> Result<Option<(Unreduced, u64)>, SortFault>
+) -> Result<Option<Arcs>, SortFault>
     requires enough { LEAST_ROOM ≤ length room.old }
     requires files { (files.inner ≡ INNER) × (files.ends ≡ ENDS) }
-    ensures { IfOk result (λ found. IfSome found (λ x. HasMade INNER ENDS x.0)) }
+    ensures made { IfOk result (λ found. IfSome found (λ x. HasMade INNER ENDS x.made)) }
+    ensures parts { IfOk result (λ found. IfSome found (λ x. Took PARTS x.parts)) }
 {
-    let parts = Parts { step: 3, next: 5 };
-    let mut sweep = TopDownSweep::start(operation, n, files, parts, room, shelf)?;
+    let mut sweep = TopDownSweep::start(operation, n, files, PARTS, room, shelf)?;
     for turns in 1..MOST_TURNS {
         if sweep.turn(shelf)? == Turn::Ended {
+            let parts = sweep.parts();
             return match sweep.made() {
-                Some(made) => Ok(Some((made, turns))),
+                Some(made) => Ok(Some(Arcs { made, turns, parts })),
                 None => Ok(None),
             };
         }
@@ -91,11 +104,25 @@ pub(crate) fn reduced<O: Operation, S: Shelf>(
     requires enough { LEAST_ROOM ≤ length room.old }
     requires files { (files.inner ≡ INNER) × (files.ends ≡ ENDS) }
 {
-    let Some((made, _turns)) = swept(operation, n, files, room, shelf)? else {
-        return Ok(None);
-    };
-    let parts = Parts { step: 3, next: 9 };
-    let mut sweep = ReduceSweep::start(n, made, OUT, parts, room, shelf)?;
+    match swept(operation, n, files, room, shelf)? {
+        Some(swept) => reduce(n, &swept, room, shelf),
+        None => Ok(None),
+    }
+}
+
+/// How many nodes are left of the arcs that a sweep made. None is answered where that takes too many turns.
+pub(crate) fn reduce<S: Shelf>(
+    n: u32,
+    swept: &Arcs,
+    room: &mut [Rec],
+    shelf: &mut S,
+) -> Result<Option<u64>, SortFault>
+    requires levels { n ≤ 65535 }
+    requires enough { LEAST_ROOM ≤ length room.old }
+    requires made { HasMade INNER ENDS swept.now.made }
+    requires parts { Took PARTS swept.now.parts }
+{
+    let mut sweep = ReduceSweep::start(n, swept.made, OUT, swept.parts, room, shelf)?;
     match drive(&mut sweep, MOST_TURNS, shelf)? {
         Turn::Ended => Ok(sweep.count()),
         Turn::More => Ok(None),
@@ -146,8 +173,21 @@ pub(crate) fn leaves<O: Operation>(
     requires enough { LEAST_ROOM ≤ length room.old }
     requires files { (files.inner ≡ INNER) × (files.ends ≡ ENDS) }
 {
-    let bytes = canon_of(alloc, n, wanted)?;
     let count = reduced(operation, n, files, room, bench)?;
+    has_canon_of(alloc, n, wanted, count, bench)
+}
+
+/// Whether the file that was reduced is the canonical one of a table, with that count of its nodes.
+pub(crate) fn has_canon_of(
+    alloc: Global,
+    n: u32,
+    wanted: &[bool],
+    count: Option<u64>,
+    bench: &Bench,
+) -> Result<bool, Fail>
+    requires few { n ≤ 20 }
+{
+    let bytes = canon_of(alloc, n, wanted)?;
     Ok(
         bench.file(OUT) == bytes.as_slice()
             && count == Some((bytes.len() as u64 / 24).saturating_sub(1)),

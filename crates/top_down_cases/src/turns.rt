@@ -134,11 +134,10 @@ fn takes_few_turns(rt: HostRuntime) -> Result<bool, Fail> {
     let product = Product {
         op: operator(0b1000),
     };
-    let Some((made, turns)) = swept(product, VARIABLES, files, room.as_mut_slice(), &mut bench)?
-    else {
+    let Some(swept) = swept(product, VARIABLES, files, room.as_mut_slice(), &mut bench)? else {
         return Ok(false);
     };
-    Ok(large == 49_149 && small == 28 && turns < 60_000 && made.inner_count == 27)
+    Ok(large == 49_149 && small == 28 && swept.turns < 60_000 && swept.made.inner_count == 27)
 }
 
 #[test]
