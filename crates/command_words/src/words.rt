@@ -109,7 +109,8 @@ fn words_given<'a>(given: &Given<'a>) -> Option<Words<'a>>
 /// `--budget`. Numbers are one to seven digits; a budget is from 16,384 to 4,194,304 records, and 262,144 where
 /// none is given, a size from 1 to 16. `Usage` stands for all other words.
 pub fn read_words(alloc: Global, words: &[String]) -> Result<Words<'_>, WordsFault>
-    ensures read { IfOk result (λ w. reading_of (map (λ word. string_bytes word) words.entry.now) ≡ Some (meaning_of w)) }
+    ensures read { IfOk result (λ w. reading_of (map (λ word. string_bytes word) words.entry.now) ≡ Some
+        (meaning_of w)) }
     ensures room { IfOk result (λ w. HasBudget (meaning_of w)) }
     ensures usage { IsErrOf result WordsFault.Usage
         → reading_of (map (λ word. string_bytes word) words.entry.now) ≡ None }

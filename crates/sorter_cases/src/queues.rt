@@ -4,8 +4,8 @@ ghost use Rattle.rec_words.specs.Records.{IsRec};
 ghost use Rattle.level_queue.specs.Queues.{HoldsValues, Serves, IsNoLess};
 
 use crate::sorters::{first_parts, key_of, next_random, put_plain, record_of};
-use rec_words::Rec;
 use level_queue::LevelQueue;
+use rec_words::Rec;
 use run_merge::Parts;
 use shelf_memory::Bench;
 use shelf_model::{Shelf, SortFault};

@@ -59,7 +59,7 @@ pub(crate) const ONE: Files = Files {
 pub(crate) const PARTS: Parts = Parts { step: 3, next: 5 };
 
 /// The arcs that a sweep made, how many turns it took, and the part numbers that are left.
-#[derive(Clone, Copy, Debug, PartialEq, Eq)]
+#[derive(Clone, Copy)]
 pub(crate) struct Arcs {
     pub(crate) made: Unreduced,
     pub(crate) turns: u64,
