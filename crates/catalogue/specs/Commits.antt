@@ -21,8 +21,8 @@ pub record IsCounted (e : Entry) (r : FileNo → List ℕ) : Type 0 where
   pub counts : HasCount (e.number + 1) r
   pub placed : entry_at e.number r ≡ entry_bytes e
 
--- at each moment each image has the old count, or one more with the entry; other files and earlier entries stay, as they are
--- sure and as they are read
+-- at each moment each image has the old count, or one more with the entry; other files and earlier entries stay, as
+-- they are sure and as they are read
 pub record DuringCommit (e : Entry) (old m : Moment) : Type 0 where
   pub others : (q : FileNo) → q ≢ catalogue → q ≢ step_gate
       → file_in m.folder q ≡ file_in old.folder q
@@ -30,7 +30,8 @@ pub record DuringCommit (e : Entry) (old m : Moment) : Type 0 where
       → HasCount e.number (bytes_in image) ⊎ IsCounted e (bytes_in image)
   pub kept : (front : List ℕ) → length front ≤ entry_size * e.number
       → IsKept front (file_in old.folder catalogue) → IsKept front (file_in m.folder catalogue)
-  pub reads : take (128 * e.number) (file_in m.folder catalogue).bytes ≡ take (128 * e.number) (file_in old.folder catalogue).bytes
+  pub reads : take (128 * e.number) (file_in m.folder catalogue).bytes ≡ take (128 * e.number)
+      (file_in old.folder catalogue).bytes
 
 -- after a commit each image has one more, with the entry in its place behind the earlier ones
 pub record IsCommitted (e : Entry) (old new : Folder) : Type 0 where

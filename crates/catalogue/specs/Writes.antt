@@ -24,8 +24,8 @@ pub record Growing (f : FileNo) (n : ℕ) (old m : Moment) : Type 0 where
   pub reach : (file_in m.folder f).reach
       ≤ max (file_in old.folder f).reach (length (file_in old.folder f).bytes + n)
 
--- while what stands from a place on is replaced by n bytes: what the file kept before the place it keeps, and what is read of it
--- there stays
+-- while what stands from a place on is replaced by n bytes: what the file kept before the place it keeps, and what is
+-- read of it there stays
 pub record Replacing (f : FileNo) (at n : ℕ) (old m : Moment) : Type 0 where
   pub others : OthersStay f old m
   pub reads : take at (file_in m.folder f).bytes ≡ take at (file_in old.folder f).bytes

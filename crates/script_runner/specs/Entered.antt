@@ -66,7 +66,8 @@ pub record RunsFrom (job : Job) (lines : List LineEnd) (status : ℕ) (start : M
       → said new ≡ start.said ++ run_text job lines (present start.folder)
   -- with 0 all lines were said, every image has all steps, and what was dropped since is empty
   pub says : status ≡ 0
-      → HasSaid (λ text folder. IsWholeShape job.steps lines (present start.folder) (present folder) text) start (now new)
+      → HasSaid (λ text folder. IsWholeShape job.steps lines (present start.folder) (present folder) text) start
+      (now new)
   pub all : status ≡ 0 → HaveCount (length job.steps) (now new).folder
   pub emptied : status ≡ 0
       → AreEmptied job.steps (count_in (present start.folder)) (length job.steps) (now new).folder

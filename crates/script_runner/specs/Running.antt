@@ -51,7 +51,8 @@ ReachesCount count folder = (image : Image) → IsImage folder image
 -- an image that a stop may leave where these bytes were said since a run of the job began in the
 -- old folder: it is sound, has each step whose line was said and as many as each image of the old
 -- folder, and stores the job where the banner was said
-pub record IsSafe (job : Job) (lines : List LineEnd) (old : Folder) (bytes : List ℕ) (r : FileNo → List ℕ) : Type 0 where
+pub record IsSafe (job : Job) (lines : List LineEnd) (old : Folder) (bytes : List ℕ)
+    (r : FileNo → List ℕ) : Type 0 where
   pub sound : IsSound job r
   pub has_said : said_count (count_in (present old)) lines bytes ≤ count_in r
   pub has_old : (count : ℕ) → ReachesCount count old → count ≤ count_in r
@@ -173,7 +174,8 @@ StoodStill old new = Throughout old new (IsStill (now old))
 
 -- a damaged place of the old folder was met: before anything was done, or where an entry was read,
 -- behind whole lines
-pub record MeetsDamage (steps : List Planned) (lines : List LineEnd) (f : FileNo) (at : ℕ) (old new : World) : Type 0 where
+pub record MeetsDamage (steps : List Planned) (lines : List LineEnd) (f : FileNo) (at : ℕ)
+    (old new : World) : Type 0 where
   pub front : List ℕ
   pub said_is : said new ≡ said old ++ front
   pub whole : AreWhole steps lines (present (now old).folder) (present (now new).folder) front
@@ -198,7 +200,8 @@ pub record RunsSteps (job : Job) (lines : List LineEnd) (finish : Finish) (old n
   -- where all was done all lines were said, every image has all steps, and what was dropped since
   -- is empty
   pub says : finish ≡ Done
-      → HasSaid (λ text folder. IsWholeShape job.steps lines (present (now old).folder) (present folder) text) (now old) (now new)
+      → HasSaid (λ text folder. IsWholeShape job.steps lines (present (now old).folder) (present folder) text) (now old)
+      (now new)
   pub all : finish ≡ Done → HaveCount (length job.steps) (now new).folder
   pub emptied : finish ≡ Done
       → AreEmptied job.steps (count_in (present (now old).folder)) (length job.steps) (now new).folder

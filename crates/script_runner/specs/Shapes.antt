@@ -18,7 +18,8 @@ AreShown steps r (line ∷ lines) bytes =
 -- whole lines of a run: the banner of what was there at first, the first of the plan's lines that
 -- weren't said before, by the entries that are there now, and, behind all of them, that all was
 -- done
-pub record IsShape (steps : List Planned) (lines : List LineEnd) (first here : FileNo → List ℕ) (text : List ℕ) : Type 0 where
+pub record IsShape (steps : List Planned) (lines : List LineEnd) (first here : FileNo → List ℕ)
+    (text : List ℕ) : Type 0 where
   pub spoken : List LineEnd
   pub later : List LineEnd
   pub parts : lines_from_step (count_in first) lines ≡ spoken ++ later
@@ -29,7 +30,8 @@ pub record IsShape (steps : List Planned) (lines : List LineEnd) (first here : F
   pub text_is : text ≡ banner_line first lines ++ (body ++ end)
 
 -- a front part of whole lines of a run
-pub record IsShapeFront (steps : List Planned) (lines : List LineEnd) (first here : FileNo → List ℕ) (front : List ℕ) : Type 0 where
+pub record IsShapeFront (steps : List Planned) (lines : List LineEnd) (first here : FileNo → List ℕ)
+    (front : List ℕ) : Type 0 where
   pub rest : List ℕ
   pub shape : IsShape steps lines first here (front ++ rest)
 
@@ -40,7 +42,8 @@ AreWhole steps lines first here text = (text ≡ []) ⊎ IsShape steps lines fir
 
 -- all that a run says: its banner, each of the plan's lines that weren't said before, and that all
 -- was done
-pub record IsWholeShape (steps : List Planned) (lines : List LineEnd) (first here : FileNo → List ℕ) (text : List ℕ) : Type 0 where
+pub record IsWholeShape (steps : List Planned) (lines : List LineEnd) (first here : FileNo → List ℕ)
+    (text : List ℕ) : Type 0 where
   pub body : List ℕ
   pub shown : AreShown steps here (lines_from_step (count_in first) lines) body
   pub text_is : text ≡ banner_line first lines ++ (body ++ done_line)
@@ -51,7 +54,8 @@ IsRefusal line = ((at : ℕ) × (line ≡ other_job_line at))
     ⊎ ((f : FileNo) × (at : ℕ) × (line ≡ damaged_line f at))
 
 -- a front part of such a line, behind whole lines
-pub record IsRefusing (steps : List Planned) (lines : List LineEnd) (first here : FileNo → List ℕ) (front tail : List ℕ) : Type 0 where
+pub record IsRefusing (steps : List Planned) (lines : List LineEnd) (first here : FileNo → List ℕ)
+    (front tail : List ℕ) : Type 0 where
   pub whole : AreWhole steps lines first here front
   pub rest : List ℕ
   pub refusal : IsRefusal (tail ++ rest)

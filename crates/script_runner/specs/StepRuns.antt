@@ -81,7 +81,8 @@ abbrev pub StaysEmpty : FileNo → Folder → Folder → Type 0
 StaysEmpty f old new = (file_in old f).bytes ≡ [] → (file_in new f).bytes ≡ []
 
 -- a step was made, committed and tidied up, or the run stopped there
-pub record TakesStep (n : ℕ) (text : List ℕ) (steps : List Planned) (step : ℕ) (result : Result Entry Finish) (old new : World) : Type 0 where
+pub record TakesStep (n : ℕ) (text : List ℕ) (steps : List Planned) (step : ℕ) (result : Result Entry Finish)
+    (old new : World) : Type 0 where
   pub run : Ran (λ m. IsTaking (length steps) step (now old).folder m.folder) old new
   pub ready : OnOk result (IsReady (step + 1) (now new).folder)
   pub made : IfOk result (λ e. HasEntry steps step e (present (now new).folder))
@@ -101,27 +102,31 @@ pub record SaysRight (job : Job) (lines : List LineEnd) (result : Result Unit Fi
   pub err : IfErr result (λ finish. ¬ (RefusesFolder finish))
 
 -- the first of the lines, by the entries that stand at their steps' places
-pub record SpokenLines (steps : List Planned) (lines : List LineEnd) (r : FileNo → List ℕ) (bytes : List ℕ) : Type 0 where
+pub record SpokenLines (steps : List Planned) (lines : List LineEnd) (r : FileNo → List ℕ)
+    (bytes : List ℕ) : Type 0 where
   pub spoken : List LineEnd
   pub later : List LineEnd
   pub parts : lines ≡ spoken ++ later
   pub shown : AreShown steps r spoken bytes
 
 -- a front part of them was said
-pub record SpeaksLines (steps : List Planned) (lines : List LineEnd) (r : FileNo → List ℕ) (before bytes : List ℕ) : Type 0 where
+pub record SpeaksLines (steps : List Planned) (lines : List LineEnd) (r : FileNo → List ℕ)
+    (before bytes : List ℕ) : Type 0 where
   pub part : List ℕ
   pub said_is : bytes ≡ before ++ part
   pub rest : List ℕ
   pub lines_are : SpokenLines steps lines r (part ++ rest)
 
 -- they were said whole
-pub record SpokeWhole (steps : List Planned) (lines : List LineEnd) (r : FileNo → List ℕ) (before bytes : List ℕ) : Type 0 where
+pub record SpokeWhole (steps : List Planned) (lines : List LineEnd) (r : FileNo → List ℕ)
+    (before bytes : List ℕ) : Type 0 where
   pub part : List ℕ
   pub said_is : bytes ≡ before ++ part
   pub lines_are : SpokenLines steps lines r part
 
 -- all of them were
-pub record SpokeAll (steps : List Planned) (lines : List LineEnd) (r : FileNo → List ℕ) (before bytes : List ℕ) : Type 0 where
+pub record SpokeAll (steps : List Planned) (lines : List LineEnd) (r : FileNo → List ℕ)
+    (before bytes : List ℕ) : Type 0 where
   pub part : List ℕ
   pub said_is : bytes ≡ before ++ part
   pub shown : AreShown steps r lines part
@@ -134,7 +139,8 @@ StopsBehind steps lines old new finish = (f : FileNo) (at : ℕ) → finish ≡ 
 
 -- lines were said, each with what the entry of its step shows, where the folder holds them the
 -- right ones, or the run stopped there
-pub record SaysLines (steps : List Planned) (count : ℕ) (lines : List LineEnd) (e : Entry) (result : Result Unit Finish) (old new : World) : Type 0 where
+pub record SaysLines (steps : List Planned) (count : ℕ) (lines : List LineEnd) (e : Entry) (result : Result Unit Finish)
+    (old new : World) : Type 0 where
   pub files : Throughout old new (Stays (now old))
   pub stays : StaysThere old new
   pub speaks : Throughout old new (λ m. SpeaksLines steps lines (present (now old).folder) (said old) m.said)

@@ -102,7 +102,8 @@ lines_from_step step lines = filter (λ (line : LineEnd). nat_le step line.last)
 -- the line that shows the answer of a step
 abbrev pub said_line : Job → LineEnd → List ℕ
 said_line job line =
-    let step = (step_at job line.shows).step in answer_line line.line step (answer_of job step) (count_of job line.shows step)
+    let step = (step_at job line.shows).step in answer_line line.line step (answer_of job step)
+    (count_of job line.shows step)
 
 -- the line that shows what an entry says of its step
 abbrev pub entry_line : List Planned → LineEnd → Entry → List ℕ
@@ -115,4 +116,5 @@ banner_line r lines =
 
 -- all that a run says: its banner, the lines of the steps that aren't committed yet, and that all was done
 abbrev pub run_text : Job → List LineEnd → (FileNo → List ℕ) → List ℕ
-run_text job lines r = banner_line r lines ++ (flat_map (said_line job) (lines_from_step (count_in r) lines) ++ done_line)
+run_text job lines r = banner_line r lines
+    ++ (flat_map (said_line job) (lines_from_step (count_in r) lines) ++ done_line)

@@ -35,9 +35,11 @@ pub(crate) fn fetch_text<W: Station>(
 ) -> Result<Vec<u8>, FetchFault>
     requires few { most < 2 ^ 32 }
     ensures content { Told W.tells station.old station.new (OnlyFetched (W.world station.old) (W.world station.new)) }
-    ensures text { IfOk result (λ bytes. IsTrue (W.tells station.new) → IsText path.now most bytes.items (W.world station.old)) }
+    ensures text { IfOk result (λ bytes. IsTrue (W.tells station.new) →
+        IsText path.now most bytes.items (W.world station.old)) }
     ensures within { IfOk result (λ bytes. vec_len bytes ≤ most + 1) }
-    ensures cause { IsErrOf result FetchFault.Text → Rose ((W.faults station.old).text path.now) ((W.faults station.new).text path.now) }
+    ensures cause { IsErrOf result FetchFault.Text →
+        Rose ((W.faults station.old).text path.now) ((W.faults station.new).text path.now) }
     ensures calls { IsTrue (W.tells station.new)
         → (W.world station.new).clock ≤ (W.world station.old).clock + fetch_calls most }
     ensures faults { OnlyTexts (W.faults station.old) (W.faults station.new) }

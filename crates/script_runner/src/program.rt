@@ -33,10 +33,12 @@ use std::alloc::{AllocError, Global};
 fn say_refusal<W: Station>(line: &[u8], ending: Ending, station: &mut W) -> Ending
     requires small { (0 < length line.now) × (length line.now ≤ 2048) }
     requires refusal { (ending ≢ Ending.FolderFault) × (ending ≢ Ending.SayFault) }
-    ensures content { Told W.tells station.old station.new (SaysOnly line.now (W.world station.old) (W.world station.new)) }
+    ensures content { Told W.tells station.old station.new
+        (SaysOnly line.now (W.world station.old) (W.world station.new)) }
     ensures calls { IsTrue (W.tells station.new)
         → (W.world station.new).clock ≤ (W.world station.old).clock + 1 }
-    ensures whole { result ≡ ending → IsTrue (W.tells station.new) → said (W.world station.new) ≡ said (W.world station.old) ++ line.now }
+    ensures whole { result ≡ ending → IsTrue (W.tells station.new) →
+        said (W.world station.new) ≡ said (W.world station.old) ++ line.now }
     ensures which { (result ≡ ending) ⊎ (result ≡ Ending.SayFault) }
     ensures cause { EndingHasCause (W.faults station.old) (W.faults station.new) result }
 {
@@ -60,7 +62,8 @@ fn run_plan<W: Station>(
     requires built { IsTrue (are_built plan.now.steps) }
     requires room { (16384 ≤ length room.old) × (length room.old ≤ 4194304) }
     ensures content { Told W.tells station.old station.new
-        (RunsIn folder.now (record { n = plan.now.n; text = text.now; steps = plan.now.steps; bytes = job.now }) plan.now.lines
+        (RunsIn folder.now (record { n = plan.now.n; text = text.now; steps = plan.now.steps; bytes = job.now })
+        plan.now.lines
         (status_of result) (W.world station.old) (W.world station.new)) }
     ensures calls { IsTrue (W.tells station.new) → (W.world station.new).clock ≤ (W.world station.old).clock + 2
         + most_calls (length plan.now.steps) (length plan.now.lines) (length job.now) }
@@ -103,7 +106,8 @@ fn answer<W: Station>(alloc: Global, words: &[String], station: &mut W) -> Endin
     ensures calls { IsTrue (W.tells station.new)
         → MakesFewCalls (map string_bytes words.now) (W.world station.old) (W.world station.new) }
     ensures by_words { ByWords (map string_bytes words.now) (status_of result) }
-    ensures causes { StatusHasCause (map string_bytes words.now) (status_of result) (W.faults station.old) (W.faults station.new) }
+    ensures causes { StatusHasCause (map string_bytes words.now) (status_of result) (W.faults station.old)
+        (W.faults station.new) }
 {
     let asked = match asked_run(alloc, words) {
         Ok(asked) => asked,

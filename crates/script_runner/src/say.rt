@@ -78,7 +78,8 @@ fn say_line<W: Station>(
         → IsEntryOf made.now.number (present (now (W.world station.old)).folder) made.now }
     requires shown { line.now.shows ≤ made.now.number }
     ensures content { Told W.tells station.old station.new
-        (SaysLines steps.now (made.now.number + 1) (line.now ∷ []) made.now result (W.world station.old) (W.world station.new)) }
+        (SaysLines steps.now (made.now.number + 1) (line.now ∷ []) made.now result (W.world station.old)
+        (W.world station.new)) }
     ensures calls { IsTrue (W.tells station.new)
         → (W.world station.new).clock ≤ (W.world station.old).clock + 2 }
     ensures causes { StopHasCause (W.faults station.old) (W.faults station.new) result }
@@ -109,7 +110,8 @@ pub(crate) fn say_lines<W: Station>(
         → IsEntryOf made.now.number (present (now (W.world station.old)).folder) made.now }
     requires shown { IsTrue (list_all (λ line. nat_le line.shows made.now.number) lines.now) }
     ensures content { Told W.tells station.old station.new
-        (SaysLines steps.now (made.now.number + 1) lines.now made.now result (W.world station.old) (W.world station.new)) }
+        (SaysLines steps.now (made.now.number + 1) lines.now made.now result (W.world station.old)
+        (W.world station.new)) }
     ensures calls { IsTrue (W.tells station.new)
         → (W.world station.new).clock ≤ (W.world station.old).clock + 2 * length lines.now }
     ensures causes { StopHasCause (W.faults station.old) (W.faults station.new) result }
