@@ -13,6 +13,7 @@ pub mod QueueCalls
 pub mod StandingOn
 pub mod FormsOf
 pub mod WorkingOn
+pub mod TurnNumbers
 pub mod OperandNext
 pub mod TurnKeeps
 pub mod ReadKeeps

@@ -3,6 +3,7 @@ use Rattle.std.proofs.Common.{◌≡◌, true}
 use Rattle.std.specs.Prelude.{Some}
 use Rattle.shelf_model.specs.World.{World, now, file}
 use Rattle.shelf_model.specs.Moments.{Ran, Stays}
+use Rattle.level_queue.specs.Queues as queues
 use Rattle.top_down_laws.specs.Readings as readings
 use Rattle.top_down_sweep.specs.declared.ask.Ask.{Ask}
 use Rattle.top_down_sweep.specs.declared.operand.Operand.{Operand}
@@ -12,6 +13,8 @@ use Rattle.top_down_sweep.specs.Members.{wants}
 use Rattle.top_down_sweep.specs.Sweeps.{AreOperands}
 use Rattle.top_down_sweep.specs.Meaning.{Task, Contents, IsWorking, IsHandling}
 use Rattle.top_down_sweep.specs.Changes.{ReadsNext}
+use Rattle.top_down_sweep.specs.Turns.{AdvancesAt}
+use Rattle.top_down_sweep.proofs.TurnNumbers.{fewer_left}
 use Rattle.top_down_sweep.proofs.Holding.{looked_same, first_files, second_files, third_files}
 use Rattle.top_down_sweep.proofs.StandingOn.{read_still, stands_read}
 use Rattle.top_down_sweep.proofs.WorkingOn.{first_read_left, second_read_left, third_read_left}
@@ -25,10 +28,13 @@ module _ (t : Task) (s : Asking) (a : Ask) (m : Machine) (x : Operand) (old new 
   pub first_kept : wants a.key m.operands.first.hand a.members.first ≡ true
       → x.file ≡ m.operands.first.file → Ran (Stays (now old)) old new
       → ReadsNext x new k.readings.first
-      → IsWorking t s (record m { operands = record m.operands { first = x } }) new
+      → AdvancesAt t s m old (record m { operands = record m.operands { first = x } }) new
   first_kept asked file ran (node, unread, is, read) =
       let r : readings.Readings = readings.with_first k.readings
       (record { hand = Some node; unread = unread }) in
+      let after = first_read_left t s m a old k h.rest h.first_is h.stands h.left asked node unread is
+      in
+      let working : IsWorking t s (record m { operands = record m.operands { first = x } }) new =
       record {
         contents = record k { readings = r };
         stands = stands_read m (record m.operands { first = x }) old new k r (first_files m x file)
@@ -39,17 +45,25 @@ module _ (t : Task) (s : Asking) (a : Ask) (m : Machine) (x : Operand) (old new 
               third = read_still _ m.operands.third old new k.readings.third are.third
                   (looked_same old new ran m.operands.third.file) h.stands.read.third;
             }) h.stands;
-        left = first_read_left t s m a old k h.rest h.first_is h.stands h.left asked node unread is;
+        left = after.0;
       }
+      in (
+        working,
+        fewer_left t s s m (record m { operands = record m.operands { first = x } }) old new k
+            (queues.last_of m.queue) h.stands h.left working after.1,
+      )
 
   -- of the second one
   pub second_kept : wants a.key m.operands.second.hand a.members.second ≡ true
       → x.file ≡ m.operands.second.file → Ran (Stays (now old)) old new
       → ReadsNext x new k.readings.second
-      → IsWorking t s (record m { operands = record m.operands { second = x } }) new
+      → AdvancesAt t s m old (record m { operands = record m.operands { second = x } }) new
   second_kept asked file ran (node, unread, is, read) =
       let r : readings.Readings = readings.with_second k.readings
       (record { hand = Some node; unread = unread }) in
+      let after = second_read_left t s m a old k h.rest h.first_is h.stands h.left asked node unread is
+      in
+      let working : IsWorking t s (record m { operands = record m.operands { second = x } }) new =
       record {
         contents = record k { readings = r };
         stands = stands_read m (record m.operands { second = x }) old new k r
@@ -60,18 +74,25 @@ module _ (t : Task) (s : Asking) (a : Ask) (m : Machine) (x : Operand) (old new 
               third = read_still _ m.operands.third old new k.readings.third are.third
                   (looked_same old new ran m.operands.third.file) h.stands.read.third;
             }) h.stands;
-        left = second_read_left t s m a old k h.rest h.first_is h.stands h.left asked node unread
-            is;
+        left = after.0;
       }
+      in (
+        working,
+        fewer_left t s s m (record m { operands = record m.operands { second = x } }) old new k
+            (queues.last_of m.queue) h.stands h.left working after.1,
+      )
 
   -- of the third one
   pub third_kept : wants a.key m.operands.third.hand a.members.third ≡ true
       → x.file ≡ m.operands.third.file → Ran (Stays (now old)) old new
       → ReadsNext x new k.readings.third
-      → IsWorking t s (record m { operands = record m.operands { third = x } }) new
+      → AdvancesAt t s m old (record m { operands = record m.operands { third = x } }) new
   third_kept asked file ran (node, unread, is, read) =
       let r : readings.Readings = readings.with_third k.readings
       (record { hand = Some node; unread = unread }) in
+      let after = third_read_left t s m a old k h.rest h.first_is h.stands h.left asked node unread is
+      in
+      let working : IsWorking t s (record m { operands = record m.operands { third = x } }) new =
       record {
         contents = record k { readings = r };
         stands = stands_read m (record m.operands { third = x }) old new k r (third_files m x file)
@@ -82,5 +103,10 @@ module _ (t : Task) (s : Asking) (a : Ask) (m : Machine) (x : Operand) (old new 
                   (looked_same old new ran m.operands.second.file) h.stands.read.second;
               third = read;
             }) h.stands;
-        left = third_read_left t s m a old k h.rest h.first_is h.stands h.left asked node unread is;
+        left = after.0;
       }
+      in (
+        working,
+        fewer_left t s s m (record m { operands = record m.operands { third = x } }) old new k
+            (queues.last_of m.queue) h.stands h.left working after.1,
+      )

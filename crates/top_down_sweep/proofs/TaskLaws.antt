@@ -1,7 +1,7 @@
 -- The operations on canonical files as tasks.
-use Rattle.std.proofs.Common.{◌≡◌, ℕ, Bool, List, sym, subst}
+use Rattle.std.proofs.Common.{ℕ, Bool, List, sym, subst}
 use Rattle.shelf_model.specs.declared.file_no.FileNo.{FileNo}
-use Rattle.shelf_model.specs.World.{World, file}
+use Rattle.shelf_model.specs.World.{World}
 use Rattle.canon_file.specs.Canon.{canon_nodes, canon_root, canon_bytes}
 use Rattle.canon_file.specs.Laws.{HasForm}
 use Rattle.node_file.specs.Nodes.{HasNodes}

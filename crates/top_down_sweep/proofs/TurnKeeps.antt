@@ -1,10 +1,10 @@
 -- What each kind of turn leaves of a task.
-use Rattle.std.proofs.Common.{◌≡◌, ℕ, ◌<◌, ◌+◌, ◌/◌, ◌%◌, ◌^◌, ◌∙◌, Bool, true, false, cond, List, [], ◌∷◌, ◌++◌, length, refl, sym, subst, ap, arith}
-use Rattle.std.specs.Prelude.{Some, None, map, option_map, nat_lt, ◌==◌}
+use Rattle.std.proofs.Common.{◌≡◌, ℕ, ◌<◌, ◌≤◌, ◌+◌, ◌/◌, ◌%◌, ◌^◌, ◌∙◌, Bool, true, false, cond, List, [], ◌∷◌, ◌++◌, length, refl, sym, subst, ap, arith}
+use Rattle.std.specs.Prelude.{Some, None, map, option_map, nat_lt, ◌==◌, Result, Ok, Err, IfOk, OnOk, IsErrAnd}
 use Rattle.std.specs.List.Sorted.{IsPermutation}
 use Rattle.std.proofs.lemmas.Bool.Decides.{nat_tests}
 use Rattle.std.proofs.lemmas.List.{append-nil}
-use Rattle.std.proofs.lemmas.List.Sorted.{IsPermutation-refl, IsPermutation-map, IsPermutation-trans, IsPermutation-append_right}
+use Rattle.std.proofs.lemmas.List.Sorted.{length_permutation, IsPermutation-refl, IsPermutation-map, IsPermutation-trans, IsPermutation-append_right}
 use Rattle.rec_words.specs.Words.{level_of, level_numbers, terminal, most_variables, node_word}
 use Rattle.shelf_model.specs.World.{World}
 use Rattle.arc_file.specs.declared.arc.Arc.{Arc}
@@ -34,7 +34,13 @@ use Rattle.top_down_sweep.specs.Meaning.{Task, waiting_of, Contents, StandsFor, 
 use Rattle.top_down_sweep.specs.Changes.{ShowsAsk, JoinAsks, AsksInstead, ServesSide, side_asks, goal_below, ask_for}
 use Rattle.top_down_sweep.specs.Sweeps.{made_at}
 use Rattle.top_down_sweep.proofs.FormsOf.{IsKnown, is_unknown}
-use Rattle.top_down_sweep.proofs.WorkingOn.{works_at, again_left, known_left, new_left}
+use Rattle.shelf_model.specs.declared.sort_fault.SortFault.{SortFault}
+use Rattle.sweep_core.specs.declared.turn.Turn.{Turn}
+use Rattle.sweep_core.specs.declared.turn.Turn.TheVariants as turns
+use Rattle.sweep_core.specs.Sweeps.{MovesOn}
+use Rattle.top_down_sweep.specs.Turns.{left_at, turns_left, HasFewer, Advances, AdvancesAt, TurnsFall}
+use Rattle.top_down_sweep.proofs.TurnNumbers.{fewer_left, same_left, first_left}
+use Rattle.top_down_sweep.proofs.WorkingOn.{StepsTo, LeftAfter, works_at, again_left, known_left, new_left}
 use Rattle.top_down_sweep.proofs.Numbers.{arcs_and_one}
 
 -- where asks are answered, that is what remains
@@ -137,22 +143,32 @@ module _ (t : Task) (s : Asking) (a : Ask) (m q : Machine) (old new : World)
   abbrev k : Contents
   k = h.contents
 
+  -- the machine works on after a turn that is counted
+  advances : (after : Asking) (working : IsWorking t after q new)
+      → StepsTo t s k after working.contents → q.place.phase ≡ phases.Asking after
+      → Advances t s m old q new
+  advances after working steps phase = (
+    works_at t q after new phase working,
+    subst (λ p. HasFewer t (phases.Asking s) m old p q new) (sym phase)
+        (fewer_left t s after m q old new k (queues.last_of m.queue) h.stands h.left working steps),
+  )
+
   -- the ask was read on
   pub again_works : (key : ℕ) (members : Members) → want m.operands a ≡ false
       → members ≡ all_filled m.operands a → key ≡ least (all_waiting (level_of a.key) members)
       → key < 2 ^ 63 → queues.last_of q.queue ≡ Some a → q.place.phase ≡ phases.Asking s
       → AsksInstead q new k a (record { key = key; members = members; asker = a.asker })
-      → WorksOn t q new
+      → Advances t s m old q new
   again_works key members none filled is below last phase (rest, first_is, (asks, perm, stands)) =
-      works_at t q s new phase (record {
+      let left = again_left t s m a old k rest first_is h.stands h.left key asks none
+      (is ∙ ap (λ ms. least (all_waiting (level_of a.key) ms)) filled) below
+      (subst (λ (ms : Members). IsPermutation
+      (record { key = key; members = ms; asker = a.asker } ∷ rest) asks) filled perm) in
+      advances s (record {
         contents = record k { asks = asks };
         stands = stands;
-        left = subst (λ o. IsLeft t s o (record k { asks = asks })) (sym last)
-            (again_left t s m a old k rest first_is h.stands h.left key asks none
-            (is ∙ ap (λ ms. least (all_waiting (level_of a.key) ms)) filled) below
-            (subst (λ (ms : Members). IsPermutation
-            (record { key = key; members = ms; asker = a.asker } ∷ rest) asks) filled perm));
-      })
+        left = subst (λ o. IsLeft t s o (record k { asks = asks })) (sym last) left.0;
+      }) left.1 phase
 
   -- it was answered by a known number
   pub known_works : (uid : ℕ) (rest : List Ask) → IsKnown s.last a uid → k.asks ≡ a ∷ rest
@@ -160,22 +176,23 @@ module _ (t : Task) (s : Asking) (a : Ask) (m q : Machine) (old new : World)
       → StandsFor q new (record k {
         asks = rest;
         inner = k.inner ++ laws.answer_arcs a.asker uid;
-      }) → WorksOn t q new
+      }) → Advances t s m old q new
   known_works uid rest known first_is last phase stands =
       let then : Contents = record k {
         asks = rest;
         inner = k.inner ++ laws.answer_arcs a.asker uid;
       } in
-      works_at t q s new phase (record {
+      let left : LeftAfter t s k s (Some a) then =
+      subst (λ w. LeftAfter t s k s (Some a) (record k {
+        asks = rest;
+        inner = k.inner ++ laws.answer_arcs a.asker w;
+      })) (sym known.uid_is) (known_left t s m a old k rest first_is h.stands h.left
+      known.numbered known.last_is known.form_is) in
+      advances s (record {
         contents = then;
         stands = stands;
-        left = subst (λ o. IsLeft t s o then) (sym last)
-            (subst (λ w. IsLeft t s (Some a) (record k {
-              asks = rest;
-              inner = k.inner ++ laws.answer_arcs a.asker w;
-            })) (sym known.uid_is) (known_left t s m a old k rest first_is h.stands h.left
-            known.numbered known.last_is known.form_is));
-      })
+        left = subst (λ o. IsLeft t s o then) (sym last) left.0;
+      }) left.1 phase
 
   -- its tuple got a number
   pub new_works : (uid : ℕ) (goal : Bool → Goal) (rest asks_low asks : List Ask)
@@ -193,7 +210,7 @@ module _ (t : Task) (s : Asking) (a : Ask) (m q : Machine) (old new : World)
         asks = asks;
         inner = k.inner ++ laws.answer_arcs a.asker uid;
         ends = (k.ends ++ side_arcs uid false (goal false)) ++ side_arcs uid true (goal true);
-      }) → WorksOn t q new
+      }) → Advances t s m old q new
   new_works uid goal rest asks_low asks none resolved unknown uid_is goal_is first_is low high last
       phase stands =
       let after : Asking = record { root = s.root; last = Some (next_numbered s a) } in
@@ -208,20 +225,23 @@ module _ (t : Task) (s : Asking) (a : Ask) (m q : Machine) (old new : World)
       (is_unknown s.last a unknown) few
       (subst (λ v. v) (λ i. IsPermutation (side_asks (uid_is i) true (goal_is true i)
       ++ (side_asks (uid_is i) false (goal_is false i) ++ rest)) asks) both) in
-      works_at t q after new phase (record {
-        contents = record k {
-          asks = asks;
-          inner = k.inner ++ laws.answer_arcs a.asker uid;
-          ends = (k.ends ++ side_arcs uid false (goal false)) ++ side_arcs uid true (goal true);
-        };
+      let then : Contents = record k {
+        asks = asks;
+        inner = k.inner ++ laws.answer_arcs a.asker uid;
+        ends = (k.ends ++ side_arcs uid false (goal false)) ++ side_arcs uid true (goal true);
+      } in
+      let mine : LeftAfter t s k after (Some a) then =
+      subst (λ v. v) (λ i. LeftAfter t s k after (Some a) (record k {
+        asks = asks;
+        inner = k.inner ++ laws.answer_arcs a.asker (sym uid_is i);
+        ends = (k.ends ++ side_arcs (sym uid_is i) false (sym (goal_is false) i))
+            ++ side_arcs (sym uid_is i) true (sym (goal_is true) i);
+      })) left in
+      advances after (record {
+        contents = then;
         stands = stands;
-        left = subst (λ v. v) (λ i. IsLeft t after (sym last i) (record k {
-          asks = asks;
-          inner = k.inner ++ laws.answer_arcs a.asker (sym uid_is i);
-          ends = (k.ends ++ side_arcs (sym uid_is i) false (sym (goal_is false) i))
-              ++ side_arcs (sym uid_is i) true (sym (goal_is true) i);
-        })) left;
-      })
+        left = subst (λ o. IsLeft t after o then) (sym last) mine.0;
+      }) mine.1 phase
 
 -- the sweep ended
 made_remains : (t : Task) (begins : Tuple → Tuple) (q : Machine) (new : World) (made : Unreduced)
@@ -282,8 +302,10 @@ pub asked_works : (t : Task) (m q : Machine) (old new : World) (x : Tuple) (key 
     → t.rule.goal t.roots ≡ Go x → key ≡ least x → root ≡ node_word (level_of key) 0
     → queues.last_of q.queue ≡ None
     → q.place.phase ≡ phases.Asking (record { root = root; last = None })
-    → JoinAsks q new (first_contents t) (ask_for x forms.nobody ∷ []) → WorksOn t q new
-asked_works t m q old new x key root goes key_is root_is last phase (asks, perm, stands) =
+    → StandsFor m old (first_contents t)
+    → JoinAsks q new (first_contents t) (ask_for x forms.nobody ∷ [])
+    → WorksOn t q new × HasFewer t phases.Fresh m old q.place.phase q new
+asked_works t m q old new x key root goes key_is root_is last phase before (asks, perm, stands) =
     let level : level_of key ≡ level_of_tuple x = omega (arith, key_is) in
     let begun = root_is_asked t.n t.rule t.diagrams t.roots t.is_task x goes in
     let ordered = in_any_order t.n t.rule t.diagrams t.roots t.is_task
@@ -291,13 +313,20 @@ asked_works t m q old new x key root goes key_is root_is last phase (asks, perm,
     (unread_all t.diagrams) [] []
     (IsPermutation-map waiting_of (ask_for x forms.nobody ∷ []) asks perm) begun in
     let s : Asking = record { root = root; last = None } in
-    works_at t q s new phase (record {
+    let working : IsWorking t s q new = record {
       contents = record (first_contents t) { asks = asks };
       stands = stands;
       left = subst (λ v. v) (λ i. laws.Remains t.n t.rule t.diagrams t.roots
-          (laws.at_place ((ap (λ l. node_word l 0) (sym level) ∙ sym root_is) i) None) (map waiting_of asks)
-          (option_map waiting_of (sym last i)) (unread_all t.diagrams) [] []) ordered;
-    })
+          (laws.at_place ((ap (λ l. node_word l 0) (sym level) ∙ sym root_is) i) None)
+          (map waiting_of asks) (option_map waiting_of (sym last i)) (unread_all t.diagrams) [] [])
+          ordered;
+    } in (
+      works_at t q s new phase working,
+      subst (λ p. HasFewer t phases.Fresh m old p q new) (sym phase)
+          (λ tuples all_met. first_left t m q old new (first_contents t)
+          (record (first_contents t) { asks = asks }) root (length tuples) before stands refl
+          (length_permutation (ask_for x forms.nobody ∷ []) asks perm)),
+    )
 
 -- what was made, once it is known, is of the task
 pub made_where : (t : Task) (begins : Tuple → Tuple) (p : Phase) (m : Machine) (world : World)
@@ -305,3 +334,38 @@ pub made_where : (t : Task) (begins : Tuple → Tuple) (p : Phase) (m : Machine)
 made_where t begins phases.Fresh m world remains = tt
 made_where t begins (phases.Asking s) m world remains = tt
 made_where t begins (phases.Ended made) m world remains = remains
+
+-- as many turns remain of the same lists
+pub fewer_since : (t : Task) (s : Asking) (m n q : Machine) (old mid new : World)
+    (held : Contents) → StandsFor m old held → StandsFor n mid held
+    → HasFewer t (phases.Asking s) n mid q.place.phase q new
+    → HasFewer t (phases.Asking s) m old q.place.phase q new
+fewer_since t s m n q old mid new held first second fewer tuples all_met =
+    subst (λ left. turns_left q new (length tuples) + 1 ≤ left)
+    (same_left t s m n old mid held (length tuples) first second) (fewer tuples all_met)
+
+-- none remain where it has ended
+pub ended_left : (t : Task) (p : Phase) (m q : Machine) (old new : World)
+    (result : Result Turn SortFault) → IfOk result (λ turn. turn ≡ turns.Ended)
+    → (made : Unreduced) → OnOk result (q.place.phase ≡ phases.Ended made)
+    → TurnsFall t p m old q new result
+ended_left t p m q old new (Err e) is made phase tuples all_met = tt
+ended_left t p m q old new (Ok turn) is made phase tuples all_met =
+    subst (λ (x : Turn). MovesOn 1 (left_at p m old (length tuples))
+    (turns_left q new (length tuples)) (Ok x)) (sym is)
+    (ap (λ r. left_at r q new (length tuples)) phase)
+
+-- nor is anything said of a refusal
+pub refused_left : (t : Task) (p : Phase) (m q : Machine) (old new : World)
+    (result : Result Turn SortFault) (e : SortFault) → IsErrAnd result (λ f. f ≡ e)
+    → TurnsFall t p m old q new result
+refused_left t p m q old new (Ok turn) e is tuples all_met = absurd is
+refused_left t p m q old new (Err f) e is tuples all_met = tt
+
+-- a turn that leaves the place
+pub advances_at : (t : Task) (s : Asking) (m q : Machine) (old new : World)
+    → q.place.phase ≡ phases.Asking s → AdvancesAt t s m old q new → Advances t s m old q new
+advances_at t s m q old new phase (working, fewer) = (
+  works_at t q s new phase working,
+  subst (λ p. HasFewer t (phases.Asking s) m old p q new) (sym phase) fewer,
+)

@@ -1,18 +1,21 @@
 -- What remains of a task while asks are answered: one law for each kind of turn.
 use Rattle.std.proofs.Common.{◌≡◌, ◌≢◌, ℕ, ◌<◌, ◌+◌, ◌^◌, ◌∙◌, Bool, true, false, List, [], ◌∷◌, ◌++◌, length, refl, sym, subst, ap, inl}
-use Rattle.std.specs.Prelude.{Option, Some, IfSome, map, option_map}
+use Rattle.std.specs.Prelude.{suc, Option, Some, IfSome, map, option_map}
 use Rattle.std.specs.List.Sorted.{IsPermutation, IsSorted}
 use Rattle.std.proofs.lemmas.List.{same_from_push, append_assoc, map-append}
 use Rattle.std.proofs.lemmas.List.Sorted.{IsPermutation-map, IsPermutation-trans, IsPermutation-append_left, IsPermutation-append_comm}
 use Rattle.rec_words.specs.Words.{level_of, level_numbers}
 use Rattle.rec_words.specs.declared.node.Node.{Node}
 use Rattle.shelf_model.specs.World.{World}
+use Rattle.arc_file.specs.declared.arc.Arc.{Arc}
 use Rattle.level_queue.specs.Queues as queues
 use Rattle.top_down.specs.declared.tuple.Goal.{Goal}
 use Rattle.top_down.specs.Asks.{side_arcs}
 use Rattle.top_down_laws.specs.Forms as forms
 use Rattle.top_down_laws.specs.Readings as readings
 use Rattle.top_down_laws.specs.Remains as laws
+use Rattle.top_down_laws.specs.Turns.{IsCounted}
+use Rattle.top_down_laws.proofs.TurnCounts.{count_in_any_order, read_is_counted, read_on_is_counted, known_is_counted, new_is_counted}
 use Rattle.top_down_laws.specs.Laws.{IsNext, ReadsNode, ReadsNodes}
 use Rattle.top_down_laws.proofs.StartLaws.{in_any_order}
 use Rattle.top_down_laws.proofs.ReadTurns.{wanted_is_read, ask_is_read_on}
@@ -46,6 +49,23 @@ same_hands m world k stands = record {
   third = stands.read.third.hand_is;
 }
 
+-- what the counts of turns are of these lists
+abbrev pub Counted : Task → ℕ → Option laws.Numbered → readings.Readings → List forms.Waiting
+    → List Arc → List Arc → Type 0
+Counted t turns newest r waiting inner ends = IsCounted t.diagrams turns newest r waiting inner ends
+
+abbrev pub CountedAt : Task → Asking → Contents → ℕ → Type 0
+CountedAt t s k turns = Counted t turns (option_map numbered_of s.last) k.readings
+    (map waiting_of k.asks) k.inner k.ends
+
+-- one turn more is counted
+abbrev pub StepsTo : Task → Asking → Contents → Asking → Contents → Type 0
+StepsTo t s k after then = (turns : ℕ) → CountedAt t s k turns → CountedAt t after then (suc turns)
+
+-- what remains after a turn, which is counted
+abbrev pub LeftAfter : Task → Asking → Contents → Asking → Option Ask → Contents → Type 0
+LeftAfter t s k after last then = IsLeft t after last then × StepsTo t s k after then
+
 -- two parts of a list change places
 fronts_swap : {X : Type 0} (xs ys zs : List X) → IsPermutation (xs ++ (ys ++ zs)) (ys ++ (xs ++ zs))
 fronts_swap xs ys zs = subst (λ v. v) (λ i. IsPermutation (append_assoc xs ys zs i)
@@ -72,6 +92,29 @@ module _ (t : Task) (s : Asking) (m : Machine) (a : Ask) (world : World) (k : Co
       last k.readings k.inner k.ends
   first_left = subst (λ (xs : List Ask). laws.Remains t.n t.rule t.diagrams t.roots placed
       (map waiting_of xs) last k.readings k.inner k.ends) first_is left
+
+  -- what remains with such lists after a turn, which is counted
+  abbrev After : laws.Place → List forms.Waiting → Option forms.Waiting → readings.Readings
+      → List Arc → List Arc → Type 0
+  After place waiting newly r inner ends =
+      laws.Remains t.n t.rule t.diagrams t.roots place waiting newly r inner ends
+      × ((turns : ℕ) → CountedAt t s k turns → Counted t (suc turns) place.newest r waiting inner ends)
+
+  first_counted : (turns : ℕ) → CountedAt t s k turns → Counted t turns placed.newest k.readings
+      (waiting_of a ∷ map waiting_of rest) k.inner k.ends
+  first_counted turns counted = subst (λ (xs : List Ask). Counted t turns placed.newest k.readings
+      (map waiting_of xs) k.inner k.ends) first_is counted
+
+  reordered : (place : laws.Place) (waiting others : List forms.Waiting)
+      (newly : Option forms.Waiting) (r : readings.Readings) (inner ends : List Arc)
+      → IsPermutation waiting others → After place waiting newly r inner ends
+      → After place others newly r inner ends
+  reordered place waiting others newly r inner ends perm (remains, steps) = (
+    in_any_order t.n t.rule t.diagrams t.roots t.is_task place waiting others newly r inner ends
+        perm remains,
+    λ turns counted. count_in_any_order t.diagrams (suc turns) place.newest r waiting others inner
+        ends perm (steps turns counted),
+  )
 
   -- it isn't the one that was taken last
   pub not_last : queues.last_of m.queue ≡ Some a → ⊥
@@ -117,15 +160,18 @@ module _ (t : Task) (s : Asking) (m : Machine) (a : Ask) (world : World) (k : Co
         (row_wants a.key _ _ a.members.first hands.first ∙ asked) reads.first
 
     pub first_read_left : (x : Node) (unread : List Node)
-        → k.readings.first.unread ≡ unread ++ x ∷ [] → IsLeft t s (queues.last_of m.queue)
+        → k.readings.first.unread ≡ unread ++ x ∷ [] → LeftAfter t s k s (queues.last_of m.queue)
         (record k {
           readings = readings.with_first k.readings
               (record { hand = Some x; unread = unread });
         })
-    first_read_left x unread mine = is_left (readings.with_first k.readings
-        (record { hand = Some x; unread = unread }))
-        (then_read _ k.readings.first (λ now. WithRead (readings.with_first k.readings now))
-        (row_wants a.key _ _ a.members.first hands.first ∙ asked) reads.first x unread mine)
+    first_read_left x unread mine = (
+      is_left (readings.with_first k.readings (record { hand = Some x; unread = unread }))
+          (then_read _ k.readings.first (λ now. WithRead (readings.with_first k.readings now))
+          (row_wants a.key _ _ a.members.first hands.first ∙ asked) reads.first x unread mine),
+      λ turns counted. (read_is_counted t.diagrams turns placed.newest k.readings
+          (map waiting_of k.asks) k.inner k.ends x unread counted).first mine,
+    )
 
   module _ (asked : wants a.key m.operands.second.hand a.members.second ≡ true) where
     pub second_has_next : HasNext a.key k.readings.second
@@ -133,15 +179,18 @@ module _ (t : Task) (s : Asking) (m : Machine) (a : Ask) (world : World) (k : Co
         (row_wants a.key _ _ a.members.second hands.second ∙ asked) reads.second
 
     pub second_read_left : (x : Node) (unread : List Node)
-        → k.readings.second.unread ≡ unread ++ x ∷ [] → IsLeft t s (queues.last_of m.queue)
+        → k.readings.second.unread ≡ unread ++ x ∷ [] → LeftAfter t s k s (queues.last_of m.queue)
         (record k {
           readings = readings.with_second k.readings
               (record { hand = Some x; unread = unread });
         })
-    second_read_left x unread mine = is_left (readings.with_second k.readings
-        (record { hand = Some x; unread = unread }))
-        (then_read _ k.readings.second (λ now. WithRead (readings.with_second k.readings now))
-        (row_wants a.key _ _ a.members.second hands.second ∙ asked) reads.second x unread mine)
+    second_read_left x unread mine = (
+      is_left (readings.with_second k.readings (record { hand = Some x; unread = unread }))
+          (then_read _ k.readings.second (λ now. WithRead (readings.with_second k.readings now))
+          (row_wants a.key _ _ a.members.second hands.second ∙ asked) reads.second x unread mine),
+      λ turns counted. (read_is_counted t.diagrams turns placed.newest k.readings
+          (map waiting_of k.asks) k.inner k.ends x unread counted).second mine,
+    )
 
   module _ (asked : wants a.key m.operands.third.hand a.members.third ≡ true) where
     pub third_has_next : HasNext a.key k.readings.third
@@ -149,46 +198,64 @@ module _ (t : Task) (s : Asking) (m : Machine) (a : Ask) (world : World) (k : Co
         (row_wants a.key _ _ a.members.third hands.third ∙ asked) reads.third
 
     pub third_read_left : (x : Node) (unread : List Node)
-        → k.readings.third.unread ≡ unread ++ x ∷ [] → IsLeft t s (queues.last_of m.queue)
+        → k.readings.third.unread ≡ unread ++ x ∷ [] → LeftAfter t s k s (queues.last_of m.queue)
         (record k {
           readings = readings.with_third k.readings
               (record { hand = Some x; unread = unread });
         })
-    third_read_left x unread mine = is_left (readings.with_third k.readings
-        (record { hand = Some x; unread = unread }))
-        (then_read _ k.readings.third (λ now. WithRead (readings.with_third k.readings now))
-        (row_wants a.key _ _ a.members.third hands.third ∙ asked) reads.third x unread mine)
+    third_read_left x unread mine = (
+      is_left (readings.with_third k.readings (record { hand = Some x; unread = unread }))
+          (then_read _ k.readings.third (λ now. WithRead (readings.with_third k.readings now))
+          (row_wants a.key _ _ a.members.third hands.third ∙ asked) reads.third x unread mine),
+      λ turns counted. (read_is_counted t.diagrams turns placed.newest k.readings
+          (map waiting_of k.asks) k.inner k.ends x unread counted).third mine,
+    )
 
   -- it is read on
   pub again_left : (key : ℕ) (asks : List Ask) → want m.operands a ≡ false
       → key ≡ least (all_waiting (level_of a.key) (all_filled m.operands a)) → key < 2 ^ 63
       → IsPermutation (record { key = key; members = all_filled m.operands a; asker = a.asker }
-      ∷ rest) asks → IsLeft t s (Some a) (record k { asks = asks })
+      ∷ rest) asks → LeftAfter t s k s (Some a) (record k { asks = asks })
   again_left key asks none is below perm =
       let b : Ask = record { key = key; members = all_filled m.operands a; asker = a.asker } in
-      let on = ask_is_read_on t.n t.rule t.diagrams t.roots t.is_task placed (waiting_of a)
-      (map waiting_of rest) last k.readings k.inner k.ends first_left next
-      (form_wants m.operands k.readings a hands ∙ none)
-      (subst (λ w. w < 2 ^ 63) (is ∙ sym (form_next m.operands k.readings a hands)) below) in
-      in_any_order t.n t.rule t.diagrams t.roots t.is_task placed (map waiting_of (b ∷ rest))
-      (map waiting_of asks) (Some (waiting_of a)) k.readings k.inner k.ends
-      (IsPermutation-map waiting_of (b ∷ rest) asks perm)
-      (subst (λ w. laws.Remains t.n t.rule t.diagrams t.roots placed (w ∷ map waiting_of rest)
-      (Some (waiting_of a)) k.readings k.inner k.ends)
-      (form_again m.operands k.readings a key hands is) on)
+      let wants_none : readings.want k.readings (form_of a.key a.members) ≡ false =
+      form_wants m.operands k.readings a hands ∙ none in
+      let fits : forms.next_key (readings.filled_form k.readings (form_of a.key a.members)) < 2 ^ 63 =
+      subst (λ w. w < 2 ^ 63) (is ∙ sym (form_next m.operands k.readings a hands)) below in
+      let on : After placed (readings.asked_on k.readings (waiting_of a) ∷ map waiting_of rest)
+      (Some (waiting_of a)) k.readings k.inner k.ends = (
+        ask_is_read_on t.n t.rule t.diagrams t.roots t.is_task placed (waiting_of a)
+            (map waiting_of rest) last k.readings k.inner k.ends first_left next wants_none fits,
+        λ turns counted. read_on_is_counted t.n t.rule t.diagrams t.roots t.is_task turns placed
+            (waiting_of a) (map waiting_of rest) last k.readings k.inner k.ends first_left
+            wants_none fits (first_counted turns counted),
+      ) in
+      reordered placed (map waiting_of (b ∷ rest)) (map waiting_of asks) (Some (waiting_of a))
+      k.readings k.inner k.ends (IsPermutation-map waiting_of (b ∷ rest) asks perm)
+      (subst (λ w. After placed (w ∷ map waiting_of rest) (Some (waiting_of a)) k.readings k.inner
+      k.ends) (form_again m.operands k.readings a key hands is) on)
 
   -- it is answered by a known number
   pub known_left : (x : Numbered) → s.last ≡ Some x
-      → form_of x.key x.members ≡ form_of a.key a.members → IsLeft t s (Some a)
+      → form_of x.key x.members ≡ form_of a.key a.members → LeftAfter t s k s (Some a)
       (record k { asks = rest; inner = k.inner ++ laws.answer_arcs a.asker (identifier x) })
   known_left x is same =
-      let known = known_is_answered t.n t.rule t.diagrams t.roots t.is_task s.root (numbered_of x)
-      (waiting_of a) (map waiting_of rest) last k.readings k.inner k.ends
-      (subst (λ o. laws.Remains t.n t.rule t.diagrams t.roots
-      (laws.at_place s.root (option_map numbered_of o)) (waiting_of a ∷ map waiting_of rest) last
-      k.readings k.inner k.ends) is first_left) next same in
+      let here : laws.Remains t.n t.rule t.diagrams t.roots
+      (laws.at_place s.root (Some (numbered_of x))) (waiting_of a ∷ map waiting_of rest) last
+      k.readings k.inner k.ends =
       subst (λ o. laws.Remains t.n t.rule t.diagrams t.roots
-      (laws.at_place s.root (option_map numbered_of o)) (map waiting_of rest)
+      (laws.at_place s.root (option_map numbered_of o)) (waiting_of a ∷ map waiting_of rest) last
+      k.readings k.inner k.ends) is first_left in
+      let known : After (laws.at_place s.root (Some (numbered_of x))) (map waiting_of rest)
+      (Some (waiting_of a)) k.readings (k.inner ++ laws.answer_arcs a.asker (identifier x)) k.ends = (
+        known_is_answered t.n t.rule t.diagrams t.roots t.is_task s.root (numbered_of x)
+            (waiting_of a) (map waiting_of rest) last k.readings k.inner k.ends here next same,
+        λ turns counted. known_is_counted t.n t.rule t.diagrams t.roots t.is_task turns s.root
+            (numbered_of x) (waiting_of a) (map waiting_of rest) last k.readings k.inner k.ends here
+            (subst (λ o. Counted t turns (option_map numbered_of o) k.readings
+            (waiting_of a ∷ map waiting_of rest) k.inner k.ends) is (first_counted turns counted)),
+      ) in
+      subst (λ o. After (laws.at_place s.root (option_map numbered_of o)) (map waiting_of rest)
       (Some (waiting_of a)) k.readings (k.inner ++ laws.answer_arcs a.asker (identifier x)) k.ends)
       (sym is) known
 
@@ -201,8 +268,7 @@ module _ (t : Task) (s : Asking) (m : Machine) (a : Ask) (world : World) (k : Co
 
   -- what remains then, with such a number and such goals of both sides
   abbrev NumberedLeft : laws.Numbered → Goal → Goal → Type 0
-  NumberedLeft x low high = laws.Remains t.n t.rule t.diagrams t.roots
-      (laws.at_place s.root (Some x)) (laws.side_waits (laws.identifier x) false low
+  NumberedLeft x low high = After (laws.at_place s.root (Some x)) (laws.side_waits (laws.identifier x) false low
       ++ (laws.side_waits (laws.identifier x) true high ++ map waiting_of rest))
       (Some (waiting_of a)) k.readings
       (k.inner ++ laws.answer_arcs a.asker (laws.identifier x))
@@ -215,7 +281,7 @@ module _ (t : Task) (s : Asking) (m : Machine) (a : Ask) (world : World) (k : Co
       → length k.inner + 1 < level_numbers
       → IsPermutation (side_asks uid true (goal_of true)
       ++ (side_asks uid false (goal_of false) ++ rest)) asks
-      → IsLeft t (record { root = s.root; last = Some (next_numbered s a) }) (Some a)
+      → LeftAfter t s k (record { root = s.root; last = Some (next_numbered s a) }) (Some a)
       (record k {
         asks = asks;
         inner = k.inner ++ laws.answer_arcs a.asker uid;
@@ -224,11 +290,19 @@ module _ (t : Task) (s : Asking) (m : Machine) (a : Ask) (world : World) (k : Co
   new_left asks none resolved other few perm =
       let low = side_asks uid false (goal_of false) in
       let high = side_asks uid true (goal_of true) in
-      let made = new_is_numbered t.n t.rule t.diagrams t.roots t.is_task placed (waiting_of a)
-      (map waiting_of rest) last k.readings k.inner k.ends first_left next
-      (form_wants m.operands k.readings a hands ∙ none)
-      (λ below. resolved (subst (λ w. w < 2 ^ 63) (form_next m.operands k.readings a hands) below))
-      other few in
+      let made : NumberedLeft
+      (laws.next_numbered (option_map numbered_of s.last) (form_of a.key a.members))
+      (laws.goal_on t.rule k.readings (form_of a.key a.members) false)
+      (laws.goal_on t.rule k.readings (form_of a.key a.members) true) = (
+        new_is_numbered t.n t.rule t.diagrams t.roots t.is_task placed (waiting_of a)
+            (map waiting_of rest) last k.readings k.inner k.ends first_left next
+            (form_wants m.operands k.readings a hands ∙ none)
+            (λ below. resolved (subst (λ w. w < 2 ^ 63) (form_next m.operands k.readings a hands)
+            below)) other few,
+        λ turns counted. new_is_counted t.n t.rule t.diagrams t.roots t.is_task turns placed
+            (waiting_of a) (map waiting_of rest) last k.readings k.inner k.ends first_left
+            (first_counted turns counted),
+      ) in
       let mine : NumberedLeft (numbered_of (next_numbered s a)) (goal_of false) (goal_of true) =
       subst (λ v. v) (λ i. NumberedLeft (sym (form_numbered s a) i)
       (form_goal m.operands k.readings t.rule a false hands i)
@@ -240,14 +314,14 @@ module _ (t : Task) (s : Asking) (m : Machine) (a : Ask) (world : World) (k : Co
       ++ (sym (side_waiting uid true (goal_of true)) i ++ map waiting_of rest))
       ∙ ap (λ xs. map waiting_of low ++ xs) (sym (map-append waiting_of high rest))
       ∙ sym (map-append waiting_of low (high ++ rest)) in
-      in_any_order t.n t.rule t.diagrams t.roots t.is_task
-      (laws.at_place s.root (Some (numbered_of (next_numbered s a))))
+      reordered (laws.at_place s.root (Some (numbered_of (next_numbered s a))))
       (map waiting_of (low ++ (high ++ rest))) (map waiting_of asks) (Some (waiting_of a))
-      k.readings _ _ (IsPermutation-map waiting_of (low ++ (high ++ rest)) asks
+      k.readings (k.inner ++ laws.answer_arcs a.asker uid)
+      ((k.ends ++ side_arcs uid false (goal_of false)) ++ side_arcs uid true (goal_of true))
+      (IsPermutation-map waiting_of (low ++ (high ++ rest)) asks
       (IsPermutation-trans (low ++ (high ++ rest)) (high ++ (low ++ rest)) asks
       (fronts_swap low high rest) perm))
-      (subst (λ v. v) (λ i. laws.Remains t.n t.rule t.diagrams t.roots
-      (laws.at_place s.root (Some (numbered_of (next_numbered s a)))) (waits i)
-      (Some (waiting_of a)) k.readings (k.inner ++ laws.answer_arcs a.asker uid)
+      (subst (λ v. v) (λ i. After (laws.at_place s.root (Some (numbered_of (next_numbered s a))))
+      (waits i) (Some (waiting_of a)) k.readings (k.inner ++ laws.answer_arcs a.asker uid)
       (sym (append_assoc k.ends (side_arcs uid false (goal_of false))
       (side_arcs uid true (goal_of true))) i)) mine)

@@ -11,4 +11,5 @@ pub mod Damage
 pub mod Calls
 pub mod Meaning
 pub mod Changes
+pub mod Turns
 pub mod Tasks

@@ -28,7 +28,8 @@ impl<'r> Machine<'r> {
     ghost use Rattle.sweep_core.specs.Sweeps.{IsNoDamage};
     ghost use Rattle.top_down_laws.specs.Remains.{answer_arcs};
     ghost use Rattle.top_down_sweep.specs.Members.{want, all_filled, all_waiting, least};
-    ghost use Rattle.top_down_sweep.specs.Meaning.{Task, Contents, StandsFor, IsHandling, WorksOn};
+    ghost use Rattle.top_down_sweep.specs.Meaning.{Task, Contents, StandsFor, IsHandling};
+    ghost use Rattle.top_down_sweep.specs.Turns.{Advances};
     ghost use Rattle.top_down_sweep.specs.Soundness.{asker_word};
     ghost use Rattle.top_down_sweep.specs.Changes.{AsksInstead, JoinAsks, ServesSide, ask_for, goal_below};
 
@@ -91,7 +92,8 @@ impl<'r> Machine<'r> {
         ensures keeps { OnOk result (IsTrue (S.tells shelf.new) → (t : Task) → t.rule ≡ O.rule operation.now →
             want self.old.operands ask.now ≡ false → members.now ≡ all_filled self.old.operands ask.now →
             (least (all_waiting (level_of ask.now.key) members.now) < 2 ^ 63 → ⊥) →
-            IsHandling t asking.now ask.now self.old (S.world shelf.old) → WorksOn t self.new (S.world shelf.new)) }
+            IsHandling t asking.now ask.now self.old (S.world shelf.old) →
+            Advances t asking.now self.old (S.world shelf.old) self.new (S.world shelf.new)) }
         ensures undamaged { IfErr result (λ e. IsTrue (S.tells shelf.new) → IsNoDamage e) }
     {
         self.take(ask, shelf)?;

@@ -41,7 +41,9 @@ impl<'r, O: Operation> TopDownSweep<'r, O> {
     ghost use Rattle.top_down_sweep.specs.Damage.{IsStartFault};
     ghost use Rattle.top_down_sweep.specs.Calls.{IsInStep};
     ghost use Rattle.sweep_core.specs.Sweeps.{IsNoDamage};
+    ghost use Rattle.std.specs.Prelude.{◌*◌};
     ghost use Rattle.top_down_sweep.specs.Meaning.{Task, IsTaskOn, Remains};
+    ghost use Rattle.top_down_sweep.specs.Turns.{Work, nodes_of, left_of};
 
     /// Begins an operation on diagrams of `n` variables, with the part numbers that its queue may take.
     ///
@@ -81,6 +83,9 @@ impl<'r, O: Operation> TopDownSweep<'r, O> {
         ensures remains { IfOk result (λ s. IsTrue (S.tells shelf.new) → (t : Task) →
             IsTaskOn t (O.rule operation) (O.begins operation) n files parts.step (S.world shelf.old) →
             Remains O.rule O.begins s (S.world shelf.new) t) }
+        ensures left { IfOk result (λ s. IsTrue (S.tells shelf.new) → (w : Work) →
+            IsTaskOn w.task (O.rule operation) (O.begins operation) n files parts.step (S.world shelf.old) →
+            left_of s (S.world shelf.new) w ≡ 6 * length w.tuples + nodes_of w.task.diagrams + 5) }
         ensures undamaged { IfErr result (λ e. IsTrue (S.tells shelf.new) → (t : Task) →
             IsTaskOn t (O.rule operation) (O.begins operation) n files parts.step (S.world shelf.old) →
             IsNoDamage e) }

@@ -49,7 +49,9 @@ impl<'r, O: Operation> TopDownSweep<'r, O> {
     ghost use Rattle.top_down_sweep.specs.Damage.{IsDamage};
     ghost use Rattle.top_down_sweep.specs.Calls.{IsInStep};
     ghost use Rattle.sweep_core.specs.Sweeps.{IsNoDamage};
+    ghost use Rattle.sweep_core.specs.Sweeps.{MovesOn};
     ghost use Rattle.top_down_sweep.specs.Meaning.{Task, Remains, IsMadeWhere};
+    ghost use Rattle.top_down_sweep.specs.Turns.{Work, left_of};
 
     /// Handles one ask or reads one node, or ends the sweep. Once it has ended, each further turn answers so and does
     /// nothing.
@@ -83,25 +85,29 @@ impl<'r, O: Operation> TopDownSweep<'r, O> {
             IsMadeWhere t (S.world shelf.new) (made_in self.new)) }
         ensures undamaged { IfErr result (λ e. IsTrue (S.tells shelf.new) → (t : Task) →
             Remains O.rule O.begins self.old (S.world shelf.old) t → IsNoDamage e) }
+        ensures fewer { IsTrue (S.tells shelf.new) → (w : Work) →
+            Remains O.rule O.begins self.old (S.world shelf.old) w.task → MovesOn 1
+            (left_of self.old (S.world shelf.old) w) (left_of self.new (S.world shelf.new) w) result }
     {
         self.machine.turn(&self.operation, shelf)
     }
 }
 
 impl<'r, O: Operation> Sweep<'r> for TopDownSweep<'r, O> {
-    ghost use Rattle.top_down_sweep.specs.Meaning.{Task, Remains};
+    ghost use Rattle.top_down_sweep.specs.Meaning.{Remains};
+    ghost use Rattle.top_down_sweep.specs.Turns.{Work, left_of};
     ghost use Rattle.top_down_sweep.specs.Sweeps.{accounts, IsSound};
     ghost use Rattle.top_down_sweep.specs.Fuel.{fuel_of};
     ghost use Rattle.top_down_sweep.specs.Damage.{IsDamage};
     ghost use Rattle.top_down_sweep.specs.Calls.{IsInStep};
 
-    ghost Job = { Task };
+    ghost Job = { Work };
 
-    ghost remains = { Remains O.rule O.begins };
+    ghost remains = { λ s world w. Remains O.rule O.begins s world w.task };
 
     ghost fuel = { fuel_of };
 
-    ghost left = { λ s world t. fuel_of s };
+    ghost left = { left_of };
 
     ghost accounts = { accounts O };
 

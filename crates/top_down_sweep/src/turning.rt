@@ -28,6 +28,7 @@ impl<'r> Machine<'r> {
     ghost use Rattle.sweep_core.specs.Sweeps.{IsNoDamage};
     ghost use Rattle.top_down_sweep.specs.declared.place.Asking.{Asking};
     ghost use Rattle.top_down_sweep.specs.Meaning.{Task, StandsFor, first_contents, IsFresh, IsWorking, IsHandling, WorksOn, RemainsOf};
+    ghost use Rattle.top_down_sweep.specs.Turns.{HasFewer, Advances, AdvancesAt, TurnsFall};
 
     /// Handles the first ask, or ends.
     pub(crate) fn turn<O: Operation, S: Shelf>(
@@ -46,6 +47,9 @@ impl<'r> Machine<'r> {
         ensures keeps { OnOk result (IsTrue (S.tells shelf.new) → (t : Task) → t.rule ≡ O.rule operation.now →
             RemainsOf t (O.begins operation.now) self.old (S.world shelf.old) →
             RemainsOf t (O.begins operation.now) self.new (S.world shelf.new)) }
+        ensures fewer { IsTrue (S.tells shelf.new) → (t : Task) → t.rule ≡ O.rule operation.now →
+            RemainsOf t (O.begins operation.now) self.old (S.world shelf.old) → TurnsFall t self.old.place.phase
+            self.old (S.world shelf.old) self.new (S.world shelf.new) result }
         ensures undamaged { IfErr result (λ e. IsTrue (S.tells shelf.new) → (t : Task) →
             RemainsOf t (O.begins operation.now) self.old (S.world shelf.old) → IsNoDamage e) }
     {
@@ -74,6 +78,9 @@ impl<'r> Machine<'r> {
         ensures keeps { OnOk result (IsTrue (S.tells shelf.new) → (t : Task) → t.rule ≡ O.rule operation.now →
             IsFresh t (O.begins operation.now) self.old (S.world shelf.old) →
             RemainsOf t (O.begins operation.now) self.new (S.world shelf.new)) }
+        ensures fewer { IsTrue (S.tells shelf.new) → (t : Task) → t.rule ≡ O.rule operation.now →
+            IsFresh t (O.begins operation.now) self.old (S.world shelf.old) → TurnsFall t Phase.Fresh
+            self.old (S.world shelf.old) self.new (S.world shelf.new) result }
         ensures undamaged { IfErr result (λ e. IsTrue (S.tells shelf.new) → IsNoDamage e) }
     {
         let roots = operation.roots(&self.operands.roots());
@@ -101,7 +108,8 @@ impl<'r> Machine<'r> {
         ensures weight { OnOk result (weight self.new ≡ weight self.old + 1) }
         ensures keeps { OnOk result (IsTrue (S.tells shelf.new) → (t : Task) →
             t.rule.goal t.roots ≡ Goal.Go tuple.now →
-            StandsFor self.old (S.world shelf.old) (first_contents t) → WorksOn t self.new (S.world shelf.new)) }
+            StandsFor self.old (S.world shelf.old) (first_contents t) → WorksOn t self.new (S.world shelf.new)
+            × HasFewer t Phase.Fresh self.old (S.world shelf.old) self.new.place.phase self.new (S.world shelf.new)) }
         ensures undamaged { IfErr result (λ e. IsTrue (S.tells shelf.new) → IsNoDamage e) }
     {
         let Some(key) = key_of(tuple) else {
@@ -137,6 +145,9 @@ impl<'r> Machine<'r> {
         ensures keeps { OnOk result (IsTrue (S.tells shelf.new) → (t : Task) → t.rule ≡ O.rule operation.now →
             IsWorking t asking.now self.old (S.world shelf.old) →
             RemainsOf t (O.begins operation.now) self.new (S.world shelf.new)) }
+        ensures fewer { IsTrue (S.tells shelf.new) → (t : Task) → t.rule ≡ O.rule operation.now →
+            IsWorking t asking.now self.old (S.world shelf.old) → TurnsFall t (Phase.Asking asking.now)
+            self.old (S.world shelf.old) self.new (S.world shelf.new) result }
         ensures undamaged { IfErr result (λ e. IsTrue (S.tells shelf.new) → (t : Task) →
             IsWorking t asking.now self.old (S.world shelf.old) → IsNoDamage e) }
     {
@@ -168,7 +179,8 @@ impl<'r> Machine<'r> {
         ensures holds { OnOk result (HoldsAt S.tells S.world 1 shelf.new self.new) }
         ensures falls { OnOk result (weight self.new < weight self.old) }
         ensures keeps { OnOk result (IsTrue (S.tells shelf.new) → (t : Task) → t.rule ≡ O.rule operation.now →
-            IsHandling t asking.now ask.now self.old (S.world shelf.old) → WorksOn t self.new (S.world shelf.new)) }
+            IsHandling t asking.now ask.now self.old (S.world shelf.old) →
+            Advances t asking.now self.old (S.world shelf.old) self.new (S.world shelf.new)) }
         ensures undamaged { IfErr result (λ e. IsTrue (S.tells shelf.new) → (t : Task) →
             IsHandling t asking.now ask.now self.old (S.world shelf.old) → IsNoDamage e) }
     {
@@ -197,7 +209,8 @@ impl<'r> Machine<'r> {
         ensures holds { OnOk result (HoldsAt S.tells S.world 1 shelf.new self.new) }
         ensures falls { OnOk result (unread self.new.operands < unread self.old.operands) }
         ensures keeps { OnOk result (IsTrue (S.tells shelf.new) → (t : Task) → (s : Asking) →
-            IsHandling t s ask.now self.old (S.world shelf.old) → IsWorking t s self.new (S.world shelf.new)) }
+            IsHandling t s ask.now self.old (S.world shelf.old) →
+            AdvancesAt t s self.old (S.world shelf.old) self.new (S.world shelf.new)) }
         ensures undamaged { IfErr result (λ e. IsTrue (S.tells shelf.new) → (t : Task) → (s : Asking) →
             IsHandling t s ask.now self.old (S.world shelf.old) → IsNoDamage e) }
     {

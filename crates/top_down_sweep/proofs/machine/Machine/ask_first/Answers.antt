@@ -31,7 +31,7 @@ returns-clause-keeps g c = on_ok_weaker c.push.result (λ joins told t goes stan
     c.in-Some.ensures.1
     (c.in-Some-of.ensures.1 ∙ c.node.ensures ∙ ap (λ l. node_word l 0) c.level_at.ensures.level)
     (c.push.ensures.last ∙ c.requires.none) (ap (λ (q : Machine). q.place.phase) c.push.ensures.rest)
-    (subst (λ (a : Ask). JoinAsks c.push.new.self (g.S.Shelf.world c.push.new.shelf)
+    stands (subst (λ (a : Ask). JoinAsks c.push.new.self (g.S.Shelf.world c.push.new.shelf)
     (first_contents t) (a ∷ []))
     (λ i. record {
       key = c.in-Some.ensures.1 i;

@@ -1,7 +1,8 @@
+use Rattle.top_down_sweep.specs.declared.place.Phase.TheVariants as phases
 use Rattle.top_down.specs.Rules.{Rule}
 use Rattle.std.proofs.Common.{◌∙◌, sym, ap}
 use Rattle.list_laws.proofs.AnswerLaws.{on_ok_both}
-use Rattle.top_down_sweep.proofs.TurnKeeps.{works_remain, constant_remains}
+use Rattle.top_down_sweep.proofs.TurnKeeps.{works_remain, constant_remains, ended_left}
 use Rattle.top_down_sweep.proofs.FuelLaws.{end_falls}
 use Rattle.top_down_sweep.proofs.machine.Machine.begin.Goals as goal
 
@@ -24,5 +25,20 @@ pub returns-in_ok-ask_first-in-Go-clause-keeps : goal.returns-in_ok-ask_first-in
 returns-in_ok-ask_first-in-Go-clause-keeps g c told t rule fresh = works_remain t _
     c.ask_first.new.self.place.phase c.ask_first.new.self _
     (c.in_ok-ask_first-in-Go.ensures.keeps told t
-    (ap (λ (r : Rule). r.goal t.roots) rule ∙ ap (g.O.Operation.rule c.args.operation.now).goal (sym (c.roots-roots.ensures ∙ ap (g.O.Operation.begins c.args.operation.now) c.roots.ensures ∙ fresh.roots_are))
-    ∙ sym c.goal.ensures ∙ c.in-Go.is) fresh.stands)
+    (ap (λ (r : Rule). r.goal t.roots) rule
+    ∙ ap (g.O.Operation.rule c.args.operation.now).goal (sym (c.roots-roots.ensures
+    ∙ ap (g.O.Operation.begins c.args.operation.now) c.roots.ensures ∙ fresh.roots_are))
+    ∙ sym c.goal.ensures ∙ c.in-Go.is) fresh.stands).0
+
+-- one turn less remains, or none where it ended
+pub returns-in_ok-ask_first-in-Go-clause-fewer : goal.returns-in_ok-ask_first-in-Go-clause-fewer
+returns-in_ok-ask_first-in-Go-clause-fewer g c told t rule fresh =
+    (c.in_ok-ask_first-in-Go.ensures.keeps told t
+    (ap (λ (r : Rule). r.goal t.roots) rule
+    ∙ ap (g.O.Operation.rule c.args.operation.now).goal (sym (c.roots-roots.ensures
+    ∙ ap (g.O.Operation.begins c.args.operation.now) c.roots.ensures ∙ fresh.roots_are))
+    ∙ sym c.goal.ensures ∙ c.in-Go.is) fresh.stands).1
+
+pub returns-in-End-clause-fewer : goal.returns-in-End-clause-fewer
+returns-in-End-clause-fewer g c told t rule fresh = ended_left t phases.Fresh c.args.self.now
+    c.end.new.self (g.S.Shelf.world c.args.shelf.now) (g.S.Shelf.world c.end.new.shelf) c.end.result c.end.ensures.turn _ c.end.ensures.made

@@ -1,7 +1,8 @@
+use Rattle.top_down_sweep.specs.declared.place.Phase.TheVariants as phases
 use Rattle.node_reading.proofs.NodeReading.{if_handed}
 use Rattle.list_laws.proofs.AnswerLaws.{on_ok_both}
 use Rattle.top_down_sweep.specs.Changes.{ShowsAsk}
-use Rattle.top_down_sweep.proofs.TurnKeeps.{handling, works_remain, ended_remains}
+use Rattle.top_down_sweep.proofs.TurnKeeps.{handling, works_remain, ended_remains, fewer_since, ended_left}
 use Rattle.top_down_sweep.proofs.Holding.{never_unsound}
 use Rattle.top_down_sweep.proofs.Phases.{step_at}
 use Rattle.std.proofs.Common.{◌≡◌, ◌∙◌, sym, subst, arith, false}
@@ -94,10 +95,29 @@ returns-clause-keeps g c told t rule h = works_remain t _ c.handle.new.self.plac
     c.handle.new.self _ (c.in_ok-handle.ensures.keeps told t rule
     (handling t c.args.asking.now c.in-Some.ask c.args.self.now c.first_ask.new.self _ _ h
     c.first_ask.ensures.last
-    (subst (λ found. ShowsAsk c.first_ask.new.self
+    (subst (λ found. ShowsAsk c.first_ask.new.self (g.S.Shelf.world c.first_ask.new.shelf)
+    h.contents found) c.in-Some.is
+    (c.in_ok-ask.ensures.list (c.handle.ensures.does.leaves.content.before told) h.contents
+    h.stands)))).0
+
+-- one turn less remains, or none where it ended
+pub returns-clause-fewer : goal.returns-clause-fewer
+returns-clause-fewer g c told t rule h =
+    let shown = subst (λ found. ShowsAsk c.first_ask.new.self
     (g.S.Shelf.world c.first_ask.new.shelf) h.contents found) c.in-Some.is
     (c.in_ok-ask.ensures.list (c.handle.ensures.does.leaves.content.before told) h.contents
-    h.stands))))
+    h.stands) in
+    let after = c.in_ok-handle.ensures.keeps told t rule
+    (handling t c.args.asking.now c.in-Some.ask c.args.self.now c.first_ask.new.self _ _ h
+    c.first_ask.ensures.last shown) in
+    fewer_since t c.args.asking.now c.args.self.now c.first_ask.new.self c.handle.new.self
+    (g.S.Shelf.world c.args.shelf.now) (g.S.Shelf.world c.first_ask.new.shelf)
+    (g.S.Shelf.world c.handle.new.shelf) h.contents h.stands shown.2 after.1
+
+pub returns-in_default-clause-fewer : goal.returns-in_default-clause-fewer
+returns-in_default-clause-fewer g c told t rule h = ended_left t (phases.Asking c.args.asking.now)
+    c.args.self.now c.end.new.self (g.S.Shelf.world c.args.shelf.now)
+    (g.S.Shelf.world c.end.new.shelf) c.end.result c.end.ensures.turn _ c.end.ensures.made
 
 -- no damage is found
 pub returns-then-not-is_sound-clause-undamaged : goal.returns-then-not-is_sound-clause-undamaged

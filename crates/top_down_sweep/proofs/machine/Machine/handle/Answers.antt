@@ -1,7 +1,7 @@
 use Rattle.list_laws.proofs.AnswerLaws.{on_ok_both}
 use Rattle.top_down_sweep.proofs.Holding.{if_err_map, first_at, more_at}
-use Rattle.top_down_sweep.proofs.TurnKeeps.{again_works}
-use Rattle.top_down_sweep.proofs.WorkingOn.{works_at, not_last}
+use Rattle.top_down_sweep.proofs.TurnKeeps.{again_works, advances_at}
+use Rattle.top_down_sweep.proofs.WorkingOn.{not_last}
 use Rattle.std.proofs.lemmas.Result.{on_ok_weaker}
 use Rattle.top_down_sweep.proofs.SoundAsks.{again_sound}
 use Rattle.top_down_sweep.specs.Waiting.{is_first_at}
@@ -118,7 +118,7 @@ returns-then-eq-clause-keeps g c = on_ok c.take.result (λ told t rule h. absurd
 
 pub returns-then-want-clause-keeps : goal.returns-then-want-clause-keeps
 returns-then-want-clause-keeps g c = on_ok_weaker c.read_wanted.result (λ keeps told t rule h.
-    works_at t c.read_wanted.new.self c.args.asking.now _
+    advances_at t c.args.asking.now c.args.self.now c.read_wanted.new.self _ _
     (ap (λ (m : Machine). m.place.phase) c.read_wanted.ensures.rest ∙ c.requires.phase)
     (keeps told t c.args.asking.now h)) c.read_wanted.ensures.keeps
 

@@ -1,6 +1,7 @@
+use Rattle.std.proofs.Common.{sym, subst}
+use Rattle.top_down_sweep.specs.Turns.{TurnsFall}
 use Rattle.top_down_sweep.proofs.Holding.{if_err_map}
 use Rattle.std.proofs.lemmas.Result.{on_ok_weaker}
-use Rattle.std.proofs.Common.{subst}
 use Rattle.top_down_sweep.specs.Meaning.{RemainsIn}
 use Rattle.top_down_sweep.proofs.Phases.{fresh_step, asking_step}
 use Rattle.top_down_sweep.proofs.machine.Machine.turn.Goals as goal
@@ -41,3 +42,22 @@ returns-in-Asking-clause-undamaged g c = if_err_map c.go_on.result (λ e none to
     none told t (subst (λ p. RemainsIn t (g.O.Operation.begins c.args.operation.now) p c.args.self.now
     (g.S.Shelf.world c.args.shelf.now)) c.in-Asking.is remains))
     c.go_on.ensures.undamaged
+
+-- one turn less remains, or none where it ended
+pub returns-in-Fresh-clause-fewer : goal.returns-in-Fresh-clause-fewer
+returns-in-Fresh-clause-fewer g c told t rule remains =
+    let old = g.S.Shelf.world c.args.shelf.now in
+    let begins = g.O.Operation.begins c.args.operation.now in
+    subst (λ p. TurnsFall t p c.args.self.now old c.begin.new.self
+    (g.S.Shelf.world c.begin.new.shelf) c.begin.result) (sym c.in-Fresh.is)
+    (c.begin.ensures.fewer told t rule
+    (subst (λ p. RemainsIn t begins p c.args.self.now old) c.in-Fresh.is remains))
+
+pub returns-in-Asking-clause-fewer : goal.returns-in-Asking-clause-fewer
+returns-in-Asking-clause-fewer g c told t rule remains =
+    let old = g.S.Shelf.world c.args.shelf.now in
+    let begins = g.O.Operation.begins c.args.operation.now in
+    subst (λ p. TurnsFall t p c.args.self.now old c.go_on.new.self
+    (g.S.Shelf.world c.go_on.new.shelf) c.go_on.result) (sym c.in-Asking.is)
+    (c.go_on.ensures.fewer told t rule
+    (subst (λ p. RemainsIn t begins p c.args.self.now old) c.in-Asking.is remains))

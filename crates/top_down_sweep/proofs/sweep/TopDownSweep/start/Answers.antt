@@ -1,5 +1,8 @@
+use Rattle.top_down_sweep.specs.Meaning.{first_contents}
+use Rattle.std.proofs.Common.{◌+◌, ◌*◌, ◌≡◌, ap, inl, ◌∙◌, [], sym, subst, arith}
+use Rattle.std.specs.Prelude.{length}
+use Rattle.top_down_sweep.proofs.TurnNumbers.{unread_is}
 use Rattle.top_down_laws.specs.Laws.{unread_all}
-use Rattle.std.proofs.Common.{◌≡◌, ap, inl, ◌∙◌, [], sym, subst, arith}
 use Rattle.sweep_core.specs.Sweeps.{IsNoDamage}
 use Rattle.top_down_sweep.specs.Waiting.{AreApart}
 use Rattle.top_down_sweep.specs.Sweeps.{files_in}
@@ -112,3 +115,17 @@ returns-in_err-operands-clause-undamaged g c = if_handed _ c.from_residual.resul
 pub returns-in_err-writer-clause-undamaged : goal.returns-in_err-writer-clause-undamaged
 returns-in_err-writer-clause-undamaged g c = if_handed _ c.from_residual-in_err-writer.result _ c.from_residual-in_err-writer.ensures.1
     (λ told t is. subst (λ e. IsNoDamage (handed_on e)) (sym c.in_err-writer.ensures.cause) tt)
+
+-- no more turns than these remain
+pub returns-clause-left : goal.returns-clause-left
+returns-clause-left g c told w is =
+    let m : Machine = record {
+      place = record { variables = c.args.n; phase = Fresh };
+      operands = c.in_ok-operands.operands;
+      queue = c.start-3.result;
+      writer = c.in_ok-writer.writer;
+      parts = c.args.parts;
+    } in
+    ap (λ nodes. 6 * length w.tuples + nodes + 5) (unread_is m
+    (g.S.Shelf.world c.start-2.new.shelf) (first_contents w.task)
+    (returns-clause-remains g c told w.task is).1.stands)

@@ -16,3 +16,8 @@ returns-clause-whole g c = on_ok_weaker c.turn.result
 pub returns-clause-undamaged : goal.returns-clause-undamaged
 returns-clause-undamaged g c = if_err_map c.turn.result
     (λ e none told t remains. none told t remains.1) c.turn.ensures.undamaged
+
+-- one turn less remains, or none where it ended
+pub returns-clause-fewer : goal.returns-clause-fewer
+returns-clause-fewer g c told w remains = c.turn.ensures.fewer told w.task remains.0 remains.1
+    w.tuples w.all_met
