@@ -13,3 +13,4 @@ pub mod Meaning
 pub mod Changes
 pub mod Turns
 pub mod Tasks
+pub mod Beginning

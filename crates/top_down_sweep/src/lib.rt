@@ -4,6 +4,7 @@
 mod answering;
 mod ask;
 mod asks;
+mod beginning;
 mod choice;
 mod goals;
 pub mod laws;
@@ -21,6 +22,7 @@ mod sweep;
 mod turning;
 mod writing;
 
+pub use beginning::OperandFiles;
 pub use choice::Choice;
 pub use operation::Operation;
 pub use product::Product;
