@@ -36,7 +36,7 @@ waits_once level m = by ((m.low == m.high) && (level_of m.low == level))
     by true = omega arith
     by false = omega arith
 
-three_stages : (f : Form) → stages f ≤ 3
+pub three_stages : (f : Form) → stages f ≤ 3
 three_stages f = omega (
   arith,
   waits_once (level_of f.key) f.first,

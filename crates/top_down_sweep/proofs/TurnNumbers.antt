@@ -1,14 +1,12 @@
 -- How many turns remain, by the numbers of a machine and by those of the lists that it stands for.
-use Rattle.std.proofs.Common.{◌≡◌, ℕ, ◌≤◌, ◌+◌, ◌-◌, ◌*◌, ◌∙◌, Bool, true, false, cond, List, [], ◌∷◌, length, refl, sym, ap, arith}
+use Rattle.std.proofs.Common.{◌≡◌, ℕ, ◌≤◌, ◌+◌, ◌-◌, ◌*◌, ◌∙◌, Bool, cond, List, [], ◌∷◌, length, refl, sym, ap, arith}
 use Rattle.std.specs.Prelude.{zero, suc, Option, Some, None, map, option_map, nat_le, get_or}
 use Rattle.std.specs.List.{sum_by, count_by}
 use Rattle.std.proofs.lemmas.List.{length-map, length-append}
 use Rattle.std.proofs.lemmas.List.Sums.{sum_by-cons, sum_by-le}
-use Rattle.rec_words.specs.Words.{level_of}
 use Rattle.rec_words.specs.declared.rec.Rec.{Rec}
 use Rattle.rec_words.specs.declared.node.Node.{Node}
 use Rattle.shelf_model.specs.World.{World}
-use Rattle.canon_file.specs.declared.row.Row.{Row}
 use Rattle.run_files.specs.Items.{record_of}
 use Rattle.node_file.specs.Readers.{left_of}
 use Rattle.level_queue.specs.Queues as queues
@@ -19,8 +17,8 @@ use Rattle.top_down_laws.specs.Forms as forms
 use Rattle.top_down_laws.specs.Readings as readings
 use Rattle.top_down_laws.specs.Remains as laws
 use Rattle.top_down_laws.specs.Laws.{unread_all}
-use Rattle.top_down_laws.specs.Turns.{waits_at, stages, unread_count, owed, sides_count, IsCounted}
-use Rattle.top_down_laws.proofs.TurnCounts.{turns_are_few}
+use Rattle.top_down_laws.specs.Turns.{stages, unread_count, owed, sides_count, IsCounted}
+use Rattle.top_down_laws.proofs.TurnCounts.{three_stages, turns_are_few}
 use Rattle.top_down_sweep.specs.declared.ask.Ask.{Ask}
 use Rattle.top_down_sweep.specs.declared.operand.Operand.{Operand}
 use Rattle.top_down_sweep.specs.declared.place.Numbered.{Numbered}
@@ -80,21 +78,6 @@ sum_mapped g f (x ∷ xs) =
     let other : sum_by (λ y. g (f y)) (x ∷ xs) ≡ g (f x) + sum_by (λ y. g (f y)) xs =
     sum_by-cons (λ y. g (f y)) x xs in
     omega (arith, rest, first, other)
-
-waits_once : (level : ℕ) (m : Row) → waits_at level m ≤ 1
-waits_once level m = once _
-  where
-    once : (b : Bool) → cond b 1 0 ≤ 1
-    once true = omega arith
-    once false = omega arith
-
-three_stages : (f : forms.Form) → stages f ≤ 3
-three_stages f = omega (
-  arith,
-  waits_once (level_of f.key) f.first,
-  waits_once (level_of f.key) f.second,
-  waits_once (level_of f.key) f.third,
-)
 
 few_stages : (waiting : List forms.Waiting)
     → sum_by (λ (a : forms.Waiting). stages a.form) waiting ≤ length waiting * 3
