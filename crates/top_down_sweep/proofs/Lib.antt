@@ -19,3 +19,4 @@ pub mod TurnKeeps
 pub mod ReadKeeps
 pub mod StartKeeps
 pub mod TaskLaws
+pub mod Makings

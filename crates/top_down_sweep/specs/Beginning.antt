@@ -29,11 +29,16 @@ files_from operands parts = record {
   ends = record { step = parts.step; part = parts.next + 1 };
 }
 
+-- it is sound, and the files of arcs that it makes are two
+pub record IsReady {O : Type 0} (s : TopDownSweep O) : Type 0 where
+  pub sound : IsSound s
+  pub two_files : (files_of s).inner ≢ (files_of s).ends
+
 -- the sweep reads and makes those files and takes those parts from then on, nothing was made, and
 -- at most eight calls were made or are paid for
 pub record Begun {S O : Type 0} (tells : S → Bool) (world : S → World) (files : Files)
     (parts : Parts) (before after : S) (s : TopDownSweep O) : Type 0 where
-  pub ready : IsSound s
+  pub ready : IsReady s
   pub in_step : IsTrue (tells after) → IsInStep s (world after)
   pub files_are : files_of s ≡ files
   pub parts_are : parts_of s ≡ parts

@@ -14,3 +14,4 @@ pub mod Changes
 pub mod Turns
 pub mod Tasks
 pub mod Beginning
+pub mod Making
