@@ -1,10 +1,11 @@
 // The lines that list a folder's diagrams.
 ghost use Rattle.std.specs.Prelude.{◌≡◌};
 
-use crate::tests::{ROW, node};
-use catalogue::{CATALOGUE, Entry, JOB_GATE, attach, commit};
+use crate::tests::{ROW, first_bytes, node};
+use catalogue::{CATALOGUE, Entry, JOB_GATE, STEP_GATE, attach, commit};
 use diagram_list::{ListFault, MOST_STEPS, list_diagrams};
 use shelf_memory::Bench;
+use shelf_model::Shelf;
 use std::alloc::Global;
 use std::test::Fail;
 
@@ -65,18 +66,18 @@ fn lists_an_empty_folder(rt: HostRuntime) -> Result<(), Fail> {
     Ok(())
 }
 
-// Whether nothing is said where the kind of the last entry is none.
+// Whether nothing is said where the kind of the first entry is none.
 fn refuses_a_kind(alloc: Global) -> Result<bool, Fail> {
     let mut room = vec![in alloc; false; MOST_STEPS]?;
-    let mut bench = three_and_a_drop(alloc)?;
-    let mut bytes = Vec::from_slice(alloc, bench.file(CATALOGUE))?;
-    if let Some(kind) = bytes.get_mut(388) {
-        *kind = 9;
-    }
-    bench.put_file(CATALOGUE, bytes.as_slice())?;
+    let mut bytes = first_bytes();
+    bytes[4] = 9;
+    let mut bench = Bench::empty(alloc);
+    bench.append(CATALOGUE, 0, &bytes)?;
+    bench.append(JOB_GATE, 0, &[0])?;
+    bench.append(STEP_GATE, 0, &[0])?;
     let damaged = ListFault::Damaged {
         file: CATALOGUE,
-        at: 384,
+        at: 0,
     };
     let refused = list_diagrams(room.as_mut_slice(), &mut bench) == Err(damaged);
     Ok(refused && bench.said().is_empty())

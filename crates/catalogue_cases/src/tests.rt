@@ -131,7 +131,7 @@ fn empties_a_gate_of_no_job(rt: HostRuntime) -> Result<(), Fail> {
 }
 
 // The bytes of `node(0, b'f')`.
-fn first_bytes() -> [u8; 128] {
+pub(crate) fn first_bytes() -> [u8; 128] {
     let mut bytes = [0; 128];
     bytes[4] = 1;
     bytes[6] = 1;
