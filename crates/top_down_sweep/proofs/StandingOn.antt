@@ -43,6 +43,7 @@ use Rattle.top_down_sweep.specs.Waiting.{Waits, AreApart}
 use Rattle.top_down_sweep.specs.Calls.{HoldsAt}
 use Rattle.top_down_sweep.specs.Meaning.{Contents, IsReadOf, AreRead, StandsFor}
 use Rattle.top_down_sweep.specs.Changes.{ShowsAsk, TakesAsk, JoinAsks}
+use Rattle.top_down_sweep.proofs.OwnRuns.{serves_past}
 use Rattle.top_down_sweep.proofs.Holding.{SameApart, apart_written, apart_spilled, looked_same, runs_apart}
 
 -- the asks that wait ascend
@@ -135,7 +136,7 @@ pub stands_spilled : (m : Machine) (q : LevelQueue Ask) (after : Parts) (old new
 stands_spilled m q after old new k asks served are spilled took runs waits stands = record {
   asks_are = waits;
   read = all_still m old new k.readings are
-      (apart_spilled m after old new served.serves.past_made spilled) stands.apart stands.read;
+      (apart_spilled m after old new (serves_past m.parts m.queue served.serves) spilled) stands.apart stands.read;
   written = arcs_still m.writer old new k.inner k.ends (untaken _ served.inner_made)
       (untaken _ served.ends_made) stands.written;
   no_run = runs_apart m q after served runs stands.no_run;

@@ -41,7 +41,7 @@ impl<'r, O: Operation> TopDownSweep<'r, O> {
     ghost use Rattle.top_down_sweep.specs.Damage.{IsStartFault};
     ghost use Rattle.top_down_sweep.specs.Calls.{IsInStep};
     ghost use Rattle.sweep_core.specs.Sweeps.{IsNoDamage};
-    ghost use Rattle.std.specs.Prelude.{◌*◌};
+    ghost use Rattle.std.specs.Prelude.{◌+◌, ◌*◌};
     ghost use Rattle.top_down_sweep.specs.Meaning.{Task, IsTaskOn, Remains};
     ghost use Rattle.top_down_sweep.specs.Turns.{Work, nodes_of, left_of};
 

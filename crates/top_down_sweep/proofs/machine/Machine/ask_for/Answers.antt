@@ -1,11 +1,12 @@
 use Rattle.top_down_sweep.specs.Changes.{JoinAsks}
 use Rattle.top_down_sweep.specs.declared.ask.Ask.{Ask}
-use Rattle.std.proofs.Common.{[], ◌∷◌, subst, sym}
+use Rattle.std.proofs.Common.{◌≡◌, false, [], ◌∷◌, subst, sym}
 use Rattle.std.proofs.lemmas.Result.{on_ok_weaker}
 use Rattle.top_down_sweep.specs.declared.ask.Members.{Members}
 use Rattle.top_down_sweep.specs.Waiting.{is_first_at, Fits}
 use Rattle.rec_words.specs.Words.{level_of}
-use Rattle.top_down_sweep.proofs.Holding.{deeper_fits}
+use Rattle.top_down_sweep.specs.declared.machine.Machine.{Machine}
+use Rattle.top_down_sweep.proofs.Holding.{deeper_fits, holds_later}
 use Rattle.top_down_sweep.proofs.SoundAsks.{side_sound, side_deeper}
 use Rattle.top_down_sweep.proofs.machine.Machine.ask_for.Goals as goal
 
@@ -29,3 +30,9 @@ returns-clause-list g c = on_ok_weaker c.push.result (λ joins told k stands.
       members = c.of.ensures i;
       asker = c.word.ensures i;
     }) (joins told k stands)) c.push.ensures.list
+
+-- tuples have numbers, so it doesn't matter how many wait
+pub returns-clause-holds : goal.returns-clause-holds
+returns-clause-holds g c = on_ok_weaker c.push.result (λ holds told. holds_later 0 c.push.new.self
+    (g.S.Shelf.world c.push.new.shelf) (subst (λ (m : Machine). is_first_at m.place.phase ≡ false)
+    (sym c.push.ensures.rest) c.requires.numbered) (holds told)) c.push.ensures.holds
