@@ -1,0 +1,118 @@
+//! A quantifier over a variable of a diagram, as a sweep.
+use arc_file::Unreduced;
+use bool_tables::Quant;
+use rec_words::Rec;
+use run_merge::Parts;
+use shelf_model::{FileNo, Shelf, SortFault};
+use sweep_core::{Sweep, Turn};
+use top_down_sweep::laws::operations_on_canonical_files_are_tasks;
+use top_down_sweep::{OperandFiles, Quantified, TopDownSweep};
+
+/// A quantifier over a variable of a diagram, level by level from the root down. It makes the arcs of a diagram that
+/// isn't reduced.
+///
+/// After a refusal it isn't used again.
+#[derive(Drop)]
+pub struct QuantifySweep<'r> {
+    sweep: TopDownSweep<'r, Quantified>,
+}
+
+impl<'r> QuantifySweep<'r> {
+    ghost use Rattle.std.specs.Prelude.{◌≡◌, ◌≤◌, ◌<◌, ◌∷◌, [], Bool, List, IsTrue, IfOk, IfErr, length};
+    ghost use Rattle.bool_tables.specs.Steps.{step_table};
+    ghost use Rattle.bool_tables.specs.declared.steps.Step.TheVariants.{Quantify};
+    ghost use Rattle.sweep_core.specs.Accounts.{CanBeTaken};
+    ghost use Rattle.sweep_core.specs.Sweeps.{IsNoDamage};
+    ghost use Rattle.top_down_sweep.specs.Beginning.{after_two, files_from, Begun, Starts};
+    ghost use Rattle.top_down_sweep.specs.Sweeps.{parts_of};
+    ghost use Rattle.top_down_sweep.specs.Tasks.{IsCanonicalFile};
+    ghost use Rattle.quantify.specs.Quantifiers.{operands, sweep_of, MakesTable, GivesArcs};
+
+    /// Begins the quantifier over the variable of a level, on the file of a diagram of `n` variables. The next two
+    /// parts are its files of arcs, and those behind them are for its queue.
+    pub fn start<S: Shelf>(
+        kind: Quant,
+        n: u32,
+        f: FileNo,
+        level: u32,
+        parts: Parts,
+        room: &'r mut [Rec],
+        shelf: &mut S,
+    ) -> Result<QuantifySweep<'r>, SortFault>
+        requires room { 16384 ≤ length room.old }
+        requires within { level < n }
+        requires past_made { 3 ≤ parts.next }
+        ensures begun { IfOk result (λ s. Begun S.tells S.world (files_from (operands f) parts) (after_two parts)
+            shelf.old shelf.new (sweep_of s)) }
+        ensures leaves { Starts S.tells S.world S.faults n (files_from (operands f) parts) parts
+            shelf.old shelf.new result }
+
+        // of a canonical file the quantifier's table remains to be made, and it isn't damaged
+        ensures means { IfOk result (λ s. IsTrue (S.tells shelf.new) → (t : List Bool) →
+            IsCanonicalFile n t f (S.world shelf.old) →
+            ¬ CanBeTaken parts.step 3 f →
+            MakesTable s (S.world shelf.new)
+            (record { n = n; table = step_table n (t ∷ []) (Quantify kind 0 level) })) }
+        ensures undamaged { IfErr result (λ e. IsTrue (S.tells shelf.new) → (t : List Bool) →
+            IsCanonicalFile n t f (S.world shelf.old) →
+            ¬ CanBeTaken parts.step 3 f → IsNoDamage e) }
+    {
+        operations_on_canonical_files_are_tasks();
+        let operands = OperandFiles {
+            first: f,
+            second: f,
+            third: f,
+        };
+        let operation = Quantified {
+            kind,
+            variable: level,
+        };
+        let sweep = TopDownSweep::begin(operation, n, operands, parts, room, shelf)?;
+        Ok(QuantifySweep { sweep })
+    }
+
+    /// The arcs that it made, once it has ended.
+    pub fn made(&self) -> Option<Unreduced>
+        ensures { GivesArcs self.now result }
+    {
+        self.sweep.made()
+    }
+
+    /// The part numbers that weren't taken.
+    pub fn parts(&self) -> Parts
+        ensures { result ≡ parts_of (sweep_of self.now) }
+    {
+        self.sweep.parts()
+    }
+}
+
+impl<'r> Sweep<'r> for QuantifySweep<'r> {
+    ghost use Rattle.top_down_sweep.specs.Beginning.{IsReady};
+    ghost use Rattle.top_down_sweep.specs.Calls.{IsInStep};
+    ghost use Rattle.top_down_sweep.specs.Damage.{IsDamage};
+    ghost use Rattle.top_down_sweep.specs.Fuel.{fuel_of};
+    ghost use Rattle.top_down_sweep.specs.Making.{TableJob, accounts_along};
+    ghost use Rattle.top_down_sweep.specs.Sweeps.{accounts};
+    ghost use Rattle.top_down_sweep.specs.declared.quantified.Quantified.{Quantified};
+    ghost use Rattle.quantify.specs.Quantifiers.{sweep_of, MakesTable};
+
+    ghost Job = { TableJob };
+
+    ghost remains = { MakesTable };
+
+    ghost fuel = { λ s. fuel_of (sweep_of s) };
+
+    ghost left = { λ s world job. fuel_of (sweep_of s) };
+
+    ghost accounts = { accounts_along sweep_of (accounts Quantified) };
+
+    ghost damaged = { λ s world e. IsDamage (sweep_of s) world e };
+
+    ghost ready = { λ s. IsReady (sweep_of s) };
+
+    ghost in_step = { λ s world. IsInStep (sweep_of s) world };
+
+    fn turn<S: Shelf>(&mut self, shelf: &mut S) -> Result<Turn, SortFault> {
+        Sweep::turn(&mut self.sweep, shelf)
+    }
+}
