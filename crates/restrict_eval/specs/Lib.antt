@@ -4,3 +4,4 @@ pub mod Turns
 pub mod Same
 pub mod Missing
 pub mod Eval
+pub mod Restrictions

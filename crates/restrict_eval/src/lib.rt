@@ -1,10 +1,13 @@
-//! The sweeps without a queue: whether two diagrams are the same, and the value of one at an assignment.
+//! Sweeps over one or two diagrams: whether two are the same, the value of one at an assignment, and one in which a
+//! variable has a value.
 #![tactic(auto)]
 
 mod comparing;
 mod eval;
 mod following;
+mod restrict;
 mod same;
 
 pub use eval::EvalSweep;
+pub use restrict::RestrictSweep;
 pub use same::SameSweep;

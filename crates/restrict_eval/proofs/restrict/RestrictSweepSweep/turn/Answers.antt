@@ -1,0 +1,15 @@
+use Rattle.std.specs.Prelude.{IsTrue}
+use Rattle.top_down_sweep.proofs.Makings.{keeps_making, undamaged_making}
+use Rattle.restrict_eval.specs.Restrictions.{sweep_of, rule_of, begins_of}
+use Rattle.restrict_eval.proofs.restrict.RestrictSweepSweep.turn.Goals as goal
+
+-- what keeps each task keeps each table
+pub returns-clause-keeps : goal.returns-clause-keeps
+returns-clause-keeps g c = keeps_making rule_of begins_of (IsTrue (g.S.Shelf.tells c.turn.new.shelf))
+    c.turn.result (sweep_of c.args.self.now) c.turn.new.self (g.S.Shelf.world c.args.shelf.now)
+    (g.S.Shelf.world c.turn.new.shelf) c.turn.ensures.keeps
+
+pub returns-clause-undamaged : goal.returns-clause-undamaged
+returns-clause-undamaged g c = undamaged_making rule_of begins_of
+    (IsTrue (g.S.Shelf.tells c.turn.new.shelf)) c.turn.result (sweep_of c.args.self.now)
+    (g.S.Shelf.world c.args.shelf.now) c.turn.ensures.undamaged
