@@ -113,6 +113,6 @@ impl<'r> Sweep<'r> for QuantifySweep<'r> {
     ghost in_step = { λ s world. IsInStep (sweep_of s) world };
 
     fn turn<S: Shelf>(&mut self, shelf: &mut S) -> Result<Turn, SortFault> {
-        Sweep::turn(&mut self.sweep, shelf)
+        TopDownSweep::turn(&mut self.sweep, shelf)
     }
 }
