@@ -66,15 +66,21 @@ fn lists_an_empty_folder(rt: HostRuntime) -> Result<(), Fail> {
     Ok(())
 }
 
-// Whether nothing is said where the kind of the first entry is none.
-fn refuses_a_kind(alloc: Global) -> Result<bool, Fail> {
-    let mut room = vec![in alloc; false; MOST_STEPS]?;
+// A folder whose first entry has a kind that is none.
+fn entry_of_no_kind(alloc: Global) -> Result<Bench, Fail> {
     let mut bytes = first_bytes();
     bytes[4] = 9;
     let mut bench = Bench::empty(alloc);
     bench.append(CATALOGUE, 0, &bytes)?;
     bench.append(JOB_GATE, 0, &[0])?;
     bench.append(STEP_GATE, 0, &[0])?;
+    Ok(bench)
+}
+
+// Whether nothing is said there.
+fn refuses_a_kind(alloc: Global) -> Result<bool, Fail> {
+    let mut room = vec![in alloc; false; MOST_STEPS]?;
+    let mut bench = entry_of_no_kind(alloc)?;
     let damaged = ListFault::Damaged {
         file: CATALOGUE,
         at: 0,
