@@ -1,8 +1,9 @@
-ghost use Rattle.std.specs.Prelude.{IsTrue, OnOk, IfErr, ◌*◌};
+ghost use Rattle.std.specs.Prelude.{◌≡◌, ◌+◌, ◌*◌, ◌-◌, ◌^◌, ◌<◌, ◌≤◌, IsTrue, IsErrOf, OnOk, IfOk, IfErr};
 ghost use Rattle.shelf_model.specs.declared.file_no.FileNo.{FileNo};
 ghost use Rattle.shelf_model.specs.World.{file};
 ghost use Rattle.sweep_core.specs.Accounts.{Leaves};
 ghost use Rattle.sweep_core.specs.Sweeps.{MovesOn, AtEnd, IsFirm, IsNoDamage};
+ghost use Rattle.sweep_core.specs.Counted.{Costs};
 
 use crate::{Sweep, Turn};
 use shelf_model::{Shelf, SortFault};
@@ -35,6 +36,8 @@ pub fn drive<'r, P: Sweep<'r>, S: Shelf>(
     // what the turns leave, and what they cost
     ensures leaves { Leaves S.tells S.world S.faults P.accounts (224 * turns) (12 * turns)
         shelf.old shelf.new sweep.old sweep.new result }
+    ensures same { P.task sweep.new ≡ P.task sweep.old }
+    ensures spent { IsErrOf result SortFault.RunsSpent → 2 ^ 32 ≤ P.accounts.next sweep.new }
 {
     for _turn in 0..turns {
         if sweep.turn(shelf)? == Turn::Ended {
@@ -42,4 +45,45 @@ pub fn drive<'r, P: Sweep<'r>, S: Shelf>(
         }
     }
     Ok(Turn::More)
+}
+
+/// Makes turns of a sweep until it ends, and answers how many they were: at least one, and as many as 64 bits count.
+///
+/// What a turn refuses is handed on as it is.
+pub fn run_to_end<'r, P: Sweep<'r>, S: Shelf>(
+    sweep: &mut P,
+    shelf: &mut S,
+) -> Result<u64, SortFault>
+    requires ready { P.ready sweep.old }
+    requires in_step { IsTrue (S.tells shelf.old) → P.in_step sweep.old (S.world shelf.old) }
+    ensures ready { OnOk result (P.ready sweep.new) }
+    ensures in_step { OnOk result (IsTrue (S.tells shelf.new) → P.in_step sweep.new (S.world shelf.new)) }
+    ensures ended { OnOk result (P.fuel sweep.new ≡ 0) }
+    ensures firm { OnOk result (IsTrue (S.tells shelf.new) → (f : FileNo) →
+        P.accounts.makes sweep.new f → IsFirm (file (S.world shelf.new) f)) }
+
+    // what remains
+    ensures keeps { OnOk result (IsTrue (S.tells shelf.new) → (job : P.Job) →
+        P.remains sweep.old (S.world shelf.old) job → P.remains sweep.new (S.world shelf.new) job) }
+    ensures damage { IfErr result (λ e. IsTrue (S.tells shelf.new) → P.damaged sweep.new (S.world shelf.new) e) }
+    ensures undamaged { IfErr result (λ e. IsTrue (S.tells shelf.new) → (job : P.Job) →
+        P.remains sweep.old (S.world shelf.old) job → IsNoDamage e) }
+
+    // what the turns leave; what they cost by their number, by what is known to remain, and whatever the folder holds
+    ensures leaves { Leaves S.tells S.world S.faults P.accounts
+        (224 * (P.fuel sweep.old + 1)) (12 * (P.fuel sweep.old + 1)) shelf.old shelf.new sweep.old sweep.new result }
+    ensures counted { IfOk result (λ turns. (0 < turns) × (turns < 2 ^ 64 - 1 →
+        Costs S.tells S.world P.accounts turns shelf.old shelf.new sweep.old sweep.new)) }
+    ensures few { IsTrue (S.tells shelf.new) → (job : P.Job) → P.remains sweep.old (S.world shelf.old) job →
+        IfOk result (λ turns. turns ≤ P.left sweep.old (S.world shelf.old) job + 1)
+        × Costs S.tells S.world P.accounts (P.left sweep.old (S.world shelf.old) job + 1)
+        shelf.old shelf.new sweep.old sweep.new }
+    ensures same { P.task sweep.new ≡ P.task sweep.old }
+    ensures spent { IsErrOf result SortFault.RunsSpent → 2 ^ 32 ≤ P.accounts.next sweep.new }
+{
+    let mut turns: u64 = 1;
+    'turns: while sweep.turn(shelf)? == Turn::More {
+        turns = turns.saturating_add(1);
+    }
+    Ok(turns)
 }

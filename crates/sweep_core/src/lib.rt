@@ -5,6 +5,6 @@ mod driver;
 mod sweep;
 mod turn;
 
-pub use driver::drive;
+pub use driver::{drive, run_to_end};
 pub use sweep::Sweep;
 pub use turn::Turn;

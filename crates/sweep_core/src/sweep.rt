@@ -7,7 +7,7 @@ use shelf_model::{Shelf, SortFault};
 /// each turn keeps. A turn changes no file but the sweep's own, and keeps of these what was kept; it leaves
 /// fewer turns, makes few calls and takes few parts. After a refusal a sweep isn't used again.
 pub trait Sweep<'r>: Sized {
-    ghost use Rattle.std.specs.Prelude.{◌≡◌, ℕ, IsTrue, OnOk, IfErr};
+    ghost use Rattle.std.specs.Prelude.{◌≡◌, ℕ, ◌^◌, ◌≤◌, IsTrue, IsErrOf, OnOk, IfErr};
     ghost use Rattle.shelf_model.specs.declared.file_no.FileNo.{FileNo};
     ghost use Rattle.shelf_model.specs.declared.sort_fault.SortFault.{SortFault};
     ghost use Rattle.shelf_model.specs.World.{World, file};
@@ -31,6 +31,11 @@ pub trait Sweep<'r>: Sized {
 
     /// Where a file is damaged, once a turn has said so.
     ghost damaged: { Self → World → SortFault → Type 0 };
+
+    /// What no turn changes, as the files that are read.
+    ghost Task: { Type 0 };
+
+    ghost task: { Self → Task };
 
     /// What is true of the sweep between turns, whatever the folder holds.
     ghost ready: { Self → Type 0 };
@@ -60,5 +65,7 @@ pub trait Sweep<'r>: Sized {
             remains self.old (S.world shelf.old) job → IsNoDamage e) }
 
         // what the call leaves, and what it costs
-        ensures leaves { Leaves S.tells S.world S.faults accounts 224 12 shelf.old shelf.new self.old self.new result };
+        ensures leaves { Leaves S.tells S.world S.faults accounts 224 12 shelf.old shelf.new self.old self.new result }
+        ensures same { task self.new ≡ task self.old }
+        ensures spent { IsErrOf result SortFault.RunsSpent → 2 ^ 32 ≤ accounts.next self.new };
 }

@@ -1,4 +1,4 @@
-use Rattle.std.proofs.Common.{IsTrue, ◌+◌, ◌*◌, ◌≤◌}
+use Rattle.std.proofs.Common.{◌≡◌, IsTrue, ◌+◌, ◌*◌, ◌≤◌}
 use Rattle.std.specs.Prelude.{Ok}
 use Rattle.sweep_core.specs.Accounts.{Leaves}
 use Rattle.sweep_core.specs.declared.turn.Turn.{Turn}
@@ -15,4 +15,5 @@ invariant-loop-turn g l = record {
   fewer : IsTrue (g.S.Shelf.tells l.shelf) → (job : g.P.Sweep.Job) → g.P.Sweep.remains l.fn.sweep (g.S.Shelf.world l.fn.shelf) job
       → g.P.Sweep.left l.sweep (g.S.Shelf.world l.shelf) job + l._turn ≤ g.P.Sweep.left l.fn.sweep (g.S.Shelf.world l.fn.shelf) job;
   leaves : Leaves {T = Turn} g.S.Shelf.tells g.S.Shelf.world g.S.Shelf.faults g.P.Sweep.accounts (224 * l._turn) (12 * l._turn) l.fn.shelf l.shelf l.fn.sweep l.sweep (Ok More);
+  same : g.P.Sweep.task l.sweep ≡ g.P.Sweep.task l.fn.sweep;
 }
