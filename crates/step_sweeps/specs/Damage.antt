@@ -1,0 +1,45 @@
+-- Where a step that sweeps finds a file damaged.
+use Rattle.std.specs.Prelude.{◌≡◌, ◌⊎◌, ℕ}
+use Rattle.shelf_model.specs.declared.file_no.FileNo.{FileNo}
+use Rattle.shelf_model.specs.declared.sort_fault.SortFault.{SortFault}
+use Rattle.shelf_model.specs.declared.sort_fault.SortFault.TheVariants.{Shelf, Damaged, RunsSpent}
+use Rattle.shelf_model.specs.World.{World, file}
+use Rattle.node_reading.specs.Reading.{IsDamagedNode, IsTrailerFault}
+use Rattle.sweep_core.specs.Accounts.{CanBeTaken}
+use Rattle.top_down_sweep.specs.declared.beginning.OperandFiles.{OperandFiles}
+use Rattle.top_down_sweep.specs.Damage.{IsAbsent}
+
+-- the file has no trailer for n variables where one has to stand, a record is that of no node that may stand there or
+-- isn't in order, or a node that is asked for isn't there
+abbrev pub IsDamagedFile : ℕ → FileNo → World → FileNo → ℕ → Type 0
+IsDamagedFile n read world f at = (f ≡ read) × (IsTrailerFault read n world (Damaged f at)
+    ⊎ (IsDamagedNode n (file world read).bytes at ⊎ ((key : ℕ) × IsAbsent (file world read).bytes key at)))
+
+-- so is one of the operands
+abbrev pub IsDamagedOperand : ℕ → OperandFiles → World → FileNo → ℕ → Type 0
+IsDamagedOperand n operands world f at = IsDamagedFile n operands.first world f at
+    ⊎ (IsDamagedFile n operands.second world f at ⊎ IsDamagedFile n operands.third world f at)
+
+-- a fault of a step that makes arcs: that of an operand
+abbrev pub IsArcsFault : ℕ → OperandFiles → World → SortFault → Type 0
+IsArcsFault n operands world Shelf = Unit
+IsArcsFault n operands world (Damaged f at) = IsDamagedOperand n operands world f at
+IsArcsFault n operands world RunsSpent = Unit
+
+-- a fault of a step that makes a diagram: that of an operand, or of a file of arcs that the step wrote itself
+abbrev pub IsDiagramFault : ℕ → OperandFiles → ℕ → World → SortFault → Type 0
+IsDiagramFault n operands number world Shelf = Unit
+IsDiagramFault n operands number world (Damaged f at) = IsDamagedOperand n operands world f at ⊎ CanBeTaken number 3 f
+IsDiagramFault n operands number world RunsSpent = Unit
+
+-- a fault of a step that reduces arcs: that of a file of its own
+abbrev pub IsOwnFault : ℕ → SortFault → Type 0
+IsOwnFault number Shelf = Unit
+IsOwnFault number (Damaged f at) = CanBeTaken number 3 f
+IsOwnFault number RunsSpent = Unit
+
+-- a fault of a step that reads one or two diagrams
+abbrev pub IsReadFault : ℕ → FileNo → FileNo → World → SortFault → Type 0
+IsReadFault n left right world Shelf = Unit
+IsReadFault n left right world (Damaged f at) = IsDamagedFile n left world f at ⊎ IsDamagedFile n right world f at
+IsReadFault n left right world RunsSpent = ⊥

@@ -1,0 +1,4 @@
+pub mod Operations
+pub mod Given
+pub mod Made
+pub mod Damage

@@ -1,0 +1,88 @@
+-- What a step that sweeps makes, leaves and costs.
+use Rattle.std.specs.Prelude.{◌≡◌, ◌⊎◌, ℕ, ◌+◌, ◌-◌, ◌*◌, ◌/◌, ◌^◌, ◌<◌, ◌≤◌, Bool, IsTrue, List, length}
+use Rattle.shelf_model.specs.declared.file_no.FileNo.{FileNo}
+use Rattle.shelf_model.specs.File.{firm_file}
+use Rattle.shelf_model.specs.Moments.{Ran, OnlyChanged}
+use Rattle.shelf_model.specs.World.{Moment, World, now, file}
+use Rattle.canon_file.specs.Canon.{canon_nodes, canon_bytes}
+use Rattle.arc_file.specs.declared.unreduced.Unreduced.{Unreduced}
+use Rattle.run_tiers.specs.declared.parts.Parts.{Parts}
+use Rattle.sweep_core.specs.Accounts.{CanBeTaken}
+use Rattle.top_down_sweep.specs.Tasks.{AreArcFiles}
+use Rattle.step_sweeps.specs.declared.arcs.MadeArcs.{MadeArcs}
+use Rattle.step_sweeps.specs.declared.diagram.MadeDiagram.{MadeDiagram}
+use Rattle.step_sweeps.specs.declared.operation.StepOperation.{StepOperation}
+use Rattle.step_sweeps.specs.declared.answers.Answered.{Answered}
+use Rattle.step_sweeps.specs.Given.{Tables, made_by, tuples_by, arcs_turns, work_by}
+
+-- the node file of a step, and its two files of arcs
+abbrev pub node_file : ℕ → FileNo
+node_file number = record { step = number; part = 0 }
+
+abbrev pub inner_file : ℕ → FileNo
+inner_file number = record { step = number; part = 3 }
+
+abbrev pub ends_file : ℕ → FileNo
+ends_file number = record { step = number; part = 4 }
+
+-- at a moment every file is as it was, but those of the step from part 3 on
+abbrev pub OnlyParts : ℕ → Moment → Moment → Type 0
+OnlyParts number = OnlyChanged (CanBeTaken number 3)
+
+-- at a moment every file is as it was, but the step's node file and those from part 3 on
+abbrev pub OnlyStepFiles : ℕ → Moment → Moment → Type 0
+OnlyStepFiles number = OnlyChanged (λ q. (q ≡ node_file number) ⊎ CanBeTaken number 3 q)
+
+-- so many turns, 224 calls of the folder each and some, and parts of which each takes 12 of 256
+pub record Spends {S : Type 0} (tells : S → Bool) (world : S → World) (turns some first next : ℕ)
+    (before after : S) : Type 0 where
+  pub calls : IsTrue (tells after) → (world after).clock ≤ (world before).clock + (224 * turns + some)
+  pub parts : 256 * (next - first) ≤ 12 * turns
+
+-- the arcs stand in the step's two files of arcs, and are few
+pub record HasArcFiles (number : ℕ) (arcs : Unreduced) : Type 0 where
+  pub inner_is : arcs.inner ≡ inner_file number
+  pub ends_are : arcs.ends ≡ ends_file number
+  pub inner_few : arcs.inner_count ≤ 2 ^ 46
+  pub ends_few : arcs.ends_count ≤ 2 ^ 46
+
+-- they have so many sources, two arcs each
+abbrev pub HasSources : Unreduced → ℕ → Type 0
+HasSources arcs sources = arcs.inner_count + arcs.ends_count ≡ 2 * sources
+
+-- the arcs are those of a diagram of the table, with no more sources than the tuples that are joined; and so many turns were
+-- made at most
+pub record AreArcsOf (operation : StepOperation) (n : ℕ) (g : Tables) (m : MadeArcs) (world : World) : Type 0 where
+  pub arcs : AreArcFiles n (made_by operation n g) m.arcs world
+  pub sources : ℕ
+  pub has_sources : HasSources m.arcs sources
+  pub few_sources : sources ≤ tuples_by operation n g
+  pub few : m.turns ≤ arcs_turns operation n g
+
+-- the node file is the canonical one of the table, whatever a stop leaves, and its nodes are counted
+pub record IsReduced (n number : ℕ) (table : List Bool) (m : MadeDiagram) (world : World) : Type 0 where
+  pub file_is : file world (node_file number) ≡ firm_file (canon_bytes n table)
+  pub nodes_are : m.nodes ≡ length (canon_nodes n table)
+
+-- so it is of the table that the operation makes, and the turns are within the work
+pub record IsDiagramOf (operation : StepOperation) (n number : ℕ) (g : Tables) (m : MadeDiagram) (world : World)
+    : Type 0 where
+  pub reduced : IsReduced n number (made_by operation n g) m world
+  pub few : m.turns ≤ work_by operation n g
+
+-- at least one turn was made, and parts were taken from the third on, few for so many turns
+pub record IsCounted (turns next : ℕ) : Type 0 where
+  pub some : 0 < turns
+  pub from : 3 ≤ next
+  pub below : next ≤ 2 ^ 32
+  pub few : next ≤ 1024 + turns / 16
+
+-- the answer is that value, and the turns are within the work
+pub record IsAnswer (value : Bool) (work : ℕ) (a : Answered) : Type 0 where
+  pub answer_is : a.answer ≡ value
+  pub few : a.turns ≤ work
+
+-- so many turns took 224 calls of the folder each and some, where 64 bits count them
+abbrev pub Called : {S : Type 0} → (S → Bool) → (S → World) → ℕ → ℕ → S → S → Type 0
+Called tells world turns some before after = IsTrue (tells after) → turns < 2 ^ 64 - 1
+    → (world after).clock ≤ (world before).clock + (224 * turns + some)

@@ -1,0 +1,13 @@
+//! The steps that sweep: an operation on the files of diagrams, from the root down and reduced, and the answers that
+//! are found by reading diagrams.
+#![tactic(auto)]
+
+mod answers;
+mod arcs;
+mod diagram;
+mod operation;
+mod reduction;
+
+pub use answers::{Answered, compare, evaluate};
+pub use diagram::{MadeDiagram, make_diagram};
+pub use operation::StepOperation;

@@ -1,0 +1,71 @@
+//! The second sweep of a step that makes a diagram: from its arcs to its node file.
+ghost use Rattle.std.specs.Prelude.{◌≡◌, ℕ, ◌+◌, ◌-◌, ◌*◌, ◌^◌, ◌<◌, ◌≤◌, Bool, IsTrue, IsErrOf, List, IfOk, IfErr, length};
+ghost use Rattle.shelf_model.specs.World.{now};
+ghost use Rattle.shelf_model.specs.Calls.{Told};
+ghost use Rattle.shelf_model.specs.Moments.{Ran};
+ghost use Rattle.run_tiers.specs.Faults.{OnlySortShelf};
+ghost use Rattle.sweep_core.specs.Sweeps.{IsNoDamage};
+ghost use Rattle.top_down_sweep.specs.Tasks.{AreArcFiles};
+ghost use Rattle.step_sweeps.specs.Made.{HasArcFiles, HasSources, OnlyStepFiles, Spends, IsReduced};
+ghost use Rattle.step_sweeps.specs.Damage.{IsOwnFault};
+
+use crate::MadeDiagram;
+use crate::arcs::MadeArcs;
+use rec_words::Rec;
+use reduce_sweep::ReduceSweep;
+use shelf_model::{FileNo, Shelf, SortFault};
+use sweep_core::run_to_end;
+
+/// Reduces the arcs of a diagram of `n` variables to the step's node file. The turns that are answered are those of
+/// the reduction alone.
+pub(crate) fn reduce_arcs<S: Shelf>(
+    n: u32,
+    made: MadeArcs,
+    number: u32,
+    room: &mut [Rec],
+    shelf: &mut S,
+) -> Result<MadeDiagram, SortFault>
+    requires variables { n ≤ 65535 }
+    requires room { 16384 ≤ length room.old }
+    requires files { HasArcFiles number made.arcs }
+    requires parts { (made.parts.step ≡ number) × (5 ≤ made.parts.next) }
+    ensures next { IfOk result (λ m. (made.parts.next ≤ m.next) × (m.next ≤ 2 ^ 32)) }
+
+    // of the arcs of a table's diagram
+    ensures reduced { IfOk result (λ m. IsTrue (S.tells shelf.new) → (table : List Bool) →
+        AreArcFiles n table made.arcs (S.world shelf.old) → IsReduced n number table m (S.world shelf.new)) }
+    ensures undamaged { IfErr result (λ e. IsTrue (S.tells shelf.new) → (table : List Bool) →
+        AreArcFiles n table made.arcs (S.world shelf.old) → IsNoDamage e) }
+    ensures few { IfOk result (λ m. IsTrue (S.tells shelf.new) → (table : List Bool) (sources : ℕ) →
+        AreArcFiles n table made.arcs (S.world shelf.old) → HasSources made.arcs sources →
+        m.turns ≤ 8 * sources + 9) }
+    ensures spent { IsErrOf result SortFault.RunsSpent → IsTrue (S.tells shelf.new) → (table : List Bool)
+        (sources : ℕ) → AreArcFiles n table made.arcs (S.world shelf.old) → HasSources made.arcs sources →
+        256 * (2 ^ 32 - made.parts.next) ≤ 12 * (8 * sources + 9) }
+    ensures few_calls { IsTrue (S.tells shelf.new) → (table : List Bool) (sources : ℕ) →
+        AreArcFiles n table made.arcs (S.world shelf.old) → HasSources made.arcs sources →
+        (S.world shelf.new).clock ≤ (S.world shelf.old).clock + (224 * (8 * sources + 9) + 3) }
+
+    // whatever the files hold
+    ensures damaged { IfErr result (λ e. IsTrue (S.tells shelf.new) → IsOwnFault number e) }
+    ensures content { Told S.tells shelf.old shelf.new
+        (Ran (OnlyStepFiles number (now (S.world shelf.old))) (S.world shelf.old) (S.world shelf.new)) }
+    ensures counted { IfOk result (λ m. (0 < m.turns) × (m.turns < 2 ^ 64 - 1 →
+        Spends S.tells S.world m.turns 3 made.parts.next m.next shelf.old shelf.new)) }
+    ensures faults { OnlySortShelf (S.faults shelf.old) (S.faults shelf.new) result }
+{
+    let out = FileNo {
+        step: number,
+        part: 0,
+    };
+    let mut sweep = ReduceSweep::start(n, made.arcs, out, made.parts, room, shelf)?;
+    let turns = run_to_end(&mut sweep, shelf)?;
+    let Some(nodes) = sweep.count() else {
+        unreachable!();
+    };
+    Ok(MadeDiagram {
+        nodes,
+        turns,
+        next: sweep.parts().next,
+    })
+}
