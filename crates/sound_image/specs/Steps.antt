@@ -1,0 +1,32 @@
+-- Which files a step changes while it is made, and while what it leaves behind is cut.
+use Rattle.std.specs.Prelude.{◌≡◌, ◌⊎◌, ℕ, ◌≤◌, IsTrue}
+use Rattle.bool_tables.specs.declared.steps.Step.{Step}
+use Rattle.bool_tables.specs.Plans.{drops}
+use Rattle.shelf_model.specs.declared.file_no.FileNo.{FileNo}
+use Rattle.shelf_model.specs.File.{no_file}
+use Rattle.shelf_model.specs.Folder.{Folder, file_in, OnlyChanges}
+use Rattle.sound_image.specs.Files.{node_file}
+
+-- the step's node file, its arcs and its runs
+pub record IsOwnFile (step : ℕ) (f : FileNo) : Type 0 where
+  pub step_is : f.step ≡ step
+  pub part_is : (f.part ≡ 0) ⊎ (3 ≤ f.part)
+
+-- every other file is as it was
+abbrev pub OnlyOwnFiles : ℕ → Folder → Folder → Type 0
+OnlyOwnFiles step = OnlyChanges (IsOwnFile step)
+
+-- the step's checkpoints, their gate and its two files of arcs
+pub record IsBehind (step : ℕ) (f : FileNo) : Type 0 where
+  pub step_is : f.step ≡ step
+  pub from : 1 ≤ f.part
+  pub until : f.part ≤ 4
+
+-- the file of the diagram that the step drops, or one of these
+abbrev pub IsCutBy : Step → ℕ → FileNo → Type 0
+IsCutBy step number f = ((gone : ℕ) × IsTrue (drops gone step) × (f ≡ node_file gone)) ⊎ IsBehind number f
+
+-- no other file changed, and what was empty is empty
+pub record IsTidied (step : Step) (number : ℕ) (old new : Folder) : Type 0 where
+  pub only : OnlyChanges (IsCutBy step number) old new
+  pub empty : (f : FileNo) → file_in old f ≡ no_file → file_in new f ≡ no_file
