@@ -1,1 +1,5 @@
+pub mod PointerLaws
+pub mod Covering
+pub mod RestrictTuples
 pub mod QuantifyGoals
+pub mod QuantifyTuples
