@@ -1,8 +1,7 @@
 -- The tuples of pointers that a step's tuples of pieces stand for, level by level, are all that an operation meets.
 use Rattle.std.specs.Prelude.{◌≡◌, ◌⊎◌, ℕ, zero, suc, ◌+◌, ◌<◌, ◌≤◌, Bool, true, false, cond, ◌&&◌, ◌||◌, List, [], ◌∷◌, ◌++◌, length, filter}
 use Rattle.std.specs.List.{list_any, flat_map}
-use Rattle.std.proofs.Common.{refl, sym, ◌∙◌, ap, subst, inl, inr, true≢false, arith}
-use Rattle.std.proofs.lemmas.Bool.{cases_Bool}
+use Rattle.std.proofs.Common.{refl, sym, ◌∙◌, subst, inl, inr, true≢false, arith}
 use Rattle.std.proofs.lemmas.List.{length-append}
 use Rattle.std.proofs.Math.Nat.{eq-or-lt_of_le}
 use Rattle.bool_tables.specs.Tables.{same_bits}
@@ -11,13 +10,12 @@ use Rattle.list_laws.specs.Members.{Has}
 use Rattle.list_laws.proofs.MemberLaws.{has_left, has_right, has_filter}
 use Rattle.canon_file.specs.Pieces.{splits}
 use Rattle.canon_file.proofs.PieceLaws.{same_from_bits}
-use Rattle.step_work.specs.Tuples.{joins, tuples_below, same_tuple, distinct, tuples_from, tuple_count, side_of}
+use Rattle.step_work.specs.Tuples.{joins, tuples_below, same_tuple, distinct, tuples_from, tuple_count}
 use Rattle.top_down.specs.declared.tuple.Tuple.{Tuple}
 use Rattle.top_down.specs.declared.tuple.Goal.{Goal}
 use Rattle.top_down.specs.declared.tuple.Goal.TheVariants.{End, Go}
-use Rattle.top_down.specs.Tuples.{Targets, AreFrom, level_of_tuple, parts}
+use Rattle.top_down.specs.Tuples.{Targets, AreFrom, level_of_tuple}
 use Rattle.top_down.specs.Rules.{Rule, IsAsked, IsRule, below_on}
-use Rattle.top_down.proofs.PointwiseLaws.{parts-past}
 use Rattle.top_down_laws.specs.Readings.{Diagrams, targets_in}
 use Rattle.top_down_laws.specs.Remains.{IsMet}
 use Rattle.top_down_laws.specs.Remains.IsMet.{AtRoot, Below}

@@ -1,10 +1,10 @@
 -- What the pointers of a table's pieces are, and where they lead in its canonical diagram.
-use Rattle.std.specs.Prelude.{◌≡◌, ℕ, zero, suc, ◌+◌, ◌*◌, ◌^◌, ◌<◌, ◌≤◌, Bool, true, false, cond, List, [], ◌∷◌, get_or}
-use Rattle.std.proofs.Common.{refl, sym, ◌∙◌, ap, subst, inl, inr, arith}
+use Rattle.std.specs.Prelude.{◌≡◌, ℕ, zero, suc, ◌+◌, ◌≤◌, Bool, true, false, cond, List, [], ◌∷◌, get_or}
+use Rattle.std.proofs.Common.{refl, ◌∙◌, ap, subst, inl, inr, arith}
 use Rattle.std.proofs.lemmas.Bool.{cases_Bool}
 use Rattle.std.proofs.lemmas.List.{append-nil}
 use Rattle.bool_tables.specs.Tables.{low_half, high_half, half_where}
-use Rattle.rec_words.specs.Words.{level_of, terminal}
+use Rattle.rec_words.specs.Words.{level_of}
 use Rattle.list_laws.specs.Members.{Has}
 use Rattle.canon_file.specs.declared.row.Row.{Row}
 use Rattle.canon_file.specs.Pieces.{splits, halves, pieces}

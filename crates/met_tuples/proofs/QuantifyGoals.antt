@@ -1,5 +1,5 @@
 -- what a quantifier says of two pointers
-use Rattle.std.specs.Prelude.{◌≡◌, ◌+◌, ◌*◌, ◌^◌, ◌≤◌, ◌<◌, nat_le, ℕ, Bool, true, false, cond}
+use Rattle.std.specs.Prelude.{◌≡◌, ◌≤◌, nat_le, ℕ, Bool, true, false, cond}
 use Rattle.std.proofs.Common.{refl, sym, ◌∙◌, ap, subst, true≢false, arith}
 use Rattle.std.proofs.lemmas.Bool.Decides.{nat_tests}
 use Rattle.bool_tables.specs.Tables.{same_bit}
@@ -11,7 +11,7 @@ use Rattle.top_down.specs.declared.tuple.Goal.{Goal}
 use Rattle.top_down.specs.declared.tuple.Goal.TheVariants.{End, Go}
 use Rattle.top_down.specs.Tuples.{level_of_tuple}
 use Rattle.top_down.specs.Operations.{is_end, is_one, ends_or, two, strong, sorted, quantify_goal}
-use Rattle.top_down.proofs.GoalLaws.{go_tuple, end_go, ends_or-go}
+use Rattle.top_down.proofs.GoalLaws.{go_tuple, end_go}
 
 -- the pointer is a truth value that doesn't decide the quantifier
 pub record IsWeak (kind : Quant) (w : ℕ) : Type 0 where
@@ -89,6 +89,7 @@ goal_weak kind w c weak =
     by true false e = refl
     by false decides e = ap Go (sym (sorted_twice c))
 
+-- so it does where it stands second
 pub goal_weak_second : (kind : Quant) (c w : ℕ) → IsWeak kind w
     → quantify_goal kind (two c w) ≡ quantify_goal kind (two c c)
 goal_weak_second kind c w weak = goal_swap kind c w ∙ goal_weak kind w c weak
@@ -100,9 +101,11 @@ pub data Asks (kind : Quant) (a b : ℕ) (x : Tuple) : Type 0 where
   InOrder : (same : two a b ≡ x) → Asks kind a b x
   Swapped : (same : two b a ≡ x) → Asks kind a b x
 
+-- what is asked for is one of these
 pub goal_asks : (kind : Quant) (a b : ℕ) (x : Tuple) → quantify_goal kind (two a b) ≡ Go x → Asks kind a b x
 goal_asks kind a b x says =
-    by (is_end a) (same_bit (is_one a) (strong kind)) (is_end b) (same_bit (is_one b) (strong kind)) refl refl refl refl says
+    by (is_end a) (same_bit (is_one a) (strong kind)) (is_end b) (same_bit (is_one b) (strong kind)) refl refl refl refl
+    says
   where
     in_order : (c : Bool) → Go (cond c (two a b) (two b a)) ≡ Go x → Asks kind a b x
     in_order true says = InOrder (go_tuple (two a b) x says)

@@ -12,7 +12,7 @@ use Rattle.arc_diagrams.specs.Arcs.{onward}
 use Rattle.step_work.specs.Tuples.{side_of, tuples_below}
 use Rattle.top_down.specs.declared.tuple.Tuple.{Tuple}
 use Rattle.top_down.specs.declared.tuple.Goal.TheVariants.{Go}
-use Rattle.top_down.specs.Tuples.{Targets, unused, canon_targets, level_of_tuple, parts, AreFrom}
+use Rattle.top_down.specs.Tuples.{Targets, unused, level_of_tuple, parts}
 use Rattle.top_down.specs.Rules.{Rule, IsAsked, IsRule, below_on}
 use Rattle.top_down.specs.Operations.{ends_or, restrict_rule}
 use Rattle.top_down.specs.Laws.{roots_of_one}
@@ -23,6 +23,7 @@ use Rattle.top_down_laws.specs.Operations.{canon_diagrams}
 use Rattle.top_down_laws.specs.Readings.{targets_in}
 use Rattle.met_tuples.specs.Few.{RestrictMeetsFew}
 use Rattle.met_tuples.proofs.PointerLaws.{piece_pointer, root_pointer, whole_piece, half_piece, piece_from, piece_splits, piece_onward}
+use Rattle.met_tuples.proofs.DeeperPointers.{half_kept}
 use Rattle.met_tuples.proofs.Covering.{View, Family, Gives, LeadsTo, Covers, meets_few}
 
 -- the tuple of one pointer
@@ -44,8 +45,9 @@ IsPiece t i h (p ∷ q ∷ more) = ⊥
 parts_one : (targets : Targets) (i : ℕ) (side : Bool) (w : ℕ) → i ≤ 65535
     → parts targets i side (one w) ≡ one (onward targets.first i side w)
 parts_one targets i side w top =
-    let second : onward targets.second i side unused ≡ unused = onward-past targets.second i unused side (omega arith) in
-    let third : onward targets.third i side unused ≡ unused = onward-past targets.third i unused side (omega arith) in
+    let past : i < level_of unused = omega arith in
+    let second : onward targets.second i side unused ≡ unused = onward-past targets.second i unused side past in
+    let third : onward targets.third i side unused ≡ unused = onward-past targets.third i unused side past in
     λ j. record { first = onward targets.first i side w; second = second j; third = third j }
 
 module _ (n variable : ℕ) (value : Bool) (t : List Bool) (form : HasForm n t) (below : variable < n) where
@@ -96,14 +98,7 @@ module _ (n variable : ℕ) (value : Bool) (t : List Bool) (form : HasForm n t) 
       ∙ parts_one targets i (side_on i side) (piece_pointer t i (suc h) p) (omega (arith, form.few))
       ∙ ap one (piece_onward n t form i h (side_on i side) p end member)
 
-  -- a pointer of a deeper level is that of the half too
-  kept : (i h : ℕ) (side : Bool) (p : List Bool) → i + suc h ≡ n → Has p (pieces i (suc h) t)
-      → i < level_of (piece_pointer t i (suc h) p)
-      → piece_pointer t i (suc h) p ≡ piece_pointer t (suc i) h (half_where h side p)
-  kept i h side p end member past =
-      sym (onward-past (canon_targets n t) i (piece_pointer t i (suc h) p) side past)
-      ∙ piece_onward n t form i h side p end member
-
+  -- the pointer may be asked for
   pointer_asked : (i h : ℕ) (l : List (List Bool)) → i + h ≡ n → IsPiece t i h l → IsAsked n rule i (pointer_of t i h l)
   pointer_asked i h [] end are = absurd are
   pointer_asked i h (p ∷ []) end are = record {
@@ -116,6 +111,7 @@ module _ (n variable : ℕ) (value : Bool) (t : List Bool) (form : HasForm n t) 
   }
   pointer_asked i h (p ∷ q ∷ more) end are = absurd are
 
+  -- where it is deeper than its piece, it is given on the next level too
   pointer_passes : (i h : ℕ) (l : List (List Bool)) (x : Tuple) → i + suc h ≡ n
       → Gives rule (pointer_of t) (IsPiece t) i (suc h) l x → i < level_of_tuple x
       → LeadsTo rule (Restrict 0 variable value) (pointer_of t) (IsPiece t) i h l x
@@ -124,7 +120,7 @@ module _ (n variable : ℕ) (value : Bool) (t : List Bool) (form : HasForm n t) 
       let w : ℕ = piece_pointer t i (suc h) p in
       let (node, same) = ends_or-go w (one w) x gives.goes in
       let deep : level_of_tuple (one w) ≡ level_of_tuple x = ap level_of_tuple same in
-      let stays = kept i h (side_on i false) p end gives.are (omega arith) in
+      let stays = half_kept n t form i h (side_on i false) p end gives.are (omega arith) in
       record {
         next = side_of h (side_on i false) (p ∷ []);
         led = has_side i h false (p ∷ []);
@@ -135,6 +131,7 @@ module _ (n variable : ℕ) (value : Bool) (t : List Bool) (form : HasForm n t) 
       }
   pointer_passes i h (p ∷ q ∷ more) x end gives past = absurd gives.are
 
+  -- and so is what is asked for on a side of one that isn't deeper
   pointer_sides : (i h : ℕ) (l : List (List Bool)) (x y : Tuple) (side : Bool) → i + suc h ≡ n
       → Gives rule (pointer_of t) (IsPiece t) i (suc h) l x → level_of_tuple x ≡ i
       → rule.goal (below_on rule targets side x) ≡ Go y
@@ -153,6 +150,7 @@ module _ (n variable : ℕ) (value : Bool) (t : List Bool) (form : HasForm n t) 
       }
   pointer_sides i h (p ∷ q ∷ more) x y side end gives here asks = absurd gives.are
 
+  -- the piece of such a pointer splits
   pointer_split : (i h : ℕ) (l : List (List Bool)) (x : Tuple) → i + suc h ≡ n
       → Gives rule (pointer_of t) (IsPiece t) i (suc h) l x → level_of_tuple x ≡ i → list_any (splits h) l ≡ true
   pointer_split i h [] x end gives here = absurd gives.are
@@ -167,6 +165,7 @@ module _ (n variable : ℕ) (value : Bool) (t : List Bool) (form : HasForm n t) 
   covers : Covers n rule targets (Restrict 0 variable value) (pointer_of t) (IsPiece t)
   covers = record { asked = pointer_asked; passes = pointer_passes; sides = pointer_sides; split = pointer_split }
 
+  -- the rule keeps the laws of rules
   is_rule : IsRule n rule targets
   is_rule =
       restrict_is_rule n variable value below form.few targets
