@@ -1,0 +1,4 @@
+pub mod PointerLaws
+pub mod Covering
+pub mod SideTuples
+pub mod ProductTuples
