@@ -2,3 +2,4 @@ pub mod PointerLaws
 pub mod Covering
 pub mod SideTuples
 pub mod ProductTuples
+pub mod ChoiceTuples

@@ -10,7 +10,7 @@ use Rattle.canon_file.specs.Laws.{HasForm}
 use Rattle.top_down.specs.declared.tuple.Tuple.{Tuple}
 use Rattle.top_down.specs.declared.tuple.Goal.TheVariants.{Go}
 use Rattle.top_down.specs.Tuples.{unused, canon_targets, level_of_tuple, parts}
-use Rattle.top_down.specs.Rules.{IsAsked, below_on}
+use Rattle.top_down.specs.Rules.{IsAsked}
 use Rattle.top_down.specs.Operations.{product_goal, product_rule}
 use Rattle.top_down.specs.Laws.{roots_of_two, targets_of_two}
 use Rattle.top_down.proofs.ProductLaws.{product_goes}
@@ -18,7 +18,7 @@ use Rattle.top_down.proofs.TupleLaws.{from_terminal, onward-past}
 use Rattle.top_down_laws.specs.Operations.{canon_diagrams}
 use Rattle.top_down_laws.proofs.CanonTasks.{product_is_task}
 use Rattle.met_tuples.specs.Few.{ProductMeetsFew}
-use Rattle.met_tuples.proofs.SideTuples.{has_side, member_at, any_splits, LeadsToHalves, AsksAlike, TurnsTo, TurnsToSides, covers_sides}
+use Rattle.met_tuples.proofs.SideTuples.{has_side, member_at, any_splits, LeadsToHalves, AsksAlike, TurnsTo, TurnsToSides, same_side-parts, covers_sides}
 use Rattle.met_tuples.proofs.PointerLaws.{piece_pointer, half_piece, whole_piece, root_pointer, piece_from, piece_splits, piece_onward}
 use Rattle.met_tuples.proofs.Covering.{View, Family, meets_few}
 
@@ -94,15 +94,14 @@ module _ (n : ℕ) (op : Bin) (t u : List Bool) (form_t : HasForm n t) (form_u :
         level = λ here. ap level_of_tuple same ∙ here;
       }
 
-  turned : (i : ℕ) (side : Bool) (x : Tuple) → level_of_tuple x ≡ i
-      → below_on (product_rule op) (targets_of_two n t u) side x ≡ parts (targets_of_two n t u) i side x
-  turned i true x here = ap (λ k. parts (targets_of_two n t u) k true x) here
-  turned i false x here = ap (λ k. parts (targets_of_two n t u) k false x) here
-
   -- on each side it turns to that side's pointers
   turns : (i h : ℕ) (l : List (List Bool)) (side : Bool)
       → TurnsTo (product_rule op) (targets_of_two n t u) (Pair op 0 1) i h l side
-  turns i h l side = record { to = side; led = has_side h side l; below = λ x here. turned i side x here }
+  turns i h l side = record {
+    to = side;
+    led = has_side h side l;
+    below = same_side-parts (targets_of_two n t u) i side;
+  }
 
   turns_to_sides : TurnsToSides n (product_rule op) (targets_of_two n t u) (Pair op 0 1) view AreOn
   turns_to_sides = record {

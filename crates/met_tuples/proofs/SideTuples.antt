@@ -12,6 +12,7 @@ use Rattle.top_down.specs.declared.tuple.Tuple.{Tuple}
 use Rattle.top_down.specs.declared.tuple.Goal.TheVariants.{Go}
 use Rattle.top_down.specs.Tuples.{Targets, level_of_tuple, parts}
 use Rattle.top_down.specs.Rules.{Rule, IsAsked, below_on}
+use Rattle.top_down.specs.Operations.{same_side}
 use Rattle.top_down.proofs.PointwiseLaws.{parts-past}
 use Rattle.met_tuples.proofs.Covering.{View, Family, Gives, LeadsTo, Covers}
 
@@ -48,7 +49,8 @@ any_splits h p (q ∷ l) (inr member) split =
     or_true false = refl
 
 -- the pointers of the pieces lead to those of their halves
-pub record LeadsToHalves (targets : Targets) (view : View) (AreOn : Family) (i h : ℕ) (l : List (List Bool)) : Type 0 where
+pub record LeadsToHalves (targets : Targets) (view : View) (AreOn : Family) (i h : ℕ) (l : List (List Bool))
+    : Type 0 where
   pub are : (side : Bool) → AreOn (suc i) h (side_of h side l)
   pub onward : (side : Bool) → parts targets i side (view i (suc h) l) ≡ view (suc i) h (side_of h side l)
 
@@ -94,6 +96,14 @@ pub record TurnsTo (rule : Rule) (targets : Targets) (step : Step) (i h : ℕ) (
   pub to : Bool
   pub led : Has (side_of h to l) (tuples_below step i h l)
   pub below : (x : Tuple) → level_of_tuple x ≡ i → below_on rule targets side x ≡ parts targets i to x
+
+-- a rule that takes the pointers of the same side turns to them
+pub same_side-parts : (targets : Targets) (i : ℕ) (side : Bool) (x : Tuple) → level_of_tuple x ≡ i
+    → same_side (level_of_tuple x) side (parts targets (level_of_tuple x) false x)
+    (parts targets (level_of_tuple x) true x)
+    ≡ parts targets i side x
+same_side-parts targets i true x here = ap (λ k. parts targets k true x) here
+same_side-parts targets i false x here = ap (λ k. parts targets k false x) here
 
 -- on each level the rule and the step turn to the halves of a side
 pub record TurnsToSides (n : ℕ) (rule : Rule) (targets : Targets) (step : Step) (view : View) (AreOn : Family)
