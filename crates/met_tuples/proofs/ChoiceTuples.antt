@@ -46,6 +46,7 @@ says_of b d s x =
     cond b (cond d (ends_or x.second (left_by true x)) (ends_or x.third (left_by false x)))
     (cond s (End (is_one x.second)) (Go x))
 
+-- the branches are the same truth value
 abbrev same_ends : Tuple → Bool
 same_ends x = is_end x.second && (x.second == x.third)
 
@@ -89,6 +90,7 @@ module _ (n : ℕ) (targets : Targets) (i : ℕ) (below : i < n) (top : n ≤ 65
       let stays : onward targets.first i side x.first ≡ x.first = onward-end targets.first side x.first d.ends in
       record { ends = ap is_end stays ∙ d.ends; one = ap is_one stays ∙ d.one }
 
+  -- the tuple with the branch alone that the test leaves has the same goal on each side
   left_alike : (v : Tuple) (value : Bool) → AreFrom n i v → Decides value v → is_end (branch value v) ≡ false
       → AsksAlike choice_rule targets i v (left_by value v)
   left_alike v true from d node = record {
@@ -201,6 +203,7 @@ module _ (n : ℕ) (t u v : List Bool) (form_t : HasForm n t) (form_u : HasForm 
     below = same_side-parts (targets_of_three n t u v) i side;
   }
 
+  -- on each level a choice and its step turn to the halves of a side
   turns_to_sides : TurnsToSides n choice_rule (targets_of_three n t u v) (Ite 0 1 2) view AreOn
   turns_to_sides = record {
     asked = asked;

@@ -90,10 +90,11 @@ half_piece t i h true p m = has_high h p (pieces i (suc h) t) m
 half_piece t i h false p m = has_low h p (pieces i (suc h) t) m
 
 module _ (n : ℕ) (t : List Bool) (form : HasForm n t) where
-  -- the table is the piece of level 0, and its pointer the root
+  -- the table is the piece of level 0
   pub whole_piece : Has t (pieces 0 n t)
   whole_piece = inl refl
 
+  -- and its pointer is the root
   pub root_pointer : piece_pointer t 0 n t ≡ canon_root n t
   unfolding canon_root
   root_pointer = refl

@@ -103,6 +103,7 @@ module _ (n : ℕ) (op : Bin) (t u : List Bool) (form_t : HasForm n t) (form_u :
     below = same_side-parts (targets_of_two n t u) i side;
   }
 
+  -- on each level it and its step turn to the halves of a side
   turns_to_sides : TurnsToSides n (product_rule op) (targets_of_two n t u) (Pair op 0 1) view AreOn
   turns_to_sides = record {
     asked = asked;
