@@ -1,5 +1,8 @@
 pub mod PointerLaws
 pub mod Covering
+pub mod SideTuples
+pub mod ProductTuples
+pub mod ChoiceTuples
 pub mod DeeperPointers
 pub mod RestrictTuples
 pub mod QuantifyGoals
