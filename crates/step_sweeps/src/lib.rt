@@ -5,9 +5,11 @@
 mod answers;
 mod arcs;
 mod diagram;
+mod implication;
 mod operation;
 mod reduction;
 
 pub use answers::{Answered, compare, evaluate};
 pub use diagram::{MadeDiagram, make_diagram};
+pub use implication::imply;
 pub use operation::StepOperation;
