@@ -5,6 +5,7 @@ use Rattle.bool_tables.specs.Plans.{drops}
 use Rattle.shelf_model.specs.declared.file_no.FileNo.{FileNo}
 use Rattle.shelf_model.specs.File.{no_file}
 use Rattle.shelf_model.specs.Folder.{Folder, file_in, OnlyChanges}
+use Rattle.step_work.specs.Tuples.{sweeps}
 use Rattle.sound_image.specs.Files.{node_file}
 
 -- the step's node file, its arcs and its runs
@@ -22,9 +23,10 @@ pub record IsBehind (step : ℕ) (f : FileNo) : Type 0 where
   pub from : 1 ≤ f.part
   pub until : f.part ≤ 4
 
--- the file of the diagram that the step drops, or one of these
+-- the file of the diagram that the step drops, or one of these where it sweeps
 abbrev pub IsCutBy : Step → ℕ → FileNo → Type 0
-IsCutBy step number f = ((gone : ℕ) × IsTrue (drops gone step) × (f ≡ node_file gone)) ⊎ IsBehind number f
+IsCutBy step number f =
+    ((gone : ℕ) × IsTrue (drops gone step) × (f ≡ node_file gone)) ⊎ (IsTrue (sweeps step) × IsBehind number f)
 
 -- no other file changed, and what was empty is empty
 pub record IsTidied (step : Step) (number : ℕ) (old new : Folder) : Type 0 where
