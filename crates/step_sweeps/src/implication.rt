@@ -13,6 +13,7 @@ ghost use Rattle.step_sweeps.specs.Made.{OnlyParts, IsAnswer, IsCounted, Called}
 ghost use Rattle.step_sweeps.specs.Damage.{IsImplicationFault};
 
 use crate::arcs::make_arcs;
+use crate::ones::has_one;
 use crate::{Answered, StepOperation};
 use bool_tables::Bin;
 use rec_words::Rec;

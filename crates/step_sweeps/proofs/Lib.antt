@@ -1,0 +1,2 @@
+mod ConstantDiagrams
+mod ImpliedSearch
