@@ -1,2 +1,3 @@
 mod ConstantDiagrams
 mod ImpliedSearch
+mod ImpliedAnswer
