@@ -22,8 +22,10 @@ each_is : {X : Type 0} (P : X → Type 0) (xs : List X) → All P xs → (x : X)
 each_is P xs all x m = let (k, below, is) = contains_from_has x xs m in subst P is (all k x below)
 
 -- the answer is the other value than what is found
-pub answer_is : (n : ℕ) (t u : List Bool) (root : ℕ) (inner ends : List Arc) (found : Bool) → n ≤ 65535 → length t ≡ 2 ^ n → length u ≡ 2 ^ n → All (Leads Inner) inner
-    → IsDiagramOf n root (inner ++ ends) (step_table n (t ∷ u ∷ []) (Pair and_not 0 1)) → IsTrue found ↔ IsMet root ends (terminal true)
+pub answer_is : (n : ℕ) (t u : List Bool) (root : ℕ) (inner ends : List Arc) (found : Bool) → n ≤ 65535
+    → length t ≡ 2 ^ n → length u ≡ 2 ^ n → All (Leads Inner) inner
+    → IsDiagramOf n root (inner ++ ends) (step_table n (t ∷ u ∷ []) (Pair and_not 0 1))
+    → IsTrue found ↔ IsMet root ends (terminal true)
     → not found ≡ is_leq t u
 answer_is n t u root inner ends found few long_t long_u leads diagram finds = by found finds
   where
@@ -45,10 +47,13 @@ answer_is n t u root inner ends found few long_t long_u leads diagram finds = by
     by false f = sym (leq.1 (λ one. true≢false (sym (f.1 (at_end.0 (says.0 one))))))
 
 -- the comparison joins the tuples that an operator joins
-tuples_same : (op : Bin) (h i : ℕ) (tuples : List (List (List Bool))) → tuples_from (Leq 0 1) i h tuples ≡ tuples_from (Pair op 0 1) i h tuples
+tuples_same : (op : Bin) (h i : ℕ) (tuples : List (List (List Bool)))
+    → tuples_from (Leq 0 1) i h tuples ≡ tuples_from (Pair op 0 1) i h tuples
 tuples_same op zero i tuples = refl
-tuples_same op (suc h) i tuples = ap (λ k. split_tuples h tuples + k) (tuples_same op h (suc i) (flat_map (λ pieces. both_sides h pieces) tuples))
+tuples_same op (suc h) i tuples = ap (λ k. split_tuples h tuples + k)
+    (tuples_same op h (suc i) (flat_map (λ pieces. both_sides h pieces) tuples))
 
-pub work_same : (op : Bin) (n : ℕ) (tables : List (List Bool)) → tuple_count n (Leq 0 1) tables ≡ tuple_count n (Pair op 0 1) tables
+pub work_same : (op : Bin) (n : ℕ) (tables : List (List Bool))
+    → tuple_count n (Leq 0 1) tables ≡ tuple_count n (Pair op 0 1) tables
 unfolding tuple_count
 work_same op n tables = tuples_same op n 0 (tables ∷ [])

@@ -65,7 +65,8 @@ pub record HasRead {S : Type 0} (tells : S → Bool) (world : S → World) (coun
   pub faults : OnlyShelf (counts before) (counts after) result
 
 -- the arcs that are left once one was given that doesn't lead to 1
-remain_on : (s t : ArcStream) (bytes : List ℕ) (ends : List Arc) (a : Arc) → a.target ≢ terminal true → (r : Remain s bytes ends)
+remain_on : (s t : ArcStream) (bytes : List ℕ) (ends : List Arc) (a : Arc) → a.target ≢ terminal true
+    → (r : Remain s bytes ends)
     → GivesLast (AreLeft End t bytes) r.rest (Ok (Some a)) → Remain t bytes ends
 remain_on s t bytes ends a other r (rest, whole, left) = record {
   rest = rest;
@@ -78,22 +79,27 @@ remain_on s t bytes ends a other r (rest, whole, left) = record {
 }
 
 -- an arc that was given is one of them
-given_within : (s t : ArcStream) (bytes : List ℕ) (ends : List Arc) (a : Arc) → (r : Remain s bytes ends) → GivesLast (AreLeft End t bytes) r.rest (Ok (Some a)) → Has a ends
-given_within s t bytes ends a r (rest, whole, left) = r.within a (subst (Has a) (sym whole) (has_right a rest (a ∷ []) (inl refl)))
+given_within : (s t : ArcStream) (bytes : List ℕ) (ends : List Arc) (a : Arc) → (r : Remain s bytes ends)
+    → GivesLast (AreLeft End t bytes) r.rest (Ok (Some a)) → Has a ends
+given_within s t bytes ends a r (rest, whole, left) = r.within a
+    (subst (Has a) (sym whole) (has_right a rest (a ∷ []) (inl refl)))
 
 -- where none is left no arc leads to 1
-none_leads : (s t : ArcStream) (bytes : List ℕ) (ends : List Arc) (root : ℕ) → root ≢ terminal true → (r : Remain s bytes ends)
+none_leads : (s t : ArcStream) (bytes : List ℕ) (ends : List Arc) (root : ℕ) → root ≢ terminal true
+    → (r : Remain s bytes ends)
     → GivesLast (AreLeft End t bytes) r.rest (Ok None) → IsMet root ends (terminal true) → ⊥
 none_leads s t bytes ends root other r none (inl first) = other first
 none_leads s t bytes ends root other r none (inr (a, m, e)) = subst (Has a) none (r.leads a m e)
 
 -- a fault that is found among arcs that stand there is the folder's
-only_shelf : (t : ArcStream) (bytes : List ℕ) (xs : List Arc) (e : StreamFault) → GivesLast (AreLeft End t bytes) xs (Err e) → handed_on e ≡ handed_on stream.Shelf
+only_shelf : (t : ArcStream) (bytes : List ℕ) (xs : List Arc) (e : StreamFault)
+    → GivesLast (AreLeft End t bytes) xs (Err e) → handed_on e ≡ handed_on stream.Shelf
 only_shelf t bytes xs stream.Shelf gives = refl
 only_shelf t bytes xs (stream.Damaged f at) gives = absurd gives
 
 -- a fault is that of the file
-fault_of : (s t : ArcStream) (f : FileNo) (e : StreamFault) → file_of s ≡ f → GoesUp End s t (Err e) → IsFaultOf f (handed_on e)
+fault_of : (s t : ArcStream) (f : FileNo) (e : StreamFault) → file_of s ≡ f → GoesUp End s t (Err e)
+    → IsFaultOf f (handed_on e)
 fault_of s t f stream.Shelf same goes = tt
 fault_of s t f (stream.Damaged g at) same goes = goes.1.0 ∙ same
 
@@ -109,10 +115,14 @@ module _ {S : Type 0} (tells : S → Bool) (world : S → World) (counts : S →
   })
 
   -- more calls may be allowed
-  looked_more : (m n : ℕ) (before after : S) → m ≤ n → Told tells before after (Looked m (world before) (world after)) → Told tells before after (Looked n (world before) (world after))
+  looked_more : (m n : ℕ) (before after : S) → m ≤ n
+      → Told tells before after (Looked m (world before) (world after))
+      → Told tells before after (Looked n (world before) (world after))
   looked_more m n before after more did =
       told tells before after (Looked m (world before) (world after)) (Looked n (world before) (world after)) did
-      (λ _ looked. let few : (world after).clock ≤ (world before).clock + m = looked.few in record { run = looked.run; few = omega (arith, few, more) })
+      (λ _ looked.
+      let few : (world after).clock ≤ (world before).clock + m = looked.few in
+      record { run = looked.run; few = omega (arith, few, more) })
 
   -- the root decides at once
   pub at_once : (at : S) → arcs.root ≡ terminal true → Searched tells world counts arcs at at (Ok true)
@@ -125,8 +135,10 @@ module _ {S : Type 0} (tells : S → Bool) (world : S → World) (counts : S →
   }
 
   -- before the first arc is read
-  pub begins : (at : S) (s : ArcStream) → arcs.root ≢ terminal true → file_of s ≡ arcs.ends → left_of s ≡ arcs.ends_count
-      → ((bytes : List ℕ) → Reads End s bytes) → ((ends : List Arc) → HasEnds arcs (world at) ends → AreLeft End s (bytes_in (world at) arcs.ends) ends)
+  pub begins : (at : S) (s : ArcStream) → arcs.root ≢ terminal true → file_of s ≡ arcs.ends
+      → left_of s ≡ arcs.ends_count
+      → ((bytes : List ℕ) → Reads End s bytes) → ((ends : List Arc) → HasEnds arcs (world at) ends
+      → AreLeft End s (bytes_in (world at) arcs.ends) ends)
       → Searches tells world counts arcs at at s
   begins at s other file_is left_is reads left = record {
     other_root = other;
@@ -142,44 +154,60 @@ module _ {S : Type 0} (tells : S → Bool) (world : S → World) (counts : S →
     -- the bytes of the file are what they were
     same_bytes : IsTrue (tells mid) → bytes_in (world mid) (file_of s) ≡ bytes_in (world before) arcs.ends
     same_bytes tells_mid =
-        looked_same (arcs.ends_count - left_of s) arcs.ends (file_of s) (world before) (world mid) (so_far.content.did tells_mid) so_far.file_is
+        looked_same (arcs.ends_count - left_of s) arcs.ends (file_of s) (world before) (world mid)
+        (so_far.content.did tells_mid) so_far.file_is
 
     -- the next call gives of the arcs that are left
-    gives_of : (result : Result (Option Arc) StreamFault) → HasRead tells world counts mid after s t result → (tells_mid : IsTrue (tells mid)) → IsTrue (tells after) → (ends : List Arc)
+    gives_of : (result : Result (Option Arc) StreamFault) → HasRead tells world counts mid after s t result
+        → (tells_mid : IsTrue (tells mid)) → IsTrue (tells after) → (ends : List Arc)
         → (has : HasEnds arcs (world before) ends)
         → GivesLast (AreLeft End t (bytes_in (world before) arcs.ends)) (so_far.remain tells_mid ends has).rest result
     gives_of result read tells_mid tells_after ends has =
         let r = so_far.remain tells_mid ends has in
         let same = same_bytes tells_mid in
         subst (λ bytes. GivesLast (AreLeft End t bytes) r.rest result) same
-        (read.gives tells_after (subst (Reads End s) (sym same) (so_far.reads tells_mid)) r.rest (subst (λ bytes. AreLeft End s bytes r.rest) (sym same) r.left))
+        (read.gives tells_after (subst (Reads End s) (sym same) (so_far.reads tells_mid)) r.rest
+        (subst (λ bytes. AreLeft End s bytes r.rest) (sym same) r.left))
 
     -- it reads on what stood there
-    reads_on : (a : Option Arc) → HasRead tells world counts mid after s t (Ok a) → IsTrue (tells mid) → IsTrue (tells after) → Reads End t (bytes_in (world before) arcs.ends)
+    reads_on : (a : Option Arc) → HasRead tells world counts mid after s t (Ok a) → IsTrue (tells mid)
+        → IsTrue (tells after) → Reads End t (bytes_in (world before) arcs.ends)
     reads_on a read tells_mid tells_after =
         let same = same_bytes tells_mid in
         subst (Reads End t) same (read.reads tells_after (subst (Reads End s) (sym same) (so_far.reads tells_mid)))
 
     -- one call more was made
-    looked_next : (result : Result (Option Arc) StreamFault) → HasRead tells world counts mid after s t result → Told tells before after (Looked (arcs.ends_count - left_of s + 1) (world before) (world after))
-    looked_next result read = looked_on tells world (arcs.ends_count - left_of s) 1 before mid after so_far.content read.content
+    looked_next : (result : Result (Option Arc) StreamFault) → HasRead tells world counts mid after s t result
+        → Told tells before after (Looked (arcs.ends_count - left_of s + 1) (world before) (world after))
+    looked_next result read = looked_on tells world
+        (arcs.ends_count - left_of s) 1 before mid after so_far.content read.content
 
-    looked_last : (result : Result (Option Arc) StreamFault) → HasRead tells world counts mid after s t result → Told tells before after (Looked (arcs.ends_count + 1) (world before) (world after))
+    looked_last : (result : Result (Option Arc) StreamFault) → HasRead tells world counts mid after s t result
+        → Told tells before after (Looked (arcs.ends_count + 1) (world before) (world after))
     looked_last result read =
-        looked_more (arcs.ends_count - left_of s + 1) (arcs.ends_count + 1) before after (omega arith) (looked_next result read)
+        looked_more (arcs.ends_count - left_of s + 1) (arcs.ends_count + 1) before after (omega arith)
+        (looked_next result read)
 
     -- its faults are counted
-    faults_ok : {T : Type 0} (a : Option Arc) (x : T) → HasRead tells world counts mid after s t (Ok a) → OnlySortShelf (counts before) (counts after) (Ok x)
+    faults_ok : {T : Type 0} (a : Option Arc) (x : T) → HasRead tells world counts mid after s t (Ok a)
+        → OnlySortShelf (counts before) (counts after) (Ok x)
     faults_ok a x read = record {
-      later = (let one : (counts before).folder ≤ (counts mid).folder = so_far.faults.later in let two : (counts mid).folder ≤ (counts after).folder = read.faults.later in omega (arith, one, two));
+      later = (
+          let one : (counts before).folder ≤ (counts mid).folder = so_far.faults.later in
+          let two : (counts mid).folder ≤ (counts after).folder = read.faults.later in
+          omega (arith, one, two));
       cause = λ is. cc;
       say_is = read.faults.say_is ∙ so_far.faults.say_is;
       text_is = λ path. read.faults.text_is path ∙ so_far.faults.text_is path;
     }
 
-    faults_err : (e : StreamFault) → HasRead tells world counts mid after s t (Err e) → OnlySortShelf {T = Bool} (counts before) (counts after) (Err (handed_on e))
+    faults_err : (e : StreamFault) → HasRead tells world counts mid after s t (Err e)
+        → OnlySortShelf {T = Bool} (counts before) (counts after) (Err (handed_on e))
     faults_err e read = record {
-      later = (let one : (counts before).folder ≤ (counts mid).folder = so_far.faults.later in let two : (counts mid).folder ≤ (counts after).folder = read.faults.later in omega (arith, one, two));
+      later = (
+          let one : (counts before).folder ≤ (counts mid).folder = so_far.faults.later in
+          let two : (counts mid).folder ≤ (counts after).folder = read.faults.later in
+          omega (arith, one, two));
       cause = rose e read.faults;
       say_is = read.faults.say_is ∙ so_far.faults.say_is;
       text_is = λ path. read.faults.text_is path ∙ so_far.faults.text_is path;
@@ -200,11 +228,13 @@ module _ {S : Type 0} (tells : S → Bool) (world : S → World) (counts : S →
       other_root = so_far.other_root;
       file_is = read.file_is ∙ so_far.file_is;
       some = omega (arith, fewer, some);
-      content = looked_more (arcs.ends_count - left_of s + 1) (arcs.ends_count - left_of t) before after (omega (arith, fewer, some)) (looked_next (Ok (Some a)) read);
+      content = looked_more (arcs.ends_count - left_of s + 1) (arcs.ends_count - left_of t) before after
+          (omega (arith, fewer, some)) (looked_next (Ok (Some a)) read);
       reads = λ tells_after. reads_on (Some a) read (read.content.before tells_after) tells_after;
       remain = λ tells_after ends has. (
           let tells_mid = read.content.before tells_after in
-          remain_on s t (bytes_in (world before) arcs.ends) ends a other (so_far.remain tells_mid ends has) (gives_of (Ok (Some a)) read tells_mid tells_after ends has));
+          remain_on s t (bytes_in (world before) arcs.ends) ends a other (so_far.remain tells_mid ends has)
+          (gives_of (Ok (Some a)) read tells_mid tells_after ends has));
       faults = faults_ok (Some a) false read;
     }
       where
@@ -220,7 +250,12 @@ module _ {S : Type 0} (tells : S → Bool) (world : S → World) (counts : S →
     finds a read leads = record {
       found = λ tells_after ends has. (
         λ _. (let tells_mid = read.content.before tells_after in
-            inr (a, given_within s t (bytes_in (world before) arcs.ends) ends a (so_far.remain tells_mid ends has) (gives_of (Ok (Some a)) read tells_mid tells_after ends has), leads)),
+            inr (
+              a,
+              given_within s t (bytes_in (world before) arcs.ends) ends a (so_far.remain tells_mid ends has)
+                  (gives_of (Ok (Some a)) read tells_mid tells_after ends has),
+              leads,
+            )),
         λ _. refl,
       );
       undamaged = tt;
@@ -230,12 +265,14 @@ module _ {S : Type 0} (tells : S → Bool) (world : S → World) (counts : S →
     }
 
     -- no arc is left
-    pub ends_search : HasRead tells world counts mid after s t (Ok None) → Searched tells world counts arcs before after (Ok false)
+    pub ends_search : HasRead tells world counts mid after s t (Ok None)
+        → Searched tells world counts arcs before after (Ok false)
     ends_search read = record {
       found = λ tells_after ends has. (
         λ yes. absurd (true≢false (sym yes)),
         λ met. (let tells_mid = read.content.before tells_after in
-            absurd (none_leads s t (bytes_in (world before) arcs.ends) ends arcs.root so_far.other_root (so_far.remain tells_mid ends has) (gives_of (Ok None) read tells_mid tells_after ends has) met)),
+            absurd (none_leads s t (bytes_in (world before) arcs.ends) ends arcs.root so_far.other_root
+            (so_far.remain tells_mid ends has) (gives_of (Ok None) read tells_mid tells_after ends has) met)),
       );
       undamaged = tt;
       refused = tt;
@@ -244,11 +281,13 @@ module _ {S : Type 0} (tells : S → Bool) (world : S → World) (counts : S →
     }
 
     -- the next arc can't be read
-    pub refused_search : (e : StreamFault) → HasRead tells world counts mid after s t (Err e) → Searched tells world counts arcs before after (Err (handed_on e))
+    pub refused_search : (e : StreamFault) → HasRead tells world counts mid after s t (Err e)
+        → Searched tells world counts arcs before after (Err (handed_on e))
     refused_search e read = record {
       found = tt;
       undamaged = λ tells_after ends has. (let tells_mid = read.content.before tells_after in
-          only_shelf t (bytes_in (world before) arcs.ends) (so_far.remain tells_mid ends has).rest e (gives_of (Err e) read tells_mid tells_after ends has));
+          only_shelf t (bytes_in (world before) arcs.ends) (so_far.remain tells_mid ends has).rest e
+          (gives_of (Err e) read tells_mid tells_after ends has));
       refused = fault_of s t arcs.ends e so_far.file_is read.goes;
       content = looked_last (Err e) read;
       faults = faults_err e read;

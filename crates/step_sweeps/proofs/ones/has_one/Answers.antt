@@ -9,9 +9,11 @@ use Rattle.step_sweeps.proofs.ones.has_one.Goals as goal
 
 pub returns-in_err-arc : goal.returns-in_err-arc
 returns-in_err-arc g c = record {
-  searched = subst (Searched g.S.Shelf.tells g.S.Shelf.world g.S.Shelf.faults c.args.arcs.now c.args.shelf.now c.next_end.new.shelf)
+  searched = subst (Searched g.S.Shelf.tells g.S.Shelf.world g.S.Shelf.faults c.args.arcs.now c.args.shelf.now
+      c.next_end.new.shelf)
       (sym (is_handed c.from_residual.result _ c.from_residual.ensures.1))
-      (refused_search g.S.Shelf.tells g.S.Shelf.world g.S.Shelf.faults c.args.arcs.now c.args.shelf.now c.ends.shelf c.next_end.new.shelf
+      (refused_search g.S.Shelf.tells g.S.Shelf.world g.S.Shelf.faults c.args.arcs.now c.args.shelf.now c.ends.shelf
+      c.next_end.new.shelf
       (ends_of c.ends.reader) (ends_of c.next_end.new.self) c.ends.invariant.searches c.in_err-arc.field-0.0 (record {
         file_is = c.in_err-arc.ensures.file;
         goes = c.in_err-arc.ensures.place;
@@ -24,10 +26,13 @@ returns-in_err-arc g c = record {
 
 pub returns-then-is_one-2 : goal.returns-then-is_one-2
 returns-then-is_one-2 g c =
-    let Read = λ (a : Option Arc). HasRead g.S.Shelf.tells g.S.Shelf.world g.S.Shelf.faults c.ends.shelf c.next_end.new.shelf (ends_of c.ends.reader) (ends_of c.next_end.new.self) (Ok a) in
+    let Read = λ (a : Option Arc). HasRead g.S.Shelf.tells g.S.Shelf.world g.S.Shelf.faults c.ends.shelf
+    c.next_end.new.shelf (ends_of c.ends.reader) (ends_of c.next_end.new.self) (Ok a) in
     record {
-      searched = finds g.S.Shelf.tells g.S.Shelf.world g.S.Shelf.faults c.args.arcs.now c.args.shelf.now c.ends.shelf c.next_end.new.shelf
-          (ends_of c.ends.reader) (ends_of c.next_end.new.self) c.ends.invariant.searches c.in-Some.arc (subst Read c.in-Some.is (record {
+      searched = finds g.S.Shelf.tells g.S.Shelf.world g.S.Shelf.faults c.args.arcs.now c.args.shelf.now c.ends.shelf
+          c.next_end.new.shelf
+          (ends_of c.ends.reader) (ends_of c.next_end.new.self) c.ends.invariant.searches c.in-Some.arc
+          (subst Read c.in-Some.is (record {
             file_is = c.in_ok-arc.ensures.file;
             goes = c.in_ok-arc.ensures.place;
             reads = c.in_ok-arc.ensures.reads;
@@ -39,10 +44,13 @@ returns-then-is_one-2 g c =
 
 pub ends-preserved : goal.ends-preserved
 ends-preserved g c =
-    let Read = λ (a : Option Arc). HasRead g.S.Shelf.tells g.S.Shelf.world g.S.Shelf.faults c.ends.shelf c.next_end.new.shelf (ends_of c.ends.reader) (ends_of c.next_end.new.self) (Ok a) in
+    let Read = λ (a : Option Arc). HasRead g.S.Shelf.tells g.S.Shelf.world g.S.Shelf.faults c.ends.shelf
+    c.next_end.new.shelf (ends_of c.ends.reader) (ends_of c.next_end.new.self) (Ok a) in
     record {
-      searches = goes_on g.S.Shelf.tells g.S.Shelf.world g.S.Shelf.faults c.args.arcs.now c.args.shelf.now c.ends.shelf c.next_end.new.shelf
-          (ends_of c.ends.reader) (ends_of c.next_end.new.self) c.ends.invariant.searches c.in-Some.arc (subst Read c.in-Some.is (record {
+      searches = goes_on g.S.Shelf.tells g.S.Shelf.world g.S.Shelf.faults c.args.arcs.now c.args.shelf.now
+          c.ends.shelf c.next_end.new.shelf
+          (ends_of c.ends.reader) (ends_of c.next_end.new.self) c.ends.invariant.searches c.in-Some.arc
+          (subst Read c.in-Some.is (record {
             file_is = c.in_ok-arc.ensures.file;
             goes = c.in_ok-arc.ensures.place;
             reads = c.in_ok-arc.ensures.reads;
@@ -55,9 +63,11 @@ ends-preserved g c =
 pub returns : goal.returns
 returns g c =
     let none : c.in_ok-arc.field-0 ≡ None = search rules in
-    let Read = λ (a : Option Arc). HasRead g.S.Shelf.tells g.S.Shelf.world g.S.Shelf.faults c.ends.shelf c.next_end.new.shelf (ends_of c.ends.reader) (ends_of c.next_end.new.self) (Ok a) in
+    let Read = λ (a : Option Arc). HasRead g.S.Shelf.tells g.S.Shelf.world g.S.Shelf.faults c.ends.shelf
+    c.next_end.new.shelf (ends_of c.ends.reader) (ends_of c.next_end.new.self) (Ok a) in
     record {
-      searched = ends_search g.S.Shelf.tells g.S.Shelf.world g.S.Shelf.faults c.args.arcs.now c.args.shelf.now c.ends.shelf c.next_end.new.shelf
+      searched = ends_search g.S.Shelf.tells g.S.Shelf.world g.S.Shelf.faults c.args.arcs.now c.args.shelf.now
+          c.ends.shelf c.next_end.new.shelf
           (ends_of c.ends.reader) (ends_of c.next_end.new.self) c.ends.invariant.searches (subst Read none (record {
             file_is = c.in_ok-arc.ensures.file;
             goes = c.in_ok-arc.ensures.place;
