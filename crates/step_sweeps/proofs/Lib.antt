@@ -1,0 +1,4 @@
+mod ConstantDiagrams
+mod ImpliedSearch
+mod ImpliedAnswer
+mod ImpliedWork
