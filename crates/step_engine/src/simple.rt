@@ -9,11 +9,10 @@ ghost use Rattle.step_engine.specs.Running.{RunsStep};
 use crate::diagrams::{write_constant, write_variable};
 use crate::entries::{Spent, diagram_entry, nameless_entry};
 use crate::kinds::entry_of_kind;
-use crate::sweeping::node_file;
 use bool_tables::Planned;
 use catalogue::Entry;
 use rec_words::Rec;
-use shelf_model::{Shelf, SortFault};
+use shelf_model::{FileNo, Shelf, SortFault};
 
 /// Makes the diagram of a constant.
 pub(crate) fn run_constant<S: Shelf>(
@@ -30,7 +29,11 @@ pub(crate) fn run_constant<S: Shelf>(
     requires room { 16384 ≤ length room.old }
     ensures runs { RunsStep S.tells S.world S.faults n text.now number planned.now shelf.old shelf.new result }
 {
-    let nodes = write_constant(node_file(number), n, value, room, shelf)?;
+    let file = FileNo {
+        step: number,
+        part: 0,
+    };
+    let nodes = write_constant(file, n, value, room, shelf)?;
     Ok(diagram_entry(text, planned, number, nodes, Spent::ONE_TURN))
 }
 
@@ -49,7 +52,11 @@ pub(crate) fn run_variable<S: Shelf>(
     requires room { 16384 ≤ length room.old }
     ensures runs { RunsStep S.tells S.world S.faults n text.now number planned.now shelf.old shelf.new result }
 {
-    let nodes = write_variable(node_file(number), n, level as u16, room, shelf)?;
+    let file = FileNo {
+        step: number,
+        part: 0,
+    };
+    let nodes = write_variable(file, n, level as u16, room, shelf)?;
     Ok(diagram_entry(text, planned, number, nodes, Spent::ONE_TURN))
 }
 

@@ -110,7 +110,15 @@ pub(crate) fn run_comparison<S: Shelf>(
     requires room { 16384 ≤ length room.old }
     ensures runs { RunsStep S.tells S.world S.faults n text.now number planned.now shelf.old shelf.new result }
 {
-    let answered = compare(n, node_file(left), node_file(right), number, room, shelf)?;
+    let left = FileNo {
+        step: left,
+        part: 0,
+    };
+    let right = FileNo {
+        step: right,
+        part: 0,
+    };
+    let answered = compare(n, left, right, number, room, shelf)?;
     let spent = Spent {
         turns: answered.turns,
         parts: answered.next,
@@ -134,7 +142,15 @@ pub(crate) fn run_implication<S: Shelf>(
     requires room { 16384 ≤ length room.old }
     ensures runs { RunsStep S.tells S.world S.faults n text.now number planned.now shelf.old shelf.new result }
 {
-    let answered = imply(n, node_file(left), node_file(right), number, room, shelf)?;
+    let left = FileNo {
+        step: left,
+        part: 0,
+    };
+    let right = FileNo {
+        step: right,
+        part: 0,
+    };
+    let answered = imply(n, left, right, number, room, shelf)?;
     let spent = Spent {
         turns: answered.turns,
         parts: answered.next,
@@ -158,7 +174,11 @@ pub(crate) fn run_evaluation<S: Shelf>(
     requires room { 16384 ≤ length room.old }
     ensures runs { RunsStep S.tells S.world S.faults n text.now number planned.now shelf.old shelf.new result }
 {
-    let answered = evaluate(n, node_file(of), text, at, number, room, shelf)?;
+    let file = FileNo {
+        step: of,
+        part: 0,
+    };
+    let answered = evaluate(n, file, text, at, number, room, shelf)?;
     let spent = Spent {
         turns: answered.turns,
         parts: answered.next,
