@@ -26,6 +26,14 @@ cut_empty f (Err e) old new was none = torn (file old f) (file new f) none was.f
         (elim t.which [ inl same ↦ same ∙ ap (λ (x : File). x.bytes) none | inr cut ↦ cut ])
         (t.firm_is ∙ ap (λ (x : File). min x.firm 0) none) (t.reach_is ∙ ap (λ (x : File). x.reach) none)
 
+-- and one that held no byte holds none
+cut_stays : (f : FileNo) (r : Result Unit Failed) (old new : World) → WasCut f 0 r old new → (file old f).bytes ≡ [] → (file new f).bytes ≡ []
+cut_stays f (Ok u) old new was none = ap (λ (x : File). x.bytes) was.ok
+cut_stays f (Err e) old new was none = torn (file old f) (file new f) none was.failed
+  where
+    torn : (a b : File) → a.bytes ≡ [] → TornCut 0 a b → b.bytes ≡ []
+    torn a b none t = elim t.which [ inl same ↦ same ∙ none | inr cut ↦ cut ]
+
 -- a cut of one of the step's files changes no other, and leaves what was empty empty
 pub cut_tidies : (step : Step) (number : ℕ) (f : FileNo) (r : Result Unit Failed) (old new : World) → IsCutBy step number f → WasCut f 0 r old new
     → IsTidied step number (now old).folder (now new).folder
@@ -36,15 +44,21 @@ cut_tidies step number f r old new cut_by was = record {
         subst (λ x. file new x ≡ no_file) (sym same) (cut_empty f r old new was (subst (λ x. file old x ≡ no_file) same none))
     | inr other ↦ was.others q other ∙ none
   ];
+  stays = λ q none. elim (cases_file q f) [
+    | inl same ↦
+        subst (λ x. (file new x).bytes ≡ []) (sym same) (cut_stays f r old new was (subst (λ x. (file old x).bytes ≡ []) same none))
+    | inr other ↦ ap (λ (x : File). x.bytes) (was.others q other) ∙ none
+  ];
 }
 
 pub stays_tidy : (step : Step) (number : ℕ) (folder : Folder) → IsTidied step number folder folder
-stays_tidy step number folder = record { only = λ q apart. refl; empty = λ q none. none }
+stays_tidy step number folder = record { only = λ q apart. refl; empty = λ q none. none; stays = λ q none. none }
 
 tidy_then : (step : Step) (number : ℕ) (old mid new : Folder) → IsTidied step number old mid → IsTidied step number mid new → IsTidied step number old new
 tidy_then step number old mid new first second = record {
   only = λ q apart. second.only q apart ∙ first.only q apart;
   empty = λ q none. second.empty q (first.empty q none);
+  stays = λ q none. second.stays q (first.stays q none);
 }
 
 module _ {S : Type 0} (tells : S → Bool) (world : S → World) (step : Step) (number : ℕ) where

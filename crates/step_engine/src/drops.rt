@@ -1,5 +1,5 @@
 //! What a committed step leaves behind.
-ghost use Rattle.std.specs.Prelude.{◌≡◌, ℕ, ◌+◌, ◌≤◌, IsTrue, OnOk, []};
+ghost use Rattle.std.specs.Prelude.{◌≡◌, ℕ, ◌+◌, ◌≤◌, IsTrue, cond, OnOk, []};
 ghost use Rattle.bool_tables.specs.declared.steps.Step.TheVariants as variants;
 ghost use Rattle.shelf_model.specs.declared.file_no.FileNo.{FileNo};
 ghost use Rattle.shelf_model.specs.World.{now, file};
@@ -23,7 +23,7 @@ pub fn tidy<S: Shelf>(planned: &Planned, entry: &Entry, shelf: &mut S) -> Result
         (Ran (OnlyTidied planned.now.step entry.now.number (now (S.world shelf.old)))
         (S.world shelf.old) (S.world shelf.new)) }
     ensures calls { IsTrue (S.tells shelf.new)
-        → (S.world shelf.new).clock ≤ (S.world shelf.old).clock + 4 }
+        → (S.world shelf.new).clock ≤ (S.world shelf.old).clock + cond (sweeps planned.now.step) 4 1 }
     ensures empty { OnOk result (IsTrue (S.tells shelf.new) → (gone : ℕ) → planned.now.step ≡ variants.Drop gone →
         (file (S.world shelf.new) (node_file gone)).bytes ≡ []) }
     ensures behind { OnOk result (IsTrue (S.tells shelf.new) → IsTrue (sweeps planned.now.step) → (f : FileNo) →
