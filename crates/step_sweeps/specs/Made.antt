@@ -5,6 +5,7 @@ use Rattle.shelf_model.specs.File.{firm_file}
 use Rattle.shelf_model.specs.Moments.{Ran, OnlyChanged}
 use Rattle.shelf_model.specs.World.{Moment, World, now, file}
 use Rattle.canon_file.specs.Canon.{canon_nodes, canon_bytes}
+use Rattle.canon_file.specs.Laws.{HasForm}
 use Rattle.arc_file.specs.declared.unreduced.Unreduced.{Unreduced}
 use Rattle.run_tiers.specs.declared.parts.Parts.{Parts}
 use Rattle.sweep_core.specs.Accounts.{CanBeTaken}
@@ -59,8 +60,10 @@ pub record AreArcsOf (operation : StepOperation) (n : ℕ) (g : Tables) (m : Mad
   pub few_sources : sources ≤ tuples_by operation n g
   pub few : m.turns ≤ arcs_turns operation n g
 
--- the node file is the canonical one of the table, whatever a stop leaves, and its nodes are counted
+-- the canonical form of the table is defined, the node file is the canonical one of the table, whatever a stop leaves,
+-- and its nodes are counted
 pub record IsReduced (n number : ℕ) (table : List Bool) (m : MadeDiagram) (world : World) : Type 0 where
+  pub form : HasForm n table
   pub file_is : file world (node_file number) ≡ firm_file (canon_bytes n table)
   pub nodes_are : m.nodes ≡ length (canon_nodes n table)
 

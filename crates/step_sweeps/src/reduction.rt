@@ -11,6 +11,7 @@ ghost use Rattle.step_sweeps.specs.Damage.{IsOwnFault};
 
 use crate::MadeDiagram;
 use crate::arcs::MadeArcs;
+use arc_diagrams::laws::reducing_gives_the_canonical_form;
 use rec_words::Rec;
 use reduce_sweep::ReduceSweep;
 use shelf_model::{FileNo, Shelf, SortFault};
@@ -54,6 +55,8 @@ pub(crate) fn reduce_arcs<S: Shelf>(
         Spends S.tells S.world m.turns 3 made.parts.next m.next shelf.old shelf.new)) }
     ensures faults { OnlySortShelf (S.faults shelf.old) (S.faults shelf.new) result }
 {
+    // A diagram of so few arcs has a canonical form.
+    reducing_gives_the_canonical_form();
     let out = FileNo {
         step: number,
         part: 0,
