@@ -5,6 +5,7 @@
 mod answers;
 mod arcs;
 mod diagram;
+mod laws;
 mod operation;
 mod reduction;
 

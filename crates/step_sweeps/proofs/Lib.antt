@@ -1,0 +1,7 @@
+mod Running
+mod Sources
+mod Tasks
+mod Faults
+mod Reducing
+mod Making
+mod Numbers
