@@ -2,3 +2,10 @@ mod ConstantDiagrams
 mod ImpliedSearch
 mod ImpliedAnswer
 mod ImpliedWork
+mod Running
+mod Sources
+mod Tasks
+mod Faults
+mod Reducing
+mod Making
+mod Numbers
