@@ -8,7 +8,6 @@ use Rattle.shelf_model.specs.Folder.{Folder, file_in}
 use Rattle.shelf_model.specs.World.{World, Moment, now}
 use Rattle.shelf_model.specs.Faults.{Faults}
 use Rattle.shelf_model.proofs.Runs.{told_then, told_here, ran_stands, ran_joins, ran_weakens, ran_end}
-use Rattle.run_tiers.specs.Faults.{OnlySortShelf}
 pub use Rattle.run_tiers.proofs.FaultLaws.{sort_shelf_then}
 use Rattle.sweep_core.specs.Accounts.{Accounts, CanBeTaken, OnlyOwn, Leaves}
 
