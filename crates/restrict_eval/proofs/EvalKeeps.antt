@@ -19,7 +19,7 @@ use Rattle.arc_diagrams.proofs.WordLaws.{value-terminal}
 use Rattle.arc_diagrams.proofs.CanonArcs.{canon_stands}
 use Rattle.node_file.specs.declared.reader.NodeReader.{NodeReader}
 use Rattle.node_file.specs.declared.trailer.Trailer.{Trailer}
-use Rattle.node_file.specs.Readers.{trailer_of, left_of, given_of, AreLeft}
+use Rattle.node_file.specs.Readers.{file_of, trailer_of, left_of, given_of, AreLeft}
 use Rattle.sweep_core.specs.Sweeps.{AtEnd}
 use Rattle.sweep_core.specs.declared.turn.Turn.{Turn}
 use Rattle.sweep_core.specs.declared.turn.Turn.TheVariants.{More, Ended}
@@ -34,7 +34,7 @@ use Rattle.restrict_eval.specs.declared.eval.EvalSweep.{EvalSweep}
 use Rattle.node_reading.specs.Reading.{bytes_of, count_of, GivesNode}
 use Rattle.restrict_eval.specs.Missing.{IsMissedAt}
 use Rattle.restrict_eval.specs.Turns.{AnswersAtEnd, Turns}
-use Rattle.restrict_eval.specs.Eval.{bits_of, fuel_at, answer_at, answer_of, parts_of, side_by, IsReady, IsInStep, IsPlaceAt, IsOn, IsOneOf, IsOnWay, IsFollowed, IsPath, IsPassed, OneTable, RemainsOf, evaluations}
+use Rattle.restrict_eval.specs.Eval.{bits_of, fuel_at, answer_at, answer_of, parts_of, task_of, side_by, IsReady, IsInStep, IsPlaceAt, IsOn, IsOneOf, IsOnWay, IsFollowed, IsPath, IsPassed, OneTable, RemainsOf, evaluations}
 use Rattle.restrict_eval.proofs.Looking.{faults_ok, looked_leaves, still_leaves}
 use Rattle.restrict_eval.proofs.Canonical.{canonical_stays}
 use Rattle.restrict_eval.proofs.PathLaws.{root_one, walk_stays, before_above, side_one, side_walks}
@@ -49,6 +49,11 @@ bits_long n text at within =
 -- the sweep with another reader, come to another state
 abbrev pub come_to : EvalSweep → NodeReader → Following → EvalSweep
 come_to s new state = record { nodes = new; file = s.file; text = s.text; at = s.at; state = state; parts = s.parts }
+
+-- with another reader of the same file, come to another state, the sweep has the same task
+task_come : (s : EvalSweep) (new : NodeReader) (state : Following) → file_of new ≡ file_of s.nodes
+    → trailer_of new ≡ trailer_of s.nodes → task_of (come_to s new state) ≡ task_of s
+task_come s new state files trailers = λ i. record { file = files i; variables = (trailers i).n; text = s.text.now; at = s.at }
 
 -- the value that the path has to lead to
 abbrev pub value_of : EvalSweep → OneTable → Bool
@@ -91,6 +96,7 @@ module _ {S : Type 0} (tells : S → Bool) (world : S → World) (counts : S →
           damage = tt;
           refused = tt;
           leaves = looked_leaves tells world counts parts_of before after s _ (Ok More) refl gives.content (faults_ok (counts before) (counts after) (Ok (Some x)) More gives.faults);
+          same = task_come s new state gives.file_is gives.trailer_is;
         }
 
     -- no node is left, and one is missing at a place
@@ -109,6 +115,7 @@ module _ {S : Type 0} (tells : S → Bool) (world : S → World) (counts : S →
       refused = ready.file_is;
       leaves = looked_leaves tells world counts parts_of before after s _ (Err (Damaged s.file at)) refl gives.content
           (record { later = gives.faults.later; cause = λ is. cc; say_is = gives.faults.say_is; text_is = gives.faults.text_is });
+      same = task_come s new s.state gives.file_is gives.trailer_is;
     }
 
     -- a node was read behind the one that is missing
@@ -269,6 +276,7 @@ module _ {S : Type 0} (tells : S → Bool) (world : S → World) (counts : S →
     damage = tt;
     refused = tt;
     leaves = still_leaves tells world counts parts_of at s _ Ended refl;
+    same = refl;
   }
 
 -- the answer that is known is the right one

@@ -28,7 +28,7 @@ use Rattle.restrict_eval.specs.declared.same.SameSweep.{SameSweep}
 use Rattle.node_reading.specs.Reading.{bytes_of, IsReading, IsNodeFault, IsFaultOf, GivesOf, GivesNode}
 use Rattle.restrict_eval.specs.Canonical.{IsCanonical}
 use Rattle.restrict_eval.specs.Turns.{AnswersAtEnd, Turns}
-use Rattle.restrict_eval.specs.Same.{fuel_at, answer_at, answer_of, parts_of, IsReady, IsInStep, Tables, AreCompared, RemainsOf, IsDamage, IsFaultOfEither, comparisons}
+use Rattle.restrict_eval.specs.Same.{fuel_at, answer_at, answer_of, parts_of, task_of, IsReady, IsInStep, Tables, AreCompared, RemainsOf, IsDamage, IsFaultOfEither, comparisons}
 use Rattle.node_reading.proofs.NodeReading.{looked_same, still_reading, node_fault_after}
 use Rattle.restrict_eval.proofs.Looking.{faults_ok, faults_err, looked_leaves, still_leaves}
 
@@ -137,6 +137,27 @@ second_fault f g Shelf fault = tt
 second_fault f g (Damaged h at) fault = inr fault
 second_fault f g RunsSpent fault = fault
 
+-- with another reader of the same file for one of the two, come to another state, the sweep has the same task
+task_left : (s : SameSweep) (new : NodeReader) (state : Comparing) → file_of new ≡ file_of s.left
+    → trailer_of new ≡ trailer_of s.left
+    → task_of (record { left = new; right = s.right; state = state; parts = s.parts }) ≡ task_of s
+task_left s new state files trailers = λ i. record {
+  first = files i;
+  second = file_of s.right;
+  first_variables = (trailers i).n;
+  second_variables = (trailer_of s.right).n;
+}
+
+task_right : (s : SameSweep) (new : NodeReader) (state : Comparing) → file_of new ≡ file_of s.right
+    → trailer_of new ≡ trailer_of s.right
+    → task_of (record { left = s.left; right = new; state = state; parts = s.parts }) ≡ task_of s
+task_right s new state files trailers = λ i. record {
+  first = file_of s.left;
+  second = files i;
+  first_variables = (trailer_of s.left).n;
+  second_variables = (trailers i).n;
+}
+
 module _ {S : Type 0} (tells : S → Bool) (world : S → World) (counts : S → Faults) where
   -- the trailers differ
   pub trailers_differ : (at : S) (s : SameSweep) → s.state ≡ Level → IsReady s → (IsTrue (tells at) → IsInStep s (world at)) → ¬ (trailer_of s.left ≡ trailer_of s.right)
@@ -155,6 +176,7 @@ module _ {S : Type 0} (tells : S → Bool) (world : S → World) (counts : S →
     damage = tt;
     refused = tt;
     leaves = still_leaves tells world counts parts_of at s _ Ended refl;
+    same = refl;
   }
 
   module _ (before after : S) (s : SameSweep) (ready : IsReady s) (step : IsTrue (tells before) → IsInStep s (world before)) where
@@ -194,6 +216,7 @@ module _ {S : Type 0} (tells : S → Bool) (world : S → World) (counts : S →
             damage = tt;
             refused = tt;
             leaves = looked_leaves tells world counts parts_of before after s _ (Ok More) refl gives.content (faults_ok (counts before) (counts after) (Ok (Some x)) More gives.faults);
+            same = task_left s new (Ahead x) gives.file_is gives.trailer_is;
           }
 
       -- the first file has no more nodes
@@ -216,6 +239,7 @@ module _ {S : Type 0} (tells : S → Bool) (world : S → World) (counts : S →
         damage = tt;
         refused = tt;
         leaves = looked_leaves tells world counts parts_of before after s _ (Ok Ended) refl gives.content (faults_ok (counts before) (counts after) (Ok None) Ended gives.faults);
+        same = task_left s new (Answered true) gives.file_is gives.trailer_is;
       }
 
       -- the reading was refused
@@ -233,6 +257,7 @@ module _ {S : Type 0} (tells : S → Bool) (world : S → World) (counts : S →
         damage = λ told. left_damage e (record { left = new; right = s.right; state = s.state; parts = s.parts }) (world after) (node_fault_after s.left new (world before) (world after) e gives.file_is gives.trailer_is (gives.same told) (gives.damage told));
         refused = first_fault (file_of s.left) (file_of s.right) e gives.refused;
         leaves = looked_leaves tells world counts parts_of before after s _ (Err e) refl gives.content (faults_err (counts before) (counts after) e gives.faults);
+        same = task_left s new s.state gives.file_is gives.trailer_is;
       }
 
       -- the next node of the second file is the one that was read of the first
@@ -262,6 +287,7 @@ module _ {S : Type 0} (tells : S → Bool) (world : S → World) (counts : S →
             damage = tt;
             refused = tt;
             leaves = looked_leaves tells world counts parts_of before after s _ (Ok More) refl gives.content (faults_ok (counts before) (counts after) (Ok (Some x)) More gives.faults);
+            same = task_right s new Level gives.file_is gives.trailer_is;
           }
 
       -- it is another one, or there is none
@@ -291,6 +317,7 @@ module _ {S : Type 0} (tells : S → Bool) (world : S → World) (counts : S →
         damage = tt;
         refused = tt;
         leaves = looked_leaves tells world counts parts_of before after s _ (Ok Ended) refl gives.content (faults_ok (counts before) (counts after) (Ok found) Ended gives.faults);
+        same = task_right s new (Answered false) gives.file_is gives.trailer_is;
       }
 
       -- its reading was refused
@@ -308,6 +335,7 @@ module _ {S : Type 0} (tells : S → Bool) (world : S → World) (counts : S →
         damage = λ told. right_damage e (record { left = s.left; right = new; state = s.state; parts = s.parts }) (world after) (node_fault_after s.right new (world before) (world after) e gives.file_is gives.trailer_is (gives.same told) (gives.damage told));
         refused = second_fault (file_of s.left) (file_of s.right) e gives.refused;
         leaves = looked_leaves tells world counts parts_of before after s _ (Err e) refl gives.content (faults_err (counts before) (counts after) e gives.faults);
+        same = task_right s new s.state gives.file_is gives.trailer_is;
       }
 
 -- the answer that is known is the right one

@@ -5,25 +5,21 @@ use Rattle.std.proofs.lemmas.List.{drop_at}
 use Rattle.std.proofs.lemmas.Nat.{from_be_bytes-to_be_bytes_8}
 use Rattle.rec_words.specs.declared.rec.Rec.{Rec}
 use Rattle.rec_words.specs.declared.node.Node.{Node}
-use Rattle.shelf_model.specs.declared.file_no.FileNo.{FileNo}
 use Rattle.shelf_model.specs.declared.fault.StreamFault.{StreamFault}
 use Rattle.shelf_model.specs.declared.fault.StreamFault.TheVariants as stream
 use Rattle.shelf_model.specs.SortFaults.{handed_on}
 use Rattle.shelf_model.specs.Faults.{Faults, OnlyShelf}
-use Rattle.shelf_model.specs.World.{World, file}
 use Rattle.run_tiers.specs.Faults.{OnlySortShelf}
 use Rattle.block_stream.specs.Records.{record_of, record_at}
-use Rattle.block_stream.specs.Reads.{IsDamageOf}
 use Rattle.canon_file.specs.Canon.{canon_nodes, canon_root, node_bytes, trailer_bytes}
 use Rattle.canon_file.specs.Laws.{HasForm}
 use Rattle.canon_file.proofs.ByteLaws.{length-node_bytes}
 use Rattle.arc_diagrams.specs.Arcs.{IsWithin}
 use Rattle.arc_diagrams.proofs.CanonArcs.{canon_complete}
 use Rattle.node_file.specs.declared.reader.NodeReader.{NodeReader}
-use Rattle.node_file.specs.Nodes.{HasTrailer, HasNodes, IsTrailerDamage}
-use Rattle.node_file.specs.Readers.{file_of, trailer_of, Reads}
+use Rattle.node_file.specs.Nodes.{HasTrailer, HasNodes}
+use Rattle.node_file.specs.Readers.{trailer_of}
 use Rattle.sweep_core.specs.Sweeps.{IsNoDamage}
-use Rattle.node_reading.specs.Reading.{bytes_of, count_of, IsReading, IsTrailerFault}
 
 -- the pointer that the trailer of a file of nodes has
 root_read : (n r root : ℕ) (xs : List Node) (bytes : List ℕ) → root < 2 ^ 64 → HasTrailer n r bytes → HasNodes n root xs bytes → r ≡ root

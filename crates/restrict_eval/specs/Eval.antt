@@ -4,6 +4,7 @@ use Rattle.bool_tables.specs.Tables.{value_at, place_of_bits}
 use Rattle.bool_tables.specs.Steps.{bits_at}
 use Rattle.rec_words.specs.Words.{level_of, terminal, IsTerminal, IsNodeWord, IsPointer}
 use Rattle.rec_words.specs.declared.node.Node.{Node}
+use Rattle.shelf_model.specs.declared.file_no.FileNo.{FileNo}
 use Rattle.shelf_model.specs.declared.sort_fault.SortFault.{SortFault}
 use Rattle.shelf_model.specs.declared.sort_fault.SortFault.TheVariants.{Shelf, Damaged, RunsSpent}
 use Rattle.shelf_model.specs.World.{World}
@@ -53,6 +54,17 @@ fuel_at (Answered b) n = 0
 
 abbrev pub turns_left : EvalSweep → ℕ
 turns_left s = fuel_at s.state (left_of s.nodes)
+
+-- the file that is read, of how many variables it is, and the text whose bytes from a place on are the bits
+pub record Evaluated : Type 0 where
+  pub file : FileNo
+  pub variables : ℕ
+  pub text : List ℕ
+  pub at : ℕ
+
+-- what no turn changes
+abbrev pub task_of : EvalSweep → Evaluated
+task_of s = record { file = file_of s.nodes; variables = (trailer_of s.nodes).n; text = s.text.now; at = s.at }
 
 -- the place is one of so many
 abbrev pub IsPlaceAt : Following → ℕ → Type 0
@@ -148,4 +160,6 @@ evaluations = record {
   damaged = IsDamage;
   refuses = λ s. IsFaultOf (file_of s.nodes);
   parts = parts_of;
+  Task = Evaluated;
+  task = task_of;
 }

@@ -8,7 +8,7 @@ use Rattle.shelf_model.specs.declared.sort_fault.SortFault.TheVariants.{Shelf, D
 use Rattle.shelf_model.specs.World.{World}
 use Rattle.canon_file.specs.Canon.{canon_nodes}
 use Rattle.node_file.specs.declared.reader.NodeReader.{NodeReader}
-use Rattle.node_file.specs.Readers.{file_of, left_of}
+use Rattle.node_file.specs.Readers.{file_of, trailer_of, left_of}
 use Rattle.run_tiers.specs.declared.parts.Parts.{Parts}
 use Rattle.sweep_core.specs.Accounts.{Accounts}
 use Rattle.restrict_eval.specs.declared.comparing.Comparing.{Comparing}
@@ -43,6 +43,22 @@ fuel_at (Answered b) n = 0
 
 abbrev pub turns_left : SameSweep → ℕ
 turns_left s = fuel_at s.state (left_of s.left + left_of s.right)
+
+-- the two files that are compared, and of how many variables each is
+pub record Compared : Type 0 where
+  pub first : FileNo
+  pub second : FileNo
+  pub first_variables : ℕ
+  pub second_variables : ℕ
+
+-- what no turn changes
+abbrev pub task_of : SameSweep → Compared
+task_of s = record {
+  first = file_of s.left;
+  second = file_of s.right;
+  first_variables = (trailer_of s.left).n;
+  second_variables = (trailer_of s.right).n;
+}
 
 -- what is true of it whatever the folder holds
 pub record IsReady (s : SameSweep) : Type 0 where
@@ -101,4 +117,6 @@ comparisons = record {
   damaged = IsDamage;
   refuses = λ s. IsFaultOfEither (file_of s.left) (file_of s.right);
   parts = parts_of;
+  Task = Compared;
+  task = task_of;
 }

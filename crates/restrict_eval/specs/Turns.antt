@@ -21,6 +21,9 @@ pub record Kind (P : Type 0) : Type 1 where
   pub damaged : P → World → SortFault → Type 0
   pub refuses : P → SortFault → Type 0
   pub parts : P → Parts
+  -- what no turn changes
+  pub Task : Type 0
+  pub task : P → Task
 
 -- what a turn answers tells whether the sweep's answer is known
 abbrev pub AnswersAtEnd : Turn → Option Bool → Type 0
@@ -41,3 +44,4 @@ pub record Turns {S P : Type 0} (kind : Kind P) (tells : S → Bool) (world : S 
   pub damage : IfErr result (λ e. IsTrue (tells after) → kind.damaged new (world after) e)
   pub refused : IfErr result (kind.refuses old)
   pub leaves : Leaves tells world counts (reading_accounts kind.parts) 1 0 before after old new result
+  pub same : kind.task new ≡ kind.task old

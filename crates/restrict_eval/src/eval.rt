@@ -43,7 +43,7 @@ impl<'r> EvalSweep<'r> {
     ghost use Rattle.sweep_core.specs.Sweeps.{Falls, AtEnd, StaysEnded, IsNoDamage};
     ghost use Rattle.node_reading.specs.Reading.{count_of, IsTrailerFault, IsFaultOf};
     ghost use Rattle.restrict_eval.specs.Turns.{AnswersAtEnd, Turns};
-    ghost use Rattle.restrict_eval.specs.Eval.{accounts, parts_of, bits_of, answer_of, turns_left, side_by, IsReady, IsInStep, OneTable, RemainsOf, IsDamage, evaluations};
+    ghost use Rattle.restrict_eval.specs.Eval.{accounts, parts_of, bits_of, answer_of, turns_left, task_of, side_by, IsReady, IsInStep, OneTable, RemainsOf, IsDamage, evaluations};
 
     /// Begins the evaluation of the node file of a diagram of `n` variables. The bits of the assignment are the `n`
     /// bytes of the text from `at` on, each `0` or `1`.
@@ -137,6 +137,7 @@ impl<'r> EvalSweep<'r> {
         // what the call leaves, and what it costs
         ensures leaves { Leaves S.tells S.world S.faults accounts 1 0 shelf.old shelf.new self.old self.new result }
         ensures refused { IfErr result (IsFaultOf (file_of self.old.nodes)) }
+        ensures same { task_of self.new ≡ task_of self.old }
     {
         match self.state {
             Following::To(next) => self.follow(next.pointer, shelf),
@@ -233,7 +234,7 @@ fn level_at(node: &Node) -> usize
 }
 
 impl<'r> Sweep<'r> for EvalSweep<'r> {
-    ghost use Rattle.restrict_eval.specs.Eval.{accounts, turns_left, IsReady, IsInStep, OneTable, RemainsOf, IsDamage};
+    ghost use Rattle.restrict_eval.specs.Eval.{accounts, turns_left, Evaluated, task_of, IsReady, IsInStep, OneTable, RemainsOf, IsDamage};
 
     ghost Job = { OneTable };
 
@@ -246,6 +247,10 @@ impl<'r> Sweep<'r> for EvalSweep<'r> {
     ghost accounts = { accounts };
 
     ghost damaged = { IsDamage };
+
+    ghost Task = { Evaluated };
+
+    ghost task = { task_of };
 
     ghost ready = { IsReady };
 

@@ -36,7 +36,7 @@ impl<'r> SameSweep<'r> {
     ghost use Rattle.sweep_core.specs.Accounts.{Leaves};
     ghost use Rattle.sweep_core.specs.Sweeps.{Falls, AtEnd, StaysEnded, IsNoDamage};
     ghost use Rattle.node_reading.specs.Reading.{count_of, IsTrailerFault};
-    ghost use Rattle.restrict_eval.specs.Same.{accounts, parts_of, answer_of, turns_left, IsReady, IsInStep, Tables, RemainsOf, IsDamage, IsFaultOfEither, comparisons};
+    ghost use Rattle.restrict_eval.specs.Same.{accounts, parts_of, answer_of, turns_left, task_of, IsReady, IsInStep, Tables, RemainsOf, IsDamage, IsFaultOfEither, comparisons};
     ghost use Rattle.restrict_eval.specs.Turns.{AnswersAtEnd, Turns};
 
     /// Begins the comparison of two node files of `n` variables. 176 records of the room are used.
@@ -127,6 +127,7 @@ impl<'r> SameSweep<'r> {
         // what the call leaves, and what it costs
         ensures leaves { Leaves S.tells S.world S.faults accounts 1 0 shelf.old shelf.new self.old self.new result }
         ensures refused { IfErr result (IsFaultOfEither (file_of self.old.left) (file_of self.old.right)) }
+        ensures same { task_of self.new ≡ task_of self.old }
     {
         match self.state {
             Comparing::Level => self.read_left(shelf),
@@ -171,7 +172,7 @@ impl<'r> SameSweep<'r> {
 }
 
 impl<'r> Sweep<'r> for SameSweep<'r> {
-    ghost use Rattle.restrict_eval.specs.Same.{accounts, turns_left, IsReady, IsInStep, Tables, RemainsOf, IsDamage};
+    ghost use Rattle.restrict_eval.specs.Same.{accounts, turns_left, Compared, task_of, IsReady, IsInStep, Tables, RemainsOf, IsDamage};
 
     ghost Job = { Tables };
 
@@ -184,6 +185,10 @@ impl<'r> Sweep<'r> for SameSweep<'r> {
     ghost accounts = { accounts };
 
     ghost damaged = { IsDamage };
+
+    ghost Task = { Compared };
+
+    ghost task = { task_of };
 
     ghost ready = { IsReady };
 
