@@ -87,7 +87,7 @@ impl<'r> Sweep<'r> for ProductSweep<'r> {
     ghost use Rattle.top_down_sweep.specs.Damage.{IsDamage};
     ghost use Rattle.top_down_sweep.specs.Fuel.{fuel_of};
     ghost use Rattle.top_down_sweep.specs.Making.{TableJob, accounts_along};
-    ghost use Rattle.top_down_sweep.specs.Sweeps.{accounts};
+    ghost use Rattle.top_down_sweep.specs.Sweeps.{SweepTask, task_of, accounts};
     ghost use Rattle.top_down_sweep.specs.declared.product.Product.{Product};
     ghost use Rattle.product_sweep.specs.Products.{sweep_of, MakesTable};
 
@@ -102,6 +102,10 @@ impl<'r> Sweep<'r> for ProductSweep<'r> {
     ghost accounts = { accounts_along sweep_of (accounts Product) };
 
     ghost damaged = { λ s world e. IsDamage (sweep_of s) world e };
+
+    ghost Task = { SweepTask };
+
+    ghost task = { λ s. task_of (sweep_of s) };
 
     ghost ready = { λ s. IsReady (sweep_of s) };
 

@@ -23,7 +23,7 @@ use Rattle.sweep_core.specs.Accounts.{OnlyOwn}
 use Rattle.sweep_core.proofs.Leaving.{leaves_then, leaves_more, leaves_ok, leaves_err}
 use Rattle.reduce_sweep.specs.declared.place.Place.{Place}
 use Rattle.reduce_sweep.specs.declared.reduce.ReduceSweep.{ReduceSweep}
-use Rattle.reduce_sweep.specs.Sweeps.{inner_file, ends_file, accounts, IsSound, Refuses}
+use Rattle.reduce_sweep.specs.Sweeps.{inner_file, ends_file, task_of, accounts, IsSound, Refuses}
 use Rattle.reduce_sweep.specs.Damage.{IsDamagedIn, IsDamageOf, IsDamagedRecord, IsDamage}
 use Rattle.reduce_sweep.specs.Calls.{SameTask, Does}
 
@@ -35,6 +35,15 @@ task_then p q r first second = record {
   ends_are = second.ends_are ∙ first.ends_are;
   variables_are = second.variables_are ∙ first.variables_are;
   root_is = second.root_is ∙ first.root_is;
+}
+
+-- a task that stays, as one value
+pub task_same : (p q : ReduceSweep) → SameTask p q → task_of q ≡ task_of p
+task_same p q same = λ i. record {
+  out = same.out_is i;
+  inner = same.inner_is i;
+  ends = same.ends_are i;
+  variables = same.variables_are i;
 }
 
 -- what is damaged in a file was so while its bytes were the same

@@ -1,7 +1,7 @@
 -- Why the calls of the queue, of the rows and of the names are refused: none of their runs is damaged where the folder
 -- tells, and else damage is in a file whose part was taken.
-use Rattle.std.proofs.Common.{◌≡◌, ◌∙◌, ℕ, List, ap, sym, subst, inl, inr}
-use Rattle.std.specs.Prelude.{Result, Ok, Err, Option, IfErr, IsErrAnd}
+use Rattle.std.proofs.Common.{◌≡◌, ◌∙◌, ◌^◌, ◌≤◌, ℕ, List, ap, sym, subst, inl, inr}
+use Rattle.std.specs.Prelude.{Result, Ok, Err, Option, IfErr, IsErrAnd, IsErrOf}
 use Rattle.shelf_model.specs.declared.file_no.FileNo.{FileNo}
 use Rattle.shelf_model.specs.declared.sort_fault.SortFault.{SortFault}
 use Rattle.shelf_model.specs.declared.sort_fault.SortFault.TheVariants.{Shelf, Damaged, RunsSpent}
@@ -87,3 +87,9 @@ pub write_undamaged : {T : Type 0} (told : Type 0) (r : ArcReader) (world : Worl
     → IfErr result (λ e. told → IsDamageOf r world e)
 write_undamaged told r world (Ok x) fault is shelf = tt
 write_undamaged told r world (Err e) fault is shelf = λ tell. subst (IsDamageOf r world) (sym (is ∙ ap handed_on shelf)) tt
+
+-- where it is refused for want of a part number, no number below 2 ^ 32 is left
+pub refused_spent : {T : Type 0} (inner ends : FileNo) (t : ReduceSweep) (result : Result T SortFault)
+    → IfErr result (Refuses inner ends t) → IsErrOf result RunsSpent → 2 ^ 32 ≤ t.parts.next
+refused_spent inner ends t result refused spent =
+    subst (λ (r : Result _ SortFault). IfErr r (Refuses inner ends t)) spent refused

@@ -35,6 +35,21 @@ inner_file r = file_of (inner_of r.ahead.reader)
 abbrev pub ends_file : ReduceSweep → FileNo
 ends_file r = file_of (ends_of r.ahead.reader)
 
+-- what no turn changes: the file of the nodes, the two arc files, and the number of variables
+pub record Task : Type 0 where
+  pub out : FileNo
+  pub inner : FileNo
+  pub ends : FileNo
+  pub variables : ℕ
+
+abbrev pub task_of : ReduceSweep → Task
+task_of r = record {
+  out = out_of r;
+  inner = inner_file r;
+  ends = ends_file r;
+  variables = r.place.variables;
+}
+
 -- how many nodes the diagram has, once the reduction has ended
 abbrev pub count_at : Phase → Option ℕ
 count_at Between = None

@@ -12,7 +12,7 @@ impl<'r> ReduceSweep<'r> {
     ghost use Rattle.shelf_model.specs.World.{file};
     ghost use Rattle.sweep_core.specs.Accounts.{Leaves};
     ghost use Rattle.sweep_core.specs.Sweeps.{Falls, AtEnd, IsFirm, StaysEnded, IsNoDamage};
-    ghost use Rattle.reduce_sweep.specs.Sweeps.{out_of, inner_file, ends_file, count_in, turns_left, accounts, IsGoing, IsSound, Handles, CountsAtEnd, Refuses};
+    ghost use Rattle.reduce_sweep.specs.Sweeps.{out_of, inner_file, ends_file, task_of, count_in, turns_left, accounts, IsGoing, IsSound, Handles, CountsAtEnd, Refuses};
     ghost use Rattle.reduce_sweep.specs.Damage.{IsDamageOf, IsDamage};
     ghost use Rattle.reduce_sweep.specs.Calls.{Does, IsFit, IsInStep};
     ghost use Rattle.reduce_sweep.specs.Remaining.{Diagram, Contents, Holds, IsLeft, to_collect, IsWorking, IsReduced, RemainsOf};
@@ -44,6 +44,7 @@ impl<'r> ReduceSweep<'r> {
 
         // what the call leaves, and what it costs
         ensures leaves { Leaves S.tells S.world S.faults accounts 134 6 shelf.old shelf.new self.old self.new result }
+        ensures same { task_of self.new ≡ task_of self.old }
         ensures refused { IfErr result (Refuses (inner_file self.old) (ends_file self.old) self.new) }
     {
         if let Phase::Ended(_count) = self.place.phase {
@@ -172,7 +173,7 @@ impl<'r> ReduceSweep<'r> {
 
 impl<'r> Sweep<'r> for ReduceSweep<'r> {
     ghost use Rattle.reduce_sweep.specs.Remaining.{Diagram, RemainsOf};
-    ghost use Rattle.reduce_sweep.specs.Sweeps.{accounts, turns_left, IsSound};
+    ghost use Rattle.reduce_sweep.specs.Sweeps.{Task, task_of, accounts, turns_left, IsSound};
     ghost use Rattle.reduce_sweep.specs.Damage.{IsDamage};
     ghost use Rattle.reduce_sweep.specs.Calls.{IsInStep};
 
@@ -187,6 +188,10 @@ impl<'r> Sweep<'r> for ReduceSweep<'r> {
     ghost accounts = { accounts };
 
     ghost damaged = { IsDamage };
+
+    ghost Task = { Task };
+
+    ghost task = { task_of };
 
     ghost ready = { IsSound };
 

@@ -1,5 +1,5 @@
 -- Calls within a turn, one behind the other: what they leave and cost together.
-use Rattle.std.proofs.Common.{◌≡◌, ℕ, ◌+◌, ◌≤◌, ◌∙◌, Bool, List, refl, subst, sym, ap, inl, inr, arith}
+use Rattle.std.proofs.Common.{◌≡◌, ℕ, ◌+◌, ◌^◌, ◌≤◌, ◌∙◌, Bool, List, refl, subst, sym, ap, inl, inr, arith}
 use Rattle.std.specs.Prelude.{Result, Ok, Err, IsErrAnd, IfErr, OnOk, IsErrOf, IsTrue, ◌⊎◌, ◌≢◌}
 use Rattle.shelf_model.specs.declared.file_no.FileNo.{FileNo}
 use Rattle.shelf_model.specs.declared.sort_fault.SortFault.{SortFault}
@@ -25,7 +25,8 @@ use Rattle.sweep_core.proofs.Leaving.{own_stays, leaves_then, leaves_more, leave
 use Rattle.top_down_sweep.specs.declared.machine.Machine.{Machine}
 use Rattle.top_down_sweep.specs.declared.ask.Ask.{Ask}
 use Rattle.top_down_sweep.specs.declared.place.Place.{Place}
-use Rattle.top_down_sweep.specs.Sweeps.{files_in, IsServed, IsDamageIn, machine_accounts, Refuses}
+use Rattle.top_down_sweep.specs.declared.sweep.TopDownSweep.{TopDownSweep}
+use Rattle.top_down_sweep.specs.Sweeps.{files_in, task_in, parts_of, IsServed, IsDamageIn, machine_accounts, Refuses, Refused}
 use Rattle.sweep_core.specs.Sweeps.{IsNoDamage}
 use Rattle.top_down_sweep.specs.declared.operand.Operands.{Operands}
 use Rattle.top_down_sweep.specs.Damage.{IsMachineDamage}
@@ -37,6 +38,16 @@ task_then p q r first second = record {
   files_are = second.files_are ∙ first.files_are;
   variables_are = second.variables_are ∙ first.variables_are;
 }
+
+-- a task that stays, as one value
+pub task_same : (p q : Machine) → SameTask p q → task_in q ≡ task_in p
+task_same p q same = λ i. record { files = same.files_are i; variables = same.variables_are i }
+
+-- where it is refused for want of a part number, no number below 2 ^ 32 is left
+pub refused_spent : {O T : Type 0} (s : TopDownSweep O) (result : Result T SortFault)
+    → IfErr result (Refused s) → IsErrOf result RunsSpent → 2 ^ 32 ≤ (parts_of s).next
+refused_spent s result refused spent =
+    subst (λ (r : Result _ SortFault). IfErr r (Refused s)) spent refused
 
 -- a refusal
 abbrev pub err : {T : Type 0} → SortFault → Result T SortFault

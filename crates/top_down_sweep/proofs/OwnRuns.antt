@@ -1,7 +1,6 @@
 -- What refuses a call of the queue: a file of its runs, whose parts were taken, or no part number.
-use Rattle.std.proofs.Common.{◌≡◌, ◌≤◌, List, inl, inr}
+use Rattle.std.proofs.Common.{◌≤◌, List, inl, inr}
 use Rattle.std.specs.Prelude.{Option, Result, Ok, Err, IfErr}
-use Rattle.shelf_model.specs.declared.file_no.FileNo.{FileNo}
 use Rattle.shelf_model.specs.declared.sort_fault.SortFault.{SortFault}
 use Rattle.shelf_model.specs.declared.sort_fault.SortFault.TheVariants.{Shelf, Damaged, RunsSpent}
 use Rattle.run_tiers.specs.declared.parts.Parts.{Parts}

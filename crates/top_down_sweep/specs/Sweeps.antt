@@ -38,6 +38,14 @@ files_in m = record {
   ends = arcs.ends_file m.writer;
 }
 
+-- what no turn changes: the files, and of how many variables the diagrams are
+pub record SweepTask : Type 0 where
+  pub files : Files
+  pub variables : ℕ
+
+abbrev pub task_in : Machine → SweepTask
+task_in m = record { files = files_in m; variables = m.place.variables }
+
 -- the operands are read from those files
 pub record HaveFiles (files : Files) (o : Operands) : Type 0 where
   pub first_is : o.first.file ≡ files.first
@@ -157,6 +165,13 @@ files_of s = files_in s.machine
 
 abbrev pub parts_of : {O : Type 0} → TopDownSweep O → Parts
 parts_of s = s.machine.parts
+
+-- of how many variables the diagrams are
+abbrev pub variables_of : {O : Type 0} → TopDownSweep O → ℕ
+variables_of s = s.machine.place.variables
+
+abbrev pub task_of : {O : Type 0} → TopDownSweep O → SweepTask
+task_of s = task_in s.machine
 
 abbrev pub made_in : {O : Type 0} → TopDownSweep O → Option Unreduced
 made_in s = made_at s.machine.place.phase

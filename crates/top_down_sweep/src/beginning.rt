@@ -16,10 +16,12 @@ pub struct OperandFiles {
 }
 
 impl<'r, O: Operation> TopDownSweep<'r, O> {
-    ghost use Rattle.std.specs.Prelude.{IsTrue, length};
+    ghost use Rattle.std.specs.Prelude.{◌*◌, IsTrue, length};
     ghost use Rattle.sweep_core.specs.Sweeps.{IsNoDamage};
     ghost use Rattle.top_down_sweep.specs.Beginning.{Begun, Starts};
     ghost use Rattle.top_down_sweep.specs.Meaning.{Task, IsTaskOn, Remains};
+    ghost use Rattle.top_down_sweep.specs.Sweeps.{variables_of};
+    ghost use Rattle.top_down_sweep.specs.Turns.{Work, nodes_of, left_of};
 
     /// Begins an operation on diagrams of `n` variables. The next two parts are its files of arcs, and those
     /// behind them are for its queue.
@@ -37,6 +39,7 @@ impl<'r, O: Operation> TopDownSweep<'r, O> {
         requires past_made { 3 ≤ parts.next }
         ensures begun { IfOk result (Begun S.tells S.world (files_from operands parts) (after_two parts)
             shelf.old shelf.new) }
+        ensures variables { IfOk result (λ s. variables_of s ≡ n) }
         ensures leaves { Starts S.tells S.world S.faults n (files_from operands parts) parts
             shelf.old shelf.new result }
 
@@ -44,6 +47,10 @@ impl<'r, O: Operation> TopDownSweep<'r, O> {
         ensures remains { IfOk result (λ s. IsTrue (S.tells shelf.new) → (t : Task) →
             IsTaskOn t (O.rule operation) (O.begins operation) n (files_from operands parts) parts.step
             (S.world shelf.old) → Remains O.rule O.begins s (S.world shelf.new) t) }
+        ensures left { IfOk result (λ s. IsTrue (S.tells shelf.new) → (w : Work) →
+            IsTaskOn w.task (O.rule operation) (O.begins operation) n (files_from operands parts) parts.step
+            (S.world shelf.old) →
+            left_of s (S.world shelf.new) w ≡ 6 * length w.tuples + nodes_of w.task.diagrams + 5) }
         ensures undamaged { IfErr result (λ e. IsTrue (S.tells shelf.new) → (t : Task) →
             IsTaskOn t (O.rule operation) (O.begins operation) n (files_from operands parts) parts.step
             (S.world shelf.old) → IsNoDamage e) }

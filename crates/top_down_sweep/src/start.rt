@@ -37,7 +37,7 @@ impl<'r, O: Operation> TopDownSweep<'r, O> {
     ghost use Rattle.run_tiers.specs.Faults.{OnlySortShelf};
     ghost use Rattle.run_tiers.specs.Parts.{Paid};
     ghost use Rattle.sweep_core.specs.Accounts.{CanBeTaken};
-    ghost use Rattle.top_down_sweep.specs.Sweeps.{files_of, parts_of, made_in, credit_of, stock_of, IsSound, IsStartDamage};
+    ghost use Rattle.top_down_sweep.specs.Sweeps.{files_of, variables_of, parts_of, made_in, credit_of, stock_of, IsSound, IsStartDamage};
     ghost use Rattle.top_down_sweep.specs.Damage.{IsStartFault};
     ghost use Rattle.top_down_sweep.specs.Calls.{IsInStep};
     ghost use Rattle.sweep_core.specs.Sweeps.{IsNoDamage};
@@ -65,6 +65,7 @@ impl<'r, O: Operation> TopDownSweep<'r, O> {
         ensures ready { IfOk result IsSound }
         ensures in_step { IfOk result (λ s. IsTrue (S.tells shelf.new) → IsInStep s (S.world shelf.new)) }
         ensures files { IfOk result (λ s. files_of s ≡ files) }
+        ensures variables { IfOk result (λ s. variables_of s ≡ n) }
         ensures parts { IfOk result (λ s. parts_of s ≡ parts) }
         ensures made { IfOk result (λ s. made_in s ≡ None) }
 

@@ -44,7 +44,7 @@ impl<'r, O: Operation> TopDownSweep<'r, O> {
     ghost use Rattle.shelf_model.specs.World.{file};
     ghost use Rattle.sweep_core.specs.Accounts.{Leaves};
     ghost use Rattle.sweep_core.specs.Sweeps.{Falls, AtEnd, IsFirm, StaysEnded};
-    ghost use Rattle.top_down_sweep.specs.Sweeps.{files_of, made_in, accounts, IsMade, HasMade, IsSound, MakesAtEnd, Refused};
+    ghost use Rattle.top_down_sweep.specs.Sweeps.{files_of, task_of, made_in, accounts, IsMade, HasMade, IsSound, MakesAtEnd, Refused};
     ghost use Rattle.top_down_sweep.specs.Fuel.{fuel_of};
     ghost use Rattle.top_down_sweep.specs.Damage.{IsDamage};
     ghost use Rattle.top_down_sweep.specs.Calls.{IsInStep};
@@ -61,6 +61,7 @@ impl<'r, O: Operation> TopDownSweep<'r, O> {
         ensures ready { OnOk result (IsSound self.new) }
         ensures in_step { OnOk result (IsTrue (S.tells shelf.new) → IsInStep self.new (S.world shelf.new)) }
         ensures files { files_of self.new ≡ files_of self.old }
+        ensures same { task_of self.new ≡ task_of self.old }
         ensures operation { self.new.operation ≡ self.old.operation }
         ensures ends { IfOk result (λ turn. MakesAtEnd turn (made_in self.new)) }
         ensures made { OnOk result (IfSome (made_in self.new)
@@ -96,7 +97,7 @@ impl<'r, O: Operation> TopDownSweep<'r, O> {
 impl<'r, O: Operation> Sweep<'r> for TopDownSweep<'r, O> {
     ghost use Rattle.top_down_sweep.specs.Meaning.{Remains};
     ghost use Rattle.top_down_sweep.specs.Turns.{Work, left_of};
-    ghost use Rattle.top_down_sweep.specs.Sweeps.{accounts, IsSound};
+    ghost use Rattle.top_down_sweep.specs.Sweeps.{SweepTask, task_of, accounts, IsSound};
     ghost use Rattle.top_down_sweep.specs.Fuel.{fuel_of};
     ghost use Rattle.top_down_sweep.specs.Damage.{IsDamage};
     ghost use Rattle.top_down_sweep.specs.Calls.{IsInStep};
@@ -112,6 +113,10 @@ impl<'r, O: Operation> Sweep<'r> for TopDownSweep<'r, O> {
     ghost accounts = { accounts O };
 
     ghost damaged = { IsDamage };
+
+    ghost Task = { SweepTask };
+
+    ghost task = { task_of };
 
     ghost ready = { IsSound };
 

@@ -1,6 +1,6 @@
 use Rattle.std.proofs.Common.{◌<◌, ◌+◌, arith, IsTrue}
 use Rattle.reduce_sweep.specs.Sweeps.{turns_left, arcs_weight, lists_weight}
-use Rattle.reduce_sweep.proofs.Doing.{damage_after}
+use Rattle.reduce_sweep.proofs.Doing.{task_same, damage_after}
 use Rattle.reduce_sweep.proofs.Undamaged.{turns_undamaged}
 use Rattle.reduce_sweep.proofs.TurnKeeps.{going_left, going_works, turn_reduces, turn_firm, on_ok_weaker}
 use Rattle.reduce_sweep.proofs.reduce.ReduceSweep.turn.Goals as goal
@@ -27,5 +27,6 @@ returns g c =
       damaged = damage_after g.S.Shelf.tells g.S.Shelf.world g.S.Shelf.faults 134 6 _ _ s t c.handle.result c.requires.ready c.handle.ensures.does;
       undamaged = turns_undamaged (IsTrue (g.S.Shelf.tells c.handle.new.shelf)) s old c.handle.result (λ d remains. going_works s.place.phase s old d going remains) c.handle.ensures.does.damage;
       leaves = c.handle.ensures.does.leaves;
+      same = task_same s t c.handle.ensures.does.same;
       refused = c.handle.ensures.does.refused;
     }

@@ -1,7 +1,12 @@
+use Rattle.top_down_sweep.proofs.Doing.{task_same}
 use Rattle.top_down_sweep.proofs.TurnKeeps.{made_where}
 use Rattle.top_down_sweep.proofs.Holding.{if_err_map}
 use Rattle.std.proofs.lemmas.Result.{on_ok_weaker}
 use Rattle.top_down_sweep.proofs.sweep.TopDownSweep.turn.Goals as goal
+
+-- the machine's files stay, and its number of variables
+pub returns-clause-same : goal.returns-clause-same
+returns-clause-same g c = task_same c.args.self.now.machine c.turn.new.self c.turn.ensures.does.same
 
 -- what the machine keeps is kept
 pub returns-clause-keeps : goal.returns-clause-keeps
