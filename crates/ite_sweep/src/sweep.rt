@@ -88,7 +88,7 @@ impl<'r> Sweep<'r> for IteSweep<'r> {
     ghost use Rattle.top_down_sweep.specs.Damage.{IsDamage};
     ghost use Rattle.top_down_sweep.specs.Fuel.{fuel_of};
     ghost use Rattle.top_down_sweep.specs.Making.{TableJob, accounts_along};
-    ghost use Rattle.top_down_sweep.specs.Sweeps.{accounts};
+    ghost use Rattle.top_down_sweep.specs.Sweeps.{SweepTask, task_of, accounts};
     ghost use Rattle.top_down_sweep.specs.declared.choice.Choice.{Choice};
     ghost use Rattle.ite_sweep.specs.Choices.{sweep_of, MakesTable};
 
@@ -103,6 +103,10 @@ impl<'r> Sweep<'r> for IteSweep<'r> {
     ghost accounts = { accounts_along sweep_of (accounts Choice) };
 
     ghost damaged = { λ s world e. IsDamage (sweep_of s) world e };
+
+    ghost Task = { SweepTask };
+
+    ghost task = { λ s. task_of (sweep_of s) };
 
     ghost ready = { λ s. IsReady (sweep_of s) };
 

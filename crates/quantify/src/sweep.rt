@@ -92,7 +92,7 @@ impl<'r> Sweep<'r> for QuantifySweep<'r> {
     ghost use Rattle.top_down_sweep.specs.Damage.{IsDamage};
     ghost use Rattle.top_down_sweep.specs.Fuel.{fuel_of};
     ghost use Rattle.top_down_sweep.specs.Making.{TableJob, accounts_along};
-    ghost use Rattle.top_down_sweep.specs.Sweeps.{accounts};
+    ghost use Rattle.top_down_sweep.specs.Sweeps.{SweepTask, task_of, accounts};
     ghost use Rattle.top_down_sweep.specs.declared.quantified.Quantified.{Quantified};
     ghost use Rattle.quantify.specs.Quantifiers.{sweep_of, MakesTable};
 
@@ -107,6 +107,10 @@ impl<'r> Sweep<'r> for QuantifySweep<'r> {
     ghost accounts = { accounts_along sweep_of (accounts Quantified) };
 
     ghost damaged = { λ s world e. IsDamage (sweep_of s) world e };
+
+    ghost Task = { SweepTask };
+
+    ghost task = { λ s. task_of (sweep_of s) };
 
     ghost ready = { λ s. IsReady (sweep_of s) };
 

@@ -91,7 +91,7 @@ impl<'r> Sweep<'r> for RestrictSweep<'r> {
     ghost use Rattle.top_down_sweep.specs.Damage.{IsDamage};
     ghost use Rattle.top_down_sweep.specs.Fuel.{fuel_of};
     ghost use Rattle.top_down_sweep.specs.Making.{TableJob, accounts_along};
-    ghost use Rattle.top_down_sweep.specs.Sweeps.{accounts};
+    ghost use Rattle.top_down_sweep.specs.Sweeps.{SweepTask, task_of, accounts};
     ghost use Rattle.top_down_sweep.specs.declared.restricted.Restricted.{Restricted};
     ghost use Rattle.restrict_eval.specs.Restrictions.{sweep_of, MakesTable};
 
@@ -106,6 +106,10 @@ impl<'r> Sweep<'r> for RestrictSweep<'r> {
     ghost accounts = { accounts_along sweep_of (accounts Restricted) };
 
     ghost damaged = { λ s world e. IsDamage (sweep_of s) world e };
+
+    ghost Task = { SweepTask };
+
+    ghost task = { λ s. task_of (sweep_of s) };
 
     ghost ready = { λ s. IsReady (sweep_of s) };
 

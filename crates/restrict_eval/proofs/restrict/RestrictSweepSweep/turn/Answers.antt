@@ -1,4 +1,5 @@
 use Rattle.std.specs.Prelude.{IsTrue}
+use Rattle.top_down_sweep.proofs.Doing.{refused_spent}
 use Rattle.top_down_sweep.proofs.Makings.{keeps_making, undamaged_making}
 use Rattle.restrict_eval.specs.Restrictions.{sweep_of, rule_of, begins_of}
 use Rattle.restrict_eval.proofs.restrict.RestrictSweepSweep.turn.Goals as goal
@@ -13,3 +14,8 @@ pub returns-clause-undamaged : goal.returns-clause-undamaged
 returns-clause-undamaged g c = undamaged_making rule_of begins_of
     (IsTrue (g.S.Shelf.tells c.turn.new.shelf)) c.turn.result (sweep_of c.args.self.now)
     (g.S.Shelf.world c.args.shelf.now) c.turn.ensures.undamaged
+
+-- it is refused for want of a part number where none is left
+pub returns-clause-spent : goal.returns-clause-spent
+returns-clause-spent g c = refused_spent c.turn.new.self c.turn.result
+    c.turn.ensures.refused
