@@ -1,0 +1,3 @@
+pub mod AnswersRuns
+pub mod AnswersFaults
+pub mod AnswersValues
