@@ -13,11 +13,15 @@ ghost use Rattle.step_sweeps.specs.Made.{OnlyParts, IsAnswer, IsCounted, Called}
 ghost use Rattle.step_sweeps.specs.Damage.{IsImplicationFault};
 
 use crate::arcs::make_arcs;
+use crate::ones::has_one;
 use crate::{Answered, StepOperation};
 use bool_tables::Bin;
 use rec_words::Rec;
 use shelf_model::{FileNo, Shelf, SortFault};
 use top_down_sweep::OperandFiles;
+
+/// How many part numbers a step has.
+const PARTS: u64 = 1 << 32;
 
 /// Whether the left function implies the right one everywhere, of the files of two diagrams of `n` variables: the arcs
 /// of "left and not right" are made, in parts 3 and 4 of the step, and searched for one that leads to 1.
@@ -72,6 +76,7 @@ pub fn imply<S: Shelf>(
     Ok(Answered {
         answer: holds,
         turns: made.turns.saturating_add(made.arcs.ends_count),
-        next: made.parts.next,
+        // A step has no more part numbers.
+        next: made.parts.next.min(PARTS),
     })
 }
