@@ -3,13 +3,13 @@ ghost use Rattle.std.specs.Prelude.{◌+◌, ◌<◌, ◌≤◌, length};
 ghost use Rattle.step_cases.specs.declared.steps.TheConstants.{LEAST_ROOM};
 
 use crate::random::Random;
-use crate::steps::{EMPTY, FIRST, LARGE_ROOM, LEAST_ROOM, NUMBER, SECOND, THIRD, bench_of};
+use crate::steps::{EMPTY, FIRST, LARGE_ROOM, LEAST_ROOM, NUMBER, bench_of, file};
+use crate::tables::product_of;
 use rec_words::Rec;
 use shelf_memory::Bench;
-use shelf_model::FileNo;
 use std::alloc::Global;
 use std::test::Fail;
-use step_sweeps::{compare, evaluate};
+use step_sweeps::{compare, evaluate, imply};
 
 /// How many triples of tables are compared and evaluated.
 const SEEDS: u64 = 60;
@@ -17,48 +17,45 @@ const SEEDS: u64 = 60;
 /// Where the bits of an assignment stand in a text.
 const AT: u32 = 5;
 
-// Two files are told to be those of one function, or of two.
-fn compares(
-    n: u32,
-    left: FileNo,
-    right: FileNo,
-    same: bool,
-    room: &mut [Rec],
-    bench: &mut Bench,
-) -> bool
+// Each pair of three files is told to be those of one function, or of two, and each file with itself.
+fn compares(n: u32, tables: [&[bool]; 3], room: &mut [Rec], bench: &mut Bench) -> bool
     requires enough { LEAST_ROOM ≤ length room.old }
-    requires left { left.step < 3 }
-    requires right { right.step < 3 }
 {
-    match compare(n, left, right, NUMBER, room, bench) {
-        Ok(answered) => answered.answer == same && answered.next == 3,
-        Err(_) => false,
+    for left in 0..3 {
+        for right in 0..3 {
+            let same = tables[left as usize] == tables[right as usize];
+            match compare(n, file(left), file(right), NUMBER, room, bench) {
+                Ok(answered) => {
+                    if answered.answer != same || answered.next != 3 {
+                        return false;
+                    }
+                }
+                Err(_) => return false,
+            }
+        }
     }
+    true
 }
 
-// So is each pair of the tables of a seed, in both orders, and each with itself.
+// So are those of the tables of a seed.
 fn compares_tables_of(alloc: Global, seed: u64, room: &mut [Rec]) -> Result<bool, Fail>
     requires enough { LEAST_ROOM ≤ length room.old }
 {
     let n = (seed % 9) as u32;
     let (first, second, third) = Random::triple(alloc, n, seed)?;
-    let (f, g, h) = (first.as_slice(), second.as_slice(), third.as_slice());
-    let mut bench = bench_of(alloc, n, [f, g, h])?;
-    Ok(
-        compares(n, FIRST, SECOND, f == g, room, &mut bench)
-            && compares(n, SECOND, FIRST, f == g, room, &mut bench)
-            && compares(n, SECOND, THIRD, g == h, room, &mut bench)
-            && compares(n, THIRD, FIRST, f == h, room, &mut bench)
-            && compares(n, FIRST, FIRST, true, room, &mut bench),
-    )
+    let tables = [first.as_slice(), second.as_slice(), third.as_slice()];
+    let mut bench = bench_of(alloc, n, tables)?;
+    Ok(compares(n, tables, room, &mut bench))
 }
 
 fn compares_all_tables(rt: HostRuntime) -> Result<bool, Fail> {
     let mut least = vec![in rt.alloc(); EMPTY; LEAST_ROOM]?;
+    let least = least.as_mut_slice();
     let mut large = vec![in rt.alloc(); EMPTY; LARGE_ROOM]?;
+    let large = large.as_mut_slice();
     for seed in 0..SEEDS {
-        if !compares_tables_of(rt.alloc(), seed, least.as_mut_slice())?
-            || !compares_tables_of(rt.alloc(), seed, large.as_mut_slice())?
+        if !compares_tables_of(rt.alloc(), seed, least)?
+            || !compares_tables_of(rt.alloc(), seed, large)?
         {
             return Ok(false);
         }
@@ -69,6 +66,79 @@ fn compares_all_tables(rt: HostRuntime) -> Result<bool, Fail> {
 #[test]
 fn tells_which_diagrams_are_the_same(rt: HostRuntime) -> Result<(), Fail> {
     let tells = compares_all_tables(rt)?;
+    assert!(rt; tells);
+    Ok(())
+}
+
+// Whether a table is nowhere 1 where another is 0.
+fn is_leq(left: &[bool], right: &[bool]) -> bool {
+    let mut place = 0usize;
+    for value in left {
+        if *value && right.get(place).copied() != Some(true) {
+            return false;
+        }
+        place = place.saturating_add(1);
+    }
+    true
+}
+
+// Of three files each one's function is told to imply another's, or not to, and itself.
+fn implies(n: u32, tables: [&[bool]; 3], room: &mut [Rec], bench: &mut Bench) -> bool
+    requires enough { LEAST_ROOM ≤ length room.old }
+{
+    for left in 0..3 {
+        for right in 0..3 {
+            let holds = is_leq(tables[left as usize], tables[right as usize]);
+            match imply(n, file(left), file(right), NUMBER, room, bench) {
+                Ok(answered) => {
+                    if answered.answer != holds {
+                        return false;
+                    }
+                }
+                Err(_) => return false,
+            }
+        }
+    }
+    true
+}
+
+// So it is with the tables of a seed, and with one of them between a conjunction and a disjunction.
+fn implies_tables_of(alloc: Global, seed: u64, room: &mut [Rec]) -> Result<bool, Fail>
+    requires enough { LEAST_ROOM ≤ length room.old }
+{
+    let n = (seed % 9) as u32;
+    let (first, second, third) = Random::triple(alloc, n, seed)?;
+    let both = product_of(alloc, 0b1000, first.as_slice(), second.as_slice())?;
+    let either = product_of(alloc, 0b1110, first.as_slice(), second.as_slice())?;
+    let apart = [first.as_slice(), second.as_slice(), third.as_slice()];
+    let ascending = [both.as_slice(), first.as_slice(), either.as_slice()];
+    for tables in [apart, ascending] {
+        let mut bench = bench_of(alloc, n, tables)?;
+        if !implies(n, tables, room, &mut bench) {
+            return Ok(false);
+        }
+    }
+    Ok(true)
+}
+
+fn implies_all_tables(rt: HostRuntime) -> Result<bool, Fail> {
+    let mut least = vec![in rt.alloc(); EMPTY; LEAST_ROOM]?;
+    let least = least.as_mut_slice();
+    let mut large = vec![in rt.alloc(); EMPTY; LARGE_ROOM]?;
+    let large = large.as_mut_slice();
+    for seed in 0..SEEDS {
+        if !implies_tables_of(rt.alloc(), seed, least)?
+            || !implies_tables_of(rt.alloc(), seed, large)?
+        {
+            return Ok(false);
+        }
+    }
+    Ok(true)
+}
+
+#[test]
+fn tells_which_functions_imply_another(rt: HostRuntime) -> Result<(), Fail> {
+    let tells = implies_all_tables(rt)?;
     assert!(rt; tells);
     Ok(())
 }
@@ -112,17 +182,19 @@ fn evaluates_table_of(alloc: Global, seed: u64, room: &mut [Rec]) -> Result<bool
 {
     let n = (seed % 9) as u32;
     let (first, second, third) = Random::triple(alloc, n, seed)?;
-    let (f, g, h) = (first.as_slice(), second.as_slice(), third.as_slice());
-    let mut bench = bench_of(alloc, n, [f, g, h])?;
-    Ok(evaluates(n, f, room, &mut bench))
+    let tables = [first.as_slice(), second.as_slice(), third.as_slice()];
+    let mut bench = bench_of(alloc, n, tables)?;
+    Ok(evaluates(n, tables[0], room, &mut bench))
 }
 
 fn evaluates_all_tables(rt: HostRuntime) -> Result<bool, Fail> {
     let mut least = vec![in rt.alloc(); EMPTY; LEAST_ROOM]?;
+    let least = least.as_mut_slice();
     let mut large = vec![in rt.alloc(); EMPTY; LARGE_ROOM]?;
+    let large = large.as_mut_slice();
     for seed in 0..SEEDS {
-        if !evaluates_table_of(rt.alloc(), seed, least.as_mut_slice())?
-            || !evaluates_table_of(rt.alloc(), seed, large.as_mut_slice())?
+        if !evaluates_table_of(rt.alloc(), seed, least)?
+            || !evaluates_table_of(rt.alloc(), seed, large)?
         {
             return Ok(false);
         }

@@ -24,12 +24,11 @@ enum Tried {
     Restrictions,
 }
 
-// Each operator on two, the same table in two files, and one file twice.
+// Each operator on the first two, and on the first file twice.
 fn operators_make(
     alloc: Global,
     n: u32,
-    f: &[bool],
-    g: &[bool],
+    tables: [&[bool]; 3],
     room: &mut [Rec],
     bench: &mut Bench,
 ) -> Result<bool, Fail>
@@ -38,8 +37,8 @@ fn operators_make(
 {
     for digits in 0..16 {
         let operation = StepOperation::Operator(operator(digits));
-        let of_two = product_of(alloc, digits, f, g)?;
-        let of_one = product_of(alloc, digits, f, f)?;
+        let of_two = product_of(alloc, digits, tables[0], tables[1])?;
+        let of_one = product_of(alloc, digits, tables[0], tables[0])?;
         if !makes(alloc, operation, n, TWO, of_two.as_slice(), room, bench)?
             || !makes(alloc, operation, n, ONE, of_one.as_slice(), room, bench)?
         {
@@ -49,7 +48,7 @@ fn operators_make(
     Ok(true)
 }
 
-// The choice between the second and the third by the first, and between one file twice by itself.
+// The choice between the second and the third by the first, and between the first file twice by itself.
 fn choices_make(
     alloc: Global,
     n: u32,
@@ -121,33 +120,30 @@ fn restrictions_make(
 }
 
 // The operations make the canonical files of the tables that they make of those of a seed.
-fn make_files_of(
-    alloc: Global,
-    tried: Tried,
-    seed: u64,
-    room: &mut [Rec],
-) -> Result<bool, Fail>
+fn make_files_of(alloc: Global, tried: Tried, seed: u64, room: &mut [Rec]) -> Result<bool, Fail>
     requires enough { LEAST_ROOM ≤ length room.old }
 {
     let n = (seed % 9) as u32;
     let (first, second, third) = Random::triple(alloc, n, seed)?;
-    let (f, g, h) = (first.as_slice(), second.as_slice(), third.as_slice());
-    let mut bench = bench_of(alloc, n, [f, g, h])?;
+    let tables = [first.as_slice(), second.as_slice(), third.as_slice()];
+    let mut bench = bench_of(alloc, n, tables)?;
     match tried {
-        Tried::Operators => operators_make(alloc, n, f, g, room, &mut bench),
-        Tried::Choices => choices_make(alloc, n, [f, g, h], room, &mut bench),
-        Tried::Quantifiers => quantifiers_make(alloc, n, f, room, &mut bench),
-        Tried::Restrictions => restrictions_make(alloc, n, f, room, &mut bench),
+        Tried::Operators => operators_make(alloc, n, tables, room, &mut bench),
+        Tried::Choices => choices_make(alloc, n, tables, room, &mut bench),
+        Tried::Quantifiers => quantifiers_make(alloc, n, tables[0], room, &mut bench),
+        Tried::Restrictions => restrictions_make(alloc, n, tables[0], room, &mut bench),
     }
 }
 
 // So do those of all seeds, with the least room and with more.
 fn make_each_file(rt: HostRuntime, tried: Tried) -> Result<bool, Fail> {
     let mut least = vec![in rt.alloc(); EMPTY; LEAST_ROOM]?;
+    let least = least.as_mut_slice();
     let mut large = vec![in rt.alloc(); EMPTY; LARGE_ROOM]?;
+    let large = large.as_mut_slice();
     for seed in 0..SEEDS {
-        if !make_files_of(rt.alloc(), tried, seed, least.as_mut_slice())?
-            || !make_files_of(rt.alloc(), tried, seed, large.as_mut_slice())?
+        if !make_files_of(rt.alloc(), tried, seed, least)?
+            || !make_files_of(rt.alloc(), tried, seed, large)?
         {
             return Ok(false);
         }

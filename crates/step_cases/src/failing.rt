@@ -16,7 +16,7 @@ use shelf_memory::Bench;
 use shelf_model::SortFault;
 use std::alloc::Global;
 use std::test::Fail;
-use step_sweeps::{Answered, StepOperation, compare, evaluate, make_diagram};
+use step_sweeps::{Answered, StepOperation, compare, evaluate, imply, make_diagram};
 use top_down_sweep::OperandFiles;
 
 pub(crate) const VARIABLES: u32 = 4;
@@ -132,36 +132,49 @@ fn a_step_is_done_again_behind_each_failing_call(rt: HostRuntime) -> Result<(), 
     Ok(())
 }
 
-// A comparison of two files of one table, or an evaluation where all variables are 0.
-fn answer_of(compares: bool, room: &mut [Rec], bench: &mut Bench) -> Result<Answered, SortFault>
+/// What is asked of files that are those of one table.
+#[derive(Clone, Copy, Debug, PartialEq, Eq)]
+pub(crate) enum Asked {
+    /// Whether two are the same.
+    Same,
+    /// Whether one implies another.
+    Leq,
+    /// The value where all variables are 0.
+    Value,
+}
+
+/// The answer to it.
+pub(crate) fn answer_of(
+    asked: Asked,
+    room: &mut [Rec],
+    bench: &mut Bench,
+) -> Result<Answered, SortFault>
     requires enough { LEAST_ROOM ≤ length room.old }
 {
-    if compares {
-        compare(VARIABLES, FIRST, SECOND, NUMBER, room, bench)
-    } else {
-        evaluate(VARIABLES, FIRST, b"0000", 0, NUMBER, room, bench)
+    match asked {
+        Asked::Same => compare(VARIABLES, FIRST, SECOND, NUMBER, room, bench),
+        Asked::Leq => imply(VARIABLES, FIRST, SECOND, NUMBER, room, bench),
+        Asked::Value => evaluate(VARIABLES, FIRST, b"0000", 0, NUMBER, room, bench),
     }
 }
 
 // An answer of which a call fails is refused for the folder, and is right where it is asked again.
 fn answers_at(
     alloc: Global,
-    compares: bool,
+    asked: Asked,
     call: u64,
     table: &[bool],
     room: &mut [Rec],
 ) -> Result<Option<bool>, Fail>
     requires enough { LEAST_ROOM ≤ length room.old }
 {
-    let wanted = compares || table.first().copied() == Some(true);
+    let wanted = asked != Asked::Value || table.first().copied() == Some(true);
     let mut bench = bench_of(alloc, VARIABLES, [table, table, table])?;
     let fails = bench.clock().saturating_add(call);
     bench.fail_at(fails)?;
-    match answer_of(compares, room, &mut bench) {
-        Ok(answered) => Ok(Some(
-            answered.answer == wanted && bench.clock() <= fails,
-        )),
-        Err(SortFault::Shelf) => match answer_of(compares, room, &mut bench) {
+    match answer_of(asked, room, &mut bench) {
+        Ok(answered) => Ok(Some(answered.answer == wanted && bench.clock() <= fails)),
+        Err(SortFault::Shelf) => match answer_of(asked, room, &mut bench) {
             Ok(answered) if answered.answer == wanted => Ok(None),
             _ => Ok(Some(false)),
         },
@@ -169,13 +182,13 @@ fn answers_at(
     }
 }
 
-fn answers_again(rt: HostRuntime, compares: bool) -> Result<bool, Fail> {
+fn answers_again(rt: HostRuntime, asked: Asked) -> Result<bool, Fail> {
     let mut room = vec![in rt.alloc(); EMPTY; LEAST_ROOM]?;
     let (table, _, _) = Random::triple(rt.alloc(), VARIABLES, 1)?;
     for call in 0..MOST_CALLS {
         let at = answers_at(
             rt.alloc(),
-            compares,
+            asked,
             call,
             table.as_slice(),
             room.as_mut_slice(),
@@ -187,9 +200,17 @@ fn answers_again(rt: HostRuntime, compares: bool) -> Result<bool, Fail> {
     Ok(false)
 }
 
+fn each_answers_again(rt: HostRuntime) -> Result<bool, Fail> {
+    Ok(
+        answers_again(rt, Asked::Same)?
+            && answers_again(rt, Asked::Leq)?
+            && answers_again(rt, Asked::Value)?,
+    )
+}
+
 #[test]
 fn an_answer_is_asked_again_behind_each_failing_call(rt: HostRuntime) -> Result<(), Fail> {
-    let again = answers_again(rt, true)? && answers_again(rt, false)?;
+    let again = each_answers_again(rt)?;
     assert!(rt; again);
     Ok(())
 }

@@ -2,36 +2,34 @@
 ghost use Rattle.std.specs.Prelude.{◌≤◌, length};
 ghost use Rattle.step_cases.specs.declared.steps.TheConstants.{LEAST_ROOM};
 
-use crate::failing::{CASES, VARIABLES, operands_of, operation_of};
+use crate::failing::{Asked, CASES, VARIABLES, answer_of, operands_of, operation_of};
 use crate::random::Random;
-use crate::steps::{EMPTY, FIRST, LEAST_ROOM, NUMBER, SECOND, bench_of, put_bytes};
+use crate::steps::{EMPTY, FIRST, LEAST_ROOM, NUMBER, bench_of, put_bytes};
 use rec_words::Rec;
 use shelf_memory::Bench;
 use shelf_model::SortFault;
 use std::test::Fail;
-use step_sweeps::{compare, evaluate, make_diagram};
+use step_sweeps::make_diagram;
 
-// What a step does on the files, where it makes a diagram, compares two or evaluates one.
+// Why a step is refused that makes a diagram of the files, or that answers.
 fn fault_of(case: u32, room: &mut [Rec], bench: &mut Bench) -> Option<SortFault>
     requires enough { LEAST_ROOM ≤ length room.old }
 {
-    let (operation, operands) = (operation_of(case), operands_of(case));
-    if case < CASES {
-        make_diagram(operation, VARIABLES, operands, NUMBER, room, bench).err()
-    } else if case == CASES {
-        compare(VARIABLES, FIRST, SECOND, NUMBER, room, bench).err()
-    } else {
-        evaluate(VARIABLES, FIRST, b"0101", 0, NUMBER, room, bench).err()
-    }
+    let asked = match case {
+        0 => Asked::Same,
+        1 => Asked::Leq,
+        2 => Asked::Value,
+        _ => {
+            let (operation, operands) = (operation_of(case - 3), operands_of(case - 3));
+            let made = make_diagram(operation, VARIABLES, operands, NUMBER, room, bench);
+            return made.err();
+        }
+    };
+    answer_of(asked, room, bench).err()
 }
 
-// A step over a first file of these bytes ends, or tells of a place in it, or of the second file behind it.
-fn ends_or_tells(
-    case: u32,
-    bytes: &[u8],
-    room: &mut [Rec],
-    bench: &mut Bench,
-) -> Result<bool, Fail>
+// A step over a first file of these bytes ends, or says where that file is damaged.
+fn ends_or_tells(case: u32, bytes: &[u8], room: &mut [Rec], bench: &mut Bench) -> Result<bool, Fail>
     requires enough { LEAST_ROOM ≤ length room.old }
 {
     put_bytes(bench, FIRST, bytes)?;
@@ -72,7 +70,7 @@ fn ends_with_changed_bytes(rt: HostRuntime, case: u32) -> Result<bool, Fail> {
 }
 
 fn each_step_ends_with_changed_bytes(rt: HostRuntime) -> Result<bool, Fail> {
-    for case in 0..CASES + 2 {
+    for case in 0..CASES + 3 {
         if !ends_with_changed_bytes(rt, case)? {
             return Ok(false);
         }

@@ -1,5 +1,5 @@
 //! Steps that make diagrams of the canonical files of tables.
-ghost use Rattle.std.specs.Prelude.{◌≤◌, length};
+ghost use Rattle.std.specs.Prelude.{◌<◌, ◌≤◌, length};
 ghost use Rattle.step_sweeps.specs.Given.{AreEarlier};
 ghost use Rattle.step_sweeps.specs.Operations.{IsWithin};
 ghost use Rattle.step_cases.specs.declared.steps.TheConstants.{NUMBER, LEAST_ROOM};
@@ -34,6 +34,17 @@ pub(crate) const LEAST_ROOM: usize = 16_384;
 pub(crate) const LARGE_ROOM: usize = 50_000;
 
 pub(crate) const EMPTY: Rec = Rec { w: [0; 8] };
+
+/// The file of the first, of the second or of the third table.
+pub(crate) fn file(index: u32) -> FileNo
+    requires { index < 3 }
+    ensures { result.step < 3 }
+{
+    FileNo {
+        step: index,
+        part: 0,
+    }
+}
 
 /// The files of an operation on three diagrams, on two and on one.
 pub(crate) const THREE: OperandFiles = OperandFiles {
