@@ -1,3 +1,6 @@
+pub mod AnswersRuns
+pub mod AnswersFaults
+pub mod AnswersValues
 mod ConstantDiagrams
 mod ImpliedSearch
 mod ImpliedAnswer
