@@ -172,7 +172,7 @@ drop_runs tells world counts n text number gone p s e drop below may e_is =
           (nameless_entry_is job number 2 0 gone one_turn p may.few_steps ready.step.step_is (ap kind_of drop) (omega arith, omega arith) (inl refl)
           (ap makes_diagram drop) (ap (answer_of job) drop) (ap (count_of job number) drop) small one_turn_spent (one_within job p.step));
       made = λ told job ready diagram. absurd (
-        let not : makes_diagram (step_at job number).step ≡ false = ap makes_diagram (place_step job number p (Drop gone) ready.step.step_is drop) in cc);
+          let not : makes_diagram (step_at job number).step ≡ false = ap makes_diagram (place_step job number p (Drop gone) ready.step.step_is drop) in cc);
       sound = tt;
       damaged = tt;
       kind = tt;

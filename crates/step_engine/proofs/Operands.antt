@@ -194,8 +194,7 @@ pub two_given : (job : Job) (n number : ℕ) (text : List ℕ) (p : Planned) (wo
 two_given job n number text p world step left right step_is names is holds =
     let held = held_step job n number text p step world is step_is holds in
     let live = subst (λ ks. IsTrue (list_all (is_live (take number job.steps)) ks)) names held.live in
-    subst (λ m. IsCanonicalFile m (table_at job left) (node_file left) world × IsCanonicalFile m (table_at job right) (node_file right) world) is.n_is
-    (
+    subst (λ m. IsCanonicalFile m (table_at job left) (node_file left) world × IsCanonicalFile m (table_at job right) (node_file right) world) is.n_is (
       canonical job number left world holds (first_live (take number job.steps) left (right ∷ []) live),
       canonical job number right world holds (first_live (take number job.steps) right [] (more_live (take number job.steps) left (right ∷ []) live)),
     )

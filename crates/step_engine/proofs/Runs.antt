@@ -232,7 +232,7 @@ module _ {S : Type 0} (tells : S → Bool) (world : S → World) (counts : S →
     (sweeping : Sweeping) (some : sweeping_of p.step ≡ Some sweeping) (may : MayRun n text number p) (before after : S)
     (content : Told tells before after (Ran (OnlyStepFiles number (now (world before))) (world before) (world after)))
     (few_calls : IsTrue (tells after) → (g : Tables) → AreGiven sweeping.operation n sweeping.operands (world before) g
-      → (world after).clock ≤ (world before).clock + (224 * work_by sweeping.operation n g + 11)) where
+    → (world after).clock ≤ (world before).clock + (224 * work_by sweeping.operation n g + 11)) where
   is_one : IsOperation n number p.step sweeping
   is_one = is_operation n number p.step sweeping some
 
@@ -336,7 +336,7 @@ module _ {S : Type 0} (tells : S → Bool) (world : S → World) (counts : S →
     (question : IsQuestion number p.step) (may : MayRun n text number p) (before after : S)
     (content : Told tells before after (Ran (OnlyParts number (now (world before))) (world before) (world after)))
     (few_calls : IsTrue (tells after) → (job : Job) → IsStepOf job n text number p → Holds job number (now (world before)).folder
-      → (world after).clock ≤ (world before).clock + (224 * work_of job p.step + 11)) where
+    → (world after).clock ≤ (world before).clock + (224 * work_of job p.step + 11)) where
   -- a question that is refused
   pub question_refused : (e : SortFault)
       → (IsTrue (tells after) → (job : Job) → IsStepOf job n text number p → Holds job number (now (world before)).folder

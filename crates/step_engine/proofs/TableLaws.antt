@@ -29,8 +29,7 @@ made_at : (n : ℕ) (done : List (List Bool)) (steps : List Planned) (k : ℕ) (
     × ((j : ℕ) → j < length done + k → get_or seen j [] ≡ get_or (tables_after n done steps) j [])
 made_at n done [] k d within = absurd (omega arith)
 made_at n done (s ∷ steps) zero d within =
-    let more : List (List Bool) = done ++ step_table n done s.step ∷ [] in
-    (
+    let more : List (List Bool) = done ++ step_table n done s.step ∷ [] in (
       done,
       tables_keep n more steps (length done + 0) (omega (arith, length-append done (step_table n done s.step ∷ []))) ∙ get_or-append-add done (step_table n done s.step ∷ []) 0 [],
       λ j below. sym (tables_keep n done (s ∷ steps) j (omega (arith, below))),
@@ -38,8 +37,7 @@ made_at n done (s ∷ steps) zero d within =
 made_at n done (s ∷ steps) (suc k) d within =
     let less : k < length steps = omega arith in
     let found = made_at n (done ++ step_table n done s.step ∷ []) steps k d less in
-    let place : length done + suc k ≡ length (done ++ step_table n done s.step ∷ []) + k = omega (arith, length-append done (step_table n done s.step ∷ [])) in
-    (
+    let place : length done + suc k ≡ length (done ++ step_table n done s.step ∷ []) + k = omega (arith, length-append done (step_table n done s.step ∷ [])) in (
       found.0,
       ap (λ i. get_or (tables_after n done (s ∷ steps)) i []) place ∙ found.1,
       λ j below. found.2 j (omega (arith, below, place)),

@@ -174,10 +174,7 @@ pub(crate) fn run_evaluation<S: Shelf>(
     requires room { 16384 ≤ length room.old }
     ensures runs { RunsStep S.tells S.world S.faults n text.now number planned.now shelf.old shelf.new result }
 {
-    let file = FileNo {
-        step: of,
-        part: 0,
-    };
+    let file = FileNo { step: of, part: 0 };
     let answered = evaluate(n, file, text, at, number, room, shelf)?;
     let spent = Spent {
         turns: answered.turns,

@@ -20,18 +20,18 @@ returns-in_err-nodes g c =
     record {
       runs = handed_runs g.S.Shelf.tells g.S.Shelf.world g.S.Shelf.faults c.args.n c.args.text.now c.args.number p _ _ _ c.from_residual.result
           c.from_residual.ensures.1 (record {
-        content = changes_none g.S.Shelf.tells g.S.Shelf.world p.step c.args.number _ _ said.content;
-        fits = tt;
-        entry = tt;
-        made = tt;
-        sound = λ told job is holds. size_sound job c.args.n c.args.number c.args.of c.args.text.now p e (g.S.Shelf.world c.args.shelf.now) c.requires.kind is below
-            holds (said.err told);
-        damaged = λ told. size_fault c.args.n c.args.number c.args.of p.step c.requires.kind (g.S.Shelf.world c.args.shelf.now) e (said.err told);
-        kind = size_kind p.step e;
-        calls = tt;
-        few_calls = λ told job is holds. size_calls c.args.of p.step c.requires.kind _ _ _ (said.calls told);
-        faults = shelf_faults _ _ e said.faults;
-      });
+            content = changes_none g.S.Shelf.tells g.S.Shelf.world p.step c.args.number _ _ said.content;
+            fits = tt;
+            entry = tt;
+            made = tt;
+            sound = λ told job is holds. size_sound job c.args.n c.args.number c.args.of c.args.text.now p e (g.S.Shelf.world c.args.shelf.now) c.requires.kind is below
+                holds (said.err told);
+            damaged = λ told. size_fault c.args.n c.args.number c.args.of p.step c.requires.kind (g.S.Shelf.world c.args.shelf.now) e (said.err told);
+            kind = size_kind p.step e;
+            calls = tt;
+            few_calls = λ told job is holds. size_calls c.args.of p.step c.requires.kind _ _ _ (said.calls told);
+            faults = shelf_faults _ _ e said.faults;
+          });
     }
 
 pub returns : goal.returns

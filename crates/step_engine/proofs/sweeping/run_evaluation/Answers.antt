@@ -48,8 +48,7 @@ returns g c =
           c.in_ok-answered.answered c.answer_entry.result c.answer_entry.ensures (search arith) said.counted
           (λ told job is holds.
           let given = one_given job c.args.n c.args.number c.args.text.now p (g.S.Shelf.world c.args.shelf.now) (Eval c.args.of c.args.at) c.args.of c.requires.kind refl is holds in
-          let answer = said.answer told _ given in
-          (
+          let answer = said.answer told _ given in (
             ap (answer_of job) c.requires.kind
                 ∙ ap bit_of (value_given job c.args.n c.args.number c.args.of c.args.at c.args.text.now p is ∙ sym answer.answer_is),
             subst (λ w. c.in_ok-answered.answered.turns ≤ w)

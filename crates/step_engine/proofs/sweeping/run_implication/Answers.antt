@@ -44,8 +44,7 @@ returns g c =
           c.in_ok-answered.answered c.answer_entry.result c.answer_entry.ensures (search arith) said.counted
           (λ told job is holds.
           let given = two_given job c.args.n c.args.number c.args.text.now p (g.S.Shelf.world c.args.shelf.now) (Leq c.args.left c.args.right) c.args.left c.args.right c.requires.kind refl is holds in
-          let answer = said.answer told _ _ given.0 given.1 in
-          (
+          let answer = said.answer told _ _ given.0 given.1 in (
             ap (answer_of job) c.requires.kind ∙ ap bit_of (sym answer.answer_is),
             subst (λ w. c.in_ok-answered.answered.turns ≤ w)
                 (work_given job c.args.n c.args.number c.args.text.now p (Leq 0 1) (Leq c.args.left c.args.right) c.requires.kind refl (λ i h x. refl) is) answer.few,
