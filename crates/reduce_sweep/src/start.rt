@@ -62,6 +62,7 @@ impl<'r> ReduceSweep<'r> {
         ensures ready { IfOk result IsSound }
         ensures in_step { IfOk result (λ r. IsTrue (S.tells shelf.new) → IsInStep r (S.world shelf.new)) }
         ensures files { IfOk result (λ r. (out_of r ≡ out) × (inner_file r ≡ made.inner) × (ends_file r ≡ made.ends)) }
+        ensures variables { IfOk result (λ r. r.place.variables ≡ n) }
         ensures parts { IfOk result (λ r. parts_of r ≡ parts) }
         ensures left { IfOk result (λ r. turns_left r ≤ 4 * made.inner_count + 3 * made.ends_count + 1) }
         ensures bound { IfOk result (λ r. (sources : ℕ) → made.inner_count + made.ends_count ≡ 2 * sources →
@@ -84,6 +85,8 @@ impl<'r> ReduceSweep<'r> {
         ensures calls { IfOk result (λ r. IsTrue (S.tells shelf.new) →
             Paid 3 0 (credit_of r) (S.world shelf.old) (S.world shelf.new)) }
         ensures stock { IfOk result (λ r. stock_of r ≡ 0) }
+        ensures few_calls { IsTrue (S.tells shelf.new) →
+            (S.world shelf.new).clock ≤ (S.world shelf.old).clock + 3 }
         ensures faults { OnlySortShelf (S.faults shelf.old) (S.faults shelf.new) result }
         ensures refused { IfErr result (IsArcDamage made.inner made.ends) }
     {

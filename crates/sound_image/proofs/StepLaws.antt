@@ -101,13 +101,13 @@ holds_while_tidied job k old new few within holds inside tidied = holds_kept job
     not_cut f step_is (inl (gone, dropped, is)) =
         let no : gone ≡ 4294967295 = sym (ap (λ (q : FileNo). q.step) is) ∙ step_is in
         omega (arith, no, early job gone few (inside gone dropped))
-    not_cut f step_is (inr own) = let no : k ≡ 4294967295 = sym own.step_is ∙ step_is in omega (arith, no, early job k few within)
+    not_cut f step_is (inr (swept, own)) = let no : k ≡ 4294967295 = sym own.step_is ∙ step_is in omega (arith, no, early job k few within)
 
     not_live : (s : ℕ) → IsTrue (is_live (take (k + 1) job.steps) s) → IsCutBy (step_at job k).step k (node_file s) → ⊥
     not_live s live (inl (gone, dropped, is)) =
         live_undropped job.steps k s no_step within
         (subst (λ j. IsTrue (drops j (step_at job k).step)) (sym (ap (λ (q : FileNo). q.step) is)) dropped) live
-    not_live s live (inr own) = let no : 1 ≤ 0 = own.from in omega (arith, no)
+    not_live s live (inr (swept, own)) = let no : 1 ≤ 0 = own.from in omega (arith, no)
 
 -- a diagram that is live after the step has its file, before and after it
 live_file : (job : Job) (k s : ℕ) (folder : Folder) → k < length job.steps → Holds job k folder → IsMade job k folder

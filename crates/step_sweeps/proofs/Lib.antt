@@ -5,3 +5,10 @@ mod ConstantDiagrams
 mod ImpliedSearch
 mod ImpliedAnswer
 mod ImpliedWork
+mod Running
+mod Sources
+mod Tasks
+mod Faults
+mod Reducing
+mod Making
+mod Numbers

@@ -8,7 +8,7 @@ use Rattle.top_down_sweep.specs.declared.beginning.OperandFiles.{OperandFiles}
 use Rattle.top_down_sweep.specs.Tasks.{IsCanonicalFile}
 use Rattle.step_sweeps.specs.declared.operation.StepOperation.{StepOperation}
 use Rattle.step_sweeps.specs.declared.operation.StepOperation.TheVariants.{Operator, Choice, Quantifier, Restriction}
-use Rattle.step_sweeps.specs.Operations.{step_of, IsWithin}
+use Rattle.step_sweeps.specs.Operations.{step_of}
 
 -- the tables of three diagrams
 pub record Tables : Type 0 where

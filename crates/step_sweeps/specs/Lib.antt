@@ -3,3 +3,4 @@ pub mod Given
 pub mod Made
 pub mod Damage
 pub mod Ones
+pub mod Work

@@ -2,12 +2,11 @@
 use Rattle.std.specs.Prelude.{◌≡◌, ◌⊎◌, ℕ, ◌+◌, ◌-◌, ◌*◌, ◌/◌, ◌^◌, ◌<◌, ◌≤◌, Bool, IsTrue, List, length}
 use Rattle.shelf_model.specs.declared.file_no.FileNo.{FileNo}
 use Rattle.shelf_model.specs.File.{firm_file}
-use Rattle.shelf_model.specs.Moments.{Ran, OnlyChanged}
-use Rattle.shelf_model.specs.World.{Moment, World, now, file}
+use Rattle.shelf_model.specs.Moments.{OnlyChanged}
+use Rattle.shelf_model.specs.World.{Moment, World, file}
 use Rattle.canon_file.specs.Canon.{canon_nodes, canon_bytes}
 use Rattle.canon_file.specs.Laws.{HasForm}
 use Rattle.arc_file.specs.declared.unreduced.Unreduced.{Unreduced}
-use Rattle.run_tiers.specs.declared.parts.Parts.{Parts}
 use Rattle.sweep_core.specs.Accounts.{CanBeTaken}
 use Rattle.top_down_sweep.specs.Tasks.{AreArcFiles}
 use Rattle.step_sweeps.specs.declared.arcs.MadeArcs.{MadeArcs}

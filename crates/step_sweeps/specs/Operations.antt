@@ -1,5 +1,5 @@
 -- The operation that a step is, by its rule, and the step itself.
-use Rattle.std.specs.Prelude.{ℕ, ◌<◌, Bool, List, [], ◌∷◌}
+use Rattle.std.specs.Prelude.{ℕ, ◌<◌}
 use Rattle.bool_tables.specs.declared.steps.Step.{Step}
 use Rattle.bool_tables.specs.declared.steps.Step.TheVariants.{Pair, Ite, Quantify, Restrict}
 use Rattle.top_down.specs.declared.tuple.Tuple.{Tuple}

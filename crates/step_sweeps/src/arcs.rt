@@ -11,13 +11,12 @@ ghost use Rattle.step_sweeps.specs.Made.{HasArcFiles, OnlyParts, Spends, AreArcs
 ghost use Rattle.step_sweeps.specs.Damage.{IsArcsFault};
 
 use crate::StepOperation;
+use crate::laws::operations_on_given_files_are_work;
 use arc_file::Unreduced;
-use met_tuples::laws::operations_meet_few_tuples;
 use rec_words::Rec;
 use run_merge::Parts;
 use shelf_model::{Shelf, SortFault};
 use sweep_core::run_to_end;
-use top_down_sweep::laws::{operations_on_canonical_files_are_tasks, what_was_made_is_a_diagram};
 use top_down_sweep::{OperandFiles, TopDownSweep};
 
 /// The part number of the first file of arcs: the parts before it are a step's node file, its checkpoints and their
@@ -69,9 +68,7 @@ pub(crate) fn make_arcs<S: Shelf>(
         Spends S.tells S.world m.turns 8 5 m.parts.next shelf.old shelf.new)) }
     ensures faults { OnlySortShelf (S.faults shelf.old) (S.faults shelf.new) result }
 {
-    operations_on_canonical_files_are_tasks();
-    operations_meet_few_tuples();
-    what_was_made_is_a_diagram();
+    operations_on_given_files_are_work();
     let parts = Parts {
         step: number,
         next: FIRST_PART,

@@ -66,10 +66,11 @@ pub fn make_diagram<S: Shelf>(
     ensures faults { OnlySortShelf (S.faults shelf.old) (S.faults shelf.new) result }
 {
     let arcs = make_arcs(operation, n, operands, number, room, shelf)?;
+    let turns = arcs.turns;
     let reduced = reduce_arcs(n, arcs, number, room, shelf)?;
     Ok(MadeDiagram {
         nodes: reduced.nodes,
-        turns: arcs.turns.saturating_add(reduced.turns),
+        turns: turns.saturating_add(reduced.turns),
         next: reduced.next,
     })
 }

@@ -6,6 +6,7 @@ mod answers;
 mod arcs;
 mod diagram;
 mod implication;
+mod laws;
 mod ones;
 mod operation;
 mod reduction;

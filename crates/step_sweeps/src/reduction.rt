@@ -17,6 +17,9 @@ use reduce_sweep::ReduceSweep;
 use shelf_model::{FileNo, Shelf, SortFault};
 use sweep_core::run_to_end;
 
+/// How many part numbers a step has.
+const PARTS: u64 = 1 << 32;
+
 /// Reduces the arcs of a diagram of `n` variables to the step's node file. The turns that are answered are those of
 /// the reduction alone.
 pub(crate) fn reduce_arcs<S: Shelf>(
@@ -30,7 +33,7 @@ pub(crate) fn reduce_arcs<S: Shelf>(
     requires room { 16384 ≤ length room.old }
     requires files { HasArcFiles number made.arcs }
     requires parts { (made.parts.step ≡ number) × (5 ≤ made.parts.next) }
-    ensures next { IfOk result (λ m. (made.parts.next ≤ m.next) × (m.next ≤ 2 ^ 32)) }
+    ensures next { IfOk result (λ m. (5 ≤ m.next) × (m.next ≤ 2 ^ 32)) }
 
     // of the arcs of a table's diagram
     ensures reduced { IfOk result (λ m. IsTrue (S.tells shelf.new) → (table : List Bool) →
@@ -69,6 +72,7 @@ pub(crate) fn reduce_arcs<S: Shelf>(
     Ok(MadeDiagram {
         nodes,
         turns,
-        next: sweep.parts().next,
+        // None is given from there on.
+        next: sweep.parts().next.min(PARTS),
     })
 }

@@ -18,6 +18,7 @@ use Rattle.sweep_core.specs.Sweeps.{IsNoDamage, StaysEnded}
 use Rattle.sweep_core.specs.declared.turn.Turn.{Turn}
 use Rattle.top_down.specs.declared.tuple.Tuple.{Tuple}
 use Rattle.top_down.specs.Rules.{Rule}
+use Rattle.top_down_laws.specs.Readings.{Diagrams}
 use Rattle.top_down_sweep.specs.declared.ask.Ask.{Ask}
 use Rattle.top_down_sweep.specs.declared.place.Phase.{Phase}
 use Rattle.top_down_sweep.specs.declared.place.Phase.TheVariants as phases
@@ -96,10 +97,10 @@ module _ {O : Type 0} (rule : O → Rule) (begins : O → Tuple → Tuple) where
   }
 
   -- where the task of a table remains, the table remains to be made
-  pub makes_table : (operation : O) (s : TopDownSweep O) (n step : ℕ) (files : Files)
-      (table : List Bool) (old new : World) → ((t : Task) → IsTaskOn t (rule operation)
+  pub makes_table : {d : Diagrams} {roots : Tuple} (operation : O) (s : TopDownSweep O) (n step : ℕ)
+      (files : Files) (table : List Bool) (old new : World) → ((t : Task) → IsTaskOn t (rule operation)
       (begins operation) n files step old → Remains rule begins s new t)
-      → IsTaskFor (rule operation) (begins operation) n files step old table
+      → IsTaskFor (rule operation) (begins operation) n files step old d roots table
       → Makes rule begins s new (record { n = n; table = table })
   makes_table operation s n step files table old new remains is = record {
     task = is.task;

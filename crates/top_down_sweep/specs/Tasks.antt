@@ -16,7 +16,10 @@ use Rattle.arc_diagrams.specs.Laws.{IsDiagramOf}
 use Rattle.top_down.specs.declared.tuple.Tuple.{Tuple}
 use Rattle.top_down.specs.Tuples.{unused}
 use Rattle.top_down.specs.Rules.{Rule}
+use Rattle.top_down.specs.Laws.{roots_of_one, root_twice, roots_of_two, roots_of_three}
 use Rattle.top_down.specs.Operations.{two, product_rule, choice_rule, quantify_rule, restrict_rule}
+use Rattle.top_down_laws.specs.Operations.{canon_diagrams}
+use Rattle.top_down_laws.specs.Readings.{Diagrams}
 use Rattle.top_down_sweep.specs.declared.start.Files.{Files}
 use Rattle.top_down_sweep.specs.Waiting.{AreApart}
 use Rattle.top_down_sweep.specs.Meaning.{Task, table_of, IsTaskOn, IsMadeOf}
@@ -33,11 +36,13 @@ pub record AreCanonicalFiles (n : ℕ) (t u v : List Bool) (files : Files) (worl
     pub second : IsCanonicalFile n u files.second world
     pub third : IsCanonicalFile n v files.third world
 
--- the operation of that rule on these files is a task, whose table is that one
+-- the operation of that rule on these files is a task on those diagrams, from these roots on, whose table is that one
 pub record IsTaskFor (rule : Rule) (begins : Tuple → Tuple) (n : ℕ) (files : Files) (step : ℕ)
-    (world : World) (made : List Bool) : Type 0 where
+    (world : World) (d : Diagrams) (roots : Tuple) (made : List Bool) : Type 0 where
   pub task : Task
   pub on_files : IsTaskOn task rule begins n files step world
+  pub diagrams_are : task.diagrams ≡ d
+  pub roots_are : task.roots ≡ roots
   pub table_is : table_of task ≡ made
 
 -- an operation on two canonical files is the task of its table; the third file is the second one's
@@ -46,21 +51,21 @@ ProductOnFiles = (n : ℕ) (op : Bin) (t u : List Bool) (files : Files) (step : 
     → AreCanonicalFiles n t u u files world → AreApart files step
     → IsTaskFor (product_rule op)
     (λ x. record { first = x.first; second = x.second; third = unused }) n files step world
-    (step_table n (t ∷ u ∷ []) (Pair op 0 1))
+    (canon_diagrams n t u u) (roots_of_two n t u) (step_table n (t ∷ u ∷ []) (Pair op 0 1))
 
 -- so is a choice of three
 abbrev pub ChoiceOnFiles : Type 0
 ChoiceOnFiles = (n : ℕ) (t u v : List Bool) (files : Files) (step : ℕ) (world : World)
     → AreCanonicalFiles n t u v files world → AreApart files step
     → IsTaskFor choice_rule (λ x. x) n files step world
-    (step_table n (t ∷ u ∷ v ∷ []) (Ite 0 1 2))
+    (canon_diagrams n t u v) (roots_of_three n t u v) (step_table n (t ∷ u ∷ v ∷ []) (Ite 0 1 2))
 
 -- a quantifier of one, which is all three files
 abbrev pub QuantifyOnFiles : Type 0
 QuantifyOnFiles = (n : ℕ) (kind : Quant) (variable : ℕ) (t : List Bool) (files : Files) (step : ℕ)
     (world : World) → AreCanonicalFiles n t t t files world → variable < n → AreApart files step
     → IsTaskFor (quantify_rule kind variable) (λ x. two x.first x.first) n files step world
-    (step_table n (t ∷ []) (Quantify kind 0 variable))
+    (canon_diagrams n t t t) (root_twice n t) (step_table n (t ∷ []) (Quantify kind 0 variable))
 
 -- and a restriction of one
 abbrev pub RestrictOnFiles : Type 0
@@ -68,7 +73,7 @@ RestrictOnFiles = (n variable : ℕ) (value : Bool) (t : List Bool) (files : Fil
     (world : World) → AreCanonicalFiles n t t t files world → variable < n → AreApart files step
     → IsTaskFor (restrict_rule variable value)
     (λ x. record { first = x.first; second = unused; third = unused }) n files step world
-    (step_table n (t ∷ []) (Restrict 0 variable value))
+    (canon_diagrams n t t t) (roots_of_one n t) (step_table n (t ∷ []) (Restrict 0 variable value))
 
 -- the two files have arcs, each in the order of its file, which together are a diagram of the table
 pub record AreArcFiles (n : ℕ) (table : List Bool) (made : Unreduced) (world : World) : Type 0 where

@@ -42,6 +42,8 @@ impl<'r, O: Operation> TopDownSweep<'r, O> {
         ensures variables { IfOk result (λ s. variables_of s ≡ n) }
         ensures leaves { Starts S.tells S.world S.faults n (files_from operands parts) parts
             shelf.old shelf.new result }
+        ensures few_calls { IsTrue (S.tells shelf.new) →
+            (S.world shelf.new).clock ≤ (S.world shelf.old).clock + 8 }
 
         // a task on files of its diagrams remains, and none of them is damaged
         ensures remains { IfOk result (λ s. IsTrue (S.tells shelf.new) → (t : Task) →

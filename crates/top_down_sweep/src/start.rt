@@ -76,6 +76,8 @@ impl<'r, O: Operation> TopDownSweep<'r, O> {
         ensures calls { IfOk result (λ s. IsTrue (S.tells shelf.new) →
             Paid 8 0 (credit_of s) (S.world shelf.old) (S.world shelf.new)) }
         ensures stock { IfOk result (λ s. stock_of s ≡ 0) }
+        ensures few_calls { IsTrue (S.tells shelf.new) →
+            (S.world shelf.new).clock ≤ (S.world shelf.old).clock + 8 }
         ensures faults { OnlySortShelf (S.faults shelf.old) (S.faults shelf.new) result }
         ensures refused { IfErr result (IsStartDamage files) }
         ensures damage { IfErr result (λ e. IsTrue (S.tells shelf.new) → IsStartFault files n (S.world shelf.old) e) }

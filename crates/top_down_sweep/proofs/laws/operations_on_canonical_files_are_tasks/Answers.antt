@@ -25,6 +25,8 @@ returns-clause-product c n op t u files step world canonical apart =
         nodes_are = node_files n t u u files world (c.canonical_files_are_read.ensures n) canonical;
         apart = apart;
       };
+      diagrams_are = refl;
+      roots_are = refl;
       table_is = is.table_is;
     }
 
@@ -48,6 +50,8 @@ returns-clause-choice c n t u v files step world canonical apart =
         nodes_are = node_files n t u v files world (c.canonical_files_are_read.ensures n) canonical;
         apart = apart;
       };
+      diagrams_are = refl;
+      roots_are = refl;
       table_is = is.table_is;
     }
 
@@ -71,6 +75,8 @@ returns-clause-quantifier c n kind variable t files step world canonical within 
         nodes_are = node_files n t t t files world (c.canonical_files_are_read.ensures n) canonical;
         apart = apart;
       };
+      diagrams_are = refl;
+      roots_are = refl;
       table_is = is.table_is;
     }
 
@@ -94,5 +100,7 @@ returns-clause-restriction c n variable value t files step world canonical withi
         nodes_are = node_files n t t t files world (c.canonical_files_are_read.ensures n) canonical;
         apart = apart;
       };
+      diagrams_are = refl;
+      roots_are = refl;
       table_is = is.table_is;
     }

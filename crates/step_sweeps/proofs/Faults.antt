@@ -1,0 +1,79 @@
+-- Where a step that sweeps finds a file damaged.
+use Rattle.std.proofs.Common.{◌≡◌, ◌≢◌, ◌⊎◌, ℕ, subst, inl, inr}
+use Rattle.shelf_model.specs.declared.file_no.FileNo.{FileNo}
+use Rattle.shelf_model.specs.declared.sort_fault.SortFault.{SortFault}
+use Rattle.shelf_model.specs.declared.sort_fault.SortFault.TheVariants.{Shelf, Damaged, RunsSpent}
+use Rattle.shelf_model.specs.File.{File}
+use Rattle.shelf_model.specs.World.{World, file}
+use Rattle.node_reading.specs.Reading.{IsDamagedNode, IsTrailerFault}
+use Rattle.top_down_sweep.specs.declared.beginning.OperandFiles.{OperandFiles}
+use Rattle.top_down_sweep.specs.declared.machine.Machine.{Machine}
+use Rattle.top_down_sweep.specs.declared.start.Files.{Files}
+use Rattle.top_down_sweep.specs.Damage.{IsAbsent, IsReadDamage, IsStartFault, IsMachineDamage}
+use Rattle.top_down_sweep.specs.Sweeps.{files_in}
+use Rattle.top_down_sweep.specs.Waiting.{AreApart}
+use Rattle.step_sweeps.specs.Damage.{IsDamagedFile, IsArcsFault, IsDiagramFault}
+
+-- a file without its trailer is damaged
+no_trailer : (n : ℕ) (read : FileNo) (world : World) (f : FileNo) (at : ℕ)
+    → IsTrailerFault read n world (Damaged f at) → IsDamagedFile n read world f at
+no_trailer n read world f at is = (is.0, inl is)
+
+-- so is one of which a record was read that is damaged, or in which a node isn't there
+read_damage : (m n : ℕ) (g read : FileNo) (old new : World) (key : ℕ) (f : FileNo) (at : ℕ) → m ≡ n → g ≡ read
+    → file new read ≡ file old read → IsReadDamage m g key new (Damaged f at) → IsDamagedFile n read old f at
+read_damage m n g read old new key f at variables same kept damage =
+    let here : IsReadDamage n read key new (Damaged f at) =
+    subst (λ v. v) (λ i. IsReadDamage (variables i) (same i) key new (Damaged f at)) damage in
+    let then : IsDamagedNode n (file old read).bytes at ⊎ IsAbsent (file old read).bytes key at =
+    subst (λ (x : File). IsDamagedNode n x.bytes at ⊎ IsAbsent x.bytes key at) kept here.1 in
+    (here.0, elim then [ inl node ↦ inr (inl node) | inr absent ↦ inr (inr (key, absent)) ])
+
+-- a start finds an operand's file damaged
+pub start_fault : (n : ℕ) (operands : OperandFiles) (files : Files) (world : World) (e : SortFault)
+    → files.first ≡ operands.first → files.second ≡ operands.second → files.third ≡ operands.third
+    → (e ≢ RunsSpent → IsStartFault files n world e) → IsArcsFault n operands world e
+start_fault n operands files world Shelf first second third is = tt
+start_fault n operands files world (Damaged f at) first second third is = elim (is (λ same. absurd (cc))) [
+  | inl fault ↦ inl (no_trailer n _ world f at
+      (subst (λ x. IsTrailerFault x n world (Damaged f at)) first fault))
+  | inr (inl fault) ↦ inr (inl (no_trailer n _ world f at
+      (subst (λ x. IsTrailerFault x n world (Damaged f at)) second fault)))
+  | inr (inr fault) ↦ inr (inr (no_trailer n _ world f at
+      (subst (λ x. IsTrailerFault x n world (Damaged f at)) third fault)))
+]
+start_fault n operands files world RunsSpent first second third is = tt
+
+-- the operands' files are those of a sweep, and are as they were
+pub record AreStill (operands : OperandFiles) (files : Files) (old new : World) : Type 0 where
+  pub first : files.first ≡ operands.first
+  pub second : files.second ≡ operands.second
+  pub third : files.third ≡ operands.third
+  pub first_kept : file new operands.first ≡ file old operands.first
+  pub second_kept : file new operands.second ≡ file old operands.second
+  pub third_kept : file new operands.third ≡ file old operands.third
+
+-- and so does a turn
+pub turn_fault : (n : ℕ) (operands : OperandFiles) (m : Machine) (old new : World) (e : SortFault)
+    → m.place.variables ≡ n → AreStill operands (files_in m) old new → AreApart (files_in m) m.parts.step
+    → IsMachineDamage m new e → IsArcsFault n operands old e
+turn_fault n operands m old new Shelf variables still apart is = tt
+turn_fault n operands m old new (Damaged f at) variables still apart is =
+    let damage = is apart in
+    let key = damage.ask.key in
+    elim damage.damaged [
+      | inl fault ↦ inl (read_damage _ n _ operands.first old new key f at variables still.first
+          still.first_kept fault.1)
+      | inr (inl fault) ↦ inr (inl (read_damage _ n _ operands.second old new key f at variables still.second
+          still.second_kept fault.1))
+      | inr (inr fault) ↦ inr (inr (read_damage _ n _ operands.third old new key f at variables still.third
+          still.third_kept fault.1))
+    ]
+turn_fault n operands m old new RunsSpent variables still apart is = tt
+
+-- a fault of an operand is one of the step
+pub arcs_or_own : (n : ℕ) (operands : OperandFiles) (number : ℕ) (world : World) (e : SortFault)
+    → IsArcsFault n operands world e → IsDiagramFault n operands number world e
+arcs_or_own n operands number world Shelf is = tt
+arcs_or_own n operands number world (Damaged f at) is = inl is
+arcs_or_own n operands number world RunsSpent is = tt
