@@ -3,17 +3,22 @@ ghost use Rattle.std.specs.Prelude.{◌≤◌, length};
 ghost use Rattle.step_cases.specs.declared.steps.TheConstants.{LEAST_ROOM};
 
 use crate::random::Random;
-use crate::steps::{EMPTY, LARGE_ROOM, LEAST_ROOM, ONE, THREE, TWO, bench_of, makes};
+use crate::steps::{
+    EMPTY, LARGE_ROOM, LEAST_ROOM, NUMBER, ONE, THREE, TWO, bench_of, is_made, makes,
+};
 use crate::tables::{choice_of, operator, product_of, quantified_of, restricted_of};
 use bool_tables::Quant;
 use rec_words::Rec;
 use shelf_memory::Bench;
 use std::alloc::Global;
 use std::test::Fail;
-use step_sweeps::StepOperation;
+use step_sweeps::{StepOperation, make_diagram};
 
 /// How many triples of tables are operands.
 const SEEDS: u64 = 60;
+
+/// The part number behind the two files of arcs.
+const PAST_ARCS: u64 = 5;
 
 /// Which operations are tried.
 #[derive(Clone, Copy, Debug, PartialEq, Eq)]
@@ -176,5 +181,36 @@ fn quantifiers_make_the_canonical_files(rt: HostRuntime) -> Result<(), Fail> {
 fn restrictions_make_the_canonical_files(rt: HostRuntime) -> Result<(), Fail> {
     let make = make_each_file(rt, Tried::Restrictions)?;
     assert!(rt; make);
+    Ok(())
+}
+
+/// So many variables that more waits than the least room has records for.
+const MANY: u32 = 16;
+
+/// The exclusive or.
+const DIFFER: u32 = 0b0110;
+
+// With the least room the exclusive or of two random functions takes parts for runs, and makes the canonical file.
+fn makes_with_runs(rt: HostRuntime) -> Result<bool, Fail> {
+    let alloc = rt.alloc();
+    let (first, second, third) = Random::triple(alloc, MANY, 0)?;
+    let wanted = product_of(alloc, DIFFER, first.as_slice(), second.as_slice())?;
+    let tables = [first.as_slice(), second.as_slice(), third.as_slice()];
+    let mut bench = bench_of(alloc, MANY, tables)?;
+    let mut room = vec![in alloc; EMPTY; LEAST_ROOM]?;
+    let room = room.as_mut_slice();
+    let operation = StepOperation::Operator(operator(DIFFER));
+    match make_diagram(operation, MANY, TWO, NUMBER, room, &mut bench) {
+        Ok(made) => Ok(
+            made.next > PAST_ARCS && is_made(alloc, MANY, made, wanted.as_slice(), &bench)?,
+        ),
+        Err(_) => Ok(false),
+    }
+}
+
+#[test]
+fn a_step_with_runs_makes_the_canonical_file(rt: HostRuntime) -> Result<(), Fail> {
+    let makes = makes_with_runs(rt)?;
+    assert!(rt; makes);
     Ok(())
 }

@@ -2,7 +2,7 @@
 ghost use Rattle.std.specs.Prelude.{◌≤◌, length};
 ghost use Rattle.step_sweeps.specs.Given.{AreEarlier};
 ghost use Rattle.step_sweeps.specs.Operations.{IsWithin};
-ghost use Rattle.step_cases.specs.declared.failing.TheConstants.{VARIABLES};
+ghost use Rattle.step_cases.specs.declared.failing.TheConstants.{FEWEST, MOST};
 ghost use Rattle.step_cases.specs.declared.steps.TheConstants.{NUMBER, LEAST_ROOM};
 
 use crate::random::Random;
@@ -19,7 +19,11 @@ use std::test::Fail;
 use step_sweeps::{Answered, StepOperation, compare, evaluate, imply, make_diagram};
 use top_down_sweep::OperandFiles;
 
-pub(crate) const VARIABLES: u32 = 4;
+/// The fewest variables that a case is of.
+pub(crate) const FEWEST: u32 = 4;
+
+/// The most variables that an answer is asked of.
+const MOST: u32 = 9;
 
 /// The exclusive or.
 const DIFFER: u32 = 0b0110;
@@ -27,12 +31,13 @@ const DIFFER: u32 = 0b0110;
 /// More calls than any of the cases makes.
 const MOST_CALLS: u64 = 400;
 
-/// How many small cases make a diagram.
+/// How many cases make a diagram.
 pub(crate) const CASES: u32 = 4;
 
-/// The operation of a small case.
-pub(crate) fn operation_of(case: u32) -> StepOperation
-    ensures { IsWithin VARIABLES result }
+/// The operation of a case of so many variables.
+pub(crate) fn operation_of(case: u32, n: u32) -> StepOperation
+    requires { FEWEST ≤ n }
+    ensures { IsWithin n result }
 {
     match case {
         0 => StepOperation::Operator(operator(DIFFER)),
@@ -60,12 +65,12 @@ pub(crate) fn operands_of(case: u32) -> OperandFiles
 }
 
 // The table that it makes of three.
-fn wanted_of(alloc: Global, case: u32, tables: [&[bool]; 3]) -> Result<Vec<bool>, Fail> {
+fn wanted_of(alloc: Global, case: u32, n: u32, tables: [&[bool]; 3]) -> Result<Vec<bool>, Fail> {
     Ok(match case {
         0 => product_of(alloc, DIFFER, tables[0], tables[1])?,
         1 => choice_of(alloc, tables[0], tables[1], tables[2])?,
-        2 => quantified_of(alloc, VARIABLES, Quant::Exists, 1, tables[0])?,
-        _ => restricted_of(alloc, VARIABLES, 2, true, tables[0])?,
+        2 => quantified_of(alloc, n, Quant::Exists, 1, tables[0])?,
+        _ => restricted_of(alloc, n, 2, true, tables[0])?,
     })
 }
 
@@ -74,27 +79,28 @@ fn wanted_of(alloc: Global, case: u32, tables: [&[bool]; 3]) -> Result<Vec<bool>
 fn makes_at(
     alloc: Global,
     case: u32,
+    n: u32,
     call: u64,
     tables: [&[bool]; 3],
     room: &mut [Rec],
 ) -> Result<Option<bool>, Fail>
+    requires some { FEWEST ≤ n }
+    requires few { n ≤ MOST }
     requires enough { LEAST_ROOM ≤ length room.old }
 {
-    let (operation, operands) = (operation_of(case), operands_of(case));
-    let wanted = wanted_of(alloc, case, tables)?;
+    let (operation, operands) = (operation_of(case, n), operands_of(case));
+    let wanted = wanted_of(alloc, case, n, tables)?;
     let wanted = wanted.as_slice();
-    let mut bench = bench_of(alloc, VARIABLES, tables)?;
+    let mut bench = bench_of(alloc, n, tables)?;
     let fails = bench.clock().saturating_add(call);
     bench.fail_at(fails)?;
-    match make_diagram(operation, VARIABLES, operands, NUMBER, room, &mut bench) {
+    match make_diagram(operation, n, operands, NUMBER, room, &mut bench) {
         Ok(made) => {
-            let right = is_made(alloc, VARIABLES, made, wanted, &bench)?;
+            let right = is_made(alloc, n, made, wanted, &bench)?;
             Ok(Some(right && bench.clock() <= fails))
         }
         Err(SortFault::Shelf) => {
-            let right = makes(
-                alloc, operation, VARIABLES, operands, wanted, room, &mut bench,
-            )?;
+            let right = makes(alloc, operation, n, operands, wanted, room, &mut bench)?;
             Ok(if right { None } else { Some(false) })
         }
         Err(_) => Ok(Some(false)),
@@ -102,13 +108,15 @@ fn makes_at(
 }
 
 // So it is with each of a case's calls.
-fn makes_again(alloc: Global, case: u32, room: &mut [Rec]) -> Result<bool, Fail>
+fn makes_again(alloc: Global, case: u32, n: u32, room: &mut [Rec]) -> Result<bool, Fail>
+    requires some { FEWEST ≤ n }
+    requires few { n ≤ MOST }
     requires enough { LEAST_ROOM ≤ length room.old }
 {
-    let (first, second, third) = Random::triple(alloc, VARIABLES, 1)?;
+    let (first, second, third) = Random::triple(alloc, n, 1)?;
     let tables = [first.as_slice(), second.as_slice(), third.as_slice()];
     for call in 0..MOST_CALLS {
-        if let Some(right) = makes_at(alloc, case, call, tables, room)? {
+        if let Some(right) = makes_at(alloc, case, n, call, tables, room)? {
             return Ok(right);
         }
     }
@@ -117,9 +125,12 @@ fn makes_again(alloc: Global, case: u32, room: &mut [Rec]) -> Result<bool, Fail>
 
 fn each_case_makes_again(rt: HostRuntime) -> Result<bool, Fail> {
     let mut room = vec![in rt.alloc(); EMPTY; LEAST_ROOM]?;
+    let room = room.as_mut_slice();
     for case in 0..CASES {
-        if !makes_again(rt.alloc(), case, room.as_mut_slice())? {
-            return Ok(false);
+        for n in FEWEST..MOST + 1 {
+            if !makes_again(rt.alloc(), case, n, room)? {
+                return Ok(false);
+            }
         }
     }
     Ok(true)
@@ -146,15 +157,17 @@ pub(crate) enum Asked {
 /// The answer to it.
 pub(crate) fn answer_of(
     asked: Asked,
+    n: u32,
     room: &mut [Rec],
     bench: &mut Bench,
 ) -> Result<Answered, SortFault>
+    requires few { n ≤ MOST }
     requires enough { LEAST_ROOM ≤ length room.old }
 {
     match asked {
-        Asked::Same => compare(VARIABLES, FIRST, SECOND, NUMBER, room, bench),
-        Asked::Leq => imply(VARIABLES, FIRST, SECOND, NUMBER, room, bench),
-        Asked::Value => evaluate(VARIABLES, FIRST, b"0000", 0, NUMBER, room, bench),
+        Asked::Same => compare(n, FIRST, SECOND, NUMBER, room, bench),
+        Asked::Leq => imply(n, FIRST, SECOND, NUMBER, room, bench),
+        Asked::Value => evaluate(n, FIRST, b"000000000", 0, NUMBER, room, bench),
     }
 }
 
@@ -162,19 +175,21 @@ pub(crate) fn answer_of(
 fn answers_at(
     alloc: Global,
     asked: Asked,
+    n: u32,
     call: u64,
     table: &[bool],
     room: &mut [Rec],
 ) -> Result<Option<bool>, Fail>
+    requires few { n ≤ MOST }
     requires enough { LEAST_ROOM ≤ length room.old }
 {
     let wanted = asked != Asked::Value || table.first().copied() == Some(true);
-    let mut bench = bench_of(alloc, VARIABLES, [table, table, table])?;
+    let mut bench = bench_of(alloc, n, [table, table, table])?;
     let fails = bench.clock().saturating_add(call);
     bench.fail_at(fails)?;
-    match answer_of(asked, room, &mut bench) {
+    match answer_of(asked, n, room, &mut bench) {
         Ok(answered) => Ok(Some(answered.answer == wanted && bench.clock() <= fails)),
-        Err(SortFault::Shelf) => match answer_of(asked, room, &mut bench) {
+        Err(SortFault::Shelf) => match answer_of(asked, n, room, &mut bench) {
             Ok(answered) if answered.answer == wanted => Ok(None),
             _ => Ok(Some(false)),
         },
@@ -182,18 +197,13 @@ fn answers_at(
     }
 }
 
-fn answers_again(rt: HostRuntime, asked: Asked) -> Result<bool, Fail> {
-    let mut room = vec![in rt.alloc(); EMPTY; LEAST_ROOM]?;
-    let (table, _, _) = Random::triple(rt.alloc(), VARIABLES, 1)?;
+fn answers_again(alloc: Global, asked: Asked, n: u32, room: &mut [Rec]) -> Result<bool, Fail>
+    requires few { n ≤ MOST }
+    requires enough { LEAST_ROOM ≤ length room.old }
+{
+    let (table, _, _) = Random::triple(alloc, n, 1)?;
     for call in 0..MOST_CALLS {
-        let at = answers_at(
-            rt.alloc(),
-            asked,
-            call,
-            table.as_slice(),
-            room.as_mut_slice(),
-        )?;
-        if let Some(right) = at {
+        if let Some(right) = answers_at(alloc, asked, n, call, table.as_slice(), room)? {
             return Ok(right);
         }
     }
@@ -201,11 +211,16 @@ fn answers_again(rt: HostRuntime, asked: Asked) -> Result<bool, Fail> {
 }
 
 fn each_answers_again(rt: HostRuntime) -> Result<bool, Fail> {
-    Ok(
-        answers_again(rt, Asked::Same)?
-            && answers_again(rt, Asked::Leq)?
-            && answers_again(rt, Asked::Value)?,
-    )
+    let mut room = vec![in rt.alloc(); EMPTY; LEAST_ROOM]?;
+    let room = room.as_mut_slice();
+    for n in FEWEST..MOST + 1 {
+        for asked in [Asked::Same, Asked::Leq, Asked::Value] {
+            if !answers_again(rt.alloc(), asked, n, room)? {
+                return Ok(false);
+            }
+        }
+    }
+    Ok(true)
 }
 
 #[test]

@@ -2,7 +2,7 @@
 ghost use Rattle.std.specs.Prelude.{◌≤◌, length};
 ghost use Rattle.step_cases.specs.declared.steps.TheConstants.{LEAST_ROOM};
 
-use crate::failing::{Asked, CASES, VARIABLES, answer_of, operands_of, operation_of};
+use crate::failing::{Asked, CASES, FEWEST, answer_of, operands_of, operation_of};
 use crate::random::Random;
 use crate::steps::{EMPTY, FIRST, LEAST_ROOM, NUMBER, bench_of, put_bytes};
 use rec_words::Rec;
@@ -20,12 +20,13 @@ fn fault_of(case: u32, room: &mut [Rec], bench: &mut Bench) -> Option<SortFault>
         1 => Asked::Leq,
         2 => Asked::Value,
         _ => {
-            let (operation, operands) = (operation_of(case - 3), operands_of(case - 3));
-            let made = make_diagram(operation, VARIABLES, operands, NUMBER, room, bench);
+            let operation = operation_of(case - 3, FEWEST);
+            let operands = operands_of(case - 3);
+            let made = make_diagram(operation, FEWEST, operands, NUMBER, room, bench);
             return made.err();
         }
     };
-    answer_of(asked, room, bench).err()
+    answer_of(asked, FEWEST, room, bench).err()
 }
 
 // A step over a first file of these bytes ends, or says where that file is damaged.
@@ -45,9 +46,9 @@ fn ends_with_changed_bytes(rt: HostRuntime, case: u32) -> Result<bool, Fail> {
     let alloc = rt.alloc();
     let mut room = vec![in alloc; EMPTY; LEAST_ROOM]?;
     let room = room.as_mut_slice();
-    let (first, second, third) = Random::triple(alloc, VARIABLES, 1)?;
+    let (first, second, third) = Random::triple(alloc, FEWEST, 1)?;
     let tables = [first.as_slice(), second.as_slice(), third.as_slice()];
-    let mut bench = bench_of(alloc, VARIABLES, tables)?;
+    let mut bench = bench_of(alloc, FEWEST, tables)?;
     let mut bytes = Vec::new(alloc);
     bytes.extend_from_slice(bench.file(FIRST))?;
     for at in 0..bytes.len() {
