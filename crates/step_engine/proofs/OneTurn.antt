@@ -76,6 +76,7 @@ module _ {S : Type 0} (tells : S → Bool) (world : S → World) (counts : S →
     damaged = λ told. simple.only_folder (world before) e folder;
     kind = subst (IsOfKind p.step) (sym folder) tt;
     calls = tt;
+    one_turn = λ told not. calls told;
     few_calls = λ told job is holds. one_calls p.step _ _ _ simple.not_swept (calls told);
     faults = faults;
   }
@@ -98,6 +99,7 @@ module _ {S : Type 0} (tells : S → Bool) (world : S → World) (counts : S →
     damaged = tt;
     kind = tt;
     calls = λ told exact. one_calls p.step _ _ _ simple.not_swept (calls told);
+    one_turn = λ told not. calls told;
     few_calls = λ told job is holds. one_calls p.step _ _ _ simple.not_swept (calls told);
     faults = faults;
   }
@@ -177,6 +179,7 @@ drop_runs tells world counts n text number gone p s e drop below may e_is =
       damaged = tt;
       kind = tt;
       calls = λ told exact. one_calls p.step _ _ _ (ap sweeps drop) (omega arith);
+      one_turn = λ told not. omega arith;
       few_calls = λ told job is holds. one_calls p.step _ _ _ (ap sweeps drop) (omega arith);
       faults = record { later = omega arith; cause = λ is. cc; say_is = refl; text_is = λ path. refl };
     }

@@ -228,6 +228,10 @@ pub swept_calls : (step : Step) (turns now_clock clock : ℕ) → sweeps step �
 swept_calls step turns now_clock clock swept few =
     subst (λ b. now_clock ≤ clock + cond b (224 * turns + 11) 5) (sym swept) few
 
+-- a step that sweeps isn't one that takes one turn
+never_one : {A : Type 0} (step : Step) → sweeps step ≡ true → sweeps step ≡ false → A
+never_one step swept not = absurd cc
+
 module _ {S : Type 0} (tells : S → Bool) (world : S → World) (counts : S → Faults) (n : ℕ) (text : List ℕ) (number : ℕ) (p : Planned)
     (sweeping : Sweeping) (some : sweeping_of p.step ≡ Some sweeping) (may : MayRun n text number p) (before after : S)
     (content : Told tells before after (Ran (OnlyStepFiles number (now (world before))) (world before) (world after)))
@@ -266,6 +270,7 @@ module _ {S : Type 0} (tells : S → Bool) (world : S → World) (counts : S →
     damaged = λ told. is_one.fault (world before) e (damaged told);
     kind = of_kind p.step e is_one.joins_is;
     calls = tt;
+    one_turn = λ told not. never_one p.step is_one.sweeps_is not;
     few_calls = all_calls;
     faults = faults_err (counts before) (counts after) e faults;
   }
@@ -301,6 +306,7 @@ module _ {S : Type 0} (tells : S → Bool) (world : S → World) (counts : S →
         swept_calls p.step e.turns _ _ is_one.sweeps_is
         (subst (λ k. (world after).clock ≤ (world before).clock + (224 * k + 11)) (sym turns_is)
         (calls told (subst (λ k. k < 2 ^ 64 - 1) turns_is exact)));
+    one_turn = λ told not. never_one p.step is_one.sweeps_is not;
     few_calls = all_calls;
     faults = faults_ok (counts before) (counts after) m e faults;
   }
@@ -353,6 +359,7 @@ module _ {S : Type 0} (tells : S → Bool) (world : S → World) (counts : S →
     damaged = damaged;
     kind = kind;
     calls = tt;
+    one_turn = λ told not. never_one p.step question.sweeps_is not;
     few_calls = λ told job is holds. swept_calls p.step _ _ _ question.sweeps_is (few_calls told job is holds);
     faults = faults_err (counts before) (counts after) e faults;
   }
@@ -385,6 +392,7 @@ module _ {S : Type 0} (tells : S → Bool) (world : S → World) (counts : S →
         swept_calls p.step e.turns _ _ question.sweeps_is
         (subst (λ k. (world after).clock ≤ (world before).clock + (224 * k + 11)) (sym turns_is)
         (calls told (subst (λ k. k < 2 ^ 64 - 1) turns_is exact)));
+    one_turn = λ told not. never_one p.step question.sweeps_is not;
     few_calls = λ told job is holds. swept_calls p.step _ _ _ question.sweeps_is (few_calls told job is holds);
     faults = faults_ok (counts before) (counts after) a e faults;
   }

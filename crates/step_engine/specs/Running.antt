@@ -1,5 +1,5 @@
 -- What a run of a step does, leaves and costs.
-use Rattle.std.specs.Prelude.{◌≡◌, ℕ, ◌+◌, ◌-◌, ◌*◌, ◌^◌, ◌<◌, ◌≤◌, Bool, IsTrue, cond, List, Result, IfOk, IfErr}
+use Rattle.std.specs.Prelude.{◌≡◌, ℕ, ◌+◌, ◌-◌, ◌*◌, ◌^◌, ◌<◌, ◌≤◌, Bool, false, IsTrue, cond, List, Result, IfOk, IfErr}
 use Rattle.bool_tables.specs.declared.steps.Step.{Step}
 use Rattle.bool_tables.specs.declared.steps.Planned.{Planned}
 use Rattle.shelf_model.specs.declared.sort_fault.SortFault.{SortFault}
@@ -41,6 +41,7 @@ pub record RunsStep {S : Type 0} (tells : S → Bool) (world : S → World) (cou
   pub kind : IfErr result (IsOfKind p.step)
   pub calls : IfOk result (λ e. IsTrue (tells after) → e.turns < 2 ^ 64 - 1
       → (world after).clock ≤ (world before).clock + run_calls p.step e.turns)
+  pub one_turn : IsTrue (tells after) → sweeps p.step ≡ false → (world after).clock ≤ (world before).clock + 5
   pub few_calls : IsTrue (tells after) → (job : Job) → IsStepOf job n text number p
       → Holds job number (now (world before)).folder
       → (world after).clock ≤ (world before).clock + run_calls p.step (work_of job p.step)

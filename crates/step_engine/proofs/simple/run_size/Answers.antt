@@ -29,6 +29,7 @@ returns-in_err-nodes g c =
             damaged = λ told. size_fault c.args.n c.args.number c.args.of p.step c.requires.kind (g.S.Shelf.world c.args.shelf.now) e (said.err told);
             kind = size_kind p.step e;
             calls = tt;
+            one_turn = λ told not. let few = said.calls told in omega (arith, few);
             few_calls = λ told job is holds. size_calls c.args.of p.step c.requires.kind _ _ _ (said.calls told);
             faults = shelf_faults _ _ e said.faults;
           });
@@ -54,6 +55,7 @@ returns g c =
         damaged = tt;
         kind = tt;
         calls = λ told exact. size_calls c.args.of p.step c.requires.kind _ _ _ (said.calls told);
+        one_turn = λ told not. let few = said.calls told in omega (arith, few);
         few_calls = λ told job is holds. size_calls c.args.of p.step c.requires.kind _ _ _ (said.calls told);
         faults = shelf_fine _ _ _ _ said.faults;
       };
