@@ -7,7 +7,6 @@ pub mod Shown
 pub mod Standing
 pub mod RunSteps
 pub mod StepByStep
-mod Built
 pub mod SayingLines
 pub mod Taking
 pub mod Turns

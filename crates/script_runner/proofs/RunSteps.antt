@@ -31,12 +31,11 @@ use Rattle.sound_image.proofs.Live.{live_below}
 use Rattle.step_engine.proofs.PlanLaws.{first_true, operands_live, follows_at}
 use Rattle.script_reader.specs.declared.plan.LineEnd.{LineEnd}
 use Rattle.script_reader.specs.Lines.{AreLines}
-use Rattle.script_reader.specs.Built.{are_built}
 use Rattle.script_runner.specs.declared.finish.Finish.{Finish}
 use Rattle.script_runner.specs.Text.{said_line, done_line, ended_before, lines_from_step, banner_line, start_line, resume_line, run_text}
 use Rattle.script_runner.specs.Shapes.{AreShown, IsShape, IsShapeFront}
 use Rattle.script_runner.specs.Said.{whole_lines, acknowledged, said_count, no_line}
-use Rattle.script_runner.specs.Running.{ReachesCount, IsSafe, Begins, AllBegin, WaitsNot, OthersAre, IsRunning, HasSaid, StaysThere, AreEmptied, IsEntryDamage}
+use Rattle.script_runner.specs.Running.{ReachesCount, IsSafe, Begins, AllBegin, WaitsNot, OthersAre, IsRunning, HasSaid, StaysThere, AreEmptied, IsEntryDamage, IsMetDamage}
 use Rattle.script_runner.specs.StepRuns.{CountsAbout, IsTaking, HasEntry, HasSteps, HoldsStep, TakesStep}
 use Rattle.script_runner.proofs.LineOrder.{none_before, ended_rises}
 use Rattle.script_runner.proofs.SaidLaws.{whole_lines-append, start_line_is_one, resume_line_is_one, said_below, acknowledged_least}
@@ -62,7 +61,6 @@ remains job rest = flat_map (said_line job) rest ++ done_line
 pub record IsPlan (job : Job) (lines : List LineEnd) : Type 0 where
   pub well_formed : IsWellFormed job.n job.text job.steps
   pub are_lines : AreLines job.steps lines
-  pub built : IsTrue (are_built job.steps)
 
 -- what holds at a moment of a run that began there
 abbrev pub IsGoing : Job → List LineEnd → World → Moment → Type 0
@@ -368,6 +366,12 @@ module _ (job : Job) (lines : List LineEnd) (plan : IsPlan job lines) (old : Wor
           let made = at.made.made damage.step late (omega (arith, counted, count)) in
           absurd (damage.none_there made.0 made.1.stands made.1.kind_is)
     ]
+
+    -- so was a place that a step met
+    pub met_at_first : (f : FileNo) (place : ℕ) → count_in (present (now mid).folder) ≡ step
+        → IsMetDamage job.steps f place (present (now mid).folder) → IsMetDamage job.steps f place (present (now old).folder)
+    met_at_first f place count (inl damage) = inl (damaged_at_first f place count damage)
+    met_at_first f place count (inr swept) = inr swept
 
     -- a step is taken
     module _ (new : World) (result : Result Entry Finish) (all_said : ended_before step lines ≤ at.place) (takes : TakesStep job.n job.text job.steps step result mid new) where

@@ -23,11 +23,11 @@ use Rattle.sound_image.specs.Holds.{Holds}
 use Rattle.sound_image.proofs.EntryLaws.{entry_stands, held_entry}
 use Rattle.script_reader.specs.declared.plan.LineEnd.{LineEnd}
 use Rattle.script_runner.specs.declared.finish.Finish.{Finish}
-use Rattle.script_runner.specs.declared.finish.Finish.TheVariants.{Done, OtherJob, FolderFault, SayFault, Damaged}
+use Rattle.script_runner.specs.declared.finish.Finish.TheVariants.{Done, OtherJob, FolderFault, SayFault, Damaged, RunsSpent}
 use Rattle.script_runner.specs.Text.{answer_line, said_line}
 use Rattle.script_runner.specs.Shapes.{AreShown}
-use Rattle.script_runner.specs.Running.{SaysFront, IsSaying, SaysOnly, StaysThere, IsEntryDamage, RefusesFolder, IsStop}
-use Rattle.script_runner.specs.StepRuns.{SpeaksLines, SpokeWhole, SpokeAll, StopsBehind, SaysRight, SaysLines, IsReadFault}
+use Rattle.script_runner.specs.Running.{SaysFront, IsSaying, SaysOnly, StaysThere, IsEntryDamage, RefusesFolder}
+use Rattle.script_runner.specs.StepRuns.{SpeaksLines, SpokeWhole, SpokeAll, StopsBehind, IsSayStop, SaysRight, SaysLines, IsReadFault}
 use Rattle.script_runner.proofs.Shown.{shown_then, one_shown}
 use Rattle.script_runner.proofs.Saying.{says_nothing, one_piece}
 use Rattle.script_runner.proofs.RunSteps.{stays_then, stays_on_shelf, present_count}
@@ -233,14 +233,16 @@ module _ (job : Job) (count : ℕ) (k : ℕ) (folder : Folder) (holds : Holds jo
   read_is_sound (Damaged f at) fault refuses =
       let found = entry_stands job count k folder holds within in
       fault.2 found.0 (record { entry = found.1.entry_is; number = found.1.number_is; bytes = found.2 }) found.1.kind_is
+  read_is_sound (RunsSpent step) fault refuses = refuses
 
--- such a fault stops the run
-read_stops : (k kind : ℕ) (r : FileNo → List ℕ) (finish : Finish) → IsReadFault k kind r finish → IsStop finish
+-- such a fault stops the saying of lines
+read_stops : (k kind : ℕ) (r : FileNo → List ℕ) (finish : Finish) → IsReadFault k kind r finish → IsSayStop finish
 read_stops k kind r Done fault = fault
 read_stops k kind r (OtherJob at) fault = fault
 read_stops k kind r FolderFault fault = tt
 read_stops k kind r SayFault fault = tt
 read_stops k kind r (Damaged f at) fault = tt
+read_stops k kind r (RunsSpent step) fault = fault
 
 read_names : (steps : List Planned) (k : ℕ) (r : FileNo → List ℕ) (finish : Finish) → k < count_in r
     → IsReadFault k (kind_of (get_or steps k no_step).step) r finish → (f : FileNo) (at : ℕ) → finish ≡ Damaged f at → IsEntryDamage steps f at r

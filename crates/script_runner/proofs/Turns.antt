@@ -1,8 +1,9 @@
 -- The parts of a run over a station, whether it tells its content or not.
-use Rattle.std.proofs.Common.{◌≡◌, ◌∙◌, ℕ, ◌+◌, ◌-◌, ◌*◌, ◌/◌, ◌<◌, ◌≤◌, min, Bool, true, false, not, cond, nat_lt, List, [], ◌++◌, length, take, drop, refl, sym, ap, subst, inl, inr, arith}
+use Rattle.std.proofs.Common.{◌≡◌, ◌∙◌, ℕ, ◌+◌, ◌-◌, ◌*◌, ◌/◌, ◌<◌, ◌≤◌, min, Bool, true, false, not, cond, nat_lt, List, [], ◌++◌, length, take, drop, get_or, refl, sym, ap, subst, inl, inr, arith}
 use Rattle.std.specs.Prelude.{IsTrue, Result, Ok, Err, OnOk, if◌then◌else◌}
-use Rattle.std.specs.List.{list_all}
-use Rattle.std.proofs.lemmas.List.{append-nil, length-take, length-drop}
+use Rattle.std.specs.List.{list_all, sum_by}
+use Rattle.std.proofs.lemmas.List.{append-nil, length-take, length-drop, take_more}
+use Rattle.std.proofs.lemmas.List.Sums.{sum_by-take-le, sum_by_push}
 use Rattle.shelf_model.specs.declared.fault.Failed.{Failed}
 use Rattle.shelf_model.specs.declared.file_no.FileNo.{FileNo}
 use Rattle.shelf_model.specs.Folder.{Image, AreFiles, bytes_in}
@@ -22,7 +23,7 @@ use Rattle.catalogue.specs.Entries.{IsEntryOf, entry_bytes}
 use Rattle.catalogue.specs.Commits.{IsReady}
 use Rattle.catalogue.specs.Standings.{standing_of, DuringAttach, IsAttached}
 use Rattle.catalogue.proofs.Places.{length_entry}
-use Rattle.sound_image.specs.Jobs.{Job}
+use Rattle.sound_image.specs.Jobs.{Job, no_step}
 use Rattle.sound_image.specs.Entries.{IsEntryOfStep}
 use Rattle.sound_image.specs.Sound.{ShowsSteps}
 use Rattle.sound_image.specs.Holds.{AreSound, HaveCount}
@@ -30,15 +31,33 @@ use Rattle.sound_image.proofs.AttachLaws.{standing}
 use Rattle.script_reader.specs.declared.plan.LineEnd.{LineEnd}
 use Rattle.script_reader.specs.Lines.{rise_from}
 use Rattle.script_runner.specs.declared.finish.Finish.{Finish}
-use Rattle.script_runner.specs.declared.finish.Finish.TheVariants.{Done, OtherJob, FolderFault, SayFault, Damaged}
+use Rattle.script_runner.specs.declared.finish.Finish.TheVariants.{Done, OtherJob, FolderFault, SayFault, Damaged, RunsSpent}
 use Rattle.script_runner.specs.Text.{done_line, banner_line, ended_before, start_line, resume_line}
-use Rattle.script_runner.specs.Shapes.{IsWholeShape}
-use Rattle.script_runner.specs.Running.{HasSaid, HasOtherJob, IsOther, IsDamage, RefusesFolder, IsStop, IsStill, StoodStill, MeetsDamage, AreEmptied, RunsSteps}
-use Rattle.script_runner.specs.StepRuns.{IsTaking, TakesStep, SaysLines}
+use Rattle.script_runner.specs.Shapes.{IsShape, IsWholeShape}
+use Rattle.script_runner.specs.Running.{HasSaid, HasOtherJob, IsOther, IsDamage, RefusesFolder, IsStop, IsSpentStep, IsStill, StoodStill, MeetsDamage, MeetsSpent, AreEmptied, RunsSteps}
+use Rattle.script_runner.specs.StepRuns.{IsTaking, HoldsStep, TakesStep, IsSayStop, SaysLines}
+use Rattle.script_runner.specs.Calls.{step_calls, IsCounted, AreCounted}
 use Rattle.script_runner.proofs.LineOrder.{ended_is, ended_most}
 use Rattle.script_runner.proofs.Standing.{IsStanding, IsDamaged, standing_says}
-use Rattle.script_runner.proofs.RunSteps.{done_at, text_at, present_count, IsPlan, Ongoing, AtStep, attaching, since, shape_of, damaged_at_first, same_at, taking, has_taken}
+use Rattle.script_runner.proofs.RunSteps.{done_at, text_at, present_count, IsPlan, Ongoing, AtStep, attaching, since, shape_of, damaged_at_first, met_at_first, same_at, taking, has_taken}
 use Rattle.script_runner.proofs.StepByStep.{begun, says_lines, whole_behind, has_said_lines, ends}
+
+-- the calls of the steps before that one
+pub calls_before : Job → ℕ → ℕ
+calls_before job step = sum_by (step_calls job) (take step job.steps)
+
+-- with those of the step they are the calls before the next one
+pub calls_of_one_more : (job : Job) (step : ℕ) → step < length job.steps
+    → calls_before job (step + 1) ≡ calls_before job step + step_calls job (get_or job.steps step no_step)
+unfolding calls_before
+calls_of_one_more job step within =
+    ap (sum_by (step_calls job)) (take_more job.steps step no_step within)
+    ∙ sum_by_push (step_calls job) (take step job.steps) (get_or job.steps step no_step)
+
+-- they are no more than those of all steps
+pub calls_before_all : (job : Job) (step : ℕ) → calls_before job step ≤ sum_by (step_calls job) job.steps
+unfolding calls_before
+calls_before_all job step = sum_by-take-le (step_calls job) job.steps step
 
 -- where a job is stored it is this one
 abbrev pub IsThisJob : Job → World → Type 0
@@ -58,8 +77,8 @@ not_other job old same other = other.other (same other.stored)
 -- a run that was stopped by one of its parts
 by_stop : (job : Job) (lines : List LineEnd) (finish : Finish) (old new : World) → Ongoing job lines old new → IsThisJob job old → IsStop finish
     → (AreSound job (now old).folder → ¬ (RefusesFolder finish)) → ((f : FileNo) (at : ℕ) → finish ≡ Damaged f at → MeetsDamage job.steps lines f at old new)
-    → RunsSteps job lines finish old new
-by_stop job lines finish old new run same stop goes_on names = record {
+    → ((k : ℕ) → finish ≡ RunsSpent k → MeetsSpent job lines k old new) → RunsSteps job lines finish old new
+by_stop job lines finish old new run same stop goes_on names spends = record {
   moments = run.moments;
   stays = run.stays;
   goes_on = goes_on;
@@ -70,6 +89,7 @@ by_stop job lines finish old new run same stop goes_on names = record {
   other_job = λ at e. absurd (not_job finish at stop e);
   refuses_other = λ other. absurd (not_other job old same other);
   damaged = names;
+  spent = spends;
 }
   where
     not_done : (x : Finish) → IsStop x → x ≡ Done → ⊥
@@ -78,8 +98,22 @@ by_stop job lines finish old new run same stop goes_on names = record {
     not_job : (x : Finish) (at : ℕ) → IsStop x → x ≡ OtherJob at → ⊥
     not_job x at stop e = subst IsStop e stop
 
+-- what stops the saying of lines stops a run
+say_stops : (x : Finish) → IsSayStop x → IsStop x
+say_stops Done stop = stop
+say_stops (OtherJob at) stop = stop
+say_stops FolderFault stop = tt
+say_stops SayFault stop = tt
+say_stops (Damaged f at) stop = tt
+say_stops (RunsSpent step) stop = absurd stop
+
+-- and no lack of part numbers does
+never_spent : (x : Finish) (k : ℕ) → IsSayStop x → x ≡ RunsSpent k → ⊥
+never_spent x k stop e = subst IsSayStop e stop
+
 by_saying : (job : Job) (lines : List LineEnd) (old new : World) → Ongoing job lines old new → IsThisJob job old → RunsSteps job lines SayFault old new
-by_saying job lines old new run same = by_stop job lines SayFault old new run same tt (λ sound none. none) (λ f at e. cc)
+by_saying job lines old new run same =
+    by_stop job lines SayFault old new run same tt (λ sound none. none) (λ f at e. cc) (λ k e. cc)
 
 -- a run that came to its end
 to_the_end : (job : Job) (lines : List LineEnd) (old new : World) → Ongoing job lines old new → IsThisJob job old
@@ -97,6 +131,7 @@ to_the_end job lines old new run same whole all emptied says = record {
   other_job = λ at e. cc;
   refuses_other = λ other. absurd (not_other job old same other);
   damaged = λ f at e. cc;
+  spent = λ k e. cc;
 }
 
 -- while a stored job is attached no image is new
@@ -139,6 +174,7 @@ module _ (job : Job) (lines : List LineEnd) (plan : IsPlan job lines) (old new :
     other_job = λ at e. cc;
     refuses_other = λ other. (stands_still job old new other.stored run, inr refl);
     damaged = λ f at e. cc;
+    spent = λ k e. cc;
   }
 
   -- another job is stored
@@ -154,6 +190,7 @@ module _ (job : Job) (lines : List LineEnd) (plan : IsPlan job lines) (old new :
     other_job = λ place e. let same : at ≡ place = cc in subst (λ k. HasOtherJob job.bytes k (present (now old).folder)) same other;
     refuses_other = λ differs. (stands_still job old new differs.stored run, inl (at, refl));
     damaged = λ f place e. cc;
+    spent = λ k e. cc;
   }
 
   -- the folder is damaged
@@ -190,6 +227,7 @@ module _ (job : Job) (lines : List LineEnd) (plan : IsPlan job lines) (old new :
             stands_still job old new damage.stored run,
           );
         };
+    spent = λ k e. cc;
   }
     where
       whole_entry : (r : FileNo → List ℕ) (k : ℕ) → (e : Entry) × IsEntryOfStep job k e × (entry_at k r ≡ entry_bytes e) → 128 * k + 128 ≤ length (r catalogue)
@@ -282,9 +320,10 @@ module _ {S : Type 0} (tells : S → Bool) (world : S → World) (law : (s : S) 
   all_said step rest a b rise at = ended_most step lines at.place (subst (λ ls. IsTrue (rise_from step ls)) at.rest_is rise)
 
   -- a step is taken, or stops the run
-  pub stops_step : (step : ℕ) (rest : List LineEnd) (finish : Finish) (old s t : S) → IsTrue (rise_from step rest) → Told tells old s (Turn job lines step rest (world old) (world s))
+  pub stops_step : (step : ℕ) (rest : List LineEnd) (finish : Finish) (old s t : S) → step < length job.steps
+      → IsTrue (rise_from step rest) → Told tells old s (Turn job lines step rest (world old) (world s))
       → Told tells s t (TakesStep job.n job.text job.steps step (Err finish) (world s) (world t)) → Told tells old t (RunsSteps job lines finish (world old) (world t))
-  stops_step step rest finish old s t rise so_far takes = record {
+  stops_step step rest finish old s t within rise so_far takes = record {
     before = λ tells_t. so_far.before (takes.before tells_t);
     did = λ tells_t.
         let tells_s : IsTrue (tells s) = takes.before tells_t in
@@ -292,16 +331,27 @@ module _ {S : Type 0} (tells : S → Bool) (world : S → World) (law : (s : S) 
         let turn = so_far.did tells_s in
         let took = takes.did tells_t in
         let said_all : ended_before step lines ≤ turn.0.place = all_said step rest (world old) (world s) rise turn.0 in
+        let shape : IsShape job.steps lines (present (now (world old)).folder) (present (now (world t)).folder) (since job lines plan (world old) (law old tells_old) step rest (world s) turn.0) =
+        shape_of job lines plan (world old) (law old tells_old) step rest (world s) turn.0 (present (now (world t)).folder)
+        (same_at job lines plan (world old) (law old tells_old) step rest (world s) turn.0 (world t) (Err finish) said_all took (now (world t))
+        (ran_end (world s) (world t) (λ m. IsTaking (length job.steps) step (now (world s)).folder m.folder) took.run)) in
+        let held : AreSound job (now (world old)).folder → HoldsStep job step (Err finish) (world s) (world t) =
+        λ sound. took.holds job (record { n_is = refl; text_is = refl; steps_are = refl }) (turn.0.sound sound).holds in
         by_stop job lines finish (world old) (world t) (taking job lines plan (world old) (law old tells_old) step rest (world s) turn.0 (world t) (Err finish) said_all took) turn.1 took.stops
-        (λ sound. (took.holds job (record { n_is = refl; text_is = refl; steps_are = refl }) (turn.0.sound sound).holds).err)
+        (λ sound. (held sound).err)
         (λ f at e. record {
           front = since job lines plan (world old) (law old tells_old) step rest (world s) turn.0;
           said_is = took.run.station.said_is ∙ turn.0.said_is;
-          whole = inr (shape_of job lines plan (world old) (law old tells_old) step rest (world s) turn.0 (present (now (world t)).folder)
-              (same_at job lines plan (world old) (law old tells_old) step rest (world s) turn.0 (world t) (Err finish) said_all took (now (world t))
-              (ran_end (world s) (world t) (λ m. IsTaking (length job.steps) step (now (world s)).folder m.folder) took.run)));
-          place = inr (damaged_at_first job lines plan (world old) (law old tells_old) step rest (world s) turn.0 f at
+          whole = inr shape;
+          place = inr (met_at_first job lines plan (world old) (law old tells_old) step rest (world s) turn.0 f at
               (present_count (now (world s)).folder step (law s tells_s) turn.0.ready) (took.damaged f at e));
+        })
+        (λ k e. record {
+          front = since job lines plan (world old) (law old tells_old) step rest (world s) turn.0;
+          said_is = took.run.station.said_is ∙ turn.0.said_is;
+          whole = shape;
+          spent = subst (IsSpentStep job (now (world old)).folder) (sym (took.spent k e).0)
+              (record { within = within; joined = (took.spent k e).1; work = λ sound. (held sound).spent k e });
         });
   }
 
@@ -335,7 +385,7 @@ module _ {S : Type 0} (tells : S → Bool) (world : S → World) (law : (s : S) 
           subst (λ k. SaysLines job.steps (k + 1) (take count rest) e (Err finish) (world s) (world t)) number (says.did tells_t) in
           by_stop job lines finish (world old) (world t)
           (says_lines job lines plan (world old) (law old tells_old) (step + 1) count rest e (world s) (world t) (Err finish) at inside front shows (entry (world old) (world s) taken) by_step)
-          taken.0.1 by_step.stops
+          taken.0.1 (say_stops finish by_step.stops)
           (λ sound. (by_step.holds job plan.well_formed refl (at.sound sound).holds (entry (world old) (world s) taken sound)).err)
           (λ f place same.
           let stopped = by_step.damaged f place same in
@@ -345,9 +395,10 @@ module _ {S : Type 0} (tells : S → Bool) (world : S → World) (law : (s : S) 
             front = behind.0;
             said_is = behind.1;
             whole = inr behind.2;
-            place = inr (damaged_at_first job lines plan (world old) (law old tells_old) (step + 1) rest (world s) at f place
-                (present_count (now (world s)).folder (step + 1) (law s tells_s) at.ready) stopped.0);
-          });
+            place = inr (inl (damaged_at_first job lines plan (world old) (law old tells_old) (step + 1) rest (world s) at f place
+                (present_count (now (world s)).folder (step + 1) (law s tells_s) at.ready) stopped.0));
+          })
+          (λ k e. absurd (never_spent finish k by_step.stops e));
     }
 
     pub said_lines : (x : Unit) → Told tells s t (SaysLines job.steps (e.number + 1) (take count rest) e (Ok x) (world s) (world t))
@@ -386,3 +437,11 @@ module _ {S : Type 0} (tells : S → Bool) (world : S → World) where
       → Told tells s t (TakesStep n text steps step (Ok e) (world s) (world t)) → IsTrue (tells t) → IsEntryOf e.number (present (now (world t)).folder) e
   made_stands n text steps step e s t number takes tells_t =
       subst (λ k. IsEntryOf k (present (now (world t)).folder) e) (sym number) (takes.did tells_t).made.stands
+
+  -- where the turns of all steps are bounded, those of the next step are
+  pub is_counted : (job : Job) (lines : List LineEnd) (step : ℕ) (rest : List LineEnd) (old s : S)
+      → step < length job.steps → Told tells old s (Turn job lines step rest (world old) (world s)) → IsTrue (tells s)
+      → AreCounted job (now (world old)).folder → IsCounted job step (now (world s)).folder
+  is_counted job lines step rest old s within so_far tells_s (inl each) = inl (each step within)
+  is_counted job lines step rest old s within so_far tells_s (inr sound) =
+      inr ((so_far.did tells_s).0.sound sound).holds

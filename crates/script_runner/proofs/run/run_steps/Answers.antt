@@ -13,33 +13,33 @@ use Rattle.script_runner.proofs.LineOrder.{rises_earlier, none_left, shown_in_fr
 use Rattle.script_runner.proofs.Shown.{below_next}
 use Rattle.script_runner.proofs.RunSteps.{IsPlan}
 use Rattle.script_runner.proofs.Saying.{told_second}
-use Rattle.script_runner.proofs.Turns.{Turn, not_attached, refuses_job, refuses_damage, says_banner, stopped_saying, stops_step, takes_step, is_ready, made_stands, stops_lines, said_lines, says_done, is_done}
+use Rattle.script_runner.proofs.Turns.{Turn, not_attached, refuses_job, refuses_damage, says_banner, stopped_saying, stops_step, takes_step, is_ready, made_stands, stops_lines, said_lines, says_done, is_done, is_counted, calls_of_one_more, calls_before_all}
 use Rattle.script_runner.proofs.run.run_steps.Goals as goal
 
 pub returns-in-Err-Shelf-clause-content : goal.returns-in-Err-Shelf-clause-content
 returns-in-Err-Shelf-clause-content g c =
     let job : Job = record { n = c.args.n; text = c.args.text.now; steps = c.args.steps.now; bytes = c.args.job.now } in
-    let plan : IsPlan job c.args.lines.now = record { well_formed = c.requires.plan; are_lines = c.requires.lines; built = c.requires.built } in
+    let plan : IsPlan job c.args.lines.now = record { well_formed = c.requires.plan; are_lines = c.requires.lines } in
     not_attached g.W.Shelf.tells g.W.Shelf.world (λ s told f. g.met.W.Shelf.files_are s told f) job c.args.lines.now plan _ _ c.in-Err-Shelf.ensures.content
 
 pub returns-in-Err-Damaged-clause-content : goal.returns-in-Err-Damaged-clause-content
 returns-in-Err-Damaged-clause-content g c =
     let job : Job = record { n = c.args.n; text = c.args.text.now; steps = c.args.steps.now; bytes = c.args.job.now } in
-    let plan : IsPlan job c.args.lines.now = record { well_formed = c.requires.plan; are_lines = c.requires.lines; built = c.requires.built } in
+    let plan : IsPlan job c.args.lines.now = record { well_formed = c.requires.plan; are_lines = c.requires.lines } in
     refuses_damage g.W.Shelf.tells g.W.Shelf.world (λ s told f. g.met.W.Shelf.files_are s told f) job c.args.lines.now plan c.in-Err-Damaged.field-0 _ c.in-Err-Damaged.file c.in-Err-Damaged.at _ _ c.in-Err-Damaged.field-0-is refl
     c.in-Err-Damaged.ensures.content (λ t. c.in-Err-Damaged.ensures.answer t (λ e. let fault = c.in-Err-Damaged.field-0-is in cc))
 
 pub returns-in-Err-OtherJob-clause-content : goal.returns-in-Err-OtherJob-clause-content
 returns-in-Err-OtherJob-clause-content g c =
     let job : Job = record { n = c.args.n; text = c.args.text.now; steps = c.args.steps.now; bytes = c.args.job.now } in
-    let plan : IsPlan job c.args.lines.now = record { well_formed = c.requires.plan; are_lines = c.requires.lines; built = c.requires.built } in
+    let plan : IsPlan job c.args.lines.now = record { well_formed = c.requires.plan; are_lines = c.requires.lines } in
     refuses_job g.W.Shelf.tells g.W.Shelf.world (λ s told f. g.met.W.Shelf.files_are s told f) job c.args.lines.now plan c.in-Err-OtherJob.field-0 _ c.in-Err-OtherJob.at _ _ c.in-Err-OtherJob.field-0-is refl
     c.in-Err-OtherJob.ensures.content (λ t. c.in-Err-OtherJob.ensures.answer t (λ e. let fault = c.in-Err-OtherJob.field-0-is in cc))
 
 pub returns-in_default-clause-content : goal.returns-in_default-clause-content
 returns-in_default-clause-content g c =
     let job : Job = record { n = c.args.n; text = c.args.text.now; steps = c.args.steps.now; bytes = c.args.job.now } in
-    let plan : IsPlan job c.args.lines.now = record { well_formed = c.requires.plan; are_lines = c.requires.lines; built = c.requires.built } in
+    let plan : IsPlan job c.args.lines.now = record { well_formed = c.requires.plan; are_lines = c.requires.lines } in
     stopped_saying g.W.Shelf.tells g.W.Shelf.world (λ s told f. g.met.W.Shelf.files_are s told f) job c.args.lines.now plan _ _
     (says_banner g.W.Shelf.tells g.W.Shelf.world (λ s told f. g.met.W.Shelf.files_are s told f) job c.args.lines.now plan c.in-Ok.standing c.count_before-before.result c.as_bytes.result.now _ _ _ _
     c.in-Ok.ensures.content (λ t. c.in-Ok.ensures.answer t (λ e. cc)) c.in-Ok.ensures.ok
@@ -49,7 +49,7 @@ returns-in_default-clause-content g c =
 pub loop-step-init : goal.loop-step-init
 loop-step-init g c =
     let job : Job = record { n = c.args.n; text = c.args.text.now; steps = c.args.steps.now; bytes = c.args.job.now } in
-    let plan : IsPlan job c.args.lines.now = record { well_formed = c.requires.plan; are_lines = c.requires.lines; built = c.requires.built } in
+    let plan : IsPlan job c.args.lines.now = record { well_formed = c.requires.plan; are_lines = c.requires.lines } in
     let attach_faults = c.in-Ok.ensures.faults in
     let say_faults = c.in-Ok-say.ensures.faults in
     let rest : c.split_at.result.1.now ≡ drop c.count_before-before.result c.args.lines.now = c.split_at.ensures.back in
@@ -59,7 +59,7 @@ loop-step-init g c =
           c.in-Ok.ensures.content (λ t. c.in-Ok.ensures.answer t (λ e. cc)) c.in-Ok.ensures.ok
           c.count_before-before.ensures.within c.count_before-before.ensures.front c.count_before-before.ensures.rest
           (c.as_bytes.ensures.value ∙ c.as_str.ensures.value ∙ c.banner_line-banner.ensures.text) c.in-Ok-say.ensures.content));
-      calls = λ t.
+      calls = λ t counted.
           let clock = (c.in-Ok-say.ensures.content.did t).elsewhere.ticks.clock_is in
           let attached = c.in-Ok.ensures.calls (c.in-Ok-say.ensures.content.before t) in
           let left : length c.split_at.result.1.now ≡ length c.args.lines.now - c.count_before-before.result =
@@ -76,14 +76,14 @@ loop-step-init g c =
 pub take_step-requires-clause-ready : goal.take_step-requires-clause-ready
 take_step-requires-clause-ready g c =
     let job : Job = record { n = c.args.n; text = c.args.text.now; steps = c.args.steps.now; bytes = c.args.job.now } in
-    let plan : IsPlan job c.args.lines.now = record { well_formed = c.requires.plan; are_lines = c.requires.lines; built = c.requires.built } in
+    let plan : IsPlan job c.args.lines.now = record { well_formed = c.requires.plan; are_lines = c.requires.lines } in
     is_ready g.W.Shelf.tells g.W.Shelf.world (λ s told f. g.met.W.Shelf.files_are s told f) job c.args.lines.now plan c.loop-step.step c.loop-step.rest.now _ _ c.loop-step.invariant.so_far
 
 pub returns-in-Err-clause-content : goal.returns-in-Err-clause-content
 returns-in-Err-clause-content g c =
     let job : Job = record { n = c.args.n; text = c.args.text.now; steps = c.args.steps.now; bytes = c.args.job.now } in
-    let plan : IsPlan job c.args.lines.now = record { well_formed = c.requires.plan; are_lines = c.requires.lines; built = c.requires.built } in
-    stops_step g.W.Shelf.tells g.W.Shelf.world (λ s told f. g.met.W.Shelf.files_are s told f) job c.args.lines.now plan c.loop-step.step c.loop-step.rest.now c.in-Err.finish _ _ _ c.loop-step.invariant.rise c.loop-step.invariant.so_far c.in-Err.ensures.content
+    let plan : IsPlan job c.args.lines.now = record { well_formed = c.requires.plan; are_lines = c.requires.lines } in
+    stops_step g.W.Shelf.tells g.W.Shelf.world (λ s told f. g.met.W.Shelf.files_are s told f) job c.args.lines.now plan c.loop-step.step c.loop-step.rest.now c.in-Err.finish _ _ _ c.loop-step-test.true c.loop-step.invariant.rise c.loop-step.invariant.so_far c.in-Err.ensures.content
 
 pub count_before-requires : goal.count_before-requires
 count_before-requires g c = rises_earlier 0 c.loop-step.step c.loop-step.rest.now (omega arith) c.loop-step.invariant.rise
@@ -110,7 +110,7 @@ say_lines-requires-clause-shown g c =
 pub returns-in-Err-say_lines-clause-content : goal.returns-in-Err-say_lines-clause-content
 returns-in-Err-say_lines-clause-content g c =
     let job : Job = record { n = c.args.n; text = c.args.text.now; steps = c.args.steps.now; bytes = c.args.job.now } in
-    let plan : IsPlan job c.args.lines.now = record { well_formed = c.requires.plan; are_lines = c.requires.lines; built = c.requires.built } in
+    let plan : IsPlan job c.args.lines.now = record { well_formed = c.requires.plan; are_lines = c.requires.lines } in
     let e = c.in-Ok-take_step.entry in
     let number : e.number ≡ c.loop-step.step = c.in-Ok-take_step.ensures.number in
     let taken = takes_step g.W.Shelf.tells g.W.Shelf.world (λ s told f. g.met.W.Shelf.files_are s told f) job c.args.lines.now plan c.loop-step.step c.loop-step.rest.now e _ _ _ c.loop-step-test.true c.loop-step.invariant.rise c.loop-step.invariant.so_far c.in-Ok-take_step.ensures.content in
@@ -125,7 +125,7 @@ returns-in-Err-say_lines-clause-content g c =
 pub loop-step-preserved : goal.loop-step-preserved
 loop-step-preserved g c =
     let job : Job = record { n = c.args.n; text = c.args.text.now; steps = c.args.steps.now; bytes = c.args.job.now } in
-    let plan : IsPlan job c.args.lines.now = record { well_formed = c.requires.plan; are_lines = c.requires.lines; built = c.requires.built } in
+    let plan : IsPlan job c.args.lines.now = record { well_formed = c.requires.plan; are_lines = c.requires.lines } in
     let e = c.in-Ok-take_step.entry in
     let number : e.number ≡ c.loop-step.step = c.in-Ok-take_step.ensures.number in
     let taken = takes_step g.W.Shelf.tells g.W.Shelf.world (λ s told f. g.met.W.Shelf.files_are s told f) job c.args.lines.now plan c.loop-step.step c.loop-step.rest.now e _ _ _ c.loop-step-test.true c.loop-step.invariant.rise c.loop-step.invariant.so_far c.in-Ok-take_step.ensures.content in
@@ -142,17 +142,21 @@ loop-step-preserved g c =
           (said_lines g.W.Shelf.tells g.W.Shelf.world (λ s told f. g.met.W.Shelf.files_are s told f) job c.args.lines.now plan c.loop-step.step c.count_before.result c.loop-step.rest.now e number _ _ _ c.count_before.ensures.within c.count_before.ensures.front shows taken _
           (subst (λ (ls : List LineEnd). Told g.W.Shelf.tells c.take_step.new.shelf c.say_lines.new.station
           (SaysLines c.args.steps.now (e.number + 1) ls e (Ok c.in-Ok-say_lines.field-0) (g.W.Shelf.world c.take_step.new.shelf) (g.W.Shelf.world c.say_lines.new.station))) ending c.in-Ok-say_lines.ensures.content));
-      calls = λ t.
+      calls = λ t counted.
           let told_take = c.in-Ok-say_lines.ensures.content.before t in
-          let before = invariant.calls (c.in-Ok-take_step.ensures.content.before told_take) in
-          let took = c.in-Ok-take_step.ensures.calls told_take in
+          let told_before = c.in-Ok-take_step.ensures.content.before told_take in
+          let before = invariant.calls told_before counted in
+          let took = c.in-Ok-take_step.ensures.calls told_take job (record { n_is = refl; text_is = refl; steps_are = refl })
+          (is_counted g.W.Shelf.tells g.W.Shelf.world job c.args.lines.now c.loop-step.step c.loop-step.rest.now _ _
+          c.loop-step-test.true invariant.so_far told_before counted) in
+          let one_more = calls_of_one_more job c.loop-step.step c.loop-step-test.true in
           let said_them = c.in-Ok-say_lines.ensures.calls t in
           let spoken : length c.split_at-in-loop-step.result.0.now ≡ c.count_before.result =
           ap length ending ∙ length-take-le c.count_before.result c.loop-step.rest.now c.count_before.ensures.within in
           let left : length c.split_at-in-loop-step.result.1.now ≡ length c.loop-step.rest.now - c.count_before.result =
           ap length rest ∙ length-drop c.count_before.result c.loop-step.rest.now in
           let few = c.count_before.ensures.within in
-          omega (arith, before, took, said_them, spoken, left, few);
+          omega (arith, before, took, one_more, said_them, spoken, left, few);
       rise = subst (λ (ls : List LineEnd). IsTrue (rise_from (c.loop-step.step + 1) ls)) (sym rest) c.count_before.ensures.rest;
       shown = subst (λ (ls : List LineEnd). IsTrue (list_all (shows_past (length c.args.steps.now)) ls)) (sym rest)
           (rest_passes (shows_past (length c.args.steps.now)) c.loop-step.rest.now c.count_before.result invariant.shown);
@@ -164,7 +168,7 @@ loop-step-preserved g c =
 pub returns-in_default-say-clause-content : goal.returns-in_default-say-clause-content
 returns-in_default-say-clause-content g c =
     let job : Job = record { n = c.args.n; text = c.args.text.now; steps = c.args.steps.now; bytes = c.args.job.now } in
-    let plan : IsPlan job c.args.lines.now = record { well_formed = c.requires.plan; are_lines = c.requires.lines; built = c.requires.built } in
+    let plan : IsPlan job c.args.lines.now = record { well_formed = c.requires.plan; are_lines = c.requires.lines } in
     let all_made : length c.args.steps.now ≤ c.loop-step.step = c.loop-step-test.false in
     let none : c.loop-step.rest.now ≡ [] =
     none_left (length c.args.steps.now) c.loop-step.rest.now (rises_earlier (length c.args.steps.now) c.loop-step.step c.loop-step.rest.now all_made c.loop-step.invariant.rise) c.loop-step.invariant.shown in
@@ -173,7 +177,7 @@ returns-in_default-say-clause-content g c =
 pub returns-clause-content : goal.returns-clause-content
 returns-clause-content g c =
     let job : Job = record { n = c.args.n; text = c.args.text.now; steps = c.args.steps.now; bytes = c.args.job.now } in
-    let plan : IsPlan job c.args.lines.now = record { well_formed = c.requires.plan; are_lines = c.requires.lines; built = c.requires.built } in
+    let plan : IsPlan job c.args.lines.now = record { well_formed = c.requires.plan; are_lines = c.requires.lines } in
     let all_made : length c.args.steps.now ≤ c.loop-step.step = c.loop-step-test.false in
     let none : c.loop-step.rest.now ≡ [] =
     none_left (length c.args.steps.now) c.loop-step.rest.now (rises_earlier (length c.args.steps.now) c.loop-step.step c.loop-step.rest.now all_made c.loop-step.invariant.rise) c.loop-step.invariant.shown in
@@ -181,40 +185,52 @@ returns-clause-content g c =
 
 -- the calls of a run that stops before its end, and of one that comes to it
 pub returns-in_default-clause-calls : goal.returns-in_default-clause-calls
-returns-in_default-clause-calls g c t =
+returns-in_default-clause-calls g c t counted =
     let clock = (c.in_default.ensures.content.did t).elsewhere.ticks.clock_is in
     let attached = c.in-Ok.ensures.calls (c.in_default.ensures.content.before t) in
     omega (arith, clock, attached)
 
 pub returns-in-Err-clause-calls : goal.returns-in-Err-clause-calls
-returns-in-Err-clause-calls g c t =
-    let within : c.loop-step.step < length c.args.steps.now = c.loop-step-test.true in
-    let before = c.loop-step.invariant.calls (c.in-Err.ensures.content.before t) in
-    let took = c.in-Err.ensures.calls t in
-    omega (arith, within, before, took)
+returns-in-Err-clause-calls g c t counted =
+    let job : Job = record { n = c.args.n; text = c.args.text.now; steps = c.args.steps.now; bytes = c.args.job.now } in
+    let told_before = c.in-Err.ensures.content.before t in
+    let before = c.loop-step.invariant.calls told_before counted in
+    let took = c.in-Err.ensures.calls t job (record { n_is = refl; text_is = refl; steps_are = refl })
+    (is_counted g.W.Shelf.tells g.W.Shelf.world job c.args.lines.now c.loop-step.step c.loop-step.rest.now _ _
+    c.loop-step-test.true c.loop-step.invariant.so_far told_before counted) in
+    let one_more = calls_of_one_more job c.loop-step.step c.loop-step-test.true in
+    let no_more = calls_before_all job (c.loop-step.step + 1) in
+    omega (arith, before, took, one_more, no_more)
 
 pub returns-in-Err-say_lines-clause-calls : goal.returns-in-Err-say_lines-clause-calls
-returns-in-Err-say_lines-clause-calls g c t =
-    let within : c.loop-step.step < length c.args.steps.now = c.loop-step-test.true in
+returns-in-Err-say_lines-clause-calls g c t counted =
+    let job : Job = record { n = c.args.n; text = c.args.text.now; steps = c.args.steps.now; bytes = c.args.job.now } in
     let told_take = c.in-Err-say_lines.ensures.content.before t in
-    let before = c.loop-step.invariant.calls (c.in-Ok-take_step.ensures.content.before told_take) in
-    let took = c.in-Ok-take_step.ensures.calls told_take in
+    let told_before = c.in-Ok-take_step.ensures.content.before told_take in
+    let before = c.loop-step.invariant.calls told_before counted in
+    let took = c.in-Ok-take_step.ensures.calls told_take job (record { n_is = refl; text_is = refl; steps_are = refl })
+    (is_counted g.W.Shelf.tells g.W.Shelf.world job c.args.lines.now c.loop-step.step c.loop-step.rest.now _ _
+    c.loop-step-test.true c.loop-step.invariant.so_far told_before counted) in
+    let one_more = calls_of_one_more job c.loop-step.step c.loop-step-test.true in
+    let no_more = calls_before_all job (c.loop-step.step + 1) in
     let said_them = c.in-Err-say_lines.ensures.calls t in
     let spoken : length c.split_at-in-loop-step.result.0.now ≡ c.count_before.result =
     ap length c.split_at-in-loop-step.ensures.front ∙ length-take-le c.count_before.result c.loop-step.rest.now c.count_before.ensures.within in
     let few = c.count_before.ensures.within in
-    omega (arith, within, before, took, said_them, spoken, few)
+    omega (arith, before, took, one_more, no_more, said_them, spoken, few)
 
 pub returns-in_default-say-clause-calls : goal.returns-in_default-say-clause-calls
-returns-in_default-say-clause-calls g c t =
-    let upto = ((c.loop-step.invariant.so_far.did (c.in_default-say.ensures.content.before t)).0).upto in
-    let before = c.loop-step.invariant.calls (c.in_default-say.ensures.content.before t) in
+returns-in_default-say-clause-calls g c t counted =
+    let job : Job = record { n = c.args.n; text = c.args.text.now; steps = c.args.steps.now; bytes = c.args.job.now } in
+    let before = c.loop-step.invariant.calls (c.in_default-say.ensures.content.before t) counted in
+    let no_more = calls_before_all job c.loop-step.step in
     let clock = (c.in_default-say.ensures.content.did t).elsewhere.ticks.clock_is in
-    omega (arith, upto, before, clock)
+    omega (arith, before, no_more, clock)
 
 pub returns-clause-calls : goal.returns-clause-calls
-returns-clause-calls g c t =
-    let upto = ((c.loop-step.invariant.so_far.did (c.in-Ok-say-2.ensures.content.before t)).0).upto in
-    let before = c.loop-step.invariant.calls (c.in-Ok-say-2.ensures.content.before t) in
+returns-clause-calls g c t counted =
+    let job : Job = record { n = c.args.n; text = c.args.text.now; steps = c.args.steps.now; bytes = c.args.job.now } in
+    let before = c.loop-step.invariant.calls (c.in-Ok-say-2.ensures.content.before t) counted in
+    let no_more = calls_before_all job c.loop-step.step in
     let clock = (c.in-Ok-say-2.ensures.content.did t).elsewhere.ticks.clock_is in
-    omega (arith, upto, before, clock)
+    omega (arith, before, no_more, clock)

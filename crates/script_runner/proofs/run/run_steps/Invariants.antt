@@ -1,10 +1,12 @@
 use Rattle.std.proofs.Common.{◌≡◌, ◌≤◌, ◌+◌, ◌*◌, ℕ, List, length}
 use Rattle.std.specs.Prelude.{IsTrue}
 use Rattle.std.specs.List.{list_all}
+use Rattle.shelf_model.specs.World.{now}
 use Rattle.shelf_model.specs.Calls.{Told}
 use Rattle.script_reader.specs.Lines.{rise_from, shows_past}
 use Rattle.catalogue.specs.Writes.{pieces}
-use Rattle.script_runner.proofs.Turns.{Turn}
+use Rattle.script_runner.specs.Calls.{AreCounted}
+use Rattle.script_runner.proofs.Turns.{Turn, calls_before}
 use Rattle.script_runner.proofs.run.run_steps.Given as goal
 
 -- so many steps are committed, and the lines that remain end with no earlier one
@@ -12,8 +14,11 @@ abbrev pub invariant-loop-step : goal.invariant-loop-step
 invariant-loop-step g l = record {
   so_far : Told g.W.Shelf.tells l.fn.station l.station
       (Turn (record { n = l.n; text = l.text; steps = l.steps; bytes = l.fn.job }) l.fn.lines l.step l.rest (g.W.Shelf.world l.fn.station) (g.W.Shelf.world l.station));
-  calls : IsTrue (g.W.Shelf.tells l.station) → (g.W.Shelf.world l.station).clock + 2 * length l.rest
-      ≤ (g.W.Shelf.world l.fn.station).clock + 10 + pieces (length l.fn.job) + 11 * l.step + 2 * length l.fn.lines;
+  calls : IsTrue (g.W.Shelf.tells l.station)
+      → AreCounted (record { n = l.n; text = l.text; steps = l.steps; bytes = l.fn.job }) (now (g.W.Shelf.world l.fn.station)).folder
+      → (g.W.Shelf.world l.station).clock + 2 * length l.rest
+      ≤ (g.W.Shelf.world l.fn.station).clock + 10 + pieces (length l.fn.job)
+      + calls_before (record { n = l.n; text = l.text; steps = l.steps; bytes = l.fn.job }) l.step + 2 * length l.fn.lines;
   rise : IsTrue (rise_from l.step l.rest);
   shown : IsTrue (list_all (shows_past (length l.steps)) l.rest);
   folder_later : (g.W.Shelf.faults l.fn.station).folder ≤ (g.W.Shelf.faults l.station).folder;
