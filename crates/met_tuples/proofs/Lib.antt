@@ -1,0 +1,9 @@
+pub mod PointerLaws
+pub mod Covering
+pub mod SideTuples
+pub mod ProductTuples
+pub mod ChoiceTuples
+pub mod DeeperPointers
+pub mod RestrictTuples
+pub mod QuantifyGoals
+pub mod QuantifyTuples

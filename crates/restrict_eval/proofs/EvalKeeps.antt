@@ -53,7 +53,13 @@ come_to s new state = record { nodes = new; file = s.file; text = s.text; at = s
 -- with another reader of the same file, come to another state, the sweep has the same task
 task_come : (s : EvalSweep) (new : NodeReader) (state : Following) → file_of new ≡ file_of s.nodes
     → trailer_of new ≡ trailer_of s.nodes → task_of (come_to s new state) ≡ task_of s
-task_come s new state files trailers = λ i. record { file = files i; variables = (trailers i).n; text = s.text.now; at = s.at }
+task_come s new state files trailers = λ i. record {
+  file = files i;
+  variables = (trailers i).n;
+  text = s.text.now;
+  at = s.at;
+  parts = s.parts;
+}
 
 -- the value that the path has to lead to
 abbrev pub value_of : EvalSweep → OneTable → Bool

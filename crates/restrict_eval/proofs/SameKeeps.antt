@@ -146,6 +146,7 @@ task_left s new state files trailers = λ i. record {
   second = file_of s.right;
   first_variables = (trailers i).n;
   second_variables = (trailer_of s.right).n;
+  parts = s.parts;
 }
 
 task_right : (s : SameSweep) (new : NodeReader) (state : Comparing) → file_of new ≡ file_of s.right
@@ -156,6 +157,7 @@ task_right s new state files trailers = λ i. record {
   second = files i;
   first_variables = (trailer_of s.left).n;
   second_variables = (trailers i).n;
+  parts = s.parts;
 }
 
 module _ {S : Type 0} (tells : S → Bool) (world : S → World) (counts : S → Faults) where

@@ -55,16 +55,24 @@ fuel_at (Answered b) n = 0
 abbrev pub turns_left : EvalSweep → ℕ
 turns_left s = fuel_at s.state (left_of s.nodes)
 
--- the file that is read, of how many variables it is, and the text whose bytes from a place on are the bits
+-- the file that is read, of how many variables it is, the text whose bytes from a place on are the bits, and the part
+-- numbers that weren't taken
 pub record Evaluated : Type 0 where
   pub file : FileNo
   pub variables : ℕ
   pub text : List ℕ
   pub at : ℕ
+  pub parts : Parts
 
 -- what no turn changes
 abbrev pub task_of : EvalSweep → Evaluated
-task_of s = record { file = file_of s.nodes; variables = (trailer_of s.nodes).n; text = s.text.now; at = s.at }
+task_of s = record {
+  file = file_of s.nodes;
+  variables = (trailer_of s.nodes).n;
+  text = s.text.now;
+  at = s.at;
+  parts = s.parts;
+}
 
 -- the place is one of so many
 abbrev pub IsPlaceAt : Following → ℕ → Type 0

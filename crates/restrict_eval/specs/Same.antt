@@ -44,12 +44,13 @@ fuel_at (Answered b) n = 0
 abbrev pub turns_left : SameSweep → ℕ
 turns_left s = fuel_at s.state (left_of s.left + left_of s.right)
 
--- the two files that are compared, and of how many variables each is
+-- the two files that are compared, of how many variables each is, and the part numbers that weren't taken
 pub record Compared : Type 0 where
   pub first : FileNo
   pub second : FileNo
   pub first_variables : ℕ
   pub second_variables : ℕ
+  pub parts : Parts
 
 -- what no turn changes
 abbrev pub task_of : SameSweep → Compared
@@ -58,6 +59,7 @@ task_of s = record {
   second = file_of s.right;
   first_variables = (trailer_of s.left).n;
   second_variables = (trailer_of s.right).n;
+  parts = s.parts;
 }
 
 -- what is true of it whatever the folder holds

@@ -31,7 +31,7 @@ impl<'r> SameSweep<'r> {
     ghost use Rattle.block_stream.specs.Reads.{Looked};
     ghost use Rattle.canon_file.specs.Canon.{canon_bytes};
     ghost use Rattle.canon_file.specs.Laws.{HasForm};
-    ghost use Rattle.node_file.specs.Readers.{file_of};
+    ghost use Rattle.node_file.specs.Readers.{file_of, trailer_of};
     ghost use Rattle.run_tiers.specs.Faults.{OnlySortShelf};
     ghost use Rattle.sweep_core.specs.Accounts.{Leaves};
     ghost use Rattle.sweep_core.specs.Sweeps.{Falls, AtEnd, StaysEnded, IsNoDamage};
@@ -52,6 +52,7 @@ impl<'r> SameSweep<'r> {
         ensures ready { IfOk result IsReady }
         ensures in_step { IfOk result (λ s. IsTrue (S.tells shelf.new) → IsInStep s (S.world shelf.new)) }
         ensures files { IfOk result (λ s. (file_of s.left ≡ f) × (file_of s.right ≡ g)) }
+        ensures variables { IfOk result (λ s. ((trailer_of s.left).n ≡ n) × ((trailer_of s.right).n ≡ n)) }
         ensures parts { IfOk result (λ s. parts_of s ≡ parts) }
         ensures answer { IfOk result (λ s. answer_of s ≡ None) }
         ensures left { IfOk result (λ s. IsTrue (S.tells shelf.new) →

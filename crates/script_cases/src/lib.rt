@@ -5,9 +5,9 @@
 #[cfg(test)]
 mod accepted;
 #[cfg(test)]
-mod built;
-#[cfg(test)]
 mod examples;
+#[cfg(test)]
+mod known;
 #[cfg(test)]
 mod large;
 #[cfg(test)]

@@ -14,7 +14,7 @@ use Rattle.script_reader.specs.declared.netlists.NetTables.{NetTables}
 use Rattle.script_reader.specs.Results.{check}
 use Rattle.script_reader.specs.Keywords.{word_at, gives_name}
 use Rattle.script_reader.specs.Names.{State}
-use Rattle.script_reader.specs.Nets.{inputs_of, all_found, levels_of, names_fit, with_steps, give_name, give_names, plan_signals}
+use Rattle.script_reader.specs.Nets.{inputs_of, all_found, names_fit, with_steps, give_name, give_names, plan_signals}
 use Rattle.script_reader.specs.Requests.{is_short, step_of, name_fits, has_room, with_named, name_behind, plan_step}
 use Rattle.script_reader.specs.Script.{begin}
 use Rattle.script_reader.specs.Views.{AreTablesOf, IsKept, Leads}

@@ -10,7 +10,6 @@ mod Stands
 mod Pairs
 mod NetLines
 pub mod Kept
-mod Built
 pub mod PlanReads
 mod Sound
 mod Finding

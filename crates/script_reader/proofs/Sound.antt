@@ -1,5 +1,5 @@
 -- A netlist that is given is one, and at first nothing is kept of it.
-use Rattle.std.specs.Prelude.{◌≡◌, Option, Some, None, IfSome}
+use Rattle.std.specs.Prelude.{Option, Some, None, IfSome}
 use Rattle.std.specs.Borrow.{Bor}
 use Rattle.blif_reader.specs.declared.netlist.Netlist.{Netlist}
 use Rattle.blif_reader.specs.Netlist.{Net, IsNet}

@@ -74,10 +74,12 @@ or_word (Some k) = Ok k
 abbrev pub keyword_of : List (List ℕ) → List ℕ → Result Keyword ScriptKind
 keyword_of known word = if is_known known word then or_word (spelled word) else Err kind.Word
 
--- the words with which a line may begin so far
+-- the words of all requests, with which the lines of the program's scripts may begin
 abbrev pub built_words : List (List ℕ)
 built_words =
-    codes "vars" ∷ codes "inputs" ∷ codes "net" ∷ codes "const" ∷ codes "var" ∷ codes "size" ∷ codes "drop" ∷ []
+    codes "vars" ∷ codes "inputs" ∷ codes "net" ∷ codes "const" ∷ codes "var" ∷ codes "not" ∷ codes "and" ∷ codes "or"
+    ∷ codes "xor" ∷ codes "nand" ∷ codes "nor" ∷ codes "xnor" ∷ codes "imp" ∷ codes "ite" ∷ codes "exists"
+    ∷ codes "forall" ∷ codes "restrict" ∷ codes "drop" ∷ codes "same" ∷ codes "leq" ∷ codes "eval" ∷ codes "size" ∷ []
 
 -- a word that is 0 or 1
 abbrev pub is_one : Word → Bool

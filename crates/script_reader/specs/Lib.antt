@@ -6,5 +6,4 @@ pub mod Nets
 pub mod Script
 pub mod Lines
 pub mod Views
-pub mod Built
 pub mod Reads

@@ -104,7 +104,7 @@ fn diagram(word: &[u8]) -> Option<Keyword>
     }
 }
 
-/// What a word asks for, whether the program can do it or not.
+/// What a word asks for, whether it is known or not.
 fn spelled(word: &[u8]) -> Option<Keyword>
     ensures { result ≡ spelled word.now }
 {

@@ -1,9 +1,8 @@
 //! Laws of scripts and their plans, each the contract of a function that does nothing.
-ghost use Rattle.std.specs.Prelude.{◌≡◌, ◌≤◌, ℕ, List, Option, IsTrue, IfSome, length, Ok};
+ghost use Rattle.std.specs.Prelude.{◌≡◌, ◌≤◌, ℕ, List, Option, IfSome, length, Ok};
 ghost use Rattle.blif_reader.specs.Netlist.{Net, IsNet};
 ghost use Rattle.bool_tables.specs.Plans.{IsWellFormed};
 ghost use Rattle.script_reader.specs.Lines.{AreLines};
-ghost use Rattle.script_reader.specs.Built.{are_built};
 ghost use Rattle.script_reader.specs.Reads.{Reads, Refuses};
 ghost use Rattle.script_reader.specs.Script.{read};
 ghost use Rattle.script_reader.specs.declared.fault.ScriptFault.{ScriptFault};
@@ -21,13 +20,11 @@ pub fn plans_are_well_formed()
 {}
 
 /// Where no netlist is given: a text asks for one plan at most, has at most 1,048,576 bytes where it asks for one,
-/// and isn't refused then. That plan can be run: it is well formed over the text, its lines go with its steps, and
-/// each step is a constant, a variable, a size or a drop.
+/// and isn't refused then. That plan can be run: it is well formed over the text, and its lines go with its steps.
 pub fn one_plan()
     ensures one { (text : List ℕ) (a b : Plan) → Reads text a → Reads text b → a ≡ b }
     ensures unrefused { (text : List ℕ) (plan : Plan) (fault : ScriptFault) → Reads text plan → ¬ (Refuses text fault) }
     ensures short { (text : List ℕ) (plan : Plan) → Reads text plan → length text ≤ 1048576 }
     ensures well_formed { (text : List ℕ) (plan : Plan) → Reads text plan → IsWellFormed plan.n text plan.steps }
     ensures lines { (text : List ℕ) (plan : Plan) → Reads text plan → AreLines plan.steps plan.lines }
-    ensures built { (text : List ℕ) (plan : Plan) → Reads text plan → IsTrue (are_built plan.steps) }
 {}

@@ -1,10 +1,9 @@
 //! Reading a script line by line.
 
-ghost use Rattle.std.specs.Prelude.{◌≡◌, ◌⊎◌, ◌≤◌, length, map, None, IfOk, IfErr, OnOk, IsTrue};
+ghost use Rattle.std.specs.Prelude.{◌≡◌, ◌⊎◌, ◌≤◌, length, map, IfOk, IfErr, OnOk};
 ghost use Rattle.bool_tables.specs.Plans.{IsWellFormed};
 ghost use Rattle.text_words.specs.Text.{words_in};
 ghost use Rattle.text_words.specs.Left.{word_of, line_of};
-ghost use Rattle.script_reader.specs.Built.{are_built};
 ghost use Rattle.script_reader.specs.Reads.{ReadsOver, RefusesOver};
 ghost use Rattle.script_reader.specs.Lines.{AreLines};
 ghost use Rattle.script_reader.specs.Names.{nothing};
@@ -96,9 +95,8 @@ fn read_line<'a>(
     planning.plan_line(alloc, known, netlist, kept, line.number, words.as_slice())
 }
 
-/// The plan of a script, or its first faulty line. Lines may begin with the words of which the program can do what
-/// they ask for: `const`, `var`, `size` and `drop`, and `vars` on the first line with words; and with `inputs` and
-/// `net`, which are refused where no netlist is given: `NoNetlist`.
+/// The plan of a script, or its first faulty line, where lines may begin with the words of all requests. `inputs` and
+/// `net` are refused where no netlist is given: `NoNetlist`.
 pub fn read_script(
     alloc: Global,
     bytes: &[u8],
@@ -111,7 +109,6 @@ pub fn read_script(
     // what every plan that is given keeps
     ensures well_formed { IfOk result (λ plan. IsWellFormed plan.n bytes.now plan.steps) }
     ensures lines { IfOk result (λ plan. AreLines plan.steps plan.lines) }
-    ensures built { given netlist.entry ≡ None → IfOk result (λ plan. IsTrue (are_built plan.steps)) }
 {
     let known = [
         b"vars".as_slice(),
@@ -119,8 +116,23 @@ pub fn read_script(
         b"net".as_slice(),
         b"const".as_slice(),
         b"var".as_slice(),
-        b"size".as_slice(),
+        b"not".as_slice(),
+        b"and".as_slice(),
+        b"or".as_slice(),
+        b"xor".as_slice(),
+        b"nand".as_slice(),
+        b"nor".as_slice(),
+        b"xnor".as_slice(),
+        b"imp".as_slice(),
+        b"ite".as_slice(),
+        b"exists".as_slice(),
+        b"forall".as_slice(),
+        b"restrict".as_slice(),
         b"drop".as_slice(),
+        b"same".as_slice(),
+        b"leq".as_slice(),
+        b"eval".as_slice(),
+        b"size".as_slice(),
     ];
     read_script_with(alloc, bytes, known.as_slice(), netlist)
 }

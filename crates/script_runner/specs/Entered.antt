@@ -1,23 +1,24 @@
 -- What a run of a job in a folder leaves, from entering it on.
-use Rattle.std.specs.Prelude.{◌≡◌, ℕ, ◌⊎◌, List, [], ◌++◌, length}
+use Rattle.std.specs.Prelude.{◌≡◌, ℕ, ◌⊎◌, ◌^◌, ◌<◌, ◌≤◌, List, [], ◌++◌, length}
 use Rattle.shelf_model.specs.declared.file_no.FileNo.{FileNo}
 use Rattle.shelf_model.specs.World.{Moment, World, now, said}
 use Rattle.shelf_model.specs.Moments.{Throughout, OnlyOldImages}
 use Rattle.shelf_model.specs.Faults.{Faults, Rose}
 use Rattle.catalogue.specs.Counts.{present, count_in}
-use Rattle.sound_image.specs.Jobs.{Job}
+use Rattle.sound_image.specs.Jobs.{Job, step_at}
+use Rattle.sound_image.specs.Entries.{work_of}
 use Rattle.sound_image.specs.Holds.{AreSound, HaveCount}
 use Rattle.script_reader.specs.declared.plan.LineEnd.{LineEnd}
 use Rattle.script_runner.specs.declared.ending.Ending.{Ending}
 use Rattle.script_runner.specs.declared.ending.Ending.TheVariants.{FolderFault, SayFault}
-use Rattle.script_runner.specs.Text.{run_text, other_job_line, damaged_line}
-use Rattle.script_runner.specs.Shapes.{AreWhole, IsWholeShape, IsTail}
-use Rattle.script_runner.specs.Running.{SaysFront, IsRunning, HasSaid, IsOther, HasOtherJob, IsDamage, IsEntryDamage, AreEmptied}
+use Rattle.script_runner.specs.Text.{run_text, other_job_line, damaged_line, runs_spent_line}
+use Rattle.script_runner.specs.Shapes.{IsShape, AreWhole, IsWholeShape, IsTail}
+use Rattle.script_runner.specs.Running.{SaysFront, IsRunning, HasSaid, IsOther, HasOtherJob, IsDamage, IsMetDamage, IsSpentStep, AreEmptied}
 
--- the statuses of a run that was done, refused its folder, or met a fault of the folder or of
--- saying
+-- the statuses of a run that was done, refused its folder, met a fault of the folder or of saying, or had no part
+-- number left
 abbrev pub EndsRun : ℕ → Type 0
-EndsRun status = (status ≡ 0) ⊎ (status ≡ 5) ⊎ (status ≡ 7) ⊎ (status ≡ 8) ⊎ (status ≡ 10)
+EndsRun status = (status ≡ 0) ⊎ (status ≡ 5) ⊎ (status ≡ 7) ⊎ (status ≡ 8) ⊎ (status ≡ 10) ⊎ (status ≡ 11)
 
 -- the statuses of a run that refused its folder
 abbrev pub Refused : ℕ → Type 0
@@ -33,8 +34,8 @@ pub record RefusesOther (job : List ℕ) (status : ℕ) (start : Moment) (old ne
   pub status_is : (status ≡ 5) ⊎ (status ≡ 7) ⊎ (status ≡ 8)
   pub whole : status ≡ 5 → said new ≡ start.said ++ other_job_line at
 
--- a damaged place of the old folder was named behind whole lines: it was met before anything was
--- done, or where an entry was read
+-- a damaged place was named behind whole lines: it was met before anything was done, or where an entry was read or a
+-- step swept
 pub record NamesDamage (job : Job) (lines : List LineEnd) (start : Moment) (old new : World) : Type 0 where
   pub file : FileNo
   pub at : ℕ
@@ -43,18 +44,34 @@ pub record NamesDamage (job : Job) (lines : List LineEnd) (start : Moment) (old 
   pub whole : AreWhole job.steps lines (present start.folder) (present (now new).folder) before
   pub place : (IsDamage (length job.steps) file at (present start.folder) × (before ≡ [])
       × Throughout old new (OnlyOldImages start))
-      ⊎ IsEntryDamage job.steps file at (present start.folder)
+      ⊎ IsMetDamage job.steps file at (present start.folder)
+
+-- a step without a part number was named behind whole lines
+pub record NamesSpentStep (job : Job) (lines : List LineEnd) (start : Moment) (old new : World) : Type 0 where
+  pub step : ℕ
+  pub before : List ℕ
+  pub said_is : said new ≡ start.said ++ (before ++ runs_spent_line step)
+  pub whole : IsShape job.steps lines (present start.folder) (present (now new).folder) before
+  pub spent : IsSpentStep job start.folder step
+
+-- a front part of the line of a step of great work that has no part number left
+pub record IsSpentTail (job : Job) (tail : List ℕ) : Type 0 where
+  pub step : ℕ
+  pub within : step < length job.steps
+  pub work : 2 ^ 35 ≤ work_of job (step_at job step).step
+  pub rest : List ℕ
+  pub line_is : runs_spent_line step ≡ tail ++ rest
 
 -- a moment of a run: what was said since is a front part of its lines and a front part of a
 -- status's line behind whole ones, and where each image was sound at first no status has a line so
--- far
+-- far but that of a step of great work
 pub record IsMoment (job : Job) (lines : List LineEnd) (start m : Moment) : Type 0 where
   pub front : List ℕ
   pub tail : List ℕ
   pub said_is : m.said ≡ start.said ++ (front ++ tail)
   pub running : IsRunning job lines start.folder front m.folder
   pub tail_is : IsTail job.steps lines (present start.folder) (present m.folder) front tail
-  pub no_tail : AreSound job start.folder → tail ≡ []
+  pub no_tail : AreSound job start.folder → (tail ≡ []) ⊎ IsSpentTail job tail
 
 -- what a run of a job leaves by the moment at which it was started
 pub record RunsFrom (job : Job) (lines : List LineEnd) (status : ℕ) (start : Moment) (old new : World) : Type 0 where
@@ -76,6 +93,8 @@ pub record RunsFrom (job : Job) (lines : List LineEnd) (status : ℕ) (start : M
   pub only_other : status ≡ 5 → IsOther job.bytes (present start.folder)
   -- with 10 a damaged place is named
   pub damaged : status ≡ 10 → NamesDamage job lines start old new
+  -- and with 11 a step that has no part number left
+  pub spent : status ≡ 11 → NamesSpentStep job lines start old new
 
 -- a job was run in the folder of that path
 pub record RunsIn (folder : List ℕ) (job : Job) (lines : List LineEnd) (status : ℕ) (old new : World) : Type 0 where

@@ -10,6 +10,8 @@ use Rattle.sound_image.specs.Holds.{AreSound}
 use Rattle.script_reader.specs.declared.plan.Plan.{Plan}
 use Rattle.script_runner.specs.Said.{whole_lines, said_count}
 use Rattle.script_runner.specs.Running.{ReachesCount}
+use Rattle.script_runner.specs.Entered.{IsSpentTail}
+use Rattle.sound_image.specs.Jobs.{Job}
 use Rattle.script_runner.specs.JobOf.{job_of}
 use Rattle.script_runner.specs.Outcome.{Accepts, EndsRan, Ends}
 
@@ -69,6 +71,21 @@ AreLives budget text plan folder (life ∷ lives) =
     IsLife folder life × (RunsPlan budget text plan life ⊎ StaysOut life ⊎ AreStored folder)
     × AreLives budget text plan life.left lives
 
+-- lines of a run of the job, and behind them nothing or a front part of the line of a step that has no part number
+-- left, which counts for nothing
+pub record AreTold (job : Job) (told lines : List ℕ) : Type 0 where
+  pub tail : List ℕ
+  pub told_is : told ≡ lines ++ tail
+  pub tail_is : (tail ≡ []) ⊎ IsSpentTail job tail
+
+-- each image has each step whose line was said, and stores the job where the banner was
+pub record HasSaidLines (job : Job) (plan : Plan) (folder : Folder) (life : Life) : Type 0 where
+  pub lines : List ℕ
+  pub told : AreTold job life.told lines
+  pub has_steps : (image : Image) → IsImage life.left image
+      → said_count (count_in (present folder)) plan.lines lines ≤ count_in (bytes_in image)
+  pub has_job : 0 < whole_lines lines → AreStored life.left
+
 -- what a call leaves of a folder: each image is sound for the job, no step that all images had is
 -- lost, and a job that all of them store stays; where it ran the job each image has each step whose
 -- line it said, and stores the job where it said its banner
@@ -76,9 +93,7 @@ pub record LifeKeeps (budget : ℕ) (text : List ℕ) (plan : Plan) (folder : Fo
   pub sound : AreSound (job_of budget text plan) life.left
   pub has_old : (count : ℕ) → ReachesCount count folder → ReachesCount count life.left
   pub still_stored : AreStored folder → AreStored life.left
-  pub has_said : RunsPlan budget text plan life → (image : Image) → IsImage life.left image
-      → said_count (count_in (present folder)) plan.lines life.told ≤ count_in (bytes_in image)
-  pub has_job : RunsPlan budget text plan life → 0 < whole_lines life.told → AreStored life.left
+  pub has_said : RunsPlan budget text plan life → HasSaidLines (job_of budget text plan) plan folder life
 
 -- each call of the list does
 abbrev pub LivesKeep : ℕ → List ℕ → Plan → Folder → List Life → Type 0

@@ -1,8 +1,10 @@
 -- What a call of the program leaves, by its words and the texts of its station.
-use Rattle.std.specs.Prelude.{◌≡◌, ℕ, ◌+◌, ◌≤◌, ◌⊎◌, List, [], ◌∷◌, ◌++◌, length, ◌==◌, Some, None, IsTrue}
+use Rattle.std.specs.Prelude.{◌≡◌, ℕ, ◌+◌, ◌^◌, ◌<◌, ◌≤◌, ◌⊎◌, List, [], ◌∷◌, ◌++◌, length, ◌==◌, Some, None, IsTrue}
 use Rattle.std.specs.List.{list_any}
-use Rattle.shelf_model.specs.World.{World, said}
+use Rattle.shelf_model.specs.World.{World, now, said}
 use Rattle.shelf_model.specs.Faults.{Faults, Rose}
+use Rattle.sound_image.specs.Jobs.{Job, step_at}
+use Rattle.sound_image.specs.Entries.{work_of}
 use Rattle.script_runner.specs.Asked.{Asked, asked_of}
 use Rattle.script_reader.specs.declared.plan.Plan.{Plan}
 use Rattle.script_reader.specs.declared.fault.ScriptFault.{ScriptFault}
@@ -10,8 +12,8 @@ use Rattle.script_reader.specs.Reads.{Reads, Refuses}
 use Rattle.script_runner.specs.Text.{usage_line, refused_line}
 use Rattle.script_runner.specs.Fetching.{OnlyFetched}
 use Rattle.script_runner.specs.Running.{SaysOnly}
-use Rattle.script_runner.specs.Calls.{most_calls, fetch_calls}
-use Rattle.script_runner.specs.JobOf.{job_bytes, job_of}
+use Rattle.script_runner.specs.Calls.{most_calls, fetch_calls, AreCounted}
+use Rattle.script_runner.specs.JobOf.{job_of}
 use Rattle.script_runner.specs.Entered.{RunsIn}
 
 -- the words name a script, and the text at its path asks for this plan
@@ -71,7 +73,7 @@ Ends words status old new =
 pub record ByWords (words : List (List ℕ)) (status : ℕ) : Type 0 where
   pub usage : status ≡ 2 → asked_of words ≡ None
   pub unread : asked_of words ≡ None → (status ≡ 2) ⊎ (status ≡ 8) ⊎ (status ≡ 9)
-  pub known : IsTrue (list_any (λ s. s == status) (0 ∷ 2 ∷ 3 ∷ 5 ∷ 6 ∷ 7 ∷ 8 ∷ 9 ∷ 10 ∷ []))
+  pub known : IsTrue (list_any (λ s. s == status) (0 ∷ 2 ∷ 3 ∷ 5 ∷ 6 ∷ 7 ∷ 8 ∷ 9 ∷ 10 ∷ 11 ∷ []))
 
 -- 6, 7 and 8 come only where their count rose: that of the script's path, of the folder, of saying
 pub record StatusHasCause (words : List (List ℕ)) (status : ℕ) (old new : Faults) : Type 0 where
@@ -79,6 +81,10 @@ pub record StatusHasCause (words : List (List ℕ)) (status : ℕ) (old new : Fa
       × Rose (old.text asked.script) (new.text asked.script)
   pub folder_fault : status ≡ 7 → Rose old.folder new.folder
   pub say_fault : status ≡ 8 → Rose old.say new.say
+
+-- each step's work is below 2^35 turns
+abbrev pub IsSmall : Job → Type 0
+IsSmall job = (k : ℕ) → k < length job.steps → work_of job (step_at job k).step < 2 ^ 35
 
 -- no call failed: neither the count of the script's path rose, nor that of the folder or of saying
 pub record NoneRose (words : List (List ℕ)) (old new : Faults) : Type 0 where
@@ -88,11 +94,12 @@ pub record NoneRose (words : List (List ℕ)) (old new : Faults) : Type 0 where
   pub say_same : ¬ (Rose old.say new.say)
 
 -- the calls of the station: those of reading the text of at most 1,048,576 bytes and saying a line,
--- or, where a job was run, those of entering the folder and of a run of its steps and lines besides
+-- or, where a job was run, those of entering the folder and of a run of its steps and lines besides,
+-- where each of the steps takes one turn or the folder was sound for the job
 abbrev pub MakesFewCalls : List (List ℕ) → World → World → Type 0
 MakesFewCalls words old new =
     (new.clock ≤ old.clock + fetch_calls 1048576 + 1)
     ⊎ ((plan : Plan) × (accepts : Accepts old words plan)
-    × (new.clock ≤ old.clock + fetch_calls 1048576 + 2
-    + most_calls (length plan.steps) (length plan.lines)
-    (length (job_bytes accepts.asked.budget accepts.text))))
+    × (AreCounted (job_of accepts.asked.budget accepts.text plan) (now old).folder
+    → new.clock ≤ old.clock + fetch_calls 1048576 + 2
+    + most_calls (job_of accepts.asked.budget accepts.text plan) (length plan.lines)))

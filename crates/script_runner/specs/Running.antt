@@ -1,5 +1,5 @@
 -- What holds at every moment of a run, and what a run leaves.
-use Rattle.std.specs.Prelude.{◌≡◌, ◌≢◌, ◌⊎◌, ℕ, ◌-◌, ◌*◌, ◌/◌, ◌<◌, ◌≤◌, IsTrue, List, [], ◌++◌, length, take, get_or, nat_eq}
+use Rattle.std.specs.Prelude.{◌≡◌, ◌≢◌, ◌⊎◌, ℕ, ◌-◌, ◌*◌, ◌/◌, ◌^◌, ◌<◌, ◌≤◌, IsTrue, List, [], ◌++◌, length, take, get_or, nat_eq}
 use Rattle.std.specs.List.{common_prefix_len}
 use Rattle.shelf_model.specs.declared.file_no.FileNo.{FileNo}
 use Rattle.shelf_model.specs.Folder.{Folder, Image, file_in, bytes_in, IsImage, OnlyChanges}
@@ -12,15 +12,16 @@ use Rattle.catalogue.specs.Entries.{IsEntryOf}
 use Rattle.catalogue.specs.Files.{job_file, catalogue, step_gate}
 use Rattle.catalogue.specs.Counts.{present, is_stored, count_in}
 use Rattle.sound_image.specs.Files.{node_file}
-use Rattle.sound_image.specs.Jobs.{Job, no_step}
-use Rattle.sound_image.specs.Entries.{kind_of}
+use Rattle.step_work.specs.Tuples.{joins, sweeps}
+use Rattle.sound_image.specs.Jobs.{Job, no_step, step_at}
+use Rattle.sound_image.specs.Entries.{kind_of, work_of}
 use Rattle.sound_image.specs.Sound.{IsSound}
 use Rattle.sound_image.specs.Holds.{AreSound, HaveCount}
 use Rattle.script_reader.specs.declared.plan.LineEnd.{LineEnd}
 use Rattle.script_runner.specs.declared.finish.Finish.{Finish}
-use Rattle.script_runner.specs.declared.finish.Finish.TheVariants.{Done, OtherJob, FolderFault, SayFault, Damaged}
+use Rattle.script_runner.specs.declared.finish.Finish.TheVariants.{Done, OtherJob, FolderFault, SayFault, Damaged, RunsSpent}
 use Rattle.script_runner.specs.Text.{ended_before, run_text}
-use Rattle.script_runner.specs.Shapes.{IsShapeFront, AreWhole, IsWholeShape}
+use Rattle.script_runner.specs.Shapes.{IsShape, IsShapeFront, AreWhole, IsWholeShape}
 use Rattle.script_runner.specs.Said.{whole_lines, acknowledged, said_count}
 
 -- after what was said before, a front part of the text was said
@@ -147,6 +148,23 @@ pub record IsEntryDamage (steps : List Planned) (f : FileNo) (at : ℕ) (r : Fil
   pub none_there : (e : Entry) → IsEntryOf step r e
       → e.kind ≢ kind_of (get_or steps step no_step).step
 
+-- a step that sweeps met a file that it can't go on with: that of an earlier step, or one of its own
+pub record IsSweepDamage (steps : List Planned) (f : FileNo) : Type 0 where
+  pub step : ℕ
+  pub within : step < length steps
+  pub swept : IsTrue (sweeps (get_or steps step no_step).step)
+  pub file_is : f.step ≤ step
+
+-- the place was damaged at first, an entry or a file that a step met
+abbrev pub IsMetDamage : List Planned → FileNo → ℕ → (FileNo → List ℕ) → Type 0
+IsMetDamage steps f at r = IsEntryDamage steps f at r ⊎ IsSweepDamage steps f
+
+-- a step that joins pieces has no part number left, and its work is great where each image was sound at first
+pub record IsSpentStep (job : Job) (first : Folder) (step : ℕ) : Type 0 where
+  pub within : step < length job.steps
+  pub joined : IsTrue (joins (step_at job step).step)
+  pub work : AreSound job first → 2 ^ 35 ≤ work_of job (step_at job step).step
+
 -- the run ended because the folder holds another job, or is damaged
 abbrev pub RefusesFolder : Finish → Type 0
 RefusesFolder Done = ⊥
@@ -154,6 +172,7 @@ RefusesFolder (OtherJob at) = Unit
 RefusesFolder FolderFault = ⊥
 RefusesFolder SayFault = ⊥
 RefusesFolder (Damaged f at) = Unit
+RefusesFolder (RunsSpent step) = ⊥
 
 -- a part of a run stopped it
 abbrev pub IsStop : Finish → Type 0
@@ -162,6 +181,7 @@ IsStop (OtherJob at) = ⊥
 IsStop FolderFault = Unit
 IsStop SayFault = Unit
 IsStop (Damaged f at) = Unit
+IsStop (RunsSpent step) = Unit
 
 -- a moment at which nothing was said since, and no image is new
 pub record IsStill (old m : Moment) : Type 0 where
@@ -172,15 +192,21 @@ pub record IsStill (old m : Moment) : Type 0 where
 abbrev pub StoodStill : World → World → Type 0
 StoodStill old new = Throughout old new (IsStill (now old))
 
--- a damaged place of the old folder was met: before anything was done, or where an entry was read,
--- behind whole lines
+-- a damaged place was met: before anything was done, or where an entry was read or a step swept, behind whole lines
 pub record MeetsDamage (steps : List Planned) (lines : List LineEnd) (f : FileNo) (at : ℕ)
     (old new : World) : Type 0 where
   pub front : List ℕ
   pub said_is : said new ≡ said old ++ front
   pub whole : AreWhole steps lines (present (now old).folder) (present (now new).folder) front
   pub place : (IsDamage (length steps) f at (present (now old).folder) × StoodStill old new)
-      ⊎ IsEntryDamage steps f at (present (now old).folder)
+      ⊎ IsMetDamage steps f at (present (now old).folder)
+
+-- a step had no part number left, behind whole lines
+pub record MeetsSpent (job : Job) (lines : List LineEnd) (step : ℕ) (old new : World) : Type 0 where
+  pub front : List ℕ
+  pub said_is : said new ≡ said old ++ front
+  pub whole : IsShape job.steps lines (present (now old).folder) (present (now new).folder) front
+  pub spent : IsSpentStep job (now old).folder step
 
 -- the file of each diagram that a step from that one on drops is empty
 abbrev pub AreEmptied : List Planned → ℕ → ℕ → Folder → Type 0
@@ -214,3 +240,5 @@ pub record RunsSteps (job : Job) (lines : List LineEnd) (finish : Finish) (old n
   -- damage is named where the old folder has it
   pub damaged : (f : FileNo) (at : ℕ) → finish ≡ Damaged f at
       → MeetsDamage job.steps lines f at old new
+  -- and the step that has no part number left
+  pub spent : (step : ℕ) → finish ≡ RunsSpent step → MeetsSpent job lines step old new

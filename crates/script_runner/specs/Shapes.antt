@@ -6,7 +6,7 @@ use Rattle.catalogue.specs.declared.layout.Entry.{Entry}
 use Rattle.catalogue.specs.Counts.{count_in}
 use Rattle.catalogue.specs.Entries.{IsEntryOf}
 use Rattle.script_reader.specs.declared.plan.LineEnd.{LineEnd}
-use Rattle.script_runner.specs.Text.{entry_line, banner_line, lines_from_step, done_line, other_job_line, damaged_line}
+use Rattle.script_runner.specs.Text.{entry_line, banner_line, lines_from_step, done_line, other_job_line, damaged_line, runs_spent_line}
 
 -- the lines one behind the other, each of which shows the entry that stands at its step's place
 abbrev pub AreShown : List Planned → (FileNo → List ℕ) → List LineEnd → List ℕ → Type 0
@@ -48,10 +48,12 @@ pub record IsWholeShape (steps : List Planned) (lines : List LineEnd) (first her
   pub shown : AreShown steps here (lines_from_step (count_in first) lines) body
   pub text_is : text ≡ banner_line first lines ++ (body ++ done_line)
 
--- the line of a status that a run ends with: its folder stores another job, or is damaged
+-- the line of a status that a run ends with: its folder stores another job, or is damaged, or a step has no part number
+-- left
 abbrev pub IsRefusal : List ℕ → Type 0
 IsRefusal line = ((at : ℕ) × (line ≡ other_job_line at))
-    ⊎ ((f : FileNo) × (at : ℕ) × (line ≡ damaged_line f at))
+    ⊎ (((f : FileNo) × (at : ℕ) × (line ≡ damaged_line f at))
+    ⊎ ((step : ℕ) × (line ≡ runs_spent_line step)))
 
 -- a front part of such a line, behind whole lines
 pub record IsRefusing (steps : List Planned) (lines : List LineEnd) (first here : FileNo → List ℕ)

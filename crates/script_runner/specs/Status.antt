@@ -1,7 +1,7 @@
 -- The exit status of each ending.
 use Rattle.std.specs.Prelude.{ℕ}
 use Rattle.script_runner.specs.declared.ending.Ending.{Ending}
-use Rattle.script_runner.specs.declared.ending.Ending.TheVariants.{Done, Usage, Script, OtherJob, TextFault, FolderFault, SayFault, NoMemory, Damaged}
+use Rattle.script_runner.specs.declared.ending.Ending.TheVariants.{Done, Usage, Script, OtherJob, TextFault, FolderFault, SayFault, NoMemory, Damaged, RunsSpent}
 
 abbrev pub status_of : Ending → ℕ
 status_of Done = 0
@@ -13,3 +13,4 @@ status_of FolderFault = 7
 status_of SayFault = 8
 status_of NoMemory = 9
 status_of Damaged = 10
+status_of RunsSpent = 11

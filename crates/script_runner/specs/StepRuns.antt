@@ -1,5 +1,5 @@
 -- What one step of a run leaves, and what saying its lines leaves.
-use Rattle.std.specs.Prelude.{◌≡◌, ℕ, ◌+◌, ◌*◌, ◌<◌, ◌≤◌, IsTrue, List, [], ◌++◌, length, take, get_or, Result, OnOk, IfOk, IfErr}
+use Rattle.std.specs.Prelude.{◌≡◌, ℕ, ◌+◌, ◌*◌, ◌^◌, ◌<◌, ◌≤◌, IsTrue, List, [], ◌++◌, length, take, get_or, Result, OnOk, IfOk, IfErr}
 use Rattle.std.specs.List.{flat_map}
 use Rattle.bool_tables.specs.declared.steps.Planned.{Planned}
 use Rattle.bool_tables.specs.Plans.{IsWellFormed}
@@ -17,17 +17,18 @@ use Rattle.catalogue.specs.Entries.{IsEntryOf}
 use Rattle.catalogue.specs.Counts.{present, is_stored, count_in}
 use Rattle.catalogue.specs.Commits.{IsReady}
 use Rattle.sound_image.specs.Files.{node_file}
-use Rattle.sound_image.specs.Jobs.{Job, no_step}
-use Rattle.sound_image.specs.Entries.{IsEntryOfStep, kind_of}
+use Rattle.step_work.specs.Tuples.{joins}
+use Rattle.sound_image.specs.Jobs.{Job, no_step, step_at}
+use Rattle.sound_image.specs.Entries.{IsEntryOfStep, kind_of, work_of}
 use Rattle.sound_image.specs.Sound.{IsSound}
 use Rattle.sound_image.specs.Holds.{Holds}
 use Rattle.step_engine.specs.StepFaults.{IsKindFault}
 use Rattle.script_reader.specs.declared.plan.LineEnd.{LineEnd}
 use Rattle.script_runner.specs.declared.finish.Finish.{Finish}
-use Rattle.script_runner.specs.declared.finish.Finish.TheVariants.{Done, OtherJob, FolderFault, SayFault, Damaged}
+use Rattle.script_runner.specs.declared.finish.Finish.TheVariants.{Done, OtherJob, FolderFault, SayFault, Damaged, RunsSpent}
 use Rattle.script_runner.specs.Text.{said_line}
 use Rattle.script_runner.specs.Shapes.{AreShown}
-use Rattle.script_runner.specs.Running.{SaysFront, StaysThere, OthersAre, AreEmptied, IsEntryDamage, RefusesFolder, IsStop}
+use Rattle.script_runner.specs.Running.{SaysFront, StaysThere, OthersAre, AreEmptied, IsEntryDamage, IsMetDamage, RefusesFolder, IsStop}
 
 -- the job whose plan this is
 pub record IsJobOf (job : Job) (n : ℕ) (text : List ℕ) (steps : List Planned) : Type 0 where
@@ -54,11 +55,17 @@ pub record HoldsStep (job : Job) (step : ℕ) (result : Result Entry Finish) (ol
       → HasSteps job step (bytes_in image))
   pub ok : IfOk result (λ e. Holds job (step + 1) (now new).folder × IsEntryOfStep job step e)
   pub err : IfErr result (λ finish. ¬ (RefusesFolder finish))
+  pub spent : IfErr result (λ finish. (k : ℕ) → finish ≡ RunsSpent k → 2 ^ 35 ≤ work_of job (step_at job step).step)
 
--- an entry that was met is damaged, as it stood before
-abbrev pub NamesEntry : List Planned → World → Finish → Type 0
-NamesEntry steps old finish = (f : FileNo) (at : ℕ) → finish ≡ Damaged f at
-    → IsEntryDamage steps f at (present (now old).folder)
+-- an entry that was met is damaged, as it stood before, or a file that the step met
+abbrev pub NamesMet : List Planned → World → Finish → Type 0
+NamesMet steps old finish = (f : FileNo) (at : ℕ) → finish ≡ Damaged f at
+    → IsMetDamage steps f at (present (now old).folder)
+
+-- that step joins pieces and has no part number left
+abbrev pub NamesSpent : List Planned → ℕ → Finish → Type 0
+NamesSpent steps step finish = (k : ℕ) → finish ≡ RunsSpent k
+    → (k ≡ step) × IsTrue (joins (get_or steps step no_step).step)
 
 -- while a step is taken in a folder with so many steps: files of other steps and of others stay, in
 -- each image a job is stored with the steps before and at most this one, and the entries before it
@@ -91,7 +98,8 @@ pub record TakesStep (n : ℕ) (text : List ℕ) (steps : List Planned) (step : 
   pub still_empty : OnOk result ((k : ℕ) → k < step
       → StaysEmpty (node_file k) (now old).folder (now new).folder)
   pub stops : IfErr result IsStop
-  pub damaged : IfErr result (NamesEntry steps old)
+  pub damaged : IfErr result (NamesMet steps old)
+  pub spent : IfErr result (NamesSpent steps step)
   pub holds : (job : Job) → IsJobOf job n text steps → Holds job step (now old).folder
       → HoldsStep job step result old new
 
@@ -137,6 +145,15 @@ StopsBehind steps lines old new finish = (f : FileNo) (at : ℕ) → finish ≡ 
     → IsEntryDamage steps f at (present (now old).folder)
     × SpokeWhole steps lines (present (now old).folder) (said old) (said new)
 
+-- saying lines stopped the run
+abbrev pub IsSayStop : Finish → Type 0
+IsSayStop Done = ⊥
+IsSayStop (OtherJob at) = ⊥
+IsSayStop FolderFault = Unit
+IsSayStop SayFault = Unit
+IsSayStop (Damaged f at) = Unit
+IsSayStop (RunsSpent step) = ⊥
+
 -- lines were said, each with what the entry of its step shows, where the folder holds them the
 -- right ones, or the run stopped there
 pub record SaysLines (steps : List Planned) (count : ℕ) (lines : List LineEnd) (e : Entry) (result : Result Unit Finish)
@@ -145,7 +162,7 @@ pub record SaysLines (steps : List Planned) (count : ℕ) (lines : List LineEnd)
   pub stays : StaysThere old new
   pub speaks : Throughout old new (λ m. SpeaksLines steps lines (present (now old).folder) (said old) m.said)
   pub ok : OnOk result (SpokeAll steps lines (present (now old).folder) (said old) (said new))
-  pub stops : IfErr result IsStop
+  pub stops : IfErr result IsSayStop
   pub damaged : IfErr result (StopsBehind steps lines old new)
   pub holds : (job : Job) → IsWellFormed job.n job.text job.steps → job.steps ≡ steps
       → Holds job count (now old).folder → IsEntryOfStep job e.number e
@@ -159,9 +176,10 @@ IsReadFault k kind r (OtherJob at) = ⊥
 IsReadFault k kind r FolderFault = Unit
 IsReadFault k kind r SayFault = ⊥
 IsReadFault k kind r (Damaged f at) = IsKindFault k kind r (stream.Damaged f at)
+IsReadFault k kind r (RunsSpent step) = ⊥
 
--- how a run ends that a fault of its folder stops
-abbrev pub stopped_by : SortFault → Finish
-stopped_by sort.Shelf = FolderFault
-stopped_by (sort.Damaged f at) = Damaged f at
-stopped_by sort.RunsSpent = FolderFault
+-- how a run ends that a fault of a step stops
+abbrev pub stopped_by : ℕ → SortFault → Finish
+stopped_by step sort.Shelf = FolderFault
+stopped_by step (sort.Damaged f at) = Damaged f at
+stopped_by step sort.RunsSpent = RunsSpent step

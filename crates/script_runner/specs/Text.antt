@@ -91,6 +91,10 @@ other_job_line at = line_of (codes "other job at " ++ decimal at)
 abbrev pub damaged_line : FileNo → ℕ → List ℕ
 damaged_line f at = line_of (codes "damaged " ++ decimal f.step ++ codes " " ++ decimal f.part ++ codes " " ++ decimal at)
 
+-- a step has no part number left
+abbrev pub runs_spent_line : ℕ → List ℕ
+runs_spent_line step = line_of (codes "runs spent at step " ++ decimal step)
+
 -- how many of the lines come before a step
 abbrev pub ended_before : ℕ → List LineEnd → ℕ
 ended_before step lines = count_by (λ (line : LineEnd). nat_lt line.last step) lines

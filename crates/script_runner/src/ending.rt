@@ -21,6 +21,8 @@ pub(crate) enum Ending {
     NoMemory,
     /// A file of the folder doesn't hold what it should.
     Damaged,
+    /// A step needs a new file, and has no part number left.
+    RunsSpent,
 }
 
 impl Ending {
@@ -40,6 +42,7 @@ impl Ending {
             Ending::SayFault => 8,
             Ending::NoMemory => 9,
             Ending::Damaged => 10,
+            Ending::RunsSpent => 11,
         }
     }
 }

@@ -13,4 +13,6 @@ pub enum Finish {
     SayFault,
     /// A file of the folder doesn't hold what it should, from that byte on.
     Damaged { file: FileNo, at: u64 },
+    /// That step needs a new file, and has no part number left.
+    RunsSpent { step: u32 },
 }

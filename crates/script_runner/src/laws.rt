@@ -13,7 +13,7 @@ ghost use Rattle.script_reader.specs.Reads.{Reads};
 ghost use Rattle.script_runner.specs.Text.{run_text};
 ghost use Rattle.script_runner.specs.JobOf.{job_of};
 ghost use Rattle.script_runner.specs.Fetching.{OnlyFetched};
-ghost use Rattle.script_runner.specs.Outcome.{Accepts, Ends, StatusHasCause, NoneRose};
+ghost use Rattle.script_runner.specs.Outcome.{Accepts, Ends, StatusHasCause, NoneRose, IsSmall};
 ghost use Rattle.script_runner.specs.Lives.{Life, AreLives, LivesKeep};
 
 /// Over any list of calls in one folder, each of which finds what the one before left: a call is ended by its
@@ -32,11 +32,13 @@ pub fn new_folder_is_sound()
 {}
 
 /// A call whose text asks for a plan, in a folder that is sound for that job, in which no call failed, ends with 0
-/// and says the whole text, or with 9 before it says anything or changes a file.
+/// and says the whole text, or with 9 before it says anything or changes a file, where each step's work is below 2^35
+/// turns.
 pub fn accepted_runs_end()
     ensures ends { (words : List (List ℕ)) (plan : Plan) (status : ℕ) (old new : World) (before after : Faults)
         → (accepts : Accepts old words plan) → AreSound (job_of accepts.asked.budget accepts.text plan) (now old).folder
-        → Ends words status old new → StatusHasCause words status before after → NoneRose words before after
+        → IsSmall (job_of accepts.asked.budget accepts.text plan) →
+        Ends words status old new → StatusHasCause words status before after → NoneRose words before after
         → ((status ≡ 0)
         × (said new ≡ said old
         ++ run_text (job_of accepts.asked.budget accepts.text plan) plan.lines (present (now old).folder)))

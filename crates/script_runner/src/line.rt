@@ -1,5 +1,5 @@
 ghost use Rattle.std.specs.Prelude.{◌≡◌, ◌<◌, ◌≤◌, length};
-ghost use Rattle.script_runner.specs.Text.{start_line, resume_line, nodes_line, dropped_line, truth_line, value_line, answer_line, other_job_line, damaged_line, kind_name, refused_line};
+ghost use Rattle.script_runner.specs.Text.{start_line, resume_line, nodes_line, dropped_line, truth_line, value_line, answer_line, other_job_line, damaged_line, runs_spent_line, kind_name, refused_line};
 
 use arrayvec::ArrayString;
 use bool_tables::Step;
@@ -112,6 +112,18 @@ pub(crate) fn other_job_line(at: u64) -> Line
     let mut line = Line::new();
     line.push_str("other job at ");
     line.push_str(Buffer::new().format(at));
+    line.push_str("\n");
+    line
+}
+
+/// Which step has no part number left.
+pub(crate) fn runs_spent_line(step: u32) -> Line
+    ensures text { result.bytes ≡ runs_spent_line step }
+    ensures some { 0 < length result.bytes }
+{
+    let mut line = Line::new();
+    line.push_str("runs spent at step ");
+    line.push_str(Buffer::new().format(step));
     line.push_str("\n");
     line
 }

@@ -1,12 +1,11 @@
 ghost use Rattle.std.specs.Prelude.{◌≡◌, ◌≢◌, ◌⊎◌, ◌+◌, ◌<◌, ◌≤◌, ◌++◌, length, map, string_bytes, IsTrue, IfOk};
 ghost use Rattle.bool_tables.specs.Plans.{IsWellFormed};
-ghost use Rattle.shelf_model.specs.World.{said};
+ghost use Rattle.shelf_model.specs.World.{now, said};
 ghost use Rattle.shelf_model.specs.Calls.{Told};
 ghost use Rattle.script_reader.specs.Lines.{AreLines};
-ghost use Rattle.script_reader.specs.Built.{are_built};
 ghost use Rattle.script_runner.specs.Running.{SaysOnly};
 ghost use Rattle.script_runner.specs.Status.{status_of};
-ghost use Rattle.script_runner.specs.Calls.{most_calls};
+ghost use Rattle.script_runner.specs.Calls.{most_calls, AreCounted};
 ghost use Rattle.script_runner.specs.Outcome.{Ends, ByWords, StatusHasCause, MakesFewCalls};
 ghost use Rattle.script_runner.specs.Entered.{RunsIn, EndsRun, EndingHasCause};
 
@@ -14,7 +13,7 @@ use crate::asked::asked_run;
 use crate::ending::Ending;
 use crate::fetch::{FetchFault, fetch_text};
 use crate::job::job_bytes;
-use crate::line::{damaged_line, other_job_line, refused_line};
+use crate::line::{damaged_line, other_job_line, refused_line, runs_spent_line};
 use crate::{Finish, run_steps};
 use command_words::WordsFault;
 use script_reader::{Plan, ScriptKind, read_script};
@@ -59,14 +58,16 @@ fn run_plan<W: Station>(
 ) -> Ending
     requires plan { IsWellFormed plan.now.n text.now plan.now.steps }
     requires lines { AreLines plan.now.steps plan.now.lines }
-    requires built { IsTrue (are_built plan.now.steps) }
     requires room { (16384 ≤ length room.old) × (length room.old ≤ 4194304) }
     ensures content { Told W.tells station.old station.new
         (RunsIn folder.now (record { n = plan.now.n; text = text.now; steps = plan.now.steps; bytes = job.now })
         plan.now.lines
         (status_of result) (W.world station.old) (W.world station.new)) }
-    ensures calls { IsTrue (W.tells station.new) → (W.world station.new).clock ≤ (W.world station.old).clock + 2
-        + most_calls (length plan.now.steps) (length plan.now.lines) (length job.now) }
+    ensures calls { IsTrue (W.tells station.new) →
+        AreCounted (record { n = plan.now.n; text = text.now; steps = plan.now.steps; bytes = job.now })
+        (now (W.world station.old)).folder → (W.world station.new).clock ≤ (W.world station.old).clock + 2
+        + most_calls (record { n = plan.now.n; text = text.now; steps = plan.now.steps; bytes = job.now })
+        (length plan.now.lines) }
     ensures which { EndsRun (status_of result) }
     ensures cause { EndingHasCause (W.faults station.old) (W.faults station.new) result }
 {
@@ -94,6 +95,11 @@ fn run_plan<W: Station>(
         Finish::Damaged { file, at } => say_refusal(
             damaged_line(file, at).as_str().as_bytes(),
             Ending::Damaged,
+            station,
+        ),
+        Finish::RunsSpent { step } => say_refusal(
+            runs_spent_line(step).as_str().as_bytes(),
+            Ending::RunsSpent,
             station,
         ),
     }
@@ -168,6 +174,7 @@ fn take_room(alloc: Global, budget: u32) -> Result<Vec<Rec>, AllocError>
 /// | 8 | a line couldn't be said | |
 /// | 9 | there was no memory | |
 /// | 10 | a file doesn't hold what it should, from that byte on | `damaged S P B` |
+/// | 11 | that step needs a new file, and has no part number left | `runs spent at step K` |
 pub fn adiar<W: Station>(alloc: Global, words: &[String], station: &mut W) -> u8
     ensures content { Told W.tells station.old station.new
         (Ends (map string_bytes words.now) result (W.world station.old) (W.world station.new)) }

@@ -1,11 +1,11 @@
-ghost use Rattle.std.specs.Prelude.{◌≡◌, ◌+◌, ◌≤◌, IsTrue, length};
+ghost use Rattle.std.specs.Prelude.{◌+◌, ◌≤◌, IsTrue, length};
 ghost use Rattle.bool_tables.specs.Plans.{IsWellFormed};
 ghost use Rattle.shelf_model.specs.Calls.{Told};
 ghost use Rattle.script_reader.specs.Lines.{AreLines};
-ghost use Rattle.script_reader.specs.Built.{are_built};
 ghost use Rattle.script_runner.specs.Running.{RunsSteps};
 ghost use Rattle.script_runner.specs.Causes.{FinishHasCause};
-ghost use Rattle.script_runner.specs.Calls.{most_calls};
+ghost use Rattle.shelf_model.specs.World.{now};
+ghost use Rattle.script_runner.specs.Calls.{most_calls, AreCounted};
 
 use crate::Finish;
 use crate::banner::banner_line;
@@ -21,7 +21,7 @@ use shelf_model::Station;
 /// will be, makes and commits each step that isn't committed yet and says the lines that end with it,
 /// and then that all was done.
 ///
-/// It takes no memory. The room is for the steps that work on diagrams.
+/// It takes no memory. The room is for the steps that sweep over diagrams.
 pub fn run_steps<W: Station>(
     n: u32,
     text: &[u8],
@@ -33,13 +33,14 @@ pub fn run_steps<W: Station>(
 ) -> Finish
     requires plan { IsWellFormed n text.now steps.now }
     requires lines { AreLines steps.now lines.now }
-    requires built { IsTrue (are_built steps.now) }
     requires room { (16384 ≤ length room.old) × (length room.old ≤ 4194304) }
     ensures content { Told W.tells station.old station.new
         (RunsSteps (record { n = n; text = text.now; steps = steps.now; bytes = job.now }) lines.now result
         (W.world station.old) (W.world station.new)) }
-    ensures calls { IsTrue (W.tells station.new) → (W.world station.new).clock
-        ≤ (W.world station.old).clock + most_calls (length steps.now) (length lines.now) (length job.now) }
+    ensures calls { IsTrue (W.tells station.new) →
+        AreCounted (record { n = n; text = text.now; steps = steps.now; bytes = job.now })
+        (now (W.world station.old)).folder → (W.world station.new).clock ≤ (W.world station.old).clock
+        + most_calls (record { n = n; text = text.now; steps = steps.now; bytes = job.now }) (length lines.now) }
     ensures causes { FinishHasCause (W.faults station.old) (W.faults station.new) result }
 {
     let standing = match attach(job, steps.len() as u32, station) {

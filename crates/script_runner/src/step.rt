@@ -1,12 +1,12 @@
 //! One step of a run: it is made, committed and tidied up.
-ghost use Rattle.std.specs.Prelude.{◌≡◌, ◌+◌, ◌≤◌, ◌<◌, IsTrue, IfOk, length};
+ghost use Rattle.std.specs.Prelude.{◌≡◌, ◌+◌, ◌≤◌, ◌<◌, IsTrue, IfOk, length, get_or};
 ghost use Rattle.bool_tables.specs.Plans.{IsWellFormed};
 ghost use Rattle.shelf_model.specs.World.{now};
 ghost use Rattle.shelf_model.specs.Calls.{Told};
 ghost use Rattle.catalogue.specs.Commits.{IsReady};
-ghost use Rattle.script_reader.specs.Built.{are_built};
-ghost use Rattle.step_engine.specs.StepFaults.{IsOfFolder};
-ghost use Rattle.script_runner.specs.StepRuns.{TakesStep, stopped_by};
+ghost use Rattle.sound_image.specs.Jobs.{Job, no_step};
+ghost use Rattle.script_runner.specs.Calls.{step_calls, IsCounted};
+ghost use Rattle.script_runner.specs.StepRuns.{TakesStep, IsJobOf, stopped_by};
 ghost use Rattle.script_runner.specs.Causes.{StopHasCause};
 
 use crate::Finish;
@@ -26,39 +26,38 @@ pub(crate) fn take_step<S: Shelf>(
     shelf: &mut S,
 ) -> Result<Entry, Finish>
     requires plan { IsWellFormed n text.now steps.now }
-    requires built { IsTrue (are_built steps.now) }
     requires within { number < length steps.now }
     requires room { (16384 ≤ length room.old) × (length room.old ≤ 4194304) }
     requires ready { IsTrue (S.tells shelf.old) → IsReady number (now (S.world shelf.old)).folder }
     ensures content { Told S.tells shelf.old shelf.new
         (TakesStep n text.now steps.now number result (S.world shelf.old) (S.world shelf.new)) }
-    ensures calls { IsTrue (S.tells shelf.new)
-        → (S.world shelf.new).clock ≤ (S.world shelf.old).clock + 11 }
+    ensures calls { IsTrue (S.tells shelf.new) → (job : Job) → IsJobOf job n text.now steps.now →
+        IsCounted job number (now (S.world shelf.old)).folder →
+        (S.world shelf.new).clock ≤ (S.world shelf.old).clock + step_calls job (get_or steps.now number no_step) }
     ensures number { IfOk result (λ e. e.number ≡ number) }
     ensures causes { StopHasCause (S.faults shelf.old) (S.faults shelf.new) result }
 {
     let planned = &steps[number as usize];
     let entry = match run_step(n, text, planned, number, room, shelf) {
         Ok(entry) => entry,
-        Err(fault) => return Err(stopped_by(fault)),
+        Err(fault) => return Err(stopped_by(fault, number)),
     };
     let Ok(()) = commit(&entry, shelf) else {
         return Err(Finish::FolderFault);
     };
-    let Ok(()) = tidy(planned, shelf) else {
+    let Ok(()) = tidy(planned, &entry, shelf) else {
         return Err(Finish::FolderFault);
     };
     Ok(entry)
 }
 
-/// How a run ends that such a fault stops.
-fn stopped_by(fault: SortFault) -> Finish
-    requires folder { IsOfFolder fault }
-    ensures { result ≡ stopped_by fault }
+/// How a run ends that such a fault of that step stops.
+fn stopped_by(fault: SortFault, step: u32) -> Finish
+    ensures { result ≡ stopped_by step fault }
 {
     match fault {
         SortFault::Shelf => Finish::FolderFault,
         SortFault::Damaged { file, at } => Finish::Damaged { file, at },
-        SortFault::RunsSpent => unreachable!(),
+        SortFault::RunsSpent => Finish::RunsSpent { step },
     }
 }

@@ -68,6 +68,7 @@ sound_while_attached job old m files few sound during image is_image = elim (dur
         few = subst (λ c. c ≤ length job.steps) (sym stored.counts.count) (omega arith);
         entries = λ k within. absurd (none (count_in (bytes_in image)) k stored.counts.count within);
         files = λ s live. absurd (none (count_in (bytes_in image)) s stored.counts.count (live_below job.steps (count_in (bytes_in image)) s live));
+        forms = λ s live. absurd (none (count_in (bytes_in image)) s stored.counts.count (live_below job.steps (count_in (bytes_in image)) s live));
       })
     ];
     resumable = record { no_checkpoint = gates_empty job old m image files few sound during is_image };

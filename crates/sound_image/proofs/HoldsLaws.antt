@@ -60,6 +60,7 @@ holds_sound job count folder holds image is_image =
         files = λ s live.
             let lives : IsTrue (is_live (take count job.steps) s) = subst (λ c. IsTrue (is_live (take c job.steps) s)) counted.count live in
             only_image (file_of job s) (r (node_file s)) (same_image folder image (node_file s) (firm_file (file_of job s)) (holds.files s lives) is_image);
+        forms = λ s live. holds.forms s (subst (λ c. IsTrue (is_live (take c job.steps) s)) counted.count live);
       });
       resumable = record {
         no_checkpoint = λ s within. none_left (r (checkpoint_gate s)) (same_image folder image (checkpoint_gate s) no_file (holds.gates s within) is_image);
@@ -144,5 +145,8 @@ module _ (job : Job) (count : ℕ) (folder : Folder) (files : AreFiles folder) (
     entries = keeps;
     files = λ s live. all_sure (node_file s) (file_of job s) (λ image is_image.
         (shows image is_image).files s (subst (λ c. IsTrue (is_live (take c job.steps) s)) (sym (counts image is_image)) live));
+    forms = λ s live. let image : Image = chosen (λ _ x. x.bytes) folder in
+        (shows image (standing_image folder files)).forms s
+        (subst (λ c. IsTrue (is_live (take c job.steps) s)) (sym (counts image (standing_image folder files))) live);
     gates = λ s within. all_sure (checkpoint_gate s) [] (λ image is_image. (sound image is_image).resumable.no_checkpoint s within);
   }

@@ -17,11 +17,13 @@ use Rattle.catalogue.specs.Entries.{entry_bytes}
 use Rattle.catalogue.proofs.Places.{length_entry}
 use Rattle.catalogue.proofs.Stored.{catalogue_not_job_file, step_gate_not_job_file}
 use Rattle.sound_image.specs.Files.{node_file, checkpoint_gate}
-use Rattle.sound_image.specs.Jobs.{Job, file_of, step_at, no_step}
+use Rattle.canon_file.specs.Laws.{HasForm}
+use Rattle.sound_image.specs.Jobs.{Job, table_at, file_of, step_at, no_step}
 use Rattle.sound_image.specs.Entries.{IsEntryOfStep}
 use Rattle.sound_image.specs.Sound.{IsSound}
-use Rattle.sound_image.specs.Holds.{Holds, IsMade, OnlyNodeFile}
-use Rattle.sound_image.proofs.Numbers.{IsOfStep, node_of_step, gate_of_step, not_job_file, not_job_gate, not_catalogue, not_step_gate, gate_not_node}
+use Rattle.sound_image.specs.Holds.{Holds, IsMade}
+use Rattle.sound_image.specs.Steps.{IsOwnFile, OnlyOwnFiles, IsCutBy, IsTidied}
+use Rattle.sound_image.proofs.Numbers.{IsOfStep, node_of_step, gate_of_step, not_catalogue, not_step_gate}
 use Rattle.sound_image.proofs.HoldsLaws.{entry_in_front, none_left}
 use Rattle.sound_image.proofs.Live.{live_below, live_earlier, live_last, live_undropped}
 
@@ -32,17 +34,21 @@ AreFew job = length job.steps ≤ 1048576
 early : (job : Job) (s : ℕ) → AreFew job → s < length job.steps → s < 4294967295
 early job s few within = omega (arith, few, within)
 
--- while a node file is changed that no live diagram needs, the steps so far are held
-pub holds_beside : (job : Job) (count k : ℕ) (old new : Folder) → AreFew job → k < length job.steps → (IsTrue (is_live (take count job.steps) k) → ⊥)
-    → Holds job count old → OnlyNodeFile k old new → Holds job count new
-holds_beside job count k old new few within unneeded holds only =
-    let of_step : IsOfStep (node_file k) = node_of_step k (early job k few within) in
-    let job_same : file_in new job_file ≡ file_in old job_file = only job_file (λ e. not_job_file (node_file k) of_step (sym e)) in
-    let gate_same : file_in new job_gate ≡ file_in old job_gate = only job_gate (λ e. not_job_gate (node_file k) of_step (sym e)) in
-    let catalogue_same : file_in new catalogue ≡ file_in old catalogue = only catalogue (λ e. not_catalogue (node_file k) of_step (sym e)) in
-    let steps_same : file_in new step_gate ≡ file_in old step_gate = only step_gate (λ e. not_step_gate (node_file k) of_step (sym e)) in
+-- the files of the job stay, and so do those of the diagrams that are live after so many steps; the gates of checkpoints
+-- that are empty stay so
+pub record KeepsHeld (job : Job) (count : ℕ) (old new : Folder) : Type 0 where
+  pub of_job : (f : FileNo) → f.step ≡ 4294967295 → file_in new f ≡ file_in old f
+  pub nodes : (s : ℕ) → IsTrue (is_live (take count job.steps) s) → file_in new (node_file s) ≡ file_in old (node_file s)
+  pub gates : (s : ℕ) → s < length job.steps → file_in old (checkpoint_gate s) ≡ no_file → file_in new (checkpoint_gate s) ≡ no_file
+
+-- then the steps so far are held
+pub holds_kept : (job : Job) (count : ℕ) (old new : Folder) → Holds job count old → KeepsHeld job count old new → Holds job count new
+holds_kept job count old new holds keeps =
+    let gate_same : file_in new job_gate ≡ file_in old job_gate = keeps.of_job job_gate refl in
+    let catalogue_same : file_in new catalogue ≡ file_in old catalogue = keeps.of_job catalogue refl in
+    let steps_same : file_in new step_gate ≡ file_in old step_gate = keeps.of_job step_gate refl in
     record {
-      job_is = job_same ∙ holds.job_is;
+      job_is = keeps.of_job job_file refl ∙ holds.job_is;
       ready = record {
         stored = subst (λ (x : File). 0 < x.firm) (sym gate_same) holds.ready.stored;
         gate = steps_same ∙ holds.ready.gate ∙ ap (λ (x : File). firm_file x.bytes) (sym steps_same);
@@ -56,20 +62,52 @@ holds_beside job count k old new few within unneeded holds only =
         kept = subst (IsKept holds.entries.front) (sym catalogue_same) holds.entries.kept;
         each = holds.entries.each;
       };
-      files = λ s live. only (node_file s) (λ e. unneeded (subst (λ j. IsTrue (is_live (take count job.steps) j)) (ap (λ (q : FileNo). q.step) e) live)) ∙ holds.files s live;
-      gates = λ s inside. only (checkpoint_gate s) (gate_not_node s k) ∙ holds.gates s inside;
+      files = λ s live. keeps.nodes s live ∙ holds.files s live;
+      forms = holds.forms;
+      gates = λ s inside. keeps.gates s inside (holds.gates s inside);
     }
 
--- while a step's file is made, the steps before it are held
-pub holds_while_made : (job : Job) (k : ℕ) (old new : Folder) → AreFew job → k < length job.steps → Holds job k old → OnlyNodeFile k old new → Holds job k new
-holds_while_made job k old new few within =
-    holds_beside job k k old new few within (λ live. let below : k < k = live_below job.steps k k live in omega (arith, below))
+-- while the files of a step that isn't committed are changed, but those of its checkpoints, the steps before it are held
+pub holds_while_made : (job : Job) (k : ℕ) (old new : Folder) → AreFew job → k < length job.steps → Holds job k old → OnlyOwnFiles k old new → Holds job k new
+holds_while_made job k old new few within holds only = holds_kept job k old new holds (record {
+  of_job = λ f step_is. only f (not_own f step_is);
+  nodes = λ s live. only (node_file s) (not_node s (live_below job.steps k s live));
+  gates = λ s inside empty. only (checkpoint_gate s) (not_gate s) ∙ empty;
+})
+  where
+    not_own : (f : FileNo) → f.step ≡ 4294967295 → IsOwnFile k f → ⊥
+    not_own f step_is own = let no : k ≡ 4294967295 = sym own.step_is ∙ step_is in omega (arith, no, early job k few within)
 
--- while the file of a dropped diagram is cut, the steps up to the drop are held
-pub holds_while_cut : (job : Job) (k gone : ℕ) (old new : Folder) → AreFew job → k < length job.steps → gone < length job.steps
-    → IsTrue (drops gone (step_at job k).step) → Holds job (k + 1) old → OnlyNodeFile gone old new → Holds job (k + 1) new
-holds_while_cut job k gone old new few within inside dropped =
-    holds_beside job (k + 1) gone old new few inside (live_undropped job.steps k gone no_step within dropped)
+    not_node : (s : ℕ) → s < k → IsOwnFile k (node_file s) → ⊥
+    not_node s below own = let same : s ≡ k = own.step_is in omega (arith, same, below)
+
+    not_gate : (s : ℕ) → IsOwnFile k (checkpoint_gate s) → ⊥
+    not_gate s own = elim own.part_is [
+      | inl none ↦ omega (arith, none)
+      | inr more ↦ omega (arith, more)
+    ]
+
+-- while the file of a diagram that a step drops is cut, and the step's checkpoints, their gate and its arcs, the steps up
+-- to that one are held
+pub holds_while_tidied : (job : Job) (k : ℕ) (old new : Folder) → AreFew job → k < length job.steps → Holds job (k + 1) old
+    → ((gone : ℕ) → IsTrue (drops gone (step_at job k).step) → gone < length job.steps) → IsTidied (step_at job k).step k old new → Holds job (k + 1) new
+holds_while_tidied job k old new few within holds inside tidied = holds_kept job (k + 1) old new holds (record {
+  of_job = λ f step_is. tidied.only f (not_cut f step_is);
+  nodes = λ s live. tidied.only (node_file s) (not_live s live);
+  gates = λ s below empty. tidied.empty (checkpoint_gate s) empty;
+})
+  where
+    not_cut : (f : FileNo) → f.step ≡ 4294967295 → IsCutBy (step_at job k).step k f → ⊥
+    not_cut f step_is (inl (gone, dropped, is)) =
+        let no : gone ≡ 4294967295 = sym (ap (λ (q : FileNo). q.step) is) ∙ step_is in
+        omega (arith, no, early job gone few (inside gone dropped))
+    not_cut f step_is (inr (swept, own)) = let no : k ≡ 4294967295 = sym own.step_is ∙ step_is in omega (arith, no, early job k few within)
+
+    not_live : (s : ℕ) → IsTrue (is_live (take (k + 1) job.steps) s) → IsCutBy (step_at job k).step k (node_file s) → ⊥
+    not_live s live (inl (gone, dropped, is)) =
+        live_undropped job.steps k s no_step within
+        (subst (λ j. IsTrue (drops j (step_at job k).step)) (sym (ap (λ (q : FileNo). q.step) is)) dropped) live
+    not_live s live (inr (swept, own)) = let no : 1 ≤ 0 = own.from in omega (arith, no)
 
 -- a diagram that is live after the step has its file, before and after it
 live_file : (job : Job) (k s : ℕ) (folder : Folder) → k < length job.steps → Holds job k folder → IsMade job k folder
@@ -80,7 +118,19 @@ live_file job k s folder within holds made live = elim (cases_lt s k) [
       let last : s < k + 1 = live_below job.steps (k + 1) s live in
       let same : s ≡ k = omega (arith, beyond, last) in
       subst (λ j. file_in folder (node_file j) ≡ firm_file (file_of job j)) (sym same)
-      (made (live_last job.steps k no_step within (subst (λ j. IsTrue (is_live (take (k + 1) job.steps) j)) same live)))
+      (made (live_last job.steps k no_step within (subst (λ j. IsTrue (is_live (take (k + 1) job.steps) j)) same live))).0
+]
+
+-- and a canonical form that is defined
+live_form : (job : Job) (k s : ℕ) (folder : Folder) → k < length job.steps → Holds job k folder → IsMade job k folder
+    → IsTrue (is_live (take (k + 1) job.steps) s) → HasForm job.n (table_at job s)
+live_form job k s folder within holds made live = elim (cases_lt s k) [
+  | inl below ↦ holds.forms s (live_earlier job.steps k s no_step within below live)
+  | inr beyond ↦
+      let last : s < k + 1 = live_below job.steps (k + 1) s live in
+      let same : s ≡ k = omega (arith, beyond, last) in
+      subst (λ j. HasForm job.n (table_at job j)) (sym same)
+      (made (live_last job.steps k no_step within (subst (λ j. IsTrue (is_live (take (k + 1) job.steps) j)) same live))).1
 ]
 
 -- while a step is committed each image is sound, and has no fewer steps
@@ -93,7 +143,8 @@ sound_while_committed job k e old m image few within holds made is_entry during 
           let count : count_in r ≡ k = before.count ∙ is_entry.number_is in (
             sound_with k before.stored count holds.few
                 (λ i inside. earlier i inside)
-                (λ s live. others_same (node_file s) (node_of_step s (early job s few (below_all s k holds.few live))) (holds.files s live)),
+                (λ s live. others_same (node_file s) (node_of_step s (early job s few (below_all s k holds.few live))) (holds.files s live))
+                holds.forms,
             subst (λ c. k ≤ c) (sym count) (omega arith),
             before.stored,
           )
@@ -107,7 +158,8 @@ sound_while_committed job k e old m image few within holds made is_entry during 
                       subst (λ j. (x : Entry) × IsEntryOfStep job j x × (entry_at j r ≡ entry_bytes x)) (sym same)
                       (e, is_entry, ap (λ j. entry_at j r) (sym is_entry.number_is) ∙ after.placed)
                 ])
-                (λ s live. others_same (node_file s) (node_of_step s (early job s few (below_all s (k + 1) (omega (arith, within)) live))) (live_file job k s old.folder within holds made live)),
+                (λ s live. others_same (node_file s) (node_of_step s (early job s few (below_all s (k + 1) (omega (arith, within)) live))) (live_file job k s old.folder within holds made live))
+                (λ s live. live_form job k s old.folder within holds made live),
             subst (λ c. k ≤ c) (sym count) (omega arith),
             after.counts.stored,
           )
@@ -133,8 +185,9 @@ sound_while_committed job k e old m image few within holds made is_entry during 
     sound_with : (c : ℕ) → IsTrue (is_stored r) → count_in r ≡ c → c ≤ length job.steps
         → ((i : ℕ) → i < c → (x : Entry) × IsEntryOfStep job i x × (entry_at i r ≡ entry_bytes x))
         → ((s : ℕ) → IsTrue (is_live (take c job.steps) s) → file_in m.folder (node_file s) ≡ firm_file (file_of job s))
+        → ((s : ℕ) → IsTrue (is_live (take c job.steps) s) → HasForm job.n (table_at job s))
         → IsSound job r
-    sound_with c stored count short entries files = record {
+    sound_with c stored count short entries files forms = record {
       shown = inr (record {
         stored = stored;
         job_is = only_image job.bytes (r job_file) (same_image m.folder image job_file (firm_file job.bytes)
@@ -143,6 +196,7 @@ sound_while_committed job k e old m image few within holds made is_entry during 
         entries = λ i inside. entries i (subst (λ n. i < n) count inside);
         files = λ s live. only_image (file_of job s) (r (node_file s)) (same_image m.folder image (node_file s) (firm_file (file_of job s))
             (files s (subst (λ n. IsTrue (is_live (take n job.steps) s)) count live)) is_image);
+        forms = λ s live. forms s (subst (λ n. IsTrue (is_live (take n job.steps) s)) count live);
       });
       resumable = record {
         no_checkpoint = λ s inside. none_left (r (checkpoint_gate s)) (same_image m.folder image (checkpoint_gate s) no_file
@@ -180,6 +234,7 @@ holds_after_commit job k e old m few within holds made is_entry during committed
       files = λ s live.
           let of_step : IsOfStep (node_file s) = node_of_step s (early job s few (inside s live)) in
           during.others (node_file s) (not_catalogue (node_file s) of_step) (not_step_gate (node_file s) of_step) ∙ live_file job k s old.folder within holds made live;
+      forms = λ s live. live_form job k s old.folder within holds made live;
       gates = λ s inside.
           let of_step : IsOfStep (checkpoint_gate s) = gate_of_step s (early job s few inside) in
           during.others (checkpoint_gate s) (not_catalogue (checkpoint_gate s) of_step) (not_step_gate (checkpoint_gate s) of_step) ∙ holds.gates s inside;

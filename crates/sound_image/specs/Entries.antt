@@ -1,5 +1,5 @@
 -- The entry that a committed step has.
-use Rattle.std.specs.Prelude.{◌≡◌, ℕ, ◌+◌, ◌-◌, ◌*◌, ◌^◌, ◌≤◌, Bool, List, [], ◌++◌, length, take, drop, replicate, sum_by, if◌then◌else◌}
+use Rattle.std.specs.Prelude.{◌≡◌, ℕ, ◌+◌, ◌-◌, ◌/◌, ◌^◌, ◌≤◌, Bool, List, [], ◌++◌, length, take, drop, map, replicate, if◌then◌else◌}
 use Rattle.bool_tables.specs.declared.steps.Step.{Step}
 use Rattle.bool_tables.specs.declared.steps.Step.TheVariants.{Const, Var, Pair, Ite, Quantify, Restrict, Drop, Same, Leq, Eval, Size}
 use Rattle.bool_tables.specs.declared.steps.Planned.{Planned}
@@ -8,6 +8,7 @@ use Rattle.bool_tables.specs.Steps.{eval_at}
 use Rattle.bool_tables.specs.Plans.{makes_diagram, operands}
 use Rattle.catalogue.specs.declared.layout.Entry.{Entry}
 use Rattle.catalogue.specs.Entries.{IsEntry}
+use Rattle.step_work.specs.Works.{work_for}
 use Rattle.sound_image.specs.Jobs.{Job, step_at, table_at, nodes_at}
 
 -- 1 for a diagram, 2 for a drop, 3 for an answer
@@ -60,13 +61,12 @@ count_of job k (Size operand) = nodes_at job operand
 abbrev pub name_of : Job → Planned → List ℕ
 name_of job planned = if makes_diagram planned.step then take planned.name_len (drop planned.name_at job.text) else []
 
--- 16 turns for each node of the operands, and for one more: the work of a step that compares no nodes level by level,
--- which are a constant, a variable, a drop, a size, an equality and a value. Of the other steps it lacks the tuples of
--- nodes that their sweeps visit
+-- the work of a step, in turns
 abbrev pub work_of : Job → Step → ℕ
-work_of job step = 16 * (sum_by (nodes_at job) (operands step) + 1)
+work_of job step = work_for job.n step (map (table_at job) (operands step))
 
--- the entry of step k: its number, its kind, answer, count and name, its turns, and the next part number at its commit
+-- the entry of step k: its number, its kind, answer, count and name, its turns, which are within its work, and the next
+-- part number at its commit, of which few were taken for so many turns
 pub record IsEntryOfStep (job : Job) (k : ℕ) (e : Entry) : Type 0 where
   pub entry_is : IsEntry e
   pub number_is : e.number ≡ k
@@ -76,4 +76,4 @@ pub record IsEntryOfStep (job : Job) (k : ℕ) (e : Entry) : Type 0 where
   pub name_len_is : e.name_len ≡ length (name_of job (step_at job k))
   pub name_is : e.name ≡ name_of job (step_at job k) ++ replicate (63 - length (name_of job (step_at job k))) 0
   pub turns_are : (1 ≤ e.turns) × (e.turns ≤ work_of job (step_at job k).step)
-  pub parts_are : (3 ≤ e.parts) × (e.parts ≤ 2 ^ 32)
+  pub parts_are : (3 ≤ e.parts) × (e.parts ≤ 2 ^ 32) × (e.parts ≤ 1024 + e.turns / 16)

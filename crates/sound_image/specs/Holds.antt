@@ -2,14 +2,15 @@
 use Rattle.std.specs.Prelude.{◌≡◌, ℕ, ◌*◌, ◌<◌, ◌≤◌, IsTrue, List, length, take, drop}
 use Rattle.bool_tables.specs.Plans.{is_live, makes_diagram}
 use Rattle.shelf_model.specs.File.{firm_file, no_file, IsKept}
-use Rattle.shelf_model.specs.Folder.{Folder, Image, file_in, bytes_in, IsImage, OnlyChanges}
+use Rattle.shelf_model.specs.Folder.{Folder, Image, file_in, bytes_in, IsImage}
 use Rattle.catalogue.specs.declared.layout.Entry.{Entry}
 use Rattle.catalogue.specs.Files.{job_file, catalogue}
 use Rattle.catalogue.specs.Commits.{IsReady}
 use Rattle.catalogue.specs.Counts.{count_in}
 use Rattle.catalogue.specs.Entries.{entry_bytes}
 use Rattle.sound_image.specs.Files.{node_file, checkpoint_gate}
-use Rattle.sound_image.specs.Jobs.{Job, step_at, file_of}
+use Rattle.canon_file.specs.Laws.{HasForm}
+use Rattle.sound_image.specs.Jobs.{Job, step_at, table_at, file_of}
 use Rattle.sound_image.specs.Entries.{IsEntryOfStep}
 use Rattle.sound_image.specs.Sound.{IsSound}
 
@@ -29,16 +30,13 @@ pub record Holds (job : Job) (count : ℕ) (folder : Folder) : Type 0 where
   pub entries : KeepsEntries job count folder
   pub files : (s : ℕ) → IsTrue (is_live (take count job.steps) s)
       → file_in folder (node_file s) ≡ firm_file (file_of job s)
+  pub forms : (s : ℕ) → IsTrue (is_live (take count job.steps) s) → HasForm job.n (table_at job s)
   pub gates : (s : ℕ) → s < length job.steps → file_in folder (checkpoint_gate s) ≡ no_file
 
--- the step's own file, where it makes a diagram
+-- the step's own file, where it makes a diagram, of a table whose canonical form is defined
 abbrev pub IsMade : Job → ℕ → Folder → Type 0
 IsMade job k folder = IsTrue (makes_diagram (step_at job k).step)
-    → file_in folder (node_file k) ≡ firm_file (file_of job k)
-
--- every file but the node file of a step is as it was
-abbrev pub OnlyNodeFile : ℕ → Folder → Folder → Type 0
-OnlyNodeFile step = OnlyChanges (λ q. q ≡ node_file step)
+    → (file_in folder (node_file k) ≡ firm_file (file_of job k)) × HasForm job.n (table_at job k)
 
 -- each image of a folder is sound for the job
 abbrev pub AreSound : Job → Folder → Type 0

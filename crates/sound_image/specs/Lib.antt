@@ -3,3 +3,4 @@ pub mod Jobs
 pub mod Entries
 pub mod Sound
 pub mod Holds
+pub mod Steps

@@ -8,16 +8,19 @@ use Rattle.catalogue.specs.Files.{job_file, step_gate}
 use Rattle.catalogue.specs.Counts.{is_stored, count_in, entry_at}
 use Rattle.catalogue.specs.Entries.{entry_bytes}
 use Rattle.sound_image.specs.Files.{node_file, checkpoint_gate}
-use Rattle.sound_image.specs.Jobs.{Job, file_of}
+use Rattle.canon_file.specs.Laws.{HasForm}
+use Rattle.sound_image.specs.Jobs.{Job, table_at, file_of}
 use Rattle.sound_image.specs.Entries.{IsEntryOfStep}
 
--- the job is stored, each committed step has its entry, and each diagram that is live then has its canonical file
+-- the job is stored, each committed step has its entry, and each diagram that is live then has its canonical file,
+-- which is defined for its table
 pub record ShowsSteps (job : Job) (r : FileNo → List ℕ) : Type 0 where
   pub stored : IsTrue (is_stored r)
   pub job_is : r job_file ≡ job.bytes
   pub few : count_in r ≤ length job.steps
   pub entries : (k : ℕ) → k < count_in r → (e : Entry) × IsEntryOfStep job k e × (entry_at k r ≡ entry_bytes e)
   pub files : (s : ℕ) → IsTrue (is_live (take (count_in r) job.steps) s) → r (node_file s) ≡ file_of job s
+  pub forms : (s : ℕ) → IsTrue (is_live (take (count_in r) job.steps) s) → HasForm job.n (table_at job s)
 
 -- no job is stored and no step is counted, or the job's committed steps are shown
 abbrev pub IsShown : Job → (FileNo → List ℕ) → Type 0

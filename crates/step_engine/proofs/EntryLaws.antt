@@ -1,5 +1,5 @@
 -- The entries that are made are those of their steps.
-use Rattle.std.proofs.Common.{◌≡◌, ◌∙◌, ℕ, zero, suc, ◌+◌, ◌-◌, ◌^◌, ◌<◌, ◌≤◌, true, false, cond, ◌&&◌, nat_le, nat_lt, List, [], ◌∷◌, ◌++◌, length, take, drop, get_or, replicate, refl, sym, ap, ap₂, subst, inl, inr, arith, length-append}
+use Rattle.std.proofs.Common.{◌≡◌, ◌∙◌, ◌⊎◌, ℕ, zero, suc, ◌+◌, ◌-◌, ◌/◌, ◌^◌, Bool, ◌<◌, ◌≤◌, true, false, cond, ◌&&◌, nat_le, nat_lt, List, [], ◌∷◌, ◌++◌, length, take, drop, get_or, replicate, refl, sym, ap, ap₂, subst, inl, inr, arith, length-append}
 use Rattle.std.specs.Prelude.{IsTrue, All, not, Result, Ok, Err, IfErr}
 use Rattle.std.specs.Result.{IsErrAnd}
 use Rattle.std.specs.List.{list_all, list_any}
@@ -18,10 +18,11 @@ use Rattle.catalogue.specs.declared.layout.Entry.{Entry}
 use Rattle.catalogue.specs.Counts.{present}
 use Rattle.catalogue.specs.Entries.{IsEntry, IsEntryOf}
 use Rattle.sound_image.specs.Jobs.{Job, no_step, step_at, nodes_at}
-use Rattle.sound_image.specs.Entries.{IsEntryOfStep, kind_of, answer_of, count_of, name_of, work_of}
+use Rattle.sound_image.specs.Entries.{IsEntryOfStep, kind_of, answer_of, bit_of, count_of, name_of, work_of}
 use Rattle.sound_image.specs.Holds.{Holds}
 use Rattle.sound_image.proofs.EntryLaws.{entry_stands, held_entry}
-use Rattle.step_engine.specs.StepEntries.{diagram_entry, nameless_entry, IsEntryFor}
+use Rattle.step_engine.specs.declared.entries.Spent.{Spent}
+use Rattle.step_engine.specs.StepEntries.{diagram_entry, nameless_entry, one_turn, IsEntryFor}
 use Rattle.step_engine.specs.StepFaults.{IsKindFault}
 use Rattle.step_engine.proofs.PlanLaws.{first_true, second_true, follows_at, operands_live}
 
@@ -34,12 +35,28 @@ all_zero n = All-replicate (λ (b : ℕ). b ≡ 0) n 0 refl
 filled : (n : ℕ) → n ≤ 63 → n + (63 - n) ≡ 63
 filled n h = omega arith
 
-one_turn : (job : Job) (step : Step) → (◌≤◌ 1 1) × (1 ≤ work_of job step)
-one_turn job step = (omega arith, omega arith)
+-- what a step took fits its places
+pub record IsSpent (spent : Spent) : Type 0 where
+  pub some : 1 ≤ spent.turns
+  pub turns : spent.turns < 2 ^ 64
+  pub from : 3 ≤ spent.parts
+  pub parts : spent.parts ≤ 2 ^ 32
+  pub few : spent.parts ≤ 1024 + spent.turns / 16
+
+-- one turn and no part do
+pub one_turn_spent : IsSpent one_turn
+one_turn_spent = record {
+  some = omega arith;
+  turns = omega arith;
+  from = omega arith;
+  parts = omega arith;
+  few = omega arith;
+}
 
 -- the fields of a diagram's entry fit their places
-pub diagram_fits : (k nodes : ℕ) (text : List ℕ) (p : Planned) → k < 1048576 → IsTrue (has_name text p) → nodes < 2 ^ 64 → IsEntry (diagram_entry text p k nodes)
-diagram_fits k nodes text p few named small =
+pub diagram_fits : (k nodes : ℕ) (spent : Spent) (text : List ℕ) (p : Planned) → k < 1048576 → IsTrue (has_name text p) → nodes < 2 ^ 64 → IsSpent spent
+    → IsEntry (diagram_entry text p k nodes spent)
+diagram_fits k nodes spent text p few named small took =
     let within : p.name_at + p.name_len ≤ length text = from_le (p.name_at + p.name_len) (length text) (first_true (nat_le (p.name_at + p.name_len) (length text)) (nat_le p.name_len 63) named) in
     let short : p.name_len ≤ 63 = from_le p.name_len 63 (second_true (nat_le (p.name_at + p.name_len) (length text)) (nat_le p.name_len 63) named) in
     let name : List ℕ = take p.name_len (drop p.name_at text) in
@@ -48,8 +65,8 @@ diagram_fits k nodes text p few named small =
       fits = record {
         number = omega (arith, few);
         count = small;
-        turns = omega arith;
-        parts = omega arith;
+        turns = took.turns;
+        parts = let most = took.parts in omega (arith, most);
         name = length-append name (replicate (63 - p.name_len) 0) ∙ ap₂ (λ a b. a + b) size (length-replicate (63 - p.name_len) 0) ∙ filled p.name_len short;
       };
       layout = record {
@@ -57,71 +74,93 @@ diagram_fits k nodes text p few named small =
         answer = inl refl;
         named = inr (short, refl);
         padded = subst (λ xs. All (λ (b : ℕ). b ≡ 0) xs) (sym (drop_at name (replicate (63 - p.name_len) 0) p.name_len size)) (all_zero (63 - p.name_len));
-        worked = omega arith;
+        worked = took.some;
       };
     }
 
 -- and those of the entry of a drop or an answer
-pub nameless_fits : (k kind count : ℕ) → k < 1048576 → (1 ≤ kind) × (kind ≤ 3) → count < 2 ^ 64 → IsEntry (nameless_entry k kind count)
-nameless_fits k kind count few kinds small = record {
-  fits = record { number = omega (arith, few); count = small; turns = omega arith; parts = omega arith; name = length-replicate {A = ℕ} 63 0 };
+pub nameless_fits : (k kind answer count : ℕ) (spent : Spent) → k < 1048576 → (1 ≤ kind) × (kind ≤ 3)
+    → (answer ≡ 0) ⊎ ((answer ≡ 1) × (kind ≡ 3) × (count ≡ 0)) → count < 2 ^ 64 → IsSpent spent
+    → IsEntry (nameless_entry k kind answer count spent)
+nameless_fits k kind answer count spent few kinds says small took = record {
+  fits = record {
+    number = omega (arith, few);
+    count = small;
+    turns = took.turns;
+    parts = let most = took.parts in omega (arith, most);
+    name = length-replicate {A = ℕ} 63 0;
+  };
   layout = record {
     kind = kinds;
-    answer = inl refl;
+    answer = says;
     named = inl refl;
     padded = all_zero 63;
-    worked = omega arith;
+    worked = took.some;
   };
 }
 
--- the entries that can be committed for their steps
-pub for_diagram : (k nodes : ℕ) (text : List ℕ) (p : Planned) (e : Entry) → e ≡ diagram_entry text p k nodes → k < 1048576 → IsTrue (has_name text p) → nodes < 2 ^ 64 → kind_of p.step ≡ 1
-    → IsEntryFor p.step k e
-for_diagram k nodes text p e e_is few named small kind =
-    subst (IsEntryFor p.step k) (sym e_is) (record { entry_is = diagram_fits k nodes text p few named small; number_is = refl; kind_is = sym kind })
+-- an answer is 0 or 1
+pub bit_says : (b : Bool) → (bit_of b ≡ 0) ⊎ ((bit_of b ≡ 1) × (◌≡◌ {A = ℕ} 3 3) × (◌≡◌ {A = ℕ} 0 0))
+bit_says true = inr (refl, refl, refl)
+bit_says false = inl refl
 
-pub for_nameless : (k kind count : ℕ) (p : Planned) (e : Entry) → e ≡ nameless_entry k kind count → k < 1048576 → (1 ≤ kind) × (kind ≤ 3) → count < 2 ^ 64 → kind_of p.step ≡ kind
+-- the entries that can be committed for their steps
+pub for_diagram : (k nodes : ℕ) (spent : Spent) (text : List ℕ) (p : Planned) (e : Entry) → e ≡ diagram_entry text p k nodes spent → k < 1048576
+    → IsTrue (has_name text p) → nodes < 2 ^ 64 → IsSpent spent → kind_of p.step ≡ 1 → IsEntryFor p.step k e
+for_diagram k nodes spent text p e e_is few named small took kind =
+    subst (IsEntryFor p.step k) (sym e_is)
+    (record { entry_is = diagram_fits k nodes spent text p few named small took; number_is = refl; kind_is = sym kind })
+
+pub for_nameless : (k kind answer count : ℕ) (spent : Spent) (p : Planned) (e : Entry) → e ≡ nameless_entry k kind answer count spent → k < 1048576
+    → (1 ≤ kind) × (kind ≤ 3) → (answer ≡ 0) ⊎ ((answer ≡ 1) × (kind ≡ 3) × (count ≡ 0)) → count < 2 ^ 64 → IsSpent spent → kind_of p.step ≡ kind
     → IsEntryFor p.step k e
-for_nameless k kind count p e e_is few kinds small kind_is =
-    subst (IsEntryFor p.step k) (sym e_is) (record { entry_is = nameless_fits k kind count few kinds small; number_is = refl; kind_is = sym kind_is })
+for_nameless k kind answer count spent p e e_is few kinds says small took kind_is =
+    subst (IsEntryFor p.step k) (sym e_is)
+    (record { entry_is = nameless_fits k kind answer count spent few kinds says small took; number_is = refl; kind_is = sym kind_is })
+
+-- a turn is within the work of each step
+pub one_within : (job : Job) (step : Step) → 1 ≤ work_of job step
+one_within job step = omega arith
 
 -- a diagram's entry
-pub diagram_entry_is : (job : Job) (k nodes : ℕ) (text : List ℕ) (p : Planned) → k < 1048576 → IsTrue (has_name text p) → job.text ≡ text → step_at job k ≡ p
+pub diagram_entry_is : (job : Job) (k nodes : ℕ) (spent : Spent) (text : List ℕ) (p : Planned) → k < 1048576 → IsTrue (has_name text p) → job.text ≡ text → step_at job k ≡ p
     → kind_of p.step ≡ 1 → makes_diagram p.step ≡ true → answer_of job p.step ≡ 0 → count_of job k p.step ≡ nodes → nodes < 2 ^ 64
-    → IsEntryOfStep job k (diagram_entry text p k nodes)
-diagram_entry_is job k nodes text p few named text_is p_is kind diagram answer count small =
+    → IsSpent spent → spent.turns ≤ work_of job p.step → IsEntryOfStep job k (diagram_entry text p k nodes spent)
+diagram_entry_is job k nodes spent text p few named text_is p_is kind diagram answer count small took within_work =
     let within : p.name_at + p.name_len ≤ length text = from_le (p.name_at + p.name_len) (length text) (first_true (nat_le (p.name_at + p.name_len) (length text)) (nat_le p.name_len 63) named) in
     let name : List ℕ = take p.name_len (drop p.name_at text) in
     let size : length name ≡ p.name_len = length-take-le p.name_len (drop p.name_at text) (omega (arith, length-drop p.name_at text, within)) in
     let name_is : name_of job (step_at job k) ≡ name =
     ap (name_of job) p_is ∙ ap (λ b. cond b (take p.name_len (drop p.name_at job.text)) []) diagram ∙ ap (λ t. take p.name_len (drop p.name_at t)) text_is in
     record {
-      entry_is = diagram_fits k nodes text p few named small;
+      entry_is = diagram_fits k nodes spent text p few named small took;
       number_is = refl;
       kind_is = sym kind ∙ ap (λ (q : Planned). kind_of q.step) (sym p_is);
       answer_is = sym answer ∙ ap (λ (q : Planned). answer_of job q.step) (sym p_is);
       count_is = sym count ∙ ap (λ (q : Planned). count_of job k q.step) (sym p_is);
       name_len_is = sym size ∙ ap length (sym name_is);
       name_is = ap₂ (λ a b. a ++ replicate (63 - b) 0) (sym name_is) (sym size ∙ ap length (sym name_is));
-      turns_are = (omega arith, omega arith);
-      parts_are = (omega arith, omega arith);
+      turns_are = (took.some, subst (λ (q : Planned). spent.turns ≤ work_of job q.step) (sym p_is) within_work);
+      parts_are = (took.from, took.parts, took.few);
     }
 
 -- the entry of a drop or an answer
-pub nameless_entry_is : (job : Job) (k kind count : ℕ) (p : Planned) → k < 1048576 → step_at job k ≡ p → kind_of p.step ≡ kind → (1 ≤ kind) × (kind ≤ 3)
-    → makes_diagram p.step ≡ false → answer_of job p.step ≡ 0 → count_of job k p.step ≡ count → count < 2 ^ 64 → IsEntryOfStep job k (nameless_entry k kind count)
-nameless_entry_is job k kind count p few p_is kind_is kinds diagram answer count_is small =
+pub nameless_entry_is : (job : Job) (k kind answer count : ℕ) (spent : Spent) (p : Planned) → k < 1048576 → step_at job k ≡ p → kind_of p.step ≡ kind
+    → (1 ≤ kind) × (kind ≤ 3) → (answer ≡ 0) ⊎ ((answer ≡ 1) × (kind ≡ 3) × (count ≡ 0))
+    → makes_diagram p.step ≡ false → answer_of job p.step ≡ answer → count_of job k p.step ≡ count → count < 2 ^ 64
+    → IsSpent spent → spent.turns ≤ work_of job p.step → IsEntryOfStep job k (nameless_entry k kind answer count spent)
+nameless_entry_is job k kind answer count spent p few p_is kind_is kinds says diagram answer_is count_is small took within_work =
     let none : name_of job (step_at job k) ≡ [] = ap (name_of job) p_is ∙ ap (λ b. cond b (take p.name_len (drop p.name_at job.text)) []) diagram in
     record {
-      entry_is = nameless_fits k kind count few kinds small;
+      entry_is = nameless_fits k kind answer count spent few kinds says small took;
       number_is = refl;
       kind_is = sym kind_is ∙ ap (λ (q : Planned). kind_of q.step) (sym p_is);
-      answer_is = sym answer ∙ ap (λ (q : Planned). answer_of job q.step) (sym p_is);
+      answer_is = sym answer_is ∙ ap (λ (q : Planned). answer_of job q.step) (sym p_is);
       count_is = sym count_is ∙ ap (λ (q : Planned). count_of job k q.step) (sym p_is);
       name_len_is = ap length (sym none);
       name_is = ap (λ name. name ++ replicate (63 - length name) 0) (sym none);
-      turns_are = (omega arith, omega arith);
-      parts_are = (omega arith, omega arith);
+      turns_are = (took.some, subst (λ (q : Planned). spent.turns ≤ work_of job q.step) (sym p_is) within_work);
+      parts_are = (took.from, took.parts, took.few);
     }
 
 -- an entry of the kind of diagrams counts nodes
@@ -153,12 +192,13 @@ diagram_kind (Size operand) h = cc
 
 -- the entry of a size counts the nodes that its operand's entry counts
 pub size_entry_is : (job : Job) (k operand : ℕ) (p : Planned) (e : Entry) (folder : Folder) → k < 1048576 → step_at job k ≡ p → p.step ≡ Size operand → operand < k
-    → Holds job k folder → IsEntryOf operand (present folder) e → e.kind ≡ 1 → IsEntryOfStep job k (nameless_entry k 3 e.count)
+    → Holds job k folder → IsEntryOf operand (present folder) e → e.kind ≡ 1 → IsEntryOfStep job k (nameless_entry k 3 0 e.count one_turn)
 size_entry_is job k operand p e folder few p_is size below holds is kind =
     let of_step : IsEntryOfStep job operand e = held_entry job k operand folder e holds below is in
     let counts : count_of job k p.step ≡ e.count =
     ap (count_of job k) size ∙ sym (of_step.count_is ∙ diagram_count job operand (step_at job operand).step (sym of_step.kind_is ∙ kind)) in
-    nameless_entry_is job k 3 e.count p few p_is (ap kind_of size) (omega arith, omega arith) (ap makes_diagram size) (ap (answer_of job) size) counts is.entry.fits.count
+    nameless_entry_is job k 3 0 e.count one_turn p few p_is (ap kind_of size) (omega arith, omega arith) (inl refl) (ap makes_diagram size)
+    (ap (answer_of job) size) counts is.entry.fits.count one_turn_spent (one_within job p.step)
 
 -- a step of a list that makes a diagram
 diagram_made : (steps : List Planned) (j : ℕ) (d : Planned) → IsTrue (is_diagram steps j) → IsTrue (makes_diagram (get_or steps j d).step)

@@ -6,7 +6,7 @@ use Rattle.std.proofs.lemmas.List.{append-nil}
 use Rattle.bool_tables.specs.declared.steps.Planned.{Planned}
 use Rattle.bool_tables.specs.Plans.{IsWellFormed, all_may_follow, may_follow, is_live, operands, levels_of, has_bits, has_name}
 use Rattle.sound_image.proofs.Live.{live_below}
-use Rattle.step_engine.specs.Simple.{takes_one_turn, MayRun}
+use Rattle.step_engine.specs.Simple.{MayRun}
 
 -- each of two tests that hold together holds
 pub first_true : (a b : Bool) → IsTrue (a && b) → IsTrue a
@@ -48,6 +48,11 @@ name_stands n text before p follows =
     second_true (has_bits n text p.step) (has_name text p)
     (second_true (list_all (is_live before) (operands p.step) && list_all (λ level. nat_lt level n) (levels_of p.step)) (has_bits n text p.step && has_name text p) follows)
 
+pub bits_stand : (n : ℕ) (text : List ℕ) (before : List Planned) (p : Planned) → IsTrue (may_follow n text before p) → IsTrue (has_bits n text p.step)
+bits_stand n text before p follows =
+    first_true (has_bits n text p.step) (has_name text p)
+    (second_true (list_all (is_live before) (operands p.step) && list_all (λ level. nat_lt level n) (levels_of p.step)) (has_bits n text p.step && has_name text p) follows)
+
 -- live diagrams are earlier steps
 live_earlier : (steps : List Planned) (k : ℕ) (xs : List ℕ) → IsTrue (list_all (is_live (take k steps)) xs) → IsTrue (list_all (λ x. nat_lt x k) xs)
 live_earlier steps k [] live = refl
@@ -63,16 +68,15 @@ live_earlier steps k (x ∷ xs) live =
     below : (a b : ℕ) → a < b → IsTrue (nat_lt a b)
     below a b h = search (arith, h)
 
--- a step of a well-formed plan that takes one turn may be run
-pub may_run : (n : ℕ) (text : List ℕ) (steps : List Planned) (k : ℕ) (d : Planned) → k < length steps → IsWellFormed n text steps → IsTrue (takes_one_turn (get_or steps k d).step)
-    → MayRun n text k (get_or steps k d)
-may_run n text steps k d within plan simple =
+-- a step of a well-formed plan may be run
+pub may_run : (n : ℕ) (text : List ℕ) (steps : List Planned) (k : ℕ) (d : Planned) → k < length steps → IsWellFormed n text steps → MayRun n text k (get_or steps k d)
+may_run n text steps k d within plan =
     let follows : IsTrue (may_follow n text (take k steps) (get_or steps k d)) = follows_at n text steps k d within plan in
     record {
       few_variables = plan.few_variables;
       few_steps = let few = plan.few_steps in omega (arith, few, within);
-      simple = simple;
       operands_are = live_earlier steps k (operands (get_or steps k d).step) (operands_live n text (take k steps) (get_or steps k d) follows);
       levels_are = levels_below n text (take k steps) (get_or steps k d) follows;
+      bits_are = bits_stand n text (take k steps) (get_or steps k d) follows;
       named = name_stands n text (take k steps) (get_or steps k d) follows;
     }

@@ -2,3 +2,5 @@ pub mod Simple
 pub mod StepEntries
 pub mod StepFaults
 pub mod OneFile
+pub mod Sweeping
+pub mod Running

@@ -1,5 +1,5 @@
 -- Why a step can't be run.
-use Rattle.std.specs.Prelude.{◌≡◌, ◌≢◌, ℕ, ◌*◌, ◌≤◌, List, Result, IsErrOf}
+use Rattle.std.specs.Prelude.{◌≡◌, ◌≢◌, ◌⊎◌, ℕ, ◌*◌, ◌^◌, ◌≤◌, List, [], ◌∷◌, IsTrue, Result, IsErrOf}
 use Rattle.bool_tables.specs.declared.steps.Step.{Step}
 use Rattle.bool_tables.specs.declared.steps.Step.TheVariants.{Const, Var, Pair, Ite, Quantify, Restrict, Drop, Same, Leq, Eval, Size}
 use Rattle.shelf_model.specs.declared.file_no.FileNo.{FileNo}
@@ -8,10 +8,16 @@ use Rattle.shelf_model.specs.declared.fault.StreamFault.TheVariants as stream
 use Rattle.shelf_model.specs.declared.sort_fault.SortFault.{SortFault}
 use Rattle.shelf_model.specs.declared.sort_fault.SortFault.TheVariants as sort
 use Rattle.shelf_model.specs.Faults.{Faults, Rose}
+use Rattle.shelf_model.specs.World.{World, now}
 use Rattle.shelf_model.specs.SortFaults.{handed_on}
 use Rattle.catalogue.specs.declared.layout.Entry.{Entry}
+use Rattle.catalogue.specs.Counts.{present}
 use Rattle.catalogue.specs.Files.{catalogue}
 use Rattle.catalogue.specs.Entries.{IsEntryOf}
+use Rattle.step_work.specs.Tuples.{joins, sweeps}
+use Rattle.sweep_core.specs.Accounts.{CanBeTaken}
+use Rattle.step_sweeps.specs.Damage.{IsDamagedFile}
+use Rattle.sound_image.specs.Files.{node_file}
 
 -- the entry of step k is damaged where no entry of that step and of that kind stands whole at its place
 abbrev pub IsKindFault : ℕ → ℕ → (FileNo → List ℕ) → StreamFault → Type 0
@@ -19,25 +25,45 @@ IsKindFault k kind r stream.Shelf = Unit
 IsKindFault k kind r (stream.Damaged f at) = (f ≡ catalogue) × (at ≡ 128 * k)
     × ((e : Entry) → IsEntryOf k r e → e.kind ≢ kind)
 
--- a size finds the entry of its diagram damaged, and for any other step a call of the folder failed
-abbrev pub IsStepFault : Step → (FileNo → List ℕ) → SortFault → Type 0
-IsStepFault (Const value) r fault = fault ≡ sort.Shelf
-IsStepFault (Var level) r fault = fault ≡ sort.Shelf
-IsStepFault (Pair op left right) r fault = fault ≡ sort.Shelf
-IsStepFault (Ite test if_one if_zero) r fault = fault ≡ sort.Shelf
-IsStepFault (Quantify kind operand level) r fault = fault ≡ sort.Shelf
-IsStepFault (Restrict operand level value) r fault = fault ≡ sort.Shelf
-IsStepFault (Drop gone) r fault = fault ≡ sort.Shelf
-IsStepFault (Same left right) r fault = fault ≡ sort.Shelf
-IsStepFault (Leq left right) r fault = fault ≡ sort.Shelf
-IsStepFault (Eval operand at) r fault = fault ≡ sort.Shelf
-IsStepFault (Size operand) r fault = (found : StreamFault) × (fault ≡ handed_on found) × IsKindFault operand 1 r found
+-- the node file of one of these steps is damaged for n variables
+abbrev pub IsDamagedAmong : ℕ → List ℕ → World → FileNo → ℕ → Type 0
+IsDamagedAmong n [] world f at = ⊥
+IsDamagedAmong n (k ∷ ks) world f at = IsDamagedFile n (node_file k) world f at ⊎ IsDamagedAmong n ks world f at
 
--- the folder failed, or a file of it is damaged
-abbrev pub IsOfFolder : SortFault → Type 0
-IsOfFolder sort.Shelf = Unit
-IsOfFolder (sort.Damaged f at) = Unit
-IsOfFolder sort.RunsSpent = ⊥
+-- a fault of a step that sweeps over these operands: a call of the folder failed; one of the operands is damaged, or a
+-- file that the step wrote itself; or it has no part number left, where it joins pieces
+abbrev pub IsSweepFault : ℕ → List ℕ → ℕ → World → SortFault → Type 0
+IsSweepFault n operands number world sort.Shelf = Unit
+IsSweepFault n operands number world (sort.Damaged f at) = IsDamagedAmong n operands world f at ⊎ CanBeTaken number 3 f
+IsSweepFault n operands number world sort.RunsSpent = Unit
+
+-- a size finds the entry of its diagram damaged, and where nothing is read a call of the folder failed
+abbrev pub IsStepFault : ℕ → Step → ℕ → World → SortFault → Type 0
+IsStepFault n (Const value) number world fault = fault ≡ sort.Shelf
+IsStepFault n (Var level) number world fault = fault ≡ sort.Shelf
+IsStepFault n (Pair op left right) number world fault = IsSweepFault n (left ∷ right ∷ []) number world fault
+IsStepFault n (Ite test if_one if_zero) number world fault =
+    IsSweepFault n (test ∷ if_one ∷ if_zero ∷ []) number world fault
+IsStepFault n (Quantify kind operand level) number world fault = IsSweepFault n (operand ∷ []) number world fault
+IsStepFault n (Restrict operand level value) number world fault = IsSweepFault n (operand ∷ []) number world fault
+IsStepFault n (Drop gone) number world fault = fault ≡ sort.Shelf
+IsStepFault n (Same left right) number world fault = IsSweepFault n (left ∷ right ∷ []) number world fault
+IsStepFault n (Leq left right) number world fault = IsSweepFault n (left ∷ right ∷ []) number world fault
+IsStepFault n (Eval operand at) number world fault = IsSweepFault n (operand ∷ []) number world fault
+IsStepFault n (Size operand) number world fault =
+    (found : StreamFault) × (fault ≡ handed_on found) × IsKindFault operand 1 (present (now world).folder) found
+
+-- where the folder holds the steps before: a call of it failed, or a step of much work has no part number left
+abbrev pub IsSoundFault : Step → ℕ → SortFault → Type 0
+IsSoundFault step work sort.Shelf = Unit
+IsSoundFault step work (sort.Damaged f at) = ⊥
+IsSoundFault step work sort.RunsSpent = IsTrue (joins step) × (2 ^ 35 ≤ work)
+
+-- only a step that joins pieces has no part number left
+abbrev pub IsOfKind : Step → SortFault → Type 0
+IsOfKind step sort.Shelf = Unit
+IsOfKind step (sort.Damaged f at) = Unit
+IsOfKind step sort.RunsSpent = IsTrue (joins step)
 
 -- a call answered Shelf only where the folder's count rose, and no other count changed
 pub record OnlyStep {T : Type 0} (old new : Faults) (result : Result T SortFault) : Type 0 where

@@ -1,33 +1,55 @@
-ghost use Rattle.std.specs.Prelude.{◌≡◌, ℕ, ◌+◌, ◌≤◌, IsTrue, OnOk, []};
+//! What a committed step leaves behind.
+ghost use Rattle.std.specs.Prelude.{◌≡◌, ℕ, ◌+◌, ◌≤◌, IsTrue, cond, OnOk, []};
 ghost use Rattle.bool_tables.specs.declared.steps.Step.TheVariants as variants;
+ghost use Rattle.shelf_model.specs.declared.file_no.FileNo.{FileNo};
 ghost use Rattle.shelf_model.specs.World.{now, file};
 ghost use Rattle.shelf_model.specs.Calls.{Told};
 ghost use Rattle.shelf_model.specs.Moments.{Ran};
 ghost use Rattle.shelf_model.specs.Faults.{OnlyFolder};
+ghost use Rattle.step_work.specs.Tuples.{sweeps};
 ghost use Rattle.sound_image.specs.Files.{node_file};
-ghost use Rattle.step_engine.specs.OneFile.{OnlyDropped};
+ghost use Rattle.sound_image.specs.Steps.{IsBehind};
+ghost use Rattle.step_engine.specs.OneFile.{OnlyTidied};
 
+use crate::sweeping::node_file;
 use bool_tables::{Planned, Step};
+use catalogue::Entry;
 use shelf_model::{Failed, FileNo, Shelf};
 
-/// Empties the file of the diagram that a step drops, once the step is committed.
-pub fn tidy<S: Shelf>(planned: &Planned, shelf: &mut S) -> Result<(), Failed>
+/// Empties what a step leaves behind, once it is committed: the file of the diagram that it drops, or, where it swept,
+/// its checkpoints, their gate and its two files of arcs, which are its parts 1 to 4. Its runs may remain.
+pub fn tidy<S: Shelf>(planned: &Planned, entry: &Entry, shelf: &mut S) -> Result<(), Failed>
     ensures content { Told S.tells shelf.old shelf.new
-        (Ran (OnlyDropped planned.now.step (now (S.world shelf.old))) (S.world shelf.old) (S.world shelf.new)) }
+        (Ran (OnlyTidied planned.now.step entry.now.number (now (S.world shelf.old)))
+        (S.world shelf.old) (S.world shelf.new)) }
     ensures calls { IsTrue (S.tells shelf.new)
-        → (S.world shelf.new).clock ≤ (S.world shelf.old).clock + 1 }
+        → (S.world shelf.new).clock ≤ (S.world shelf.old).clock + cond (sweeps planned.now.step) 4 1 }
     ensures empty { OnOk result (IsTrue (S.tells shelf.new) → (gone : ℕ) → planned.now.step ≡ variants.Drop gone →
         (file (S.world shelf.new) (node_file gone)).bytes ≡ []) }
+    ensures behind { OnOk result (IsTrue (S.tells shelf.new) → IsTrue (sweeps planned.now.step) → (f : FileNo) →
+        IsBehind entry.now.number f → (file (S.world shelf.new) f).bytes ≡ []) }
     ensures faults { OnlyFolder (S.faults shelf.old) (S.faults shelf.new) result }
 {
     match planned.step {
-        Step::Drop { gone } => shelf.cut(
-            FileNo {
-                step: gone,
-                part: 0,
-            },
-            0,
-        ),
-        _ => Ok(()),
+        Step::Drop { gone } => shelf.cut(node_file(gone), 0),
+        Step::Const { .. } | Step::Var { .. } | Step::Size { .. } => Ok(()),
+        _ => empty_parts(planned.step, entry.number, shelf),
     }
+}
+
+/// Empties parts 1 to 4 of a step that swept.
+fn empty_parts<S: Shelf>(step: Step, number: u32, shelf: &mut S) -> Result<(), Failed>
+    requires swept { IsTrue (sweeps step) }
+    ensures content { Told S.tells shelf.old shelf.new
+        (Ran (OnlyTidied step number (now (S.world shelf.old))) (S.world shelf.old) (S.world shelf.new)) }
+    ensures calls { IsTrue (S.tells shelf.new)
+        → (S.world shelf.new).clock ≤ (S.world shelf.old).clock + 4 }
+    ensures behind { OnOk result (IsTrue (S.tells shelf.new) → (f : FileNo) →
+        IsBehind number f → (file (S.world shelf.new) f).bytes ≡ []) }
+    ensures faults { OnlyFolder (S.faults shelf.old) (S.faults shelf.new) result }
+{
+    for part in 1..5u64 {
+        shelf.cut(FileNo { step: number, part }, 0)?;
+    }
+    Ok(())
 }

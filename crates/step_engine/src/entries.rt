@@ -1,19 +1,33 @@
-//! The entries of steps that took one turn.
+//! The entries of steps.
 ghost use Rattle.std.specs.Prelude.{◌≡◌, IsTrue};
 ghost use Rattle.bool_tables.specs.Plans.{has_name};
-ghost use Rattle.step_engine.specs.StepEntries.{diagram_entry, nameless_entry};
+ghost use Rattle.step_engine.specs.StepEntries.{diagram_entry, nameless_entry, answer_entry};
 
 use bool_tables::Planned;
 use catalogue::Entry;
 
-/// The next part number of a step that took none: the parts before it are the node file, the checkpoints and their
-/// gate.
-const FIRST_PART: u64 = 3;
+/// What a step took: its turns, and the next part number.
+#[derive(Clone, Copy, Debug, PartialEq, Eq)]
+pub(crate) struct Spent {
+    pub(crate) turns: u64,
+    pub(crate) parts: u64,
+}
+
+impl Spent {
+    /// One turn and no part. The parts before the third are the node file, the checkpoints and their gate.
+    pub(crate) const ONE_TURN: Spent = Spent { turns: 1, parts: 3 };
+}
 
 /// The entry of a diagram with so many nodes.
-pub(crate) fn diagram_entry(text: &[u8], planned: &Planned, number: u32, nodes: u64) -> Entry
+pub(crate) fn diagram_entry(
+    text: &[u8],
+    planned: &Planned,
+    number: u32,
+    nodes: u64,
+    spent: Spent,
+) -> Entry
     requires named { IsTrue (has_name text.now planned.now) }
-    ensures { result ≡ diagram_entry text.now planned.now number nodes }
+    ensures { result ≡ diagram_entry text.now planned.now number nodes spent }
 {
     let at = planned.name_at as usize;
     let len = planned.name_len as usize;
@@ -24,24 +38,40 @@ pub(crate) fn diagram_entry(text: &[u8], planned: &Planned, number: u32, nodes: 
         kind: 1,
         answer: 0,
         count: nodes,
-        turns: 1,
-        parts: FIRST_PART,
+        turns: spent.turns,
+        parts: spent.parts,
         name_len: planned.name_len as u8,
         name,
     }
 }
 
-/// The entry of a drop or an answer, with what it counts.
+/// The entry of a drop or a size, with what it counts.
 pub(crate) fn nameless_entry(number: u32, kind: u8, count: u64) -> Entry
-    ensures { result ≡ nameless_entry number kind count }
+    ensures { result ≡ nameless_entry number kind 0 count Spent.ONE_TURN }
 {
     Entry {
         number,
         kind,
         answer: 0,
         count,
-        turns: 1,
-        parts: FIRST_PART,
+        turns: Spent::ONE_TURN.turns,
+        parts: Spent::ONE_TURN.parts,
+        name_len: 0,
+        name: [0; 63],
+    }
+}
+
+/// The entry of a yes or a no, or of a value.
+pub(crate) fn answer_entry(number: u32, answer: bool, spent: Spent) -> Entry
+    ensures { result ≡ answer_entry number answer spent }
+{
+    Entry {
+        number,
+        kind: 3,
+        answer: u8::from(answer),
+        count: 0,
+        turns: spent.turns,
+        parts: spent.parts,
         name_len: 0,
         name: [0; 63],
     }

@@ -6,7 +6,9 @@ mod diagrams;
 mod drops;
 mod entries;
 mod kinds;
+mod simple;
 mod step;
+mod sweeping;
 
 pub use drops::tidy;
 pub use kinds::{entry_of_kind, kind_of};

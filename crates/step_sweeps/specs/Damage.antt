@@ -43,3 +43,11 @@ abbrev pub IsReadFault : ℕ → FileNo → FileNo → World → SortFault → T
 IsReadFault n left right world Shelf = Unit
 IsReadFault n left right world (Damaged f at) = IsDamagedFile n left world f at ⊎ IsDamagedFile n right world f at
 IsReadFault n left right world RunsSpent = ⊥
+
+-- a fault of a step that answers whether one diagram implies another: that of an operand, or of a file of arcs that the
+-- step wrote itself
+abbrev pub IsImplicationFault : ℕ → FileNo → FileNo → ℕ → World → SortFault → Type 0
+IsImplicationFault n left right number world Shelf = Unit
+IsImplicationFault n left right number world (Damaged f at) =
+    IsDamagedFile n left world f at ⊎ (IsDamagedFile n right world f at ⊎ CanBeTaken number 3 f)
+IsImplicationFault n left right number world RunsSpent = Unit

@@ -1,8 +1,6 @@
 //! The steps that answer by reading diagrams.
-ghost use Rattle.std.specs.Prelude.{◌≡◌, ◌≢◌, ◌+◌, ◌*◌, ◌^◌, ◌-◌, ◌<◌, ◌≤◌, [], ◌∷◌, Bool, IsTrue, IsErrOf, List, IfOk, IfErr, length};
-ghost use Rattle.std.specs.List.{list_all};
+ghost use Rattle.std.specs.Prelude.{◌≢◌, ◌+◌, ◌*◌, ◌<◌, ◌≤◌, [], ◌∷◌, Bool, IsTrue, List, IfOk, IfErr, length};
 ghost use Rattle.bool_tables.specs.declared.steps.Step.TheVariants as steps;
-ghost use Rattle.bool_tables.specs.Plans.{is_bit};
 ghost use Rattle.bool_tables.specs.Steps.{eval_at};
 ghost use Rattle.bool_tables.specs.Tables.{same_bits};
 ghost use Rattle.shelf_model.specs.World.{now};
@@ -12,7 +10,7 @@ ghost use Rattle.run_tiers.specs.Faults.{OnlySortShelf};
 ghost use Rattle.step_work.specs.Works.{work_for};
 ghost use Rattle.sweep_core.specs.Sweeps.{IsNoDamage};
 ghost use Rattle.top_down_sweep.specs.Tasks.{IsCanonicalFile};
-ghost use Rattle.step_sweeps.specs.Made.{OnlyParts, IsAnswer, Called};
+ghost use Rattle.step_sweeps.specs.Made.{OnlyParts, IsAnswer, IsCounted, Called};
 ghost use Rattle.step_sweeps.specs.Damage.{IsReadFault};
 
 use rec_words::Rec;
@@ -24,11 +22,12 @@ use sweep_core::run_to_end;
 /// The next part number of a step that took none.
 const FIRST_PART: u64 = 3;
 
-/// What a step answers, and the turns that it took, as many as 64 bits count.
+/// What a step answers, the turns that it took, as many as 64 bits count, and the next part number of its step.
 #[derive(Clone, Copy, Debug, PartialEq, Eq)]
 pub struct Answered {
     pub answer: bool,
     pub turns: u64,
+    pub next: u64,
 }
 
 /// Whether the files of two diagrams of `n` variables are those of one function.
@@ -60,7 +59,8 @@ pub fn compare<S: Shelf>(
         IsReadFault n left right (S.world shelf.old) e) }
     ensures content { Told S.tells shelf.old shelf.new
         (Ran (OnlyParts number (now (S.world shelf.old))) (S.world shelf.old) (S.world shelf.new)) }
-    ensures counted { IfOk result (λ a. (0 < a.turns) × Called S.tells S.world a.turns 4 shelf.old shelf.new) }
+    ensures counted { IfOk result (λ a. IsCounted a.turns a.next) }
+    ensures calls { IfOk result (λ a. Called S.tells S.world a.turns 4 shelf.old shelf.new) }
     ensures kind { IfErr result (λ e. e ≢ SortFault.RunsSpent) }
     ensures faults { OnlySortShelf (S.faults shelf.old) (S.faults shelf.new) result }
 {
@@ -73,7 +73,11 @@ pub fn compare<S: Shelf>(
     let Some(answer) = sweep.answer() else {
         unreachable!();
     };
-    Ok(Answered { answer, turns })
+    Ok(Answered {
+        answer,
+        turns,
+        next: FIRST_PART,
+    })
 }
 
 /// The value of the diagram in a file at the assignment whose bits stand in a text: the `n` bytes from `at` on.
@@ -106,7 +110,8 @@ pub fn evaluate<S: Shelf>(
         IsReadFault n file file (S.world shelf.old) e) }
     ensures content { Told S.tells shelf.old shelf.new
         (Ran (OnlyParts number (now (S.world shelf.old))) (S.world shelf.old) (S.world shelf.new)) }
-    ensures counted { IfOk result (λ a. (0 < a.turns) × Called S.tells S.world a.turns 2 shelf.old shelf.new) }
+    ensures counted { IfOk result (λ a. IsCounted a.turns a.next) }
+    ensures calls { IfOk result (λ a. Called S.tells S.world a.turns 2 shelf.old shelf.new) }
     ensures kind { IfErr result (λ e. e ≢ SortFault.RunsSpent) }
     ensures faults { OnlySortShelf (S.faults shelf.old) (S.faults shelf.new) result }
 {
@@ -119,5 +124,9 @@ pub fn evaluate<S: Shelf>(
     let Some(answer) = sweep.answer() else {
         unreachable!();
     };
-    Ok(Answered { answer, turns })
+    Ok(Answered {
+        answer,
+        turns,
+        next: FIRST_PART,
+    })
 }

@@ -5,10 +5,13 @@
 mod answers;
 mod arcs;
 mod diagram;
+mod implication;
 mod laws;
+mod ones;
 mod operation;
 mod reduction;
 
 pub use answers::{Answered, compare, evaluate};
 pub use diagram::{MadeDiagram, make_diagram};
+pub use implication::imply;
 pub use operation::StepOperation;

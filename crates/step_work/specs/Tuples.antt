@@ -21,6 +21,20 @@ joins (Leq left right) = true
 joins (Eval operand at) = false
 joins (Size operand) = false
 
+-- the step reads its operands' diagrams node by node: it joins pieces, compares two diagrams or follows a path
+abbrev pub sweeps : Step → Bool
+sweeps (Const value) = false
+sweeps (Var level) = false
+sweeps (Pair op left right) = true
+sweeps (Ite test if_one if_zero) = true
+sweeps (Quantify kind operand level) = true
+sweeps (Restrict operand level value) = true
+sweeps (Drop gone) = false
+sweeps (Same left right) = true
+sweeps (Leq left right) = true
+sweeps (Eval operand at) = true
+sweeps (Size operand) = false
+
 -- the halves of a tuple's pieces in which the first variable has that value
 abbrev pub side_of : ℕ → Bool → List (List Bool) → List (List Bool)
 side_of h value pieces = map (half_where h value) pieces

@@ -1,7 +1,6 @@
 use Rattle.std.specs.Prelude.{None}
 use Rattle.script_reader.specs.Keywords.{built_words}
 use Rattle.script_reader.proofs.Kept.{plan_is_well_formed, plan_has_lines}
-use Rattle.script_reader.proofs.Built.{plan_is_built}
 use Rattle.script_reader.proofs.PlanReads.{one_plan, plan_or_refusal, text_is_short}
 use Rattle.script_reader.proofs.laws.one_plan.Goals as goal
 
@@ -19,6 +18,3 @@ returns-clause-well_formed c = λ text plan. plan_is_well_formed built_words Non
 
 pub returns-clause-lines : goal.returns-clause-lines
 returns-clause-lines c = λ text plan. plan_has_lines built_words None text plan tt
-
-pub returns-clause-built : goal.returns-clause-built
-returns-clause-built c = plan_is_built

@@ -1,0 +1,35 @@
+-- Which files a step changes while it is made, and while what it leaves behind is cut.
+use Rattle.std.specs.Prelude.{◌≡◌, ◌⊎◌, ℕ, ◌≤◌, IsTrue, []}
+use Rattle.bool_tables.specs.declared.steps.Step.{Step}
+use Rattle.bool_tables.specs.Plans.{drops}
+use Rattle.shelf_model.specs.declared.file_no.FileNo.{FileNo}
+use Rattle.shelf_model.specs.File.{no_file}
+use Rattle.shelf_model.specs.Folder.{Folder, file_in, OnlyChanges}
+use Rattle.step_work.specs.Tuples.{sweeps}
+use Rattle.sound_image.specs.Files.{node_file}
+
+-- the step's node file, its arcs and its runs
+pub record IsOwnFile (step : ℕ) (f : FileNo) : Type 0 where
+  pub step_is : f.step ≡ step
+  pub part_is : (f.part ≡ 0) ⊎ (3 ≤ f.part)
+
+-- every other file is as it was
+abbrev pub OnlyOwnFiles : ℕ → Folder → Folder → Type 0
+OnlyOwnFiles step = OnlyChanges (IsOwnFile step)
+
+-- the step's checkpoints, their gate and its two files of arcs
+pub record IsBehind (step : ℕ) (f : FileNo) : Type 0 where
+  pub step_is : f.step ≡ step
+  pub from : 1 ≤ f.part
+  pub until : f.part ≤ 4
+
+-- the file of the diagram that the step drops, or one of these where it sweeps
+abbrev pub IsCutBy : Step → ℕ → FileNo → Type 0
+IsCutBy step number f =
+    ((gone : ℕ) × IsTrue (drops gone step) × (f ≡ node_file gone)) ⊎ (IsTrue (sweeps step) × IsBehind number f)
+
+-- no other file changed; what was empty is empty, and what held no byte holds none
+pub record IsTidied (step : Step) (number : ℕ) (old new : Folder) : Type 0 where
+  pub only : OnlyChanges (IsCutBy step number) old new
+  pub empty : (f : FileNo) → file_in old f ≡ no_file → file_in new f ≡ no_file
+  pub stays : (f : FileNo) → (file_in old f).bytes ≡ [] → (file_in new f).bytes ≡ []

@@ -1,0 +1,17 @@
+//! Cases of the steps that sweep, over a folder in memory.
+#![tactic(auto)]
+
+#[cfg(test)]
+mod answers;
+#[cfg(test)]
+mod diagrams;
+#[cfg(test)]
+mod failing;
+#[cfg(test)]
+mod foreign;
+#[cfg(test)]
+mod random;
+#[cfg(test)]
+mod steps;
+#[cfg(test)]
+mod tables;

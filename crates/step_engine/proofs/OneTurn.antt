@@ -1,0 +1,185 @@
+-- The runs of steps that take one turn.
+use Rattle.std.proofs.Common.{◌≡◌, ◌∙◌, ◌⊎◌, ℕ, ◌+◌, ◌*◌, ◌^◌, ◌<◌, ◌≤◌, Bool, true, false, cond, nat_lt, List, [], ◌∷◌, refl, sym, ap, subst, inl, inr, arith}
+use Rattle.std.specs.Prelude.{IsTrue, Result, Ok, Err}
+use Rattle.std.specs.List.{list_all}
+use Rattle.bool_tables.specs.declared.steps.Step.{Step}
+use Rattle.bool_tables.specs.declared.steps.Step.TheVariants.{Const, Var, Drop, Size}
+use Rattle.bool_tables.specs.declared.steps.Planned.{Planned}
+use Rattle.bool_tables.specs.Plans.{operands, levels_of, makes_diagram}
+use Rattle.canon_file.specs.Canon.{canon_bytes}
+use Rattle.canon_file.specs.Constants.{const_table}
+use Rattle.canon_file.specs.Variables.{var_table}
+use Rattle.canon_file.specs.Laws.{HasForm}
+use Rattle.shelf_model.specs.declared.sort_fault.SortFault.{SortFault}
+use Rattle.shelf_model.specs.declared.sort_fault.SortFault.TheVariants as sort
+use Rattle.shelf_model.specs.declared.fault.StreamFault.{StreamFault}
+use Rattle.shelf_model.specs.declared.fault.StreamFault.TheVariants as stream
+use Rattle.shelf_model.specs.Calls.{Told}
+use Rattle.shelf_model.specs.Faults.{Faults, OnlyShelf}
+use Rattle.shelf_model.specs.File.{firm_file}
+use Rattle.shelf_model.specs.Moments.{Ran, Stays}
+use Rattle.shelf_model.proofs.Runs.{told_here, ran_stands}
+use Rattle.shelf_model.specs.SortFaults.{handed_on}
+use Rattle.shelf_model.specs.World.{World, now, file}
+use Rattle.catalogue.specs.declared.layout.Entry.{Entry}
+use Rattle.step_work.specs.Tuples.{sweeps}
+use Rattle.sound_image.specs.Files.{node_file}
+use Rattle.catalogue.specs.Counts.{present}
+use Rattle.sound_image.specs.Jobs.{Job, step_at, table_at, nodes_at, file_of}
+use Rattle.sound_image.specs.Entries.{IsEntryOfStep, kind_of, answer_of, count_of, work_of}
+use Rattle.sound_image.specs.Holds.{Holds}
+use Rattle.step_engine.specs.OneFile.{OnlyFile, OnlyMade}
+use Rattle.step_engine.specs.Running.{run_calls, IsReadyFor, RunsStep}
+use Rattle.step_engine.specs.Simple.{reads, MayRun, IsStepOf}
+use Rattle.step_engine.specs.StepEntries.{diagram_entry, nameless_entry, one_turn}
+use Rattle.step_engine.specs.StepFaults.{IsKindFault, IsStepFault, IsSoundFault, IsOfKind, OnlyStep}
+use Rattle.step_engine.proofs.EntryLaws.{for_diagram, for_nameless, diagram_entry_is, nameless_entry_is, one_turn_spent, one_within, place_step, size_is_sound}
+use Rattle.step_engine.proofs.TableLaws.{constant_nodes, variable_nodes, constant_is, variable_is, constant_form, variable_form}
+use Rattle.step_engine.proofs.Written.{made_only, changes_none}
+
+-- the calls of a step that takes one turn
+pub one_calls : (step : Step) (turns now_clock clock : ℕ) → sweeps step ≡ false → now_clock ≤ clock + 5 → now_clock ≤ clock + run_calls step turns
+one_calls step turns now_clock clock not few = subst (λ b. now_clock ≤ clock + cond b (224 * turns + 11) 5) (sym not) few
+
+-- a fault of the folder, as a stream hands it on
+pub shelf_faults : {A B : Type 0} (old new : Faults) (e : StreamFault) → OnlyShelf {T = A} old new (Err e) → OnlyStep {T = B} old new (Err (handed_on e))
+shelf_faults {A} {B} old new stream.Shelf only = record { later = only.later; cause = λ is. only.cause refl; say_is = only.say_is; text_is = only.text_is }
+shelf_faults {A} {B} old new (stream.Damaged f at) only = record { later = only.later; cause = λ is. cc; say_is = only.say_is; text_is = only.text_is }
+
+pub shelf_fine : {A B : Type 0} (old new : Faults) (x : A) (y : B) → OnlyShelf old new (Ok x) → OnlyStep old new (Ok y)
+shelf_fine old new x y only = record { later = only.later; cause = λ is. cc; say_is = only.say_is; text_is = only.text_is }
+
+-- what is known of a step that makes the diagram of a constant or of a variable, and which it is
+pub record IsSimple (n number : ℕ) (step : Step) (nodes : ℕ) (bytes : List ℕ) : Type 0 where
+  pub not_swept : sweeps step ≡ false
+  pub makes : makes_diagram step ≡ true
+  pub kind_is : kind_of step ≡ 1
+  pub no_answer : (job : Job) → answer_of job step ≡ 0
+  pub only_folder : (world : World) (e : SortFault) → e ≡ sort.Shelf → IsStepFault n step number world e
+  pub counts : (job : Job) (text : List ℕ) (p : Planned) → p.step ≡ step → IsStepOf job n text number p → count_of job number step ≡ nodes
+  pub bytes_are : (job : Job) (text : List ℕ) (p : Planned) → p.step ≡ step → IsStepOf job n text number p → bytes ≡ file_of job number
+  pub form : (job : Job) (text : List ℕ) (p : Planned) → p.step ≡ step → IsStepOf job n text number p → HasForm job.n (table_at job number)
+
+module _ {S : Type 0} (tells : S → Bool) (world : S → World) (counts : S → Faults) (n : ℕ) (text : List ℕ) (number : ℕ) (p : Planned)
+    (nodes : ℕ) (bytes : List ℕ) (simple : IsSimple n number p.step nodes bytes) (may : MayRun n text number p) (before after : S)
+    (content : Told tells before after (Ran (OnlyFile (node_file number) (now (world before))) (world before) (world after)))
+    (calls : IsTrue (tells after) → (world after).clock ≤ (world before).clock + 5) where
+  -- such a step that is refused
+  pub simple_refused : (e : SortFault) → e ≡ sort.Shelf → OnlyStep {T = Entry} (counts before) (counts after) (Err e)
+      → RunsStep tells world counts n text number p before after (Err e)
+  simple_refused e folder faults = record {
+    content = made_only tells world p.step number before after simple.makes content;
+    fits = tt;
+    entry = tt;
+    made = tt;
+    sound = λ told job is holds. subst (IsSoundFault p.step (work_of job p.step)) (sym folder) tt;
+    damaged = λ told. simple.only_folder (world before) e folder;
+    kind = subst (IsOfKind p.step) (sym folder) tt;
+    calls = tt;
+    one_turn = λ told not. calls told;
+    few_calls = λ told job is holds. one_calls p.step _ _ _ simple.not_swept (calls told);
+    faults = faults;
+  }
+
+  -- and one that made its diagram
+  pub simple_made : (count : ℕ) (e : Entry) → count ≡ nodes → nodes < 2 ^ 64 → e ≡ diagram_entry text p number count one_turn
+      → (IsTrue (tells after) → file (world after) (node_file number) ≡ firm_file bytes)
+      → OnlyStep (counts before) (counts after) (Ok e)
+      → RunsStep tells world counts n text number p before after (Ok e)
+  simple_made count e count_is small e_is made faults = record {
+    content = made_only tells world p.step number before after simple.makes content;
+    fits = for_diagram number count one_turn text p e e_is may.few_steps may.named (subst (λ k. k < 2 ^ 64) (sym count_is) small) one_turn_spent simple.kind_is;
+    entry = λ told job ready.
+        subst (IsEntryOfStep job number) (sym e_is)
+        (diagram_entry_is job number count one_turn text p may.few_steps may.named ready.step.text_is ready.step.step_is simple.kind_is simple.makes
+        (simple.no_answer job) (simple.counts job text p refl ready.step ∙ sym count_is) (subst (λ k. k < 2 ^ 64) (sym count_is) small) one_turn_spent
+        (one_within job p.step));
+    made = λ told job ready _. (made told ∙ ap firm_file (simple.bytes_are job text p refl ready.step), simple.form job text p refl ready.step);
+    sound = tt;
+    damaged = tt;
+    kind = tt;
+    calls = λ told exact. one_calls p.step _ _ _ simple.not_swept (calls told);
+    one_turn = λ told not. calls told;
+    few_calls = λ told job is holds. one_calls p.step _ _ _ simple.not_swept (calls told);
+    faults = faults;
+  }
+
+-- a constant, and a variable
+pub constant_simple : (n number : ℕ) (value : Bool) (step : Step) → n ≤ 65535 → step ≡ Const value
+    → IsSimple n number step 0 (canon_bytes n (const_table n value))
+constant_simple n number value step few step_is = subst (λ s. IsSimple n number s 0 (canon_bytes n (const_table n value))) (sym step_is) (record {
+  not_swept = refl;
+  makes = refl;
+  kind_is = refl;
+  no_answer = λ job. refl;
+  only_folder = λ world e is. is;
+  counts = λ job text p p_is is. constant_nodes job number value is.within (place_step job number p (Const value) is.step_is p_is);
+  bytes_are = λ job text p p_is is. constant_is job number n value is.n_is is.within (place_step job number p (Const value) is.step_is p_is);
+  form = λ job text p p_is is. constant_form job number value is.well_formed.few_variables is.within (place_step job number p (Const value) is.step_is p_is);
+})
+
+pub variable_simple : (n number level : ℕ) (step : Step) → n ≤ 65535 → level < n → step ≡ Var level
+    → IsSimple n number step 1 (canon_bytes n (var_table n level))
+variable_simple n number level step few below step_is = subst (λ s. IsSimple n number s 1 (canon_bytes n (var_table n level))) (sym step_is) (record {
+  not_swept = refl;
+  makes = refl;
+  kind_is = refl;
+  no_answer = λ job. refl;
+  only_folder = λ world e is. is;
+  counts = λ job text p p_is is.
+      variable_nodes job number level is.within (place_step job number p (Var level) is.step_is p_is) (subst (λ m. level < m) (sym is.n_is) below);
+  bytes_are = λ job text p p_is is. variable_is job number n level is.n_is is.within (place_step job number p (Var level) is.step_is p_is);
+  form = λ job text p p_is is.
+      variable_form job number level is.well_formed.few_variables is.within (place_step job number p (Var level) is.step_is p_is)
+      (subst (λ m. level < m) (sym is.n_is) below);
+})
+
+-- a size
+pub size_calls : (of : ℕ) (step : Step) → step ≡ Size of → (turns now_clock clock : ℕ) → now_clock ≤ clock + 1 → now_clock ≤ clock + run_calls step turns
+size_calls of step is turns now_clock clock few = one_calls step turns now_clock clock (ap sweeps is) (omega (arith, few))
+
+pub size_reads : (of : ℕ) (step : Step) → step ≡ Size of → IsTrue (reads step)
+size_reads of step is = subst (λ s. IsTrue (reads s)) (sym is) refl
+
+pub size_kind : (step : Step) (e : StreamFault) → IsOfKind step (handed_on e)
+size_kind step stream.Shelf = tt
+size_kind step (stream.Damaged f at) = tt
+
+pub size_fault : (n number of : ℕ) (step : Step) → step ≡ Size of → (world : World) (e : StreamFault) → IsKindFault of 1 (present (now world).folder) e
+    → IsStepFault n step number world (handed_on e)
+size_fault n number of step is world e fault = subst (λ s. IsStepFault n s number world (handed_on e)) (sym is) (e, refl, fault)
+
+pub size_sound : (job : Job) (n number of : ℕ) (text : List ℕ) (p : Planned) (e : StreamFault) (world : World) → p.step ≡ Size of → IsStepOf job n text number p
+    → of < number → Holds job number (now world).folder → IsKindFault of 1 (present (now world).folder) e
+    → IsSoundFault p.step (work_of job p.step) (handed_on e)
+size_sound job n number of text p e world size is below holds fault =
+    subst (λ x. IsSoundFault p.step (work_of job p.step) (handed_on x))
+    (sym (size_is_sound job number of p e (now world).folder is.within is.well_formed is.step_is size below holds fault)) tt
+
+pub size_makes : (job : Job) (n number of : ℕ) (text : List ℕ) (p : Planned) → p.step ≡ Size of → IsStepOf job n text number p
+    → IsTrue (makes_diagram (step_at job number).step) → ⊥
+size_makes job n number of text p size is diagram =
+    let not : makes_diagram (step_at job number).step ≡ false = ap makes_diagram (place_step job number p (Size of) is.step_is size) in cc
+
+-- a drop
+pub drop_runs : {S : Type 0} (tells : S → Bool) (world : S → World) (counts : S → Faults) (n : ℕ) (text : List ℕ) (number gone : ℕ) (p : Planned)
+    (s : S) (e : Entry) → p.step ≡ Drop gone → gone < number → MayRun n text number p → e ≡ nameless_entry number 2 0 gone one_turn
+    → RunsStep tells world counts n text number p s s (Ok e)
+drop_runs tells world counts n text number gone p s e drop below may e_is =
+    let small : gone < 2 ^ 64 = let few = may.few_steps in omega (arith, few, below) in
+    record {
+      content = changes_none tells world p.step number s s (told_here tells s _ (λ _. ran_stands (world s) (Stays (now (world s))) refl));
+      fits = for_nameless number 2 0 gone one_turn p e e_is may.few_steps (omega arith, omega arith) (inl refl) small one_turn_spent (ap kind_of drop);
+      entry = λ told job ready. subst (IsEntryOfStep job number) (sym e_is)
+          (nameless_entry_is job number 2 0 gone one_turn p may.few_steps ready.step.step_is (ap kind_of drop) (omega arith, omega arith) (inl refl)
+          (ap makes_diagram drop) (ap (answer_of job) drop) (ap (count_of job number) drop) small one_turn_spent (one_within job p.step));
+      made = λ told job ready diagram. absurd (
+          let not : makes_diagram (step_at job number).step ≡ false = ap makes_diagram (place_step job number p (Drop gone) ready.step.step_is drop) in cc);
+      sound = tt;
+      damaged = tt;
+      kind = tt;
+      calls = λ told exact. one_calls p.step _ _ _ (ap sweeps drop) (omega arith);
+      one_turn = λ told not. omega arith;
+      few_calls = λ told job is holds. one_calls p.step _ _ _ (ap sweeps drop) (omega arith);
+      faults = record { later = omega arith; cause = λ is. cc; say_is = refl; text_is = λ path. refl };
+    }

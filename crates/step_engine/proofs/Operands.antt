@@ -1,0 +1,216 @@
+-- What a step is given of the steps before it, where the folder holds them.
+use Rattle.std.proofs.Common.{◌≡◌, ◌∙◌, ℕ, ◌+◌, ◌*◌, ◌<◌, ◌≤◌, Bool, false, true, cond, List, [], ◌∷◌, length, map, take, get_or, refl, sym, ap, ap₂, subst, arith}
+use Rattle.std.specs.Prelude.{IsTrue, Option, Some, None, unwrap_or}
+use Rattle.std.specs.List.{list_all}
+use Rattle.bool_tables.specs.declared.steps.Step.{Step}
+use Rattle.bool_tables.specs.declared.steps.Step.TheVariants.{Const, Var, Pair, Ite, Quantify, Restrict, Drop, Same, Leq, Eval, Size}
+use Rattle.bool_tables.specs.declared.steps.Bin.{Bin}
+use Rattle.bool_tables.specs.declared.steps.Quant.{Quant}
+use Rattle.bool_tables.specs.declared.steps.Planned.{Planned}
+use Rattle.bool_tables.specs.Plans.{is_live, operands}
+use Rattle.bool_tables.specs.Steps.{step_table, step_value, table_of_step, op_value, quant_value}
+use Rattle.bool_tables.specs.Tables.{value_at, table_with, with_digit}
+use Rattle.canon_file.specs.Canon.{canon_nodes, canon_bytes}
+use Rattle.canon_file.specs.Laws.{HasForm}
+use Rattle.shelf_model.specs.File.{File}
+use Rattle.shelf_model.specs.World.{World, now}
+use Rattle.sound_image.specs.Files.{node_file}
+use Rattle.sound_image.specs.Jobs.{Job, step_at, table_at, nodes_at, file_of}
+use Rattle.sound_image.specs.Entries.{work_of}
+use Rattle.sound_image.specs.Holds.{Holds}
+use Rattle.sound_image.proofs.Live.{live_below}
+use Rattle.step_work.specs.Tuples.{tuple_count, joins}
+use Rattle.step_work.specs.Works.{work_for, nodes_of}
+use Rattle.step_work.proofs.SameTuples.{LeadAlike, same_count}
+use Rattle.top_down_sweep.specs.Tasks.{IsCanonicalFile}
+use Rattle.step_sweeps.specs.declared.operation.StepOperation.{StepOperation}
+use Rattle.step_sweeps.specs.declared.operation.StepOperation.TheVariants as operations
+use Rattle.step_sweeps.specs.Given.{Tables, AreGiven, made_by, work_by}
+use Rattle.step_sweeps.specs.Operations.{step_of}
+use Rattle.step_engine.specs.declared.sweeping.Sweeping.{Sweeping}
+use Rattle.step_engine.specs.Simple.{IsStepOf}
+use Rattle.step_engine.specs.Sweeping.{files_of, sweeping_of}
+use Rattle.step_engine.proofs.PlanLaws.{first_true, second_true, follows_at, operands_live}
+use Rattle.step_engine.proofs.TableLaws.{IsMadeFrom, made_from}
+
+-- the step is the job's, under that number, and the folder holds the steps before it
+pub record IsHeld (job : Job) (number : ℕ) (step : Step) (world : World) : Type 0 where
+  pub within : number < length job.steps
+  pub step_is : (step_at job number).step ≡ step
+  pub live : IsTrue (list_all (is_live (take number job.steps)) (operands step))
+  pub holds : Holds job number (now world).folder
+
+pub held_step : (job : Job) (n number : ℕ) (text : List ℕ) (p : Planned) (step : Step) (world : World) → IsStepOf job n text number p → p.step ≡ step
+    → Holds job number (now world).folder → IsHeld job number step world
+held_step job n number text p step world is step_is holds =
+    let found : (step_at job number).step ≡ step = ap (λ (q : Planned). q.step) is.step_is ∙ step_is in
+    record {
+      within = is.within;
+      step_is = found;
+      live = subst (λ s. IsTrue (list_all (is_live (take number job.steps)) (operands s))) found
+          (operands_live job.n job.text (take number job.steps) (step_at job number) (follows_at job.n job.text job.steps number _ is.within is.well_formed));
+      holds = holds;
+    }
+
+-- the file of a live diagram is the canonical one of its table
+canonical : (job : Job) (number j : ℕ) (world : World) → Holds job number (now world).folder → IsTrue (is_live (take number job.steps) j)
+    → IsCanonicalFile job.n (table_at job j) (node_file j) world
+canonical job number j world holds live = record { form = holds.forms j live; bytes_are = ap (λ (f : File). f.bytes) (holds.files j live) }
+
+-- of a list of live diagrams the first, the second and the third one
+first_live : (steps : List Planned) (a : ℕ) (more : List ℕ) → IsTrue (list_all (is_live steps) (a ∷ more)) → IsTrue (is_live steps a)
+first_live steps a more live = first_true (is_live steps a) (list_all (is_live steps) more) live
+
+more_live : (steps : List Planned) (a : ℕ) (more : List ℕ) → IsTrue (list_all (is_live steps) (a ∷ more)) → IsTrue (list_all (is_live steps) more)
+more_live steps a more live = second_true (is_live steps a) (list_all (is_live steps) more) live
+
+-- what a step is given that makes a diagram of others: the tables of the operands, whose files are canonical, the
+-- step's table as the operation makes it of these, and the step's work
+pub record IsGivenTo (job : Job) (number : ℕ) (step : Step) (sweeping : Sweeping) (world : World) (n : ℕ) : Type 0 where
+  pub tables : Tables
+  pub are : AreGiven sweeping.operation n sweeping.operands world tables
+  pub bytes_are : canon_bytes n (made_by sweeping.operation n tables) ≡ file_of job number
+  pub nodes_are : length (canon_nodes n (made_by sweeping.operation n tables)) ≡ nodes_at job number
+  pub form : HasForm n (made_by sweeping.operation n tables) → HasForm job.n (table_at job number)
+  pub work_is : work_by sweeping.operation n tables ≡ work_of job step
+
+-- so it is given these tables of as many variables as the job has
+given_tables : (job : Job) (number : ℕ) (step : Step) (sweeping : Sweeping) (world : World) (g : Tables)
+    → AreGiven sweeping.operation job.n sweeping.operands world g → made_by sweeping.operation job.n g ≡ table_at job number
+    → work_by sweeping.operation job.n g ≡ work_of job step → IsGivenTo job number step sweeping world job.n
+given_tables job number step sweeping world g are table_is work_is = record {
+  tables = g;
+  are = are;
+  bytes_are = ap (canon_bytes job.n) table_is;
+  nodes_are = ap (λ t. length (canon_nodes job.n t)) table_is;
+  form = subst (HasForm job.n) table_is;
+  work_is = work_is;
+}
+
+-- the tables of three steps
+abbrev three : Job → ℕ → ℕ → ℕ → Tables
+three job a b c = record { first = table_at job a; second = table_at job b; third = table_at job c }
+
+-- work is counted alike for steps that lead alike
+same_work : (s t : Step) → joins s ≡ joins t → LeadAlike s t → (n : ℕ) (tables : List (List Bool)) → work_for n s tables ≡ work_for n t tables
+same_work s t both alike n tables = ap (λ k. 16 * (k + nodes_of n tables + 1)) (same_count s t both alike n tables)
+
+module _ (job : Job) (number : ℕ) (world : World) where
+  pub pair_given : (op : Bin) (left right : ℕ) → IsHeld job number (Pair op left right) world
+      → IsGivenTo job number (Pair op left right) (record { operation = operations.Operator op; operands = files_of left right right }) world job.n
+  pair_given op left right is =
+      let from = made_from job number is.within in
+      let steps = take number job.steps in
+      let left_live = first_live steps left (right ∷ []) is.live in
+      let right_live = first_live steps right [] (more_live steps left (right ∷ []) is.live) in
+      given_tables job number _ _ world (three job left right right) (record {
+        first = canonical job number left world is.holds left_live;
+        second = canonical job number right world is.holds right_live;
+        third = canonical job number right world is.holds right_live;
+        repeated = refl;
+      })
+      (sym (from.table_is ∙ ap (step_table job.n from.seen) is.step_is
+      ∙ ap₂ (λ a b. table_with job.n (λ p. op_value op (value_at a p) (value_at b p)))
+      (from.are left (live_below job.steps number left left_live)) (from.are right (live_below job.steps number right right_live))))
+      (same_work (Pair op 0 1) (Pair op left right) refl (λ i h x. refl) job.n (table_at job left ∷ table_at job right ∷ []))
+
+  pub choice_given : (test if_one if_zero : ℕ) → IsHeld job number (Ite test if_one if_zero) world
+      → IsGivenTo job number (Ite test if_one if_zero) (record { operation = operations.Choice; operands = files_of test if_one if_zero }) world job.n
+  choice_given test if_one if_zero is =
+      let from = made_from job number is.within in
+      let steps = take number job.steps in
+      let test_live = first_live steps test (if_one ∷ if_zero ∷ []) is.live in
+      let more = more_live steps test (if_one ∷ if_zero ∷ []) is.live in
+      let if_one_live = first_live steps if_one (if_zero ∷ []) more in
+      let if_zero_live = first_live steps if_zero [] (more_live steps if_one (if_zero ∷ []) more) in
+      given_tables job number _ _ world (three job test if_one if_zero) (record {
+        first = canonical job number test world is.holds test_live;
+        second = canonical job number if_one world is.holds if_one_live;
+        third = canonical job number if_zero world is.holds if_zero_live;
+        repeated = tt;
+      })
+      (sym (from.table_is ∙ ap (step_table job.n from.seen) is.step_is
+      ∙ (λ j. table_with job.n (λ p. cond (value_at (from.are test (live_below job.steps number test test_live) j) p)
+      (value_at (from.are if_one (live_below job.steps number if_one if_one_live) j) p) (value_at (from.are if_zero (live_below job.steps number if_zero if_zero_live) j) p)))))
+      (same_work (Ite 0 1 2) (Ite test if_one if_zero) refl (λ i h x. refl) job.n (table_at job test ∷ table_at job if_one ∷ table_at job if_zero ∷ []))
+
+  pub quantifier_given : (kind : Quant) (of level : ℕ) → IsHeld job number (Quantify kind of level) world
+      → IsGivenTo job number (Quantify kind of level) (record { operation = operations.Quantifier kind level; operands = files_of of of of }) world job.n
+  quantifier_given kind of level is =
+      let from = made_from job number is.within in
+      let live = first_live (take number job.steps) of [] is.live in
+      let file = canonical job number of world is.holds live in
+      given_tables job number _ _ world (three job of of of) (record { first = file; second = file; third = file; repeated = (refl, refl) })
+      (sym (from.table_is ∙ ap (step_table job.n from.seen) is.step_is
+      ∙ ap (λ a. table_with job.n (λ p. quant_value kind (value_at a (with_digit job.n level false p)) (value_at a (with_digit job.n level true p))))
+      (from.are of (live_below job.steps number of live))))
+      (same_work (Quantify kind 0 level) (Quantify kind of level) refl (λ i h x. refl) job.n (table_at job of ∷ []))
+
+  pub restriction_given : (of level : ℕ) (value : Bool) → IsHeld job number (Restrict of level value) world
+      → IsGivenTo job number (Restrict of level value) (record { operation = operations.Restriction level value; operands = files_of of of of }) world job.n
+  restriction_given of level value is =
+      let from = made_from job number is.within in
+      let live = first_live (take number job.steps) of [] is.live in
+      let file = canonical job number of world is.holds live in
+      given_tables job number _ _ world (three job of of of) (record { first = file; second = file; third = file; repeated = (refl, refl) })
+      (sym (from.table_is ∙ ap (step_table job.n from.seen) is.step_is
+      ∙ ap (λ a. table_with job.n (λ p. value_at a (with_digit job.n level value p)))
+      (from.are of (live_below job.steps number of live))))
+      (same_work (Restrict 0 level value) (Restrict of level value) refl (λ i h x. refl) job.n (table_at job of ∷ []))
+
+some_is : {x : Sweeping} (y : Sweeping) → Some x ≡ Some y → x ≡ y
+some_is y same = ap (λ o. unwrap_or o y) same
+
+-- whichever of these the step is
+sweeping_given : (job : Job) (number : ℕ) (world : World) (step : Step) (sweeping : Sweeping) → sweeping_of step ≡ Some sweeping
+    → IsHeld job number step world → IsGivenTo job number step sweeping world job.n
+sweeping_given job number world (Const value) sweeping none is = cc
+sweeping_given job number world (Var level) sweeping none is = cc
+sweeping_given job number world (Pair op left right) sweeping some is =
+    subst (λ s. IsGivenTo job number (Pair op left right) s world job.n) (some_is sweeping some) (pair_given job number world op left right is)
+sweeping_given job number world (Ite test if_one if_zero) sweeping some is =
+    subst (λ s. IsGivenTo job number (Ite test if_one if_zero) s world job.n) (some_is sweeping some) (choice_given job number world test if_one if_zero is)
+sweeping_given job number world (Quantify kind of level) sweeping some is =
+    subst (λ s. IsGivenTo job number (Quantify kind of level) s world job.n) (some_is sweeping some) (quantifier_given job number world kind of level is)
+sweeping_given job number world (Restrict of level value) sweeping some is =
+    subst (λ s. IsGivenTo job number (Restrict of level value) s world job.n) (some_is sweeping some) (restriction_given job number world of level value is)
+sweeping_given job number world (Drop gone) sweeping none is = cc
+sweeping_given job number world (Same left right) sweeping none is = cc
+sweeping_given job number world (Leq left right) sweeping none is = cc
+sweeping_given job number world (Eval of at) sweeping none is = cc
+sweeping_given job number world (Size of) sweeping none is = cc
+
+-- and of n variables
+pub step_given : (job : Job) (n number : ℕ) (text : List ℕ) (p : Planned) (sweeping : Sweeping) (world : World) → sweeping_of p.step ≡ Some sweeping
+    → IsStepOf job n text number p → Holds job number (now world).folder → IsGivenTo job number p.step sweeping world n
+step_given job n number text p sweeping world some is holds =
+    subst (IsGivenTo job number p.step sweeping world) is.n_is
+    (sweeping_given job number world p.step sweeping some (held_step job n number text p p.step world is refl holds))
+
+-- the files of two operands, and of one, are the canonical ones of their tables
+pub two_given : (job : Job) (n number : ℕ) (text : List ℕ) (p : Planned) (world : World) (step : Step) (left right : ℕ) → p.step ≡ step
+    → operands step ≡ left ∷ right ∷ [] → IsStepOf job n text number p → Holds job number (now world).folder
+    → IsCanonicalFile n (table_at job left) (node_file left) world × IsCanonicalFile n (table_at job right) (node_file right) world
+two_given job n number text p world step left right step_is names is holds =
+    let held = held_step job n number text p step world is step_is holds in
+    let live = subst (λ ks. IsTrue (list_all (is_live (take number job.steps)) ks)) names held.live in
+    subst (λ m. IsCanonicalFile m (table_at job left) (node_file left) world × IsCanonicalFile m (table_at job right) (node_file right) world) is.n_is (
+      canonical job number left world holds (first_live (take number job.steps) left (right ∷ []) live),
+      canonical job number right world holds (first_live (take number job.steps) right [] (more_live (take number job.steps) left (right ∷ []) live)),
+    )
+
+pub one_given : (job : Job) (n number : ℕ) (text : List ℕ) (p : Planned) (world : World) (step : Step) (of : ℕ) → p.step ≡ step
+    → operands step ≡ of ∷ [] → IsStepOf job n text number p → Holds job number (now world).folder
+    → IsCanonicalFile n (table_at job of) (node_file of) world
+one_given job n number text p world step of step_is names is holds =
+    let held = held_step job n number text p step world is step_is holds in
+    let live = subst (λ ks. IsTrue (list_all (is_live (take number job.steps)) ks)) names held.live in
+    subst (λ m. IsCanonicalFile m (table_at job of) (node_file of) world) is.n_is
+    (canonical job number of world holds (first_live (take number job.steps) of [] live))
+
+-- the work of a step, by one that leads alike
+pub work_given : (job : Job) (n number : ℕ) (text : List ℕ) (p : Planned) (s t : Step) → p.step ≡ t → joins s ≡ joins t → LeadAlike s t
+    → IsStepOf job n text number p → work_for n s (map (table_at job) (operands t)) ≡ work_of job p.step
+work_given job n number text p s t step_is both alike is =
+    ap (λ m. work_for m s (map (table_at job) (operands t))) (sym is.n_is)
+    ∙ same_work s t both alike job.n (map (table_at job) (operands t)) ∙ ap (work_of job) (sym step_is)

@@ -1,0 +1,105 @@
+-- Faults, bits and values of the steps that answer by reading diagrams.
+use Rattle.std.proofs.Common.{◌≡◌, ◌≢◌, ◌∙◌, ◌⊎◌, ℕ, ◌+◌, ◌*◌, ◌^◌, ◌<◌, ◌≤◌, Bool, true, ◌&&◌, nat_le, List, [], ◌∷◌, length, take, drop, refl, sym, ap, subst, inl, inr, arith}
+use Rattle.std.specs.Prelude.{IsTrue, Result, Err, IsErrOf}
+use Rattle.std.specs.List.{list_all}
+use Rattle.bool_tables.specs.declared.steps.Step.{Step}
+use Rattle.bool_tables.specs.declared.steps.Step.TheVariants.{Same, Leq, Eval}
+use Rattle.bool_tables.specs.declared.steps.Planned.{Planned}
+use Rattle.bool_tables.specs.Plans.{is_bit, has_bits}
+use Rattle.bool_tables.specs.Steps.{eval_at}
+use Rattle.shelf_model.specs.declared.sort_fault.SortFault.{SortFault}
+use Rattle.shelf_model.specs.declared.sort_fault.SortFault.TheVariants as sort
+use Rattle.shelf_model.specs.World.{World}
+use Rattle.sweep_core.specs.Sweeps.{IsNoDamage}
+use Rattle.step_work.specs.Tuples.{joins}
+use Rattle.sound_image.specs.Files.{node_file}
+use Rattle.sound_image.specs.Jobs.{Job, table_at}
+use Rattle.step_sweeps.specs.declared.answers.Answered.{Answered}
+use Rattle.step_sweeps.specs.Damage.{IsReadFault, IsImplicationFault}
+use Rattle.step_engine.specs.Simple.{IsStepOf}
+use Rattle.step_engine.specs.StepFaults.{IsStepFault, IsSoundFault, IsOfKind}
+use Rattle.step_engine.proofs.PlanLaws.{first_true}
+use Rattle.step_engine.proofs.Runs.{sound_fault, of_kind}
+
+-- more calls than these are allowed
+pub few_more : (now_clock clock bound some : ℕ) {work : ℕ} → bound ≡ work → some ≤ 11 → now_clock ≤ clock + (224 * bound + some)
+    → now_clock ≤ clock + (224 * work + 11)
+few_more now_clock clock bound some {work} same less few = omega (arith, same, less, few)
+
+-- a fault that isn't want of parts
+pub not_spent : (e : SortFault) → e ≢ sort.RunsSpent → e ≡ sort.RunsSpent → ⊥
+not_spent e kind is = kind is
+
+pub not_spent_kind : (step : Step) (e : SortFault) → e ≢ sort.RunsSpent → IsOfKind step e
+not_spent_kind step sort.Shelf kind = tt
+not_spent_kind step (sort.Damaged f at) kind = tt
+not_spent_kind step sort.RunsSpent kind = absurd (kind refl)
+
+-- where no operand is damaged, and parts aren't wanting, a call of the folder failed
+pub same_sound : (step : Step) (work : ℕ) (e : SortFault) → IsNoDamage e → (e ≡ sort.RunsSpent → ⊥) → IsSoundFault step work e
+same_sound step work sort.Shelf none spent = tt
+same_sound step work (sort.Damaged f at) none spent = none
+same_sound step work sort.RunsSpent none spent = absurd (spent refl)
+
+pub eval_sound : (step : Step) (work : ℕ) (e : SortFault) → IsNoDamage e → (e ≡ sort.RunsSpent → ⊥) → IsSoundFault step work e
+eval_sound = same_sound
+
+pub leq_sound : (step : Step) (left right : ℕ) → step ≡ Leq left right → (bound work : ℕ) (e : SortFault) → bound ≡ work → IsNoDamage e
+    → (IsErrOf {T = Answered} (Err e) sort.RunsSpent → 2 ^ 35 ≤ bound) → IsSoundFault step work e
+leq_sound step left right is bound work e same none spent =
+    sound_fault step work bound e (ap joins is) same none (λ is_spent. spent (ap (λ f. Err f) is_spent))
+
+pub leq_kind : (left right : ℕ) (step : Step) → step ≡ Leq left right → (e : SortFault) → IsOfKind step e
+leq_kind left right step is e = of_kind step e (ap joins is)
+
+-- where a diagram that is read is damaged
+two_read : (n number left right : ℕ) (world : World) (e : SortFault) → IsReadFault n (node_file left) (node_file right) world e
+    → IsStepFault n (Same left right) number world e
+two_read n number left right world sort.Shelf is = tt
+two_read n number left right world (sort.Damaged f at) (inl one) = inl (inl one)
+two_read n number left right world (sort.Damaged f at) (inr two) = inl (inr (inl two))
+two_read n number left right world sort.RunsSpent is = tt
+
+one_read : (n number of at : ℕ) (world : World) (e : SortFault) → IsReadFault n (node_file of) (node_file of) world e
+    → IsStepFault n (Eval of at) number world e
+one_read n number of at world sort.Shelf is = tt
+one_read n number of at world (sort.Damaged f place) (inl one) = inl (inl one)
+one_read n number of at world (sort.Damaged f place) (inr two) = inl (inl two)
+one_read n number of at world sort.RunsSpent is = tt
+
+implied : (n number left right : ℕ) (world : World) (e : SortFault) → IsImplicationFault n (node_file left) (node_file right) number world e
+    → IsStepFault n (Leq left right) number world e
+implied n number left right world sort.Shelf is = tt
+implied n number left right world (sort.Damaged f at) (inl one) = inl (inl one)
+implied n number left right world (sort.Damaged f at) (inr (inl two)) = inl (inr (inl two))
+implied n number left right world (sort.Damaged f at) (inr (inr own)) = inr own
+implied n number left right world sort.RunsSpent is = tt
+
+pub same_fault : (n number left right : ℕ) (step : Step) → step ≡ Same left right → (world : World) (e : SortFault)
+    → IsReadFault n (node_file left) (node_file right) world e → IsStepFault n step number world e
+same_fault n number left right step is world e fault =
+    subst (λ s. IsStepFault n s number world e) (sym is) (two_read n number left right world e fault)
+
+pub leq_fault : (n number left right : ℕ) (step : Step) → step ≡ Leq left right → (world : World) (e : SortFault)
+    → IsImplicationFault n (node_file left) (node_file right) number world e → IsStepFault n step number world e
+leq_fault n number left right step is world e fault =
+    subst (λ s. IsStepFault n s number world e) (sym is) (implied n number left right world e fault)
+
+pub eval_fault : (n number of at : ℕ) (step : Step) → step ≡ Eval of at → (world : World) (e : SortFault)
+    → IsReadFault n (node_file of) (node_file of) world e → IsStepFault n step number world e
+eval_fault n number of at step is world e fault =
+    subst (λ s. IsStepFault n s number world e) (sym is) (one_read n number of at world e fault)
+
+-- the bits of an evaluation stand in the text
+pub bits_within : (n of at : ℕ) (text : List ℕ) (step : Step) → step ≡ Eval of at → IsTrue (has_bits n text step) → at + n ≤ length text
+bits_within n of at text step is bits =
+    within (first_true (nat_le (at + n) (length text)) (list_all is_bit (take n (drop at text)))
+    (subst (λ s. IsTrue (has_bits n text s)) is bits))
+  where
+    within : IsTrue (nat_le (at + n) (length text)) → at + n ≤ length text
+    within h = search (arith, h)
+
+-- the value by the job's text is the value by the text
+pub value_given : (job : Job) (n number of at : ℕ) (text : List ℕ) (p : Planned) → IsStepOf job n text number p
+    → eval_at job.n job.text (table_at job of) at ≡ eval_at n text (table_at job of) at
+value_given job n number of at text p is = λ j. eval_at (is.n_is j) (is.text_is j) (table_at job of) at

@@ -1,0 +1,58 @@
+use Rattle.std.proofs.Common.{◌≡◌, ◌∙◌, ℕ, ◌+◌, ◌*◌, ◌≤◌, ◌<◌, List, [], ◌∷◌, refl, sym, ap, subst, arith}
+use Rattle.std.specs.Prelude.{IsTrue}
+use Rattle.bool_tables.specs.declared.steps.Step.TheVariants.{Eval}
+use Rattle.sound_image.specs.Entries.{bit_of, answer_of, work_of}
+use Rattle.sound_image.specs.Jobs.{Job, table_at}
+use Rattle.step_engine.proofs.Operands.{one_given, work_given}
+use Rattle.step_engine.proofs.Questions.{bits_within, value_given, eval_sound, eval_fault, not_spent, not_spent_kind, few_more}
+use Rattle.step_engine.proofs.Runs.{handed_runs, eval_question, question_refused, question_answered}
+use Rattle.step_engine.proofs.sweeping.run_evaluation.Goals as goal
+
+pub evaluate-requires-clause-bits : goal.evaluate-requires-clause-bits
+evaluate-requires-clause-bits g c =
+    bits_within c.args.n c.args.of c.args.at c.args.text.now c.args.planned.now.step c.requires.kind c.requires.step.bits_are
+
+pub returns-in_err-answered : goal.returns-in_err-answered
+returns-in_err-answered g c =
+    let p = c.args.planned.now in
+    let said = c.in_err-answered.ensures in
+    record {
+      runs = handed_runs g.S.Shelf.tells g.S.Shelf.world g.S.Shelf.faults c.args.n c.args.text.now c.args.number p _ _
+          c.in_err-answered.field-0.0 c.from_residual.result c.from_residual.ensures.1
+          (question_refused g.S.Shelf.tells g.S.Shelf.world g.S.Shelf.faults c.args.n c.args.text.now c.args.number p
+          (eval_question c.args.number c.args.of c.args.at p.step c.requires.kind) c.requires.step _ _ said.content
+          (λ told job is holds.
+          let given = one_given job c.args.n c.args.number c.args.text.now p (g.S.Shelf.world c.args.shelf.now) (Eval c.args.of c.args.at) c.args.of c.requires.kind refl is holds in
+          few_more _ _ _ 2 (work_given job c.args.n c.args.number c.args.text.now p (Eval 0 c.args.at) (Eval c.args.of c.args.at) c.requires.kind refl (λ i h x. refl) is)
+          (omega arith) (said.few_calls told _ given))
+          c.in_err-answered.field-0.0
+          (λ told job is holds.
+          let given = one_given job c.args.n c.args.number c.args.text.now p (g.S.Shelf.world c.args.shelf.now) (Eval c.args.of c.args.at) c.args.of c.requires.kind refl is holds in
+          eval_sound p.step _ c.in_err-answered.field-0.0 (said.undamaged told _ given) (not_spent c.in_err-answered.field-0.0 said.kind))
+          (λ told. eval_fault c.args.n c.args.number c.args.of c.args.at p.step c.requires.kind (g.S.Shelf.world c.args.shelf.now) c.in_err-answered.field-0.0 (said.damaged told))
+          (not_spent_kind p.step c.in_err-answered.field-0.0 said.kind)
+          said.faults);
+    }
+
+pub returns : goal.returns
+returns g c =
+    let p = c.args.planned.now in
+    let said = c.in_ok-answered.ensures in
+    record {
+      runs = question_answered g.S.Shelf.tells g.S.Shelf.world g.S.Shelf.faults c.args.n c.args.text.now c.args.number p
+          (eval_question c.args.number c.args.of c.args.at p.step c.requires.kind) c.requires.step _ _ said.content
+          (λ told job is holds.
+          let given = one_given job c.args.n c.args.number c.args.text.now p (g.S.Shelf.world c.args.shelf.now) (Eval c.args.of c.args.at) c.args.of c.requires.kind refl is holds in
+          few_more _ _ _ 2 (work_given job c.args.n c.args.number c.args.text.now p (Eval 0 c.args.at) (Eval c.args.of c.args.at) c.requires.kind refl (λ i h x. refl) is)
+          (omega arith) (said.few_calls told _ given))
+          c.in_ok-answered.answered c.answer_entry.result c.answer_entry.ensures (search arith) said.counted
+          (λ told job is holds.
+          let given = one_given job c.args.n c.args.number c.args.text.now p (g.S.Shelf.world c.args.shelf.now) (Eval c.args.of c.args.at) c.args.of c.requires.kind refl is holds in
+          let answer = said.answer told _ given in (
+            ap (answer_of job) c.requires.kind
+                ∙ ap bit_of (value_given job c.args.n c.args.number c.args.of c.args.at c.args.text.now p is ∙ sym answer.answer_is),
+            subst (λ w. c.in_ok-answered.answered.turns ≤ w)
+                (work_given job c.args.n c.args.number c.args.text.now p (Eval 0 c.args.at) (Eval c.args.of c.args.at) c.requires.kind refl (λ i h x. refl) is) answer.few,
+          ))
+          (λ told exact. (let few = said.calls told exact in omega (arith, few))) said.faults;
+    }

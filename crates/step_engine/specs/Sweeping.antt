@@ -1,0 +1,30 @@
+-- The operation that a step is, and the files that it is made of.
+use Rattle.std.specs.Prelude.{ℕ, Option, Some, None}
+use Rattle.bool_tables.specs.declared.steps.Step.{Step}
+use Rattle.bool_tables.specs.declared.steps.Step.TheVariants.{Const, Var, Pair, Ite, Quantify, Restrict, Drop, Same, Leq, Eval, Size}
+use Rattle.top_down_sweep.specs.declared.beginning.OperandFiles.{OperandFiles}
+use Rattle.step_sweeps.specs.declared.operation.StepOperation.TheVariants as operations
+use Rattle.sound_image.specs.Files.{node_file}
+use Rattle.step_engine.specs.declared.sweeping.Sweeping.{Sweeping}
+
+-- the node files of three steps
+abbrev pub files_of : ℕ → ℕ → ℕ → OperandFiles
+files_of a b c = record { first = node_file a; second = node_file b; third = node_file c }
+
+-- a step that makes a diagram of others is an operation on their files: the last one stands for those that aren't used
+abbrev pub sweeping_of : Step → Option Sweeping
+sweeping_of (Const value) = None
+sweeping_of (Var level) = None
+sweeping_of (Pair op left right) =
+    Some (record { operation = operations.Operator op; operands = files_of left right right })
+sweeping_of (Ite test if_one if_zero) =
+    Some (record { operation = operations.Choice; operands = files_of test if_one if_zero })
+sweeping_of (Quantify kind operand level) =
+    Some (record { operation = operations.Quantifier kind level; operands = files_of operand operand operand })
+sweeping_of (Restrict operand level value) =
+    Some (record { operation = operations.Restriction level value; operands = files_of operand operand operand })
+sweeping_of (Drop gone) = None
+sweeping_of (Same left right) = None
+sweeping_of (Leq left right) = None
+sweeping_of (Eval operand at) = None
+sweeping_of (Size operand) = None

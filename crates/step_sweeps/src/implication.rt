@@ -1,0 +1,82 @@
+//! The step that answers whether one function implies another.
+ghost use Rattle.std.specs.Prelude.{◌≡◌, ◌+◌, ◌*◌, ◌^◌, ◌<◌, ◌≤◌, [], ◌∷◌, Bool, IsTrue, IsErrOf, List, IfOk, IfErr, length};
+ghost use Rattle.bool_tables.specs.declared.steps.Step.TheVariants as steps;
+ghost use Rattle.bool_tables.specs.Tables.{is_leq};
+ghost use Rattle.shelf_model.specs.World.{now};
+ghost use Rattle.shelf_model.specs.Calls.{Told};
+ghost use Rattle.shelf_model.specs.Moments.{Ran};
+ghost use Rattle.run_tiers.specs.Faults.{OnlySortShelf};
+ghost use Rattle.step_work.specs.Works.{work_for};
+ghost use Rattle.sweep_core.specs.Sweeps.{IsNoDamage};
+ghost use Rattle.top_down_sweep.specs.Tasks.{IsCanonicalFile};
+ghost use Rattle.step_sweeps.specs.Made.{OnlyParts, IsAnswer, IsCounted, Called};
+ghost use Rattle.step_sweeps.specs.Damage.{IsImplicationFault};
+
+use crate::arcs::make_arcs;
+use crate::ones::has_one;
+use crate::{Answered, StepOperation};
+use bool_tables::Bin;
+use rec_words::Rec;
+use shelf_model::{FileNo, Shelf, SortFault};
+use top_down_sweep::OperandFiles;
+
+/// How many part numbers a step has.
+const PARTS: u64 = 1 << 32;
+
+/// Whether the left function implies the right one everywhere, of the files of two diagrams of `n` variables: the arcs
+/// of "left and not right" are made, in parts 3 and 4 of the step, and searched for one that leads to 1.
+pub fn imply<S: Shelf>(
+    n: u32,
+    left: FileNo,
+    right: FileNo,
+    number: u32,
+    room: &mut [Rec],
+    shelf: &mut S,
+) -> Result<Answered, SortFault>
+    requires room { 16384 ≤ length room.old }
+    requires earlier { (left.step < number) × (right.step < number) }
+
+    // of canonical files
+    ensures answer { IfOk result (λ a. IsTrue (S.tells shelf.new) → (t u : List Bool) →
+        IsCanonicalFile n t left (S.world shelf.old) → IsCanonicalFile n u right (S.world shelf.old) →
+        IsAnswer (is_leq t u) (work_for n (steps.Leq 0 1) (t ∷ u ∷ [])) a) }
+    ensures undamaged { IfErr result (λ e. IsTrue (S.tells shelf.new) → (t u : List Bool) →
+        IsCanonicalFile n t left (S.world shelf.old) → IsCanonicalFile n u right (S.world shelf.old) →
+        IsNoDamage e) }
+    ensures spent { IsErrOf result SortFault.RunsSpent → IsTrue (S.tells shelf.new) → (t u : List Bool) →
+        IsCanonicalFile n t left (S.world shelf.old) → IsCanonicalFile n u right (S.world shelf.old) →
+        2 ^ 35 ≤ work_for n (steps.Leq 0 1) (t ∷ u ∷ []) }
+    ensures few_calls { IsTrue (S.tells shelf.new) → (t u : List Bool) →
+        IsCanonicalFile n t left (S.world shelf.old) → IsCanonicalFile n u right (S.world shelf.old) →
+        (S.world shelf.new).clock
+        ≤ (S.world shelf.old).clock + (224 * work_for n (steps.Leq 0 1) (t ∷ u ∷ []) + 11) }
+
+    // whatever the files hold
+    ensures damaged { IfErr result (λ e. IsTrue (S.tells shelf.new) →
+        IsImplicationFault n left right number (S.world shelf.old) e) }
+    ensures content { Told S.tells shelf.old shelf.new
+        (Ran (OnlyParts number (now (S.world shelf.old))) (S.world shelf.old) (S.world shelf.new)) }
+    ensures counted { IfOk result (λ a. IsCounted a.turns a.next) }
+    ensures calls { IfOk result (λ a. Called S.tells S.world a.turns 11 shelf.old shelf.new) }
+    ensures faults { OnlySortShelf (S.faults shelf.old) (S.faults shelf.new) result }
+{
+    let operation = StepOperation::Operator(Bin {
+        v00: false,
+        v01: false,
+        v10: true,
+        v11: false,
+    });
+    let operands = OperandFiles {
+        first: left,
+        second: right,
+        third: right,
+    };
+    let made = make_arcs(operation, n, operands, number, room, shelf)?;
+    let holds = !has_one(&made.arcs, room, shelf)?;
+    Ok(Answered {
+        answer: holds,
+        turns: made.turns.saturating_add(made.arcs.ends_count),
+        // A step has no more part numbers.
+        next: made.parts.next.min(PARTS),
+    })
+}
