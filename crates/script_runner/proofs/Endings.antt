@@ -24,7 +24,7 @@ use Rattle.script_runner.specs.Running.{IsSaying, SaysOnly}
 use Rattle.script_runner.specs.Fetching.{OnlyFetched, IsText}
 use Rattle.script_runner.specs.JobOf.{job_bytes, job_of}
 use Rattle.script_runner.specs.Entered.{RunsFrom, RunsIn}
-use Rattle.script_runner.specs.Calls.{most_calls, fetch_calls}
+use Rattle.script_runner.specs.Calls.{most_calls, fetch_calls, AreCounted}
 use Rattle.script_runner.specs.Outcome.{Accepts, IsRefused, SaysLine, Ends, MakesFewCalls}
 use Rattle.script_runner.proofs.Saying.{says_nothing}
 use Rattle.script_runner.proofs.EnteredRuns.{earlier}
@@ -92,16 +92,42 @@ accepts_read words asked bytes plan w words_are accepted read = record {
 
 module _ {S : Type 0} (tells : S → Bool) (world : S → World) where
   -- the calls of a run of the script that was read
-  pub few_run : (words : List (List ℕ)) (asked : Asked) (bytes job : List ℕ) (plan : Plan) (old s t : S) → asked_of words ≡ Some asked → Reads bytes plan → job ≡ job_bytes asked.budget bytes
-      → (IsTrue (tells s) → IsText asked.script 1048576 bytes (world old)) → (IsTrue (tells s) → (world s).clock ≤ (world old).clock + fetch_calls 1048576)
-      → (IsTrue (tells t) → IsTrue (tells s)) → (IsTrue (tells t) → (world t).clock ≤ (world s).clock + 2 + most_calls (length plan.steps) (length plan.lines) (length job))
+  pub few_run : (words : List (List ℕ)) (asked : Asked) (bytes text job : List ℕ) (plan : Plan) (old s t : S)
+      → asked_of words ≡ Some asked → Reads bytes plan → text ≡ bytes → job ≡ job_bytes asked.budget bytes
+      → (IsTrue (tells s) → IsText asked.script 1048576 bytes (world old))
+      → Told tells old s (OnlyFetched (world old) (world s))
+      → (IsTrue (tells s) → (world s).clock ≤ (world old).clock + fetch_calls 1048576)
+      → (IsTrue (tells t) → IsTrue (tells s))
+      → (IsTrue (tells t)
+      → AreCounted (record { n = plan.n; text = text; steps = plan.steps; bytes = job }) (now (world s)).folder
+      → (world t).clock ≤ (world s).clock + 2
+      + most_calls (record { n = plan.n; text = text; steps = plan.steps; bytes = job }) (length plan.lines))
       → IsTrue (tells t) → MakesFewCalls words (world old) (world t)
-  few_run words asked bytes job plan old s t words_are accepted job_is fetched first before second tells_t =
-      let tells_s : IsTrue (tells s) = before tells_t in
-      let a = first tells_s in
-      let b : (world t).clock ≤ (world s).clock + 2 + most_calls (length plan.steps) (length plan.lines) (length (job_bytes asked.budget bytes)) =
-      subst (λ (x : List ℕ). (world t).clock ≤ (world s).clock + 2 + most_calls (length plan.steps) (length plan.lines) (length x)) job_is (second tells_t) in
-      inr (plan, accepts_read words asked bytes plan (world old) words_are accepted (fetched tells_s), omega (arith, a, b))
+  few_run words asked bytes text job plan old s t words_are accepted text_is job_is fetched looked first back second here =
+      let tells_s : IsTrue (tells s) = back here in
+      inr (
+        plan,
+        accepts_read words asked bytes plan (world old) words_are accepted (fetched tells_s),
+        λ counted. within (world t).clock (world s).clock (world old).clock (fetch_calls 1048576)
+            (calls bytes (job_bytes asked.budget bytes)) (first tells_s) (by_bytes (second here)
+            (subst (λ (m : Moment). AreCounted (job_with bytes (job_bytes asked.budget bytes)) m.folder)
+            (sym (still_there (world old) (world s) (looked.did tells_s))) counted)),
+      )
+    where
+      job_with : List ℕ → List ℕ → Job
+      job_with x b = record { n = plan.n; text = x; steps = plan.steps; bytes = b }
+
+      calls : List ℕ → List ℕ → ℕ
+      calls x b = most_calls (job_with x b) (length plan.lines)
+
+      IsFew : List ℕ → List ℕ → Type 0
+      IsFew x b = AreCounted (job_with x b) (now (world s)).folder → (world t).clock ≤ (world s).clock + 2 + calls x b
+
+      by_bytes : IsFew text job → IsFew bytes (job_bytes asked.budget bytes)
+      by_bytes few = subst (λ b. IsFew bytes b) job_is (subst (λ x. IsFew x job) text_is few)
+
+      within : (a b c fetch most : ℕ) → b ≤ c + fetch → a ≤ b + 2 + most → a ≤ c + fetch + 2 + most
+      within a b c fetch most one few = omega (arith, one, few)
 
   -- the script that was read is refused
   pub answers_refused : (words : List (List ℕ)) (asked : Asked) (bytes line_said : List ℕ) (fault : ScriptFault) (ending : Ending) (old s t : S) → asked_of words ≡ Some asked

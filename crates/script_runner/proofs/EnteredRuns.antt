@@ -1,5 +1,5 @@
 -- A run of a job in a folder, from entering it on.
-use Rattle.std.proofs.Common.{◌≡◌, ◌∙◌, ◌⊎◌, ℕ, Bool, List, [], ◌++◌, refl, sym, ap, subst, inl, inr, arith, append_assoc}
+use Rattle.std.proofs.Common.{◌≡◌, ◌∙◌, ◌⊎◌, ℕ, ◌+◌, ◌≤◌, Bool, List, [], ◌++◌, length, refl, sym, ap, subst, inl, inr, arith, append_assoc}
 use Rattle.std.specs.Prelude.{IsTrue, Result, Ok, nat_eq}
 use Rattle.std.specs.List.{common_prefix_len}
 use Rattle.std.proofs.lemmas.List.{append-nil, append_cancel_left}
@@ -17,25 +17,54 @@ use Rattle.sound_image.specs.Jobs.{Job}
 use Rattle.sound_image.specs.Holds.{AreSound}
 use Rattle.script_reader.specs.declared.plan.LineEnd.{LineEnd}
 use Rattle.script_runner.specs.declared.finish.Finish.{Finish}
-use Rattle.script_runner.specs.declared.finish.Finish.TheVariants.{Done, OtherJob, FolderFault, SayFault, Damaged}
+use Rattle.script_runner.specs.declared.finish.Finish.TheVariants.{Done, OtherJob, FolderFault, SayFault, Damaged, RunsSpent}
 use Rattle.script_runner.specs.declared.ending.Ending.{Ending}
 use Rattle.script_runner.specs.declared.ending.Ending.TheVariants as ending
 use Rattle.script_runner.specs.Status.{status_of}
 use Rattle.script_runner.specs.Said.{whole_lines, said_count}
-use Rattle.script_runner.specs.Text.{run_text, other_job_line, damaged_line}
-use Rattle.script_runner.specs.Shapes.{AreWhole, IsRefusal}
-use Rattle.script_runner.specs.Running.{SaysFront, IsSaying, SaysOnly, HasSaid, IsRunning, StaysThere, IsOther, HasOtherJob, RefusesFolder, IsStill, MeetsDamage, RunsSteps}
-use Rattle.script_runner.specs.Entered.{EndsRun, Refused, RefusesOther, IsMoment, RunsFrom, RunsIn}
+use Rattle.script_runner.specs.Calls.{most_calls, AreCounted}
+use Rattle.script_runner.specs.Text.{run_text, other_job_line, damaged_line, runs_spent_line}
+use Rattle.script_runner.specs.Shapes.{IsShape, AreWhole, IsRefusal}
+use Rattle.script_runner.specs.Running.{SaysFront, IsSaying, SaysOnly, HasSaid, IsRunning, StaysThere, IsOther, HasOtherJob, RefusesFolder, IsStill, MeetsDamage, MeetsSpent, RunsSteps}
+use Rattle.script_runner.specs.Entered.{EndsRun, Refused, RefusesOther, IsSpentTail, IsMoment, RunsFrom, RunsIn}
 use Rattle.script_runner.proofs.Shown.{says_no_shape}
 use Rattle.script_runner.proofs.Saying.{says_nothing}
 
--- the status of a run that didn't refuse its folder
+-- the status of a run
 abbrev pub status_for : Finish → ℕ
 status_for Done = 0
 status_for (OtherJob at) = 5
 status_for FolderFault = 7
 status_for SayFault = 8
 status_for (Damaged f at) = 10
+status_for (RunsSpent step) = 11
+
+-- the run ended without a line of its own
+abbrev pub IsQuiet : Finish → Type 0
+IsQuiet Done = Unit {0}
+IsQuiet (OtherJob at) = ⊥
+IsQuiet FolderFault = Unit {0}
+IsQuiet SayFault = Unit {0}
+IsQuiet (Damaged f at) = ⊥
+IsQuiet (RunsSpent step) = ⊥
+
+-- then it refused nothing
+goes_on_quietly : (finish : Finish) → IsQuiet finish → ¬ (RefusesFolder finish)
+goes_on_quietly Done quiet = λ x. x
+goes_on_quietly (OtherJob at) quiet = absurd quiet
+goes_on_quietly FolderFault quiet = λ x. x
+goes_on_quietly SayFault quiet = λ x. x
+goes_on_quietly (Damaged f at) quiet = absurd quiet
+goes_on_quietly (RunsSpent step) quiet = absurd quiet
+
+-- and no step was without a part number
+not_spent : (finish : Finish) → IsQuiet finish → status_for finish ≡ 11 → ⊥
+not_spent Done quiet eleven = omega (arith, eleven)
+not_spent (OtherJob at) quiet eleven = quiet
+not_spent FolderFault quiet eleven = omega (arith, eleven)
+not_spent SayFault quiet eleven = omega (arith, eleven)
+not_spent (Damaged f at) quiet eleven = quiet
+not_spent (RunsSpent step) quiet eleven = quiet
 
 not_refused : (finish : Finish) → ¬ (RefusesFolder finish) → Refused (status_for finish) → ⊥
 not_refused Done none refused = elim refused [ inl x ↦ omega (arith, x) | inr x ↦ omega (arith, x) ]
@@ -43,6 +72,7 @@ not_refused (OtherJob at) none refused = none tt
 not_refused FolderFault none refused = elim refused [ inl x ↦ omega (arith, x) | inr x ↦ omega (arith, x) ]
 not_refused SayFault none refused = elim refused [ inl x ↦ omega (arith, x) | inr x ↦ omega (arith, x) ]
 not_refused (Damaged f at) none refused = none tt
+not_refused (RunsSpent step) none refused = elim refused [ inl x ↦ omega (arith, x) | inr x ↦ omega (arith, x) ]
 
 was_done : (finish : Finish) → status_for finish ≡ 0 → finish ≡ Done
 was_done Done zero = refl
@@ -50,13 +80,15 @@ was_done (OtherJob at) zero = absurd (omega (arith, zero))
 was_done FolderFault zero = absurd (omega (arith, zero))
 was_done SayFault zero = absurd (omega (arith, zero))
 was_done (Damaged f at) zero = absurd (omega (arith, zero))
+was_done (RunsSpent step) zero = absurd (omega (arith, zero))
 
 ends_run : (finish : Finish) → EndsRun (status_for finish)
 ends_run Done = inl refl
 ends_run (OtherJob at) = inr (inl refl)
 ends_run FolderFault = inr (inr (inl refl))
 ends_run SayFault = inr (inr (inr (inl refl)))
-ends_run (Damaged f at) = inr (inr (inr (inr refl)))
+ends_run (Damaged f at) = inr (inr (inr (inr (inl refl))))
+ends_run (RunsSpent step) = inr (inr (inr (inr (inr refl))))
 
 -- a run that has only begun
 running_first : (job : Job) (lines : List LineEnd) (start : Folder) → IsRunning job lines start [] start
@@ -87,7 +119,7 @@ moment_first job lines start = record {
   said_is = sym (append-nil start.said);
   running = running_first job lines start.folder;
   tail_is = inl refl;
-  no_tail = λ sound. refl;
+  no_tail = λ sound. inl refl;
 }
 
 -- a moment at which no status has said its line
@@ -98,7 +130,7 @@ going_moment job lines start m going = record {
   said_is = going.said_is ∙ ap (λ b. start.said ++ b) (sym (append-nil going.front));
   running = going.holds;
   tail_is = inl refl;
-  no_tail = λ sound. refl;
+  no_tail = λ sound. inl refl;
 }
 
 -- nothing was done before
@@ -138,6 +170,15 @@ earlier job lines status start old mid new stay run = record {
           | inr later ↦ inr later
         ];
       };
+  spent = λ eleven.
+      let names = run.spent eleven in
+      record {
+        step = names.step;
+        before = names.before;
+        said_is = names.said_is;
+        whole = names.whole;
+        spent = names.spent;
+      };
 }
 
 -- a run in a folder of another job that met a fault before it said so
@@ -166,12 +207,13 @@ nothing_ran job lines w = record {
   other = λ other. stood job.bytes w w other (stands w (IsStill (now w)) (record { said_is = refl; images = λ image is_image. is_image }));
   only_other = λ x. absurd (omega (arith, x));
   damaged = λ x. absurd (omega (arith, x));
+  spent = λ x. absurd (omega (arith, x));
 }
 
 -- the steps were run
-ran_from : (job : Job) (lines : List LineEnd) (finish : Finish) (old new : World) → ¬ (RefusesFolder finish) → RunsSteps job lines finish old new
+ran_from : (job : Job) (lines : List LineEnd) (finish : Finish) (old new : World) → IsQuiet finish → RunsSteps job lines finish old new
     → RunsFrom job lines (status_for finish) (now old) old new
-ran_from job lines finish old new none run = record {
+ran_from job lines finish old new quiet run = record {
   moments = weakens old new (HasSaid (IsRunning job lines (now old).folder) (now old)) (IsMoment job lines (now old)) (going_moment job lines (now old)) run.moments;
   goes_on = λ sound. not_refused finish none;
   whole = λ sound zero. run.whole sound (was_done finish zero);
@@ -179,12 +221,16 @@ ran_from job lines finish old new none run = record {
   all = λ zero. run.all (was_done finish zero);
   emptied = λ zero. run.emptied (was_done finish zero);
   other = λ other. elim (run.refuses_other other).1 [
-    | inl named ↦ absurd (none (subst RefusesFolder (sym named.1) tt))
+    | inl named ↦ absurd (subst IsQuiet named.1 quiet)
     | inr fault ↦ subst (λ f. RefusesOther job.bytes (status_for f) (now old) old new) (sym fault) (stood job.bytes old new other (run.refuses_other other).0)
   ];
   only_other = λ five. absurd (not_refused finish none (inl five));
   damaged = λ ten. absurd (not_refused finish none (inr ten));
+  spent = λ eleven. absurd (not_spent finish quiet eleven);
 }
+  where
+    none : ¬ (RefusesFolder finish)
+    none = goes_on_quietly finish quiet
 
 -- the statuses after a line of refusal
 abbrev pub SaidOr : ℕ → ℕ → Type 0
@@ -193,8 +239,9 @@ SaidOr good status = (status ≡ good) ⊎ (status ≡ 8)
 -- a status's line is said behind whole lines, or a front part of it
 moments_said : (job : Job) (lines : List LineEnd) (line front : List ℕ) (old mid new : World) → Throughout old mid (HasSaid (IsRunning job lines (now old).folder) (now old))
     → SaysOnly line mid new → IsRefusal line → said mid ≡ said old ++ front → AreWhole job.steps lines (present (now old).folder) (present (now mid).folder) front
-    → ¬ (AreSound job (now old).folder) → Throughout old new (IsMoment job lines (now old))
-moments_said job lines line front old mid new run says refusal said_mid whole none =
+    → (AreSound job (now old).folder → (tail rest : List ℕ) → line ≡ tail ++ rest → (tail ≡ []) ⊎ IsSpentTail job tail)
+    → Throughout old new (IsMoment job lines (now old))
+moments_said job lines line front old mid new run says refusal said_mid whole tails =
     joins old mid new (IsMoment job lines (now old))
     (weakens old mid (HasSaid (IsRunning job lines (now old).folder) (now old)) (IsMoment job lines (now old)) (going_moment job lines (now old)) run)
     (weakens mid new (IsSaying line (now mid)) (IsMoment job lines (now old)) (λ m saying. record {
@@ -208,7 +255,7 @@ moments_said job lines line front old mid new run says refusal said_mid whole no
         rest = saying.says.rest;
         refusal = subst IsRefusal saying.says.text_is refusal;
       });
-      no_tail = λ sound. absurd (none sound);
+      no_tail = λ sound. tails sound saying.says.front saying.says.rest saying.says.text_is;
     }) says.moments)
   where
     end : HasSaid (IsRunning job lines (now old).folder) (now old) (now mid)
@@ -226,7 +273,7 @@ refused_other : (job : Job) (lines : List LineEnd) (at status : ℕ) (old mid ne
     → SaysOnly (other_job_line at) mid new → (status ≡ 5 → said new ≡ said mid ++ other_job_line at) → RunsFrom job lines status (now old) old new
 refused_other job lines at status old mid new which run says whole = record {
   moments = moments_said job lines (other_job_line at) [] old mid new run.moments says (inl (at, refl)) (end.said_is ∙ sym (append-nil (said old))) (inl refl)
-      (λ sound. run.goes_on sound tt);
+      (λ sound tail rest parts. absurd (run.goes_on sound tt));
   goes_on = λ sound. absurd (run.goes_on sound tt);
   whole = λ sound. absurd (run.goes_on sound tt);
   says = λ zero. absurd (elim which [ inl x ↦ omega (arith, x, zero) | inr x ↦ omega (arith, x, zero) ]);
@@ -247,6 +294,7 @@ refused_other job lines at status old mid new which run says whole = record {
   };
   only_other = λ five. has.is_other;
   damaged = λ ten. absurd (elim which [ inl x ↦ omega (arith, x, ten) | inr x ↦ omega (arith, x, ten) ]);
+  spent = λ eleven. absurd (elim which [ inl x ↦ omega (arith, x, eleven) | inr x ↦ omega (arith, x, eleven) ]);
 }
   where
     has : HasOtherJob job.bytes at (present (now old).folder)
@@ -262,7 +310,8 @@ refused_other job lines at status old mid new which run says whole = record {
 refused_damage : (job : Job) (lines : List LineEnd) (f : FileNo) (at status : ℕ) (old mid new : World) → SaidOr 10 status → RunsSteps job lines (Damaged f at) old mid
     → SaysOnly (damaged_line f at) mid new → (status ≡ 10 → said new ≡ said mid ++ damaged_line f at) → RunsFrom job lines status (now old) old new
 refused_damage job lines f at status old mid new which run says whole = record {
-  moments = moments_said job lines (damaged_line f at) meets.front old mid new run.moments says (inr (f, at, refl)) meets.said_is meets.whole (λ sound. run.goes_on sound tt);
+  moments = moments_said job lines (damaged_line f at) meets.front old mid new run.moments says
+      (inr (inl (f, at, refl))) meets.said_is meets.whole (λ sound tail rest parts. absurd (run.goes_on sound tt));
   goes_on = λ sound. absurd (run.goes_on sound tt);
   whole = λ sound. absurd (run.goes_on sound tt);
   says = λ zero. absurd (elim which [ inl x ↦ omega (arith, x, zero) | inr x ↦ omega (arith, x, zero) ]);
@@ -287,12 +336,61 @@ refused_damage job lines f at status old mid new which run says whole = record {
       | inr later ↦ inr later
     ];
   };
+  spent = λ eleven. absurd (elim which [ inl x ↦ omega (arith, x, eleven) | inr x ↦ omega (arith, x, eleven) ]);
 }
   where
     meets : MeetsDamage job.steps lines f at old mid
     meets = run.damaged f at refl
 
     not_other : ((a : ℕ) × (Damaged f at ≡ OtherJob a)) ⊎ (Damaged f at ≡ FolderFault) → ⊥
+    not_other (inl x) = let other = x.1 in cc
+    not_other (inr x) = cc
+
+-- a step has no part number left, and that was said, or a front part of it
+stopped_spent : (job : Job) (lines : List LineEnd) (step status : ℕ) (old mid new : World) → SaidOr 11 status
+    → RunsSteps job lines (RunsSpent step) old mid → SaysOnly (runs_spent_line step) mid new
+    → (status ≡ 11 → said new ≡ said mid ++ runs_spent_line step) → RunsFrom job lines status (now old) old new
+stopped_spent job lines step status old mid new which run says whole = record {
+  moments = moments_said job lines (runs_spent_line step) meets.front old mid new run.moments says
+      (inr (inr (step, refl))) meets.said_is (inr meets.whole) (λ sound tail rest parts. inr (record {
+        step = step;
+        within = meets.spent.within;
+        work = meets.spent.work sound;
+        rest = rest;
+        line_is = parts;
+      }));
+  goes_on = λ sound refused. elim refused [ inl five ↦ not_five five | inr ten ↦ not_ten ten ];
+  whole = λ sound zero. absurd (not_zero zero);
+  says = λ zero. absurd (not_zero zero);
+  all = λ zero. absurd (not_zero zero);
+  emptied = λ zero. absurd (not_zero zero);
+  other = λ differs. absurd (not_other (run.refuses_other differs).1);
+  only_other = λ five. absurd (not_five five);
+  damaged = λ ten. absurd (not_ten ten);
+  spent = λ eleven. record {
+    step = step;
+    before = meets.front;
+    said_is = whole eleven ∙ ap (λ b. b ++ runs_spent_line step) meets.said_is
+        ∙ append_assoc (said old) meets.front (runs_spent_line step);
+    whole = subst (λ (folder : Folder). IsShape job.steps lines (present (now old).folder) (present folder) meets.front)
+        (sym (at_end mid new (IsSaying (runs_spent_line step) (now mid)) says.moments).folder_is) meets.whole;
+    spent = meets.spent;
+  };
+}
+  where
+    meets : MeetsSpent job lines step old mid
+    meets = run.spent step refl
+
+    not_zero : status ≡ 0 → ⊥
+    not_zero zero = elim which [ inl x ↦ omega (arith, x, zero) | inr x ↦ omega (arith, x, zero) ]
+
+    not_five : status ≡ 5 → ⊥
+    not_five five = elim which [ inl x ↦ omega (arith, x, five) | inr x ↦ omega (arith, x, five) ]
+
+    not_ten : status ≡ 10 → ⊥
+    not_ten ten = elim which [ inl x ↦ omega (arith, x, ten) | inr x ↦ omega (arith, x, ten) ]
+
+    not_other : ((at : ℕ) × (RunsSpent step ≡ OtherJob at)) ⊎ (RunsSpent step ≡ FolderFault) → ⊥
     not_other (inl x) = let other = x.1 in cc
     not_other (inr x) = cc
 
@@ -349,12 +447,12 @@ module _ {S : Type 0} (tells : S → Bool) (world : S → World) where
       → Told tells old s (Entered folder result (world old) (world s)) → Told tells old s (RunsIn folder job lines 7 (world old) (world s))
   enter_failed folder job lines result old s entered = told tells old s _ _ entered (λ _ e. not_entered folder job lines result (world old) (world s) e)
 
-  pub entered_runs : (folder : List ℕ) (job : Job) (lines : List LineEnd) (finish : Finish) (x : Unit) (old s t : S) → ¬ (RefusesFolder finish)
+  pub entered_runs : (folder : List ℕ) (job : Job) (lines : List LineEnd) (finish : Finish) (x : Unit) (old s t : S) → IsQuiet finish
       → Told tells old s (Entered folder (Ok x) (world old) (world s)) → Told tells s t (RunsSteps job lines finish (world s) (world t))
       → Told tells old t (RunsIn folder job lines (status_for finish) (world old) (world t))
-  entered_runs folder job lines finish x old s t none entered run =
+  entered_runs folder job lines finish x old s t quiet entered run =
       told_then tells old s t _ _ _ entered run (λ _ e r. enters_then folder job lines (status_for finish) x (world old) (world s) (world t) (ends_run finish) e r.stays
-      (ran_from job lines finish (world s) (world t) none r))
+      (ran_from job lines finish (world s) (world t) quiet r))
 
   -- a folder is refused, with the line that says so
   pub entered_other : (folder : List ℕ) (job : Job) (lines : List LineEnd) (at status : ℕ) (line : List ℕ) (x : Unit) (old s t u : S) → SaidOr 5 status → line ≡ other_job_line at
@@ -384,7 +482,58 @@ module _ {S : Type 0} (tells : S → Bool) (world : S → World) where
         let tells_s : IsTrue (tells s) = run.before tells_t in
         let r : RunsSteps job lines (Damaged f at) (world s) (world t) = run.did tells_t in
         let only : SaysOnly (damaged_line f at) (world t) (world u) = subst (λ l. SaysOnly l (world t) (world u)) line_is (says.did tells_u) in
-        enters_then folder job lines status x (world old) (world s) (world u) (elim which [ inl a ↦ inr (inr (inr (inr a))) | inr a ↦ inr (inr (inr (inl a))) ]) (entered.did tells_s)
+        enters_then folder job lines status x (world old) (world s) (world u) (elim which [ inl a ↦ inr (inr (inr (inr (inl a)))) | inr a ↦ inr (inr (inr (inl a))) ]) (entered.did tells_s)
         (stays_then (damaged_line f at) (world s) (world t) (world u) r.stays only)
         (refused_damage job lines f at status (world s) (world t) (world u) which r only (λ ten. whole ten tells_u ∙ ap (λ l. said (world t) ++ l) line_is));
   }
+
+  -- a step has no part number left, with the line that says so
+  pub entered_spent : (folder : List ℕ) (job : Job) (lines : List LineEnd) (step status : ℕ) (line : List ℕ) (x : Unit)
+      (old s t u : S) → SaidOr 11 status → line ≡ runs_spent_line step
+      → Told tells old s (Entered folder (Ok x) (world old) (world s))
+      → Told tells s t (RunsSteps job lines (RunsSpent step) (world s) (world t))
+      → Told tells t u (SaysOnly line (world t) (world u))
+      → (status ≡ 11 → IsTrue (tells u) → said (world u) ≡ said (world t) ++ line)
+      → Told tells old u (RunsIn folder job lines status (world old) (world u))
+  entered_spent folder job lines step status line x old s t u which line_is entered run says whole = record {
+    before = λ tells_u. entered.before (run.before (says.before tells_u));
+    did = λ tells_u.
+        let tells_t : IsTrue (tells t) = says.before tells_u in
+        let tells_s : IsTrue (tells s) = run.before tells_t in
+        let r : RunsSteps job lines (RunsSpent step) (world s) (world t) = run.did tells_t in
+        let only : SaysOnly (runs_spent_line step) (world t) (world u) =
+        subst (λ l. SaysOnly l (world t) (world u)) line_is (says.did tells_u) in
+        enters_then folder job lines status x (world old) (world s) (world u)
+        (elim which [ inl a ↦ inr (inr (inr (inr (inr a)))) | inr a ↦ inr (inr (inr (inl a))) ]) (entered.did tells_s)
+        (stays_then (runs_spent_line step) (world s) (world t) (world u) r.stays only)
+        (stopped_spent job lines step status (world s) (world t) (world u) which r only
+        (λ eleven. whole eleven tells_u ∙ ap (λ l. said (world t) ++ l) line_is));
+  }
+
+-- the calls of entering a folder and of a run of the steps and lines of a plan
+pub entered_calls : (n : ℕ) (text bytes : List ℕ) (given steps : List Planned) (spoken lines : List LineEnd) (path : List ℕ)
+    (result : Result Unit Failed) (old mid : World) (end : ℕ)
+    → given ≡ steps → spoken ≡ lines → Entered path result old mid
+    → (AreCounted (record { n = n; text = text; steps = given; bytes = bytes }) (now mid).folder
+    → end ≤ mid.clock + most_calls (record { n = n; text = text; steps = given; bytes = bytes }) (length spoken))
+    → AreCounted (record { n = n; text = text; steps = steps; bytes = bytes }) (now old).folder
+    → end ≤ old.clock + 1 + most_calls (record { n = n; text = text; steps = steps; bytes = bytes }) (length lines)
+entered_calls n text bytes given steps spoken lines path result old mid end steps_are lines_are entered run counted =
+    within end mid.clock old.clock (calls steps lines) entered.ticks.clock_is
+    (subst (λ ls. end ≤ mid.clock + calls steps ls) lines_are (by_steps counted_there))
+  where
+    job_with : List Planned → Job
+    job_with ss = record { n = n; text = text; steps = ss; bytes = bytes }
+
+    calls : List Planned → List LineEnd → ℕ
+    calls ss ls = most_calls (job_with ss) (length ls)
+
+    counted_there : AreCounted (job_with steps) (now mid).folder
+    counted_there = subst (λ (m : Moment). AreCounted (job_with steps) m.folder) (sym entered.same) counted
+
+    by_steps : AreCounted (job_with steps) (now mid).folder → end ≤ mid.clock + calls steps spoken
+    by_steps = subst (λ (ss : List Planned). AreCounted (job_with ss) (now mid).folder
+        → end ≤ mid.clock + calls ss spoken) steps_are run
+
+    within : (a b c most : ℕ) → b ≡ c + 1 → a ≤ b + most → a ≤ c + 1 + most
+    within a b c most one few = omega (arith, one, few)

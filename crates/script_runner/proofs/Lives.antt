@@ -1,5 +1,5 @@
 -- What any list of calls in one folder leaves.
-use Rattle.std.proofs.Common.{◌≡◌, ◌∙◌, ◌⊎◌, ℕ, ◌+◌, ◌≤◌, Bool, true, false, List, [], ◌∷◌, ◌++◌, length, drop, replicate, refl, sym, ap, ap₂, subst, inl, inr, arith}
+use Rattle.std.proofs.Common.{◌≡◌, ◌∙◌, ◌⊎◌, ℕ, ◌+◌, ◌^◌, ◌<◌, ◌≤◌, Bool, true, false, List, [], ◌∷◌, ◌++◌, length, drop, replicate, refl, sym, ap, ap₂, subst, inl, inr, arith}
 use Rattle.std.specs.Prelude.{IsTrue, Some, None, codes, nat_lt, bytes_eq}
 use Rattle.std.proofs.lemmas.List.{append-nil, append_cancel_left, drop_at, length-append}
 use Rattle.std.proofs.lemmas.Slice.Eq.{bytes_eq-Decides}
@@ -17,7 +17,8 @@ use Rattle.shelf_model.specs.Faults.{Faults}
 use Rattle.catalogue.specs.Files.{job_file, job_gate, step_gate}
 use Rattle.catalogue.specs.Counts.{present, is_stored, count_in}
 use Rattle.sound_image.specs.Files.{checkpoint_gate}
-use Rattle.sound_image.specs.Jobs.{Job}
+use Rattle.sound_image.specs.Jobs.{Job, step_at}
+use Rattle.sound_image.specs.Entries.{work_of}
 use Rattle.sound_image.specs.Sound.{IsSound}
 use Rattle.sound_image.specs.Holds.{AreSound}
 use Rattle.sound_image.proofs.AttachLaws.{standing}
@@ -30,9 +31,9 @@ use Rattle.script_runner.specs.Said.{whole_lines, said_count}
 use Rattle.script_runner.specs.Running.{SaysOnly, IsSafe}
 use Rattle.script_runner.specs.Fetching.{OnlyFetched}
 use Rattle.script_runner.specs.JobOf.{job_bytes, job_of}
-use Rattle.script_runner.specs.Entered.{EndsRun, RefusesOther, IsMoment, RunsIn}
+use Rattle.script_runner.specs.Entered.{EndsRun, RefusesOther, NamesSpentStep, IsMoment, RunsIn}
 use Rattle.script_runner.specs.Text.{usage_line, refused_line, run_text}
-use Rattle.script_runner.specs.Outcome.{Accepts, IsRefused, EndsRan, Ends, StatusHasCause, NoneRose}
+use Rattle.script_runner.specs.Outcome.{Accepts, IsRefused, EndsRan, Ends, StatusHasCause, IsSmall, NoneRose}
 use Rattle.script_runner.specs.Lives.{Life, SameFiles, IsLeftOf, IsLife, RunsPlan, StaysOut, AreStored, AreLives, LifeKeeps, LivesKeep}
 
 -- an image without bytes is sound for every job
@@ -120,18 +121,22 @@ module _ (budget : ℕ) (text : List ℕ) (plan : Plan) (reads : Reads text plan
     sound = of_left (IsSound (job_of budget text plan)) then.folder life.left is.leaves (λ image is_image. sound image (was_there image is_image));
     has_old = λ count reaches. of_left (λ r. count ≤ count_in r) then.folder life.left is.leaves (λ image is_image. reaches image (was_there image is_image));
     still_stored = λ stored. of_left (λ r. IsTrue (is_stored r)) then.folder life.left is.leaves (λ image is_image. stored image (was_there image is_image));
-    has_said = λ runs image is_image.
-        let none : said_count (count_in (present folder)) plan.lines [] ≡ 0 = refl in
-        let nothing : said_count (count_in (present folder)) plan.lines life.told ≡ 0 = ap (λ t. said_count (count_in (present folder)) plan.lines t) (silent runs) ∙ none in
-        omega (arith, nothing);
-    has_job = λ runs some.
-        let none : whole_lines [] ≡ 0 = refl in
-        let nothing : whole_lines life.told ≡ 0 = ap whole_lines (silent runs) ∙ none in
-        absurd (omega (arith, some, nothing));
+    has_said = λ runs. record {
+      lines = [];
+      told = record { tail = []; told_is = silent runs; tail_is = inl refl };
+      has_steps = λ image is_image. omega (arith, none_said);
+      has_job = λ some. absurd (omega (arith, some, no_lines));
+    };
   }
     where
       was_there : (image : Image) → IsImage then.folder image → IsImage folder image
       was_there image is_image = alike (now life.old).folder folder is.found image (old_images image is_image)
+
+      none_said : said_count (count_in (present folder)) plan.lines [] ≡ 0
+      none_said = refl
+
+      no_lines : whole_lines [] ≡ 0
+      no_lines = refl
 
   -- a line was said and no file touched
   keeps_saying : (line : List ℕ) → SaysOnly line life.old life.new → ¬ (RunsPlan budget text plan life) → LifeKeeps budget text plan folder life
@@ -161,11 +166,16 @@ module _ (budget : ℕ) (text : List ℕ) (plan : Plan) (reads : Reads text plan
           counts = omega arith;
           begins = refl;
         }) image is_image).stored);
-    has_said = λ runs. of_left (λ r. said_count (count_in (present folder)) plan.lines life.told ≤ count_in r) then.folder life.left is.leaves (λ image is_image.
-        subst (λ r. said_count (count_in r) plan.lines life.told ≤ count_in (bytes_in image)) same_reads
-        (subst (λ t. said_count (count_in (present (now life.old).folder)) plan.lines t ≤ count_in (bytes_in image)) told_is (safe image is_image).has_said));
-    has_job = λ runs some. of_left (λ r. IsTrue (is_stored r)) then.folder life.left is.leaves (λ image is_image.
-        (safe image is_image).stored (subst (λ t. 1 ≤ whole_lines t) (sym told_is) some));
+    has_said = λ runs. record {
+      lines = moment.front;
+      told = record { tail = moment.tail; told_is = told_is; tail_is = moment.no_tail found_sound };
+      has_steps = of_left (λ r. said_count (count_in (present folder)) plan.lines moment.front ≤ count_in r) then.folder
+          life.left is.leaves (λ image is_image.
+          subst (λ r. said_count (count_in r) plan.lines moment.front ≤ count_in (bytes_in image)) same_reads
+          (safe image is_image).has_said);
+      has_job = λ some. of_left (λ r. IsTrue (is_stored r)) then.folder life.left is.leaves
+          (λ image is_image. (safe image is_image).stored some);
+    };
   }
     where
       moment : IsMoment (job_of budget text plan) plan.lines (now life.old) then
@@ -174,10 +184,9 @@ module _ (budget : ℕ) (text : List ℕ) (plan : Plan) (reads : Reads text plan
       safe : (image : Image) → IsImage then.folder image → IsSafe (job_of budget text plan) plan.lines (now life.old).folder moment.front (bytes_in image)
       safe = (moment.running.safe_run found_sound).safe
 
-      told_is : moment.front ≡ life.told
-      told_is = append_cancel_left (said life.old) moment.front life.told (
-          ap (λ b. said life.old ++ b) (sym (append-nil moment.front) ∙ ap (λ t. moment.front ++ t) (sym (moment.no_tail found_sound)))
-          ∙ sym moment.said_is ∙ is.said_is)
+      told_is : life.told ≡ moment.front ++ moment.tail
+      told_is = append_cancel_left (said life.old) life.told (moment.front ++ moment.tail)
+          (sym is.said_is ∙ moment.said_is)
 
       same_reads : present (now life.old).folder ≡ present folder
       same_reads = λ i f. ap (λ file. file.bytes) (is.found f) i
@@ -271,11 +280,12 @@ lives_keep budget text plan folder (life ∷ lives) reads sound are =
     let keeps : LifeKeeps budget text plan folder life = life_keeps budget text plan reads folder life sound are.0 are.1 in
     (keeps, lives_keep budget text plan life.left lives reads keeps.sound are.2)
 
--- a run of an accepted text in a sound folder, without a fault
+-- a run of an accepted text of small steps in a sound folder, without a fault
 pub accepted_runs_end : (words : List (List ℕ)) (plan : Plan) (status : ℕ) (old new : World) (before after : Faults) → (accepts : Accepts old words plan)
-    → AreSound (job_of accepts.asked.budget accepts.text plan) (now old).folder → Ends words status old new → StatusHasCause words status before after → NoneRose words before after
+    → AreSound (job_of accepts.asked.budget accepts.text plan) (now old).folder
+    → IsSmall (job_of accepts.asked.budget accepts.text plan) → Ends words status old new → StatusHasCause words status before after → NoneRose words before after
     → ((status ≡ 0) × (said new ≡ said old ++ run_text (job_of accepts.asked.budget accepts.text plan) plan.lines (present (now old).folder))) ⊎ ((status ≡ 9) × OnlyFetched old new)
-accepted_runs_end words plan status old new before after accepts sound ends causes none =
+accepted_runs_end words plan status old new before after accepts sound small ends causes none =
     elim ends [
       | inl usage ↦ absurd (reads_something words accepts.asked usage.unread accepts.words_are)
       | inr other ↦ elim other [
@@ -310,8 +320,20 @@ accepted_runs_end words plan status old new before after accepts sound ends caus
               | inl seven ↦ absurd (none.folder_same (causes.folder_fault seven))
               | inr last ↦ elim last [
                 | inl eight ↦ absurd (none.say_same (causes.say_fault eight))
-                | inr ten ↦ absurd (run.leaves.goes_on sound (inr ten))
+                | inr end ↦ elim end [
+                  | inl ten ↦ absurd (run.leaves.goes_on sound (inr ten))
+                  | inr eleven ↦ absurd (too_great (run.leaves.spent eleven))
+                ]
               ]
             ]
           ]
         ]
+          where
+            work : ℕ → ℕ
+            work step = work_of (job_of accepts.asked.budget accepts.text plan) (step_at (job_of accepts.asked.budget accepts.text plan) step).step
+
+            too_great : NamesSpentStep (job_of accepts.asked.budget accepts.text plan) plan.lines (now old) old new → ⊥
+            too_great names =
+                let great : 2 ^ 35 ≤ work names.step = names.spent.work sound in
+                let less : work names.step < 2 ^ 35 = small names.step names.spent.within in
+                omega (arith, great, less)

@@ -59,10 +59,11 @@ returns-clause-calls g c =
     let asked : Asked = record { folder = c.in-Ok.asked.folder.now; script = c.in-Ok.asked.script.now; budget = c.in-Ok.asked.budget } in
     let again : c.deref-2.result.now ≡ c.deref.result.now = c.deref-2.ensures.value ∙ sym c.deref.ensures.value in
     let job : c.deref-4.result.now ≡ job_bytes asked.budget c.deref.result.now = c.deref-4.ensures.value ∙ c.in-Ok-job_bytes.ensures ∙ ap (job_bytes asked.budget) again in
-    few_run g.W.Shelf.tells g.W.Shelf.world (map string_bytes c.args.words.now) asked c.deref.result.now c.deref-4.result.now c.in-Ok-read_script.plan _ _ _
-    (c.in-Ok.ensures.read) c.in-Ok-read_script.ensures.read job
+    let same : c.deref-3.result.now ≡ c.deref.result.now = c.deref-3.ensures.value ∙ sym c.deref.ensures.value in
+    few_run g.W.Shelf.tells g.W.Shelf.world (map string_bytes c.args.words.now) asked c.deref.result.now c.deref-3.result.now c.deref-4.result.now c.in-Ok-read_script.plan _ _ _
+    (c.in-Ok.ensures.read) c.in-Ok-read_script.ensures.read same job
     (λ tells_now. subst (λ bytes. IsText asked.script 1048576 bytes (g.W.Shelf.world c.args.station.now)) (sym c.deref.ensures.value) (c.in-Ok-fetch_text.ensures.text tells_now))
-    c.in-Ok-fetch_text.ensures.calls c.run_plan.ensures.content.before c.run_plan.ensures.calls
+    c.in-Ok-fetch_text.ensures.content c.in-Ok-fetch_text.ensures.calls c.run_plan.ensures.content.before c.run_plan.ensures.calls
 
 pub returns-in_default-take_room-clause-calls : goal.returns-in_default-take_room-clause-calls
 returns-in_default-take_room-clause-calls g c t = let fetched = c.in-Ok-fetch_text.ensures.calls t in inl (omega (arith, fetched))

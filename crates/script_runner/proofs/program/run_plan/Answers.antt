@@ -1,8 +1,8 @@
-use Rattle.std.proofs.Common.{◌≡◌, ◌∙◌, length, ap, arith}
+use Rattle.std.proofs.Common.{◌∙◌, arith}
 use Rattle.sound_image.specs.Jobs.{Job}
-use Rattle.script_runner.specs.declared.finish.Finish.TheVariants.{Done, OtherJob, FolderFault, SayFault, Damaged}
+use Rattle.script_runner.specs.declared.finish.Finish.TheVariants.{Done, OtherJob, FolderFault, SayFault, Damaged, RunsSpent}
 use Rattle.script_runner.specs.declared.ending.Ending.TheVariants as ending
-use Rattle.script_runner.proofs.EnteredRuns.{of_items, enter_failed, entered_runs, entered_other, entered_damage, said_or, whole_line}
+use Rattle.script_runner.proofs.EnteredRuns.{of_items, enter_failed, entered_runs, entered_other, entered_damage, entered_spent, entered_calls, said_or, whole_line}
 use Rattle.script_runner.proofs.program.run_plan.Goals as goal
 
 pub returns-in_default-clause-content : goal.returns-in_default-clause-content
@@ -14,19 +14,19 @@ pub returns-in-Done-clause-content : goal.returns-in-Done-clause-content
 returns-in-Done-clause-content g c =
     let job : Job = record { n = c.args.plan.now.n; text = c.args.text.now; steps = c.args.plan.now.steps; bytes = c.args.job.now } in
     let run = of_items g.W.Shelf.tells g.W.Shelf.world c.args.plan.now.n c.args.text.now c.args.job.now _ _ _ _ Done _ _ c.items.ensures c.items-2.ensures c.in-Done.ensures.content in
-    entered_runs g.W.Shelf.tells g.W.Shelf.world c.args.folder.now job c.args.plan.now.lines Done c.in-Ok.field-0 _ _ _ (λ x. x) c.in-Ok.ensures.content run
+    entered_runs g.W.Shelf.tells g.W.Shelf.world c.args.folder.now job c.args.plan.now.lines Done c.in-Ok.field-0 _ _ _ tt c.in-Ok.ensures.content run
 
 pub returns-in-FolderFault-clause-content : goal.returns-in-FolderFault-clause-content
 returns-in-FolderFault-clause-content g c =
     let job : Job = record { n = c.args.plan.now.n; text = c.args.text.now; steps = c.args.plan.now.steps; bytes = c.args.job.now } in
     let run = of_items g.W.Shelf.tells g.W.Shelf.world c.args.plan.now.n c.args.text.now c.args.job.now _ _ _ _ FolderFault _ _ c.items.ensures c.items-2.ensures c.in-FolderFault.ensures.content in
-    entered_runs g.W.Shelf.tells g.W.Shelf.world c.args.folder.now job c.args.plan.now.lines FolderFault c.in-Ok.field-0 _ _ _ (λ x. x) c.in-Ok.ensures.content run
+    entered_runs g.W.Shelf.tells g.W.Shelf.world c.args.folder.now job c.args.plan.now.lines FolderFault c.in-Ok.field-0 _ _ _ tt c.in-Ok.ensures.content run
 
 pub returns-in-SayFault-clause-content : goal.returns-in-SayFault-clause-content
 returns-in-SayFault-clause-content g c =
     let job : Job = record { n = c.args.plan.now.n; text = c.args.text.now; steps = c.args.plan.now.steps; bytes = c.args.job.now } in
     let run = of_items g.W.Shelf.tells g.W.Shelf.world c.args.plan.now.n c.args.text.now c.args.job.now _ _ _ _ SayFault _ _ c.items.ensures c.items-2.ensures c.in-SayFault.ensures.content in
-    entered_runs g.W.Shelf.tells g.W.Shelf.world c.args.folder.now job c.args.plan.now.lines SayFault c.in-Ok.field-0 _ _ _ (λ x. x) c.in-Ok.ensures.content run
+    entered_runs g.W.Shelf.tells g.W.Shelf.world c.args.folder.now job c.args.plan.now.lines SayFault c.in-Ok.field-0 _ _ _ tt c.in-Ok.ensures.content run
 
 pub returns-in-OtherJob-clause-content : goal.returns-in-OtherJob-clause-content
 returns-in-OtherJob-clause-content g c =
@@ -46,47 +46,76 @@ returns-in-Damaged-clause-content g c =
     c.in-Ok.ensures.content run c.say_refusal-in-Damaged.ensures.content
     (λ ten. c.say_refusal-in-Damaged.ensures.whole (whole_line ending.Damaged c.say_refusal-in-Damaged.result (λ x. omega (arith, x)) c.say_refusal-in-Damaged.ensures.which ten))
 
+pub returns-in-RunsSpent-clause-content : goal.returns-in-RunsSpent-clause-content
+returns-in-RunsSpent-clause-content g c =
+    let job : Job = record {
+      n = c.args.plan.now.n;
+      text = c.args.text.now;
+      steps = c.args.plan.now.steps;
+      bytes = c.args.job.now;
+    } in
+    let run = of_items g.W.Shelf.tells g.W.Shelf.world c.args.plan.now.n c.args.text.now c.args.job.now _ _ _ _
+    (RunsSpent c.in-RunsSpent.step) _ _ c.items.ensures c.items-2.ensures c.in-RunsSpent.ensures.content in
+    entered_spent g.W.Shelf.tells g.W.Shelf.world c.args.folder.now job c.args.plan.now.lines c.in-RunsSpent.step _
+    c.as_bytes-in-RunsSpent.result.now c.in-Ok.field-0 _ _ _ _
+    (said_or ending.RunsSpent c.say_refusal-in-RunsSpent.result c.say_refusal-in-RunsSpent.ensures.which)
+    (c.as_bytes-in-RunsSpent.ensures.value ∙ c.as_str-in-RunsSpent.ensures.value ∙ c.runs_spent_line.ensures.text)
+    c.in-Ok.ensures.content run c.say_refusal-in-RunsSpent.ensures.content
+    (λ eleven. c.say_refusal-in-RunsSpent.ensures.whole (whole_line ending.RunsSpent
+    c.say_refusal-in-RunsSpent.result (λ x. omega (arith, x)) c.say_refusal-in-RunsSpent.ensures.which eleven))
+
 pub returns-in-Done-clause-calls : goal.returns-in-Done-clause-calls
-returns-in-Done-clause-calls g c t =
-    let entered = (c.in-Ok.ensures.content.did (c.in-Done.ensures.content.before t)).ticks.clock_is in
-    let run = c.in-Done.ensures.calls t in
-    let steps : length c.items.result.now ≡ length c.args.plan.now.steps = ap length c.items.ensures in
-    let lines : length c.items-2.result.now ≡ length c.args.plan.now.lines = ap length c.items-2.ensures in
-    omega (arith, entered, run, steps, lines)
+returns-in-Done-clause-calls g c t counted =
+    let run = entered_calls c.args.plan.now.n c.args.text.now c.args.job.now _ _ _ _ c.args.folder.now _ _ _ _
+    c.items.ensures c.items-2.ensures
+    (c.in-Ok.ensures.content.did (c.in-Done.ensures.content.before t)) (c.in-Done.ensures.calls t) counted in
+    omega (arith, run)
 
 pub returns-in-FolderFault-clause-calls : goal.returns-in-FolderFault-clause-calls
-returns-in-FolderFault-clause-calls g c t =
-    let entered = (c.in-Ok.ensures.content.did (c.in-FolderFault.ensures.content.before t)).ticks.clock_is in
-    let run = c.in-FolderFault.ensures.calls t in
-    let steps : length c.items.result.now ≡ length c.args.plan.now.steps = ap length c.items.ensures in
-    let lines : length c.items-2.result.now ≡ length c.args.plan.now.lines = ap length c.items-2.ensures in
-    omega (arith, entered, run, steps, lines)
+returns-in-FolderFault-clause-calls g c t counted =
+    let run = entered_calls c.args.plan.now.n c.args.text.now c.args.job.now _ _ _ _ c.args.folder.now _ _ _ _
+    c.items.ensures c.items-2.ensures
+    (c.in-Ok.ensures.content.did (c.in-FolderFault.ensures.content.before t))
+    (c.in-FolderFault.ensures.calls t) counted in
+    omega (arith, run)
 
 pub returns-in-SayFault-clause-calls : goal.returns-in-SayFault-clause-calls
-returns-in-SayFault-clause-calls g c t =
-    let entered = (c.in-Ok.ensures.content.did (c.in-SayFault.ensures.content.before t)).ticks.clock_is in
-    let run = c.in-SayFault.ensures.calls t in
-    let steps : length c.items.result.now ≡ length c.args.plan.now.steps = ap length c.items.ensures in
-    let lines : length c.items-2.result.now ≡ length c.args.plan.now.lines = ap length c.items-2.ensures in
-    omega (arith, entered, run, steps, lines)
+returns-in-SayFault-clause-calls g c t counted =
+    let run = entered_calls c.args.plan.now.n c.args.text.now c.args.job.now _ _ _ _ c.args.folder.now _ _ _ _
+    c.items.ensures c.items-2.ensures
+    (c.in-Ok.ensures.content.did (c.in-SayFault.ensures.content.before t)) (c.in-SayFault.ensures.calls t) counted in
+    omega (arith, run)
 
 pub returns-in-OtherJob-clause-calls : goal.returns-in-OtherJob-clause-calls
-returns-in-OtherJob-clause-calls g c t =
-    let entered = (c.in-Ok.ensures.content.did (c.in-OtherJob.ensures.content.before (c.say_refusal.ensures.content.before t))).ticks.clock_is in
-    let run = c.in-OtherJob.ensures.calls (c.say_refusal.ensures.content.before t) in
-    let steps : length c.items.result.now ≡ length c.args.plan.now.steps = ap length c.items.ensures in
-    let lines : length c.items-2.result.now ≡ length c.args.plan.now.lines = ap length c.items-2.ensures in
+returns-in-OtherJob-clause-calls g c t counted =
+    let told = c.say_refusal.ensures.content.before t in
+    let run = entered_calls c.args.plan.now.n c.args.text.now c.args.job.now _ _ _ _ c.args.folder.now _ _ _ _
+    c.items.ensures c.items-2.ensures
+    (c.in-Ok.ensures.content.did (c.in-OtherJob.ensures.content.before told))
+    (c.in-OtherJob.ensures.calls told) counted in
     let said = c.say_refusal.ensures.calls t in
-    omega (arith, entered, run, steps, lines, said)
+    omega (arith, run, said)
 
 pub returns-in-Damaged-clause-calls : goal.returns-in-Damaged-clause-calls
-returns-in-Damaged-clause-calls g c t =
-    let entered = (c.in-Ok.ensures.content.did (c.in-Damaged.ensures.content.before (c.say_refusal-in-Damaged.ensures.content.before t))).ticks.clock_is in
-    let run = c.in-Damaged.ensures.calls (c.say_refusal-in-Damaged.ensures.content.before t) in
-    let steps : length c.items.result.now ≡ length c.args.plan.now.steps = ap length c.items.ensures in
-    let lines : length c.items-2.result.now ≡ length c.args.plan.now.lines = ap length c.items-2.ensures in
+returns-in-Damaged-clause-calls g c t counted =
+    let told = c.say_refusal-in-Damaged.ensures.content.before t in
+    let run = entered_calls c.args.plan.now.n c.args.text.now c.args.job.now _ _ _ _ c.args.folder.now _ _ _ _
+    c.items.ensures c.items-2.ensures
+    (c.in-Ok.ensures.content.did (c.in-Damaged.ensures.content.before told))
+    (c.in-Damaged.ensures.calls told) counted in
     let said = c.say_refusal-in-Damaged.ensures.calls t in
-    omega (arith, entered, run, steps, lines, said)
+    omega (arith, run, said)
+
+pub returns-in-RunsSpent-clause-calls : goal.returns-in-RunsSpent-clause-calls
+returns-in-RunsSpent-clause-calls g c t counted =
+    let told = c.say_refusal-in-RunsSpent.ensures.content.before t in
+    let run = entered_calls c.args.plan.now.n c.args.text.now c.args.job.now _ _ _ _ c.args.folder.now _ _ _ _
+    c.items.ensures c.items-2.ensures
+    (c.in-Ok.ensures.content.did (c.in-RunsSpent.ensures.content.before told))
+    (c.in-RunsSpent.ensures.calls told) counted in
+    let said = c.say_refusal-in-RunsSpent.ensures.calls t in
+    omega (arith, run, said)
 
 pub returns-in_default-clause-calls : goal.returns-in_default-clause-calls
-returns-in_default-clause-calls g c t = let entered = (c.in_default.ensures.content.did t).ticks.clock_is in omega (arith, entered)
+returns-in_default-clause-calls g c t counted =
+    let entered = (c.in_default.ensures.content.did t).ticks.clock_is in omega (arith, entered)
