@@ -1,7 +1,6 @@
-use Rattle.std.proofs.Common.{◌≡◌, ◌∙◌, ℕ, ◌+◌, ◌<◌, ◌≤◌, refl, inr, arith, rules}
+use Rattle.std.proofs.Common.{◌∙◌, refl, inr, arith}
 use Rattle.shelf_model.specs.World.{now}
 use Rattle.shelf_model.proofs.Runs.{told_here, ran_stands}
-use Rattle.sound_image.specs.Steps.{IsBehind}
 use Rattle.step_engine.specs.OneFile.{OnlyTidied}
 use Rattle.step_engine.proofs.Cutting.{cut_on, behind_then, stays_tidy}
 use Rattle.step_engine.proofs.drops.empty_parts.Goals as goal

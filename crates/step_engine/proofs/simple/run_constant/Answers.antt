@@ -1,5 +1,4 @@
 use Rattle.std.proofs.Common.{arith}
-use Rattle.std.specs.Prelude.{OnOk}
 use Rattle.step_engine.proofs.OneTurn.{constant_simple, simple_made, shelf_fine}
 use Rattle.step_engine.proofs.simple.run_constant.Goals as goal
 

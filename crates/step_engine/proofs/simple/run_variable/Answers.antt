@@ -1,4 +1,4 @@
-use Rattle.std.proofs.Common.{◌<◌, ◌≡◌, nat_lt, subst, arith}
+use Rattle.std.proofs.Common.{◌<◌, nat_lt, subst, arith}
 use Rattle.std.specs.Prelude.{IsTrue}
 use Rattle.std.specs.List.{list_all}
 use Rattle.bool_tables.specs.Plans.{levels_of}
