@@ -43,7 +43,7 @@ use Rattle.step_engine.proofs.EntryLaws.{operand_kind}
 use Rattle.step_engine.proofs.PlanLaws.{first_true, second_true}
 use Rattle.script_runner.specs.declared.finish.Finish.{Finish}
 use Rattle.script_runner.specs.declared.finish.Finish.TheVariants.{FolderFault, RunsSpent}
-use Rattle.script_runner.specs.Running.{OthersAre, AreEmptied, IsMetDamage, RefusesFolder, IsStop}
+use Rattle.script_runner.specs.Running.{OthersAre, AreEmptied, IsMetDamage, IsNodeFileAmong, RefusesFolder, IsStop}
 use Rattle.script_runner.specs.StepRuns.{IsJobOf, CountsAbout, IsTaking, HasEntry, HasSteps, HoldsStep, NamesMet, NamesSpent, StaysEmpty, TakesStep, stopped_by}
 use Rattle.script_runner.proofs.RunSteps.{held_steps, present_count}
 
@@ -104,18 +104,10 @@ cut_file s k f earlier (inl (gone, dropped, is)) =
     omega (arith, below, steps)
 cut_file s k f earlier (inr (swept, own)) = let steps : f.step ≡ k = own.step_is in omega (arith, steps)
 
--- a file of one of these operands that is damaged is that of an earlier step
-among_below : (n k : ℕ) (xs : List ℕ) (world : World) (f : FileNo) (at : ℕ) → IsTrue (list_all (λ j. nat_lt j k) xs) → IsDamagedAmong n xs world f at → f.step ≤ k
-among_below n k [] world f at earlier among = absurd among
-among_below n k (x ∷ xs) world f at earlier (inl here) =
-    let below : x < k = to_less x k (first_true (nat_lt x k) (list_all (λ j. nat_lt j k) xs) earlier) in
-    let steps : f.step ≡ x = ap (λ (q : FileNo). q.step) here.0 in
-    omega (arith, below, steps)
-  where
-    to_less : (a b : ℕ) → IsTrue (nat_lt a b) → a < b
-    to_less a b h = search (arith, h)
-among_below n k (x ∷ xs) world f at earlier (inr later) =
-    among_below n k xs world f at (second_true (nat_lt x k) (list_all (λ j. nat_lt j k) xs) earlier) later
+-- the file of one of these operands
+among_files : (n : ℕ) (xs : List ℕ) (world : World) (f : FileNo) (at : ℕ) → IsDamagedAmong n xs world f at → IsNodeFileAmong xs f
+among_files n [] world f at fault = fault
+among_files n (x ∷ xs) world f at fault = elim fault [ inl one ↦ inl one.0 | inr rest ↦ inr (among_files n xs world f at rest) ]
 
 -- each image of a folder that is ready has its count
 counts_about : (step count : ℕ) (folder : Folder) → step ≤ count → count ≤ step + 1 → IsReady count folder → (image : Image) → IsImage folder image
@@ -243,17 +235,17 @@ module _ (n : ℕ) (text : List ℕ) (steps : List Planned) (k : ℕ) (few : len
       (ran_end mid last (DuringCommit e (now mid)) commits).others (node_file j) (not_catalogue (node_file j) of_step) (not_step_gate (node_file j) of_step)
       ∙ ran_end old mid (OnlyItsFiles k (now old)) made (node_file j) (λ own. let same : j ≡ k = own.step_is in omega (arith, same, below))) ∙ before)
 
-  -- a file that a step of these operands can't go on with
-  swept_damage : (s : Step) (f : FileNo) (at : ℕ) (xs : List ℕ) (old : World) → (get_or steps k no_step).step ≡ s → IsTrue (sweeps s)
-      → IsTrue (list_all (λ j. nat_lt j k) xs) → IsSweepFault n xs k old (sort.Damaged f at) → IsMetDamage steps f at (present (now old).folder)
-  swept_damage s f at xs old step swept earlier fault = inr (record {
+  -- a file that a step that sweeps can't go on with
+  swept_damage : (s : Step) (f : FileNo) (at : ℕ) (old : World) → (get_or steps k no_step).step ≡ s → IsTrue (sweeps s)
+      → IsSweepFault n (operands s) k old (sort.Damaged f at) → IsMetDamage steps f at (present (now old).folder)
+  swept_damage s f at old step swept fault = inr (record {
     step = k;
     within = within;
     swept = subst (λ x. IsTrue (sweeps x)) (sym step) swept;
-    file_is = elim fault [
-      | inl among ↦ among_below n k xs old f at earlier among
-      | inr taken ↦ let same : f.step ≡ k = taken.step_is in omega (arith, same)
-    ];
+    file_is = subst (λ x. IsNodeFileAmong (operands x) f ⊎ ((f.step ≡ k) × (3 ≤ f.part))) (sym step) (elim fault [
+      | inl among ↦ inl (among_files n (operands s) old f at among)
+      | inr taken ↦ inr (taken.step_is, taken.from)
+    ]);
   })
 
   -- the entry that a size couldn't use, or the file that a step that sweeps couldn't
@@ -261,15 +253,14 @@ module _ (n : ℕ) (text : List ℕ) (steps : List Planned) (k : ℕ) (few : len
       → count_in (present (now old).folder) ≡ k → IsStepFault n s k old (sort.Damaged f at) → IsMetDamage steps f at (present (now old).folder)
   step_damage plan (Const value) f at old step earlier count fault = absurd cc
   step_damage plan (Var level) f at old step earlier count fault = absurd cc
-  step_damage plan (Pair op left right) f at old step earlier count fault = swept_damage (Pair op left right) f at (left ∷ right ∷ []) old step refl earlier fault
-  step_damage plan (Ite test if_one if_zero) f at old step earlier count fault =
-      swept_damage (Ite test if_one if_zero) f at (test ∷ if_one ∷ if_zero ∷ []) old step refl earlier fault
-  step_damage plan (Quantify kind operand level) f at old step earlier count fault = swept_damage (Quantify kind operand level) f at (operand ∷ []) old step refl earlier fault
-  step_damage plan (Restrict operand level value) f at old step earlier count fault = swept_damage (Restrict operand level value) f at (operand ∷ []) old step refl earlier fault
+  step_damage plan (Pair op left right) f at old step earlier count fault = swept_damage (Pair op left right) f at old step refl fault
+  step_damage plan (Ite test if_one if_zero) f at old step earlier count fault = swept_damage (Ite test if_one if_zero) f at old step refl fault
+  step_damage plan (Quantify kind operand level) f at old step earlier count fault = swept_damage (Quantify kind operand level) f at old step refl fault
+  step_damage plan (Restrict operand level value) f at old step earlier count fault = swept_damage (Restrict operand level value) f at old step refl fault
   step_damage plan (Drop gone) f at old step earlier count fault = absurd cc
-  step_damage plan (Same left right) f at old step earlier count fault = swept_damage (Same left right) f at (left ∷ right ∷ []) old step refl earlier fault
-  step_damage plan (Leq left right) f at old step earlier count fault = swept_damage (Leq left right) f at (left ∷ right ∷ []) old step refl earlier fault
-  step_damage plan (Eval operand bits) f at old step earlier count fault = swept_damage (Eval operand bits) f at (operand ∷ []) old step refl earlier fault
+  step_damage plan (Same left right) f at old step earlier count fault = swept_damage (Same left right) f at old step refl fault
+  step_damage plan (Leq left right) f at old step earlier count fault = swept_damage (Leq left right) f at old step refl fault
+  step_damage plan (Eval operand bits) f at old step earlier count fault = swept_damage (Eval operand bits) f at old step refl fault
   step_damage plan (Size operand) f at old step earlier count fault = by_fault fault.0 fault.1 fault.2
     where
       below : operand < k

@@ -1,5 +1,5 @@
 -- What holds at every moment of a run, and what a run leaves.
-use Rattle.std.specs.Prelude.{◌≡◌, ◌≢◌, ◌⊎◌, ℕ, ◌-◌, ◌*◌, ◌/◌, ◌^◌, ◌<◌, ◌≤◌, IsTrue, List, [], ◌++◌, length, take, get_or, nat_eq}
+use Rattle.std.specs.Prelude.{◌≡◌, ◌≢◌, ◌⊎◌, ℕ, ◌-◌, ◌*◌, ◌/◌, ◌^◌, ◌<◌, ◌≤◌, IsTrue, List, [], ◌∷◌, ◌++◌, length, take, get_or, nat_eq}
 use Rattle.std.specs.List.{common_prefix_len}
 use Rattle.shelf_model.specs.declared.file_no.FileNo.{FileNo}
 use Rattle.shelf_model.specs.Folder.{Folder, Image, file_in, bytes_in, IsImage, OnlyChanges}
@@ -7,6 +7,7 @@ use Rattle.shelf_model.specs.World.{Moment, World, now, said}
 use Rattle.shelf_model.specs.Moments.{Throughout, OnlyOldImages}
 use Rattle.bool_tables.specs.declared.steps.Step.TheVariants as step
 use Rattle.bool_tables.specs.declared.steps.Planned.{Planned}
+use Rattle.bool_tables.specs.Plans.{operands}
 use Rattle.catalogue.specs.declared.layout.Entry.{Entry}
 use Rattle.catalogue.specs.Entries.{IsEntryOf}
 use Rattle.catalogue.specs.Files.{job_file, catalogue, step_gate}
@@ -148,12 +149,17 @@ pub record IsEntryDamage (steps : List Planned) (f : FileNo) (at : ℕ) (r : Fil
   pub none_there : (e : Entry) → IsEntryOf step r e
       → e.kind ≢ kind_of (get_or steps step no_step).step
 
--- a step that sweeps met a file that it can't go on with: that of an earlier step, or one of its own
+-- the node file of one of these steps
+abbrev pub IsNodeFileAmong : List ℕ → FileNo → Type 0
+IsNodeFileAmong [] f = ⊥
+IsNodeFileAmong (k ∷ ks) f = (f ≡ node_file k) ⊎ IsNodeFileAmong ks f
+
+-- a step that sweeps met a file that it can't go on with: that of one of its operands, or one of its own, from part 3 on
 pub record IsSweepDamage (steps : List Planned) (f : FileNo) : Type 0 where
   pub step : ℕ
   pub within : step < length steps
   pub swept : IsTrue (sweeps (get_or steps step no_step).step)
-  pub file_is : f.step ≤ step
+  pub file_is : IsNodeFileAmong (operands (get_or steps step no_step).step) f ⊎ ((f.step ≡ step) × (3 ≤ f.part))
 
 -- the place was damaged at first, an entry or a file that a step met
 abbrev pub IsMetDamage : List Planned → FileNo → ℕ → (FileNo → List ℕ) → Type 0
