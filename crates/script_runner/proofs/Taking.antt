@@ -1,5 +1,5 @@
 -- One step of a run, from its files to its commit and what it leaves behind.
-use Rattle.std.proofs.Common.{◌≡◌, ◌∙◌, ℕ, ◌+◌, ◌*◌, ◌^◌, ◌<◌, ◌≤◌, Bool, true, ◌&&◌, nat_lt, List, [], ◌∷◌, length, take, get_or, refl, sym, ap, subst, inl, inr, arith}
+use Rattle.std.proofs.Common.{◌≡◌, ◌⊎◌, ◌∙◌, ℕ, ◌+◌, ◌*◌, ◌^◌, ◌<◌, ◌≤◌, Bool, true, ◌&&◌, nat_lt, List, [], ◌∷◌, length, take, get_or, refl, sym, ap, subst, inl, inr, arith}
 use Rattle.std.specs.Prelude.{IsTrue, Ok, Err}
 use Rattle.std.specs.List.{list_all}
 use Rattle.bool_tables.specs.declared.steps.Step.{Step}
@@ -40,7 +40,6 @@ use Rattle.step_engine.specs.StepEntries.{IsEntryFor}
 use Rattle.step_engine.specs.StepFaults.{IsKindFault, IsDamagedAmong, IsSweepFault, IsStepFault, IsSoundFault, IsOfKind}
 use Rattle.step_engine.specs.Running.{RunsStep, IsReadyFor}
 use Rattle.step_engine.proofs.EntryLaws.{operand_kind}
-use Rattle.step_engine.proofs.PlanLaws.{first_true, second_true}
 use Rattle.script_runner.specs.declared.finish.Finish.{Finish}
 use Rattle.script_runner.specs.declared.finish.Finish.TheVariants.{FolderFault, RunsSpent}
 use Rattle.script_runner.specs.Running.{OthersAre, AreEmptied, IsMetDamage, IsNodeFileAmong, RefusesFolder, IsStop}
