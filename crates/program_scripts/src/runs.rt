@@ -9,8 +9,34 @@ use shelf_model::FileNo;
 use std::alloc::Global;
 use std::test::Fail;
 
-/// How many scripts are run.
-const SCRIPTS: u64 = 2_000;
+/// How many scripts of each number of variables are run.
+const SEEDS: u64 = 225;
+
+/// The most variables of a script.
+const MOST_VARIABLES: u64 = 8;
+
+/// What a line begins with, behind the end of the one before, for each request.
+const BEGINNINGS: [&[u8]; 19] = [
+    b"\nconst ",
+    b"\nvar ",
+    b"\nnot ",
+    b"\nand ",
+    b"\nor ",
+    b"\nxor ",
+    b"\nnand ",
+    b"\nnor ",
+    b"\nxnor ",
+    b"\nimp ",
+    b"\nite ",
+    b"\nexists ",
+    b"\nforall ",
+    b"\nrestrict ",
+    b"\ndrop ",
+    b"\nsame ",
+    b"\nleq ",
+    b"\neval ",
+    b"\nsize ",
+];
 
 /// The words of a run in the least room.
 const WORDS: [&str; 6] = [
@@ -77,20 +103,73 @@ fn says_and_leaves(alloc: Global, script: &[u8]) -> Result<bool, Fail> {
     )
 }
 
-/// The first seed whose script's run says or leaves something else.
-fn first_wrong(alloc: Global) -> Result<Option<u64>, Fail> {
-    for seed in 0..SCRIPTS {
-        let script = script_of(alloc, seed)?;
-        if !says_and_leaves(alloc, script.as_slice())? {
-            return Ok(Some(seed));
+/// The first script of such a number of variables whose run says or leaves something else, by that number and its
+/// seed.
+fn first_wrong(alloc: Global, fewest: u64, most: u64) -> Result<Option<(u64, u64)>, Fail> {
+    for n in fewest..most.saturating_add(1) {
+        for seed in 0..SEEDS {
+            let script = script_of(alloc, n, seed)?;
+            if !says_and_leaves(alloc, script.as_slice())? {
+                return Ok(Some((n, seed)));
+            }
         }
     }
     Ok(None)
 }
 
 #[test]
-fn runs_say_and_leave_what_the_tables_tell(rt: HostRuntime) -> Result<(), Fail> {
-    let wrong = first_wrong(rt.alloc())?;
-    assert!(rt; wrong.is_none(), "seed {wrong:?}");
+fn at_most_two_variables_give_what_the_tables_tell(rt: HostRuntime) -> Result<(), Fail> {
+    let wrong = first_wrong(rt.alloc(), 0, 2)?;
+    assert!(rt; wrong.is_none(), "variables and seed {wrong:?}");
+    Ok(())
+}
+
+#[test]
+fn three_or_four_variables_give_what_the_tables_tell(rt: HostRuntime) -> Result<(), Fail> {
+    let wrong = first_wrong(rt.alloc(), 3, 4)?;
+    assert!(rt; wrong.is_none(), "variables and seed {wrong:?}");
+    Ok(())
+}
+
+#[test]
+fn five_or_six_variables_give_what_the_tables_tell(rt: HostRuntime) -> Result<(), Fail> {
+    let wrong = first_wrong(rt.alloc(), 5, 6)?;
+    assert!(rt; wrong.is_none(), "variables and seed {wrong:?}");
+    Ok(())
+}
+
+#[test]
+fn seven_or_eight_variables_give_what_the_tables_tell(rt: HostRuntime) -> Result<(), Fail> {
+    let wrong = first_wrong(rt.alloc(), 7, MOST_VARIABLES)?;
+    assert!(rt; wrong.is_none(), "variables and seed {wrong:?}");
+    Ok(())
+}
+
+/// Whether a text has this piece.
+fn has_piece(text: &[u8], piece: &[u8]) -> bool {
+    for at in 0..text.len() {
+        if text.split_at(at).1.starts_with(piece) {
+            return true;
+        }
+    }
+    false
+}
+
+/// Whether some script of the most variables has a line that begins so.
+fn some_script_has(alloc: Global, beginning: &[u8]) -> Result<bool, Fail> {
+    for seed in 0..SEEDS {
+        let script = script_of(alloc, MOST_VARIABLES, seed)?;
+        if has_piece(script.as_slice(), beginning) {
+            return Ok(true);
+        }
+    }
+    Ok(false)
+}
+
+#[test]
+fn the_scripts_ask_for_each_request(rt: HostRuntime) -> Result<(), Fail> {
+    for beginning in BEGINNINGS {
+        assert!(rt; some_script_has(rt.alloc(), beginning)?, "{beginning:?}");
+    }
     Ok(())
 }

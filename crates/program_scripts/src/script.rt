@@ -2,13 +2,11 @@
 use crate::random::Random;
 use std::alloc::{AllocError, Global};
 
-/// The most variables of a script.
-const MOST_VARIABLES: u64 = 8;
-
 /// The most requests of a script.
 const MOST_REQUESTS: u64 = 30;
 
 /// A script that is being written.
+#[derive(Drop)]
 struct Writing {
     random: Random,
     /// The number of variables.
@@ -18,10 +16,10 @@ struct Writing {
     bytes: Vec<u8>,
 }
 
-/// The script of a seed: a line that names the variables, and a line for each request.
-pub(crate) fn script_of(alloc: Global, seed: u64) -> Result<Vec<u8>, AllocError> {
-    let mut random = Random::new(seed);
-    let n = random.below(MOST_VARIABLES + 1);
+/// The script of a seed over so many variables, of which there are at most ten: a line that names them, and a line for
+/// each request.
+pub(crate) fn script_of(alloc: Global, n: u64, seed: u64) -> Result<Vec<u8>, AllocError> {
+    let mut random = Random::new(seed.wrapping_mul(10).wrapping_add(n));
     let count = random.below(MOST_REQUESTS) + 1;
     let mut writing = Writing {
         random,
