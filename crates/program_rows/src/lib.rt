@@ -23,6 +23,8 @@ mod refusals;
 #[cfg(test)]
 mod restart;
 #[cfg(test)]
+mod resumed;
+#[cfg(test)]
 mod rows;
 #[cfg(test)]
 mod stops;

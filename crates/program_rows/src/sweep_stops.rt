@@ -4,10 +4,9 @@ use crate::bench_run::{SMALL, bench_with, run};
 use crate::files::{CATALOGUE, FIRST, JOB, JOB_GATE, STEP_GATE, node_file};
 use crate::parts_said::{goes_on_behind, line_count, lines_said};
 use crate::rows::{
-    AND, AND_DROP, AND_LEQ, CONSTANTS_LEQ, EVAL_OF_NONE, EXISTS_LEQ, ITE_QUANTIFIERS,
-    RESTRICT_EVAL, Row, STEPS, XOR_ITE, XOR_SAME, has_files, has_no_other_parts,
+    AND_DROP, AND_LEQ, EVAL_OF_NONE, EXISTS_LEQ, ITE_QUANTIFIERS, RESTRICT_EVAL, Row, STEPS,
+    XOR_ITE, XOR_SAME, has_files, has_no_other_parts,
 };
-use crate::stops::CHOICES;
 use shelf_memory::{Bench, Choice};
 use std::alloc::Global;
 use std::test::Fail;
@@ -164,8 +163,7 @@ fn first_failure(alloc: Global, row: &Row) -> Result<Option<u64>, Fail> {
 }
 
 /// The rows that are stopped.
-const STOPPED: [Row; 10] = [
-    AND,
+const STOPPED: [Row; 8] = [
     XOR_SAME,
     XOR_ITE,
     EXISTS_LEQ,
@@ -174,7 +172,6 @@ const STOPPED: [Row; 10] = [
     EVAL_OF_NONE,
     AND_DROP,
     AND_LEQ,
-    CONSTANTS_LEQ,
 ];
 
 /// What isn't outlived: the row's place, and the first call.
@@ -188,19 +185,60 @@ fn first_lost_row(alloc: Global, choice: Choice) -> Result<Option<(usize, u64)>,
 }
 
 #[test]
-fn a_step_that_sweeps_loses_nothing_at_a_stop(rt: HostRuntime) -> Result<(), Fail> {
-    for choice in CHOICES {
-        let lost = first_lost_row(rt.alloc(), choice)?;
-        assert!(rt; lost.is_none(), "{choice:?}, row and call {lost:?}");
-    }
+fn loses_nothing_at_a_stop_that_leaves_what_is_sure(rt: HostRuntime) -> Result<(), Fail> {
+    let lost = first_lost_row(rt.alloc(), Choice::Firm)?;
+    assert!(rt; lost.is_none(), "row and call {lost:?}");
     Ok(())
 }
 
 #[test]
-fn a_step_that_sweeps_loses_nothing_after_a_call_that_failed(rt: HostRuntime) -> Result<(), Fail> {
-    for row in STOPPED {
-        let lost = first_failure(rt.alloc(), &row)?;
-        assert!(rt; lost.is_none(), "{:?}, call {lost:?}", row.script);
+fn loses_nothing_at_a_stop_that_leaves_what_is_read(rt: HostRuntime) -> Result<(), Fail> {
+    let lost = first_lost_row(rt.alloc(), Choice::Present)?;
+    assert!(rt; lost.is_none(), "row and call {lost:?}");
+    Ok(())
+}
+
+#[test]
+fn loses_nothing_at_a_stop_that_leaves_other_bytes(rt: HostRuntime) -> Result<(), Fail> {
+    let lost = first_lost_row(rt.alloc(), Choice::Fill(255))?;
+    assert!(rt; lost.is_none(), "row and call {lost:?}");
+    Ok(())
+}
+
+#[test]
+fn loses_nothing_at_a_stop_that_leaves_a_first_mixture(rt: HostRuntime) -> Result<(), Fail> {
+    let lost = first_lost_row(rt.alloc(), Choice::Mixed(0))?;
+    assert!(rt; lost.is_none(), "row and call {lost:?}");
+    Ok(())
+}
+
+#[test]
+fn loses_nothing_at_a_stop_that_leaves_a_second_mixture(rt: HostRuntime) -> Result<(), Fail> {
+    let lost = first_lost_row(rt.alloc(), Choice::Mixed(1))?;
+    assert!(rt; lost.is_none(), "row and call {lost:?}");
+    Ok(())
+}
+
+#[test]
+fn loses_nothing_at_a_stop_that_leaves_a_third_mixture(rt: HostRuntime) -> Result<(), Fail> {
+    let lost = first_lost_row(rt.alloc(), Choice::Mixed(2))?;
+    assert!(rt; lost.is_none(), "row and call {lost:?}");
+    Ok(())
+}
+
+/// The same, where a call of a row's run fails.
+fn first_failed_row(alloc: Global) -> Result<Option<(usize, u64)>, Fail> {
+    for (k, row) in STOPPED.into_iter().enumerate() {
+        if let Some(call) = first_failure(alloc, &row)? {
+            return Ok(Some((k, call)));
+        }
     }
+    Ok(None)
+}
+
+#[test]
+fn a_step_that_sweeps_loses_nothing_after_a_call_that_failed(rt: HostRuntime) -> Result<(), Fail> {
+    let lost = first_failed_row(rt.alloc())?;
+    assert!(rt; lost.is_none(), "row and call {lost:?}");
     Ok(())
 }
