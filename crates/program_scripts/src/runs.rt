@@ -57,6 +57,16 @@ fn run(alloc: Global, bench: &mut Bench) -> Result<u8, Fail> {
     Ok(adiar(alloc, owned.as_slice(), bench))
 }
 
+/// Whether the parts of a step behind its node file are empty.
+fn has_no_other_parts(step: u32, bench: &Bench) -> bool {
+    for part in 1..5 {
+        if !bench.file(FileNo { step, part }).is_empty() {
+            return false;
+        }
+    }
+    true
+}
+
 /// Whether each step's node file is the canonical one of its table, or empty where it makes no diagram or the diagram
 /// was dropped, and the parts behind it are empty.
 fn leaves(steps: &[Planned], files: &[Bytes], bench: &Bench) -> bool {
@@ -68,13 +78,8 @@ fn leaves(steps: &[Planned], files: &[Bytes], bench: &Bench) -> bool {
         } else {
             made == file.items()
         };
-        if !right {
+        if !right || !has_no_other_parts(step, bench) {
             return false;
-        }
-        for part in 1..5 {
-            if !bench.file(FileNo { step, part }).is_empty() {
-                return false;
-            }
         }
         step = step.saturating_add(1);
     }
@@ -103,15 +108,22 @@ fn says_and_leaves(alloc: Global, script: &[u8]) -> Result<bool, Fail> {
     )
 }
 
-/// The first script of such a number of variables whose run says or leaves something else, by that number and its
-/// seed.
+/// The first seed whose script of so many variables says or leaves something else in its run.
+fn first_wrong_seed(alloc: Global, n: u64) -> Result<Option<u64>, Fail> {
+    for seed in 0..SEEDS {
+        let script = script_of(alloc, n, seed)?;
+        if !says_and_leaves(alloc, script.as_slice())? {
+            return Ok(Some(seed));
+        }
+    }
+    Ok(None)
+}
+
+/// The first of these numbers of variables of which there is such a script, and its seed.
 fn first_wrong(alloc: Global, fewest: u64, most: u64) -> Result<Option<(u64, u64)>, Fail> {
     for n in fewest..most.saturating_add(1) {
-        for seed in 0..SEEDS {
-            let script = script_of(alloc, n, seed)?;
-            if !says_and_leaves(alloc, script.as_slice())? {
-                return Ok(Some((n, seed)));
-            }
+        if let Some(seed) = first_wrong_seed(alloc, n)? {
+            return Ok(Some((n, seed)));
         }
     }
     Ok(None)

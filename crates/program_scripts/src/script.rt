@@ -20,7 +20,7 @@ struct Writing {
 /// each request.
 pub(crate) fn script_of(alloc: Global, n: u64, seed: u64) -> Result<Vec<u8>, AllocError> {
     let mut random = Random::new(seed.wrapping_mul(10).wrapping_add(n));
-    let count = random.below(MOST_REQUESTS) + 1;
+    let count = random.below(MOST_REQUESTS).saturating_add(1);
     let mut writing = Writing {
         random,
         n,
