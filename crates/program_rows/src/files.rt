@@ -1,6 +1,8 @@
 // The files of a folder, by hand, and the bytes of a job and of an entry. Numbers have the highest byte first.
 use shelf_memory::Bench;
 use shelf_model::FileNo;
+use std::alloc::Global;
+use std::test::Fail;
 
 pub(crate) const JOB: FileNo = FileNo {
     step: 4_294_967_295,
@@ -21,6 +23,19 @@ pub(crate) const STEP_GATE: FileNo = FileNo {
     step: 4_294_967_295,
     part: 3,
 };
+
+/// The pointer to the truth value 0.
+pub(crate) const ZERO: u64 = 0x8000_0000_0000_0000;
+
+/// The pointer to the truth value 1.
+pub(crate) const ONE: u64 = 0x8000_0000_0000_0001;
+
+/// The highest number of level 0, of level 1 and of level 2.
+pub(crate) const LEVEL_0: u64 = 0x0000_7fff_ffff_ffff;
+
+pub(crate) const LEVEL_1: u64 = 0x0000_ffff_ffff_ffff;
+
+pub(crate) const LEVEL_2: u64 = 0x0001_7fff_ffff_ffff;
 
 /// The node file of the first step.
 pub(crate) const FIRST: FileNo = FileNo { step: 0, part: 0 };
@@ -63,6 +78,30 @@ const FILES: [FileNo; 15] = [
     FileNo { step: 3, part: 1 },
     FileNo { step: 4, part: 0 },
 ];
+
+/// The node file of a step.
+pub(crate) fn node_file(step: u32) -> FileNo {
+    FileNo { step, part: 0 }
+}
+
+/// A part of a step.
+pub(crate) fn part_of(step: u32, part: u64) -> FileNo {
+    FileNo { step, part }
+}
+
+/// Whether a file has these words and no other bytes.
+pub(crate) fn has_words(
+    alloc: Global,
+    bench: &Bench,
+    f: FileNo,
+    words: &[u64],
+) -> Result<bool, Fail> {
+    let mut wanted = Vec::new(alloc);
+    for word in words {
+        wanted.extend_from_slice(&word.to_be_bytes())?;
+    }
+    Ok(bench.file(f) == wanted.as_slice())
+}
 
 /// Whether the files of two folders read alike, and their gates are as long: what the bytes of a gate are means
 /// nothing.

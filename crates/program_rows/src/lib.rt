@@ -3,6 +3,8 @@
 #![tactic(auto)]
 
 #[cfg(test)]
+mod answers;
+#[cfg(test)]
 mod bench_run;
 #[cfg(test)]
 mod between;
@@ -21,4 +23,10 @@ mod refusals;
 #[cfg(test)]
 mod restart;
 #[cfg(test)]
+mod resumed;
+#[cfg(test)]
+mod rows;
+#[cfg(test)]
 mod stops;
+#[cfg(test)]
+mod sweep_stops;

@@ -1,6 +1,9 @@
 // What accepted scripts say, and the bytes that they leave. Numbers in files have the highest byte first.
 use crate::bench_run::{ONE_VARIABLE, RUN, SMALL, bench_with, gives, run};
-use crate::files::{CATALOGUE, JOB, JOB_GATE, STEP_GATE, ZERO_OF_TWO, entry};
+use crate::files::{
+    CATALOGUE, JOB, JOB_GATE, LEVEL_0, LEVEL_1, LEVEL_2, ONE, STEP_GATE, ZERO, ZERO_OF_TWO, entry,
+    node_file,
+};
 use shelf_memory::Bench;
 use shelf_model::FileNo;
 use std::alloc::Global;
@@ -9,17 +12,6 @@ use std::test::Fail;
 /// The words of a variable's file: its node, the truth values 0 and 1 that it leads to, and the trailer
 /// with the root, the number of nodes and the number of variables.
 type Words = [u64; 6];
-
-const ZERO: u64 = 0x8000_0000_0000_0000;
-
-const ONE: u64 = 0x8000_0000_0000_0001;
-
-/// The highest number of level 0, of level 1 and of level 2.
-const LEVEL_0: u64 = 0x0000_7fff_ffff_ffff;
-
-const LEVEL_1: u64 = 0x0000_ffff_ffff_ffff;
-
-const LEVEL_2: u64 = 0x0001_7fff_ffff_ffff;
 
 /// Whether a run of the script in an empty folder says this text, and each step's node file has these words and the
 /// next one no bytes.
@@ -180,10 +172,6 @@ fn keeps_the_entry_of_a_step(rt: HostRuntime) -> Result<(), Fail> {
     let wanted = entry(0, b'f');
     assert!(rt; leaves(rt.alloc(), CATALOGUE, &wanted)?);
     Ok(())
-}
-
-fn node_file(step: u32) -> FileNo {
-    FileNo { step, part: 0 }
 }
 
 /// Whether the file has these words and no other bytes.

@@ -1,6 +1,6 @@
 // Words and scripts that aren't accepted: one line is said, and no file is made.
 use crate::bench_run::{ONE_VARIABLE, bench_with, gives, run};
-use crate::files::FIRST;
+use crate::files::{FIRST, JOB_GATE};
 use shelf_memory::Bench;
 use std::alloc::Global;
 use std::test::Fail;
@@ -16,10 +16,14 @@ fn says_the_usage(alloc: Global, words: &[&str]) -> Result<bool, Fail> {
     )
 }
 
-/// Whether the script is refused with this line, and no file is made.
+/// Whether the script is refused with this line, no file is made and no job is stored.
 fn refuses(alloc: Global, script: &[u8], said: &[u8]) -> Result<bool, Fail> {
     let mut bench = bench_with(alloc, script)?;
-    Ok(gives(alloc, &mut bench, 3, said)? && bench.file(FIRST).is_empty())
+    Ok(
+        gives(alloc, &mut bench, 3, said)?
+            && bench.file(FIRST).is_empty()
+            && bench.file(JOB_GATE).is_empty(),
+    )
 }
 
 /// Whether a script of comment alone, one byte longer than a script may be, is refused.
@@ -79,8 +83,23 @@ fn says_the_usage_to_other_words(rt: HostRuntime) -> Result<(), Fail> {
 
 #[test]
 fn says_which_line_is_refused_and_why(rt: HostRuntime) -> Result<(), Fail> {
-    let cases: [(&[u8], &[u8]); 16] = [
+    let cases: [(&[u8], &[u8]); 22] = [
         (b"vars a\nand h f\n", b"script: line 2: Word\n"),
+        (b"vars a\nnot h f\n", b"script: line 2: UnknownName\n"),
+        (b"vars a\nvar f a\neval f 01\n", b"script: line 3: Bits\n"),
+        (b"vars a\nvar f a\neval f\n", b"script: line 3: Word\n"),
+        (
+            b"vars a\nvar f a\nexists g f b\n",
+            b"script: line 3: Variable\n",
+        ),
+        (
+            b"vars a\nvar f a\nrestrict g f a 2\n",
+            b"script: line 3: Word\n",
+        ),
+        (
+            b"vars a b\nvar f a\nvar g b\nand h f g\ndrop f\nnot k f\n",
+            b"script: line 6: Dropped\n",
+        ),
         (b"vars a a\n", b"script: line 1: Variable\n"),
         (b"vars a\nvar f b\n", b"script: line 2: Variable\n"),
         (

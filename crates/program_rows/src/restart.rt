@@ -1,6 +1,7 @@
 // Runs in a folder where a run ended or was stopped, and in folders that hold something else.
 use crate::bench_run::{ONE_VARIABLE, RUN, THREE_TEXT, THREE_VARIABLES, bench_with, gives, run};
 use crate::files::{CATALOGUE, STEP_GATE, same_files};
+use crate::rows::AND;
 use shelf_memory::{Bench, Choice};
 use std::alloc::Global;
 use std::test::Fail;
@@ -38,9 +39,9 @@ fn goes_on_where_a_step_may_be_committed(rt: HostRuntime) -> Result<(), Fail> {
 }
 
 /// Whether a run finds the third entry damaged where the catalogue has 300 bytes, and leaves all as it was.
-fn finds_a_damaged_entry(alloc: Global) -> Result<bool, Fail> {
-    let mut bench = ended(alloc, THREE_VARIABLES)?;
-    let mut left = ended(alloc, THREE_VARIABLES)?;
+fn finds_a_damaged_entry(alloc: Global, script: &[u8]) -> Result<bool, Fail> {
+    let mut bench = ended(alloc, script)?;
+    let mut left = ended(alloc, script)?;
     let mut front = Vec::from_slice(alloc, bench.file(CATALOGUE))?;
     front.truncate(300);
     bench.put_file(CATALOGUE, &front)?;
@@ -54,7 +55,9 @@ fn finds_a_damaged_entry(alloc: Global) -> Result<bool, Fail> {
 
 #[test]
 fn says_which_entry_is_damaged(rt: HostRuntime) -> Result<(), Fail> {
-    assert!(rt; finds_a_damaged_entry(rt.alloc())?);
+    for script in [THREE_VARIABLES, AND.script] {
+        assert!(rt; finds_a_damaged_entry(rt.alloc(), script)?, "{script:?}");
+    }
     Ok(())
 }
 

@@ -88,7 +88,7 @@ const DROP: Course = Course {
 };
 
 /// What a stop may leave of what was pending.
-const CHOICES: [Choice; 6] = [
+pub(crate) const CHOICES: [Choice; 6] = [
     Choice::Firm,
     Choice::Present,
     Choice::Fill(255),

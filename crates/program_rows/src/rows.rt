@@ -1,0 +1,234 @@
+// Scripts whose steps sweep over diagrams: what a run of each says, and the words of node files that it leaves.
+use crate::bench_run::{bench_with, gives};
+use crate::files::{LEVEL_0, LEVEL_1, LEVEL_2, ONE, ZERO, has_words, node_file, part_of};
+use shelf_memory::Bench;
+use std::alloc::Global;
+use std::test::Fail;
+
+/// A step, and the words of the node file that it leaves.
+pub(crate) type Left = (u32, &'static [u64]);
+
+/// A script, what its run says in an empty folder, and what it leaves there.
+#[derive(Clone, Copy)]
+pub(crate) struct Row {
+    pub(crate) script: &'static [u8],
+    pub(crate) said: &'static [u8],
+    pub(crate) files: &'static [Left],
+    /// Whether the last of four steps drops the diagram of the first.
+    pub(crate) drops: bool,
+}
+
+/// More steps than a row has.
+pub(crate) const STEPS: u32 = 10;
+
+/// The file of `a and b`.
+const BOTH: &[u64] = &[LEVEL_1, ZERO, ONE, LEVEL_0, ZERO, LEVEL_1, LEVEL_0, 2, 2];
+
+/// The file of `not (a and b)`.
+const NOT_BOTH: &[u64] = &[LEVEL_1, ONE, ZERO, LEVEL_0, ONE, LEVEL_1, LEVEL_0, 2, 2];
+
+/// The file of `a xor b`.
+const DIFFERENT: &[u64] = &[
+    LEVEL_1,
+    ZERO,
+    ONE,
+    LEVEL_1 - 1,
+    ONE,
+    ZERO,
+    LEVEL_0,
+    LEVEL_1,
+    LEVEL_1 - 1,
+    LEVEL_0,
+    3,
+    2,
+];
+
+/// The file of 0 of two variables.
+const NEVER: &[u64] = &[ZERO, 0, 2];
+
+/// The file of `b` of three variables.
+const SECOND: &[u64] = &[LEVEL_1, ZERO, ONE, LEVEL_1, 1, 3];
+
+/// The file of `c` of three variables.
+const THIRD: &[u64] = &[LEVEL_2, ZERO, ONE, LEVEL_2, 1, 3];
+
+/// The file of `b and c` of three variables.
+const LAST_TWO: &[u64] = &[LEVEL_2, ZERO, ONE, LEVEL_1, ZERO, LEVEL_2, LEVEL_1, 2, 3];
+
+/// The file of `if a then b and c else c`.
+const CHOICE: &[u64] = &[
+    LEVEL_2, ZERO, ONE, LEVEL_1, ZERO, LEVEL_2, LEVEL_0, LEVEL_2, LEVEL_1, LEVEL_0, 3, 3,
+];
+
+/// An operator on two variables.
+pub(crate) const AND: Row = Row {
+    script: b"vars a b\nvar f a\nvar g b\nand h f g\n",
+    said: b"start 3\n2: nodes 1\n3: nodes 1\n4: nodes 2\ndone\n",
+    files: &[(2, BOTH)],
+    drops: false,
+};
+
+/// Another, whose file has two nodes on one level.
+pub(crate) const XOR: Row = Row {
+    script: b"vars a b\nvar f a\nvar g b\nxor h f g\n",
+    said: b"start 3\n2: nodes 1\n3: nodes 1\n4: nodes 3\ndone\n",
+    files: &[(2, DIFFERENT)],
+    drops: false,
+};
+
+/// A constant by an operator and by itself, and whether they are the same.
+pub(crate) const XOR_SAME: Row = Row {
+    script: b"vars a b\nvar f a\nvar g b\nxor h f g\nxor z h h\nconst y 0\nsame z y\n",
+    said: b"start 6\n2: nodes 1\n3: nodes 1\n4: nodes 3\n5: nodes 0\n6: nodes 0\n7: yes\ndone\n",
+    files: &[(2, DIFFERENT), (3, NEVER), (4, NEVER)],
+    drops: false,
+};
+
+/// A choice between a diagram and itself by itself.
+pub(crate) const XOR_ITE: Row = Row {
+    script: b"vars a b\nvar f a\nvar g b\nxor h f g\nite k h h h\n",
+    said: b"start 4\n2: nodes 1\n3: nodes 1\n4: nodes 3\n5: nodes 3\ndone\n",
+    files: &[(2, DIFFERENT), (3, DIFFERENT)],
+    drops: false,
+};
+
+/// A quantifier over a variable on which nothing depends, and whether it implies what it was made of.
+pub(crate) const EXISTS_LEQ: Row = Row {
+    script: b"vars a b c\nvar f b\nexists g f a\nleq g f\n",
+    said: b"start 3\n2: nodes 1\n3: nodes 1\n4: yes\ndone\n",
+    files: &[(0, SECOND), (1, SECOND)],
+    drops: false,
+};
+
+/// A choice and both quantifiers over its first variable.
+pub(crate) const ITE_QUANTIFIERS: Row = Row {
+    script: b"vars a b c\nvar x a\nvar y b\nvar z c\nand w y z\nite f x w z\nexists e f a\n\
+              forall d f a\nsame e z\nsame d w\n",
+    said: b"start 9\n2: nodes 1\n3: nodes 1\n4: nodes 1\n5: nodes 2\n6: nodes 3\n7: nodes 1\n\
+            8: nodes 2\n9: yes\n10: yes\ndone\n",
+    files: &[(3, LAST_TWO), (4, CHOICE), (5, THIRD), (6, LAST_TWO)],
+    drops: false,
+};
+
+/// Both restrictions of a variable, which differ and have as many nodes, and a value.
+pub(crate) const RESTRICT_EVAL: Row = Row {
+    script: b"vars a b\nvar f a\nvar g b\nxor h f g\nrestrict p h a 0\nrestrict q h a 1\n\
+              same p q\neval h 10\n",
+    said: b"start 7\n2: nodes 1\n3: nodes 1\n4: nodes 3\n5: nodes 1\n6: nodes 1\n7: no\n8: 1\n\
+            done\n",
+    files: &[
+        (3, &[LEVEL_1, ZERO, ONE, LEVEL_1, 1, 2]),
+        (4, &[LEVEL_1, ONE, ZERO, LEVEL_1, 1, 2]),
+    ],
+    drops: false,
+};
+
+/// The value of a constant of no variables.
+pub(crate) const EVAL_OF_NONE: Row = Row {
+    script: b"vars\nconst t 1\neval t\n",
+    said: b"start 2\n2: nodes 0\n3: 1\ndone\n",
+    files: &[(0, &[ONE, 0, 0])],
+    drops: false,
+};
+
+/// A drop of an operand.
+pub(crate) const AND_DROP: Row = Row {
+    script: b"vars a b\nvar f a\nvar g b\nand h f g\ndrop f\n",
+    said: b"start 4\n2: nodes 1\n3: nodes 1\n4: nodes 2\n5: dropped\ndone\n",
+    files: &[(0, &[]), (2, BOTH)],
+    drops: true,
+};
+
+/// Whether a conjunction implies an operand, and the other way round.
+pub(crate) const AND_LEQ: Row = Row {
+    script: b"vars a b\nvar f a\nvar g b\nand h f g\nleq h f\nleq f h\n",
+    said: b"start 5\n2: nodes 1\n3: nodes 1\n4: nodes 2\n5: yes\n6: no\ndone\n",
+    files: &[(2, BOTH)],
+    drops: false,
+};
+
+/// Which constants imply which.
+pub(crate) const CONSTANTS_LEQ: Row = Row {
+    script: b"vars\nconst o 1\nconst z 0\nleq z o\nleq o z\n",
+    said: b"start 4\n2: nodes 0\n3: nodes 0\n4: yes\n5: no\ndone\n",
+    files: &[(0, &[ONE, 0, 0]), (1, &[ZERO, 0, 0])],
+    drops: false,
+};
+
+/// A complement in two ways.
+pub(crate) const COMPLEMENTS: Row = Row {
+    script: b"vars a b\nvar f a\nvar g b\nand h f g\nnot k h\nnand m f g\nsame k m\n",
+    said: b"start 6\n2: nodes 1\n3: nodes 1\n4: nodes 2\n5: nodes 2\n6: nodes 2\n7: yes\ndone\n",
+    files: &[(2, BOTH), (3, NOT_BOTH), (4, NOT_BOTH)],
+    drops: false,
+};
+
+/// All of them.
+pub(crate) const ROWS: [Row; 12] = [
+    AND,
+    XOR,
+    XOR_SAME,
+    XOR_ITE,
+    EXISTS_LEQ,
+    ITE_QUANTIFIERS,
+    RESTRICT_EVAL,
+    EVAL_OF_NONE,
+    AND_DROP,
+    AND_LEQ,
+    CONSTANTS_LEQ,
+    COMPLEMENTS,
+];
+
+/// Whether the node files have these words.
+pub(crate) fn has_files(alloc: Global, bench: &Bench, files: &[Left]) -> Result<bool, Fail> {
+    for (step, words) in files {
+        if !has_words(alloc, bench, node_file(*step), words)? {
+            return Ok(false);
+        }
+    }
+    Ok(true)
+}
+
+/// Whether a run of the script in an empty folder says its text and leaves its files.
+fn says_and_leaves(alloc: Global, row: &Row) -> Result<bool, Fail> {
+    let mut bench = bench_with(alloc, row.script)?;
+    Ok(gives(alloc, &mut bench, 0, row.said)? && has_files(alloc, &bench, row.files)?)
+}
+
+#[test]
+fn says_and_leaves_what_each_script_asks_for(rt: HostRuntime) -> Result<(), Fail> {
+    for row in ROWS {
+        assert!(rt; says_and_leaves(rt.alloc(), &row)?, "{:?}", row.script);
+    }
+    Ok(())
+}
+
+/// Whether the parts of a step behind its node file are empty: its checkpoints, their gate and its arcs.
+pub(crate) fn has_no_other_parts(bench: &Bench, step: u32) -> bool {
+    for part in 1..5 {
+        if !bench.file(part_of(step, part)).is_empty() {
+            return false;
+        }
+    }
+    true
+}
+
+/// Whether a run of the script says its text, and leaves of no step more than a node file.
+fn leaves_no_arcs(alloc: Global, row: &Row) -> Result<bool, Fail> {
+    let mut bench = bench_with(alloc, row.script)?;
+    let told = gives(alloc, &mut bench, 0, row.said)?;
+    for step in 0..STEPS {
+        if !has_no_other_parts(&bench, step) {
+            return Ok(false);
+        }
+    }
+    Ok(told)
+}
+
+#[test]
+fn leaves_no_arcs_of_a_step_that_swept(rt: HostRuntime) -> Result<(), Fail> {
+    for row in ROWS {
+        assert!(rt; leaves_no_arcs(rt.alloc(), &row)?, "{:?}", row.script);
+    }
+    Ok(())
+}

@@ -1,0 +1,11 @@
+//! Scripts that look random, run by the program over a station in memory, beside the tables of their steps.
+#![tactic(auto)]
+
+#[cfg(test)]
+mod random;
+#[cfg(test)]
+mod runs;
+#[cfg(test)]
+mod script;
+#[cfg(test)]
+mod wanted;
