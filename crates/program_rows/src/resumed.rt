@@ -1,4 +1,5 @@
-// A run in the least room that is stopped while a step sweeps, or before its operand is sure to be committed, and the next one.
+// A run in the least room that is stopped while a step sweeps, or before its operand is sure to be committed, and the
+// next one.
 use crate::bench_run::{SMALL, bench_with, run};
 use crate::files::{STEP_GATE, part_of};
 use crate::rows::{XOR, has_files, has_no_other_parts};
