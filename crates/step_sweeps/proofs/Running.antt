@@ -8,7 +8,7 @@ use Rattle.shelf_model.specs.Calls.{Told}
 use Rattle.shelf_model.specs.Faults.{Faults}
 use Rattle.shelf_model.specs.Moments.{Ran, OnlyChanged}
 use Rattle.shelf_model.specs.World.{Moment, World, now, file}
-use Rattle.shelf_model.proofs.Changing.{told_changed_then}
+use Rattle.shelf_model.proofs.Changing.{told_changed_then, told_changed_more}
 use Rattle.shelf_model.proofs.Runs.{told, ran_weakens, ran_end}
 use Rattle.block_stream.specs.Writes.{DuringCut}
 use Rattle.run_tiers.specs.declared.parts.Parts.{Parts}
@@ -16,6 +16,7 @@ use Rattle.run_tiers.specs.Faults.{OnlySortShelf}
 use Rattle.run_tiers.specs.Parts.{Paid, Spilled, IsTaken}
 use Rattle.sweep_core.specs.Accounts.{Accounts, CanBeTaken, OnlyOwn}
 use Rattle.sweep_core.specs.Counted.{Costs}
+use Rattle.step_sweeps.specs.Made.{node_file, OnlyParts, OnlyStepFiles}
 
 -- a file of an earlier step can't be taken
 pub not_of_step : (step next : ℕ) (f : FileNo) → f.step < step → ¬ CanBeTaken step next f
@@ -90,6 +91,16 @@ module _ {S : Type 0} (tells : S → Bool) (world : S → World) where
       let first = begun (before told_new) in
       let then = costs.calls told_new in
       omega (arith, first, then, within)
+
+-- parts of a step were changed, and then its node file too
+pub then_node_file : {S : Type 0} (tells : S → Bool) (world : S → World) (number : ℕ) (old mid new : S)
+    → Told tells old mid (Ran (OnlyParts number (now (world old))) (world old) (world mid))
+    → Told tells mid new (Ran (OnlyStepFiles number (now (world mid))) (world mid) (world new))
+    → Told tells old new (Ran (OnlyStepFiles number (now (world old))) (world old) (world new))
+then_node_file tells world number old mid new first second =
+    told_changed_then tells world _ _ old mid new (λ f is. is)
+    (told_changed_more tells world (CanBeTaken number 3) (λ q. (q ≡ node_file number) ⊎ CanBeTaken number 3 q) old mid
+    (λ f free. inr free) first) second
 
 -- the counts of faults over two calls, where something else is answered in the end
 pub faults_ok : {A B C : Type 0} (old mid new : Faults) (first : Result A SortFault) (second : Result B SortFault)

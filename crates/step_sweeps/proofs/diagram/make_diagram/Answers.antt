@@ -1,7 +1,7 @@
 use Rattle.run_tiers.proofs.FaultLaws.{on_fault}
 use Rattle.step_sweeps.proofs.Faults.{arcs_or_own}
 use Rattle.step_sweeps.proofs.Numbers.{both_within, both_calls, long_work}
-use Rattle.step_sweeps.proofs.Running.{spent_before}
+use Rattle.step_sweeps.proofs.Running.{spent_before, then_node_file}
 use Rattle.step_sweeps.proofs.diagram.make_diagram.Goals as goal
 
 pub returns-in_err-arcs-clause-damaged : goal.returns-in_err-arcs-clause-damaged
@@ -50,3 +50,12 @@ returns-clause-made g c told tables given =
           c.in_ok-reduced.reduced.turns _ c.saturating_add.ensures arcs.few
           (c.in_ok-reduced.ensures.few told _ arcs.sources arcs.arcs arcs.has_sources);
     }
+
+-- both sweeps change only files of the step
+pub returns-clause-content : goal.returns-clause-content
+returns-clause-content g c = then_node_file g.S.Shelf.tells g.S.Shelf.world c.args.number _ _ _
+    c.make_arcs.ensures.content c.reduce_arcs.ensures.content
+
+pub returns-in_err-reduced-clause-content : goal.returns-in_err-reduced-clause-content
+returns-in_err-reduced-clause-content g c = then_node_file g.S.Shelf.tells g.S.Shelf.world c.args.number _ _ _
+    c.make_arcs.ensures.content c.reduce_arcs.ensures.content
