@@ -1,5 +1,5 @@
 -- What an implication's step finds, and what it costs, by what its arcs are and how they were searched.
-use Rattle.std.specs.Prelude.{◌≡◌, ℕ, ◌+◌, ◌-◌, ◌*◌, ◌/◌, ◌^◌, ◌<◌, ◌≤◌, min, Bool, not, IsTrue, List, [], ◌∷◌, Result, Ok, Err, IsErrOf, IsErrAnd}
+use Rattle.std.specs.Prelude.{◌≡◌, ℕ, ◌+◌, ◌-◌, ◌*◌, ◌^◌, ◌<◌, ◌≤◌, min, Bool, not, IsTrue, List, [], ◌∷◌, Result, Ok, Err, IsErrOf, IsErrAnd}
 use Rattle.std.proofs.Common.{refl, sym, ◌∙◌, ap, subst, inl, inr, arith}
 use Rattle.std.proofs.lemmas.Bool.{cases_lt}
 use Rattle.bool_tables.specs.Tables.{is_leq}
@@ -19,7 +19,7 @@ use Rattle.step_sweeps.specs.declared.operation.StepOperation.{StepOperation}
 use Rattle.step_sweeps.specs.declared.operation.StepOperation.TheVariants.{Operator}
 use Rattle.step_sweeps.specs.Damage.{IsArcsFault, IsImplicationFault}
 use Rattle.step_sweeps.specs.Given.{Tables, AreGiven, tuples_by, arcs_turns}
-use Rattle.step_sweeps.specs.Made.{AreArcsOf, Spends, IsCounted}
+use Rattle.step_sweeps.specs.Made.{AreArcsOf, IsCounted}
 use Rattle.step_sweeps.specs.Ones.{HasEnds, Searched}
 use Rattle.step_sweeps.proofs.ConstantDiagrams.{and_not}
 use Rattle.step_sweeps.proofs.ImpliedAnswer.{answer_is, work_same}
