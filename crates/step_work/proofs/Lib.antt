@@ -1,1 +1,2 @@
 pub mod SameTuples
+mod WorkedCounts
