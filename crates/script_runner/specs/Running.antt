@@ -154,7 +154,8 @@ abbrev pub IsNodeFileAmong : List ℕ → FileNo → Type 0
 IsNodeFileAmong [] f = ⊥
 IsNodeFileAmong (k ∷ ks) f = (f ≡ node_file k) ⊎ IsNodeFileAmong ks f
 
--- a step that sweeps met a file that it can't go on with: that of one of its operands, or one of its own, from part 3 on
+-- a step that sweeps met a file that it can't go on with: that of one of its operands, or one of its own, from part 3
+-- on
 pub record IsSweepDamage (steps : List Planned) (f : FileNo) : Type 0 where
   pub step : ℕ
   pub within : step < length steps

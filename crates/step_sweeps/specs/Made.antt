@@ -50,8 +50,8 @@ pub record HasArcFiles (number : ℕ) (arcs : Unreduced) : Type 0 where
 abbrev pub HasSources : Unreduced → ℕ → Type 0
 HasSources arcs sources = arcs.inner_count + arcs.ends_count ≡ 2 * sources
 
--- the arcs are those of a diagram of the table, with no more sources than the tuples that are joined; and so many turns were
--- made at most
+-- the arcs are those of a diagram of the table, with no more sources than the tuples that are joined; and so many
+-- turns were made at most
 pub record AreArcsOf (operation : StepOperation) (n : ℕ) (g : Tables) (m : MadeArcs) (world : World) : Type 0 where
   pub arcs : AreArcFiles n (made_by operation n g) m.arcs world
   pub sources : ℕ

@@ -1,4 +1,5 @@
-//! The first sweep of a step that makes a diagram: from the operands' files to the arcs of a diagram that isn't reduced.
+//! The first sweep of a step that makes a diagram: from the operands' files to the arcs of a diagram that isn't
+//! reduced.
 ghost use Rattle.std.specs.Prelude.{◌≡◌, ◌+◌, ◌-◌, ◌*◌, ◌^◌, ◌<◌, ◌≤◌, IsTrue, IsErrOf, IfOk, IfErr, length};
 ghost use Rattle.shelf_model.specs.World.{now};
 ghost use Rattle.shelf_model.specs.Calls.{Told};
