@@ -19,12 +19,17 @@ pub fn plans_are_well_formed()
         → AreLines plan.steps plan.lines }
 {}
 
-/// Where no netlist is given: a text asks for one plan at most, has at most 1,048,576 bytes where it asks for one,
-/// and isn't refused then. That plan can be run: it is well formed over the text, and its lines go with its steps.
+/// Whether a netlist is given or not: a text asks for one plan at most, has at most 1,048,576 bytes where it asks for
+/// one, and isn't refused then. That plan can be run: it is well formed over the text, and its lines go with its steps.
 pub fn one_plan()
-    ensures one { (text : List ℕ) (a b : Plan) → Reads text a → Reads text b → a ≡ b }
-    ensures unrefused { (text : List ℕ) (plan : Plan) (fault : ScriptFault) → Reads text plan → ¬ (Refuses text fault) }
-    ensures short { (text : List ℕ) (plan : Plan) → Reads text plan → length text ≤ 1048576 }
-    ensures well_formed { (text : List ℕ) (plan : Plan) → Reads text plan → IsWellFormed plan.n text plan.steps }
-    ensures lines { (text : List ℕ) (plan : Plan) → Reads text plan → AreLines plan.steps plan.lines }
+    ensures one { (netlist : Option Net) (text : List ℕ) (a b : Plan) → Reads netlist text a → Reads netlist text b
+        → a ≡ b }
+    ensures unrefused { (netlist : Option Net) (text : List ℕ) (plan : Plan) (fault : ScriptFault)
+        → Reads netlist text plan → ¬ (Refuses netlist text fault) }
+    ensures short { (netlist : Option Net) (text : List ℕ) (plan : Plan) → Reads netlist text plan
+        → length text ≤ 1048576 }
+    ensures well_formed { (netlist : Option Net) (text : List ℕ) (plan : Plan) → IfSome netlist IsNet
+        → Reads netlist text plan → IsWellFormed plan.n text plan.steps }
+    ensures lines { (netlist : Option Net) (text : List ℕ) (plan : Plan) → IfSome netlist IsNet
+        → Reads netlist text plan → AreLines plan.steps plan.lines }
 {}

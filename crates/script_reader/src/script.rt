@@ -4,7 +4,7 @@ ghost use Rattle.std.specs.Prelude.{◌≡◌, ◌⊎◌, ◌≤◌, length, map
 ghost use Rattle.bool_tables.specs.Plans.{IsWellFormed};
 ghost use Rattle.text_words.specs.Text.{words_in};
 ghost use Rattle.text_words.specs.Left.{word_of, line_of};
-ghost use Rattle.script_reader.specs.Reads.{ReadsOver, RefusesOver};
+ghost use Rattle.script_reader.specs.Reads.{Reads, Refuses};
 ghost use Rattle.script_reader.specs.Lines.{AreLines};
 ghost use Rattle.script_reader.specs.Names.{nothing};
 ghost use Rattle.script_reader.specs.Script.{plan_line, read};
@@ -102,8 +102,8 @@ pub fn read_script(
     bytes: &[u8],
     netlist: Option<&Netlist>,
 ) -> Result<Plan, ScriptFault>
-    ensures read { IfOk result (λ plan. ReadsOver (given netlist.entry) bytes.now plan) }
-    ensures refused { IfErr result (λ fault. RefusesOver (given netlist.entry) bytes.now fault
+    ensures read { IfOk result (λ plan. Reads (given netlist.entry) bytes.now plan) }
+    ensures refused { IfErr result (λ fault. Refuses (given netlist.entry) bytes.now fault
         ⊎ (fault ≡ record { line = 0; kind = ScriptKind.Memory })) }
 
     // what every plan that is given keeps

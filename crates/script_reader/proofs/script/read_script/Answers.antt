@@ -5,21 +5,21 @@ use Rattle.script_reader.specs.declared.fault.ScriptFault.{ScriptFault}
 use Rattle.script_reader.specs.declared.fault.ScriptKind.TheVariants as kind
 use Rattle.script_reader.specs.declared.plan.Plan.{Plan}
 use Rattle.script_reader.specs.Keywords.{built_words}
-use Rattle.script_reader.specs.Reads.{ReadsOver, RefusesOver}
+use Rattle.script_reader.specs.Reads.{Reads, Refuses}
 use Rattle.script_reader.specs.Script.{read}
 use Rattle.script_reader.specs.Views.{texts, given, AnswersRead}
 use Rattle.script_reader.proofs.script.read_script.Goals as goal
 
 -- with the words of all requests, a plan that is the answer is what the text asks for
 reads_so : (known : List (List ℕ)) (netlist : Option Net) (text : List ℕ) (answer : Result Plan ScriptFault)
-    → known ≡ built_words → AnswersRead answer (read known netlist text) → IfOk answer (λ plan. ReadsOver netlist text plan)
+    → known ≡ built_words → AnswersRead answer (read known netlist text) → IfOk answer (λ plan. Reads netlist text plan)
 reads_so known netlist text (Ok plan) all is = rw all at is
 reads_so known netlist text (Err fault) all is = tt
 
 -- and a fault is the text's, unless memory ran out
 refuses_so : (known : List (List ℕ)) (netlist : Option Net) (text : List ℕ) (answer : Result Plan ScriptFault)
     → known ≡ built_words → AnswersRead answer (read known netlist text)
-    → IfErr answer (λ fault. RefusesOver netlist text fault ⊎ (fault ≡ record { line = 0; kind = kind.Memory }))
+    → IfErr answer (λ fault. Refuses netlist text fault ⊎ (fault ≡ record { line = 0; kind = kind.Memory }))
 refuses_so known netlist text (Ok plan) all is = tt
 refuses_so known netlist text (Err fault) all is = rw all at is
 
