@@ -12,11 +12,11 @@ pub data Reading : Type 0 where
   list : (folder : Text) → Reading
   gen : (folder : Text) → (size budget : ℕ) → Reading
 
--- a run has room for 16,384 to 4,194,304 records
-abbrev pub HasBudget : Reading → Type 0
-HasBudget (run folder script netlist budget) = (16384 ≤ budget) × (budget ≤ 4194304)
-HasBudget (list folder) = Unit
-HasBudget (gen folder size budget) = (16384 ≤ budget) × (budget ≤ 4194304)
+-- a run has room for 16,384 to 4,194,304 records, and a size is from 1 to 16
+abbrev pub IsInRange : Reading → Type 0
+IsInRange (run folder script netlist budget) = (16384 ≤ budget) × (budget ≤ 4194304)
+IsInRange (list folder) = Unit
+IsInRange (gen folder size budget) = ((1 ≤ size) × (size ≤ 16)) × ((16384 ≤ budget) × (budget ≤ 4194304))
 
 -- the values of the command's places and options
 pub record Given : Type 0 where

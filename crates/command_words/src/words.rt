@@ -1,6 +1,6 @@
 //! What the words ask for.
 ghost use Rattle.std.specs.Prelude.{◌≡◌, ◌∷◌, map, Some, None, string_bytes, option_map, IfOk, IsErrOf};
-ghost use Rattle.command_words.specs.Readings.{HasBudget, reading_of, asked, run_of, list_of, gen_of, budget_of};
+ghost use Rattle.command_words.specs.Readings.{IsInRange, reading_of, asked, run_of, list_of, gen_of, budget_of};
 ghost use Rattle.command_words.specs.Views.{view_of, meaning_of, text_of};
 
 use crate::fault::WordsFault;
@@ -111,7 +111,7 @@ fn words_given<'a>(given: &Given<'a>) -> Option<Words<'a>>
 pub fn read_words(alloc: Global, words: &[String]) -> Result<Words<'_>, WordsFault>
     ensures read { IfOk result (λ w. reading_of (map (λ word. string_bytes word) words.entry.now) ≡ Some
         (meaning_of w)) }
-    ensures room { IfOk result (λ w. HasBudget (meaning_of w)) }
+    ensures room { IfOk result (λ w. IsInRange (meaning_of w)) }
     ensures usage { IsErrOf result WordsFault.Usage
         → reading_of (map (λ word. string_bytes word) words.entry.now) ≡ None }
 {

@@ -1,13 +1,35 @@
--- The job of a script.
-use Rattle.std.specs.Prelude.{ℕ, List, ◌++◌, length, replicate, codes}
+-- The job of a source.
+use Rattle.std.specs.Prelude.{ℕ, ◌≤◌, List, [], ◌++◌, length, replicate, codes, Option, Some, None}
 use Rattle.byteorder.specs.Endian.{big_bytes}
 use Rattle.sound_image.specs.Jobs.{Job}
 use Rattle.script_reader.specs.declared.plan.Plan.{Plan}
+use Rattle.script_runner.specs.Source.{Source}
 
--- the version of the layout, the records of the run's room, the length of the script, no netlist, and the script
-unfoldable pub job_bytes : ℕ → List ℕ → List ℕ
-job_bytes budget script = codes "ADIARJ01" ++ big_bytes 4 budget ++ big_bytes 4 (length script) ++ replicate 4 255 ++ script
+-- a room, a script and maybe a netlist
+abbrev pub source_of : ℕ → List ℕ → Option (List ℕ) → Source
+source_of budget script netlist = record { budget = budget; script = script; netlist = netlist }
 
--- the job of a room and of a text that asks for this plan
-abbrev pub job_of : ℕ → List ℕ → Plan → Job
-job_of budget text plan = record { n = plan.n; text = text; steps = plan.steps; bytes = job_bytes budget text }
+-- a netlist has at most 4,194,304 bytes
+abbrev pub IsShort : Option (List ℕ) → Type 0
+IsShort None = Unit
+IsShort (Some netlist) = length netlist ≤ 4194304
+
+-- the length of a netlist, and 255 four times where there is none
+abbrev pub netlist_size : Option (List ℕ) → List ℕ
+netlist_size None = replicate 4 255
+netlist_size (Some netlist) = big_bytes 4 (length netlist)
+
+abbrev pub netlist_bytes : Option (List ℕ) → List ℕ
+netlist_bytes None = []
+netlist_bytes (Some netlist) = netlist
+
+-- the version of the layout, the records of the run's room, the length of the script, that of the netlist, the script,
+-- and the netlist
+unfoldable pub job_bytes : Source → List ℕ
+job_bytes s =
+    codes "ADIARJ01" ++ big_bytes 4 s.budget ++ big_bytes 4 (length s.script) ++ netlist_size s.netlist
+    ++ s.script ++ netlist_bytes s.netlist
+
+-- the job of a source whose script asks for this plan
+abbrev pub job_of : Source → Plan → Job
+job_of s plan = record { n = plan.n; text = s.script; steps = plan.steps; bytes = job_bytes s }

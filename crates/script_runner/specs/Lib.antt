@@ -1,4 +1,4 @@
-pub mod Asked
+pub mod Source
 pub mod Text
 pub mod Shapes
 pub mod Said
@@ -7,8 +7,10 @@ pub mod Running
 pub mod StepRuns
 pub mod Calls
 pub mod Fetching
+pub mod Netlists
 pub mod JobOf
 pub mod Status
 pub mod Entered
+pub mod Listed
 pub mod Outcome
 pub mod Lives

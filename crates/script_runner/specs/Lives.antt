@@ -7,7 +7,9 @@ use Rattle.shelf_model.specs.Folder.{Folder, Image, file_in, bytes_in, IsImage, 
 use Rattle.shelf_model.specs.World.{World, now, said}
 use Rattle.catalogue.specs.Counts.{present, is_stored, count_in}
 use Rattle.sound_image.specs.Holds.{AreSound}
+use Rattle.command_words.specs.Readings.{reading_of}
 use Rattle.script_reader.specs.declared.plan.Plan.{Plan}
+use Rattle.script_runner.specs.Source.{Source}
 use Rattle.script_runner.specs.Said.{whole_lines, said_count}
 use Rattle.script_runner.specs.Running.{ReachesCount}
 use Rattle.script_runner.specs.Entered.{IsSpentTail}
@@ -43,21 +45,20 @@ IsLeftOf folder left =
 pub record IsLife (folder : Folder) (life : Life) : Type 0 where
   pub found : SameFiles (now life.old).folder folder
   pub files : AreFiles (now life.old).folder
-  pub ends : Ends life.words life.status life.old life.new
+  pub ends : Ends (reading_of life.words) life.status life.old life.new
   pub since : life.old.clock ≤ life.at
   pub until : life.at ≤ life.new.clock
   pub said_is : (life.new.moment life.at).said ≡ said life.old ++ life.told
   pub leaves : IsLeftOf (life.new.moment life.at).folder life.left
 
--- the words give this room, and name this text, which asks for this plan
-pub record RunsPlan (budget : ℕ) (text : List ℕ) (plan : Plan) (life : Life) : Type 0 where
-  pub accepts : Accepts life.old life.words plan
-  pub budget_is : accepts.asked.budget ≡ budget
-  pub text_is : accepts.text ≡ text
+-- the words ask for this source to be run, which asks for this plan
+pub record RunsPlan (source : Source) (plan : Plan) (life : Life) : Type 0 where
+  pub accepts : Accepts life.old (reading_of life.words) plan
+  pub source_is : accepts.source ≡ source
 
--- the call ended before it entered the folder
+-- the call ran no job in the folder: it ended before it entered it, or listed its diagrams
 abbrev pub StaysOut : Life → Type 0
-StaysOut life = ¬ (EndsRan life.words life.status life.old life.new)
+StaysOut life = ¬ (EndsRan (reading_of life.words) life.status life.old life.new)
 
 -- every image of the folder stores a job
 abbrev pub AreStored : Folder → Type 0
@@ -65,11 +66,11 @@ AreStored folder = (image : Image) → IsImage folder image → IsTrue (is_store
 
 -- each call found what the one before left; its words are those of one job, or it stayed out, or
 -- every image stored a job already
-abbrev pub AreLives : ℕ → List ℕ → Plan → Folder → List Life → Type 0
-AreLives budget text plan folder [] = Unit
-AreLives budget text plan folder (life ∷ lives) =
-    IsLife folder life × (RunsPlan budget text plan life ⊎ StaysOut life ⊎ AreStored folder)
-    × AreLives budget text plan life.left lives
+abbrev pub AreLives : Source → Plan → Folder → List Life → Type 0
+AreLives source plan folder [] = Unit
+AreLives source plan folder (life ∷ lives) =
+    IsLife folder life × (RunsPlan source plan life ⊎ StaysOut life ⊎ AreStored folder)
+    × AreLives source plan life.left lives
 
 -- lines of a run of the job, and behind them nothing or a front part of the line of a step that has no part number
 -- left, which counts for nothing
@@ -89,14 +90,14 @@ pub record HasSaidLines (job : Job) (plan : Plan) (folder : Folder) (life : Life
 -- what a call leaves of a folder: each image is sound for the job, no step that all images had is
 -- lost, and a job that all of them store stays; where it ran the job each image has each step whose
 -- line it said, and stores the job where it said its banner
-pub record LifeKeeps (budget : ℕ) (text : List ℕ) (plan : Plan) (folder : Folder) (life : Life) : Type 0 where
-  pub sound : AreSound (job_of budget text plan) life.left
+pub record LifeKeeps (source : Source) (plan : Plan) (folder : Folder) (life : Life) : Type 0 where
+  pub sound : AreSound (job_of source plan) life.left
   pub has_old : (count : ℕ) → ReachesCount count folder → ReachesCount count life.left
   pub still_stored : AreStored folder → AreStored life.left
-  pub has_said : RunsPlan budget text plan life → HasSaidLines (job_of budget text plan) plan folder life
+  pub has_said : RunsPlan source plan life → HasSaidLines (job_of source plan) plan folder life
 
 -- each call of the list does
-abbrev pub LivesKeep : ℕ → List ℕ → Plan → Folder → List Life → Type 0
-LivesKeep budget text plan folder [] = Unit
-LivesKeep budget text plan folder (life ∷ lives) = LifeKeeps budget text plan folder life
-    × LivesKeep budget text plan life.left lives
+abbrev pub LivesKeep : Source → Plan → Folder → List Life → Type 0
+LivesKeep source plan folder [] = Unit
+LivesKeep source plan folder (life ∷ lives) = LifeKeeps source plan folder life
+    × LivesKeep source plan life.left lives

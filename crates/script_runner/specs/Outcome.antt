@@ -1,36 +1,36 @@
--- What a call of the program leaves, by its words and the texts of its station.
-use Rattle.std.specs.Prelude.{◌≡◌, ℕ, ◌+◌, ◌^◌, ◌<◌, ◌≤◌, ◌⊎◌, List, [], ◌∷◌, ◌++◌, length, ◌==◌, Some, None, IsTrue}
+-- What a call of the program leaves, by what its words ask for and the texts of its station.
+use Rattle.std.specs.Prelude.{◌≡◌, ℕ, ◌+◌, ◌*◌, ◌^◌, ◌<◌, ◌≤◌, ◌⊎◌, List, [], ◌∷◌, ◌++◌, length, ◌==◌, Bool, Option, Some, None, IsTrue}
 use Rattle.std.specs.List.{list_any}
 use Rattle.shelf_model.specs.World.{World, now, said}
+use Rattle.shelf_model.specs.Calls.{Told}
 use Rattle.shelf_model.specs.Faults.{Faults, Rose}
+use Rattle.blif_reader.specs.declared.fault.BlifFault.{BlifFault}
+use Rattle.catalogue.specs.Counts.{present, count_in}
+use Rattle.command_words.specs.Readings.{Reading, list}
 use Rattle.sound_image.specs.Jobs.{Job, step_at}
 use Rattle.sound_image.specs.Entries.{work_of}
-use Rattle.script_runner.specs.Asked.{Asked, asked_of}
 use Rattle.script_reader.specs.declared.plan.Plan.{Plan}
 use Rattle.script_reader.specs.declared.fault.ScriptFault.{ScriptFault}
-use Rattle.script_reader.specs.Reads.{Reads, Refuses}
-use Rattle.script_runner.specs.Text.{usage_line, refused_line}
+use Rattle.script_runner.specs.Source.{Source, IsSource, folder_of, NamesText, Plans, IsFaulty, HasFaultyNetlist}
+use Rattle.script_runner.specs.Text.{usage_line, refused_line, netlist_line}
 use Rattle.script_runner.specs.Fetching.{OnlyFetched}
 use Rattle.script_runner.specs.Running.{SaysOnly}
 use Rattle.script_runner.specs.Calls.{most_calls, fetch_calls, AreCounted}
 use Rattle.script_runner.specs.JobOf.{job_of}
 use Rattle.script_runner.specs.Entered.{RunsIn}
+use Rattle.script_runner.specs.Listed.{ListsIn}
 
--- the words name a script, and the text at its path asks for this plan
-pub record Accepts (w : World) (words : List (List ℕ)) (plan : Plan) : Type 0 where
-  pub asked : Asked
-  pub words_are : asked_of words ≡ Some asked
-  pub text : List ℕ
-  pub there : w.texts asked.script ≡ Some text
-  pub accepted : Reads text plan
+-- the words, which have this reading if any, ask for this source to be run
+pub record Asks (w : World) (asked : Option Reading) (source : Source) : Type 0 where
+  pub reading : Reading
+  pub asked_is : asked ≡ Some reading
+  pub source_is : IsSource w reading source
 
--- the words name a script, and this is the first fault of the text at its path
-pub record IsRefused (w : World) (words : List (List ℕ)) (fault : ScriptFault) : Type 0 where
-  pub asked : Asked
-  pub words_are : asked_of words ≡ Some asked
-  pub text : List ℕ
-  pub there : w.texts asked.script ≡ Some text
-  pub refused : Refuses text fault
+-- and its script asks for this plan
+pub record Accepts (w : World) (asked : Option Reading) (plan : Plan) : Type 0 where
+  pub source : Source
+  pub asks : Asks w asked source
+  pub plans : Plans source plan
 
 -- a line was said, or with 8 a front part of it, and nothing else was done
 pub record SaysLine (line : List ℕ) (good status : ℕ) (old new : World) : Type 0 where
@@ -38,47 +38,80 @@ pub record SaysLine (line : List ℕ) (good status : ℕ) (old new : World) : Ty
   pub only : SaysOnly line old new
   pub whole : status ≡ good → said new ≡ said old ++ line
 
--- the words aren't accepted, and the usage was said
-pub record EndsUsage (words : List (List ℕ)) (status : ℕ) (old new : World) : Type 0 where
-  pub unread : asked_of words ≡ None
+-- the first fault of a source's script was said
+pub record RefusesScript (source : Source) (status : ℕ) (old new : World) : Type 0 where
+  pub fault : ScriptFault
+  pub faulty : IsFaulty source fault
+  pub says : SaysLine (refused_line fault) 3 status old new
+
+-- the job of a source was run in a folder
+pub record RunsSource (folder : List ℕ) (source : Source) (status : ℕ) (old new : World) : Type 0 where
+  pub plan : Plan
+  pub plans : Plans source plan
+  pub run : RunsIn folder (job_of source plan) plan.lines status old new
+
+-- a source was run, or its script refused, or there was no memory and nothing was done
+abbrev pub EndsSource : List ℕ → Source → ℕ → World → World → Type 0
+EndsSource folder source status old new =
+    ((status ≡ 9) × OnlyFetched old new) ⊎ RefusesScript source status old new
+    ⊎ RunsSource folder source status old new
+
+-- the words have no reading, and the usage was said
+pub record EndsUsage (asked : Option Reading) (status : ℕ) (old new : World) : Type 0 where
+  pub unread : asked ≡ None
   pub says : SaysLine usage_line 2 status old new
 
--- the script that the words name couldn't be fetched, or there was no memory: nothing was said and
--- no file touched
-pub record EndsSilent (words : List (List ℕ)) (status : ℕ) (old new : World) : Type 0 where
-  pub words_are : status ≡ 6 → (asked : Asked) × (asked_of words ≡ Some asked)
+-- a text that the words name couldn't be fetched, or there was no memory: nothing was said and no file touched
+pub record EndsSilent (asked : Option Reading) (status : ℕ) (old new : World) : Type 0 where
+  pub words_are : status ≡ 6 → (reading : Reading) × (asked ≡ Some reading)
+      × ((path : List ℕ) × NamesText reading path)
   pub status_is : (status ≡ 6) ⊎ (status ≡ 9)
   pub fetched : OnlyFetched old new
 
+-- the netlist that the words name isn't accepted, and its first fault was said
+pub record EndsNetlist (asked : Option Reading) (status : ℕ) (old new : World) : Type 0 where
+  pub reading : Reading
+  pub asked_is : asked ≡ Some reading
+  pub fault : BlifFault
+  pub faulty : HasFaultyNetlist old reading fault
+  pub says : SaysLine (netlist_line fault) 4 status old new
+
 -- the script isn't accepted, and its first fault was said
-pub record EndsRefused (words : List (List ℕ)) (status : ℕ) (old new : World) : Type 0 where
-  pub fault : ScriptFault
-  pub refuses : IsRefused old words fault
-  pub says : SaysLine (refused_line fault) 3 status old new
+pub record EndsRefused (asked : Option Reading) (status : ℕ) (old new : World) : Type 0 where
+  pub source : Source
+  pub asks : Asks old asked source
+  pub refuses : RefusesScript source status old new
 
 -- the script is accepted, and its job was run in the folder that the words name
-pub record EndsRan (words : List (List ℕ)) (status : ℕ) (old new : World) : Type 0 where
-  pub plan : Plan
-  pub accepts : Accepts old words plan
-  pub run : RunsIn accepts.asked.folder (job_of accepts.asked.budget accepts.text plan) plan.lines
-      status old new
+pub record EndsRan (asked : Option Reading) (status : ℕ) (old new : World) : Type 0 where
+  pub source : Source
+  pub asks : Asks old asked source
+  pub runs : RunsSource (folder_of asks.reading) source status old new
 
--- the program ended in one of four ways
-abbrev pub Ends : List (List ℕ) → ℕ → World → World → Type 0
-Ends words status old new =
-    EndsUsage words status old new ⊎ EndsSilent words status old new
-    ⊎ EndsRefused words status old new ⊎ EndsRan words status old new
+-- the diagrams of the folder that the words name were listed
+pub record EndsListed (asked : Option Reading) (status : ℕ) (old new : World) : Type 0 where
+  pub folder : List ℕ
+  pub asked_is : asked ≡ Some (list folder)
+  pub lists : ListsIn folder status old new
 
--- the words decide between the usage and a run, unless saying failed or there was no memory
-pub record ByWords (words : List (List ℕ)) (status : ℕ) : Type 0 where
-  pub usage : status ≡ 2 → asked_of words ≡ None
-  pub unread : asked_of words ≡ None → (status ≡ 2) ⊎ (status ≡ 8) ⊎ (status ≡ 9)
-  pub known : IsTrue (list_any (λ s. s == status) (0 ∷ 2 ∷ 3 ∷ 5 ∷ 6 ∷ 7 ∷ 8 ∷ 9 ∷ 10 ∷ 11 ∷ []))
+-- the program ended in one of six ways
+abbrev pub Ends : Option Reading → ℕ → World → World → Type 0
+Ends asked status old new =
+    EndsUsage asked status old new ⊎ EndsSilent asked status old new ⊎ EndsNetlist asked status old new
+    ⊎ EndsRefused asked status old new ⊎ EndsRan asked status old new ⊎ EndsListed asked status old new
 
--- 6, 7 and 8 come only where their count rose: that of the script's path, of the folder, of saying
-pub record StatusHasCause (words : List (List ℕ)) (status : ℕ) (old new : Faults) : Type 0 where
-  pub text_fault : status ≡ 6 → (asked : Asked) × (asked_of words ≡ Some asked)
-      × Rose (old.text asked.script) (new.text asked.script)
+-- the words decide between the usage, a list and a run, unless saying failed or there was no memory
+pub record ByWords (asked : Option Reading) (status : ℕ) : Type 0 where
+  pub usage : status ≡ 2 → asked ≡ None
+  pub unread : asked ≡ None → (status ≡ 2) ⊎ (status ≡ 8) ⊎ (status ≡ 9)
+  pub listed : (folder : List ℕ) → asked ≡ Some (list folder)
+      → IsTrue (list_any (λ s. s == status) (0 ∷ 7 ∷ 8 ∷ 9 ∷ 10 ∷ []))
+  pub known : IsTrue (list_any (λ s. s == status) (0 ∷ 2 ∷ 3 ∷ 4 ∷ 5 ∷ 6 ∷ 7 ∷ 8 ∷ 9 ∷ 10 ∷ 11 ∷ []))
+
+-- 6, 7 and 8 come only where their count rose: that of a path that the words name, of the folder, of saying
+pub record StatusHasCause (asked : Option Reading) (status : ℕ) (old new : Faults) : Type 0 where
+  pub text_fault : status ≡ 6 → (reading : Reading) × (asked ≡ Some reading)
+      × ((path : List ℕ) × NamesText reading path × Rose (old.text path) (new.text path))
   pub folder_fault : status ≡ 7 → Rose old.folder new.folder
   pub say_fault : status ≡ 8 → Rose old.say new.say
 
@@ -86,20 +119,38 @@ pub record StatusHasCause (words : List (List ℕ)) (status : ℕ) (old new : Fa
 abbrev pub IsSmall : Job → Type 0
 IsSmall job = (k : ℕ) → k < length job.steps → work_of job (step_at job k).step < 2 ^ 35
 
--- no call failed: neither the count of the script's path rose, nor that of the folder or of saying
-pub record NoneRose (words : List (List ℕ)) (old new : Faults) : Type 0 where
-  pub text_same : (asked : Asked) → asked_of words ≡ Some asked
-      → ¬ (Rose (old.text asked.script) (new.text asked.script))
+-- no call failed: neither the count of a path that the words name rose, nor that of the folder or of saying
+pub record NoneRose (asked : Option Reading) (old new : Faults) : Type 0 where
+  pub text_same : (reading : Reading) (path : List ℕ) → asked ≡ Some reading → NamesText reading path
+      → ¬ (Rose (old.text path) (new.text path))
   pub folder_same : ¬ (Rose old.folder new.folder)
   pub say_same : ¬ (Rose old.say new.say)
 
--- the calls of the station: those of reading the text of at most 1,048,576 bytes and saying a line,
--- or, where a job was run, those of entering the folder and of a run of its steps and lines besides,
--- where each of the steps takes one turn or the folder was sound for the job
-abbrev pub MakesFewCalls : List (List ℕ) → World → World → Type 0
-MakesFewCalls words old new =
-    (new.clock ≤ old.clock + fetch_calls 1048576 + 1)
-    ⊎ ((plan : Plan) × (accepts : Accepts old words plan)
-    × (AreCounted (job_of accepts.asked.budget accepts.text plan) (now old).folder
-    → new.clock ≤ old.clock + fetch_calls 1048576 + 2
-    + most_calls (job_of accepts.asked.budget accepts.text plan) (length plan.lines)))
+-- the calls that read a netlist of at most 4,194,304 bytes and a script of at most 1,048,576
+abbrev pub texts_calls : ℕ
+texts_calls = fetch_calls 4194304 + fetch_calls 1048576
+
+-- the calls of a run of a source: that of saying a line, or those of entering the folder and of a run of its steps and
+-- lines, where each of the steps takes one turn or the folder was sound for the job
+abbrev pub RunsInCalls : ℕ → Source → World → World → Type 0
+RunsInCalls before source old new =
+    (new.clock ≤ old.clock + before + 1)
+    ⊎ ((plan : Plan) × Plans source plan × (AreCounted (job_of source plan) (now old).folder
+    → new.clock ≤ old.clock + before + 2 + most_calls (job_of source plan) (length plan.lines)))
+
+-- the calls of the station: those of reading the texts and of saying a line, those of a run besides, or those of
+-- entering a folder and reading each entry twice
+abbrev pub MakesFewCalls : Option Reading → World → World → Type 0
+MakesFewCalls asked old new =
+    (new.clock ≤ old.clock + texts_calls + 1)
+    ⊎ ((source : Source) × Asks old asked source × RunsInCalls texts_calls source old new)
+    ⊎ (((folder : List ℕ) × (asked ≡ Some (list folder)))
+    × (new.clock ≤ old.clock + 7 + 3 * count_in (present (now old).folder)))
+
+-- what a call of the program does, says of its status, costs, and owes to the calls that failed
+pub record Answers {S : Type 0} (tells : S → Bool) (world : S → World) (counts : S → Faults)
+    (asked : Option Reading) (status : ℕ) (before after : S) : Type 0 where
+  pub content : Told tells before after (Ends asked status (world before) (world after))
+  pub calls : IsTrue (tells after) → MakesFewCalls asked (world before) (world after)
+  pub by_words : ByWords asked status
+  pub causes : StatusHasCause asked status (counts before) (counts after)

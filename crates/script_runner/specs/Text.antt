@@ -10,6 +10,9 @@ use Rattle.bool_tables.specs.declared.steps.Planned.{Planned}
 use Rattle.catalogue.specs.declared.layout.Entry.{Entry}
 use Rattle.sound_image.specs.Jobs.{Job, no_step, step_at}
 use Rattle.sound_image.specs.Entries.{answer_of, count_of}
+use Rattle.blif_reader.specs.declared.fault.BlifFault.{BlifFault}
+use Rattle.blif_reader.specs.declared.fault.BlifKind.{BlifKind}
+use Rattle.blif_reader.specs.declared.fault.BlifKind.TheVariants as blif
 use Rattle.script_reader.specs.declared.fault.ScriptFault.{ScriptFault}
 use Rattle.script_reader.specs.declared.fault.ScriptKind.{ScriptKind}
 use Rattle.script_reader.specs.declared.fault.ScriptKind.TheVariants as kind
@@ -82,6 +85,25 @@ kind_name kind.TooManyVariables = codes "TooManyVariables"
 -- the script isn't accepted: its first faulty line, and what is wrong with it
 abbrev pub refused_line : ScriptFault → List ℕ
 refused_line fault = line_of (codes "script: line " ++ decimal fault.line ++ codes ": " ++ kind_name fault.kind)
+
+-- the name of a netlist's fault
+abbrev pub netlist_kind_name : BlifKind → List ℕ
+netlist_kind_name blif.Memory = codes "Memory"
+netlist_kind_name blif.Keyword = codes "Keyword"
+netlist_kind_name blif.NoModel = codes "NoModel"
+netlist_kind_name blif.NoInputs = codes "NoInputs"
+netlist_kind_name blif.Row = codes "Row"
+netlist_kind_name blif.MixedOutputs = codes "MixedOutputs"
+netlist_kind_name blif.Undriven = codes "Undriven"
+netlist_kind_name blif.DrivenTwice = codes "DrivenTwice"
+netlist_kind_name blif.Cycle = codes "Cycle"
+netlist_kind_name blif.TooLong = codes "TooLong"
+netlist_kind_name blif.TooManyVariables = codes "TooManyVariables"
+
+-- the netlist isn't accepted: its first faulty line, and what is wrong with it
+abbrev pub netlist_line : BlifFault → List ℕ
+netlist_line fault =
+    line_of (codes "netlist: line " ++ decimal fault.line ++ codes ": " ++ netlist_kind_name fault.kind)
 
 -- another job is stored, which differs at that byte
 abbrev pub other_job_line : ℕ → List ℕ

@@ -9,15 +9,17 @@ pub(crate) enum Ending {
     Usage,
     /// The script isn't accepted.
     Script,
+    /// The netlist isn't accepted.
+    Netlist,
     /// The folder stores another job.
     OtherJob,
-    /// The script can't be fetched.
+    /// A text can't be fetched.
     TextFault,
     /// A call of the folder failed.
     FolderFault,
     /// A line couldn't be said.
     SayFault,
-    /// There was no memory for the script, the plan, the job or the room.
+    /// There was no memory for the texts, the plan, the job or the room.
     NoMemory,
     /// A file of the folder doesn't hold what it should.
     Damaged,
@@ -36,6 +38,7 @@ impl Ending {
             Ending::Done => 0,
             Ending::Usage => 2,
             Ending::Script => 3,
+            Ending::Netlist => 4,
             Ending::OtherJob => 5,
             Ending::TextFault => 6,
             Ending::FolderFault => 7,

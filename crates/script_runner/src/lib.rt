@@ -1,8 +1,7 @@
 //! Runs a script on a station: stores its job, makes and commits the steps that are not committed yet, and says
-//! their lines.
+//! their lines. Lists what a folder holds.
 #![tactic(auto)]
 
-mod asked;
 mod banner;
 mod ending;
 mod fetch;
@@ -10,11 +9,16 @@ mod finish;
 mod job;
 pub mod laws;
 mod line;
+mod listed;
+mod netlist;
 mod program;
+mod refusal;
 mod run;
+mod run_source;
 mod say;
 mod step;
 
+pub use example_script::gen_script;
 pub use finish::Finish;
 pub use program::adiar;
 pub use run::run_steps;

@@ -1,7 +1,8 @@
 ghost use Rattle.std.specs.Prelude.{◌≡◌, ◌<◌, ◌≤◌, length};
-ghost use Rattle.script_runner.specs.Text.{start_line, resume_line, nodes_line, dropped_line, truth_line, value_line, answer_line, other_job_line, damaged_line, runs_spent_line, kind_name, refused_line};
+ghost use Rattle.script_runner.specs.Text.{start_line, resume_line, nodes_line, dropped_line, truth_line, value_line, answer_line, other_job_line, damaged_line, runs_spent_line, kind_name, refused_line, netlist_kind_name, netlist_line};
 
 use arrayvec::ArrayString;
+use blif_reader::{BlifFault, BlifKind};
 use bool_tables::Step;
 use itoa::Buffer;
 use script_reader::{ScriptFault, ScriptKind};
@@ -174,6 +175,39 @@ pub(crate) fn refused_line(fault: ScriptFault) -> Line
     line.push_str(Buffer::new().format(fault.line));
     line.push_str(": ");
     line.push_str(kind_name(fault.kind));
+    line.push_str("\n");
+    line
+}
+
+/// The name of a netlist's fault.
+fn netlist_kind_name(kind: BlifKind) -> &'static str
+    ensures { result.now ≡ netlist_kind_name kind }
+{
+    match kind {
+        BlifKind::Memory => "Memory",
+        BlifKind::Keyword => "Keyword",
+        BlifKind::NoModel => "NoModel",
+        BlifKind::NoInputs => "NoInputs",
+        BlifKind::Row => "Row",
+        BlifKind::MixedOutputs => "MixedOutputs",
+        BlifKind::Undriven => "Undriven",
+        BlifKind::DrivenTwice => "DrivenTwice",
+        BlifKind::Cycle => "Cycle",
+        BlifKind::TooLong => "TooLong",
+        BlifKind::TooManyVariables => "TooManyVariables",
+    }
+}
+
+/// The first faulty line of a netlist, and what is wrong with it.
+pub(crate) fn netlist_line(fault: BlifFault) -> Line
+    ensures text { result.bytes ≡ netlist_line fault }
+    ensures some { 0 < length result.bytes }
+{
+    let mut line = Line::new();
+    line.push_str("netlist: line ");
+    line.push_str(Buffer::new().format(fault.line));
+    line.push_str(": ");
+    line.push_str(netlist_kind_name(fault.kind));
     line.push_str("\n");
     line
 }

@@ -1,0 +1,38 @@
+-- What reading a netlist gives.
+use Rattle.std.specs.Prelude.{◌≡◌, ℕ, List, Option, Some, option_map}
+use Rattle.std.specs.Borrow.{Bor}
+use Rattle.shelf_model.specs.Faults.{Faults, Rose}
+use Rattle.blif_reader.specs.Answers.{net_of}
+use Rattle.blif_reader.specs.Netlist.{Net}
+use Rattle.blif_reader.specs.declared.fault.BlifFault.{BlifFault}
+use Rattle.script_runner.specs.declared.fetch.FetchFault.{FetchFault}
+use Rattle.script_runner.specs.declared.fetch.FetchFault.TheVariants as fetch
+use Rattle.script_runner.specs.declared.netlist.ReadNetlist.{ReadNetlist}
+use Rattle.script_runner.specs.declared.netlist.NetlistFault.{NetlistFault}
+use Rattle.script_runner.specs.declared.netlist.NetlistFault.TheVariants.{Memory, Text, Faulty}
+
+-- the text of a netlist, where one was read
+abbrev pub netlist_text : Option ReadNetlist → Option (List ℕ)
+netlist_text = option_map (λ given. given.text.items)
+
+-- the same of one that is lent, and the netlist
+abbrev pub text_given : Option (Bor ReadNetlist) → Option (List ℕ)
+text_given = option_map (λ (given : Bor ReadNetlist). given.now.text.items)
+
+abbrev pub net_given : Option (Bor ReadNetlist) → Option Net
+net_given = option_map (λ (given : Bor ReadNetlist). net_of given.now.net)
+
+-- the fault that says the same
+abbrev pub netlist_fault : FetchFault → NetlistFault
+netlist_fault fetch.Memory = Memory
+netlist_fault fetch.Text = Text
+
+-- where a fault of a text is answered, it is one of these
+abbrev pub IsFaultyAs : (BlifFault → Type 0) → NetlistFault → Type 0
+IsFaultyAs P Memory = Unit
+IsFaultyAs P Text = Unit
+IsFaultyAs P (Faulty fault) = P fault
+
+-- the count of the path that is named rose
+abbrev pub IsNamedRise : Option (List ℕ) → Faults → Faults → Type 0
+IsNamedRise path old new = (named : List ℕ) × (path ≡ Some named) × Rose (old.text named) (new.text named)

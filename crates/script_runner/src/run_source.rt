@@ -1,0 +1,132 @@
+//! The run of a source: a script, and maybe a netlist.
+ghost use Rattle.std.specs.Prelude.{◌≡◌, ◌+◌, ◌≤◌, [], ◌∷◌, ◌==◌, IsTrue, IfOk, length};
+ghost use Rattle.std.specs.List.{list_any};
+ghost use Rattle.bool_tables.specs.Plans.{IsWellFormed};
+ghost use Rattle.shelf_model.specs.World.{now};
+ghost use Rattle.shelf_model.specs.Calls.{Told};
+ghost use Rattle.script_reader.specs.Lines.{AreLines};
+ghost use Rattle.script_runner.specs.Calls.{most_calls, AreCounted};
+ghost use Rattle.script_runner.specs.Entered.{RunsIn, EndsRun, EndingHasCause};
+ghost use Rattle.script_runner.specs.JobOf.{source_of};
+ghost use Rattle.script_runner.specs.Netlists.{text_given};
+ghost use Rattle.script_runner.specs.Outcome.{EndsSource, RunsInCalls};
+ghost use Rattle.script_runner.specs.Status.{status_of};
+
+use crate::ending::Ending;
+use crate::job::job_bytes;
+use crate::line::{damaged_line, other_job_line, refused_line, runs_spent_line};
+use crate::netlist::ReadNetlist;
+use crate::refusal::say_refusal;
+use crate::{Finish, run_steps};
+use rec_words::Rec;
+use script_reader::{Plan, ScriptKind, read_script};
+use shelf_model::Station;
+use std::alloc::{AllocError, Global};
+
+/// Reads a script, over a netlist where one is given, takes all memory of its run, and runs its job in a folder.
+pub(crate) fn run_source<W: Station>(
+    alloc: Global,
+    folder: &str,
+    budget: u32,
+    script: &[u8],
+    netlist: Option<&ReadNetlist>,
+    station: &mut W,
+) -> Ending
+    requires budget { (16384 ≤ budget) × (budget ≤ 4194304) }
+    ensures content { Told W.tells station.old station.new
+        (EndsSource folder.now (source_of budget script.now (text_given netlist.entry)) (status_of result)
+        (W.world station.old) (W.world station.new)) }
+    ensures calls { IsTrue (W.tells station.new)
+        → RunsInCalls 0 (source_of budget script.now (text_given netlist.entry))
+        (W.world station.old) (W.world station.new) }
+    ensures which { IsTrue (list_any (λ s. s == status_of result) (0 ∷ 3 ∷ 5 ∷ 7 ∷ 8 ∷ 9 ∷ 10 ∷ 11 ∷ [])) }
+    ensures cause { EndingHasCause (W.faults station.old) (W.faults station.new) result }
+{
+    let net = netlist.map(|given| &given.net);
+    let plan = match read_script(alloc, script, net) {
+        Ok(plan) => plan,
+        Err(fault) => match fault.kind {
+            ScriptKind::Memory => return Ending::NoMemory,
+            _ => {
+                return say_refusal(
+                    refused_line(fault).as_str().as_bytes(),
+                    Ending::Script,
+                    station,
+                );
+            }
+        },
+    };
+    let text = netlist.map(|given| given.text.as_slice());
+    let Ok(job) = job_bytes(alloc, budget, script, text) else {
+        return Ending::NoMemory;
+    };
+    let Ok(mut room) = take_room(alloc, budget) else {
+        return Ending::NoMemory;
+    };
+    run_plan(folder, script, &plan, &job, &mut room, station)
+}
+
+/// The room of a run.
+fn take_room(alloc: Global, budget: u32) -> Result<Vec<Rec>, AllocError>
+    ensures { IfOk result (λ room. length room.items ≡ budget) }
+{
+    vec![in alloc; Rec { w: [0; 8] }; budget as usize]
+}
+
+/// Enters the folder and runs the plan's job there.
+fn run_plan<W: Station>(
+    folder: &str,
+    text: &[u8],
+    plan: &Plan,
+    job: &[u8],
+    room: &mut [Rec],
+    station: &mut W,
+) -> Ending
+    requires plan { IsWellFormed plan.now.n text.now plan.now.steps }
+    requires lines { AreLines plan.now.steps plan.now.lines }
+    requires room { (16384 ≤ length room.old) × (length room.old ≤ 4194304) }
+    ensures content { Told W.tells station.old station.new
+        (RunsIn folder.now (record { n = plan.now.n; text = text.now; steps = plan.now.steps; bytes = job.now })
+        plan.now.lines
+        (status_of result) (W.world station.old) (W.world station.new)) }
+    ensures calls { IsTrue (W.tells station.new) →
+        AreCounted (record { n = plan.now.n; text = text.now; steps = plan.now.steps; bytes = job.now })
+        (now (W.world station.old)).folder → (W.world station.new).clock ≤ (W.world station.old).clock + 2
+        + most_calls (record { n = plan.now.n; text = text.now; steps = plan.now.steps; bytes = job.now })
+        (length plan.now.lines) }
+    ensures which { EndsRun (status_of result) }
+    ensures cause { EndingHasCause (W.faults station.old) (W.faults station.new) result }
+{
+    let Ok(()) = station.enter(folder) else {
+        return Ending::FolderFault;
+    };
+    let finish = run_steps(
+        plan.n,
+        text,
+        plan.steps.items(),
+        plan.lines.items(),
+        job,
+        room,
+        station,
+    );
+    match finish {
+        Finish::Done => Ending::Done,
+        Finish::OtherJob { at } => say_refusal(
+            other_job_line(at).as_str().as_bytes(),
+            Ending::OtherJob,
+            station,
+        ),
+        Finish::FolderFault => Ending::FolderFault,
+        Finish::SayFault => Ending::SayFault,
+        Finish::Damaged { file, at } => say_refusal(
+            damaged_line(file, at).as_str().as_bytes(),
+            Ending::Damaged,
+            station,
+        ),
+        Finish::RunsSpent { step } => say_refusal(
+            runs_spent_line(step).as_str().as_bytes(),
+            Ending::RunsSpent,
+            station,
+        ),
+    }
+}
