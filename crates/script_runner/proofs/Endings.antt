@@ -1,61 +1,67 @@
 -- The endings of a call of the program.
-use Rattle.std.proofs.Common.{◌≡◌, ◌∙◌, ◌⊎◌, ℕ, ◌+◌, ◌≤◌, min, Bool, List, ◌++◌, length, take, refl, sym, ap, subst, inl, inr, arith}
-use Rattle.std.specs.Prelude.{◌≢◌, IsTrue, Some}
-use Rattle.std.proofs.lemmas.Bool.{cases_lt}
+use Rattle.std.proofs.Common.{◌≡◌, ◌∙◌, ◌⊎◌, ℕ, ◌+◌, ◌<◌, ◌≤◌, min, Bool, List, ◌++◌, length, take, refl, sym, ap, subst, inl, inr, arith}
+use Rattle.std.specs.Prelude.{◌≢◌, IsTrue, Option, Some, None, Ok, Err, nat_lt}
+use Rattle.std.proofs.lemmas.Bool.{cases_lt, lt-ltb}
 use Rattle.std.proofs.lemmas.List.{take_all, length-take}
 use Rattle.shelf_model.specs.World.{Moment, World, now, said}
-use Rattle.shelf_model.specs.Calls.{Told}
 use Rattle.shelf_model.specs.Moments.{Throughout}
+use Rattle.shelf_model.specs.Faults.{Faults, Rose}
 use Rattle.shelf_model.proofs.Runs.{joins, weakens, at_end}
+use Rattle.blif_reader.specs.Netlist.{Net, IsReading, reading}
+use Rattle.blif_reader.specs.declared.fault.BlifFault.{BlifFault}
+use Rattle.command_words.specs.Readings.{Reading}
 use Rattle.sound_image.specs.Jobs.{Job}
 use Rattle.script_reader.specs.declared.plan.LineEnd.{LineEnd}
 use Rattle.script_reader.specs.declared.plan.Plan.{Plan}
-use Rattle.script_runner.specs.declared.ending.Ending.{Ending}
-use Rattle.script_runner.specs.declared.ending.Ending.TheVariants.{SayFault}
-use Rattle.script_runner.specs.declared.ending.Ending.TheVariants as refusal
-use Rattle.script_runner.specs.Asked.{Asked, asked_of}
-use Rattle.script_reader.specs.Reads.{Reads, Refuses}
+use Rattle.script_reader.specs.Reads.{Refuses}
 use Rattle.script_reader.specs.declared.fault.ScriptFault.{ScriptFault}
 use Rattle.script_reader.specs.declared.fault.ScriptKind.TheVariants as kind
 use Rattle.script_reader.proofs.PlanReads.{text_is_short, too_long}
-use Rattle.script_runner.specs.Status.{status_of}
-use Rattle.script_runner.specs.Text.{refused_line}
 use Rattle.script_runner.specs.Running.{IsSaying, SaysOnly}
-use Rattle.script_runner.specs.Fetching.{OnlyFetched, IsText}
-use Rattle.script_runner.specs.JobOf.{job_bytes, job_of}
+use Rattle.script_runner.specs.Fetching.{OnlyFetched}
+use Rattle.script_runner.specs.JobOf.{source_of, job_of}
 use Rattle.script_runner.specs.Entered.{RunsFrom, RunsIn}
-use Rattle.script_runner.specs.Calls.{most_calls, fetch_calls, AreCounted}
-use Rattle.script_runner.specs.Outcome.{Accepts, IsRefused, SaysLine, Ends, MakesFewCalls}
+use Rattle.script_runner.specs.Calls.{most_calls, AreCounted}
+use Rattle.script_runner.specs.Source.{Source, IsSource, folder_of, Plans}
+use Rattle.script_runner.specs.Outcome.{Asks, SaysLine, RefusesScript, RunsSource, EndsSource, Ends, RunsInCalls}
 use Rattle.script_runner.proofs.Saying.{says_nothing}
 use Rattle.script_runner.proofs.EnteredRuns.{earlier}
 
 -- the bytes that were read are the whole text where they are few
-whole_text : (text bytes : List ℕ) → bytes ≡ take (1048576 + 1) text → length bytes ≤ 1048576 → bytes ≡ text
-whole_text text bytes read short =
-    let counted : length bytes ≡ min (1048576 + 1) (length text) = ap length read ∙ length-take (1048576 + 1) text in
-    let fits : length text ≤ 1048576 + 1 = omega arith in
-    read ∙ take_all (1048576 + 1) text fits
+pub whole_text : (most : ℕ) (text bytes : List ℕ) → bytes ≡ take (most + 1) text → length bytes ≤ most → bytes ≡ text
+whole_text most text bytes read short =
+    let counted : length bytes ≡ min (most + 1) (length text) = ap length read ∙ length-take (most + 1) text in
+    let fits : length text ≤ most + 1 = omega (arith, counted, short) in
+    read ∙ take_all (most + 1) text fits
 
--- a text of which too many bytes were read is refused as those bytes are
-refused_text : (text bytes : List ℕ) (fault : ScriptFault) → bytes ≡ take (1048576 + 1) text → Refuses bytes fault → Refuses text fault
-refused_text text bytes fault read refused =
-    elim (cases_lt 1048576 (length bytes)) [
-      | inl long ↦
-          let counted : length bytes ≡ min (1048576 + 1) (length text) = ap length read ∙ length-take (1048576 + 1) text in
-          too_long bytes text fault long (omega (arith, counted, long)) refused
-      | inr short ↦ subst (λ t. Refuses t fault) (whole_text text bytes read short) refused
-    ]
+-- where they aren't few, the text isn't either
+long_text : (most : ℕ) (text bytes : List ℕ) → bytes ≡ take (most + 1) text → most < length bytes → most < length text
+long_text most text bytes read long =
+    let counted : length bytes ≡ min (most + 1) (length text) = ap length read ∙ length-take (most + 1) text in
+    omega (arith, counted, long)
 
 -- a refusal for another cause than memory is that of the text
-pub not_memory : (text : List ℕ) (fault : ScriptFault) → fault.kind ≢ kind.Memory → Refuses text fault ⊎ (fault ≡ record { line = 0; kind = kind.Memory }) → Refuses text fault
-not_memory text fault other (inl refused) = refused
-not_memory text fault other (inr memory) = absurd (other (ap (λ (f : ScriptFault). f.kind) memory))
+pub not_memory : (netlist : Option Net) (text : List ℕ) (fault : ScriptFault) → fault.kind ≢ kind.Memory
+    → Refuses netlist text fault ⊎ (fault ≡ record { line = 0; kind = kind.Memory }) → Refuses netlist text fault
+not_memory netlist text fault other (inl refused) = refused
+not_memory netlist text fault other (inr memory) = absurd (other (ap (λ (f : ScriptFault). f.kind) memory))
 
-still_there : (old mid : World) → OnlyFetched old mid → now mid ≡ now old
+pub still_there : (old mid : World) → OnlyFetched old mid → now mid ≡ now old
 still_there old mid looked = at_end old mid (λ m. m ≡ now old) looked.moments
 
--- a line was said after a text was fetched
-fetched_says : (line : List ℕ) (old mid new : World) → OnlyFetched old mid → SaysOnly line mid new → SaysOnly line old new
+-- texts were fetched after others
+pub fetched_then : (old mid new : World) → OnlyFetched old mid → OnlyFetched mid new → OnlyFetched old new
+fetched_then old mid new first second = record {
+  moments = joins old mid new (λ m. m ≡ now old) first.moments
+      (subst (λ (start : Moment). Throughout mid new (λ m. m ≡ start)) (still_there old mid first) second.moments);
+  texts_are = second.texts_are ∙ first.texts_are;
+  home_is = second.home_is ∙ first.home_is;
+  inside_is = second.inside_is ∙ first.inside_is;
+  strays_are = second.strays_are ∙ first.strays_are;
+}
+
+-- a line was said after texts were fetched
+pub fetched_says : (line : List ℕ) (old mid new : World) → OnlyFetched old mid → SaysOnly line mid new → SaysOnly line old new
 fetched_says line old mid new looked says = record {
   moments = joins old mid new (IsSaying line (now old))
       (weakens old mid (λ m. m ≡ now old) (IsSaying line (now old))
@@ -67,9 +73,17 @@ fetched_says line old mid new looked says = record {
   strays_are = says.strays_are ∙ looked.strays_are;
 }
 
--- a job was run after its text was fetched
-fetched_runs : (folder : List ℕ) (job : Job) (lines : List LineEnd) (status : ℕ) (old mid new : World) → OnlyFetched old mid → RunsIn folder job lines status mid new
-    → RunsIn folder job lines status old new
+pub fetched_line : (line : List ℕ) (good status : ℕ) (old mid new : World) → OnlyFetched old mid
+    → SaysLine line good status mid new → SaysLine line good status old new
+fetched_line line good status old mid new looked says = record {
+  status_is = says.status_is;
+  only = fetched_says line old mid new looked says.only;
+  whole = λ is_good. says.whole is_good ∙ ap (λ (m : Moment). m.said ++ line) (still_there old mid looked);
+}
+
+-- a job was run after its texts were fetched
+fetched_runs : (folder : List ℕ) (job : Job) (lines : List LineEnd) (status : ℕ) (old mid new : World) → OnlyFetched old mid
+    → RunsIn folder job lines status mid new → RunsIn folder job lines status old new
 fetched_runs folder job lines status old mid new looked run = record {
   status_is = run.status_is;
   leaves = earlier job lines status (now old) old mid new looked.moments
@@ -79,116 +93,117 @@ fetched_runs folder job lines status old mid new looked run = record {
   strays_are = λ home. run.strays_are (home ∙ sym looked.home_is) ∙ looked.strays_are;
 }
 
--- the words ask for the plan of the text that was read
-abbrev accepts_read : (words : List (List ℕ)) (asked : Asked) (bytes : List ℕ) (plan : Plan) (w : World) → asked_of words ≡ Some asked → Reads bytes plan
-    → IsText asked.script 1048576 bytes w → Accepts w words plan
-accepts_read words asked bytes plan w words_are accepted read = record {
-  asked = asked;
-  words_are = words_are;
-  text = bytes;
-  there = read.there ∙ ap Some (sym (whole_text read.text bytes read.bytes_are (text_is_short bytes plan accepted)));
-  accepted = accepted;
-}
+-- a source was run after its texts were fetched
+pub fetched_source : (folder : List ℕ) (source : Source) (status : ℕ) (old mid new : World) → OnlyFetched old mid
+    → EndsSource folder source status mid new → EndsSource folder source status old new
+fetched_source folder source status old mid new looked (inl silent) =
+    inl (silent.0, fetched_then old mid new looked silent.1)
+fetched_source folder source status old mid new looked (inr (inl refuses)) = inr (inl (record {
+  fault = refuses.fault;
+  faulty = refuses.faulty;
+  says = fetched_line _ 3 status old mid new looked refuses.says;
+}))
+fetched_source folder source status old mid new looked (inr (inr runs)) = inr (inr (record {
+  plan = runs.plan;
+  plans = runs.plans;
+  run = fetched_runs folder (job_of source runs.plan) runs.plan.lines status old mid new looked runs.run;
+}))
 
-module _ {S : Type 0} (tells : S → Bool) (world : S → World) where
-  -- the calls of a run of the script that was read
-  pub few_run : (words : List (List ℕ)) (asked : Asked) (bytes text job : List ℕ) (plan : Plan) (old s t : S)
-      → asked_of words ≡ Some asked → Reads bytes plan → text ≡ bytes → job ≡ job_bytes asked.budget bytes
-      → (IsTrue (tells s) → IsText asked.script 1048576 bytes (world old))
-      → Told tells old s (OnlyFetched (world old) (world s))
-      → (IsTrue (tells s) → (world s).clock ≤ (world old).clock + fetch_calls 1048576)
-      → (IsTrue (tells t) → IsTrue (tells s))
-      → (IsTrue (tells t)
-      → AreCounted (record { n = plan.n; text = text; steps = plan.steps; bytes = job }) (now (world s)).folder
-      → (world t).clock ≤ (world s).clock + 2
-      + most_calls (record { n = plan.n; text = text; steps = plan.steps; bytes = job }) (length plan.lines))
-      → IsTrue (tells t) → MakesFewCalls words (world old) (world t)
-  few_run words asked bytes text job plan old s t words_are accepted text_is job_is fetched looked first back second here =
-      let tells_s : IsTrue (tells s) = back here in
-      inr (
-        plan,
-        accepts_read words asked bytes plan (world old) words_are accepted (fetched tells_s),
-        λ counted. within (world t).clock (world s).clock (world old).clock (fetch_calls 1048576)
-            (calls bytes (job_bytes asked.budget bytes)) (first tells_s) (by_bytes (second here)
-            (subst (λ (m : Moment). AreCounted (job_with bytes (job_bytes asked.budget bytes)) m.folder)
-            (sym (still_there (world old) (world s) (looked.did tells_s))) counted)),
-      )
-    where
-      job_with : List ℕ → List ℕ → Job
-      job_with x b = record { n = plan.n; text = x; steps = plan.steps; bytes = b }
+-- a source of which too many bytes were read is refused as that of those bytes is; one of few bytes is theirs
+pub ends_whole : (folder : List ℕ) (budget : ℕ) (text bytes : List ℕ) (netlist : Option (List ℕ)) (status : ℕ) (old new : World)
+    → bytes ≡ take (1048576 + 1) text → EndsSource folder (source_of budget bytes netlist) status old new
+    → EndsSource folder (source_of budget text netlist) status old new
+ends_whole folder budget text bytes netlist status old new read ends = elim (cases_lt 1048576 (length bytes)) [
+    | inl long ↦ by_length long ends
+    | inr short ↦ subst (λ t. EndsSource folder (source_of budget t netlist) status old new)
+        (whole_text 1048576 text bytes read short) ends
+  ]
+  where
+    by_length : 1048576 < length bytes → EndsSource folder (source_of budget bytes netlist) status old new
+        → EndsSource folder (source_of budget text netlist) status old new
+    by_length long (inl silent) = inl silent
+    by_length long (inr (inl refuses)) = inr (inl (record {
+      fault = refuses.fault;
+      faulty = record {
+        netlist = refuses.faulty.netlist;
+        spelled = refuses.faulty.spelled;
+        refuses = too_long refuses.faulty.netlist bytes text refuses.fault long
+            (long_text 1048576 text bytes read long) refuses.faulty.refuses;
+      };
+      says = refuses.says;
+    }))
+    by_length long (inr (inr runs)) =
+        let short = text_is_short runs.plans.netlist bytes runs.plan runs.plans.reads in absurd (omega (arith, long, short))
 
-      calls : List ℕ → List ℕ → ℕ
-      calls x b = most_calls (job_with x b) (length plan.lines)
+-- the same of the calls
+pub calls_whole : (budget : ℕ) (text bytes : List ℕ) (netlist : Option (List ℕ)) (before : ℕ) (old new : World)
+    → bytes ≡ take (1048576 + 1) text → RunsInCalls before (source_of budget bytes netlist) old new
+    → RunsInCalls before (source_of budget text netlist) old new
+calls_whole budget text bytes netlist before old new read (inl few) = inl few
+calls_whole budget text bytes netlist before old new read (inr ran) =
+    let short = text_is_short ran.1.netlist bytes ran.0 ran.1.reads in
+    subst (λ t. RunsInCalls before (source_of budget t netlist) old new) (whole_text 1048576 text bytes read short) (inr ran)
 
-      IsFew : List ℕ → List ℕ → Type 0
-      IsFew x b = AreCounted (job_with x b) (now (world s)).folder → (world t).clock ≤ (world s).clock + 2 + calls x b
+-- and after texts were fetched
+pub fetched_calls : (source : Source) (fetch most : ℕ) (old mid new : World) → OnlyFetched old mid
+    → mid.clock ≤ old.clock + fetch → fetch ≤ most → RunsInCalls 0 source mid new → RunsInCalls most source old new
+fetched_calls source fetch most old mid new looked clock within (inl few) = inl (omega (arith, clock, few, within))
+fetched_calls source fetch most old mid new looked clock within (inr (plan, plans, calls)) = inr (
+    plan,
+    plans,
+    λ counted.
+        let few = calls (subst (λ (m : Moment). AreCounted (job_of source plan) m.folder)
+        (sym (still_there old mid looked)) counted) in
+        omega (arith, clock, few, within),
+  )
 
-      by_bytes : IsFew text job → IsFew bytes (job_bytes asked.budget bytes)
-      by_bytes few = subst (λ b. IsFew bytes b) job_is (subst (λ x. IsFew x job) text_is few)
+-- what a source's run ends with, a call whose words ask for it ends with
+pub ends_asked : (asked : Reading) (source : Source) (status : ℕ) (old new : World) → IsSource old asked source
+    → EndsSource (folder_of asked) source status old new → Ends (Some asked) status old new
+ends_asked asked source status old new is (inl silent) = inr (inl (record {
+  words_are = λ six. absurd (let nine = silent.0 in omega (arith, six, nine));
+  status_is = inr silent.0;
+  fetched = silent.1;
+}))
+ends_asked asked source status old new is (inr (inl refuses)) = inr (inr (inr (inl (record {
+  source = source;
+  asks = record { reading = asked; asked_is = refl; source_is = is };
+  refuses = refuses;
+}))))
+ends_asked asked source status old new is (inr (inr runs)) = inr (inr (inr (inr (inl (record {
+  source = source;
+  asks = record { reading = asked; asked_is = refl; source_is = is };
+  runs = runs;
+})))))
 
-      within : (a b c fetch most : ℕ) → b ≤ c + fetch → a ≤ b + 2 + most → a ≤ c + fetch + 2 + most
-      within a b c fetch most one few = omega (arith, one, few)
+-- a netlist that is accepted is short
+pub accepted_is_short : (bytes : List ℕ) (net : Net) → IsReading bytes (Ok net) → length bytes ≤ 4194304
+unfolding reading
+accepted_is_short bytes net reads = elim (cases_lt 4194304 (length bytes)) [
+    | inl long ↦ absurd (let e : nat_lt 4194304 (length bytes) ≡ true = lt-ltb _ _ long in let wrong = (rw e at reads) in cc)
+    | inr short ↦ short
+  ]
 
-  -- the script that was read is refused
-  pub answers_refused : (words : List (List ℕ)) (asked : Asked) (bytes line_said : List ℕ) (fault : ScriptFault) (ending : Ending) (old s t : S) → asked_of words ≡ Some asked
-      → (ending ≡ refusal.Script) ⊎ (ending ≡ SayFault) → line_said ≡ refused_line fault → Refuses bytes fault
-      → (IsTrue (tells s) → IsText asked.script 1048576 bytes (world old))
-      → Told tells old s (OnlyFetched (world old) (world s)) → Told tells s t (SaysOnly line_said (world s) (world t))
-      → (ending ≡ refusal.Script → IsTrue (tells t) → said (world t) ≡ said (world s) ++ line_said)
-      → Told tells old t (Ends words (status_of ending) (world old) (world t))
-  answers_refused words asked bytes line_said fault ending old s t words_are which line_is refused text looked says whole = record {
-    before = λ tells_t. looked.before (says.before tells_t);
-    did = λ tells_t.
-        let tells_s : IsTrue (tells s) = says.before tells_t in
-        let read : IsText asked.script 1048576 bytes (world old) = text tells_s in
-        let refuses : IsRefused (world old) words fault = record {
-          asked = asked;
-          words_are = words_are;
-          text = read.text;
-          there = read.there;
-          refused = refused_text read.text bytes fault read.bytes_are refused;
-        } in
-        let line : SaysLine line_said 3 (status_of ending) (world old) (world t) = record {
-          status_is = two ending which;
-          only = fetched_says line_said (world old) (world s) (world t) (looked.did tells_s) (says.did tells_t);
-          whole = λ three. whole (is_script ending which three) tells_t
-              ∙ ap (λ (m : Moment). m.said ++ line_said) (still_there (world old) (world s) (looked.did tells_s));
-        } in
-        inr (inr (inl (record {
-          fault = fault;
-          refuses = refuses;
-          says = subst (λ (text : List ℕ). SaysLine text 3 (status_of ending) (world old) (world t)) line_is line;
-        })));
-  }
-    where
-      two : (e : Ending) → (e ≡ refusal.Script) ⊎ (e ≡ SayFault) → (status_of e ≡ 3) ⊎ (status_of e ≡ 8)
-      two e (inl x) = inl (ap status_of x)
-      two e (inr x) = inr (ap status_of x)
+-- texts of netlists that are too long are refused alike
+long_netlists : (a b : List ℕ) (fault : BlifFault) → 4194304 < length a → 4194304 < length b
+    → IsReading a (Err fault) → IsReading b (Err fault)
+unfolding reading
+long_netlists a b fault long_a long_b refused =
+    let e : nat_lt 4194304 (length a) ≡ true = lt-ltb _ _ long_a in
+    let f : nat_lt 4194304 (length b) ≡ true = lt-ltb _ _ long_b in
+    rw f (rw e at refused)
 
-      is_script : (e : Ending) → (e ≡ refusal.Script) ⊎ (e ≡ SayFault) → status_of e ≡ 3 → e ≡ refusal.Script
-      is_script e (inl x) three = x
-      is_script e (inr x) three = absurd (let eight : status_of e ≡ 8 = ap status_of x in omega (arith, three))
+-- the fault of the bytes that were read is that of the text
+pub faulty_whole : (text bytes : List ℕ) (fault : BlifFault) → bytes ≡ take (4194304 + 1) text → IsReading bytes (Err fault)
+    → IsReading text (Err fault)
+faulty_whole text bytes fault read refused = elim (cases_lt 4194304 (length bytes)) [
+    | inl long ↦ long_netlists bytes text fault long (long_text 4194304 text bytes read long) refused
+    | inr short ↦ subst (λ t. IsReading t (Err fault)) (whole_text 4194304 text bytes read short) refused
+  ]
 
-  -- the script that was read is run
-  pub answers_run : (words : List (List ℕ)) (asked : Asked) (bytes text job : List ℕ) (plan : Plan) (status : ℕ) (old s t : S) → asked_of words ≡ Some asked
-      → Reads bytes plan → text ≡ bytes → job ≡ job_bytes asked.budget bytes
-      → (IsTrue (tells s) → IsText asked.script 1048576 bytes (world old))
-      → Told tells old s (OnlyFetched (world old) (world s))
-      → Told tells s t (RunsIn asked.folder (record { n = plan.n; text = text; steps = plan.steps; bytes = job }) plan.lines status (world s) (world t))
-      → Told tells old t (Ends words status (world old) (world t))
-  answers_run words asked bytes text job plan status old s t words_are accepted text_is job_is fetched looked run = record {
-    before = λ tells_t. looked.before (run.before tells_t);
-    did = λ tells_t.
-        let tells_s : IsTrue (tells s) = run.before tells_t in
-        let read : IsText asked.script 1048576 bytes (world old) = fetched tells_s in
-        let accepts : Accepts (world old) words plan = accepts_read words asked bytes plan (world old) words_are accepted read in
-        let by_text : RunsIn asked.folder (record { n = plan.n; text = bytes; steps = plan.steps; bytes = job }) plan.lines status (world s) (world t) =
-        subst (λ (x : List ℕ). RunsIn asked.folder (record { n = plan.n; text = x; steps = plan.steps; bytes = job }) plan.lines status (world s) (world t)) text_is (run.did tells_t) in
-        let by_job : RunsIn asked.folder (job_of asked.budget bytes plan) plan.lines status (world s) (world t) =
-        subst (λ (x : List ℕ). RunsIn asked.folder (record { n = plan.n; text = bytes; steps = plan.steps; bytes = x }) plan.lines status (world s) (world t)) job_is by_text in
-        inr (inr (inr (record {
-          plan = plan;
-          accepts = accepts;
-          run = fetched_runs asked.folder (job_of asked.budget bytes plan) plan.lines status (world old) (world s) (world t) (looked.did tells_s) by_job;
-        })));
-  }
+-- a count that rose later rose, where it stood still before
+pub rose_since : (a b c : Faults) → b.folder ≡ a.folder → Rose b.folder c.folder → Rose a.folder c.folder
+rose_since a b c same rose = subst (λ n. Rose n c.folder) same rose
+
+pub said_since : (a b c : Faults) → b.say ≡ a.say → Rose b.say c.say → Rose a.say c.say
+said_since a b c same rose = subst (λ n. Rose n c.say) same rose

@@ -12,4 +12,5 @@ pub mod Taking
 pub mod Turns
 pub mod EnteredRuns
 pub mod Endings
+pub mod Sources
 pub mod Lives

@@ -1,10 +1,8 @@
 -- What any list of calls in one folder leaves.
-use Rattle.std.proofs.Common.{◌≡◌, ◌∙◌, ◌⊎◌, ℕ, ◌+◌, ◌^◌, ◌<◌, ◌≤◌, Bool, true, false, List, [], ◌∷◌, ◌++◌, length, drop, replicate, refl, sym, ap, ap₂, subst, inl, inr, arith}
-use Rattle.std.specs.Prelude.{IsTrue, Some, None, codes, nat_lt, bytes_eq}
-use Rattle.std.proofs.lemmas.List.{append-nil, append_cancel_left, drop_at, length-append}
+use Rattle.std.proofs.Common.{◌≡◌, ◌∙◌, ◌⊎◌, ℕ, ◌+◌, ◌^◌, ◌<◌, ◌≤◌, Bool, true, false, List, [], ◌∷◌, ◌++◌, length, refl, sym, ap, subst, inl, inr, arith}
+use Rattle.std.specs.Prelude.{IsTrue, Option, Some, None, nat_lt, bytes_eq}
+use Rattle.std.proofs.lemmas.List.{append-nil, append_cancel_left}
 use Rattle.std.proofs.lemmas.Slice.Eq.{bytes_eq-Decides}
-use Rattle.byteorder.specs.Endian.{big_bytes}
-use Rattle.byteorder.specs.Numbers.{length-bytes_high_first}
 use Rattle.shelf_model.specs.declared.file_no.FileNo.{FileNo}
 use Rattle.shelf_model.specs.File.{no_file, IsLeft}
 use Rattle.shelf_model.specs.Folder.{Folder, Image, IsImage, file_in, bytes_in}
@@ -14,8 +12,10 @@ use Rattle.shelf_model.proofs.Lives.{next_life}
 use Rattle.shelf_model.specs.World.{Moment, World, now, said}
 use Rattle.shelf_model.specs.Moments.{OnlyOldImages}
 use Rattle.shelf_model.specs.Faults.{Faults}
+use Rattle.blif_reader.specs.declared.fault.BlifFault.{BlifFault}
 use Rattle.catalogue.specs.Files.{job_file, job_gate, step_gate}
 use Rattle.catalogue.specs.Counts.{present, is_stored, count_in}
+use Rattle.command_words.specs.Readings.{Reading, list, reading_of}
 use Rattle.sound_image.specs.Files.{checkpoint_gate}
 use Rattle.sound_image.specs.Jobs.{Job, step_at}
 use Rattle.sound_image.specs.Entries.{work_of}
@@ -24,17 +24,37 @@ use Rattle.sound_image.specs.Holds.{AreSound}
 use Rattle.sound_image.proofs.AttachLaws.{standing}
 use Rattle.script_reader.specs.declared.fault.ScriptFault.{ScriptFault}
 use Rattle.script_reader.specs.declared.plan.Plan.{Plan}
-use Rattle.script_reader.specs.Reads.{Reads}
-use Rattle.script_reader.proofs.PlanReads.{one_plan, plan_or_refusal}
-use Rattle.script_runner.specs.Asked.{Asked, asked_of}
 use Rattle.script_runner.specs.Said.{whole_lines, said_count}
 use Rattle.script_runner.specs.Running.{SaysOnly, IsSafe}
 use Rattle.script_runner.specs.Fetching.{OnlyFetched}
 use Rattle.script_runner.specs.JobOf.{job_bytes, job_of}
 use Rattle.script_runner.specs.Entered.{EndsRun, RefusesOther, NamesSpentStep, IsMoment, RunsIn}
-use Rattle.script_runner.specs.Text.{usage_line, refused_line, run_text}
-use Rattle.script_runner.specs.Outcome.{Accepts, IsRefused, EndsRan, Ends, StatusHasCause, IsSmall, NoneRose}
+use Rattle.script_runner.specs.Text.{usage_line, netlist_line, refused_line, run_text}
+use Rattle.script_runner.specs.Source.{Source, IsSource, folder_of, Plans, IsFaulty, HasFaultyNetlist}
+use Rattle.script_runner.specs.Outcome.{Asks, Accepts, EndsNetlist, EndsRefused, EndsRan, EndsListed, Ends, StatusHasCause, IsSmall, NoneRose}
 use Rattle.script_runner.specs.Lives.{Life, SameFiles, IsLeftOf, IsLife, RunsPlan, StaysOut, AreStored, AreLives, LifeKeeps, LivesKeep}
+use Rattle.script_runner.proofs.Sources.{one_some, some_or_none, one_asked, one_planned, planned_or_faulty, netlist_is_good, job_has_texts, same_job, one_accepted}
+
+-- words that ask for a plan name no faulty netlist
+no_faulty_netlist : (w : World) (asked : Option Reading) (p : Plan) (r : Reading) (fault : BlifFault) → asked ≡ Some r
+    → HasFaultyNetlist w r fault → Accepts w asked p → ⊥
+no_faulty_netlist w asked p r fault is faulty accepts =
+    let readings : accepts.asks.reading ≡ r = one_some accepts.asks.reading r asked accepts.asks.asked_is is in
+    netlist_is_good w r accepts.source p fault (subst (λ x. IsSource w x accepts.source) readings accepts.asks.source_is)
+    accepts.plans faulty
+
+-- and no faulty script
+no_faulty_script : (w : World) (asked : Option Reading) (p : Plan) (source : Source) (fault : ScriptFault) → Asks w asked source
+    → IsFaulty source fault → Accepts w asked p → ⊥
+no_faulty_script w asked p source fault asks faulty accepts =
+    let sources : accepts.source ≡ source = one_asked w asked accepts.source source accepts.asks asks in
+    planned_or_faulty source p fault (subst (λ s. Plans s p) sources accepts.plans) faulty
+
+-- and no list
+no_list : (w : World) (asked : Option Reading) (p : Plan) (path : List ℕ) → asked ≡ Some (list path) → Accepts w asked p → ⊥
+no_list w asked p path is accepts =
+    subst (λ r. IsSource w r accepts.source) (one_some accepts.asks.reading (list path) asked accepts.asks.asked_is is)
+    accepts.asks.source_is
 
 -- an image without bytes is sound for every job
 pub empty_is_sound : (job : Job) (r : FileNo → List ℕ) → ((f : FileNo) → r f ≡ []) → IsSound job r
@@ -47,56 +67,6 @@ empty_is_sound job r empty = record {
 pub new_folder_is_sound : (job : Job) (folder : Folder) → ((f : FileNo) → file_in folder f ≡ no_file) → AreSound job folder
 new_folder_is_sound job folder empty image is_image =
     empty_is_sound job (bytes_in image) (λ f. only_image [] (bytes_in image f) (subst (λ x. IsLeft x (bytes_in image f)) (empty f) (is_image f)))
-
--- the words have one asked at most
-pub one_asked : (words : List (List ℕ)) (a b : Asked) → asked_of words ≡ Some a → asked_of words ≡ Some b → a ≡ b
-one_asked words a b x y = cc
-
-pub reads_something : (words : List (List ℕ)) (a : Asked) → asked_of words ≡ None → asked_of words ≡ Some a → ⊥
-reads_something words a x y = cc
-
-same_some : (x y : List ℕ) → Some x ≡ Some y → x ≡ y
-same_some x y e = cc
-
--- a path has one text at most
-pub one_text : (w : World) (words : List (List ℕ)) (a b : Asked) (x y : List ℕ) → asked_of words ≡ Some a → asked_of words ≡ Some b
-    → w.texts a.script ≡ Some x → w.texts b.script ≡ Some y → x ≡ y
-one_text w words a b x y reads_a reads_b there_a there_b =
-    let readings : a ≡ b = one_asked words a b reads_a reads_b in
-    same_some x y (sym (subst (λ (r : Asked). w.texts r.script ≡ Some x) readings there_a) ∙ there_b)
-
--- a text that asks for a plan isn't refused
-pub not_both : (w : World) (words : List (List ℕ)) (p : Plan) (fault : ScriptFault) → Accepts w words p → IsRefused w words fault → ⊥
-not_both w words p fault a b =
-    plan_or_refusal b.text p fault (subst (λ text. Reads text p) (one_text w words a.asked b.asked a.text b.text a.words_are b.words_are a.there b.there) a.accepted) b.refused
-
--- the words ask for one text, one plan and one room at most
-pub same_plan : (w : World) (words : List (List ℕ)) (p q : Plan) (a : Accepts w words p) (b : Accepts w words q)
-    → (a.text ≡ b.text) × (p ≡ q) × (a.asked.budget ≡ b.asked.budget)
-same_plan w words p q a b =
-    let texts : a.text ≡ b.text = one_text w words a.asked b.asked a.text b.text a.words_are b.words_are a.there b.there in
-    (texts, one_plan b.text p q (subst (λ text. Reads text p) texts a.accepted) b.accepted, ap (λ (r : Asked). r.budget) (one_asked words a.asked b.asked a.words_are b.words_are))
-
--- one job has one text
-behind_head : (budget : ℕ) (text : List ℕ) → drop 20 (job_bytes budget text) ≡ text
-unfolding job_bytes
-behind_head budget text = drop_at head text 20 size
-  where
-    head : List ℕ
-    head = codes "ADIARJ01" ++ big_bytes 4 budget ++ big_bytes 4 (length text) ++ replicate 4 255
-
-    size : length head ≡ 20
-    size =
-        length-append (codes "ADIARJ01" ++ big_bytes 4 budget ++ big_bytes 4 (length text)) (replicate 4 255)
-        ∙ ap (λ n. n + 4) (length-append (codes "ADIARJ01" ++ big_bytes 4 budget) (big_bytes 4 (length text))
-        ∙ ap₂ (λ m n. m + n) (length-append (codes "ADIARJ01") (big_bytes 4 budget) ∙ ap (λ n. 8 + n) (length-bytes_high_first 4 budget)) (length-bytes_high_first 4 (length text)))
-
-text_of_job : (m n : ℕ) (a b : List ℕ) → job_bytes m a ≡ job_bytes n b → a ≡ b
-text_of_job m n a b same = sym (behind_head m a) ∙ ap (drop 20) same ∙ behind_head n b
-
--- jobs are the same where their bytes, texts and plans are
-same_job_of : (m n : ℕ) (a b : List ℕ) (p q : Plan) → job_bytes m a ≡ job_bytes n b → a ≡ b → p ≡ q → job_of m a p ≡ job_of n b q
-same_job_of m n a b p q bytes texts plans i = record { n = (plans i).n; text = texts i; steps = (plans i).steps; bytes = bytes i }
 
 -- what holds of each image of a folder holds of each image of what is left of it
 of_left : (P : (FileNo → List ℕ) → Type 0) (folder left : Folder) → IsLeftOf folder left → ((image : Image) → IsImage folder image → P (bytes_in image))
@@ -111,14 +81,14 @@ alike a b same image is_image f = subst (λ x. IsLeft x (bytes_in image f)) (sam
 alike_back : (a b : Folder) → SameFiles a b → (image : Image) → IsImage b image → IsImage a image
 alike_back a b same image is_image f = subst (λ x. IsLeft x (bytes_in image f)) (sym (same f)) (is_image f)
 
-module _ (budget : ℕ) (text : List ℕ) (plan : Plan) (reads : Reads text plan) (folder : Folder) (life : Life) (sound : AreSound (job_of budget text plan) folder) (is : IsLife folder life) where
+module _ (source : Source) (plan : Plan) (plans : Plans source plan) (folder : Folder) (life : Life) (sound : AreSound (job_of source plan) folder) (is : IsLife folder life) where
   abbrev then : Moment
   then = life.new.moment life.at
 
   -- a call that left only images that were there, and ran this job only as far as it said nothing
-  keeps_images : OnlyOldImages (now life.old) then → (RunsPlan budget text plan life → life.told ≡ []) → LifeKeeps budget text plan folder life
+  keeps_images : OnlyOldImages (now life.old) then → (RunsPlan source plan life → life.told ≡ []) → LifeKeeps source plan folder life
   keeps_images old_images silent = record {
-    sound = of_left (IsSound (job_of budget text plan)) then.folder life.left is.leaves (λ image is_image. sound image (was_there image is_image));
+    sound = of_left (IsSound (job_of source plan)) then.folder life.left is.leaves (λ image is_image. sound image (was_there image is_image));
     has_old = λ count reaches. of_left (λ r. count ≤ count_in r) then.folder life.left is.leaves (λ image is_image. reaches image (was_there image is_image));
     still_stored = λ stored. of_left (λ r. IsTrue (is_stored r)) then.folder life.left is.leaves (λ image is_image. stored image (was_there image is_image));
     has_said = λ runs. record {
@@ -139,25 +109,25 @@ module _ (budget : ℕ) (text : List ℕ) (plan : Plan) (reads : Reads text plan
       no_lines = refl
 
   -- a line was said and no file touched
-  keeps_saying : (line : List ℕ) → SaysOnly line life.old life.new → ¬ (RunsPlan budget text plan life) → LifeKeeps budget text plan folder life
+  keeps_saying : (line : List ℕ) → SaysOnly line life.old life.new → ¬ (RunsPlan source plan life) → LifeKeeps source plan folder life
   keeps_saying line says none = keeps_images
       (λ image is_image. subst (λ (f : Folder). IsImage f image) (says.moments.each life.at is.since is.until).folder_is is_image)
       (λ runs. absurd (none runs))
 
   -- nothing was said and no file touched
-  keeps_silent : OnlyFetched life.old life.new → LifeKeeps budget text plan folder life
+  keeps_silent : OnlyFetched life.old life.new → LifeKeeps source plan folder life
   keeps_silent looked =
       let same : then ≡ now life.old = looked.moments.each life.at is.since is.until in
       keeps_images (λ image is_image. subst (λ (m : Moment). IsImage m.folder image) same is_image) (λ runs.
       append_cancel_left (said life.old) life.told [] (sym is.said_is ∙ ap (λ (m : Moment). m.said) same ∙ sym (append-nil (said life.old))))
 
-  found_sound : AreSound (job_of budget text plan) (now life.old).folder
+  found_sound : AreSound (job_of source plan) (now life.old).folder
   found_sound image is_image = sound image (alike (now life.old).folder folder is.found image is_image)
 
   -- this job was run
-  keeps_run : (path : List ℕ) → RunsIn path (job_of budget text plan) plan.lines life.status life.old life.new → LifeKeeps budget text plan folder life
+  keeps_run : (path : List ℕ) → RunsIn path (job_of source plan) plan.lines life.status life.old life.new → LifeKeeps source plan folder life
   keeps_run path run = record {
-    sound = of_left (IsSound (job_of budget text plan)) then.folder life.left is.leaves (λ image is_image. (safe image is_image).sound);
+    sound = of_left (IsSound (job_of source plan)) then.folder life.left is.leaves (λ image is_image. (safe image is_image).sound);
     has_old = λ count reaches. of_left (λ r. count ≤ count_in r) then.folder life.left is.leaves (λ image is_image.
         (safe image is_image).has_old count (λ first is_first. reaches first (alike (now life.old).folder folder is.found first is_first)));
     still_stored = λ stored. of_left (λ r. IsTrue (is_stored r)) then.folder life.left is.leaves (λ image is_image.
@@ -178,10 +148,10 @@ module _ (budget : ℕ) (text : List ℕ) (plan : Plan) (reads : Reads text plan
     };
   }
     where
-      moment : IsMoment (job_of budget text plan) plan.lines (now life.old) then
+      moment : IsMoment (job_of source plan) plan.lines (now life.old) then
       moment = run.leaves.moments.each life.at is.since is.until
 
-      safe : (image : Image) → IsImage then.folder image → IsSafe (job_of budget text plan) plan.lines (now life.old).folder moment.front (bytes_in image)
+      safe : (image : Image) → IsImage then.folder image → IsSafe (job_of source plan) plan.lines (now life.old).folder moment.front (bytes_in image)
       safe = (moment.running.safe_run found_sound).safe
 
       told_is : life.told ≡ moment.front ++ moment.tail
@@ -192,9 +162,10 @@ module _ (budget : ℕ) (text : List ℕ) (plan : Plan) (reads : Reads text plan
       same_reads = λ i f. ap (λ file. file.bytes) (is.found f) i
 
   -- another job was to be run, where this one is stored in every image
-  keeps_other : (room : ℕ) (other : List ℕ) (p : Plan) (path : List ℕ) → ¬ (job_bytes room other ≡ job_bytes budget text) → AreStored folder → ¬ (RunsPlan budget text plan life)
-      → RunsIn path (job_of room other p) p.lines life.status life.old life.new → LifeKeeps budget text plan folder life
-  keeps_other room other p path differ stored none run = keeps_images (refuses.moments.each life.at is.since is.until).1 (λ runs. absurd (none runs))
+  keeps_other : (other : Source) (p : Plan) (path : List ℕ) → ¬ (job_bytes other ≡ job_bytes source) → AreStored folder
+      → ¬ (RunsPlan source plan life)
+      → RunsIn path (job_of other p) p.lines life.status life.old life.new → LifeKeeps source plan folder life
+  keeps_other other p path differ stored none run = keeps_images (refuses.moments.each life.at is.since is.until).1 (λ runs. absurd (none runs))
     where
       first : Image
       first = chosen (λ _ x. x.bytes) (now life.old).folder
@@ -208,7 +179,7 @@ module _ (budget : ℕ) (text : List ℕ) (plan : Plan) (reads : Reads text plan
       stored_here : IsTrue (is_stored (present (now life.old).folder))
       stored_here = subst (λ a. IsTrue (nat_lt 0 (length a))) (standing_reads job_gate) (stored first (alike (now life.old).folder folder is.found first is_first))
 
-      job_here : present (now life.old).folder job_file ≡ job_bytes budget text
+      job_here : present (now life.old).folder job_file ≡ job_bytes source
       job_here = elim (found_sound first is_first).shown [
         | inl unstored ↦ absurd (both (bytes_in first) (present (now life.old).folder) (standing_reads job_gate) stored_here unstored.0)
         | inr shown ↦ sym (standing_reads job_file) ∙ shown.job_is
@@ -217,101 +188,152 @@ module _ (budget : ℕ) (text : List ℕ) (plan : Plan) (reads : Reads text plan
           both : (r q : FileNo → List ℕ) → r job_gate ≡ q job_gate → IsTrue (is_stored q) → is_stored r ≡ false → ⊥
           both r q same x y = let e : is_stored r ≡ is_stored q = ap (λ bytes. nat_lt 0 (length bytes)) same in cc
 
-      refuses : RefusesOther (job_bytes room other) life.status (now life.old) life.old life.new
+      refuses : RefusesOther (job_bytes other) life.status (now life.old) life.old life.new
       refuses = run.leaves.other (record { stored = stored_here; other = λ same. differ (sym same ∙ job_here) })
 
   -- this job or another one
-  keeps_ran : RunsPlan budget text plan life ⊎ StaysOut life ⊎ AreStored folder → EndsRan life.words life.status life.old life.new → LifeKeeps budget text plan folder life
-  keeps_ran which ran = by_job (bytes_eq here (job_bytes budget text)) refl
+  keeps_ran : RunsPlan source plan life ⊎ StaysOut life ⊎ AreStored folder
+      → EndsRan (reading_of life.words) life.status life.old life.new → LifeKeeps source plan folder life
+  keeps_ran which ran = by_job (bytes_eq here (job_bytes source)) refl
     where
-      asked : Asked
-      asked = ran.accepts.asked
+      path : List ℕ
+      path = folder_of ran.asks.reading
 
       here : List ℕ
-      here = job_bytes asked.budget ran.accepts.text
+      here = job_bytes ran.source
 
-      same_job : RunsPlan budget text plan life → here ≡ job_bytes budget text
-      same_job runs =
-          let same = same_plan life.old life.words ran.plan plan ran.accepts runs.accepts in
-          ap₂ job_bytes (same.2 ∙ runs.budget_is) (same.0 ∙ runs.text_is)
+      accepts : Accepts life.old (reading_of life.words) ran.runs.plan
+      accepts = record { source = ran.source; asks = ran.asks; plans = ran.runs.plans }
 
-      other_job : ¬ (here ≡ job_bytes budget text) → LifeKeeps budget text plan folder life
+      same_bytes : RunsPlan source plan life → here ≡ job_bytes source
+      same_bytes runs = ap job_bytes
+          ((one_accepted life.old (reading_of life.words) ran.runs.plan plan accepts runs.accepts).0 ∙ runs.source_is)
+
+      other_job : ¬ (here ≡ job_bytes source) → LifeKeeps source plan folder life
       other_job differ = elim which [
-        | inl runs ↦ absurd (differ (same_job runs))
+        | inl runs ↦ absurd (differ (same_bytes runs))
         | inr rest ↦ elim rest [
           | inl out ↦ absurd (out ran)
-          | inr stored ↦ keeps_other asked.budget ran.accepts.text ran.plan asked.folder differ stored (λ runs. differ (same_job runs)) ran.run
+          | inr stored ↦ keeps_other ran.source ran.runs.plan path differ stored (λ runs. differ (same_bytes runs)) ran.runs.run
         ]
       ]
 
-      this_job : here ≡ job_bytes budget text → LifeKeeps budget text plan folder life
+      this_job : here ≡ job_bytes source → LifeKeeps source plan folder life
       this_job same =
-          let texts : ran.accepts.text ≡ text = text_of_job asked.budget budget ran.accepts.text text same in
-          let plans : ran.plan ≡ plan = one_plan text ran.plan plan (subst (λ t. Reads t ran.plan) texts ran.accepts.accepted) reads in
-          let jobs : job_of asked.budget ran.accepts.text ran.plan ≡ job_of budget text plan = same_job_of asked.budget budget ran.accepts.text text ran.plan plan same texts plans in
-          keeps_run asked.folder (subst (λ (p : Plan). RunsIn asked.folder (job_of budget text plan) p.lines life.status life.old life.new) plans
-          (subst (λ (j : Job). RunsIn asked.folder j ran.plan.lines life.status life.old life.new) jobs ran.run))
+          let texts = job_has_texts ran.source source ran.runs.plan plan ran.runs.plans plans same in
+          let planned : ran.runs.plan ≡ plan =
+          one_planned ran.source source ran.runs.plan plan texts.0 texts.1 ran.runs.plans plans in
+          let jobs : job_of ran.source ran.runs.plan ≡ job_of source plan =
+          same_job ran.source source ran.runs.plan plan same texts.0 planned in
+          keeps_run path (subst (λ (p : Plan). RunsIn path (job_of source plan) p.lines life.status life.old life.new) planned
+          (subst (λ (j : Job). RunsIn path j ran.runs.plan.lines life.status life.old life.new) jobs ran.runs.run))
 
-      by_job : (b : Bool) → bytes_eq here (job_bytes budget text) ≡ b → LifeKeeps budget text plan folder life
-      by_job true e = this_job ((bytes_eq-Decides here (job_bytes budget text)).0 e)
-      by_job false e = other_job (λ same. (let equal : bytes_eq here (job_bytes budget text) ≡ true = (bytes_eq-Decides here (job_bytes budget text)).1 same in no_both (bytes_eq here (job_bytes budget text)) equal e))
+      by_job : (b : Bool) → bytes_eq here (job_bytes source) ≡ b → LifeKeeps source plan folder life
+      by_job true e = this_job ((bytes_eq-Decides here (job_bytes source)).0 e)
+      by_job false e = other_job (λ same.
+          (let equal : bytes_eq here (job_bytes source) ≡ true = (bytes_eq-Decides here (job_bytes source)).1 same in
+          not_both (bytes_eq here (job_bytes source)) equal e))
         where
-          no_both : (b : Bool) → b ≡ true → b ≡ false → ⊥
-          no_both b x y = cc
+          not_both : (b : Bool) → b ≡ true → b ≡ false → ⊥
+          not_both b x y = cc
+
+  -- diagrams were listed, and no image is new
+  keeps_listed : EndsListed (reading_of life.words) life.status life.old life.new → LifeKeeps source plan folder life
+  keeps_listed listed = keeps_images (listed.lists.leaves.moments.each life.at is.since is.until).images
+      (λ runs. absurd (asks_for_no_list life.old listed.folder runs.accepts.source
+      (subst (λ r. IsSource life.old r runs.accepts.source)
+      (one_some runs.accepts.asks.reading (list listed.folder) (reading_of life.words) runs.accepts.asks.asked_is listed.asked_is)
+      runs.accepts.asks.source_is)))
+    where
+      asks_for_no_list : (w : World) (path : List ℕ) (s : Source) → IsSource w (list path) s → ⊥
+      asks_for_no_list w path s none = none
 
   -- one call
-  pub life_keeps : RunsPlan budget text plan life ⊎ StaysOut life ⊎ AreStored folder → LifeKeeps budget text plan folder life
+  pub life_keeps : RunsPlan source plan life ⊎ StaysOut life ⊎ AreStored folder → LifeKeeps source plan folder life
   life_keeps which = elim is.ends [
-    | inl usage ↦ keeps_saying usage_line usage.says.only (λ runs. reads_something life.words runs.accepts.asked usage.unread runs.accepts.words_are)
+    | inl usage ↦ keeps_saying usage_line usage.says.only
+        (λ runs. some_or_none runs.accepts.asks.reading (reading_of life.words) runs.accepts.asks.asked_is usage.unread)
     | inr other ↦ elim other [
       | inl silent ↦ keeps_silent silent.fetched
       | inr more ↦ elim more [
-        | inl refused ↦ keeps_saying (refused_line refused.fault) refused.says.only (λ runs. not_both life.old life.words plan refused.fault runs.accepts refused.refuses)
-        | inr ran ↦ keeps_ran which ran
+        | inl netlist ↦ keeps_saying (netlist_line netlist.fault) netlist.says.only (λ runs. bad_netlist netlist runs)
+        | inr third ↦ elim third [
+          | inl refused ↦ keeps_saying (refused_line refused.refuses.fault) refused.refuses.says.only
+              (λ runs. bad_script refused runs)
+          | inr last ↦ elim last [
+            | inl ran ↦ keeps_ran which ran
+            | inr listed ↦ keeps_listed listed
+          ]
+        ]
       ]
     ]
   ]
+    where
+      bad_netlist : EndsNetlist (reading_of life.words) life.status life.old life.new → RunsPlan source plan life → ⊥
+      bad_netlist netlist runs =
+          no_faulty_netlist life.old (reading_of life.words) plan netlist.reading netlist.fault netlist.asked_is netlist.faulty runs.accepts
+
+      bad_script : EndsRefused (reading_of life.words) life.status life.old life.new → RunsPlan source plan life → ⊥
+      bad_script refused runs =
+          no_faulty_script life.old (reading_of life.words) plan refused.source refused.refuses.fault refused.asks refused.refuses.faulty runs.accepts
 
 -- any list of calls, each on what the one before left
-pub lives_keep : (budget : ℕ) (text : List ℕ) (plan : Plan) (folder : Folder) (lives : List Life) → Reads text plan → AreSound (job_of budget text plan) folder
-    → AreLives budget text plan folder lives → LivesKeep budget text plan folder lives
-lives_keep budget text plan folder [] reads sound are = tt
-lives_keep budget text plan folder (life ∷ lives) reads sound are =
-    let keeps : LifeKeeps budget text plan folder life = life_keeps budget text plan reads folder life sound are.0 are.1 in
-    (keeps, lives_keep budget text plan life.left lives reads keeps.sound are.2)
+pub lives_keep : (source : Source) (plan : Plan) (folder : Folder) (lives : List Life) → Plans source plan
+    → AreSound (job_of source plan) folder → AreLives source plan folder lives → LivesKeep source plan folder lives
+lives_keep source plan folder [] plans sound are = tt
+lives_keep source plan folder (life ∷ lives) plans sound are =
+    let keeps : LifeKeeps source plan folder life = life_keeps source plan plans folder life sound are.0 are.1 in
+    (keeps, lives_keep source plan life.left lives plans keeps.sound are.2)
 
--- a run of an accepted text of small steps in a sound folder, without a fault
-pub accepted_runs_end : (words : List (List ℕ)) (plan : Plan) (status : ℕ) (old new : World) (before after : Faults) → (accepts : Accepts old words plan)
-    → AreSound (job_of accepts.asked.budget accepts.text plan) (now old).folder
-    → IsSmall (job_of accepts.asked.budget accepts.text plan) → Ends words status old new → StatusHasCause words status before after → NoneRose words before after
-    → ((status ≡ 0) × (said new ≡ said old ++ run_text (job_of accepts.asked.budget accepts.text plan) plan.lines (present (now old).folder))) ⊎ ((status ≡ 9) × OnlyFetched old new)
-accepted_runs_end words plan status old new before after accepts sound small ends causes none =
+-- a run of an accepted script of small steps in a sound folder, without a fault
+pub accepted_runs_end : (asked : Option Reading) (plan : Plan) (status : ℕ) (old new : World) (before after : Faults)
+    → (accepts : Accepts old asked plan) → AreSound (job_of accepts.source plan) (now old).folder
+    → IsSmall (job_of accepts.source plan) → Ends asked status old new → StatusHasCause asked status before after
+    → NoneRose asked before after
+    → ((status ≡ 0) × (said new ≡ said old ++ run_text (job_of accepts.source plan) plan.lines (present (now old).folder)))
+    ⊎ ((status ≡ 9) × OnlyFetched old new)
+accepted_runs_end asked plan status old new before after accepts sound small ends causes none =
     elim ends [
-      | inl usage ↦ absurd (reads_something words accepts.asked usage.unread accepts.words_are)
+      | inl usage ↦ absurd (some_or_none accepts.asks.reading asked accepts.asks.asked_is usage.unread)
       | inr other ↦ elim other [
         | inl silent ↦ elim silent.status_is [
-          | inl six ↦ absurd (let fault = causes.text_fault six in none.text_same fault.0 fault.1 fault.2)
+          | inl six ↦ absurd (let fault = causes.text_fault six in none.text_same fault.0 fault.2.0 fault.1 fault.2.1 fault.2.2)
           | inr nine ↦ inr (nine, silent.fetched)
         ]
         | inr more ↦ elim more [
-          | inl refused ↦ absurd (not_both old words plan refused.fault accepts refused.refuses)
-          | inr ran ↦ inl (by_run ran)
+          | inl netlist ↦ absurd (no_faulty_netlist old asked plan netlist.reading netlist.fault netlist.asked_is netlist.faulty accepts)
+          | inr third ↦ elim third [
+            | inl refused ↦ absurd (no_faulty_script old asked plan refused.source refused.refuses.fault refused.asks refused.refuses.faulty accepts)
+            | inr last ↦ elim last [
+              | inl ran ↦ inl (by_run ran)
+              | inr listed ↦ absurd (no_list old asked plan listed.folder listed.asked_is accepts)
+            ]
+          ]
         ]
       ]
     ]
   where
-    by_run : EndsRan words status old new → (status ≡ 0) × (said new ≡ said old ++ run_text (job_of accepts.asked.budget accepts.text plan) plan.lines (present (now old).folder))
-    by_run ran =
-        let same = same_plan old words ran.plan plan ran.accepts accepts in
-        let by_text : RunsIn ran.accepts.asked.folder (job_of accepts.asked.budget accepts.text ran.plan) ran.plan.lines status old new =
-        subst (λ t. RunsIn ran.accepts.asked.folder (job_of accepts.asked.budget t ran.plan) ran.plan.lines status old new) same.0
-        (subst (λ m. RunsIn ran.accepts.asked.folder (job_of m ran.accepts.text ran.plan) ran.plan.lines status old new) same.2 ran.run) in
-        let run : RunsIn ran.accepts.asked.folder (job_of accepts.asked.budget accepts.text plan) plan.lines status old new =
-        subst (λ (p : Plan). RunsIn ran.accepts.asked.folder (job_of accepts.asked.budget accepts.text p) p.lines status old new) same.1 by_text in
-        by_status run run.status_is
+    job : Job
+    job = job_of accepts.source plan
+
+    by_run : EndsRan asked status old new → (status ≡ 0) × (said new ≡ said old ++ run_text job plan.lines (present (now old).folder))
+    by_run ran = by_status run run.status_is
       where
-        by_status : RunsIn ran.accepts.asked.folder (job_of accepts.asked.budget accepts.text plan) plan.lines status old new → EndsRun status
-            → (status ≡ 0) × (said new ≡ said old ++ run_text (job_of accepts.asked.budget accepts.text plan) plan.lines (present (now old).folder))
+        path : List ℕ
+        path = folder_of ran.asks.reading
+
+        there : Accepts old asked ran.runs.plan
+        there = record { source = ran.source; asks = ran.asks; plans = ran.runs.plans }
+
+        same : (ran.source ≡ accepts.source) × (ran.runs.plan ≡ plan)
+        same = one_accepted old asked ran.runs.plan plan there accepts
+
+        run : RunsIn path job plan.lines status old new
+        run = subst (λ (p : Plan). RunsIn path (job_of accepts.source p) p.lines status old new) same.1
+            (subst (λ (s : Source). RunsIn path (job_of s ran.runs.plan) ran.runs.plan.lines status old new) same.0 ran.runs.run)
+
+        by_status : RunsIn path job plan.lines status old new → EndsRun status
+            → (status ≡ 0) × (said new ≡ said old ++ run_text job plan.lines (present (now old).folder))
         by_status run which = elim which [
           | inl zero ↦ (zero, run.leaves.whole sound zero)
           | inr rest ↦ elim rest [
@@ -330,9 +352,9 @@ accepted_runs_end words plan status old new before after accepts sound small end
         ]
           where
             work : ℕ → ℕ
-            work step = work_of (job_of accepts.asked.budget accepts.text plan) (step_at (job_of accepts.asked.budget accepts.text plan) step).step
+            work step = work_of job (step_at job step).step
 
-            too_great : NamesSpentStep (job_of accepts.asked.budget accepts.text plan) plan.lines (now old) old new → ⊥
+            too_great : NamesSpentStep job plan.lines (now old) old new → ⊥
             too_great names =
                 let great : 2 ^ 35 ≤ work names.step = names.spent.work sound in
                 let less : work names.step < 2 ^ 35 = small names.step names.spent.within in

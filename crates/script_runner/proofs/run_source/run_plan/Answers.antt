@@ -3,7 +3,7 @@ use Rattle.sound_image.specs.Jobs.{Job}
 use Rattle.script_runner.specs.declared.finish.Finish.TheVariants.{Done, OtherJob, FolderFault, SayFault, Damaged, RunsSpent}
 use Rattle.script_runner.specs.declared.ending.Ending.TheVariants as ending
 use Rattle.script_runner.proofs.EnteredRuns.{of_items, enter_failed, entered_runs, entered_other, entered_damage, entered_spent, entered_calls, said_or, whole_line}
-use Rattle.script_runner.proofs.program.run_plan.Goals as goal
+use Rattle.script_runner.proofs.run_source.run_plan.Goals as goal
 
 pub returns-in_default-clause-content : goal.returns-in_default-clause-content
 returns-in_default-clause-content g c =
