@@ -32,13 +32,13 @@ same_source a b budgets scripts netlists i =
 one_named : (w : World) (path a b : Option (List ℕ)) → IsNamed w path a → IsNamed w path b → a ≡ b
 one_named w None a b x y = x ∙ sym y
 one_named w (Some path) a b x y =
-    x.1.0 ∙ ap Some (one_some x.0 y.0 (w.texts path) x.1.1 y.1.1) ∙ sym y.1.0
+    x.1 ∙ ap Some (one_some x.0 y.0 (w.texts path) x.2 y.2) ∙ sym y.1
 
 -- a reading has one source
 pub one_source : (w : World) (r : Reading) (a b : Source) → IsSource w r a → IsSource w r b → a ≡ b
 one_source w (run folder script netlist budget) a b x y =
-    same_source a b (x.0 ∙ sym y.0) (one_some a.script b.script (w.texts script) x.1.0 y.1.0)
-    (one_named w netlist a.netlist b.netlist x.1.1 y.1.1)
+    same_source a b (x.0 ∙ sym y.0) (one_some a.script b.script (w.texts script) x.1 y.1)
+    (one_named w netlist a.netlist b.netlist x.2 y.2)
 one_source w (list folder) a b x y = absurd x
 one_source w (gen folder size budget) a b x y = x ∙ sym y
 
@@ -55,12 +55,12 @@ settled_once (Ok net) m n x y = x.0 ∙ sym y.0
 
 settled_or_not : (r : Result Net BlifFault) (n : Net) (fault : BlifFault) → Settles r (Ok n) → Settles r (Err fault) → ⊥
 settled_or_not (Err other) n fault x y = cc
-settled_or_not (Ok net) n fault x y = x.1 y.0 y.1.0.around
+settled_or_not (Ok net) n fault x y = x.1 y.0 y.1.around
 
 one_spelled : (text : Option (List ℕ)) (a b : Option Net) → Spells text a → Spells text b → a ≡ b
 one_spelled None a b x y = x ∙ sym y
 one_spelled (Some text) a b x y =
-    x.1.0 ∙ ap Some (settled_once (reading text) x.0 y.0 x.1.1 y.1.1) ∙ sym y.1.0
+    x.1 ∙ ap Some (settled_once (reading text) x.0 y.0 x.2 y.2) ∙ sym y.1
 
 -- sources of one script and one netlist have one plan
 pub one_planned : (a b : Source) (p q : Plan) → a.script ≡ b.script → a.netlist ≡ b.netlist → Plans a p → Plans b q → p ≡ q
@@ -76,15 +76,20 @@ planned_or_faulty s p fault x y =
     let nets : x.netlist ≡ y.netlist = one_spelled s.netlist x.netlist y.netlist x.spelled y.spelled in
     plan_or_refusal y.netlist s.script p fault (subst (λ n. Reads n s.script p) nets x.reads) y.refuses
 
+-- the netlist of a run stands at the path that names it
+netlist_of_run : (w : World) (folder script : List ℕ) (netlist : Option (List ℕ)) (budget : ℕ) (s : Source)
+    → IsSource w (run folder script netlist budget) s → IsNamed w netlist s.netlist
+netlist_of_run w folder script netlist budget s is = is.2
+
 -- a source that is planned has no faulty netlist
 pub netlist_is_good : (w : World) (r : Reading) (s : Source) (p : Plan) (fault : BlifFault) → IsSource w r s → Plans s p
     → HasFaultyNetlist w r fault → ⊥
 netlist_is_good w (run folder script (Some path) budget) s p fault is plans faulty =
-    let named = is.1.1 in
-    let bytes : named.0 ≡ faulty.0 = one_some named.0 faulty.0 (w.texts path) named.1.1 faulty.1.0 in
+    let named = netlist_of_run w folder script (Some path) budget s is in
+    let bytes : named.0 ≡ faulty.0 = one_some named.0 faulty.0 (w.texts path) named.2 faulty.1 in
     let spelled : Spells (Some faulty.0) plans.netlist = subst (λ b. Spells (Some b) plans.netlist) bytes
-    (subst (λ t. Spells t plans.netlist) named.1.0 plans.spelled) in
-    settled_or_not (reading faulty.0) spelled.0 fault spelled.1.1 faulty.1.1
+    (subst (λ t. Spells t plans.netlist) named.1 plans.spelled) in
+    settled_or_not (reading faulty.0) spelled.0 fault spelled.2 faulty.2
 netlist_is_good w (run folder script None budget) s p fault is plans faulty = absurd faulty
 netlist_is_good w (list folder) s p fault is plans faulty = absurd faulty
 netlist_is_good w (gen folder size budget) s p fault is plans faulty = absurd faulty
@@ -92,7 +97,7 @@ netlist_is_good w (gen folder size budget) s p fault is plans faulty = absurd fa
 -- the netlist of a source that is planned is short
 spelled_is_short : (text : Option (List ℕ)) (net : Option Net) → Spells text net → IsShort text
 spelled_is_short None net x = tt
-spelled_is_short (Some text) net x = accepted_is_short text x.0 x.1.1
+spelled_is_short (Some text) net x = accepted_is_short text x.0 x.2
 
 pub planned_is_short : (s : Source) (p : Plan) → Plans s p → (length s.script ≤ 1048576) × IsShort s.netlist
 planned_is_short s p plans =

@@ -1,13 +1,13 @@
 -- What reading a netlist gives.
-use Rattle.std.specs.Prelude.{◌≡◌, ℕ, List, Option, Some, option_map}
+use Rattle.std.specs.Prelude.{◌≡◌, ℕ, List, Option, Some, None, Ok, option_map}
 use Rattle.std.specs.Borrow.{Bor}
 use Rattle.shelf_model.specs.Faults.{Faults, Rose}
 use Rattle.blif_reader.specs.Answers.{net_of}
-use Rattle.blif_reader.specs.Netlist.{Net}
+use Rattle.blif_reader.specs.Netlist.{Net, IsReading}
 use Rattle.blif_reader.specs.declared.fault.BlifFault.{BlifFault}
 use Rattle.script_runner.specs.declared.fetch.FetchFault.{FetchFault}
 use Rattle.script_runner.specs.declared.fetch.FetchFault.TheVariants as fetch
-use Rattle.script_runner.specs.declared.netlist.ReadNetlist.{ReadNetlist}
+use Rattle.script_runner.specs.declared.read_netlist.ReadNetlist.{ReadNetlist}
 use Rattle.script_runner.specs.declared.netlist.NetlistFault.{NetlistFault}
 use Rattle.script_runner.specs.declared.netlist.NetlistFault.TheVariants.{Memory, Text, Faulty}
 
@@ -21,6 +21,15 @@ text_given = option_map (λ (given : Bor ReadNetlist). given.now.text.items)
 
 abbrev pub net_given : Option (Bor ReadNetlist) → Option Net
 net_given = option_map (λ (given : Bor ReadNetlist). net_of given.now.net)
+
+-- the text spells the netlist, where there is one
+abbrev pub IsSpelled : Option ReadNetlist → Type 0
+IsSpelled None = Unit
+IsSpelled (Some given) = IsReading given.text.items (Ok (net_of given.net))
+
+abbrev pub IsSpelledThere : Option (Bor ReadNetlist) → Type 0
+IsSpelledThere None = Unit
+IsSpelledThere (Some given) = IsSpelled (Some given.now)
 
 -- the fault that says the same
 abbrev pub netlist_fault : FetchFault → NetlistFault

@@ -12,7 +12,7 @@ use std::alloc::{AllocError, Global};
 
 /// The length of a netlist, and four bytes 255 where there is none.
 fn netlist_size(netlist: Option<&[u8]>) -> [u8; 4]
-    requires short { IsShort (text_of netlist.entry) }
+    requires short { IsShort (text_of netlist) }
     ensures { result ≡ netlist_size (text_of netlist.entry) }
 {
     let mut size = [255; 4];
@@ -31,7 +31,7 @@ pub(crate) fn job_bytes(
     netlist: Option<&[u8]>,
 ) -> Result<Vec<u8>, AllocError>
     requires short { length script.now ≤ 1048576 }
-    requires short_netlist { IsShort (text_of netlist.entry) }
+    requires short_netlist { IsShort (text_of netlist) }
     ensures { IfOk result (λ job. job.items ≡ job_bytes (source_of budget script.now (text_of netlist.entry))) }
 {
     let mut head = [0u8; 16];

@@ -12,6 +12,7 @@ mod line;
 mod listed;
 mod netlist;
 mod program;
+mod read_netlist;
 mod refusal;
 mod run;
 mod run_source;

@@ -2,30 +2,21 @@
 ghost use Rattle.std.specs.Prelude.{◌≡◌, ◌+◌, ◌≤◌, List, IsTrue, Option, Some, Ok, Err, option_map, IfOk, IfErr, IsErrOf, length};
 ghost use Rattle.shelf_model.specs.Calls.{Told};
 ghost use Rattle.shelf_model.specs.Faults.{Rose};
-ghost use Rattle.blif_reader.specs.Answers.{net_of};
-ghost use Rattle.blif_reader.specs.Netlist.{IsReading};
 ghost use Rattle.command_words.specs.Views.{text_of};
 ghost use Rattle.script_runner.specs.Calls.{fetch_calls};
 ghost use Rattle.script_runner.specs.Fetching.{OnlyFetched, OnlyTexts};
 ghost use Rattle.script_runner.specs.Source.{IsNamed, HasFaultyText};
-ghost use Rattle.script_runner.specs.Netlists.{netlist_text, netlist_fault, IsFaultyAs, IsNamedRise};
+ghost use Rattle.script_runner.specs.Netlists.{netlist_text, netlist_fault, IsSpelled, IsFaultyAs, IsNamedRise};
 
 use crate::fetch::{FetchFault, fetch_text};
-use blif_reader::{BlifFault, BlifKind, Netlist, read_netlist};
+use crate::read_netlist::ReadNetlist;
+use blif_reader::{BlifFault, BlifKind, read_netlist};
 use shelf_model::Station;
 use std::alloc::Global;
 use thiserror::Error;
 
 /// The most bytes that a netlist has.
 const MOST_NETLIST: usize = 4_194_304;
-
-/// A netlist, and the text that spells it.
-#[derive(Drop)]
-pub(crate) struct ReadNetlist {
-    pub(crate) text: Vec<u8>,
-    pub(crate) net: Netlist,
-    ghost spells: { IsReading text.items (Ok (net_of net)) },
-}
 
 /// Why a netlist can't be had.
 #[derive(Clone, Copy, Debug, PartialEq, Eq, Error)]
@@ -58,6 +49,7 @@ fn fetch_named<W: Station>(
     ensures content { Told W.tells station.old station.new (OnlyFetched (W.world station.old) (W.world station.new)) }
     ensures there { IfOk result (λ given. IsTrue (W.tells station.new) →
         (W.world station.old).texts path.now ≡ Some given.text.items) }
+    ensures spelled { IfOk result (λ given. IsSpelled (Some given)) }
     ensures faulty { IfErr result (λ fault. IsTrue (W.tells station.new) →
         IsFaultyAs (HasFaultyText (W.world station.old) (Some path.now)) fault) }
     ensures cause { IsErrOf result NetlistFault.Text →
@@ -85,6 +77,7 @@ pub(crate) fn fetch_netlist<W: Station>(
     ensures content { Told W.tells station.old station.new (OnlyFetched (W.world station.old) (W.world station.new)) }
     ensures there { IfOk result (λ given. IsTrue (W.tells station.new) →
         IsNamed (W.world station.old) (text_of path.entry) (netlist_text given)) }
+    ensures spelled { IfOk result IsSpelled }
     ensures faulty { IfErr result (λ fault. IsTrue (W.tells station.new) →
         IsFaultyAs (HasFaultyText (W.world station.old) (text_of path.entry)) fault) }
     ensures cause { IsErrOf result NetlistFault.Text →

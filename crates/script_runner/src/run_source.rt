@@ -8,16 +8,19 @@ ghost use Rattle.script_reader.specs.Lines.{AreLines};
 ghost use Rattle.script_runner.specs.Calls.{most_calls, AreCounted};
 ghost use Rattle.script_runner.specs.Entered.{RunsIn, EndsRun, EndingHasCause};
 ghost use Rattle.script_runner.specs.JobOf.{source_of};
-ghost use Rattle.script_runner.specs.Netlists.{text_given};
+ghost use Rattle.command_words.specs.Views.{text_of};
+ghost use Rattle.script_reader.specs.Views.{given};
+ghost use Rattle.script_runner.specs.Netlists.{net_given, text_given, IsSpelledThere};
 ghost use Rattle.script_runner.specs.Outcome.{EndsSource, RunsInCalls};
 ghost use Rattle.script_runner.specs.Status.{status_of};
 
 use crate::ending::Ending;
 use crate::job::job_bytes;
 use crate::line::{damaged_line, other_job_line, refused_line, runs_spent_line};
-use crate::netlist::ReadNetlist;
+use crate::read_netlist::ReadNetlist;
 use crate::refusal::say_refusal;
 use crate::{Finish, run_steps};
+use blif_reader::Netlist;
 use rec_words::Rec;
 use script_reader::{Plan, ScriptKind, read_script};
 use shelf_model::Station;
@@ -33,6 +36,7 @@ pub(crate) fn run_source<W: Station>(
     station: &mut W,
 ) -> Ending
     requires budget { (16384 ≤ budget) × (budget ≤ 4194304) }
+    requires spelled { IsSpelledThere netlist }
     ensures content { Told W.tells station.old station.new
         (EndsSource folder.now (source_of budget script.now (text_given netlist.entry)) (status_of result)
         (W.world station.old) (W.world station.new)) }
@@ -42,7 +46,7 @@ pub(crate) fn run_source<W: Station>(
     ensures which { IsTrue (list_any (λ s. s == status_of result) (0 ∷ 3 ∷ 5 ∷ 7 ∷ 8 ∷ 9 ∷ 10 ∷ 11 ∷ [])) }
     ensures cause { EndingHasCause (W.faults station.old) (W.faults station.new) result }
 {
-    let net = netlist.map(|given| &given.net);
+    let net = net_in(netlist);
     let plan = match read_script(alloc, script, net) {
         Ok(plan) => plan,
         Err(fault) => match fault.kind {
@@ -56,7 +60,7 @@ pub(crate) fn run_source<W: Station>(
             }
         },
     };
-    let text = netlist.map(|given| given.text.as_slice());
+    let text = text_in(netlist);
     let Ok(job) = job_bytes(alloc, budget, script, text) else {
         return Ending::NoMemory;
     };
@@ -128,5 +132,25 @@ fn run_plan<W: Station>(
             Ending::RunsSpent,
             station,
         ),
+    }
+}
+
+/// The netlist that is given, without its text.
+fn net_in(netlist: Option<&ReadNetlist>) -> Option<&Netlist>
+    ensures { given result ≡ net_given netlist.entry }
+{
+    match netlist {
+        Some(netlist) => Some(&netlist.net),
+        None => None,
+    }
+}
+
+/// Its text.
+fn text_in(netlist: Option<&ReadNetlist>) -> Option<&[u8]>
+    ensures { text_of result ≡ text_given netlist.entry }
+{
+    match netlist {
+        Some(netlist) => Some(netlist.text.as_slice()),
+        None => None,
     }
 }
