@@ -13,4 +13,6 @@ pub mod Turns
 pub mod EnteredRuns
 pub mod Endings
 pub mod Sources
+pub mod SourceRuns
+pub mod GenRuns
 pub mod Lives

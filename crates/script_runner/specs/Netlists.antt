@@ -1,6 +1,5 @@
 -- What reading a netlist gives.
 use Rattle.std.specs.Prelude.{◌≡◌, ℕ, List, Option, Some, None, Ok, option_map}
-use Rattle.std.specs.Borrow.{Bor}
 use Rattle.shelf_model.specs.Faults.{Faults, Rose}
 use Rattle.blif_reader.specs.Answers.{net_of}
 use Rattle.blif_reader.specs.Netlist.{Net, IsReading}
@@ -11,25 +10,17 @@ use Rattle.script_runner.specs.declared.read_netlist.ReadNetlist.{ReadNetlist}
 use Rattle.script_runner.specs.declared.netlist.NetlistFault.{NetlistFault}
 use Rattle.script_runner.specs.declared.netlist.NetlistFault.TheVariants.{Memory, Text, Faulty}
 
--- the text of a netlist, where one was read
+-- the text of a netlist, and the netlist, where one was read
 abbrev pub netlist_text : Option ReadNetlist → Option (List ℕ)
 netlist_text = option_map (λ given. given.text.items)
 
--- the same of one that is lent, and the netlist
-abbrev pub text_given : Option (Bor ReadNetlist) → Option (List ℕ)
-text_given = option_map (λ (given : Bor ReadNetlist). given.now.text.items)
-
-abbrev pub net_given : Option (Bor ReadNetlist) → Option Net
-net_given = option_map (λ (given : Bor ReadNetlist). net_of given.now.net)
+abbrev pub netlist_in : Option ReadNetlist → Option Net
+netlist_in = option_map (λ given. net_of given.net)
 
 -- the text spells the netlist, where there is one
 abbrev pub IsSpelled : Option ReadNetlist → Type 0
 IsSpelled None = Unit
 IsSpelled (Some given) = IsReading given.text.items (Ok (net_of given.net))
-
-abbrev pub IsSpelledThere : Option (Bor ReadNetlist) → Type 0
-IsSpelledThere None = Unit
-IsSpelledThere (Some given) = IsSpelled (Some given.now)
 
 -- the fault that says the same
 abbrev pub netlist_fault : FetchFault → NetlistFault

@@ -100,13 +100,24 @@ Ends asked status old new =
     EndsUsage asked status old new ⊎ EndsSilent asked status old new ⊎ EndsNetlist asked status old new
     ⊎ EndsRefused asked status old new ⊎ EndsRan asked status old new ⊎ EndsListed asked status old new
 
+-- the statuses of the program
+abbrev pub IsStatus : ℕ → Type 0
+IsStatus status =
+    IsTrue (list_any (λ s. s == status) (0 ∷ 2 ∷ 3 ∷ 4 ∷ 5 ∷ 6 ∷ 7 ∷ 8 ∷ 9 ∷ 10 ∷ 11 ∷ []))
+
+-- those of a run of a source: neither the words nor a text that can't be fetched end it
+pub record IsRunStatus (status : ℕ) : Type 0 where
+  pub known : IsStatus status
+  pub not_usage : ¬ (status ≡ 2)
+  pub not_text : ¬ (status ≡ 6)
+
 -- the words decide between the usage, a list and a run, unless saying failed or there was no memory
 pub record ByWords (asked : Option Reading) (status : ℕ) : Type 0 where
   pub usage : status ≡ 2 → asked ≡ None
   pub unread : asked ≡ None → (status ≡ 2) ⊎ (status ≡ 8) ⊎ (status ≡ 9)
   pub listed : (folder : List ℕ) → asked ≡ Some (list folder)
       → IsTrue (list_any (λ s. s == status) (0 ∷ 7 ∷ 8 ∷ 9 ∷ 10 ∷ []))
-  pub known : IsTrue (list_any (λ s. s == status) (0 ∷ 2 ∷ 3 ∷ 4 ∷ 5 ∷ 6 ∷ 7 ∷ 8 ∷ 9 ∷ 10 ∷ 11 ∷ []))
+  pub known : IsStatus status
 
 -- 6, 7 and 8 come only where their count rose: that of a path that the words name, of the folder, of saying
 pub record StatusHasCause (asked : Option Reading) (status : ℕ) (old new : Faults) : Type 0 where

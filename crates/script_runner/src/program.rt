@@ -54,7 +54,7 @@ fn run_texts<W: Station>(
         Err(FetchFault::Memory) => return Ending::NoMemory,
         Err(FetchFault::Text) => return Ending::TextFault,
     };
-    run_source(alloc, folder, budget, &text, netlist.as_ref(), station)
+    run_source(alloc, folder, budget, &text, &netlist, station)
 }
 
 /// Runs the script of a size in a folder.
@@ -73,7 +73,7 @@ fn run_size<W: Station>(
     let Ok(script) = gen_script(alloc, size) else {
         return Ending::NoMemory;
     };
-    run_source(alloc, folder, budget, &script, None, station)
+    run_source(alloc, folder, budget, &script, &None, station)
 }
 
 /// Does what the words ask for.

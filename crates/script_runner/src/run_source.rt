@@ -1,6 +1,5 @@
 //! The run of a source: a script, and maybe a netlist.
-ghost use Rattle.std.specs.Prelude.{◌≡◌, ◌+◌, ◌≤◌, [], ◌∷◌, ◌==◌, IsTrue, IfOk, length};
-ghost use Rattle.std.specs.List.{list_any};
+ghost use Rattle.std.specs.Prelude.{◌≡◌, ◌+◌, ◌≤◌, IsTrue, IfOk, length};
 ghost use Rattle.bool_tables.specs.Plans.{IsWellFormed};
 ghost use Rattle.shelf_model.specs.World.{now};
 ghost use Rattle.shelf_model.specs.Calls.{Told};
@@ -10,8 +9,8 @@ ghost use Rattle.script_runner.specs.Entered.{RunsIn, EndsRun, EndingHasCause};
 ghost use Rattle.script_runner.specs.JobOf.{source_of};
 ghost use Rattle.command_words.specs.Views.{text_of};
 ghost use Rattle.script_reader.specs.Views.{given};
-ghost use Rattle.script_runner.specs.Netlists.{net_given, text_given, IsSpelledThere};
-ghost use Rattle.script_runner.specs.Outcome.{EndsSource, RunsInCalls};
+ghost use Rattle.script_runner.specs.Netlists.{netlist_in, netlist_text, IsSpelled};
+ghost use Rattle.script_runner.specs.Outcome.{EndsSource, RunsInCalls, IsRunStatus};
 ghost use Rattle.script_runner.specs.Status.{status_of};
 
 use crate::ending::Ending;
@@ -32,18 +31,18 @@ pub(crate) fn run_source<W: Station>(
     folder: &str,
     budget: u32,
     script: &[u8],
-    netlist: Option<&ReadNetlist>,
+    netlist: &Option<ReadNetlist>,
     station: &mut W,
 ) -> Ending
     requires budget { (16384 ≤ budget) × (budget ≤ 4194304) }
-    requires spelled { IsSpelledThere netlist }
+    requires spelled { IsSpelled netlist.now }
     ensures content { Told W.tells station.old station.new
-        (EndsSource folder.now (source_of budget script.now (text_given netlist.entry)) (status_of result)
+        (EndsSource folder.now (source_of budget script.now (netlist_text netlist.now)) (status_of result)
         (W.world station.old) (W.world station.new)) }
     ensures calls { IsTrue (W.tells station.new)
-        → RunsInCalls 0 (source_of budget script.now (text_given netlist.entry))
+        → RunsInCalls 0 (source_of budget script.now (netlist_text netlist.now))
         (W.world station.old) (W.world station.new) }
-    ensures which { IsTrue (list_any (λ s. s == status_of result) (0 ∷ 3 ∷ 5 ∷ 7 ∷ 8 ∷ 9 ∷ 10 ∷ 11 ∷ [])) }
+    ensures which { IsRunStatus (status_of result) }
     ensures cause { EndingHasCause (W.faults station.old) (W.faults station.new) result }
 {
     let net = net_in(netlist);
@@ -136,8 +135,8 @@ fn run_plan<W: Station>(
 }
 
 /// The netlist that is given, without its text.
-fn net_in(netlist: Option<&ReadNetlist>) -> Option<&Netlist>
-    ensures { given result ≡ net_given netlist.entry }
+fn net_in(netlist: &Option<ReadNetlist>) -> Option<&Netlist>
+    ensures { given result ≡ netlist_in netlist.now }
 {
     match netlist {
         Some(netlist) => Some(&netlist.net),
@@ -146,8 +145,8 @@ fn net_in(netlist: Option<&ReadNetlist>) -> Option<&Netlist>
 }
 
 /// Its text.
-fn text_in(netlist: Option<&ReadNetlist>) -> Option<&[u8]>
-    ensures { text_of result ≡ text_given netlist.entry }
+fn text_in(netlist: &Option<ReadNetlist>) -> Option<&[u8]>
+    ensures { text_of result ≡ netlist_text netlist.now }
 {
     match netlist {
         Some(netlist) => Some(netlist.text.as_slice()),
