@@ -114,10 +114,10 @@ pub ends_whole : (folder : List ℕ) (budget : ℕ) (text bytes : List ℕ) (net
     → bytes ≡ take (1048576 + 1) text → EndsSource folder (source_of budget bytes netlist) status old new
     → EndsSource folder (source_of budget text netlist) status old new
 ends_whole folder budget text bytes netlist status old new read ends = elim (cases_lt 1048576 (length bytes)) [
-    | inl long ↦ by_length long ends
-    | inr short ↦ subst (λ t. EndsSource folder (source_of budget t netlist) status old new)
-        (whole_text 1048576 text bytes read short) ends
-  ]
+  | inl long ↦ by_length long ends
+  | inr short ↦ subst (λ t. EndsSource folder (source_of budget t netlist) status old new)
+      (whole_text 1048576 text bytes read short) ends
+]
   where
     by_length : 1048576 < length bytes → EndsSource folder (source_of budget bytes netlist) status old new
         → EndsSource folder (source_of budget text netlist) status old new
@@ -149,13 +149,13 @@ pub fetched_calls : (source : Source) (fetch most : ℕ) (old mid new : World) �
     → mid.clock ≤ old.clock + fetch → fetch ≤ most → RunsInCalls 0 source mid new → RunsInCalls most source old new
 fetched_calls source fetch most old mid new looked clock within (inl few) = inl (omega (arith, clock, few, within))
 fetched_calls source fetch most old mid new looked clock within (inr (plan, plans, calls)) = inr (
-    plan,
-    plans,
-    λ counted.
-        let few = calls (subst (λ (m : Moment). AreCounted (job_of source plan) m.folder)
-        (sym (still_there old mid looked)) counted) in
-        omega (arith, clock, few, within),
-  )
+  plan,
+  plans,
+  λ counted.
+      let few = calls (subst (λ (m : Moment). AreCounted (job_of source plan) m.folder)
+      (sym (still_there old mid looked)) counted) in
+      omega (arith, clock, few, within),
+)
 
 -- what a source's run ends with, a call whose words ask for it ends with
 pub ends_asked : (asked : Reading) (source : Source) (status : ℕ) (old new : World) → IsSource old asked source
@@ -180,9 +180,9 @@ ends_asked asked source status old new is (inr (inr runs)) = inr (inr (inr (inr 
 pub accepted_is_short : (bytes : List ℕ) (net : Net) → IsReading bytes (Ok net) → length bytes ≤ 4194304
 unfolding reading
 accepted_is_short bytes net reads = elim (cases_lt 4194304 (length bytes)) [
-    | inl long ↦ absurd (let e : nat_lt 4194304 (length bytes) ≡ true = lt-ltb _ _ long in let wrong = (rw e at reads) in cc)
-    | inr short ↦ short
-  ]
+  | inl long ↦ absurd (let e : nat_lt 4194304 (length bytes) ≡ true = lt-ltb _ _ long in let wrong = (rw e at reads) in cc)
+  | inr short ↦ short
+]
 
 -- texts of netlists that are too long are refused alike
 long_netlists : (a b : List ℕ) (fault : BlifFault) → 4194304 < length a → 4194304 < length b
@@ -197,9 +197,9 @@ long_netlists a b fault long_a long_b refused =
 pub faulty_whole : (text bytes : List ℕ) (fault : BlifFault) → bytes ≡ take (4194304 + 1) text → IsReading bytes (Err fault)
     → IsReading text (Err fault)
 faulty_whole text bytes fault read refused = elim (cases_lt 4194304 (length bytes)) [
-    | inl long ↦ long_netlists bytes text fault long (long_text 4194304 text bytes read long) refused
-    | inr short ↦ subst (λ t. IsReading t (Err fault)) (whole_text 4194304 text bytes read short) refused
-  ]
+  | inl long ↦ long_netlists bytes text fault long (long_text 4194304 text bytes read long) refused
+  | inr short ↦ subst (λ t. IsReading t (Err fault)) (whole_text 4194304 text bytes read short) refused
+]
 
 -- a count that rose later rose, where it stood still before
 pub rose_since : (a b c : Faults) → b.folder ≡ a.folder → Rose b.folder c.folder → Rose a.folder c.folder

@@ -31,8 +31,8 @@ pub calls_size : (folder : List ℕ) (size budget : ℕ) (script : List ℕ) (ol
     → RunsInCalls 0 (source_of budget script None) old new
     → MakesFewCalls (Some (gen folder size budget)) old new
 calls_size folder size budget script old new is runs = inr (inl (
-    source_of budget (script_of size) None,
-    record { reading = gen folder size budget; asked_is = refl; source_is = refl },
-    later (source_of budget (script_of size) None) texts_calls old new
-    (subst (λ text. RunsInCalls 0 (source_of budget text None) old new) is runs),
-  ))
+  source_of budget (script_of size) None,
+  record { reading = gen folder size budget; asked_is = refl; source_is = refl },
+  later (source_of budget (script_of size) None) texts_calls old new
+      (subst (λ text. RunsInCalls 0 (source_of budget text None) old new) is runs),
+))

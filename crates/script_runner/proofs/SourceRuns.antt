@@ -270,6 +270,6 @@ module _ {S : Type 0} (tells : S → Bool) (world : S → World) where
           source here,
           record { reading = run folder script path budget; asked_is = refl; source_is = is_source here },
           calls_whole budget (text here).text bytes netlist texts_calls (world old) (world t) (text here).bytes_are
-          (fetched_calls (source_of budget bytes netlist) texts_calls texts_calls (world old) (world s) (world t) (looked here)
-          (omega (arith, a, b)) (omega arith) (runs tells_t)),
+              (fetched_calls (source_of budget bytes netlist) texts_calls texts_calls (world old) (world s) (world t) (looked here)
+              (omega (arith, a, b)) (omega arith) (runs tells_t)),
         ))

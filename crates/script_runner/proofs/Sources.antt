@@ -203,6 +203,8 @@ same_job a b p q bytes scripts plans i =
 pub one_accepted : (w : World) (asked : Option Reading) (p q : Plan) (a : Accepts w asked p) (b : Accepts w asked q)
     → (a.source ≡ b.source) × (p ≡ q)
 one_accepted w asked p q a b =
-    let sources : a.source ≡ b.source = one_asked w asked a.source b.source a.asks b.asks in
-    (sources, one_planned a.source b.source p q (ap (λ (s : Source). s.script) sources)
-    (ap (λ (s : Source). s.netlist) sources) a.plans b.plans)
+    let sources : a.source ≡ b.source = one_asked w asked a.source b.source a.asks b.asks in (
+      sources,
+      one_planned a.source b.source p q (ap (λ (s : Source). s.script) sources)
+          (ap (λ (s : Source). s.netlist) sources) a.plans b.plans,
+    )

@@ -4,7 +4,6 @@ use Rattle.blif_reader.specs.Answers.{net_of}
 use Rattle.blif_reader.specs.Netlist.{IsReading}
 use Rattle.blif_reader.specs.declared.fault.BlifFault.{BlifFault}
 use Rattle.blif_reader.specs.declared.fault.BlifKind.TheVariants as kind
-use Rattle.script_runner.specs.Fetching.{IsText}
 use Rattle.script_runner.proofs.Endings.{whole_text, accepted_is_short, faulty_whole}
 use Rattle.script_runner.proofs.netlist.fetch_named.Goals as goal
 
@@ -28,13 +27,12 @@ returns g c = record {
   there = tt;
   spelled = tt;
   faulty = λ t.
-      let read = c.in_ok-text.ensures.text t in
-      (
+      let read = c.in_ok-text.ensures.text t in (
         read.text,
         read.there,
         faulty_whole read.text c.in_ok-text.text.items c.in-Err.fault read.bytes_are
-        (subst (λ b. IsReading b (Err c.in-Err.fault)) c.deref.ensures.value
-        (not_memory c.deref.result.now c.in-Err.fault c.in_default.not-Memory c.in-Err.ensures.fault)),
+            (subst (λ b. IsReading b (Err c.in-Err.fault)) c.deref.ensures.value
+            (not_memory c.deref.result.now c.in-Err.fault c.in_default.not-Memory c.in-Err.ensures.fault)),
       );
   cause = λ other. absurd cc;
   calls = c.in_ok-text.ensures.calls;

@@ -1,8 +1,4 @@
-use Rattle.std.proofs.Common.{◌≡◌, ◌∙◌, ℕ, List, ap, subst, inl, inr, arith, refl}
-use Rattle.std.specs.Prelude.{None}
-use Rattle.command_words.specs.Readings.{gen}
-use Rattle.script_runner.specs.JobOf.{source_of}
-use Rattle.script_runner.specs.Outcome.{EndsSource, RunsInCalls}
+use Rattle.std.proofs.Common.{◌∙◌}
 use Rattle.script_runner.specs.Status.{status_of}
 use Rattle.script_runner.proofs.GenRuns.{ran_size, calls_size}
 use Rattle.script_runner.proofs.SourceRuns.{words_gen, has_cause}

@@ -1,11 +1,10 @@
-use Rattle.std.proofs.Common.{◌≡◌, ◌∙◌, ℕ, ◌+◌, ◌≤◌, List, sym, ap, subst, inl, inr, arith, refl}
-use Rattle.std.specs.Prelude.{Some, Err, IsTrue}
+use Rattle.std.proofs.Common.{◌≡◌, ◌∙◌, sym, ap, subst, inl, inr, arith, refl}
+use Rattle.std.specs.Prelude.{Err, IsTrue}
 use Rattle.command_words.specs.Readings.{run}
 use Rattle.command_words.specs.Views.{text_of}
-use Rattle.script_runner.specs.Fetching.{OnlyFetched, IsText}
-use Rattle.script_runner.specs.JobOf.{source_of}
+use Rattle.script_runner.specs.Fetching.{IsText}
 use Rattle.script_runner.specs.Netlists.{netlist_text, IsFaultyAs}
-use Rattle.script_runner.specs.Outcome.{IsStatus, EndsSource, RunsInCalls}
+use Rattle.script_runner.specs.Outcome.{IsStatus}
 use Rattle.script_runner.specs.Source.{HasFaultyText}
 use Rattle.script_runner.specs.Status.{status_of}
 use Rattle.script_runner.specs.Text.{netlist_line}
@@ -70,8 +69,8 @@ returns-in-Err-Text-fetch_text g c = record {
           c.args.script.now,
           inl refl,
           rose_later c.args.script.now (g.W.Shelf.faults c.args.station.now)
-          (g.W.Shelf.faults c.fetch_netlist.new.station) (g.W.Shelf.faults c.fetch_text.new.station) c.in-Ok.ensures.faults
-          (c.in-Err-Text-fetch_text.ensures.cause (ap Err c.in-Err-Text-fetch_text.field-0-is)),
+              (g.W.Shelf.faults c.fetch_netlist.new.station) (g.W.Shelf.faults c.fetch_text.new.station) c.in-Ok.ensures.faults
+              (c.in-Err-Text-fetch_text.ensures.cause (ap Err c.in-Err-Text-fetch_text.field-0-is)),
         ),
       );
       folder_fault = λ x. absurd (omega (arith, x));
@@ -83,7 +82,7 @@ returns-in-Err-Text-fetch_text g c = record {
 pub returns : goal.returns
 returns g c =
     let text : IsTrue (g.W.Shelf.tells c.fetch_text.new.station)
-        → IsText c.args.script.now 1048576 c.deref.result.now (g.W.Shelf.world c.fetch_netlist.new.station) =
+    → IsText c.args.script.now 1048576 c.deref.result.now (g.W.Shelf.world c.fetch_netlist.new.station) =
     λ t. subst (λ b. IsText c.args.script.now 1048576 b (g.W.Shelf.world c.fetch_netlist.new.station))
     (sym c.deref.ensures.value) (c.in-Ok-fetch_text.ensures.text t) in
     record {

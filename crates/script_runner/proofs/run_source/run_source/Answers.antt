@@ -1,4 +1,4 @@
-use Rattle.std.proofs.Common.{◌≡◌, ◌∙◌, ℕ, List, ap, inl, inr, arith, refl}
+use Rattle.std.proofs.Common.{◌≡◌, ◌∙◌, ap, inl, inr, arith, refl}
 use Rattle.script_reader.proofs.PlanReads.{text_is_short}
 use Rattle.script_reader.specs.Views.{given}
 use Rattle.shelf_model.specs.World.{now}
@@ -64,8 +64,8 @@ returns-clause-calls g c t =
       c.in-Ok.plan,
       plans,
       calls_of source c.in-Ok.plan c.deref.result.now (now (g.W.Shelf.world c.args.station.now)).folder
-      (g.W.Shelf.world c.args.station.now) (g.W.Shelf.world c.run_plan.new.station)
-      (c.deref.ensures.value ∙ c.in-Ok-job_bytes.ensures
-      ∙ ap (λ text. job_bytes (source_of c.args.budget c.args.script.now text)) c.text_in-text.ensures)
-      (c.run_plan.ensures.calls t),
+          (g.W.Shelf.world c.args.station.now) (g.W.Shelf.world c.run_plan.new.station)
+          (c.deref.ensures.value ∙ c.in-Ok-job_bytes.ensures
+          ∙ ap (λ text. job_bytes (source_of c.args.budget c.args.script.now text)) c.text_in-text.ensures)
+          (c.run_plan.ensures.calls t),
     )
