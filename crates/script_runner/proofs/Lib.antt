@@ -13,3 +13,5 @@ pub mod Turns
 pub mod EnteredRuns
 pub mod Endings
 pub mod Lives
+pub mod Listings
+pub mod ListEndings
