@@ -290,12 +290,17 @@ lists_damage file at status old mid new files which lists says whole =
     (joins old mid new (IsListing (now old)) (said_so_far old mid lists.moments)
     (weakens mid new (IsSaying (damaged_line file at) (now mid)) (IsListing (now old)) (λ m saying. record {
       images = subst (λ (folder : Folder). (image : Image) → IsImage folder image → IsImage (now old).folder image) (sym saying.folder_is) end.files.images;
-      says = inr (file, at, names.place, record {
-        front = saying.says.front;
-        rest = saying.says.rest;
-        text_is = saying.says.text_is;
-        said_is = saying.says.said_is ∙ ap (λ b. b ++ saying.says.front) names.said_is;
-      });
+      says = inr (
+        file,
+        at,
+        names.place,
+        record {
+          front = saying.says.front;
+          rest = saying.says.rest;
+          text_is = saying.says.text_is;
+          said_is = saying.says.said_is ∙ ap (λ b. b ++ saying.says.front) names.said_is;
+        },
+      );
     }) says.moments))
     (λ zero. absurd (not_zero zero)) (λ zero. absurd (not_zero zero))
     (λ ten. record { file = file; at = at; place = names.place; said_is = whole ten ∙ ap (λ b. b ++ damaged_line file at) names.said_is })
