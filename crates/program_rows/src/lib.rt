@@ -15,6 +15,8 @@ mod failing_calls;
 #[cfg(test)]
 mod files;
 #[cfg(test)]
+mod listing;
+#[cfg(test)]
 mod node_files;
 #[cfg(test)]
 mod parts_said;

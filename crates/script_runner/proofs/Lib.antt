@@ -16,3 +16,5 @@ pub mod Sources
 pub mod SourceRuns
 pub mod GenRuns
 pub mod Lives
+pub mod Listings
+pub mod ListEndings

@@ -1,11 +1,12 @@
 -- What a list of a folder's diagrams leaves, from entering the folder on.
-use Rattle.std.specs.Prelude.{◌≡◌, ◌⊎◌, ℕ, ◌&&◌, not, IsTrue, List, [], ◌∷◌, ◌++◌, length, get_or, take, decimal, nat_lt, if◌then◌else◌}
+use Rattle.std.specs.Prelude.{◌≡◌, ◌⊎◌, ℕ, ◌≤◌, ◌&&◌, List, [], ◌∷◌, ◌++◌, length, take, decimal, nat_lt, if◌then◌else◌}
 use Rattle.std.specs.List.{flat_map}
 use Rattle.bool_tables.specs.Plans.{is_live}
 use Rattle.shelf_model.specs.declared.file_no.FileNo.{FileNo}
 use Rattle.shelf_model.specs.World.{Moment, World, now, said}
 use Rattle.shelf_model.specs.Moments.{Throughout, OnlyOldImages}
 use Rattle.catalogue.specs.Counts.{present, count_in}
+use Rattle.catalogue.specs.Standings.{most_steps}
 use Rattle.diagram_list.specs.Listing.{first_steps, listing}
 use Rattle.diagram_list.specs.Lists.{StandWhole, IsDamagedPlace}
 use Rattle.sound_image.specs.Jobs.{Job, step_at}
@@ -53,7 +54,7 @@ pub record ListsFrom (status : ℕ) (start : Moment) (old new : World) : Type 0 
   -- with 10 a damaged place is named
   pub damaged : status ≡ 10 → NamesPlace start new
   -- where each image was sound for a job at first no place is damaged, and the lines are those of its live diagrams
-  pub goes_on : (job : Job) → AreSound job start.folder → ¬ (status ≡ 10)
+  pub goes_on : (job : Job) → length job.steps ≤ most_steps → AreSound job start.folder → ¬ (status ≡ 10)
   pub lines_are : (job : Job) → AreSound job start.folder
       → listing (present start.folder) ≡ diagram_lines job (count_in (present start.folder))
 

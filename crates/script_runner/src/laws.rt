@@ -1,11 +1,12 @@
 //! Laws of the program, each the contract of a function that does nothing.
-ghost use Rattle.std.specs.Prelude.{◌≡◌, ◌⊎◌, ◌++◌, ℕ, List, Option, Some};
+ghost use Rattle.std.specs.Prelude.{◌≡◌, ◌⊎◌, ◌≤◌, ◌++◌, ℕ, List, Option, Some, length};
 ghost use Rattle.shelf_model.specs.declared.file_no.FileNo.{FileNo};
 ghost use Rattle.shelf_model.specs.File.{no_file};
 ghost use Rattle.shelf_model.specs.Folder.{Folder, file_in};
 ghost use Rattle.shelf_model.specs.World.{World, now, said};
 ghost use Rattle.shelf_model.specs.Faults.{Faults};
 ghost use Rattle.catalogue.specs.Counts.{present, count_in};
+ghost use Rattle.catalogue.specs.Standings.{most_steps};
 ghost use Rattle.command_words.specs.Readings.{Reading, list};
 ghost use Rattle.sound_image.specs.Jobs.{Job};
 ghost use Rattle.sound_image.specs.Holds.{AreSound};
@@ -46,11 +47,11 @@ pub fn accepted_runs_end()
         ⊎ ((status ≡ 9) × OnlyFetched old new) }
 {}
 
-/// A list of a folder that is sound for a job, in which no call failed, ends with 0 and says the line of each named
-/// diagram of the job's committed steps that is live, or with 9 before it says anything.
+/// A list of a folder that is sound for a job of at most 1,048,576 steps, in which no call failed, ends with 0 and says
+/// the line of each named diagram of the job's committed steps that is live, or with 9 before it says anything.
 pub fn lists_end()
     ensures ends { (folder : List ℕ) (job : Job) (status : ℕ) (old new : World) (before after : Faults)
-        → AreSound job (now old).folder → Ends (Some (list folder)) status old new
+        → length job.steps ≤ most_steps → AreSound job (now old).folder → Ends (Some (list folder)) status old new
         → StatusHasCause (Some (list folder)) status before after → NoneRose (Some (list folder)) before after
         → ((status ≡ 0)
         × (said new ≡ said old ++ diagram_lines job (count_in (present (now old).folder))))

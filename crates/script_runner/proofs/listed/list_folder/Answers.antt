@@ -1,0 +1,14 @@
+use Rattle.script_runner.proofs.ListEndings.{answers_unlisted, answers_list}
+use Rattle.script_runner.proofs.listed.list_folder.Goals as goal
+
+pub returns-in_default : goal.returns-in_default
+returns-in_default g c = record {
+  answers = answers_unlisted g.W.Shelf.tells g.W.Shelf.world g.W.Shelf.faults c.args.folder.now c.args.station.now;
+}
+
+pub returns : goal.returns
+returns g c = record {
+  answers = answers_list g.W.Shelf.tells g.W.Shelf.world g.W.Shelf.faults c.args.folder.now c.list_in.result
+      c.args.station.now c.list_in.new.station c.list_in.ensures.content c.list_in.ensures.calls c.list_in.ensures.which
+      c.list_in.ensures.cause;
+}
