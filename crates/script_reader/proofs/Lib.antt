@@ -14,3 +14,8 @@ pub mod PlanReads
 mod Sound
 mod Finding
 mod Levels
+mod PlanTables
+mod Appends
+mod FirstWords
+mod SignalLines
+mod MadeSignals
