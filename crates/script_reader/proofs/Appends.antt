@@ -14,9 +14,8 @@ use Rattle.script_reader.specs.declared.plan.LineEnd.{LineEnd}
 use Rattle.script_reader.specs.Results.{check}
 use Rattle.script_reader.specs.Keywords.{word_at, gives_name}
 use Rattle.script_reader.specs.Names.{State}
-use Rattle.script_reader.specs.Nets.{name_step, give_name, give_names}
+use Rattle.script_reader.specs.Nets.{nameless, name_step, give_name, give_names}
 use Rattle.script_reader.specs.Requests.{step_of, name_fits, has_room, planned_of, with_named, name_behind, with_planned, plan_step}
-use Rattle.script_reader.specs.Signals.{no_step}
 use Rattle.script_reader.proofs.MadeSteps.{then_ok, same_ok}
 use Rattle.script_reader.proofs.Pairs.{step_named, length-named}
 
@@ -142,6 +141,10 @@ contains_last {A = A} xs x = (length xs, omega (arith, length-append xs (x ∷ [
     by : (ys : List A) → get_or (ys ++ x ∷ []) (length ys) x ≡ x
     by [] = refl
     by (y ∷ ys) = by ys
+
+-- past the last step
+abbrev pub no_step : Planned
+no_step = nameless (step.Const false)
 
 -- a pair's said line, and the name of its step
 pub record PairGiven (number last : ℕ) (name : Word) (made : ℕ) (t : State) : Type 0 where

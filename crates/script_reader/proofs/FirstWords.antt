@@ -145,9 +145,10 @@ has_words (w ∷ words) = true
 pub record Knows (net : blif.Net) (words : List Word) (s : State) : Type 0 where
   pub begun : s.begun ≡ has_words words
   pub level : (name : List ℕ) → s.level name ≡ place_of (variables_in net words) name
+  pub n : s.n ≡ length (variables_in net words)
 
 pub knows_nothing : (net : blif.Net) → Knows net [] nothing
-knows_nothing net = record { begun = refl; level = λ name. refl }
+knows_nothing net = record { begun = refl; level = λ name. refl; n = refl }
 
 no_more : (words : List Word) → or_words words [] ≡ words
 no_more [] = refl
@@ -202,6 +203,7 @@ first_line net s t number w words knows r = by r.k r.request (takes net r.k (w �
         record {
           begun = stays.begun;
           level = λ name. ap (λ f. f name) stays.level ∙ knows.level name ∙ ap (λ names. place_of names name) (sym (taken.none other));
+          n = stays.n ∙ knows.n ∙ ap length (sym (taken.none other));
         }
 
     vars : plan_vars (begin s) (w ∷ words) ≡ Ok t → Takes net Vars (w ∷ words) → Knows net (w ∷ words) t
@@ -211,6 +213,7 @@ first_line net s t number w words knows r = by r.k r.request (takes net r.k (w �
         subst (Knows net (w ∷ words)) (same_ok (with_variables (begin s) (texts_of words)) t last) (record {
           begun = refl;
           level = λ name. ap (λ names. place_of names name) (sym (taken.vars refl));
+          n = ap length (sym (taken.vars refl));
         })))
 
     by : (k : Keyword) → plan_request (Some net) (begin s) number k (w ∷ words) ≡ Ok t → Takes net k (w ∷ words) → Knows net (w ∷ words) t
@@ -219,6 +222,7 @@ first_line net s t number w words knows r = by r.k r.request (takes net r.k (w �
         subst (Knows net (w ∷ words)) (same_ok _ _ e) (record {
           begun = refl;
           level = λ name. ap (λ names. place_of names name) (sym (taken.inputs refl));
+          n = ap length (sym (taken.inputs refl));
         })
     by Net e taken = kept Net refl e taken
     by Const e taken = kept Const refl e taken
@@ -241,7 +245,7 @@ line_knows net [] s t number (h ∷ here) knows e = first_line net s t number h 
 line_knows net (w ∷ words) s t number (h ∷ here) knows e =
     let r = reading (Some net) s t number h here e in
     let stays = request_keeps (Some net) (begin s) t number r.k (h ∷ here) (is_other s.begun s.n r.k (h ∷ here) knows.begun r.formed) r.request in
-    record { begun = stays.begun; level = λ name. ap (λ f. f name) stays.level ∙ knows.level name }
+    record { begun = stays.begun; level = λ name. ap (λ f. f name) stays.level ∙ knows.level name; n = stays.n ∙ knows.n }
 
 -- lines behind each other, where none is at fault
 pub one_ok : (P : Type 0) (known : List (List ℕ)) (netlist : Option blif.Net) (s t : State) (line : Line) (lines : List Line) → plan_lines known netlist (Ok s) (line ∷ lines) ≡ Ok t

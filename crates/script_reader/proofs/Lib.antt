@@ -18,4 +18,5 @@ mod PlanTables
 mod Appends
 mod FirstWords
 mod SignalLines
+mod Fronts
 mod MadeSignals

@@ -1,8 +1,8 @@
 -- The plan of a script over a netlist makes the signals that its lines ask for.
-use Rattle.std.proofs.Common.{◌≡◌, ℕ, suc, ◌<◌, true, List, [], ◌∷◌, ◌++◌, length, take, drop, get_or, Option, Some, refl, sym, ap, subst, ◌∙◌, arith}
+use Rattle.std.proofs.Common.{◌≡◌, ℕ, suc, ◌<◌, ◌≤◌, true, List, [], ◌∷◌, ◌++◌, length, take, drop, get_or, Option, Some, refl, sym, ap, subst, ◌∙◌, arith}
 use Rattle.std.specs.Prelude.{Result, Ok, Err}
 use Rattle.std.specs.List.{All, Any, AllByRecursion, Contains}
-use Rattle.std.proofs.lemmas.List.{get_or_append_left, get_or-take}
+use Rattle.std.proofs.lemmas.List.{get_or_append_left, get_or-take, take-append-drop, drop_more}
 use Rattle.std.proofs.lemmas.List.Elements.{All-weaker}
 use Rattle.bool_tables.specs.Steps.{tables_after}
 use Rattle.bool_tables.specs.declared.steps.Planned.{Planned}
@@ -21,10 +21,11 @@ use Rattle.script_reader.specs.Names.{State, nothing, place_of}
 use Rattle.script_reader.specs.Nets.{inputs_of, signals_named, wanted_of, levels_of, names_in, names_fit, nameless, with_steps, give_names, plan_signals, plan_net}
 use Rattle.script_reader.specs.Requests.{has_room}
 use Rattle.script_reader.specs.Reads.{Reads}
-use Rattle.script_reader.specs.Script.{plan_line, plan_lines, plan_request, begin}
-use Rattle.script_reader.specs.Signals.{SignalPair, pairs_in, IsNetLine, first_words, variables_in, variables_of, or_words, AreLevels, steps_in, no_step, IsSignalLine, MakesSignals}
-use Rattle.script_reader.proofs.Appends.{Appends, appends_none, appends_on, step_appends, names_keep, names_say, contains_more}
-use Rattle.script_reader.proofs.Behind.{fault_stays, lines_keep, planned_by}
+use Rattle.script_reader.specs.Script.{plan_line, plan_lines, plan_of, plan_request, begin}
+use Rattle.script_reader.specs.Signals.{SignalPair, pairs_in, IsNetLine, first_words, variables_in, variables_of, or_words, AreLevels, text_up_to, IsSignalLine, MakesSignals}
+use Rattle.script_reader.proofs.Appends.{no_step, Appends, appends_none, appends_on, step_appends, names_keep, names_say, contains_more}
+use Rattle.script_reader.proofs.Behind.{fault_stays, lines_keep, planned_by, read_short}
+use Rattle.script_reader.proofs.Fronts.{lines_up_to, up_to_short}
 use Rattle.script_reader.proofs.FirstWords.{Knows, knows_nothing, line_knows, lines_know, one_ok, or_or, first_append, Reading, reading, is_other, names_variables}
 use Rattle.script_reader.proofs.Kept.{WordsStand, words_stand, line_stands, begin_stands}
 use Rattle.script_reader.proofs.Levels.{Stays}
@@ -135,28 +136,37 @@ abbrev plan_behind : State → Plan
 plan_behind u = record { n = u.n; steps = u.steps; lines = u.lines }
 
 -- what a line made stays in the plan
-made_stays : (net : blif.Net) (text : List ℕ) (up_to : List Line) (number : ℕ) (levels : List ℕ) (t u : State) (p : SignalPair) → Appends t u → AreLevels net (variables_of net text) levels
-    → length (steps_in (plan_lines built_words (Some net) (Ok nothing) up_to)) ≡ length t.steps → IsMade net text number levels t p → Any (IsSignalLine net text (plan_behind u) up_to number p) u.lines
-made_stays net text up_to number levels t u p a are asked m =
-    let end : LineEnd = record { line = number; last = m.last; shows = m.shows } in
+made_stays : (net : blif.Net) (text : List ℕ) (line : Line) (levels : List ℕ) (t u : State) (p : SignalPair) → Appends t u → AreLevels net (variables_of net text) levels
+    → Reads (Some net) (text_up_to text line) (plan_behind t) → IsMade net text line.number levels t p → Any (IsSignalLine net text (plan_behind u) line p) u.lines
+made_stays net text line levels t u p a are asked m =
+    let end : LineEnd = record { line = line.number; last = m.last; shows = m.shows } in
     let has : Contains u.lines end = subst (λ xs. Contains xs end) (sym a.lines) (contains_more t.lines a.said end m.said) in
-    let same : get_or u.steps m.shows no_step ≡ get_or t.steps m.shows no_step = ap (λ xs. get_or xs m.shows no_step) a.steps ∙ get_or_append_left t.steps a.more no_step m.shows m.inside in
-    (has.0, end, has.1, has.2, record {
-      line = refl;
-      last = m.ends ∙ sym asked;
-      named = ap (λ (q : Planned). take q.name_len (drop q.name_at text)) same ∙ m.named;
-      signal = m.signal;
-      is_signal = m.is_signal;
-      levels = levels;
-      are_levels = are;
-      table = subst (λ n. IsTableOf n net levels m.signal (get_or (tables_after n [] u.steps) m.shows [])) (sym a.n)
-          (subst (IsTableOf t.n net levels m.signal) (sym (ap (λ xs. get_or (tables_after t.n [] xs) m.shows []) a.steps ∙ table_stays t.n t.steps a.more m.shows m.inside)) m.table);
-    })
+    let same : get_or u.steps m.shows no_step ≡ get_or t.steps m.shows no_step = ap (λ xs. get_or xs m.shows no_step) a.steps ∙ get_or_append_left t.steps a.more no_step m.shows m.inside in (
+      has.0,
+      end,
+      has.1,
+      has.2,
+      record {
+        of_line = refl;
+        front = plan_behind t;
+        asked = asked;
+        last = m.ends;
+        named = ap (λ (q : Planned). take q.name_len (drop q.name_at text)) same ∙ m.named;
+        shown = record {
+          signal = m.signal;
+          is_signal = m.is_signal;
+          levels = levels;
+          are_levels = are;
+          table = subst (λ n. IsTableOf n net levels m.signal (get_or (tables_after n [] u.steps) m.shows [])) (sym a.n)
+              (subst (IsTableOf t.n net levels m.signal) (sym (ap (λ xs. get_or (tables_after t.n [] xs) m.shows []) a.steps ∙ table_stays t.n t.steps a.more m.shows m.inside)) m.table);
+        };
+      },
+    )
 
 -- a line in front of others, behind which all is known
-module _ (net : blif.Net) (text : List ℕ) (before : List Line) (line : Line) (behind : List Line) (sound : blif.IsNet net) (split : lines_of text ≡ before ++ line ∷ behind) (is_net : IsNetLine line) where
+module _ (net : blif.Net) (text : List ℕ) (before : List Line) (line : Line) (behind : List Line) (sound : blif.IsNet net) (short : length text ≤ 1048576) (split : lines_of text ≡ before ++ line ∷ behind) (is_net : IsNetLine line) where
   line_shows : (s t u : State) → plan_lines built_words (Some net) (Ok nothing) before ≡ Ok s → plan_line built_words (Some net) s line.number (words_in line) ≡ Ok t
-      → plan_lines built_words (Some net) (Ok t) behind ≡ Ok u → All (λ pair. Any (IsSignalLine net text (plan_behind u) (before ++ line ∷ []) line.number pair) u.lines) (pairs_in line)
+      → plan_lines built_words (Some net) (Ok t) behind ≡ Ok u → All (λ pair. Any (IsSignalLine net text (plan_behind u) line pair) u.lines) (pairs_in line)
   line_shows s t u first here rest =
       let words : AllByRecursion (WordsStand text) (before ++ line ∷ behind) = subst (AllByRecursion (WordsStand text)) split (words_stand text) in
       let later : AllByRecursion (WordsStand text) (line ∷ behind) = all_back (WordsStand text) before (line ∷ behind) words in
@@ -169,20 +179,23 @@ module _ (net : blif.Net) (text : List ℕ) (before : List Line) (line : Line) (
       let level : (name : List ℕ) → s.level name ≡ place_of (variables_of net text) name =
       λ name. sym (ap (λ f. f name) makes.stays.level) ∙ knows.level name ∙ ap (λ ws. place_of (variables_in net ws) name) (sym firsts) in
       let a : Appends t u = lines_append text net t u behind sound (line_stands built_words (Some net) text s t line.number (words_in line) sound stands later.0 here) makes.stays.begun later.1 rest in
-      let asked : length (steps_in (plan_lines built_words (Some net) (Ok nothing) (before ++ line ∷ []))) ≡ length t.steps =
-      ap (λ r. length (steps_in r)) (front_lines built_words (Some net) (Ok nothing) before (line ∷ []) ∙ ap (λ r. plan_lines built_words (Some net) r (line ∷ [])) first ∙ ap (on_line line.number) here) in
-      All-weaker (IsMade net text line.number makes.levels t) (λ pair. Any (IsSignalLine net text (plan_behind u) (before ++ line ∷ []) line.number pair) u.lines)
-      (λ p m. made_stays net text (before ++ line ∷ []) line.number makes.levels t u p a (levels_are net s (variables_of net text) makes.levels sound level makes.has) asked m)
+      let front : plan_lines built_words (Some net) (Ok nothing) (before ++ line ∷ []) ≡ Ok t =
+      front_lines built_words (Some net) (Ok nothing) before (line ∷ []) ∙ ap (λ r. plan_lines built_words (Some net) r (line ∷ [])) first ∙ ap (on_line line.number) here in
+      let asked : Reads (Some net) (text_up_to text line) (plan_behind t) =
+      read_short built_words (Some net) (text_up_to text line) (omega (arith, short, up_to_short text line))
+      ∙ ap (λ ls. plan_of (plan_lines built_words (Some net) (Ok nothing) ls)) (lines_up_to text before line behind split) ∙ ap plan_of front in
+      All-weaker (IsMade net text line.number makes.levels t) (λ pair. Any (IsSignalLine net text (plan_behind u) line pair) u.lines)
+      (λ p m. made_stays net text line makes.levels t u p a (levels_are net s (variables_of net text) makes.levels sound level makes.has) asked m)
       (pairs_in line) makes.pairs
 
   all_show : (u : State) → plan_lines built_words (Some net) (Ok nothing) (lines_of text) ≡ Ok u
-      → All (λ pair. Any (IsSignalLine net text (plan_behind u) (before ++ line ∷ []) line.number pair) u.lines) (pairs_in line)
+      → All (λ pair. Any (IsSignalLine net text (plan_behind u) line pair) u.lines) (pairs_in line)
   all_show u e = by (plan_lines built_words (Some net) (Ok nothing) before) refl
     where
       whole : plan_lines built_words (Some net) (plan_lines built_words (Some net) (Ok nothing) before) (line ∷ behind) ≡ Ok u
       whole = sym (front_lines built_words (Some net) (Ok nothing) before (line ∷ behind)) ∙ sym (ap (plan_lines built_words (Some net) (Ok nothing)) split) ∙ e
 
-      by : (r : Result State ScriptFault) → plan_lines built_words (Some net) (Ok nothing) before ≡ r → All (λ pair. Any (IsSignalLine net text (plan_behind u) (before ++ line ∷ []) line.number pair) u.lines) (pairs_in line)
+      by : (r : Result State ScriptFault) → plan_lines built_words (Some net) (Ok nothing) before ≡ r → All (λ pair. Any (IsSignalLine net text (plan_behind u) line pair) u.lines) (pairs_in line)
       by (Ok s) is =
           one_ok _ built_words (Some net) s u line behind (sym (ap (λ r. plan_lines built_words (Some net) r (line ∷ behind)) is) ∙ whole)
           (λ t here rest. line_shows s t u is here rest)
@@ -192,6 +205,15 @@ module _ (net : blif.Net) (text : List ℕ) (before : List Line) (line : Line) (
 
 -- the plan of a text makes the signals that its lines ask for
 pub makes_signals : (net : blif.Net) (text : List ℕ) (plan : Plan) → blif.IsNet net → Reads (Some net) text plan → MakesSignals net text plan
-makes_signals net text plan sound reads before line behind split is_net =
-    planned_by (λ p. All (λ pair. Any (IsSignalLine net text p (before ++ line ∷ []) line.number pair) p.lines) (pairs_in line)) built_words (Some net) text plan reads
-    (λ short u e. all_show net text before line behind sound split is_net u e)
+makes_signals net text plan sound reads k d below is_net =
+    planned_by (λ p. All (λ pair. Any (IsSignalLine net text p (get_or (lines_of text) k d) pair) p.lines) (pairs_in (get_or (lines_of text) k d))) built_words (Some net) text plan reads
+    (λ short u e. all_show net text (take k (lines_of text)) (get_or (lines_of text) k d) (drop (k + 1) (lines_of text)) sound short split is_net u e)
+  where
+    split : lines_of text ≡ take k (lines_of text) ++ get_or (lines_of text) k d ∷ drop (k + 1) (lines_of text)
+    split = sym (take-append-drop k (lines_of text)) ∙ ap (λ ls. take k (lines_of text) ++ ls) (drop_more (lines_of text) k d below)
+
+-- and has as many variables as the script names
+pub has_variables : (net : blif.Net) (text : List ℕ) (plan : Plan) → Reads (Some net) text plan → plan.n ≡ length (variables_of net text)
+has_variables net text plan reads =
+    planned_by (λ p. p.n ≡ length (variables_of net text)) built_words (Some net) text plan reads
+    (λ short u e. (lines_know net [] nothing u (lines_of text) (knows_nothing net) e).n)

@@ -30,7 +30,7 @@ use Rattle.script_reader.specs.Names.{State, place_of, all_differ}
 use Rattle.script_reader.specs.Nets.{every_second, names_in, signals_in, signals_named, inputs_of, or_fault, all_found, wanted_of, levels_of, names_fit, nameless, with_steps, give_names, plan_signals, plan_net}
 use Rattle.script_reader.specs.Requests.{has_room}
 use Rattle.script_reader.specs.Script.{begin, plan_line, plan_request}
-use Rattle.script_reader.specs.Signals.{SignalPair, pairs_of, or_words, no_step}
+use Rattle.script_reader.specs.Signals.{SignalPair, pairs_of, or_words}
 use Rattle.script_reader.proofs.MadeSteps.{then_ok, passed, same_ok}
 use Rattle.script_reader.proofs.NamedSteps.{live_below}
 use Rattle.script_reader.proofs.Seconds.{second_next}
@@ -38,7 +38,7 @@ use Rattle.script_reader.proofs.Stands.{Stands}
 use Rattle.script_reader.proofs.NetLines.{found, found_length, wanted_inside, plain_steps, signals_go_on, made_apart, all_seconds, place_low}
 use Rattle.script_reader.proofs.Kept.{begin_stands}
 use Rattle.script_reader.proofs.PlanTables.{tables_append, length-tables}
-use Rattle.script_reader.proofs.Appends.{Behind, names_keep, names_say, pair_given}
+use Rattle.script_reader.proofs.Appends.{no_step, Behind, names_keep, names_say, pair_given}
 use Rattle.script_reader.proofs.FirstWords.{net_keeps, reading}
 use Rattle.script_reader.proofs.Levels.{Stays}
 

@@ -8,7 +8,7 @@ ghost use Rattle.script_reader.specs.Names.{place_of};
 ghost use Rattle.script_reader.specs.Nets.{inputs_of};
 ghost use Rattle.script_reader.specs.Reads.{Reads, Refuses};
 ghost use Rattle.script_reader.specs.Script.{read};
-ghost use Rattle.script_reader.specs.Signals.{MakesSignals};
+ghost use Rattle.script_reader.specs.Signals.{MakesSignals, variables_of};
 ghost use Rattle.script_reader.specs.declared.fault.ScriptFault.{ScriptFault};
 ghost use Rattle.script_reader.specs.declared.plan.Plan.{Plan};
 
@@ -45,6 +45,8 @@ pub fn one_plan()
 pub fn net_lines_make_their_signals()
     ensures made { (net : Net) (text : List ℕ) (plan : Plan) → IsNet net → Reads (Some net) text plan
         → MakesSignals net text plan }
+    ensures variables { (net : Net) (text : List ℕ) (plan : Plan) → Reads (Some net) text plan
+        → plan.n ≡ length (variables_of net text) }
     ensures own { (net : Net) (i : ℕ) → IsNet net → i < net.inputs
         → place_of (inputs_of net) (slice_index_or net.names i []) ≡ Some i }
 {}
