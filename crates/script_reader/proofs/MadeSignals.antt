@@ -1,5 +1,5 @@
 -- The plan of a script over a netlist makes the signals that its lines ask for.
-use Rattle.std.proofs.Common.{◌≡◌, ℕ, suc, ◌<◌, ◌≤◌, true, List, [], ◌∷◌, ◌++◌, length, take, drop, get_or, Option, Some, refl, sym, ap, subst, ◌∙◌, arith}
+use Rattle.std.proofs.Common.{◌≡◌, ℕ, ◌≤◌, true, List, [], ◌∷◌, ◌++◌, length, take, drop, get_or, Option, Some, refl, sym, ap, subst, ◌∙◌, arith}
 use Rattle.std.specs.Prelude.{Result, Ok, Err}
 use Rattle.std.specs.List.{All, Any, AllByRecursion, Contains}
 use Rattle.std.proofs.lemmas.List.{get_or_append_left, get_or-take, take-append-drop, drop_more}
@@ -18,7 +18,7 @@ use Rattle.script_reader.specs.declared.plan.Plan.{Plan}
 use Rattle.script_reader.specs.Results.{on_line, check}
 use Rattle.script_reader.specs.Keywords.{built_words}
 use Rattle.script_reader.specs.Names.{State, nothing, place_of}
-use Rattle.script_reader.specs.Nets.{inputs_of, signals_named, wanted_of, levels_of, names_in, names_fit, nameless, with_steps, give_names, plan_signals, plan_net}
+use Rattle.script_reader.specs.Nets.{inputs_of, signals_named, wanted_of, levels_of, names_in, names_fit, nameless, with_steps, give_names, plan_net}
 use Rattle.script_reader.specs.Requests.{has_room}
 use Rattle.script_reader.specs.Reads.{Reads}
 use Rattle.script_reader.specs.Script.{plan_line, plan_lines, plan_of, plan_request, begin}
@@ -26,9 +26,8 @@ use Rattle.script_reader.specs.Signals.{SignalPair, pairs_in, IsNetLine, first_w
 use Rattle.script_reader.proofs.Appends.{no_step, Appends, appends_none, appends_on, step_appends, names_keep, names_say, contains_more}
 use Rattle.script_reader.proofs.Behind.{fault_stays, lines_keep, planned_by, read_short}
 use Rattle.script_reader.proofs.Fronts.{lines_up_to, up_to_short}
-use Rattle.script_reader.proofs.FirstWords.{Knows, knows_nothing, line_knows, lines_know, one_ok, or_or, first_append, Reading, reading, is_other, names_variables}
+use Rattle.script_reader.proofs.FirstWords.{knows_nothing, line_knows, lines_know, one_ok, or_or, first_append, reading, is_other, names_variables}
 use Rattle.script_reader.proofs.Kept.{WordsStand, words_stand, line_stands, begin_stands}
-use Rattle.script_reader.proofs.Levels.{Stays}
 use Rattle.script_reader.proofs.MadeSteps.{then_ok, same_ok}
 use Rattle.script_reader.proofs.NetLines.{inputs_length, found_length, plain_steps, signals_go_on}
 use Rattle.script_reader.proofs.PlanTables.{table_stays}

@@ -1,11 +1,10 @@
 -- Each pair of a line that asks for signals has its said line, which shows the table of its signal.
-use Rattle.std.proofs.Common.{◌≡◌, ℕ, zero, suc, ◌+◌, ◌-◌, ◌<◌, ◌≤◌, Bool, true, false, cond, List, [], ◌∷◌, ◌++◌, length, take, drop, map, get_or, Option, Some, None, refl, sym, ap, subst, ◌∙◌, arith}
-use Rattle.std.specs.Prelude.{Result, Ok, Err, codes, option_map}
-use Rattle.std.specs.List.{All, Any, AllByRecursion, Contains, list_all, position_from}
+use Rattle.std.proofs.Common.{◌≡◌, ℕ, zero, suc, ◌+◌, ◌-◌, ◌<◌, ◌≤◌, Bool, true, false, cond, List, [], ◌∷◌, ◌++◌, length, take, drop, map, get_or, Option, Some, refl, sym, ap, subst, ◌∙◌, arith}
+use Rattle.std.specs.Prelude.{Ok, codes, option_map}
+use Rattle.std.specs.List.{All, AllByRecursion, Contains, position_from}
 use Rattle.std.specs.Str.{bytes_eq}
-use Rattle.std.proofs.lemmas.Bool.{leb-true}
-use Rattle.std.proofs.lemmas.List.{length-append, length-map, get_or_append_left, get_or-take}
-use Rattle.std.proofs.lemmas.List.Elements.{All-from_recursion, All-from_get_or, All-weaker}
+use Rattle.std.proofs.lemmas.List.{length-append, length-map}
+use Rattle.std.proofs.lemmas.List.Elements.{All-from_recursion}
 use Rattle.bool_tables.specs.Steps.{tables_after}
 use Rattle.bool_tables.specs.declared.steps.Planned.{Planned}
 use Rattle.bool_tables.specs.declared.steps.Step.{Step}
@@ -14,20 +13,18 @@ use Rattle.depth_first.proofs.Walks.{visits_above, visits_inside}
 use Rattle.blif_reader.specs.Index as index
 use Rattle.blif_reader.specs.Netlist.{Net, IsNet}
 use Rattle.net_plan.specs.Plan.{plan_steps, plan_made}
-use Rattle.net_plan.specs.Values.{IsTableOf, MakeTables, steps_of}
+use Rattle.net_plan.specs.Values.{IsTableOf, MakeTables}
 use Rattle.net_plan.specs.WellFormed.{GoesOn}
 use Rattle.net_plan.proofs.Meanings.{tables_made}
-use Rattle.text_words.specs.Text.{Line, Word, lines_of, words_in}
+use Rattle.text_words.specs.Text.{Word}
 use Rattle.text_words.specs.Places.{StandsIn}
 use Rattle.script_reader.specs.declared.fault.ScriptKind.{ScriptKind}
 use Rattle.script_reader.specs.declared.fault.ScriptKind.TheVariants as kind
-use Rattle.script_reader.specs.declared.keyword.Keyword.{Keyword}
 use Rattle.script_reader.specs.declared.keyword.Keyword.TheVariants as keyword
-use Rattle.script_reader.specs.declared.plan.LineEnd.{LineEnd}
 use Rattle.script_reader.specs.Results.{check}
 use Rattle.script_reader.specs.Keywords.{word_at, texts_of, keyword_of, built_words}
 use Rattle.script_reader.specs.Names.{State, place_of, all_differ}
-use Rattle.script_reader.specs.Nets.{every_second, names_in, signals_in, signals_named, inputs_of, or_fault, all_found, wanted_of, levels_of, names_fit, nameless, with_steps, give_names, plan_signals, plan_net}
+use Rattle.script_reader.specs.Nets.{every_second, signals_in, signals_named, inputs_of, or_fault, all_found, wanted_of, levels_of, names_fit, nameless, with_steps, give_names, plan_signals, plan_net}
 use Rattle.script_reader.specs.Requests.{has_room}
 use Rattle.script_reader.specs.Script.{begin, plan_line, plan_request}
 use Rattle.script_reader.specs.Signals.{SignalPair, pairs_of, or_words}
