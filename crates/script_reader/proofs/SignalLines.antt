@@ -35,7 +35,7 @@ use Rattle.script_reader.proofs.Stands.{Stands}
 use Rattle.script_reader.proofs.NetLines.{found, found_length, wanted_inside, plain_steps, signals_go_on, made_apart, all_seconds, place_low}
 use Rattle.script_reader.proofs.Kept.{begin_stands}
 use Rattle.script_reader.proofs.PlanTables.{tables_append, length-tables}
-use Rattle.script_reader.proofs.Appends.{no_step, Behind, names_keep, names_say, pair_given}
+use Rattle.script_reader.proofs.Appends.{no_step, Behind, names_keep, pair_given}
 use Rattle.script_reader.proofs.FirstWords.{net_keeps, reading}
 use Rattle.script_reader.proofs.Levels.{Stays}
 
@@ -107,58 +107,55 @@ no_word = record { at = 0; bytes = [] }
 module _ (text : List ℕ) (s : State) (number : ℕ) (ws : List Word) (net : Net) (levels wanted : List ℕ) (sound : IsNet net) (h : Stands text s)
     (stand : AllByRecursion (λ (w : Word). StandsIn text w.at w.bytes) (every_second ws)) (differ : all_differ (texts_of (every_second (drop 1 ws))) ≡ true)
     (wants : wanted_of net (texts_of (every_second (drop 1 ws))) ≡ Ok wanted) (has : levels_of s net ≡ Ok levels) where
-  signals : List (List ℕ)
+  abbrev signals : List (List ℕ)
   signals = texts_of (every_second (drop 1 ws))
 
-  steps : List Step
+  abbrev steps : List Step
   steps = plan_steps net levels wanted (length s.steps)
 
-  made : List ℕ
+  abbrev made : List ℕ
   made = plan_made net levels wanted (length s.steps)
 
-  on : GoesOn s.n text s.steps (map nameless (plan_steps net levels wanted (length s.steps))) wanted (plan_made net levels wanted (length s.steps))
-  on = signals_go_on text s net (texts_of (every_second (drop 1 ws))) levels wanted sound h wants has
+  on : GoesOn s.n text s.steps (map nameless steps) wanted made
+  on = signals_go_on text s net signals levels wanted sound h wants has
 
-  as_many : length (plan_made net levels wanted (length s.steps)) ≡ length wanted
+  as_many : length made ≡ length wanted
   as_many = length-map wanted _
 
   -- a pair of a line with these signals
-  pair_made : (t : State) → t ≡ give_names (with_steps s (plan_steps net levels wanted (length s.steps))) number (length s.steps + length (plan_steps net levels wanted (length s.steps)) - 1) (every_second ws) (plan_made net levels wanted (length s.steps))
-      → (i : ℕ) → i < length (pairs_of ws) → IsMade net text number levels t (pair (get_or (every_second ws) i no_word).bytes (get_or (texts_of (every_second (drop 1 ws))) i []))
+  pair_made : (t : State) → t ≡ give_names (with_steps s steps) number (length s.steps + length steps - 1) (every_second ws) made
+      → (i : ℕ) → i < length (pairs_of ws) → IsMade net text number levels t (pair (get_or (every_second ws) i no_word).bytes (get_or signals i []))
   pair_made t t_is i b =
-      let ps : List Step = plan_steps net levels wanted (length s.steps) in
-      let ms : List ℕ = plan_made net levels wanted (length s.steps) in
       let names : List Word = every_second ws in
-      let base : State = with_steps s ps in
-      let last : ℕ = length s.steps + length ps - 1 in
-      let m : ℕ = get_or ms i 0 in
+      let base : State = with_steps s steps in
+      let last : ℕ = length s.steps + length steps - 1 in
+      let m : ℕ = get_or made i 0 in
       let count : length wanted ≡ length (every_second (drop 1 ws)) =
-      found_length kind.UnknownName (index.place_of net.names) (texts_of (every_second (drop 1 ws))) wanted wants ∙ length-map (every_second (drop 1 ws)) (λ (w : Word). w.bytes) in
+      found_length kind.UnknownName (index.place_of net.names) signals wanted wants ∙ length-map (every_second (drop 1 ws)) (λ (w : Word). w.bytes) in
       let among_names : i < length names = omega (arith, b, names_many ws) in
       let among_wanted : i < length wanted = omega (arith, b, count, signals_many ws) in
-      let among_made : i < length ms = omega (arith, among_wanted, as_many) in
-      let given = pair_given base number last names ms i no_word among_names among_made (λ j c. live_below (s.steps ++ map nameless ps) (get_or ms j 0) (on.live j c))
-      (made_apart s.n text s.steps (map nameless ps) net (texts_of (every_second (drop 1 ws))) wanted ms differ wants on as_many) in
-      let kept : Behind s.steps ps (give_names base number last names ms).steps =
-      names_keep s.steps ps base number last names ms (record { rest = map nameless ps; is = refl; same = plain_steps ps }) on.new in
-      let says = names_say base number last names ms in
-      let rest_count : length kept.rest ≡ length ps = sym (length-map kept.rest (λ (p : Planned). p.step)) ∙ ap length kept.same in
-      let all_count : length (give_names base number last names ms).steps ≡ length s.steps + length kept.rest = ap length kept.is ∙ length-append s.steps kept.rest in
-      let below : m < length (s.steps ++ map nameless ps) = live_below (s.steps ++ map nameless ps) m (on.live i among_made) in
-      let base_count : length (s.steps ++ map nameless ps) ≡ length s.steps + length ps = length-append s.steps (map nameless ps) ∙ ap (λ n. length s.steps + n) (length-map ps nameless) in
+      let among_made : i < length made = omega (arith, among_wanted, as_many) in
+      let given = pair_given base number last names made i no_word among_names among_made (λ j c. live_below (s.steps ++ map nameless steps) (get_or made j 0) (on.live j c))
+      (made_apart s.n text s.steps (map nameless steps) net signals wanted made differ wants on as_many) in
+      let kept : Behind s.steps steps (give_names base number last names made).steps =
+      names_keep s.steps steps base number last names made (record { rest = map nameless steps; is = refl; same = plain_steps steps }) on.new in
+      let rest_count : length kept.rest ≡ length steps = sym (length-map kept.rest (λ (p : Planned). p.step)) ∙ ap length kept.same in
+      let all_count : length (give_names base number last names made).steps ≡ length s.steps + length kept.rest = ap length kept.is ∙ length-append s.steps kept.rest in
+      let below : m < length (s.steps ++ map nameless steps) = live_below (s.steps ++ map nameless steps) m (on.live i among_made) in
+      let base_count : length (s.steps ++ map nameless steps) ≡ length s.steps + length steps = length-append s.steps (map nameless steps) ∙ ap (λ n. length s.steps + n) (length-map steps nameless) in
       let stands : StandsIn text (get_or names i no_word).at (get_or names i no_word).bytes = All-from_recursion (λ (w : Word). StandsIn text w.at w.bytes) names stand i no_word among_names in
-      let makes = made_tables net levels wanted (length s.steps) sound (wanted_inside net (texts_of (every_second (drop 1 ws))) wanted wants) in
-      let n : ℕ = (give_names base number last names ms).n in
-      subst (λ v. IsMade net text number levels v (pair (get_or names i no_word).bytes (get_or (texts_of (every_second (drop 1 ws))) i []))) (sym t_is) (record {
+      let makes = made_tables net levels wanted (length s.steps) sound (wanted_inside net signals wanted wants) in
+      let n : ℕ = (give_names base number last names made).n in
+      subst (λ v. IsMade net text number levels v (pair (get_or names i no_word).bytes (get_or signals i []))) (sym t_is) (record {
         shows = m;
         last = last;
         said = given.said;
         ends = omega (arith, all_count, rest_count, below, base_count);
         inside = omega (arith, all_count, rest_count, below, base_count);
-        named = ap (λ k. take k (drop (get_or (give_names base number last names ms).steps m no_step).name_at text)) given.name_len
+        named = ap (λ k. take k (drop (get_or (give_names base number last names made).steps m no_step).name_at text)) given.name_len
             ∙ ap (λ k. take (length (get_or names i no_word).bytes) (drop k text)) given.name_at ∙ stands.same;
         signal = get_or wanted i 0;
-        is_signal = found_at kind.UnknownName (index.place_of net.names) (texts_of (every_second (drop 1 ws))) wanted wants i among_wanted;
+        is_signal = found_at kind.UnknownName (index.place_of net.names) signals wanted wants i among_wanted;
         table = subst (IsTableOf n net levels (get_or wanted i 0))
             (sym (ap (λ xs. get_or (tables_after n [] xs) m []) kept.is ∙ ap (λ ts. get_or ts m []) (tables_append n [] s.steps kept.rest)))
             (makes n i (tables_after n [] s.steps) kept.rest (omega (arith, length-tables n [] s.steps)) kept.same among_wanted);
@@ -168,7 +165,7 @@ module _ (text : List ℕ) (s : State) (number : ℕ) (ws : List Word) (net : Ne
   signals_made : (t : State) → plan_signals s number (every_second ws) net levels wanted ≡ Ok t → All (IsMade net text number levels t) (pairs_of ws)
   signals_made t e =
       then_ok (names_fit s (every_second ws)) _ t e (λ u fits rest.
-      then_ok (check kind.TooManySteps (has_room (length s.steps + length (plan_steps net levels wanted (length s.steps))))) _ t rest (λ v room last.
+      then_ok (check kind.TooManySteps (has_room (length s.steps + length steps))) _ t rest (λ v room last.
       λ k d b. subst (IsMade net text number levels t) (sym (pair_at ws k d no_word b)) (pair_made t (sym (same_ok _ _ last)) k b)))
 
 -- what a line that asks for signals leaves
