@@ -5,7 +5,7 @@ mod Blocks
 mod Unique
 mod Existence
 mod Visits
-mod Meanings
+pub mod Meanings
 pub mod Follows
 mod Lives
 mod Distinct

@@ -1,8 +1,8 @@
 // Scripts that are read with a netlist: the plans of those that are accepted, and the first fault of each other one.
 use crate::whole::{is_fault, read_with};
 use blif_reader::{Netlist, read_netlist};
-use bool_tables::{Bin, Planned, Step};
-use script_reader::{LineEnd, ScriptKind};
+use bool_tables::{Bin, Planned, Step, Table, eval_steps};
+use script_reader::{LineEnd, Plan, ScriptKind, read_script};
 use std::alloc::{AllocError, Global};
 
 /// Two inputs, `a` and `b`, their conjunction `f`, the complement `g` of the first, and `h`, which has rows of output
@@ -12,6 +12,10 @@ const NET: &str =
 
 /// No inputs, and a block that is 1.
 const ONE: &str = ".model m\n.inputs\n.outputs c\n.names c\n1\n";
+
+/// Two outputs that tell the inputs apart: `f` is 1 where `a` alone is, and `g` is the complement of `a`.
+const APART: &str =
+    ".model m\n.inputs a b\n.outputs f g\n.names a b f\n10 1\n.names a g\n0 1\n.end\n";
 
 /// The operators of plans of signals, by what they make of left 0 and right 0, 0 and 1, 1 and 0, 1 and 1.
 const BOTH: Bin = Bin {
@@ -245,6 +249,53 @@ fn plans_several_signals(rt: HostRuntime) -> Result<(), AllocError> {
     let text = "inputs\nnet x f y a z g";
     assert!(rt; plans_with(rt.alloc(), NET, text, 2, made.as_slice(), said.as_slice())?);
     Ok(())
+}
+
+/// A said line: its number, the place of the name of the step that it shows, and that step's table.
+type Shown = (u32, u32, &'static [bool]);
+
+/// Whether a said line shows a step with a name of one byte and a table.
+fn shows(plan: &Plan, tables: &[Table], said: &LineEnd, shown: &Shown) -> bool {
+    let (line, name_at, values) = *shown;
+    let at = said.shows as usize;
+    let (Some(step), Some(table)) = (plan.steps.items().get(at), tables.get(at)) else {
+        return false;
+    };
+    said.line == line && step.name_at == name_at && step.name_len == 1 && table.items() == values
+}
+
+/// Whether a script over a netlist says so many lines that show these tables.
+fn shows_tables(alloc: Global, net: &str, text: &str, shown: &[Shown]) -> bool {
+    let Ok(net) = read_netlist(alloc, net.as_bytes()) else {
+        return false;
+    };
+    let bytes = text.as_bytes();
+    let Ok(plan) = read_script(alloc, bytes, Some(&net)) else {
+        return false;
+    };
+    let Ok(tables) = eval_steps(alloc, plan.n, bytes, plan.steps.items()) else {
+        return false;
+    };
+    for (said, shown) in plan.lines.items().iter().zip(shown.iter()) {
+        if !shows(&plan, tables.as_slice(), said, shown) {
+            return false;
+        }
+    }
+    plan.lines.items().len() == shown.len()
+}
+
+/// The inputs are the variables with their names, in whatever order these stand. The places of the tables are those of
+/// `b` 0 and `a` 0, `b` 0 and `a` 1, `b` 1 and `a` 0, `b` 1 and `a` 1.
+#[test]
+fn inputs_are_the_variables_of_their_names(rt: HostRuntime) {
+    let shown: [Shown; 4] = [
+        (2, 13, &[false, false, true, true]),
+        (3, 21, &[true, false, true, false]),
+        (3, 25, &[false, true, false, false]),
+        (4, 32, &[true, true, true, false]),
+    ];
+    let text = "vars b a\nvar k b\nnet x g y f\nor w x y";
+    assert!(rt; shows_tables(rt.alloc(), APART, text, shown.as_slice()));
 }
 
 /// Refused, with the line and the kind of the first fault.

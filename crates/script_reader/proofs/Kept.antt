@@ -180,7 +180,7 @@ step_stands text s t begun number k words h is_begun all formed e =
         (put_stands text s number (planned_of k words made) b.named h is_begun b.live may room)
 
 -- a line that begins is begun
-begin_stands : (text : List ℕ) (s : State) → Stands text s → Stands text (begin s)
+pub begin_stands : (text : List ℕ) (s : State) → Stands text s → Stands text (begin s)
 begin_stands text s h = record {
   few_variables = h.few_variables;
   few_steps = h.few_steps;
@@ -218,7 +218,7 @@ is_formed_line known s words k e =
     subst (λ (v : Keyword). is_formed s.begun s.n v words ≡ true) (same_ok _ _ last) (passed kind.Word _ formed)))
 
 -- a line
-line_stands : (known : List (List ℕ)) (netlist : Option blif.Net) (text : List ℕ) (s t : State) (number : ℕ) (words : List Word) → IfSome netlist blif.IsNet → Stands text s → AllByRecursion (λ (w : Word). StandsIn text w.at w.bytes) words → plan_line known netlist s number words ≡ Ok t → Stands text t
+pub line_stands : (known : List (List ℕ)) (netlist : Option blif.Net) (text : List ℕ) (s t : State) (number : ℕ) (words : List Word) → IfSome netlist blif.IsNet → Stands text s → AllByRecursion (λ (w : Word). StandsIn text w.at w.bytes) words → plan_line known netlist s number words ≡ Ok t → Stands text t
 line_stands known netlist text s t number [] sound h all e = subst (Stands text) (same_ok _ _ e) h
 line_stands known netlist text s t number (w ∷ ws) sound h all e =
     then_ok (keyword_in known s (w ∷ ws)) _ t e (λ k is rest.

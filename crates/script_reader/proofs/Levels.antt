@@ -20,9 +20,10 @@ use Rattle.script_reader.specs.Script.{begin}
 use Rattle.script_reader.specs.Views.{AreTablesOf, IsKept, Leads}
 use Rattle.script_reader.proofs.MadeSteps.{then_ok, passed, same_ok}
 
--- the levels are the same, and that a line was read
+-- the variables are the same, and that a line was read
 pub record Stays (s t : State) : Type 0 where
   pub level : t.level ≡ s.level
+  pub n : t.n ≡ s.n
   pub begun : t.begun ≡ s.begun
 
 -- so what was kept may be
@@ -45,11 +46,11 @@ names_stay : (s : State) (k : Keyword) (words : List Word) (made : Step) → Sta
 names_stay s k words made = by made
   where
     given : (b : Bool) → Stays s (if b then with_named s (word_at 1 words) (record { step = length s.steps; dropped = false }) else s)
-    given true = record { level = refl; begun = refl }
-    given false = record { level = refl; begun = refl }
+    given true = record { level = refl; n = refl; begun = refl }
+    given false = record { level = refl; n = refl; begun = refl }
 
     by : (made : Step) → Stays s (name_behind s k words made)
-    by (step.Drop gone) = record { level = refl; begun = refl }
+    by (step.Drop gone) = record { level = refl; n = refl; begun = refl }
     by (step.Const value) = given (gives_name k)
     by (step.Var level) = given (gives_name k)
     by (step.Pair op left right) = given (gives_name k)
@@ -67,13 +68,13 @@ step_keeps s t number k words e =
     then_ok (step_of s k words) _ t e (λ made is next.
     then_ok (name_fits s k words) _ t next (λ u fits more.
     then_ok (check kind.TooManySteps (has_room (length s.steps + 1))) _ t more (λ v room last.
-    subst (Stays s) (same_ok _ _ last) (let n = names_stay s k words made in record { level = n.level; begun = n.begun }))))
+    subst (Stays s) (same_ok _ _ last) (let n = names_stay s k words made in record { level = n.level; n = n.n; begun = n.begun }))))
 
 pairs_keep : (s : State) (number last : ℕ) (names : List Word) (made : List ℕ) → Stays s (give_names s number last names made)
-pairs_keep s number last [] made = record { level = refl; begun = refl }
-pairs_keep s number last (w ∷ names) [] = record { level = refl; begun = refl }
+pairs_keep s number last [] made = record { level = refl; n = refl; begun = refl }
+pairs_keep s number last (w ∷ names) [] = record { level = refl; n = refl; begun = refl }
 pairs_keep s number last (w ∷ names) (m ∷ made) =
-    let rest = pairs_keep (give_name s number last w m) number last names made in record { level = rest.level; begun = rest.begun }
+    let rest = pairs_keep (give_name s number last w m) number last names made in record { level = rest.level; n = rest.n; begun = rest.begun }
 
 -- a line that asks for signals
 pub signals_keep : (s t : State) (number : ℕ) (names : List Word) (net : Net) (levels wanted : List ℕ) → plan_signals s number names net levels wanted ≡ Ok t → Stays s t
@@ -82,7 +83,7 @@ signals_keep s t number names net levels wanted e =
     then_ok (check kind.TooManySteps (has_room (length s.steps + length (plan_steps net levels wanted (length s.steps))))) _ t rest (λ v room last.
     subst (Stays s) (same_ok _ _ last)
     (let p = pairs_keep (with_steps s (plan_steps net levels wanted (length s.steps))) number (length s.steps + length (plan_steps net levels wanted (length s.steps)) - 1) names (plan_made net levels wanted (length s.steps)) in
-    record { level = p.level; begun = p.begun })))
+    record { level = p.level; n = p.n; begun = p.begun })))
 
 -- names that fit are short
 pub fits_all_short : (s : State) (names : List Word) → names_fit s names ≡ Ok tt → list_all is_short names ≡ true

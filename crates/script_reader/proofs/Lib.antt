@@ -14,3 +14,9 @@ pub mod PlanReads
 mod Sound
 mod Finding
 mod Levels
+mod PlanTables
+mod Appends
+mod FirstWords
+mod SignalLines
+mod Fronts
+mod MadeSignals

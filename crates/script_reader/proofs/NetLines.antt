@@ -34,7 +34,7 @@ inputs_length net sound = let all = sound.tables.blocks in omega (arith, all, le
 
 -- what is found for names
 
-found : (o : Option ℕ) (k : ScriptKind) (x : ℕ) → or_fault k o ≡ Ok x → o ≡ Some x
+pub found : (o : Option ℕ) (k : ScriptKind) (x : ℕ) → or_fault k o ≡ Ok x → o ≡ Some x
 found None k x e = absurd cc
 found (Some y) k x e = ap Some (same_ok _ _ e)
 
@@ -94,7 +94,7 @@ module _ (k : ScriptKind) (find : List ℕ → Option ℕ) where
 some_is : (a b : ℕ) → Some a ≡ Some b → a ≡ b
 some_is a b e = cc
 
-place_low : (t : List ℕ → Bool) (from : ℕ) (names : List (List ℕ)) (x : ℕ) → position_from t from names ≡ Some x → from ≤ x
+pub place_low : (t : List ℕ → Bool) (from : ℕ) (names : List (List ℕ)) (x : ℕ) → position_from t from names ≡ Some x → from ≤ x
 place_low t from [] x e = absurd cc
 place_low t from (name ∷ names) x e = by (t name) refl (place_low t (from + 1) names x)
   where
@@ -137,7 +137,7 @@ wanted_inside net signals wanted e i b =
 
 -- steps without names
 
-plain_steps : (steps : List Step) → steps_of (map nameless steps) ≡ steps
+pub plain_steps : (steps : List Step) → steps_of (map nameless steps) ≡ steps
 plain_steps [] = refl
 plain_steps (s ∷ steps) = ap (λ xs. s ∷ xs) (plain_steps steps)
 
@@ -173,15 +173,30 @@ steps_stand text s steps wanted made h begun room on =
 
 -- the names of a line stand where its words do
 
-all_drop : (P : Word → Type 0) (n : ℕ) (words : List Word) → AllByRecursion P words → AllByRecursion P (drop n words)
+pub all_drop : (P : Word → Type 0) (n : ℕ) (words : List Word) → AllByRecursion P words → AllByRecursion P (drop n words)
 all_drop P zero words all = all
 all_drop P (suc n) [] all = tt
 all_drop P (suc n) (w ∷ words) all = all_drop P n words all.1
 
-all_seconds : (P : Word → Type 0) (words : List Word) → AllByRecursion P words → AllByRecursion P (every_second words)
+pub all_seconds : (P : Word → Type 0) (words : List Word) → AllByRecursion P words → AllByRecursion P (every_second words)
 all_seconds P [] all = tt
 all_seconds P (w ∷ []) all = (all.0, tt)
 all_seconds P (w ∷ other ∷ words) all = (all.0, all_seconds P words all.1.1)
+
+-- the steps of some signals go on with those so far
+pub signals_go_on : (text : List ℕ) (s : State) (net : Net) (signals : List (List ℕ)) (levels wanted : List ℕ) → IsNet net → Stands text s → wanted_of net signals ≡ Ok wanted → levels_of s net ≡ Ok levels
+    → GoesOn s.n text s.steps (map nameless (plan_steps net levels wanted (length s.steps))) wanted (plan_made net levels wanted (length s.steps))
+signals_go_on text s net signals levels wanted sound h wants has =
+    let steps : List Step = plan_steps net levels wanted (length s.steps) in
+    steps_go_on net levels wanted (length s.steps) sound (found_length kind.Variable s.level (inputs_of net) levels has ∙ inputs_length net sound) (wanted_inside net signals wanted wants)
+    s.n text s.steps (map nameless steps) refl h.in_order (plain_steps steps) (plain_names text steps)
+    (found_all kind.Variable s.level (λ level. nat_lt level s.n) (λ name level is. lt-ltb _ _ (h.levels name level is)) (inputs_of net) levels has)
+
+-- signals that differ are made by steps that differ
+pub made_apart : (n : ℕ) (text : List ℕ) (before planned : List Planned) (net : Net) (signals : List (List ℕ)) (wanted made : List ℕ) → all_differ signals ≡ true → wanted_of net signals ≡ Ok wanted
+    → GoesOn n text before planned wanted made → length made ≡ length wanted → (i j : ℕ) → i < length made → j < length made → get_or made i 0 ≡ get_or made j 0 → i ≡ j
+made_apart n text before planned net signals wanted made differ wants on as_many i j b c same =
+    found_apart kind.UnknownName (index.place_of net.names) (λ a b x. one_place 0 net.names a b x) signals wanted differ wants i j (omega (arith, b, as_many)) (omega (arith, c, as_many)) (on.apart i j b c same)
 
 -- a line with these signals
 signals_stand : (text : List ℕ) (s t : State) (number : ℕ) (names : List Word) (net : Net) (signals : List (List ℕ)) (levels wanted : List ℕ) → IsNet net → Stands text s → s.begun ≡ true
@@ -204,10 +219,7 @@ signals_stand text s t number names net signals levels wanted sound h begun stan
     made = plan_made net levels wanted (length s.steps)
 
     on : GoesOn s.n text s.steps (map nameless steps) wanted made
-    on =
-        steps_go_on net levels wanted (length s.steps) sound (found_length kind.Variable s.level (inputs_of net) levels has ∙ inputs_length net sound) (wanted_inside net signals wanted wants)
-        s.n text s.steps (map nameless steps) refl h.in_order (plain_steps steps) (plain_names text steps)
-        (found_all kind.Variable s.level (λ level. nat_lt level s.n) (λ name level is. lt-ltb _ _ (h.levels name level is)) (inputs_of net) levels has)
+    on = signals_go_on text s net signals levels wanted sound h wants has
 
     count : length (s.steps ++ map nameless steps) ≡ length s.steps + length steps
     count = length-append s.steps (map nameless steps) ∙ ap (λ n. length s.steps + n) (length-map steps nameless)
@@ -216,8 +228,7 @@ signals_stand text s t number names net signals levels wanted sound h begun stan
     as_many = length-map wanted _
 
     apart : (i j : ℕ) → i < length made → j < length made → get_or made i 0 ≡ get_or made j 0 → i ≡ j
-    apart i j b c same =
-        found_apart kind.UnknownName (index.place_of net.names) (λ a b x. one_place 0 net.names a b x) signals wanted differ wants i j (omega (arith, b, as_many)) (omega (arith, c, as_many)) (on.apart i j b c same)
+    apart = made_apart s.n text s.steps (map nameless steps) net signals wanted made differ wants on as_many
 
     behind : list_all is_short names ≡ true → length s.steps + length steps ≤ 1048576 → Stands text (give_names (with_steps s steps) number (length s.steps + length steps - 1) names made)
     behind short room =

@@ -9,7 +9,7 @@ use Rattle.script_reader.specs.Nets.{every_second}
 use Rattle.script_reader.specs.Views.{words_of}
 
 -- the first and every second of those behind the next
-second_next : (x : Word) (xs : List Word) → every_second (x ∷ xs) ≡ x ∷ every_second (drop 1 xs)
+pub second_next : (x : Word) (xs : List Word) → every_second (x ∷ xs) ≡ x ∷ every_second (drop 1 xs)
 second_next x [] = refl
 second_next x (y ∷ xs) = refl
 

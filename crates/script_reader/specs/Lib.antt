@@ -7,3 +7,4 @@ pub mod Script
 pub mod Lines
 pub mod Views
 pub mod Reads
+pub mod Signals

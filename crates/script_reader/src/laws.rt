@@ -1,10 +1,14 @@
 //! Laws of scripts and their plans, each the contract of a function that does nothing.
-ghost use Rattle.std.specs.Prelude.{◌≡◌, ◌≤◌, ℕ, List, Option, IfSome, length, Ok};
+ghost use Rattle.std.specs.Prelude.{◌≡◌, ◌<◌, ◌≤◌, ℕ, List, [], Option, IfSome, Some, length, Ok};
+ghost use Rattle.std.specs.List.{slice_index_or};
 ghost use Rattle.blif_reader.specs.Netlist.{Net, IsNet};
 ghost use Rattle.bool_tables.specs.Plans.{IsWellFormed};
 ghost use Rattle.script_reader.specs.Lines.{AreLines};
+ghost use Rattle.script_reader.specs.Names.{place_of};
+ghost use Rattle.script_reader.specs.Nets.{inputs_of};
 ghost use Rattle.script_reader.specs.Reads.{Reads, Refuses};
 ghost use Rattle.script_reader.specs.Script.{read};
+ghost use Rattle.script_reader.specs.Signals.{MakesSignals, variables_of};
 ghost use Rattle.script_reader.specs.declared.fault.ScriptFault.{ScriptFault};
 ghost use Rattle.script_reader.specs.declared.plan.Plan.{Plan};
 
@@ -32,4 +36,17 @@ pub fn one_plan()
         → Reads netlist text plan → IsWellFormed plan.n text plan.steps }
     ensures lines { (netlist : Option Net) (text : List ℕ) (plan : Plan) → IfSome netlist IsNet
         → Reads netlist text plan → AreLines plan.steps plan.lines }
+{}
+
+/// The plan of a script over a netlist makes the signals that its lines ask for: each pair of a name and a signal has
+/// a said line, which comes after the last step of its line and shows a step with that name, whose table is that of
+/// the signal. The level of an input is the place of the variable with its name; where the variables are the inputs,
+/// that is its own place among them.
+pub fn net_lines_make_their_signals()
+    ensures made { (net : Net) (text : List ℕ) (plan : Plan) → IsNet net → Reads (Some net) text plan
+        → MakesSignals net text plan }
+    ensures variables { (net : Net) (text : List ℕ) (plan : Plan) → Reads (Some net) text plan
+        → plan.n ≡ length (variables_of net text) }
+    ensures own { (net : Net) (i : ℕ) → IsNet net → i < net.inputs
+        → place_of (inputs_of net) (slice_index_or net.names i []) ≡ Some i }
 {}
