@@ -29,6 +29,7 @@ use Rattle.script_runner.specs.Running.{SaysFront, IsSaying, SaysOnly, HasSaid, 
 use Rattle.script_runner.specs.Entered.{EndsRun, Refused, RefusesOther, IsSpentTail, IsMoment, RunsFrom, RunsIn}
 use Rattle.script_runner.proofs.Shown.{says_no_shape}
 use Rattle.script_runner.proofs.Saying.{says_nothing}
+use Rattle.script_runner.proofs.SweepDamage.{met_since, met_until}
 
 -- the status of a run
 abbrev pub status_for : Finish → ℕ
@@ -167,7 +168,7 @@ earlier job lines status start old mid new stay run = record {
         whole = names.whole;
         place = elim names.place [
           | inl first ↦ inl (first.0, first.1, before (OnlyOldImages start) start old mid new stay (λ image is_image. is_image) first.2)
-          | inr later ↦ inr later
+          | inr met ↦ inr (met_since job.n job.steps names.file names.at start.folder old mid new stay.later met)
         ];
       };
   spent = λ eleven.
@@ -333,13 +334,13 @@ refused_damage job lines f at status old mid new which run says whole = record {
             (sym meets.said_is ∙ (at_end old mid (IsStill (now old)) first.1).said_is ∙ sym (append-nil (said old))),
         images_said (damaged_line f at) (now old) old mid new (weakens old mid (IsStill (now old)) (OnlyOldImages (now old)) (λ m still. still.images) first.1) says,
       )
-      | inr later ↦ inr later
+      | inr met ↦ inr (met_until job.n job.steps f at (now old).folder old mid new _ says.moments met)
     ];
   };
   spent = λ eleven. absurd (elim which [ inl x ↦ omega (arith, x, eleven) | inr x ↦ omega (arith, x, eleven) ]);
 }
   where
-    meets : MeetsDamage job.steps lines f at old mid
+    meets : MeetsDamage job lines f at old mid
     meets = run.damaged f at refl
 
     not_other : ((a : ℕ) × (Damaged f at ≡ OtherJob a)) ⊎ (Damaged f at ≡ FolderFault) → ⊥

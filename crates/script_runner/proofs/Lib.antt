@@ -5,6 +5,7 @@ pub mod Saying
 pub mod SaidLaws
 pub mod Shown
 pub mod Standing
+pub mod SweepDamage
 pub mod RunSteps
 pub mod StepByStep
 pub mod SayingLines

@@ -38,6 +38,7 @@ use Rattle.script_runner.specs.Said.{whole_lines, acknowledged, said_count, no_l
 use Rattle.script_runner.specs.Running.{ReachesCount, IsSafe, Begins, AllBegin, WaitsNot, OthersAre, IsRunning, HasSaid, StaysThere, AreEmptied, IsEntryDamage, IsMetDamage}
 use Rattle.script_runner.specs.StepRuns.{CountsAbout, IsTaking, HasEntry, HasSteps, HoldsStep, TakesStep}
 use Rattle.script_runner.proofs.LineOrder.{none_before, ended_rises}
+use Rattle.script_runner.proofs.SweepDamage.{met_since}
 use Rattle.script_runner.proofs.SaidLaws.{whole_lines-append, start_line_is_one, resume_line_is_one, said_below, acknowledged_least}
 use Rattle.script_runner.proofs.Shown.{same_entries, still_shown, shown_lines, below_later, says_no_shape}
 
@@ -368,10 +369,12 @@ module _ (job : Job) (lines : List LineEnd) (plan : IsPlan job lines) (old : Wor
     ]
 
     -- so was a place that a step met
-    pub met_at_first : (f : FileNo) (place : ℕ) → count_in (present (now mid).folder) ≡ step
-        → IsMetDamage job.steps f place (present (now mid).folder) → IsMetDamage job.steps f place (present (now old).folder)
-    met_at_first f place count (inl damage) = inl (damaged_at_first f place count damage)
-    met_at_first f place count (inr swept) = inr swept
+    pub met_at_first : (f : FileNo) (place : ℕ) (new : World) → count_in (present (now mid).folder) ≡ step
+        → IsMetDamage job.n job.steps f place (now mid).folder mid new
+        → IsMetDamage job.n job.steps f place (now old).folder old new
+    met_at_first f place new count (inl damage) = inl (damaged_at_first f place count damage)
+    met_at_first f place new count (inr swept) =
+        met_since job.n job.steps f place (now old).folder old mid new at.run.moments.later (inr swept)
 
     -- a step is taken
     module _ (new : World) (result : Result Entry Finish) (all_said : ended_before step lines ≤ at.place) (takes : TakesStep job.n job.text job.steps step result mid new) where

@@ -37,14 +37,15 @@ use Rattle.sound_image.proofs.StepLaws.{AreFew, holds_while_made, holds_while_ti
 use Rattle.step_engine.specs.Simple.{IsStepOf}
 use Rattle.step_engine.specs.OneFile.{ChangesFile, OnlyMade, OnlyTidied}
 use Rattle.step_engine.specs.StepEntries.{IsEntryFor}
-use Rattle.step_engine.specs.StepFaults.{IsKindFault, IsDamagedAmong, IsSweepFault, IsStepFault, IsSoundFault, IsOfKind}
+use Rattle.step_engine.specs.StepFaults.{IsKindFault, IsStepFault, IsSoundFault, IsOfKind}
 use Rattle.step_engine.specs.Running.{RunsStep, IsReadyFor}
 use Rattle.step_engine.proofs.EntryLaws.{operand_kind}
 use Rattle.script_runner.specs.declared.finish.Finish.{Finish}
 use Rattle.script_runner.specs.declared.finish.Finish.TheVariants.{FolderFault, RunsSpent}
-use Rattle.script_runner.specs.Running.{OthersAre, AreEmptied, IsMetDamage, IsNodeFileAmong, RefusesFolder, IsStop}
+use Rattle.script_runner.specs.Running.{OthersAre, AreEmptied, IsMetDamage, RefusesFolder, IsStop}
 use Rattle.script_runner.specs.StepRuns.{IsJobOf, CountsAbout, IsTaking, HasEntry, HasSteps, HoldsStep, NamesMet, NamesSpent, StaysEmpty, TakesStep, stopped_by}
 use Rattle.script_runner.proofs.RunSteps.{held_steps, present_count}
+use Rattle.script_runner.proofs.SweepDamage.{fault_there}
 
 -- each image has so many steps
 abbrev AllHave : Job → ℕ → Moment → Type 0
@@ -102,11 +103,6 @@ cut_file s k f earlier (inl (gone, dropped, is)) =
     let steps : f.step ≡ gone = ap (λ (q : FileNo). q.step) is in
     omega (arith, below, steps)
 cut_file s k f earlier (inr (swept, own)) = let steps : f.step ≡ k = own.step_is in omega (arith, steps)
-
--- the file of one of these operands
-among_files : (n : ℕ) (xs : List ℕ) (world : World) (f : FileNo) (at : ℕ) → IsDamagedAmong n xs world f at → IsNodeFileAmong xs f
-among_files n [] world f at fault = fault
-among_files n (x ∷ xs) world f at fault = elim fault [ inl one ↦ inl one.0 | inr rest ↦ inr (among_files n xs world f at rest) ]
 
 -- each image of a folder that is ready has its count
 counts_about : (step count : ℕ) (folder : Folder) → step ≤ count → count ≤ step + 1 → IsReady count folder → (image : Image) → IsImage folder image
@@ -234,38 +230,54 @@ module _ (n : ℕ) (text : List ℕ) (steps : List Planned) (k : ℕ) (few : len
       (ran_end mid last (DuringCommit e (now mid)) commits).others (node_file j) (not_catalogue (node_file j) of_step) (not_step_gate (node_file j) of_step)
       ∙ ran_end old mid (OnlyItsFiles k (now old)) made (node_file j) (λ own. let same : j ≡ k = own.step_is in omega (arith, same, below))) ∙ before)
 
-  -- a file that a step that sweeps can't go on with
-  swept_damage : (s : Step) (f : FileNo) (at : ℕ) (old : World) → (get_or steps k no_step).step ≡ s → IsTrue (sweeps s)
-      → IsSweepFault n (operands s) k old (sort.Damaged f at) → IsMetDamage steps f at (present (now old).folder)
-  swept_damage s f at old step swept fault = inr (record {
-    step = k;
-    within = within;
-    swept = subst (λ x. IsTrue (sweeps x)) (sym step) swept;
-    file_is = subst (λ x. IsNodeFileAmong (operands x) f ⊎ ((f.step ≡ k) × (3 ≤ f.part))) (sym step) (elim fault [
-      | inl among ↦ inl (among_files n (operands s) old f at among)
-      | inr taken ↦ inr (taken.step_is, taken.from)
-    ]);
-  })
+  -- a place that a step that sweeps found damaged
+  swept_damage : (s : Step) (f : FileNo) (at : ℕ) (P : Moment → Type 0) (old new : World) → (get_or steps k no_step).step ≡ s
+      → IsTrue (sweeps s) → count_in (present (now old).folder) ≡ k → Throughout old new P
+      → IsStepFault n s k old (sort.Damaged f at) → IsMetDamage n steps f at (now old).folder old new
+  swept_damage s f at P old new step swept count run fault =
+      let same : (new.moment old.clock).folder ≡ (now old).folder =
+      ap (λ (m : Moment). m.folder) (run.past old.clock (omega arith)) in
+      inr (record {
+        step = k;
+        within = within;
+        swept = subst (λ x. IsTrue (sweeps x)) (sym step) swept;
+        began = old.clock;
+        since = omega arith;
+        until = run.later;
+        committed = ap (λ (folder : Folder). count_in (present folder)) same ∙ count;
+        fault = fault_there n _ k old _ (sort.Damaged f at) same
+            (subst (λ x. IsStepFault n x k old (sort.Damaged f at)) (sym step) fault);
+      })
 
   -- the entry that a size couldn't use, or the file that a step that sweeps couldn't
-  pub step_damage : (plan : IsWellFormed n text steps) (s : Step) (f : FileNo) (at : ℕ) (old : World) → (get_or steps k no_step).step ≡ s → IsTrue (list_all (λ j. nat_lt j k) (operands s))
-      → count_in (present (now old).folder) ≡ k → IsStepFault n s k old (sort.Damaged f at) → IsMetDamage steps f at (present (now old).folder)
-  step_damage plan (Const value) f at old step earlier count fault = absurd cc
-  step_damage plan (Var level) f at old step earlier count fault = absurd cc
-  step_damage plan (Pair op left right) f at old step earlier count fault = swept_damage (Pair op left right) f at old step refl fault
-  step_damage plan (Ite test if_one if_zero) f at old step earlier count fault = swept_damage (Ite test if_one if_zero) f at old step refl fault
-  step_damage plan (Quantify kind operand level) f at old step earlier count fault = swept_damage (Quantify kind operand level) f at old step refl fault
-  step_damage plan (Restrict operand level value) f at old step earlier count fault = swept_damage (Restrict operand level value) f at old step refl fault
-  step_damage plan (Drop gone) f at old step earlier count fault = absurd cc
-  step_damage plan (Same left right) f at old step earlier count fault = swept_damage (Same left right) f at old step refl fault
-  step_damage plan (Leq left right) f at old step earlier count fault = swept_damage (Leq left right) f at old step refl fault
-  step_damage plan (Eval operand bits) f at old step earlier count fault = swept_damage (Eval operand bits) f at old step refl fault
-  step_damage plan (Size operand) f at old step earlier count fault = by_fault fault.0 fault.1 fault.2
+  pub step_damage : (plan : IsWellFormed n text steps) (s : Step) (f : FileNo) (at : ℕ) (P : Moment → Type 0) (old new : World)
+      → (get_or steps k no_step).step ≡ s → IsTrue (list_all (λ j. nat_lt j k) (operands s))
+      → count_in (present (now old).folder) ≡ k → Throughout old new P → IsStepFault n s k old (sort.Damaged f at)
+      → IsMetDamage n steps f at (now old).folder old new
+  step_damage plan (Const value) f at P old new step earlier count run fault = absurd cc
+  step_damage plan (Var level) f at P old new step earlier count run fault = absurd cc
+  step_damage plan (Pair op left right) f at P old new step earlier count run fault =
+      swept_damage (Pair op left right) f at P old new step refl count run fault
+  step_damage plan (Ite test if_one if_zero) f at P old new step earlier count run fault =
+      swept_damage (Ite test if_one if_zero) f at P old new step refl count run fault
+  step_damage plan (Quantify kind operand level) f at P old new step earlier count run fault =
+      swept_damage (Quantify kind operand level) f at P old new step refl count run fault
+  step_damage plan (Restrict operand level value) f at P old new step earlier count run fault =
+      swept_damage (Restrict operand level value) f at P old new step refl count run fault
+  step_damage plan (Drop gone) f at P old new step earlier count run fault = absurd cc
+  step_damage plan (Same left right) f at P old new step earlier count run fault =
+      swept_damage (Same left right) f at P old new step refl count run fault
+  step_damage plan (Leq left right) f at P old new step earlier count run fault =
+      swept_damage (Leq left right) f at P old new step refl count run fault
+  step_damage plan (Eval operand bits) f at P old new step earlier count run fault =
+      swept_damage (Eval operand bits) f at P old new step refl count run fault
+  step_damage plan (Size operand) f at P old new step earlier count run fault = by_fault fault.0 fault.1 fault.2
     where
       below : operand < k
       below = only_below k operand earlier
 
-      by_fault : (found : StreamFault) → sort.Damaged f at ≡ handed_on found → IsKindFault operand 1 (present (now old).folder) found → IsMetDamage steps f at (present (now old).folder)
+      by_fault : (found : StreamFault) → sort.Damaged f at ≡ handed_on found → IsKindFault operand 1 (present (now old).folder) found
+          → IsMetDamage n steps f at (now old).folder old new
       by_fault stream.Shelf same kind = absurd cc
       by_fault (stream.Damaged g b) same kind =
           let files_are : f ≡ g = cc in
@@ -279,15 +291,17 @@ module _ (n : ℕ) (text : List ℕ) (steps : List Planned) (k : ℕ) (few : len
           })
 
   -- what the run says of a fault of the step
-  pub names_met : (plan : IsWellFormed n text steps) (s : Step) (fault : SortFault) (old : World) → (get_or steps k no_step).step ≡ s → IsTrue (list_all (λ j. nat_lt j k) (operands s))
-      → count_in (present (now old).folder) ≡ k → IsStepFault n s k old fault → NamesMet steps old (stopped_by k fault)
-  names_met plan s sort.Shelf old step earlier count fault = λ f at e. absurd cc
-  names_met plan s (sort.Damaged g b) old step earlier count fault = λ f at e.
+  pub names_met : (plan : IsWellFormed n text steps) (s : Step) (fault : SortFault) (P : Moment → Type 0) (old new : World)
+      → (get_or steps k no_step).step ≡ s → IsTrue (list_all (λ j. nat_lt j k) (operands s))
+      → count_in (present (now old).folder) ≡ k → Throughout old new P → IsStepFault n s k old fault
+      → NamesMet n steps old new (stopped_by k fault)
+  names_met plan s sort.Shelf P old new step earlier count run fault = λ f at e. absurd cc
+  names_met plan s (sort.Damaged g b) P old new step earlier count run fault = λ f at e.
       let files_are : g ≡ f = cc in
       let places : b ≡ at = cc in
-      subst (λ h. IsMetDamage steps h at (present (now old).folder)) files_are
-      (subst (λ c. IsMetDamage steps g c (present (now old).folder)) places (step_damage plan s g b old step earlier count fault))
-  names_met plan s sort.RunsSpent old step earlier count fault = λ f at e. absurd cc
+      subst (λ h. IsMetDamage n steps h at (now old).folder old new) files_are
+      (subst (λ c. IsMetDamage n steps g c (now old).folder old new) places (step_damage plan s g b P old new step earlier count run fault))
+  names_met plan s sort.RunsSpent P old new step earlier count run fault = λ f at e. absurd cc
 
   pub names_spent : (s : Step) (fault : SortFault) → (get_or steps k no_step).step ≡ s → IsOfKind s fault → NamesSpent steps k (stopped_by k fault)
   names_spent s sort.Shelf step kind = λ j e. absurd cc
@@ -434,8 +448,8 @@ module _ {S : Type 0} (tells : S → Bool) (world : S → World) (counts : S →
             emptied = tt;
             still_empty = tt;
             stops = is_stop k fault;
-            damaged = names_met n text steps k plan.few_steps within plan p.step fault (world old) place_is earlier
-                (present_count (now (world old)).folder k (law old tells_old) (ready tells_old)) (runs.damaged tells_s);
+            damaged = names_met n text steps k plan.few_steps within plan p.step fault _ (world old) (world s) place_is earlier
+                (present_count (now (world old)).folder k (law old tells_old) (ready tells_old)) ran.moments (runs.damaged tells_s);
             spent = names_spent n text steps k plan.few_steps within p.step fault place_is runs.kind;
             holds = λ job is holds. stopped_making job k (job_few job n text steps is plan) (the_step job is).within fault (world old) (world s) holds ran
                 (subst (λ x. IsSoundFault x (work_of job x) fault) (sym (the_place job is)) (runs.sound tells_s job (the_step job is) holds));

@@ -76,7 +76,7 @@ not_other job old same other = other.other (same other.stored)
 
 -- a run that was stopped by one of its parts
 by_stop : (job : Job) (lines : List LineEnd) (finish : Finish) (old new : World) → Ongoing job lines old new → IsThisJob job old → IsStop finish
-    → (AreSound job (now old).folder → ¬ (RefusesFolder finish)) → ((f : FileNo) (at : ℕ) → finish ≡ Damaged f at → MeetsDamage job.steps lines f at old new)
+    → (AreSound job (now old).folder → ¬ (RefusesFolder finish)) → ((f : FileNo) (at : ℕ) → finish ≡ Damaged f at → MeetsDamage job lines f at old new)
     → ((k : ℕ) → finish ≡ RunsSpent k → MeetsSpent job lines k old new) → RunsSteps job lines finish old new
 by_stop job lines finish old new run same stop goes_on names spends = record {
   moments = run.moments;
@@ -343,7 +343,7 @@ module _ {S : Type 0} (tells : S → Bool) (world : S → World) (law : (s : S) 
           front = since job lines plan (world old) (law old tells_old) step rest (world s) turn.0;
           said_is = took.run.station.said_is ∙ turn.0.said_is;
           whole = inr shape;
-          place = inr (met_at_first job lines plan (world old) (law old tells_old) step rest (world s) turn.0 f at
+          place = inr (met_at_first job lines plan (world old) (law old tells_old) step rest (world s) turn.0 f at (world t)
               (present_count (now (world s)).folder step (law s tells_s) turn.0.ready) (took.damaged f at e));
         })
         (λ k e. record {

@@ -34,8 +34,8 @@ pub record RefusesOther (job : List ℕ) (status : ℕ) (start : Moment) (old ne
   pub status_is : (status ≡ 5) ⊎ (status ≡ 7) ⊎ (status ≡ 8)
   pub whole : status ≡ 5 → said new ≡ start.said ++ other_job_line at
 
--- a damaged place was named behind whole lines: it was met before anything was done, or where an entry was read or a
--- step swept
+-- a damaged place was named behind whole lines: it was met before anything was done, or where an entry was read, or
+-- where a step swept over a folder in which it was damaged when that step began
 pub record NamesDamage (job : Job) (lines : List LineEnd) (start : Moment) (old new : World) : Type 0 where
   pub file : FileNo
   pub at : ℕ
@@ -44,7 +44,7 @@ pub record NamesDamage (job : Job) (lines : List LineEnd) (start : Moment) (old 
   pub whole : AreWhole job.steps lines (present start.folder) (present (now new).folder) before
   pub place : (IsDamage (length job.steps) file at (present start.folder) × (before ≡ [])
       × Throughout old new (OnlyOldImages start))
-      ⊎ IsMetDamage job.steps file at (present start.folder)
+      ⊎ IsMetDamage job.n job.steps file at start.folder old new
 
 -- a step without a part number was named behind whole lines
 pub record NamesSpentStep (job : Job) (lines : List LineEnd) (start : Moment) (old new : World) : Type 0 where

@@ -7,12 +7,13 @@ use Rattle.shelf_model.specs.World.{Moment, World, now, said}
 use Rattle.shelf_model.specs.Moments.{Throughout, OnlyOldImages}
 use Rattle.bool_tables.specs.declared.steps.Step.TheVariants as step
 use Rattle.bool_tables.specs.declared.steps.Planned.{Planned}
-use Rattle.bool_tables.specs.Plans.{operands}
 use Rattle.catalogue.specs.declared.layout.Entry.{Entry}
 use Rattle.catalogue.specs.Entries.{IsEntryOf}
 use Rattle.catalogue.specs.Files.{job_file, catalogue, step_gate}
 use Rattle.catalogue.specs.Counts.{present, is_stored, count_in}
 use Rattle.sound_image.specs.Files.{node_file}
+use Rattle.shelf_model.specs.declared.sort_fault.SortFault.TheVariants as sort
+use Rattle.step_engine.specs.StepFaults.{IsStepFault}
 use Rattle.step_work.specs.Tuples.{joins, sweeps}
 use Rattle.sound_image.specs.Jobs.{Job, no_step, step_at}
 use Rattle.sound_image.specs.Entries.{kind_of, work_of}
@@ -149,22 +150,25 @@ pub record IsEntryDamage (steps : List Planned) (f : FileNo) (at : ℕ) (r : Fil
   pub none_there : (e : Entry) → IsEntryOf step r e
       → e.kind ≢ kind_of (get_or steps step no_step).step
 
--- the node file of one of these steps
-abbrev pub IsNodeFileAmong : List ℕ → FileNo → Type 0
-IsNodeFileAmong [] f = ⊥
-IsNodeFileAmong (k ∷ ks) f = (f ≡ node_file k) ⊎ IsNodeFileAmong ks f
+-- the station as it stood after so many of its calls
+abbrev pub stood_after : ℕ → World → World
+stood_after calls world = record world { clock = calls }
 
--- a step that sweeps met a file that it can't go on with: that of one of its operands, or one of its own, from part 3
--- on
-pub record IsSweepDamage (steps : List Planned) (f : FileNo) : Type 0 where
+-- a step that sweeps found that place damaged: at a moment of the run at which the steps before it were committed it
+-- began, and it is damaged as the step's fault says of the files as they were then
+pub record IsSweepDamage (n : ℕ) (steps : List Planned) (f : FileNo) (at : ℕ) (old new : World) : Type 0 where
   pub step : ℕ
   pub within : step < length steps
   pub swept : IsTrue (sweeps (get_or steps step no_step).step)
-  pub file_is : IsNodeFileAmong (operands (get_or steps step no_step).step) f ⊎ ((f.step ≡ step) × (3 ≤ f.part))
+  pub began : ℕ
+  pub since : old.clock ≤ began
+  pub until : began ≤ new.clock
+  pub committed : count_in (present (new.moment began).folder) ≡ step
+  pub fault : IsStepFault n (get_or steps step no_step).step step (stood_after began new) (sort.Damaged f at)
 
--- the place was damaged at first, an entry or a file that a step met
-abbrev pub IsMetDamage : List Planned → FileNo → ℕ → (FileNo → List ℕ) → Type 0
-IsMetDamage steps f at r = IsEntryDamage steps f at r ⊎ IsSweepDamage steps f
+-- the place was damaged: in the first folder, an entry, or where a step that sweeps began, a file that it met
+abbrev pub IsMetDamage : ℕ → List Planned → FileNo → ℕ → Folder → World → World → Type 0
+IsMetDamage n steps f at first old new = IsEntryDamage steps f at (present first) ⊎ IsSweepDamage n steps f at old new
 
 -- a step that joins pieces has no part number left, and its work is great where each image was sound at first
 pub record IsSpentStep (job : Job) (first : Folder) (step : ℕ) : Type 0 where
@@ -200,13 +204,12 @@ abbrev pub StoodStill : World → World → Type 0
 StoodStill old new = Throughout old new (IsStill (now old))
 
 -- a damaged place was met: before anything was done, or where an entry was read or a step swept, behind whole lines
-pub record MeetsDamage (steps : List Planned) (lines : List LineEnd) (f : FileNo) (at : ℕ)
-    (old new : World) : Type 0 where
+pub record MeetsDamage (job : Job) (lines : List LineEnd) (f : FileNo) (at : ℕ) (old new : World) : Type 0 where
   pub front : List ℕ
   pub said_is : said new ≡ said old ++ front
-  pub whole : AreWhole steps lines (present (now old).folder) (present (now new).folder) front
-  pub place : (IsDamage (length steps) f at (present (now old).folder) × StoodStill old new)
-      ⊎ IsMetDamage steps f at (present (now old).folder)
+  pub whole : AreWhole job.steps lines (present (now old).folder) (present (now new).folder) front
+  pub place : (IsDamage (length job.steps) f at (present (now old).folder) × StoodStill old new)
+      ⊎ IsMetDamage job.n job.steps f at (now old).folder old new
 
 -- a step had no part number left, behind whole lines
 pub record MeetsSpent (job : Job) (lines : List LineEnd) (step : ℕ) (old new : World) : Type 0 where
@@ -244,8 +247,8 @@ pub record RunsSteps (job : Job) (lines : List LineEnd) (finish : Finish) (old n
       → HasOtherJob job.bytes at (present (now old).folder)
   pub refuses_other : IsOther job.bytes (present (now old).folder) → StoodStill old new
       × (((at : ℕ) × (finish ≡ OtherJob at)) ⊎ (finish ≡ FolderFault))
-  -- damage is named where the old folder has it
+  -- damage is named where the old folder has it, or the folder as it stood when a step began
   pub damaged : (f : FileNo) (at : ℕ) → finish ≡ Damaged f at
-      → MeetsDamage job.steps lines f at old new
+      → MeetsDamage job lines f at old new
   -- and the step that has no part number left
   pub spent : (step : ℕ) → finish ≡ RunsSpent step → MeetsSpent job lines step old new

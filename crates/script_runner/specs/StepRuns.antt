@@ -58,9 +58,9 @@ pub record HoldsStep (job : Job) (step : ℕ) (result : Result Entry Finish) (ol
   pub spent : IfErr result (λ finish. (k : ℕ) → finish ≡ RunsSpent k → 2 ^ 35 ≤ work_of job (step_at job step).step)
 
 -- an entry that was met is damaged, as it stood before, or a file that the step met
-abbrev pub NamesMet : List Planned → World → Finish → Type 0
-NamesMet steps old finish = (f : FileNo) (at : ℕ) → finish ≡ Damaged f at
-    → IsMetDamage steps f at (present (now old).folder)
+abbrev pub NamesMet : ℕ → List Planned → World → World → Finish → Type 0
+NamesMet n steps old new finish = (f : FileNo) (at : ℕ) → finish ≡ Damaged f at
+    → IsMetDamage n steps f at (now old).folder old new
 
 -- that step joins pieces and has no part number left
 abbrev pub NamesSpent : List Planned → ℕ → Finish → Type 0
@@ -98,7 +98,7 @@ pub record TakesStep (n : ℕ) (text : List ℕ) (steps : List Planned) (step : 
   pub still_empty : OnOk result ((k : ℕ) → k < step
       → StaysEmpty (node_file k) (now old).folder (now new).folder)
   pub stops : IfErr result IsStop
-  pub damaged : IfErr result (NamesMet steps old)
+  pub damaged : IfErr result (NamesMet n steps old new)
   pub spent : IfErr result (NamesSpent steps step)
   pub holds : (job : Job) → IsJobOf job n text steps → Holds job step (now old).folder
       → HoldsStep job step result old new

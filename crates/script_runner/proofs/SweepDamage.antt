@@ -1,0 +1,91 @@
+-- Where a step that sweeps found damage, in longer runs.
+use Rattle.std.proofs.Common.{◌≡◌, ◌⊎◌, ◌∙◌, ℕ, ◌≤◌, List, [], ◌∷◌, refl, sym, ap, subst, inl, inr, arith}
+use Rattle.bool_tables.specs.declared.steps.Step.{Step}
+use Rattle.bool_tables.specs.declared.steps.Step.TheVariants.{Const, Var, Pair, Ite, Quantify, Restrict, Drop, Same, Leq, Eval, Size}
+use Rattle.bool_tables.specs.declared.steps.Planned.{Planned}
+use Rattle.shelf_model.specs.declared.file_no.FileNo.{FileNo}
+use Rattle.shelf_model.specs.declared.sort_fault.SortFault.{SortFault}
+use Rattle.shelf_model.specs.declared.sort_fault.SortFault.TheVariants as sort
+use Rattle.shelf_model.specs.Folder.{Folder}
+use Rattle.shelf_model.specs.World.{Moment, World, now}
+use Rattle.shelf_model.specs.Moments.{Throughout}
+use Rattle.catalogue.specs.Counts.{present, count_in}
+use Rattle.step_engine.specs.StepFaults.{IsKindFault, IsDamagedAmong, IsSweepFault, IsStepFault}
+use Rattle.script_runner.specs.Running.{IsSweepDamage, IsMetDamage}
+
+-- a station with that folder
+abbrev with_folder : Folder → World → World
+with_folder folder w = record w { clock = 0; moment = λ _. record { folder = folder; said = [] } }
+
+-- damage is judged by the folder alone
+among_there : (n : ℕ) (xs : List ℕ) (a b : World) (f : FileNo) (at : ℕ) → (now b).folder ≡ (now a).folder
+    → IsDamagedAmong n xs a f at → IsDamagedAmong n xs b f at
+among_there n [] a b f at same fault = fault
+among_there n (x ∷ xs) a b f at same fault = elim fault [
+  | inl one ↦
+      let here : IsDamagedAmong n (x ∷ []) b f at =
+      subst (λ (folder : Folder). IsDamagedAmong n (x ∷ []) (with_folder folder a) f at) (sym same) (inl one) in
+      elim here [ inl first ↦ inl first | inr none ↦ absurd none ]
+  | inr rest ↦ inr (among_there n xs a b f at same rest)
+]
+
+sweep_there : (n : ℕ) (xs : List ℕ) (number : ℕ) (a b : World) (fault : SortFault) → (now b).folder ≡ (now a).folder
+    → IsSweepFault n xs number a fault → IsSweepFault n xs number b fault
+sweep_there n xs number a b sort.Shelf same is = tt
+sweep_there n xs number a b (sort.Damaged f at) same is = elim is [
+  | inl among ↦ inl (among_there n xs a b f at same among)
+  | inr own ↦ inr own
+]
+sweep_there n xs number a b sort.RunsSpent same is = tt
+
+pub fault_there : (n : ℕ) (s : Step) (number : ℕ) (a b : World) (fault : SortFault) → (now b).folder ≡ (now a).folder
+    → IsStepFault n s number a fault → IsStepFault n s number b fault
+fault_there n (Const value) number a b fault same is = is
+fault_there n (Var level) number a b fault same is = is
+fault_there n (Pair op left right) number a b fault same is = sweep_there n (left ∷ right ∷ []) number a b fault same is
+fault_there n (Ite test if_one if_zero) number a b fault same is =
+    sweep_there n (test ∷ if_one ∷ if_zero ∷ []) number a b fault same is
+fault_there n (Quantify kind operand level) number a b fault same is = sweep_there n (operand ∷ []) number a b fault same is
+fault_there n (Restrict operand level value) number a b fault same is = sweep_there n (operand ∷ []) number a b fault same is
+fault_there n (Drop gone) number a b fault same is = is
+fault_there n (Same left right) number a b fault same is = sweep_there n (left ∷ right ∷ []) number a b fault same is
+fault_there n (Leq left right) number a b fault same is = sweep_there n (left ∷ right ∷ []) number a b fault same is
+fault_there n (Eval operand at) number a b fault same is = sweep_there n (operand ∷ []) number a b fault same is
+fault_there n (Size operand) number a b fault same is = (
+  is.0,
+  is.1,
+  subst (λ (folder : Folder). IsKindFault operand 1 (present folder) is.0) (sym same) is.2,
+)
+
+-- what a step of a part of a run met is met in the run
+pub met_since : (n : ℕ) (steps : List Planned) (f : FileNo) (at : ℕ) (first : Folder) (old mid new : World)
+    → old.clock ≤ mid.clock → IsMetDamage n steps f at first mid new → IsMetDamage n steps f at first old new
+met_since n steps f at first old mid new later (inl entry) = inl entry
+met_since n steps f at first old mid new later (inr swept) = inr (record {
+  step = swept.step;
+  within = swept.within;
+  swept = swept.swept;
+  began = swept.began;
+  since = let since = swept.since in omega (arith, later, since);
+  until = swept.until;
+  committed = swept.committed;
+  fault = swept.fault;
+})
+
+pub met_until : (n : ℕ) (steps : List Planned) (f : FileNo) (at : ℕ) (first : Folder) (old mid new : World)
+    (P : Moment → Type 0) → Throughout mid new P → IsMetDamage n steps f at first old mid
+    → IsMetDamage n steps f at first old new
+met_until n steps f at first old mid new P run (inl entry) = inl entry
+met_until n steps f at first old mid new P run (inr swept) =
+    let same : (new.moment swept.began).folder ≡ (mid.moment swept.began).folder =
+    ap (λ (m : Moment). m.folder) (run.past swept.began swept.until) in
+    inr (record {
+      step = swept.step;
+      within = swept.within;
+      swept = swept.swept;
+      began = swept.began;
+      since = swept.since;
+      until = let until = swept.until in let later = run.later in omega (arith, until, later);
+      committed = ap (λ (folder : Folder). count_in (present folder)) same ∙ swept.committed;
+      fault = fault_there n _ swept.step _ _ (sort.Damaged f at) same swept.fault;
+    })
