@@ -1,6 +1,6 @@
 -- The endings of a call of the program.
-use Rattle.std.proofs.Common.{◌≡◌, ◌∙◌, ◌⊎◌, ℕ, ◌+◌, ◌<◌, ◌≤◌, min, Bool, true, List, ◌++◌, length, take, refl, sym, ap, subst, inl, inr, arith}
-use Rattle.std.specs.Prelude.{◌≢◌, IsTrue, Option, Some, None, Ok, Err, nat_lt}
+use Rattle.std.proofs.Common.{◌≡◌, ◌∙◌, ◌⊎◌, ℕ, ◌+◌, ◌<◌, ◌≤◌, min, true, List, ◌++◌, length, take, refl, sym, ap, subst, inl, inr, arith}
+use Rattle.std.specs.Prelude.{◌≢◌, Option, Some, Ok, Err, nat_lt}
 use Rattle.std.proofs.lemmas.Bool.{cases_lt, lt-ltb}
 use Rattle.std.proofs.lemmas.List.{take_all, length-take}
 use Rattle.shelf_model.specs.World.{Moment, World, now, said}
@@ -12,7 +12,6 @@ use Rattle.blif_reader.specs.declared.fault.BlifFault.{BlifFault}
 use Rattle.command_words.specs.Readings.{Reading}
 use Rattle.sound_image.specs.Jobs.{Job}
 use Rattle.script_reader.specs.declared.plan.LineEnd.{LineEnd}
-use Rattle.script_reader.specs.declared.plan.Plan.{Plan}
 use Rattle.script_reader.specs.Reads.{Refuses}
 use Rattle.script_reader.specs.declared.fault.ScriptFault.{ScriptFault}
 use Rattle.script_reader.specs.declared.fault.ScriptKind.TheVariants as kind
@@ -21,9 +20,9 @@ use Rattle.script_runner.specs.Running.{IsSaying, SaysOnly}
 use Rattle.script_runner.specs.Fetching.{OnlyFetched}
 use Rattle.script_runner.specs.JobOf.{source_of, job_of}
 use Rattle.script_runner.specs.Entered.{RunsFrom, RunsIn}
-use Rattle.script_runner.specs.Calls.{most_calls, AreCounted}
-use Rattle.script_runner.specs.Source.{Source, IsSource, folder_of, Plans}
-use Rattle.script_runner.specs.Outcome.{Asks, SaysLine, RefusesScript, RunsSource, EndsSource, Ends, RunsInCalls}
+use Rattle.script_runner.specs.Calls.{AreCounted}
+use Rattle.script_runner.specs.Source.{Source, IsSource, folder_of}
+use Rattle.script_runner.specs.Outcome.{SaysLine, EndsSource, Ends, RunsInCalls}
 use Rattle.script_runner.proofs.Saying.{says_nothing}
 use Rattle.script_runner.proofs.EnteredRuns.{earlier}
 

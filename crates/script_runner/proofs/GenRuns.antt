@@ -1,12 +1,11 @@
 -- The run of the script of a size.
-use Rattle.std.proofs.Common.{◌≡◌, ℕ, ◌+◌, ◌≤◌, Bool, List, length, refl, ap, subst, inl, inr, arith}
-use Rattle.std.specs.Prelude.{IsTrue, Some, None}
-use Rattle.command_words.specs.Readings.{Reading, gen}
+use Rattle.std.proofs.Common.{◌≡◌, ℕ, Bool, List, refl, subst, inl, inr, arith}
+use Rattle.std.specs.Prelude.{Some, None}
+use Rattle.command_words.specs.Readings.{gen}
 use Rattle.example_script.specs.Script.{script_of}
 use Rattle.shelf_model.specs.Calls.{Told}
-use Rattle.shelf_model.specs.World.{World, now}
-use Rattle.script_runner.specs.Calls.{most_calls, AreCounted}
-use Rattle.script_runner.specs.JobOf.{source_of, job_of}
+use Rattle.shelf_model.specs.World.{World}
+use Rattle.script_runner.specs.JobOf.{source_of}
 use Rattle.script_runner.specs.Outcome.{EndsSource, Ends, RunsInCalls, MakesFewCalls, texts_calls}
 use Rattle.script_runner.specs.Source.{Source}
 use Rattle.script_runner.proofs.Endings.{ends_asked}

@@ -1,16 +1,14 @@
 -- The run of a source, from its texts on.
 use Rattle.std.proofs.Common.{◌≡◌, ◌∙◌, ◌⊎◌, ℕ, ◌+◌, ◌≤◌, Bool, List, ◌++◌, length, refl, sym, ap, subst, inl, inr, arith}
-use Rattle.std.specs.Prelude.{IsTrue, Option, Some, None, Ok}
-use Rattle.bool_tables.specs.declared.steps.Planned.{Planned}
+use Rattle.std.specs.Prelude.{IsTrue, Option, Some, None}
 use Rattle.blif_reader.specs.Answers.{net_of}
 use Rattle.blif_reader.specs.Netlist.{Net}
 use Rattle.blif_reader.specs.declared.fault.BlifFault.{BlifFault}
-use Rattle.command_words.specs.Readings.{Reading, run, list, gen}
+use Rattle.command_words.specs.Readings.{Reading, run, gen}
 use Rattle.shelf_model.specs.Calls.{Told}
 use Rattle.shelf_model.specs.Faults.{Faults, Rose}
 use Rattle.shelf_model.specs.Folder.{Folder}
-use Rattle.shelf_model.specs.World.{World, now, said}
-use Rattle.shelf_model.proofs.Runs.{told_then}
+use Rattle.shelf_model.specs.World.{World, said}
 use Rattle.sound_image.specs.Jobs.{Job}
 use Rattle.script_reader.specs.declared.fault.ScriptFault.{ScriptFault}
 use Rattle.script_reader.specs.declared.plan.Plan.{Plan}
@@ -24,12 +22,12 @@ use Rattle.script_runner.specs.Entered.{RunsIn, EndingHasCause}
 use Rattle.script_runner.specs.Fetching.{OnlyFetched, OnlyTexts, IsText}
 use Rattle.script_runner.specs.JobOf.{source_of, job_bytes, job_of, IsShort}
 use Rattle.script_runner.specs.Netlists.{netlist_in, netlist_text, IsSpelled}
-use Rattle.script_runner.specs.Outcome.{Asks, SaysLine, EndsSource, Ends, ByWords, IsStatus, IsRunStatus, StatusHasCause, RunsInCalls, MakesFewCalls, texts_calls}
+use Rattle.script_runner.specs.Outcome.{SaysLine, EndsSource, Ends, ByWords, IsStatus, StatusHasCause, RunsInCalls, MakesFewCalls, texts_calls}
 use Rattle.script_runner.specs.Running.{SaysOnly}
-use Rattle.script_runner.specs.Source.{Source, IsNamed, IsSource, NamesText, folder_of, Spells, Plans, IsFaulty, HasFaultyText}
+use Rattle.script_runner.specs.Source.{Source, IsNamed, IsSource, Spells, Plans, IsFaulty, HasFaultyText}
 use Rattle.script_runner.specs.Status.{status_of}
 use Rattle.script_runner.specs.Text.{refused_line, netlist_line}
-use Rattle.script_runner.proofs.Endings.{still_there, fetched_then, fetched_line, fetched_source, ends_whole, calls_whole, fetched_calls, ends_asked, accepted_is_short}
+use Rattle.script_runner.proofs.Endings.{fetched_then, fetched_line, fetched_source, ends_whole, calls_whole, fetched_calls, ends_asked, accepted_is_short}
 
 -- a netlist that was read is spelled by its text, which is short
 spelled_there : (netlist : Option ReadNetlist) → IsSpelled netlist → Spells (netlist_text netlist) (netlist_in netlist)

@@ -1,17 +1,16 @@
 -- One reading has one source, a source one plan, and a job one script and one netlist.
-use Rattle.std.proofs.Common.{◌≡◌, ◌∙◌, ◌⊎◌, ℕ, ◌+◌, ◌^◌, ◌<◌, ◌≤◌, List, [], ◌++◌, length, take, drop, replicate, refl, sym, ap, ap₂, subst, inl, inr, arith, append_assoc}
+use Rattle.std.proofs.Common.{◌≡◌, ◌∙◌, ℕ, ◌+◌, ◌^◌, ◌<◌, ◌≤◌, List, [], ◌++◌, length, take, drop, replicate, refl, sym, ap, ap₂, subst, arith, append_assoc}
 use Rattle.std.specs.Prelude.{Option, Some, None, Result, Ok, Err, codes}
 use Rattle.std.proofs.lemmas.List.{take_at, drop_at, length-append}
 use Rattle.byteorder.specs.Endian.{big_bytes, big_number}
 use Rattle.byteorder.specs.Numbers.{length-bytes_high_first, big_number-reads_back}
 use Rattle.shelf_model.specs.World.{World}
-use Rattle.blif_reader.specs.Netlist.{Net, IsReading, Settles, reading}
+use Rattle.blif_reader.specs.Netlist.{Net, Settles, reading}
 use Rattle.blif_reader.specs.declared.fault.BlifFault.{BlifFault}
 use Rattle.command_words.specs.Readings.{Reading, run, list, gen}
-use Rattle.sound_image.specs.Jobs.{Job}
 use Rattle.script_reader.specs.declared.fault.ScriptFault.{ScriptFault}
 use Rattle.script_reader.specs.declared.plan.Plan.{Plan}
-use Rattle.script_reader.specs.Reads.{Reads, Refuses}
+use Rattle.script_reader.specs.Reads.{Reads}
 use Rattle.script_reader.proofs.PlanReads.{one_plan, plan_or_refusal, text_is_short}
 use Rattle.script_runner.specs.JobOf.{netlist_size, netlist_bytes, job_bytes, job_of, IsShort}
 use Rattle.script_runner.specs.Source.{Source, IsNamed, IsSource, Spells, Plans, IsFaulty, HasFaultyNetlist}

@@ -1,5 +1,5 @@
 -- Where a step that sweeps found damage, in longer runs.
-use Rattle.std.proofs.Common.{◌≡◌, ◌⊎◌, ◌∙◌, ℕ, ◌≤◌, List, [], ◌∷◌, refl, sym, ap, subst, inl, inr, arith}
+use Rattle.std.proofs.Common.{◌≡◌, ◌∙◌, ℕ, ◌≤◌, List, [], ◌∷◌, sym, ap, subst, inl, inr, arith}
 use Rattle.bool_tables.specs.declared.steps.Step.{Step}
 use Rattle.bool_tables.specs.declared.steps.Step.TheVariants.{Const, Var, Pair, Ite, Quantify, Restrict, Drop, Same, Leq, Eval, Size}
 use Rattle.bool_tables.specs.declared.steps.Planned.{Planned}
@@ -11,7 +11,7 @@ use Rattle.shelf_model.specs.World.{Moment, World, now}
 use Rattle.shelf_model.specs.Moments.{Throughout}
 use Rattle.catalogue.specs.Counts.{present, count_in}
 use Rattle.step_engine.specs.StepFaults.{IsKindFault, IsDamagedAmong, IsSweepFault, IsStepFault}
-use Rattle.script_runner.specs.Running.{IsSweepDamage, IsMetDamage}
+use Rattle.script_runner.specs.Running.{IsMetDamage}
 
 -- a station with that folder
 abbrev with_folder : Folder → World → World
