@@ -12,3 +12,4 @@ mod Faults
 mod Reducing
 mod Making
 mod Numbers
+mod Copying

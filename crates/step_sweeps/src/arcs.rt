@@ -22,7 +22,7 @@ use top_down_sweep::{OperandFiles, TopDownSweep};
 
 /// The part number of the first file of arcs: the parts before it are a step's node file, its checkpoints and their
 /// gate.
-const FIRST_PART: u64 = 3;
+pub(crate) const FIRST_PART: u64 = 3;
 
 /// The arcs of a diagram that isn't reduced, the turns that made them, and the part numbers that weren't taken.
 #[derive(Clone, Copy)]

@@ -1,5 +1,5 @@
 //! A step that makes a diagram of others.
-ghost use Rattle.std.specs.Prelude.{◌≡◌, ◌+◌, ◌-◌, ◌*◌, ◌^◌, ◌<◌, ◌≤◌, IsTrue, IsErrOf, IfOk, IfErr, length};
+ghost use Rattle.std.specs.Prelude.{◌≡◌, min, ◌+◌, ◌-◌, ◌*◌, ◌^◌, ◌<◌, ◌≤◌, IsTrue, IsErrOf, IfOk, IfErr, length};
 ghost use Rattle.shelf_model.specs.World.{now};
 ghost use Rattle.shelf_model.specs.Calls.{Told};
 ghost use Rattle.shelf_model.specs.Moments.{Ran};
@@ -11,10 +11,11 @@ ghost use Rattle.step_sweeps.specs.Made.{OnlyStepFiles, IsDiagramOf, IsCounted};
 ghost use Rattle.step_sweeps.specs.Damage.{IsDiagramFault};
 
 use crate::StepOperation;
-use crate::arcs::make_arcs;
-use crate::reduction::reduce_arcs;
+use crate::arcs::FIRST_PART;
+use crate::swept::sweep_diagram;
+use copied_diagrams::copy_operand;
 use rec_words::Rec;
-use shelf_model::{Shelf, SortFault};
+use shelf_model::{FileNo, Shelf, SortFault};
 use top_down_sweep::OperandFiles;
 
 /// How many nodes the diagram of a step has, the turns that made it, as many as 64 bits count, and the next part
@@ -28,6 +29,9 @@ pub struct MadeDiagram {
 
 /// Makes the node file of an operation on the files of diagrams of `n` variables: a sweep makes the arcs of a diagram
 /// in parts 3 and 4 of the step, and a reduction makes part 0 of them. It begins anew, whatever these files hold.
+///
+/// An operator whose table is that of one operand, as the operands' trailers show, makes part 0 a copy of its file, where
+/// that has fewer nodes than a checkpoint's interval has turns.
 ///
 /// It takes no memory: all lies in the room.
 pub fn make_diagram<S: Shelf>(
@@ -65,12 +69,38 @@ pub fn make_diagram<S: Shelf>(
         (S.world shelf.new).clock ≤ (S.world shelf.old).clock + (224 * m.turns + 11)) }
     ensures faults { OnlySortShelf (S.faults shelf.old) (S.faults shelf.new) result }
 {
-    let arcs = make_arcs(operation, n, operands, number, room, shelf)?;
-    let turns = arcs.turns;
-    let reduced = reduce_arcs(n, arcs, number, room, shelf)?;
-    Ok(MadeDiagram {
-        nodes: reduced.nodes,
-        turns: turns.saturating_add(reduced.turns),
-        next: reduced.next,
-    })
+    let StepOperation::Operator(op) = operation else {
+        return sweep_diagram(operation, n, operands, number, room, shelf);
+    };
+    let out = FileNo {
+        step: number,
+        part: 0,
+    };
+    if let Some(nodes) = copy_operand(op, n, operands.first, operands.second, out, room, shelf)? {
+        return Ok(copied(nodes));
+    }
+    let swept = sweep_diagram(operation, n, operands, number, room, shelf)?;
+    Ok(after_a_look(swept))
+}
+
+/// What was made by a copy, whose turns are counted as one for each node and one.
+fn copied(nodes: u64) -> MadeDiagram
+    requires few { nodes < 65536 }
+    ensures { result ≡ record { nodes = nodes; turns = nodes + 1; next = 3 } }
+{
+    MadeDiagram {
+        nodes,
+        turns: nodes + 1,
+        next: FIRST_PART,
+    }
+}
+
+/// What was made by sweeps after a look at the operands' trailers, which is a turn too.
+fn after_a_look(swept: MadeDiagram) -> MadeDiagram
+    ensures { result ≡ record swept { turns = min (swept.turns + 1) (2 ^ 64 - 1) } }
+{
+    MadeDiagram {
+        turns: swept.turns.saturating_add(1),
+        ..swept
+    }
 }

@@ -10,6 +10,7 @@ mod laws;
 mod ones;
 mod operation;
 mod reduction;
+mod swept;
 
 pub use answers::{Answered, compare, evaluate};
 pub use diagram::{MadeDiagram, make_diagram};

@@ -1,0 +1,3 @@
+pub mod PairTables
+pub mod TrailerFacts
+pub mod PairRuns

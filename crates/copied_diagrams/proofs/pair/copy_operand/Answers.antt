@@ -1,0 +1,50 @@
+use Rattle.std.proofs.Common.{inl, inr}
+use Rattle.shelf_model.proofs.Runs.{told}
+use Rattle.copied_diagrams.proofs.TrailerFacts.{on_fault}
+use Rattle.copied_diagrams.proofs.PairRuns.{then_copied, damaged_before, file_before, source_has, made_of}
+use Rattle.copied_diagrams.proofs.pair.copy_operand.Goals as goal
+
+-- the first trailer
+pub returns-in_err-first-clause-sound : goal.returns-in_err-first-clause-sound
+returns-in_err-first-clause-sound g c = on_fault c.from_residual.result c.in_err-first.field-0.0 _ c.from_residual.ensures.1
+    (λ told t u pair. c.in_err-first.ensures.sound told t pair.first)
+
+pub returns-in_err-first-clause-damaged : goal.returns-in_err-first-clause-damaged
+returns-in_err-first-clause-damaged g c = on_fault c.from_residual.result c.in_err-first.field-0.0 _ c.from_residual.ensures.1
+    (λ told. inl (c.in_err-first.ensures.damaged told))
+
+-- the second
+pub returns-in_err-second-clause-sound : goal.returns-in_err-second-clause-sound
+returns-in_err-second-clause-sound g c = on_fault c.from_residual-in_err-second.result c.in_err-second.field-0.0 _
+    c.from_residual-in_err-second.ensures.1
+    (λ told t u pair. c.in_err-second.ensures.sound told u (file_before c.args.n 2 u c.args.right _ _
+    (c.in_ok-first.ensures.content.did (c.in_err-second.ensures.content.before told)) pair.second))
+
+pub returns-in_err-second-clause-damaged : goal.returns-in_err-second-clause-damaged
+returns-in_err-second-clause-damaged g c = on_fault c.from_residual-in_err-second.result c.in_err-second.field-0.0 _
+    c.from_residual-in_err-second.ensures.1
+    (λ told. inr (damaged_before c.args.n 2 c.args.right _ _ c.in_err-second.field-0.0
+    (c.in_ok-first.ensures.content.did (c.in_err-second.ensures.content.before told)) (c.in_err-second.ensures.damaged told)))
+
+-- the copy
+pub returns-in_err-copy_nodes-clause-content : goal.returns-in_err-copy_nodes-clause-content
+returns-in_err-copy_nodes-clause-content g c = told g.S.Shelf.tells _ _ _ _
+    (then_copied g.S.Shelf.tells g.S.Shelf.world c.args.to _ _ _ _ _ c.read_trailer.ensures.content c.read_trailer-2.ensures.content
+    c.copy_nodes.ensures.content) (λ _ changed. changed.run)
+
+pub returns-clause-content : goal.returns-clause-content
+returns-clause-content g c = told g.S.Shelf.tells _ _ _ _
+    (then_copied g.S.Shelf.tells g.S.Shelf.world c.args.to _ _ _ _ _ c.read_trailer.ensures.content c.read_trailer-2.ensures.content
+    c.copy_nodes.ensures.content) (λ _ changed. changed.run)
+
+pub returns-clause-made : goal.returns-clause-made
+returns-clause-made g c told t u pair =
+    let late = c.copy_nodes.ensures.content.before told in
+    let mid = c.in_ok-second.ensures.content.before late in
+    let first = c.in_ok-first.ensures.content.did mid in
+    let second = c.in_ok-second.ensures.content.did late in
+    let one = c.in_ok-first.ensures.of mid t pair.first in
+    let two = c.in_ok-second.ensures.of late u (file_before c.args.n 2 u c.args.right _ _ first pair.second) in
+    let has = source_has c.args.n c.args.op c.args.left c.args.right t u _ _ c.in-Some.source (g.S.Shelf.world c.args.shelf.now)
+    pair one two c.in-Some.ensures.source in
+    made_of c.args.n c.args.op t u c.in-Some.source c.args.to _ _ _ _ first second has (c.in_ok-copy_nodes.ensures.made told)

@@ -1,0 +1,3 @@
+pub mod Copies
+pub mod Operands
+pub mod Pairs

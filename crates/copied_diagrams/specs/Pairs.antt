@@ -1,0 +1,71 @@
+-- What an operator is given, and what is made of it.
+use Rattle.std.specs.Prelude.{◌≡◌, ◌⊎◌, ℕ, ◌+◌, ◌*◌, ◌≤◌, Bool, IsTrue, List, length, Option, Some, None}
+use Rattle.bool_tables.specs.declared.steps.Bin.{Bin}
+use Rattle.shelf_model.specs.declared.file_no.FileNo.{FileNo}
+use Rattle.shelf_model.specs.declared.fault.StreamFault.{StreamFault}
+use Rattle.shelf_model.specs.declared.fault.StreamFault.TheVariants.{Shelf, Damaged}
+use Rattle.shelf_model.specs.File.{firm_file}
+use Rattle.shelf_model.specs.World.{World, file}
+use Rattle.canon_file.specs.Canon.{canon_nodes, canon_root, canon_bytes}
+use Rattle.canon_file.specs.Laws.{HasForm}
+use Rattle.node_file.specs.Nodes.{IsTrailerDamage}
+use Rattle.node_file.specs.declared.trailer.Trailer.{Trailer}
+use Rattle.copied_diagrams.specs.declared.operand.Operand.{Operand}
+use Rattle.copied_diagrams.specs.declared.operand.Operand.TheVariants.{Left, Right}
+use Rattle.copied_diagrams.specs.declared.source.Source.{Source}
+use Rattle.copied_diagrams.specs.Operands.{IsResult}
+
+-- the file is the canonical one of the table, which has a form
+pub record IsFileOf (n : ℕ) (t : List Bool) (f : FileNo) (world : World) : Type 0 where
+  pub form : HasForm n t
+  pub bytes_are : (file world f).bytes ≡ canon_bytes n t
+
+-- the operands' files are those of two tables
+pub record ArePair (n : ℕ) (left right : FileNo) (t u : List Bool) (world : World) : Type 0 where
+  pub first : IsFileOf n t left world
+  pub second : IsFileOf n u right world
+
+-- how many nodes the diagrams of both have
+abbrev pub nodes_of_both : ℕ → List Bool → List Bool → ℕ
+nodes_of_both n t u = length (canon_nodes n t) + length (canon_nodes n u)
+
+-- the table has a form, and the file is its canonical one, whatever a stop leaves; the nodes are counted, and they are
+-- no more than so many
+pub record IsMade (n : ℕ) (t : List Bool) (f : FileNo) (nodes most : ℕ) (world : World) : Type 0 where
+  pub form : HasForm n t
+  pub file_is : file world f ≡ firm_file (canon_bytes n t)
+  pub nodes_are : nodes ≡ length (canon_nodes n t)
+  pub few : nodes ≤ most
+
+-- the calls of the folder: four for two trailers, and where a diagram was made two for each of its nodes and four more
+abbrev pub made_calls : Option ℕ → ℕ
+made_calls None = 4
+made_calls (Some nodes) = 2 * nodes + 8
+
+-- the file has no trailer for n variables where one had to stand
+abbrev pub IsOperandDamage : ℕ → FileNo → World → StreamFault → Type 0
+IsOperandDamage n read world Shelf = Unit
+IsOperandDamage n read world (Damaged f at) = (f ≡ read) × IsTrailerDamage n (file world read).bytes (Damaged f at)
+
+-- one of two files has none
+abbrev pub IsPairDamage : ℕ → FileNo → FileNo → World → StreamFault → Type 0
+IsPairDamage n left right world e = IsOperandDamage n left world e ⊎ IsOperandDamage n right world e
+
+-- the trailer is that of the table's diagram
+pub record IsTrailerOf (n : ℕ) (t : List Bool) (trailer : Trailer) : Type 0 where
+  pub root_is : trailer.root ≡ canon_root n t
+  pub count_is : trailer.count ≡ length (canon_nodes n t)
+
+-- what that operand has, of two
+abbrev pub of_operand : {X : Type 0} → Operand → X → X → X
+of_operand Left x y = x
+of_operand Right x y = y
+
+-- the source is the file of an operand, with its count, and the operand has the table of the operator's result
+pub record IsSource (op : Bin) (left right : FileNo) (first second : Trailer) (s : Source) : Type 0 where
+  pub same : Bool
+  pub same_is : IsTrue same → left ≡ right
+  pub operand : Operand
+  pub result : IsResult op same first.root second.root operand
+  pub from_is : s.from ≡ of_operand operand left right
+  pub count_is : s.count ≡ (of_operand operand first second).count

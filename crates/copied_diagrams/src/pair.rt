@@ -1,0 +1,82 @@
+//! The diagram of an operator on two diagrams, where one of them has its table.
+ghost use Rattle.std.specs.Prelude.{◌≡◌, ◌≢◌, ◌+◌, ◌*◌, ◌<◌, ◌≤◌, min, Bool, List, IsTrue, OnOk, IfOk, IfErr, IfSome, length};
+ghost use Rattle.rec_words.specs.Words.{node_size};
+ghost use Rattle.shelf_model.specs.File.{firm_file};
+ghost use Rattle.shelf_model.specs.World.{now, file};
+ghost use Rattle.shelf_model.specs.Moments.{Ran, OnlyChanged};
+ghost use Rattle.shelf_model.specs.Calls.{Told};
+ghost use Rattle.shelf_model.specs.Faults.{OnlyFolder, OnlyShelf};
+ghost use Rattle.copied_diagrams.specs.Copies.{Changed};
+ghost use Rattle.copied_diagrams.specs.Operands.{pair_table};
+ghost use Rattle.copied_diagrams.specs.Pairs.{ArePair, IsMade, IsPairDamage, nodes_of_both, made_calls};
+
+use crate::copy::copy_file;
+use crate::source::source_of;
+use crate::trailers::read_trailer;
+use bool_tables::Bin;
+use rec_words::{NODE_SIZE, Rec};
+use shelf_model::{Failed, FileNo, PIECE, Shelf, StreamFault};
+
+/// Makes the node file of an operator on the files of two diagrams of `n` variables, where their trailers show that its
+/// table is that of one of them, and answers how many nodes it has.
+///
+/// That is so where the other diagram is a constant or the same, or the operator gives always one operand. A diagram
+/// with as many nodes as the room has records, or as a checkpoint's interval has turns, is left to a sweep.
+pub fn copy_operand<S: Shelf>(
+    op: Bin,
+    n: u32,
+    left: FileNo,
+    right: FileNo,
+    to: FileNo,
+    room: &mut [Rec],
+    shelf: &mut S,
+) -> Result<Option<u64>, StreamFault>
+    requires variables { n ≤ 65535 }
+    requires room { 8 ≤ length room.old }
+    requires left { left ≢ to }
+    requires right { right ≢ to }
+
+    // of canonical files
+    ensures made { IfOk result (λ made. IfSome made (λ nodes. IsTrue (S.tells shelf.new) → (t u : List Bool) →
+        ArePair n left right t u (S.world shelf.old) →
+        IsMade n (pair_table n op t u) to nodes (nodes_of_both n t u) (S.world shelf.new))) }
+    ensures sound { IfErr result (λ e. IsTrue (S.tells shelf.new) → (t u : List Bool) →
+        ArePair n left right t u (S.world shelf.old) → e ≡ StreamFault.Shelf) }
+    ensures few_calls { IsTrue (S.tells shelf.new) → (t u : List Bool) →
+        ArePair n left right t u (S.world shelf.old) →
+        (S.world shelf.new).clock ≤ (S.world shelf.old).clock + (2 * nodes_of_both n t u + 8) }
+
+    // whatever the files hold
+    ensures few { IfOk result (λ made. IfSome made (λ nodes. nodes + 1 < min (length room.entry.now) 65536)) }
+    ensures calls { IfOk result (λ made. IsTrue (S.tells shelf.new) →
+        (S.world shelf.new).clock ≤ (S.world shelf.old).clock + made_calls made) }
+    ensures damaged { IfErr result (λ e. IsTrue (S.tells shelf.new) →
+        IsPairDamage n left right (S.world shelf.old) e) }
+    ensures content { Told S.tells shelf.old shelf.new
+        (Ran (OnlyChanged (λ q. q ≡ to) (now (S.world shelf.old))) (S.world shelf.old) (S.world shelf.new)) }
+    ensures faults { OnlyShelf (S.faults shelf.old) (S.faults shelf.new) result }
+{
+    let first = read_trailer(left, n, room, shelf)?;
+    let second = read_trailer(right, n, room, shelf)?;
+    let Some(source) = source_of(op, left, right, first, second, room.len() as u64) else {
+        return Ok(None);
+    };
+    copy_nodes(source.from, to, source.count, shelf)?;
+    Ok(Some(source.count))
+}
+
+// Copies the file of a diagram of so many nodes.
+fn copy_nodes<S: Shelf>(from: FileNo, to: FileNo, count: u64, shelf: &mut S) -> Result<(), Failed>
+    requires apart { from ≢ to }
+    requires few { count < 65536 }
+    ensures made { OnOk result (IsTrue (S.tells shelf.new) →
+        length (file (S.world shelf.old) from).bytes ≡ (count + 1) * node_size →
+        file (S.world shelf.new) to ≡ firm_file (file (S.world shelf.old) from).bytes) }
+    ensures content { Told S.tells shelf.old shelf.new
+        (Changed (2 * count + 4) to (S.world shelf.old) (S.world shelf.new)) }
+    ensures faults { OnlyFolder (S.faults shelf.old) (S.faults shelf.new) result }
+{
+    let piece = PIECE as u64;
+    let pieces = ((count + 1) * NODE_SIZE + piece - 1) / piece;
+    copy_file(from, to, pieces, shelf)
+}

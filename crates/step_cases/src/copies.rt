@@ -1,0 +1,222 @@
+//! Operators whose table is that of one operand, since the other one is a constant or the same: its file is copied.
+ghost use Rattle.std.specs.Prelude.{◌≤◌, length};
+ghost use Rattle.step_sweeps.specs.Given.{AreEarlier};
+ghost use Rattle.step_sweeps.specs.Operations.{IsWithin};
+ghost use Rattle.step_cases.specs.declared.steps.TheConstants.{NUMBER, LEAST_ROOM};
+
+use crate::random::Random;
+use crate::steps::{EMPTY, FIRST, LEAST_ROOM, NUMBER, ONE, SECOND, TWO, bench_of, is_made, makes};
+use crate::tables::{operator, product_of};
+use rec_words::Rec;
+use shelf_memory::Bench;
+use std::alloc::{AllocError, Global};
+use std::test::Fail;
+use step_sweeps::{StepOperation, make_diagram};
+use top_down_sweep::OperandFiles;
+
+/// How many tables are operands, of four variables and more.
+const TABLES: u64 = 9;
+
+/// The places of a table that depends on each variable.
+const ALL: usize = usize::MAX;
+
+/// What stands beside a table, and on which side.
+#[derive(Clone, Copy, Debug, PartialEq, Eq)]
+enum Beside {
+    ConstantLeft(bool),
+    ConstantRight(bool),
+    Same,
+}
+
+const EACH: [Beside; 5] = [
+    Beside::ConstantLeft(false),
+    Beside::ConstantLeft(true),
+    Beside::ConstantRight(false),
+    Beside::ConstantRight(true),
+    Beside::Same,
+];
+
+impl Beside {
+    /// The files of both, where that of the table is the first and that of the constant the second.
+    fn operands(self) -> OperandFiles
+        ensures { AreEarlier NUMBER result }
+    {
+        match self {
+            Beside::ConstantLeft(_) => OperandFiles {
+                first: SECOND,
+                second: FIRST,
+                third: FIRST,
+            },
+            Beside::ConstantRight(_) => TWO,
+            Beside::Same => ONE,
+        }
+    }
+
+    /// What an operator gives where the table has a value.
+    fn given(self, digits: u32, value: bool) -> bool {
+        let (left, right) = match self {
+            Beside::ConstantLeft(constant) => (constant, value),
+            Beside::ConstantRight(constant) => (value, constant),
+            Beside::Same => (value, value),
+        };
+        let place = match (left, right) {
+            (false, false) => 1,
+            (false, true) => 2,
+            (true, false) => 4,
+            (true, true) => 8,
+        };
+        digits & place != 0
+    }
+
+    fn constant(self) -> bool {
+        self == Beside::ConstantLeft(true) || self == Beside::ConstantRight(true)
+    }
+}
+
+// What an operator makes of a table and of what stands beside it.
+fn made_of(
+    alloc: Global,
+    digits: u32,
+    beside: Beside,
+    f: &[bool],
+    constant: &[bool],
+) -> Result<Vec<bool>, AllocError> {
+    match beside {
+        Beside::ConstantLeft(_) => product_of(alloc, digits, constant, f),
+        Beside::ConstantRight(_) => product_of(alloc, digits, f, constant),
+        Beside::Same => product_of(alloc, digits, f, f),
+    }
+}
+
+// A copy of the table's file: with one turn for each node and one more, no part taken, and the calls for two trailers, a
+// cut, a sync and the pieces.
+fn copies(
+    alloc: Global,
+    operation: StepOperation,
+    n: u32,
+    operands: OperandFiles,
+    f: &[bool],
+    room: &mut [Rec],
+    bench: &mut Bench,
+) -> Result<bool, Fail>
+    requires few { n ≤ 20 }
+    requires enough { LEAST_ROOM ≤ length room.old }
+    requires within { IsWithin n operation }
+    requires earlier { AreEarlier NUMBER operands }
+{
+    let before = bench.clock();
+    let Ok(made) = make_diagram(operation, n, operands, NUMBER, room, bench) else {
+        return Ok(false);
+    };
+    let calls = bench.clock().wrapping_sub(before);
+    let pieces = (bench.file(FIRST).len() as u64).div_ceil(2048);
+    Ok(
+        made.turns == made.nodes.wrapping_add(1)
+            && made.next == 3
+            && calls == pieces.wrapping_mul(2).wrapping_add(6)
+            && is_made(alloc, n, made, f, bench)?,
+    )
+}
+
+// Each operator with what stands beside a table makes the right file, by a copy where it gives the table's values.
+fn copy_beside(
+    alloc: Global,
+    n: u32,
+    beside: Beside,
+    f: &[bool],
+    room: &mut [Rec],
+) -> Result<bool, Fail>
+    requires few { n ≤ 20 }
+    requires enough { LEAST_ROOM ≤ length room.old }
+{
+    let mut constant = Vec::new(alloc);
+    for _value in f {
+        constant.push(beside.constant())?;
+    }
+    let constant = constant.as_slice();
+    let mut bench = bench_of(alloc, n, [f, constant, f])?;
+    for digits in 0..16 {
+        let wanted = made_of(alloc, digits, beside, f, constant)?;
+        let operation = StepOperation::Operator(operator(digits));
+        let operands = beside.operands();
+        let kept = !beside.given(digits, false) && beside.given(digits, true);
+        let right = if kept {
+            copies(alloc, operation, n, operands, f, room, &mut bench)?
+        } else {
+            makes(
+                alloc,
+                operation,
+                n,
+                operands,
+                wanted.as_slice(),
+                room,
+                &mut bench,
+            )?
+        };
+        if !right {
+            return Ok(false);
+        }
+    }
+    Ok(true)
+}
+
+fn copy_each(rt: HostRuntime) -> Result<bool, Fail> {
+    let alloc = rt.alloc();
+    let mut room = vec![in alloc; EMPTY; LEAST_ROOM]?;
+    let room = room.as_mut_slice();
+    for seed in 0..TABLES {
+        let n = 4 + (seed % 6) as u32;
+        let f = Random::new(seed).table(alloc, n, ALL)?;
+        for beside in EACH {
+            if !copy_beside(alloc, n, beside, f.as_slice(), room)? {
+                return Ok(false);
+            }
+        }
+    }
+    Ok(true)
+}
+
+#[test]
+fn an_operator_that_gives_one_operand_copies_its_file(rt: HostRuntime) -> Result<(), Fail> {
+    let copied = copy_each(rt)?;
+    assert!(rt; copied);
+    Ok(())
+}
+
+// How many calls an operation on one file makes.
+fn calls_of(operation: StepOperation, n: u32, room: &mut [Rec], bench: &mut Bench) -> Option<u64>
+    requires enough { LEAST_ROOM ≤ length room.old }
+    requires few { n ≤ 20 }
+    requires within { IsWithin n operation }
+{
+    let before = bench.clock();
+    let made = make_diagram(operation, n, ONE, NUMBER, room, bench);
+    made.ok()?;
+    Some(bench.clock().wrapping_sub(before))
+}
+
+// A copy makes fewer calls than the sweeps that choose between a function and itself.
+fn copies_make_fewer_calls(rt: HostRuntime) -> Result<bool, Fail> {
+    let alloc = rt.alloc();
+    let mut room = vec![in alloc; EMPTY; LEAST_ROOM]?;
+    let room = room.as_mut_slice();
+    for n in 0..10 {
+        let f = Random::new(7).table(alloc, n, ALL)?;
+        let f = f.as_slice();
+        let mut bench = bench_of(alloc, n, [f, f, f])?;
+        let both = StepOperation::Operator(operator(0b1000));
+        let copy = calls_of(both, n, room, &mut bench).ok_or("copy")?;
+        let swept = calls_of(StepOperation::Choice, n, room, &mut bench).ok_or("swept")?;
+        if copy >= swept {
+            return Ok(false);
+        }
+    }
+    Ok(true)
+}
+
+#[test]
+fn a_copy_makes_fewer_calls_than_sweeps(rt: HostRuntime) -> Result<(), Fail> {
+    let fewer = copies_make_fewer_calls(rt)?;
+    assert!(rt; fewer);
+    Ok(())
+}
