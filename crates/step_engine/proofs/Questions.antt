@@ -17,7 +17,7 @@ use Rattle.sound_image.specs.Jobs.{Job, table_at}
 use Rattle.step_sweeps.specs.declared.answers.Answered.{Answered}
 use Rattle.step_sweeps.specs.Damage.{IsReadFault, IsImplicationFault}
 use Rattle.step_engine.specs.Simple.{IsStepOf}
-use Rattle.step_engine.specs.StepFaults.{IsStepFault, IsSoundFault, IsOfKind}
+use Rattle.step_engine.specs.StepFaults.{IsReadingFault, IsStepFault, IsSoundFault, IsOfKind}
 use Rattle.step_engine.proofs.PlanLaws.{first_true}
 use Rattle.step_engine.proofs.Runs.{sound_fault, of_kind}
 
@@ -53,42 +53,42 @@ pub leq_kind : (left right : ℕ) (step : Step) → step ≡ Leq left right → 
 leq_kind left right step is e = of_kind step e (ap joins is)
 
 -- where a diagram that is read is damaged
-two_read : (n number left right : ℕ) (world : World) (e : SortFault) → IsReadFault n (node_file left) (node_file right) world e
-    → IsStepFault n (Same left right) number world e
-two_read n number left right world sort.Shelf is = tt
-two_read n number left right world (sort.Damaged f at) (inl one) = inl (inl one)
-two_read n number left right world (sort.Damaged f at) (inr two) = inl (inr (inl two))
-two_read n number left right world sort.RunsSpent is = tt
+two_read : (n left right : ℕ) (world : World) (e : SortFault) → IsReadFault n (node_file left) (node_file right) world e
+    → IsReadingFault n (left ∷ right ∷ []) world e
+two_read n left right world sort.Shelf is = tt
+two_read n left right world (sort.Damaged f at) (inl one) = inl one
+two_read n left right world (sort.Damaged f at) (inr two) = inr (inl two)
+two_read n left right world sort.RunsSpent is = is
 
-one_read : (n number of at : ℕ) (world : World) (e : SortFault) → IsReadFault n (node_file of) (node_file of) world e
-    → IsStepFault n (Eval of at) number world e
-one_read n number of at world sort.Shelf is = tt
-one_read n number of at world (sort.Damaged f place) (inl one) = inl (inl one)
-one_read n number of at world (sort.Damaged f place) (inr two) = inl (inl two)
-one_read n number of at world sort.RunsSpent is = tt
+one_read : (n of : ℕ) (world : World) (e : SortFault) → IsReadFault n (node_file of) (node_file of) world e
+    → IsReadingFault n (of ∷ []) world e
+one_read n of world sort.Shelf is = tt
+one_read n of world (sort.Damaged f place) (inl one) = inl one
+one_read n of world (sort.Damaged f place) (inr two) = inl two
+one_read n of world sort.RunsSpent is = is
 
-implied : (n number left right : ℕ) (world : World) (e : SortFault) → IsImplicationFault n (node_file left) (node_file right) number world e
-    → IsStepFault n (Leq left right) number world e
-implied n number left right world sort.Shelf is = tt
-implied n number left right world (sort.Damaged f at) (inl one) = inl (inl one)
-implied n number left right world (sort.Damaged f at) (inr (inl two)) = inl (inr (inl two))
-implied n number left right world (sort.Damaged f at) (inr (inr own)) = inr own
-implied n number left right world sort.RunsSpent is = tt
+implied : (n number left right : ℕ) (old new : World) (e : SortFault)
+    → IsImplicationFault n (node_file left) (node_file right) number old new e → IsStepFault n (Leq left right) number old new e
+implied n number left right old new sort.Shelf is = tt
+implied n number left right old new (sort.Damaged f at) (inl one) = inl (inl one)
+implied n number left right old new (sort.Damaged f at) (inr (inl two)) = inl (inr (inl two))
+implied n number left right old new (sort.Damaged f at) (inr (inr own)) = inr own
+implied n number left right old new sort.RunsSpent is = tt
 
-pub same_fault : (n number left right : ℕ) (step : Step) → step ≡ Same left right → (world : World) (e : SortFault)
-    → IsReadFault n (node_file left) (node_file right) world e → IsStepFault n step number world e
-same_fault n number left right step is world e fault =
-    subst (λ s. IsStepFault n s number world e) (sym is) (two_read n number left right world e fault)
+pub same_fault : (n number left right : ℕ) (step : Step) → step ≡ Same left right → (old new : World) (e : SortFault)
+    → IsReadFault n (node_file left) (node_file right) old e → IsStepFault n step number old new e
+same_fault n number left right step is old new e fault =
+    subst (λ s. IsStepFault n s number old new e) (sym is) (two_read n left right old e fault)
 
-pub leq_fault : (n number left right : ℕ) (step : Step) → step ≡ Leq left right → (world : World) (e : SortFault)
-    → IsImplicationFault n (node_file left) (node_file right) number world e → IsStepFault n step number world e
-leq_fault n number left right step is world e fault =
-    subst (λ s. IsStepFault n s number world e) (sym is) (implied n number left right world e fault)
+pub leq_fault : (n number left right : ℕ) (step : Step) → step ≡ Leq left right → (old new : World) (e : SortFault)
+    → IsImplicationFault n (node_file left) (node_file right) number old new e → IsStepFault n step number old new e
+leq_fault n number left right step is old new e fault =
+    subst (λ s. IsStepFault n s number old new e) (sym is) (implied n number left right old new e fault)
 
-pub eval_fault : (n number of at : ℕ) (step : Step) → step ≡ Eval of at → (world : World) (e : SortFault)
-    → IsReadFault n (node_file of) (node_file of) world e → IsStepFault n step number world e
-eval_fault n number of at step is world e fault =
-    subst (λ s. IsStepFault n s number world e) (sym is) (one_read n number of at world e fault)
+pub eval_fault : (n number of at : ℕ) (step : Step) → step ≡ Eval of at → (old new : World) (e : SortFault)
+    → IsReadFault n (node_file of) (node_file of) old e → IsStepFault n step number old new e
+eval_fault n number of at step is old new e fault =
+    subst (λ s. IsStepFault n s number old new e) (sym is) (one_read n of old e fault)
 
 -- the bits of an evaluation stand in the text
 pub bits_within : (n of at : ℕ) (text : List ℕ) (step : Step) → step ≡ Eval of at → IsTrue (has_bits n text step) → at + n ≤ length text

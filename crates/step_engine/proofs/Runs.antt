@@ -36,7 +36,7 @@ use Rattle.step_engine.specs.OneFile.{OnlyMade}
 use Rattle.step_engine.specs.Simple.{reads, MayRun, IsStepOf}
 use Rattle.step_engine.specs.Sweeping.{files_of, sweeping_of}
 use Rattle.step_engine.specs.StepEntries.{diagram_entry, answer_entry, nameless_entry}
-use Rattle.step_engine.specs.StepFaults.{IsDamagedAmong, IsStepFault, IsSoundFault, IsOfKind, OnlyStep}
+use Rattle.step_engine.specs.StepFaults.{IsDamagedAmong, IsSweepFault, IsStepFault, IsSoundFault, IsOfKind, OnlyStep}
 use Rattle.step_engine.specs.Running.{run_calls, IsReadyFor, RunsStep}
 use Rattle.step_engine.proofs.EntryLaws.{IsSpent, for_diagram, for_nameless, diagram_entry_is, nameless_entry_is, bit_says, only_below}
 use Rattle.step_engine.proofs.Operands.{IsGivenTo, step_given}
@@ -85,7 +85,8 @@ pub record IsOperation (n number : ℕ) (step : Step) (sweeping : Sweeping) : Ty
   pub counts : (job : Job) → count_of job number step ≡ nodes_at job number
   pub earlier : IsTrue (list_all (λ k. nat_lt k number) (operands step)) → AreEarlier number sweeping.operands
   pub within : IsTrue (list_all (λ level. nat_lt level n) (levels_of step)) → IsWithin n sweeping.operation
-  pub fault : (world : World) (e : SortFault) → IsDiagramFault n sweeping.operands number world e → IsStepFault n step number world e
+  pub fault : (old new : World) (e : SortFault) → IsDiagramFault n sweeping.operands number old new e
+      → IsStepFault n step number old new e
   pub reads_is : reads step ≡ true
 
 below : (a b : ℕ) → IsTrue (nat_lt a b) → a < b
@@ -99,32 +100,32 @@ more_below : (number a : ℕ) (more : List ℕ) → IsTrue (list_all (λ k. nat_
 more_below number a more h = second_true (nat_lt a number) (list_all (λ k. nat_lt k number) more) h
 
 -- faults of two, three and one operands
-two_faults : (n number a b : ℕ) (world : World) (e : SortFault) → IsDiagramFault n (files_of a b b) number world e
-    → IsStepFault n (Same a b) number world e
-two_faults n number a b world sort.Shelf is = tt
-two_faults n number a b world (sort.Damaged f at) (inl (inl one)) = inl (inl one)
-two_faults n number a b world (sort.Damaged f at) (inl (inr (inl two))) = inl (inr (inl two))
-two_faults n number a b world (sort.Damaged f at) (inl (inr (inr two))) = inl (inr (inl two))
-two_faults n number a b world (sort.Damaged f at) (inr own) = inr own
-two_faults n number a b world sort.RunsSpent is = tt
+two_faults : (n number a b : ℕ) (old new : World) (e : SortFault) → IsDiagramFault n (files_of a b b) number old new e
+    → IsSweepFault n (a ∷ b ∷ []) number old new e
+two_faults n number a b old new sort.Shelf is = tt
+two_faults n number a b old new (sort.Damaged f at) (inl (inl one)) = inl (inl one)
+two_faults n number a b old new (sort.Damaged f at) (inl (inr (inl two))) = inl (inr (inl two))
+two_faults n number a b old new (sort.Damaged f at) (inl (inr (inr two))) = inl (inr (inl two))
+two_faults n number a b old new (sort.Damaged f at) (inr own) = inr own
+two_faults n number a b old new sort.RunsSpent is = tt
 
-three_faults : (n number a b c : ℕ) (world : World) (e : SortFault) → IsDiagramFault n (files_of a b c) number world e
-    → IsStepFault n (Ite a b c) number world e
-three_faults n number a b c world sort.Shelf is = tt
-three_faults n number a b c world (sort.Damaged f at) (inl (inl one)) = inl (inl one)
-three_faults n number a b c world (sort.Damaged f at) (inl (inr (inl two))) = inl (inr (inl two))
-three_faults n number a b c world (sort.Damaged f at) (inl (inr (inr three))) = inl (inr (inr (inl three)))
-three_faults n number a b c world (sort.Damaged f at) (inr own) = inr own
-three_faults n number a b c world sort.RunsSpent is = tt
+three_faults : (n number a b c : ℕ) (old new : World) (e : SortFault) → IsDiagramFault n (files_of a b c) number old new e
+    → IsSweepFault n (a ∷ b ∷ c ∷ []) number old new e
+three_faults n number a b c old new sort.Shelf is = tt
+three_faults n number a b c old new (sort.Damaged f at) (inl (inl one)) = inl (inl one)
+three_faults n number a b c old new (sort.Damaged f at) (inl (inr (inl two))) = inl (inr (inl two))
+three_faults n number a b c old new (sort.Damaged f at) (inl (inr (inr three))) = inl (inr (inr (inl three)))
+three_faults n number a b c old new (sort.Damaged f at) (inr own) = inr own
+three_faults n number a b c old new sort.RunsSpent is = tt
 
-one_fault : (n number a at : ℕ) (world : World) (e : SortFault) → IsDiagramFault n (files_of a a a) number world e
-    → IsStepFault n (Eval a at) number world e
-one_fault n number a at world sort.Shelf is = tt
-one_fault n number a at world (sort.Damaged f place) (inl (inl one)) = inl (inl one)
-one_fault n number a at world (sort.Damaged f place) (inl (inr (inl one))) = inl (inl one)
-one_fault n number a at world (sort.Damaged f place) (inl (inr (inr one))) = inl (inl one)
-one_fault n number a at world (sort.Damaged f place) (inr own) = inr own
-one_fault n number a at world sort.RunsSpent is = tt
+one_fault : (n number a : ℕ) (old new : World) (e : SortFault) → IsDiagramFault n (files_of a a a) number old new e
+    → IsSweepFault n (a ∷ []) number old new e
+one_fault n number a old new sort.Shelf is = tt
+one_fault n number a old new (sort.Damaged f at) (inl (inl one)) = inl (inl one)
+one_fault n number a old new (sort.Damaged f at) (inl (inr (inl one))) = inl (inl one)
+one_fault n number a old new (sort.Damaged f at) (inl (inr (inr one))) = inl (inl one)
+one_fault n number a old new (sort.Damaged f at) (inr own) = inr own
+one_fault n number a old new sort.RunsSpent is = tt
 
 some_is : {x : Sweeping} (y : Sweeping) → Some x ≡ Some y → x ≡ y
 some_is y same = ap (λ o. elim o [ None ↦ y | Some z ↦ z ]) same
@@ -180,7 +181,7 @@ is_operation n number (Quantify kind of level) sweeping some =
         third = first_below number of [] h;
       };
       within = λ h. first_below n level [] h;
-      fault = one_fault n number of 0;
+      fault = one_fault n number of;
       reads_is = refl;
     })
 is_operation n number (Restrict of level value) sweeping some =
@@ -197,7 +198,7 @@ is_operation n number (Restrict of level value) sweeping some =
         third = first_below number of [] h;
       };
       within = λ h. first_below n level [] h;
-      fault = one_fault n number of 0;
+      fault = one_fault n number of;
       reads_is = refl;
     })
 is_operation n number (Drop gone) sweeping none = cc
@@ -255,7 +256,7 @@ module _ {S : Type 0} (tells : S → Bool) (world : S → World) (counts : S →
       → (IsTrue (tells after) → (g : Tables) → AreGiven sweeping.operation n sweeping.operands (world before) g → IsNoDamage e)
       → (IsErrOf {T = MadeDiagram} (Err e) sort.RunsSpent → IsTrue (tells after) → (g : Tables)
       → AreGiven sweeping.operation n sweeping.operands (world before) g → 2 ^ 35 ≤ work_by sweeping.operation n g)
-      → (IsTrue (tells after) → IsDiagramFault n sweeping.operands number (world before) e)
+      → (IsTrue (tells after) → IsDiagramFault n sweeping.operands number (world before) (world after) e)
       → OnlySortShelf {T = MadeDiagram} (counts before) (counts after) (Err e)
       → RunsStep tells world counts n text number p before after (Err e)
   operation_refused e undamaged spent damaged faults = record {
@@ -267,7 +268,7 @@ module _ {S : Type 0} (tells : S → Bool) (world : S → World) (counts : S →
         let given = step_given job n number text p sweeping (world before) some is holds in
         sound_fault p.step (work_of job p.step) _ e is_one.joins_is given.work_is (undamaged told given.tables given.are)
         (λ is_spent. spent (ap (λ f. Err f) is_spent) told given.tables given.are);
-    damaged = λ told. is_one.fault (world before) e (damaged told);
+    damaged = λ told. is_one.fault (world before) (world after) e (damaged told);
     kind = of_kind p.step e is_one.joins_is;
     calls = tt;
     one_turn = λ told not. never_one p.step is_one.sweeps_is not;
@@ -347,7 +348,7 @@ module _ {S : Type 0} (tells : S → Bool) (world : S → World) (counts : S →
   pub question_refused : (e : SortFault)
       → (IsTrue (tells after) → (job : Job) → IsStepOf job n text number p → Holds job number (now (world before)).folder
       → IsSoundFault p.step (work_of job p.step) e)
-      → (IsTrue (tells after) → IsStepFault n p.step number (world before) e) → IsOfKind p.step e
+      → (IsTrue (tells after) → IsStepFault n p.step number (world before) (world after) e) → IsOfKind p.step e
       → OnlySortShelf {T = Answered} (counts before) (counts after) (Err e)
       → RunsStep tells world counts n text number p before after (Err e)
   question_refused e sound damaged kind faults = record {

@@ -63,21 +63,21 @@ still_damaged n read old new f at same damage =
     ⊎ (IsDamagedNode n x.bytes at ⊎ ((key : ℕ) × IsAbsent x.bytes key at)))) same damage
 
 -- so a fault that is found after the step's node file alone was changed was there before
-pub fault_before : (n : ℕ) (operands : OperandFiles) (number : ℕ) (old new : World) (e : SortFault) → AreEarlier number operands
-    → Ran (OnlyChanged (λ q. q ≡ node_file number) (now old)) old new
-    → IsDiagramFault n operands number new e → IsDiagramFault n operands number old e
-fault_before n operands number old new Shelf earlier ran is = tt
-fault_before n operands number old new (Damaged f at) earlier ran (inl (inl one)) =
-    inl (inl (still_damaged n operands.first old new f at
-    (file_stays (λ q. q ≡ node_file number) old new operands.first (apart number operands.first earlier.first) ran) one))
-fault_before n operands number old new (Damaged f at) earlier ran (inl (inr (inl two))) =
-    inl (inr (inl (still_damaged n operands.second old new f at
-    (file_stays (λ q. q ≡ node_file number) old new operands.second (apart number operands.second earlier.second) ran) two)))
-fault_before n operands number old new (Damaged f at) earlier ran (inl (inr (inr three))) =
-    inl (inr (inr (still_damaged n operands.third old new f at
-    (file_stays (λ q. q ≡ node_file number) old new operands.third (apart number operands.third earlier.third) ran) three)))
-fault_before n operands number old new (Damaged f at) earlier ran (inr own) = inr own
-fault_before n operands number old new RunsSpent earlier ran is = tt
+pub fault_before : (n : ℕ) (operands : OperandFiles) (number : ℕ) (old mid new : World) (e : SortFault) → AreEarlier number operands
+    → Ran (OnlyChanged (λ q. q ≡ node_file number) (now old)) old mid
+    → IsDiagramFault n operands number mid new e → IsDiagramFault n operands number old new e
+fault_before n operands number old mid new Shelf earlier ran is = tt
+fault_before n operands number old mid new (Damaged f at) earlier ran (inl (inl one)) =
+    inl (inl (still_damaged n operands.first old mid f at
+    (file_stays (λ q. q ≡ node_file number) old mid operands.first (apart number operands.first earlier.first) ran) one))
+fault_before n operands number old mid new (Damaged f at) earlier ran (inl (inr (inl two))) =
+    inl (inr (inl (still_damaged n operands.second old mid f at
+    (file_stays (λ q. q ≡ node_file number) old mid operands.second (apart number operands.second earlier.second) ran) two)))
+fault_before n operands number old mid new (Damaged f at) earlier ran (inl (inr (inr three))) =
+    inl (inr (inr (still_damaged n operands.third old mid f at
+    (file_stays (λ q. q ≡ node_file number) old mid operands.third (apart number operands.third earlier.third) ran) three)))
+fault_before n operands number old mid new (Damaged f at) earlier ran (inr own) = inr own
+fault_before n operands number old mid new RunsSpent earlier ran is = tt
 
 -- what holds of the value that there is
 pub of_some : {A : Type 0} (o : Option A) (x : A) (P : A → Type 0) → o ≡ Some x → IfSome o P → P x

@@ -12,7 +12,7 @@ use Rattle.top_down_sweep.specs.declared.start.Files.{Files}
 use Rattle.top_down_sweep.specs.Damage.{IsAbsent, IsReadDamage, IsStartFault, IsMachineDamage}
 use Rattle.top_down_sweep.specs.Sweeps.{files_in}
 use Rattle.top_down_sweep.specs.Waiting.{AreApart}
-use Rattle.step_sweeps.specs.Damage.{IsDamagedFile, IsArcsFault, IsDiagramFault}
+use Rattle.step_sweeps.specs.Damage.{IsDamagedFile, IsArcsFault, IsOwnFault, IsDiagramFault}
 
 -- a file without its trailer is damaged
 no_trailer : (n : ℕ) (read : FileNo) (world : World) (f : FileNo) (at : ℕ)
@@ -72,8 +72,15 @@ turn_fault n operands m old new (Damaged f at) variables still apart is =
 turn_fault n operands m old new RunsSpent variables still apart is = tt
 
 -- a fault of an operand is one of the step
-pub arcs_or_own : (n : ℕ) (operands : OperandFiles) (number : ℕ) (world : World) (e : SortFault)
-    → IsArcsFault n operands world e → IsDiagramFault n operands number world e
-arcs_or_own n operands number world Shelf is = tt
-arcs_or_own n operands number world (Damaged f at) is = inl is
-arcs_or_own n operands number world RunsSpent is = tt
+pub arcs_or_own : (n : ℕ) (operands : OperandFiles) (number : ℕ) (old new : World) (e : SortFault)
+    → IsArcsFault n operands old e → IsDiagramFault n operands number old new e
+arcs_or_own n operands number old new Shelf is = tt
+arcs_or_own n operands number old new (Damaged f at) is = inl is
+arcs_or_own n operands number old new RunsSpent is = tt
+
+-- so is one of its files of arcs
+pub own_fault : (n : ℕ) (operands : OperandFiles) (number : ℕ) (old new : World) (e : SortFault)
+    → IsOwnFault number new e → IsDiagramFault n operands number old new e
+own_fault n operands number old new Shelf is = tt
+own_fault n operands number old new (Damaged f at) is = inr is
+own_fault n operands number old new RunsSpent is = tt

@@ -24,9 +24,10 @@ use Rattle.arc_file.specs.declared.arc.Arc.{Arc}
 use Rattle.arc_file.specs.declared.kind.Kind.TheVariants.{End}
 use Rattle.arc_file.specs.declared.stream.ArcStream.{ArcStream}
 use Rattle.arc_file.specs.declared.unreduced.Unreduced.{Unreduced}
-use Rattle.arc_file.specs.Streams.{file_of, left_of, Reads, AreLeft, GoesUp}
+use Rattle.arc_file.specs.Files.{IsDamagedArc}
+use Rattle.arc_file.specs.Streams.{file_of, left_of, Reads, AreLeft, GoesUp, IsArcAnswer}
 use Rattle.arc_diagrams.specs.Arcs.{IsMet}
-use Rattle.step_sweeps.specs.Ones.{HasEnds, Searched}
+use Rattle.step_sweeps.specs.Ones.{HasEnds, IsEndsFault, Searched}
 
 -- the bytes of a file
 abbrev pub bytes_in : World → FileNo → List ℕ
@@ -58,6 +59,8 @@ pub record HasRead {S : Type 0} (tells : S → Bool) (world : S → World) (coun
   pub goes : GoesUp End old new result
   pub reads : IsTrue (tells after) → Reads End old (bytes_in (world before) (file_of old))
       → OnOk result (Reads End new (bytes_in (world before) (file_of old)))
+  pub value : IsTrue (tells after) → Reads End old (bytes_in (world before) (file_of old))
+      → IsArcAnswer End old (bytes_in (world before) (file_of old)) result
   pub gives : IsTrue (tells after) → Reads End old (bytes_in (world before) (file_of old)) → (xs : List Arc)
       → AreLeft End old (bytes_in (world before) (file_of old)) xs
       → GivesLast (AreLeft End new (bytes_in (world before) (file_of old))) xs result
@@ -103,6 +106,18 @@ fault_of : (s t : ArcStream) (f : FileNo) (e : StreamFault) → file_of s ≡ f 
 fault_of s t f stream.Shelf same goes = tt
 fault_of s t f (stream.Damaged g at) same goes = goes.1.0 ∙ same
 
+-- and damage is that of the record that comes next
+ends_fault : (s t : ArcStream) (f : FileNo) (world : World) (e : StreamFault) → file_of s ≡ f → GoesUp End s t (Err e)
+    → IsArcAnswer End s (bytes_in world (file_of s)) (Err e) → IsEndsFault f world (handed_on e)
+ends_fault s t f world stream.Shelf same goes answer = tt
+ends_fault s t f world (stream.Damaged g at) same goes answer = record {
+  place = left_of s - 1;
+  given = s.given;
+  file_is = goes.1.0 ∙ same;
+  at_is = goes.1.1;
+  damaged = subst (λ (q : FileNo). IsDamagedArc End (left_of s - 1) (bytes_in world q) s.given) (sym goes.1.0) answer;
+}
+
 module _ {S : Type 0} (tells : S → Bool) (world : S → World) (counts : S → Faults) (arcs : Unreduced) where
   -- nothing was read
   no_faults : {T : Type 0} (x : T) (at : S) → OnlySortShelf {T = T} (counts at) (counts at) (Ok x)
@@ -129,6 +144,7 @@ module _ {S : Type 0} (tells : S → Bool) (world : S → World) (counts : S →
   at_once at first = record {
     found = λ _ ends has. (λ _. inl first, λ _. refl);
     undamaged = tt;
+    damaged = tt;
     refused = tt;
     content = looked_none (arcs.ends_count + 1) at;
     faults = no_faults true at;
@@ -259,6 +275,7 @@ module _ {S : Type 0} (tells : S → Bool) (world : S → World) (counts : S →
         λ _. refl,
       );
       undamaged = tt;
+      damaged = tt;
       refused = tt;
       content = looked_last (Ok (Some a)) read;
       faults = faults_ok (Some a) true read;
@@ -275,6 +292,7 @@ module _ {S : Type 0} (tells : S → Bool) (world : S → World) (counts : S →
             (so_far.remain tells_mid ends has) (gives_of (Ok None) read tells_mid tells_after ends has) met)),
       );
       undamaged = tt;
+      damaged = tt;
       refused = tt;
       content = looked_last (Ok None) read;
       faults = faults_ok None false read;
@@ -288,6 +306,12 @@ module _ {S : Type 0} (tells : S → Bool) (world : S → World) (counts : S →
       undamaged = λ tells_after ends has. (let tells_mid = read.content.before tells_after in
           only_shelf t (bytes_in (world before) arcs.ends) (so_far.remain tells_mid ends has).rest e
           (gives_of (Err e) read tells_mid tells_after ends has));
+      damaged = λ tells_after. (let tells_mid = read.content.before tells_after in
+          let bytes = same_bytes tells_mid in
+          let kept = looked_same 1 (file_of s) (file_of s) (world mid) (world after) (read.content.did tells_after) refl in
+          ends_fault s t arcs.ends (world after) e so_far.file_is read.goes
+          (subst (λ (b : List ℕ). IsArcAnswer End s b (Err e)) (sym kept)
+          (read.value tells_after (subst (Reads End s) (sym bytes) (so_far.reads tells_mid)))));
       refused = fault_of s t arcs.ends e so_far.file_is read.goes;
       content = looked_last (Err e) read;
       faults = faults_err e read;

@@ -11,6 +11,8 @@ use Rattle.shelf_model.specs.declared.sort_fault.SortFault.TheVariants.{Shelf, D
 use Rattle.shelf_model.specs.Faults.{Faults}
 use Rattle.shelf_model.specs.World.{World}
 use Rattle.sweep_core.specs.Sweeps.{IsNoDamage}
+use Rattle.arc_file.specs.declared.kind.Kind.TheVariants.{End}
+use Rattle.reduce_sweep.specs.Damage.{IsDamagedRecord}
 use Rattle.step_work.specs.Works.{work_for}
 use Rattle.top_down_sweep.specs.declared.beginning.OperandFiles.{OperandFiles}
 use Rattle.top_down_sweep.specs.Tasks.{IsCanonicalFile}
@@ -19,8 +21,8 @@ use Rattle.step_sweeps.specs.declared.operation.StepOperation.{StepOperation}
 use Rattle.step_sweeps.specs.declared.operation.StepOperation.TheVariants.{Operator}
 use Rattle.step_sweeps.specs.Damage.{IsArcsFault, IsImplicationFault}
 use Rattle.step_sweeps.specs.Given.{Tables, AreGiven, tuples_by, arcs_turns}
-use Rattle.step_sweeps.specs.Made.{AreArcsOf, IsCounted}
-use Rattle.step_sweeps.specs.Ones.{HasEnds, Searched}
+use Rattle.step_sweeps.specs.Made.{ends_file, AreArcsOf, IsCounted}
+use Rattle.step_sweeps.specs.Ones.{HasEnds, IsEndsFault, Searched}
 use Rattle.step_sweeps.proofs.ConstantDiagrams.{and_not}
 use Rattle.step_sweeps.proofs.ImpliedAnswer.{answer_is, work_same}
 
@@ -45,14 +47,22 @@ are_given n left right world t u first second = record {
 }
 
 -- a fault of the arcs is one of the implication
-pub implication_fault : (n : ℕ) (left right : FileNo) (number : ℕ) (world : World) (e : SortFault)
-    → IsArcsFault n (both_files left right) world e
-    → IsImplicationFault n left right number world e
-implication_fault n left right number world Shelf is = tt
-implication_fault n left right number world (Damaged f at) (inl first) = inl first
-implication_fault n left right number world (Damaged f at) (inr (inl second)) = inr (inl second)
-implication_fault n left right number world (Damaged f at) (inr (inr third)) = inr (inl third)
-implication_fault n left right number world RunsSpent is = tt
+pub implication_fault : (n : ℕ) (left right : FileNo) (number : ℕ) (old new : World) (e : SortFault)
+    → IsArcsFault n (both_files left right) old e
+    → IsImplicationFault n left right number old new e
+implication_fault n left right number old new Shelf is = tt
+implication_fault n left right number old new (Damaged f at) (inl first) = inl first
+implication_fault n left right number old new (Damaged f at) (inr (inl second)) = inr (inl second)
+implication_fault n left right number old new (Damaged f at) (inr (inr third)) = inr (inl third)
+implication_fault n left right number old new RunsSpent is = tt
+
+-- so is one of the search
+pub search_fault : (n : ℕ) (left right : FileNo) (number : ℕ) (ends : FileNo) (old new : World) (e : SortFault)
+    → ends ≡ ends_file number → IsEndsFault ends new e → IsImplicationFault n left right number old new e
+search_fault n left right number ends old new Shelf same is = tt
+search_fault n left right number ends old new (Damaged f at) same is =
+    inr (inr (inr (subst (λ (q : FileNo). IsDamagedRecord End q new f at) same is)))
+search_fault n left right number ends old new RunsSpent same is = tt
 
 module _ (n : ℕ) (t u : List Bool) where
   -- the first sweep's part numbers are spent by much work alone

@@ -53,7 +53,7 @@ pub fn imply<S: Shelf>(
 
     // whatever the files hold
     ensures damaged { IfErr result (λ e. IsTrue (S.tells shelf.new) →
-        IsImplicationFault n left right number (S.world shelf.old) e) }
+        IsImplicationFault n left right number (S.world shelf.old) (S.world shelf.new) e) }
     ensures content { Told S.tells shelf.old shelf.new
         (Ran (OnlyParts number (now (S.world shelf.old))) (S.world shelf.old) (S.world shelf.new)) }
     ensures counted { IfOk result (λ a. IsCounted a.turns a.next) }

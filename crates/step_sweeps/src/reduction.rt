@@ -51,7 +51,8 @@ pub(crate) fn reduce_arcs<S: Shelf>(
         (S.world shelf.new).clock ≤ (S.world shelf.old).clock + (224 * (8 * sources + 9) + 3) }
 
     // whatever the files hold
-    ensures damaged { IfErr result (λ e. IsTrue (S.tells shelf.new) → IsOwnFault number e) }
+    ensures damaged { IfErr result (λ e. IsTrue (S.tells shelf.new) →
+        IsOwnFault number (S.world shelf.new) e) }
     ensures content { Told S.tells shelf.old shelf.new
         (Ran (OnlyStepFiles number (now (S.world shelf.old))) (S.world shelf.old) (S.world shelf.new)) }
     ensures counted { IfOk result (λ m. (0 < m.turns) × (m.turns < 2 ^ 64 - 1 →

@@ -47,7 +47,7 @@ pub(crate) fn sweep_diagram<S: Shelf>(
 
     // whatever the files hold
     ensures damaged { IfErr result (λ e. IsTrue (S.tells shelf.new) →
-        IsDiagramFault n operands number (S.world shelf.old) e) }
+        IsDiagramFault n operands number (S.world shelf.old) (S.world shelf.new) e) }
     ensures content { Told S.tells shelf.old shelf.new
         (Ran (OnlyStepFiles number (now (S.world shelf.old))) (S.world shelf.old) (S.world shelf.new)) }
     ensures counted { IfOk result (λ m. IsCounted m.turns m.next) }

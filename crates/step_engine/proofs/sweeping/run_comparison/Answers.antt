@@ -25,7 +25,7 @@ returns-in_err-answered g c =
           (λ told job is holds.
           let given = two_given job c.args.n c.args.number c.args.text.now p (g.S.Shelf.world c.args.shelf.now) (Same c.args.left c.args.right) c.args.left c.args.right c.requires.kind refl is holds in
           same_sound p.step _ c.in_err-answered.field-0.0 (said.undamaged told _ _ given.0 given.1) (not_spent c.in_err-answered.field-0.0 said.kind))
-          (λ told. same_fault c.args.n c.args.number c.args.left c.args.right p.step c.requires.kind (g.S.Shelf.world c.args.shelf.now) c.in_err-answered.field-0.0 (said.damaged told))
+          (λ told. same_fault c.args.n c.args.number c.args.left c.args.right p.step c.requires.kind (g.S.Shelf.world c.args.shelf.now) _ c.in_err-answered.field-0.0 (said.damaged told))
           (not_spent_kind p.step c.in_err-answered.field-0.0 said.kind)
           said.faults);
     }

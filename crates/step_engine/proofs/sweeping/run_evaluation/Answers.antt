@@ -29,7 +29,7 @@ returns-in_err-answered g c =
           (λ told job is holds.
           let given = one_given job c.args.n c.args.number c.args.text.now p (g.S.Shelf.world c.args.shelf.now) (Eval c.args.of c.args.at) c.args.of c.requires.kind refl is holds in
           eval_sound p.step _ c.in_err-answered.field-0.0 (said.undamaged told _ given) (not_spent c.in_err-answered.field-0.0 said.kind))
-          (λ told. eval_fault c.args.n c.args.number c.args.of c.args.at p.step c.requires.kind (g.S.Shelf.world c.args.shelf.now) c.in_err-answered.field-0.0 (said.damaged told))
+          (λ told. eval_fault c.args.n c.args.number c.args.of c.args.at p.step c.requires.kind (g.S.Shelf.world c.args.shelf.now) _ c.in_err-answered.field-0.0 (said.damaged told))
           (not_spent_kind p.step c.in_err-answered.field-0.0 said.kind)
           said.faults);
     }

@@ -25,7 +25,7 @@ returns-in_err-answered g c =
           (λ told job is holds.
           let given = two_given job c.args.n c.args.number c.args.text.now p (g.S.Shelf.world c.args.shelf.now) (Leq c.args.left c.args.right) c.args.left c.args.right c.requires.kind refl is holds in
           leq_sound p.step c.args.left c.args.right c.requires.kind _ _ c.in_err-answered.field-0.0 (work_given job c.args.n c.args.number c.args.text.now p (Leq 0 1) (Leq c.args.left c.args.right) c.requires.kind refl (λ i h x. refl) is) (said.undamaged told _ _ given.0 given.1) (λ spent. said.spent spent told _ _ given.0 given.1))
-          (λ told. leq_fault c.args.n c.args.number c.args.left c.args.right p.step c.requires.kind (g.S.Shelf.world c.args.shelf.now) c.in_err-answered.field-0.0 (said.damaged told))
+          (λ told. leq_fault c.args.n c.args.number c.args.left c.args.right p.step c.requires.kind (g.S.Shelf.world c.args.shelf.now) _ c.in_err-answered.field-0.0 (said.damaged told))
           (leq_kind c.args.left c.args.right p.step c.requires.kind c.in_err-answered.field-0.0)
           said.faults);
     }

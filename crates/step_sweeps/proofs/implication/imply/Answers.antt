@@ -1,6 +1,6 @@
 use Rattle.std.proofs.Common.{refl, arith}
 use Rattle.node_reading.proofs.NodeReading.{if_handed}
-use Rattle.step_sweeps.proofs.ImpliedWork.{both_tables, are_given, implication_fault, spent_within, calls_within, read_within, calls_read, only_shelf, answers, counted, fault_is}
+use Rattle.step_sweeps.proofs.ImpliedWork.{both_tables, are_given, implication_fault, search_fault, spent_within, calls_within, read_within, calls_read, only_shelf, answers, counted, fault_is}
 use Rattle.step_sweeps.proofs.implication.imply.Goals as goal
 
 pub returns-in_err-made-clause-undamaged : goal.returns-in_err-made-clause-undamaged
@@ -25,7 +25,14 @@ pub returns-in_err-made-clause-damaged : goal.returns-in_err-made-clause-damaged
 returns-in_err-made-clause-damaged g c =
     if_handed _ c.from_residual.result c.in_err-made.field-0.0 c.from_residual.ensures.1
     (λ told. implication_fault c.args.n c.args.left c.args.right c.args.number
-    (g.S.Shelf.world c.args.shelf.now) c.in_err-made.field-0.0 (c.in_err-made.ensures.damaged told))
+    (g.S.Shelf.world c.args.shelf.now) _ c.in_err-made.field-0.0 (c.in_err-made.ensures.damaged told))
+
+pub returns-in_err-holds-clause-damaged : goal.returns-in_err-holds-clause-damaged
+returns-in_err-holds-clause-damaged g c =
+    if_handed _ c.from_residual-in_err-holds.result c.in_err-holds.field-0.0 c.from_residual-in_err-holds.ensures.1
+    (λ told. search_fault c.args.n c.args.left c.args.right c.args.number c.in_ok-made.made.arcs.ends
+    (g.S.Shelf.world c.args.shelf.now) _
+    c.in_err-holds.field-0.0 c.in_ok-made.ensures.files.ends_are (c.in_err-holds.ensures.searched.damaged told))
 
 pub returns-in_err-holds-clause-undamaged : goal.returns-in_err-holds-clause-undamaged
 returns-in_err-holds-clause-undamaged g c =

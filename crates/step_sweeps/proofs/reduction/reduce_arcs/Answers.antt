@@ -2,9 +2,24 @@ use Rattle.std.proofs.Common.{◌≡◌, ◌∙◌, refl, ap, arith}
 use Rattle.std.specs.Prelude.{Some}
 use Rattle.run_tiers.proofs.FaultLaws.{on_fault, sort_shelf_on, sort_shelf_then}
 use Rattle.reduce_sweep.specs.Sweeps.{Task, count_in}
-use Rattle.step_sweeps.proofs.Reducing.{job_of, has_form, reduced_at_end, reduction_changes}
+use Rattle.step_sweeps.proofs.Reducing.{job_of, has_form, reduced_at_end, reduction_changes, start_fault, turn_fault}
 use Rattle.step_sweeps.proofs.Running.{faults_ok}
 use Rattle.step_sweeps.proofs.reduction.reduce_arcs.Goals as goal
+
+-- an arc that is damaged stands in one of the two files of arcs
+pub returns-in_err-sweep-clause-damaged : goal.returns-in_err-sweep-clause-damaged
+returns-in_err-sweep-clause-damaged g c = on_fault c.from_residual.result c.in_err-sweep.field-0.0 _
+    c.from_residual.ensures.1 (λ told. start_fault c.args.number c.args.made.arcs _ _ c.in_err-sweep.field-0.0
+    c.requires.files (c.start.ensures.content.did told) (c.in_err-sweep.ensures.damage told))
+
+pub returns-in_err-turns-clause-damaged : goal.returns-in_err-turns-clause-damaged
+returns-in_err-turns-clause-damaged g c =
+    let same = c.run_to_end.ensures.same in
+    on_fault c.from_residual-in_err-turns.result c.in_err-turns.field-0.0 _ c.from_residual-in_err-turns.ensures.1
+    (λ told. turn_fault c.args.number c.run_to_end.new.sweep _ c.in_err-turns.field-0.0
+    (ap (λ (t : Task). t.inner) same ∙ c.in_ok-sweep.ensures.files.1 ∙ c.requires.files.inner_is)
+    (ap (λ (t : Task). t.ends) same ∙ c.in_ok-sweep.ensures.files.2 ∙ c.requires.files.ends_are)
+    (c.in_err-turns.ensures.damage told))
 
 -- no arc is damaged
 pub returns-in_err-turns-clause-undamaged : goal.returns-in_err-turns-clause-undamaged
