@@ -9,7 +9,7 @@ use Rattle.top_down.specs.Rules.{Rule}
 use Rattle.top_down_sweep.specs.declared.beginning.OperandFiles.{OperandFiles}
 use Rattle.top_down_sweep.specs.declared.choice.Choice.{Choice}
 use Rattle.top_down_sweep.specs.declared.sweep.TopDownSweep.{TopDownSweep}
-use Rattle.top_down_sweep.specs.Making.{TableJob, Makes, Gives}
+use Rattle.table_work.specs.Jobs.{TableWork, MakesWithin, GivesWithin}
 use Rattle.ite_sweep.specs.declared.sweep.IteSweep.{IteSweep}
 
 -- the files of the three operands
@@ -27,10 +27,10 @@ rule_of o = choice_rule
 abbrev pub begins_of : Choice → Tuple → Tuple
 begins_of o roots = roots
 
--- a diagram of the table is still to be made
-abbrev pub MakesTable : IteSweep → World → TableJob → Type 0
-MakesTable s world job = Makes rule_of begins_of (sweep_of s) world job
+-- a diagram of the table is still to be made, for which no more than so many tuples are met
+abbrev pub MakesTable : IteSweep → World → TableWork → Type 0
+MakesTable s world job = MakesWithin rule_of begins_of (sweep_of s) world job
 
--- what is told of the arcs that were made
+-- what is told of the arcs that were made, which have no more sources
 abbrev pub GivesArcs : IteSweep → Option Unreduced → Type 0
-GivesArcs s made = Gives rule_of begins_of (sweep_of s) made
+GivesArcs s made = GivesWithin rule_of begins_of (sweep_of s) made

@@ -4,7 +4,7 @@ use rec_words::Rec;
 use run_merge::Parts;
 use shelf_model::{FileNo, Shelf, SortFault};
 use sweep_core::{Sweep, Turn};
-use top_down_sweep::laws::operations_on_canonical_files_are_tasks;
+use table_work::laws::operations_on_canonical_files_are_work;
 use top_down_sweep::{Choice, OperandFiles, TopDownSweep};
 
 /// The choice between two diagrams by a third, level by level from the roots down. It makes the arcs of a diagram that
@@ -17,13 +17,14 @@ pub struct IteSweep<'r> {
 }
 
 impl<'r> IteSweep<'r> {
-    ghost use Rattle.std.specs.Prelude.{◌≡◌, ◌≤◌, ◌∷◌, [], Bool, List, IsTrue, IfOk, IfErr, length};
-    ghost use Rattle.bool_tables.specs.Steps.{step_table};
+    ghost use Rattle.std.specs.Prelude.{◌≡◌, ◌≤◌, ◌∷◌, [], Bool, List, IsTrue, IfOk, IfErr, length, ◌+◌, ◌*◌};
     ghost use Rattle.bool_tables.specs.declared.steps.Step.TheVariants.{Ite};
+    ghost use Rattle.step_work.specs.Works.{work_for};
     ghost use Rattle.sweep_core.specs.Accounts.{CanBeTaken};
     ghost use Rattle.sweep_core.specs.Sweeps.{IsNoDamage};
+    ghost use Rattle.table_work.specs.Jobs.{work_of_step, turns_of, arcs_turns};
     ghost use Rattle.top_down_sweep.specs.Beginning.{after_two, files_from, Begun, Starts};
-    ghost use Rattle.top_down_sweep.specs.Sweeps.{parts_of};
+    ghost use Rattle.top_down_sweep.specs.Sweeps.{parts_of, variables_of};
     ghost use Rattle.top_down_sweep.specs.Tasks.{IsCanonicalFile};
     ghost use Rattle.ite_sweep.specs.Choices.{operands, sweep_of, MakesTable, GivesArcs};
 
@@ -42,22 +43,36 @@ impl<'r> IteSweep<'r> {
         requires past_made { 3 ≤ parts.next }
         ensures begun { IfOk result (λ s. Begun S.tells S.world (files_from (operands c f g) parts) (after_two parts)
             shelf.old shelf.new (sweep_of s)) }
+        ensures variables { IfOk result (λ s. variables_of (sweep_of s) ≡ n) }
         ensures leaves { Starts S.tells S.world S.faults n (files_from (operands c f g) parts) parts
             shelf.old shelf.new result }
+        ensures few_calls { IsTrue (S.tells shelf.new) →
+            (S.world shelf.new).clock ≤ (S.world shelf.old).clock + 8 }
 
         // of canonical files the choice's table remains to be made, and none of them is damaged
         ensures means { IfOk result (λ s. IsTrue (S.tells shelf.new) → (t u v : List Bool) →
             IsCanonicalFile n t c (S.world shelf.old) → IsCanonicalFile n u f (S.world shelf.old) →
             IsCanonicalFile n v g (S.world shelf.old) →
             ¬ CanBeTaken parts.step 3 c → ¬ CanBeTaken parts.step 3 f → ¬ CanBeTaken parts.step 3 g →
-            MakesTable s (S.world shelf.new)
-            (record { n = n; table = step_table n (t ∷ u ∷ v ∷ []) (Ite 0 1 2) })) }
+            MakesTable s (S.world shelf.new) (work_of_step n (Ite 0 1 2) (t ∷ u ∷ v ∷ []))) }
+        ensures left { IfOk result (λ s. IsTrue (S.tells shelf.new) → (t u v : List Bool) →
+            IsCanonicalFile n t c (S.world shelf.old) → IsCanonicalFile n u f (S.world shelf.old) →
+            IsCanonicalFile n v g (S.world shelf.old) →
+            ¬ CanBeTaken parts.step 3 c → ¬ CanBeTaken parts.step 3 f → ¬ CanBeTaken parts.step 3 g →
+            turns_of (sweep_of s) (S.world shelf.new) (work_of_step n (Ite 0 1 2) (t ∷ u ∷ v ∷ []))
+            ≤ arcs_turns n (Ite 0 1 2) (t ∷ u ∷ v ∷ [])) }
+        ensures half { IfOk result (λ s. IsTrue (S.tells shelf.new) → (t u v : List Bool) →
+            IsCanonicalFile n t c (S.world shelf.old) → IsCanonicalFile n u f (S.world shelf.old) →
+            IsCanonicalFile n v g (S.world shelf.old) →
+            ¬ CanBeTaken parts.step 3 c → ¬ CanBeTaken parts.step 3 f → ¬ CanBeTaken parts.step 3 g →
+            2 * turns_of (sweep_of s) (S.world shelf.new) (work_of_step n (Ite 0 1 2) (t ∷ u ∷ v ∷ []))
+            ≤ work_for n (Ite 0 1 2) (t ∷ u ∷ v ∷ [])) }
         ensures undamaged { IfErr result (λ e. IsTrue (S.tells shelf.new) → (t u v : List Bool) →
             IsCanonicalFile n t c (S.world shelf.old) → IsCanonicalFile n u f (S.world shelf.old) →
             IsCanonicalFile n v g (S.world shelf.old) →
             ¬ CanBeTaken parts.step 3 c → ¬ CanBeTaken parts.step 3 f → ¬ CanBeTaken parts.step 3 g → IsNoDamage e) }
     {
-        operations_on_canonical_files_are_tasks();
+        operations_on_canonical_files_are_work();
         let operands = OperandFiles {
             first: c,
             second: f,
@@ -87,18 +102,19 @@ impl<'r> Sweep<'r> for IteSweep<'r> {
     ghost use Rattle.top_down_sweep.specs.Calls.{IsInStep};
     ghost use Rattle.top_down_sweep.specs.Damage.{IsDamage};
     ghost use Rattle.top_down_sweep.specs.Fuel.{fuel_of};
-    ghost use Rattle.top_down_sweep.specs.Making.{TableJob, accounts_along};
+    ghost use Rattle.top_down_sweep.specs.Making.{accounts_along};
+    ghost use Rattle.table_work.specs.Jobs.{TableWork, turns_of};
     ghost use Rattle.top_down_sweep.specs.Sweeps.{SweepTask, task_of, accounts};
     ghost use Rattle.top_down_sweep.specs.declared.choice.Choice.{Choice};
     ghost use Rattle.ite_sweep.specs.Choices.{sweep_of, MakesTable};
 
-    ghost Job = { TableJob };
+    ghost Job = { TableWork };
 
     ghost remains = { MakesTable };
 
     ghost fuel = { λ s. fuel_of (sweep_of s) };
 
-    ghost left = { λ s world job. fuel_of (sweep_of s) };
+    ghost left = { λ s world job. turns_of (sweep_of s) world job };
 
     ghost accounts = { accounts_along sweep_of (accounts Choice) };
 

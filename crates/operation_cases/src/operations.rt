@@ -1,6 +1,6 @@
 //! Operations on tables of three variables, beside tables that were worked out by hand.
 use crate::reducing::{EMPTY, FIRST, LEAST_ROOM, SECOND, THIRD, bench_of, leaves};
-use crate::sweeps::{choice, product, quantified, restricted};
+use crate::sweeps::{choice, implies, product, quantified, restricted};
 use bool_tables::{Bin, Quant};
 use std::test::Fail;
 
@@ -133,5 +133,66 @@ fn restrictions_leave(rt: HostRuntime) -> Result<bool, Fail> {
 fn restrictions_leave_the_canonical_files(rt: HostRuntime) -> Result<(), Fail> {
     let leave = restrictions_leave(rt)?;
     assert!(rt; leave);
+    Ok(())
+}
+
+/// Whether all variables are 1, whether at least two of them are, and always.
+const RISING: [[bool; 8]; 3] = [
+    [NO, NO, NO, NO, NO, NO, NO, YES],
+    [NO, NO, NO, YES, NO, YES, YES, YES],
+    [YES; 8],
+];
+
+// Of each two of these the earlier one implies the later one, and not the other way round.
+fn implications_hold(rt: HostRuntime) -> Result<bool, Fail> {
+    let mut bench = bench_of(rt.alloc(), &RISING)?;
+    let mut room = vec![in rt.alloc(); EMPTY; LEAST_ROOM]?;
+    let room = room.as_mut_slice();
+    for (f, g, wanted) in [
+        (FIRST, SECOND, true),
+        (SECOND, FIRST, false),
+        (SECOND, THIRD, true),
+        (THIRD, SECOND, false),
+        (SECOND, SECOND, true),
+    ] {
+        if implies(f, g, room, &mut bench).ok().flatten() != Some(wanted) {
+            return Ok(false);
+        }
+    }
+    Ok(true)
+}
+
+#[test]
+fn implications_are_answered(rt: HostRuntime) -> Result<(), Fail> {
+    let hold = implications_hold(rt)?;
+    assert!(rt; hold);
+    Ok(())
+}
+
+/// The truth values as tables, and the first variable.
+const CONSTANT: [[bool; 8]; 3] = [[YES; 8], [NO; 8], [NO, NO, NO, NO, YES, YES, YES, YES]];
+
+// What is always 1 doesn't imply what is always 0, whose root and that of their arcs are truth values.
+fn constants_are_answered(rt: HostRuntime) -> Result<bool, Fail> {
+    let mut bench = bench_of(rt.alloc(), &CONSTANT)?;
+    let mut room = vec![in rt.alloc(); EMPTY; LEAST_ROOM]?;
+    let room = room.as_mut_slice();
+    for (f, g, wanted) in [
+        (FIRST, SECOND, false),
+        (SECOND, FIRST, true),
+        (SECOND, THIRD, true),
+        (FIRST, THIRD, false),
+    ] {
+        if implies(f, g, room, &mut bench).ok().flatten() != Some(wanted) {
+            return Ok(false);
+        }
+    }
+    Ok(true)
+}
+
+#[test]
+fn implications_of_constants_are_answered(rt: HostRuntime) -> Result<(), Fail> {
+    let answered = constants_are_answered(rt)?;
+    assert!(rt; answered);
     Ok(())
 }

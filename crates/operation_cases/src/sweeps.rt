@@ -6,7 +6,7 @@ use crate::reducing::{LEAST_ROOM, PARTS, VARIABLES};
 use arc_file::Unreduced;
 use bool_tables::{Bin, Quant};
 use ite_sweep::IteSweep;
-use product_sweep::ProductSweep;
+use product_sweep::{LeqSweep, ProductSweep};
 use quantify::QuantifySweep;
 use rec_words::Rec;
 use restrict_eval::RestrictSweep;
@@ -34,7 +34,23 @@ pub(crate) fn product(
     }
 }
 
-/// Those of a choice.
+/// Whether one function implies another everywhere, where its sweep ends in time.
+pub(crate) fn implies(
+    f: FileNo,
+    g: FileNo,
+    room: &mut [Rec],
+    bench: &mut Bench,
+) -> Result<Option<bool>, SortFault>
+    requires enough { LEAST_ROOM ≤ length room.old }
+{
+    let mut sweep = LeqSweep::start(VARIABLES, f, g, PARTS, room, bench)?;
+    match drive(&mut sweep, MOST_TURNS, bench)? {
+        Turn::Ended => Ok(sweep.answer()),
+        Turn::More => Ok(None),
+    }
+}
+
+/// The arcs of a choice.
 pub(crate) fn choice(
     test: FileNo,
     yes: FileNo,

@@ -1,1 +1,3 @@
 pub mod Products
+pub mod Ones
+pub mod Implications

@@ -10,7 +10,7 @@ use Rattle.top_down.specs.Tuples.{unused}
 use Rattle.top_down_sweep.specs.declared.beginning.OperandFiles.{OperandFiles}
 use Rattle.top_down_sweep.specs.declared.product.Product.{Product}
 use Rattle.top_down_sweep.specs.declared.sweep.TopDownSweep.{TopDownSweep}
-use Rattle.top_down_sweep.specs.Making.{TableJob, Makes, Gives}
+use Rattle.table_work.specs.Jobs.{TableWork, MakesWithin, GivesWithin}
 use Rattle.product_sweep.specs.declared.sweep.ProductSweep.{ProductSweep}
 
 -- the files of the two operands; that of the second also stands third, where none is used
@@ -28,10 +28,10 @@ rule_of o = product_rule o.op
 abbrev pub begins_of : Product → Tuple → Tuple
 begins_of o roots = record { first = roots.first; second = roots.second; third = unused }
 
--- a diagram of the table is still to be made
-abbrev pub MakesTable : ProductSweep → World → TableJob → Type 0
-MakesTable s world job = Makes rule_of begins_of (sweep_of s) world job
+-- a diagram of the table is still to be made, for which no more than so many tuples are met
+abbrev pub MakesTable : ProductSweep → World → TableWork → Type 0
+MakesTable s world job = MakesWithin rule_of begins_of (sweep_of s) world job
 
--- what is told of the arcs that were made
+-- what is told of the arcs that were made, which have no more sources
 abbrev pub GivesArcs : ProductSweep → Option Unreduced → Type 0
-GivesArcs s made = Gives rule_of begins_of (sweep_of s) made
+GivesArcs s made = GivesWithin rule_of begins_of (sweep_of s) made

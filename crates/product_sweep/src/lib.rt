@@ -1,6 +1,9 @@
-//! The sweep that makes a diagram of an operator on two.
+//! The sweeps that make a diagram of an operator on two, and that answer whether one function implies another.
 #![tactic(auto)]
 
+mod leq;
+mod ones;
 mod sweep;
 
+pub use leq::LeqSweep;
 pub use sweep::ProductSweep;

@@ -9,7 +9,7 @@ use Rattle.top_down.specs.Rules.{Rule}
 use Rattle.top_down_sweep.specs.declared.beginning.OperandFiles.{OperandFiles}
 use Rattle.top_down_sweep.specs.declared.quantified.Quantified.{Quantified}
 use Rattle.top_down_sweep.specs.declared.sweep.TopDownSweep.{TopDownSweep}
-use Rattle.top_down_sweep.specs.Making.{TableJob, Makes, Gives}
+use Rattle.table_work.specs.Jobs.{TableWork, MakesWithin, GivesWithin}
 use Rattle.quantify.specs.declared.sweep.QuantifySweep.{QuantifySweep}
 
 -- the file of the one operand, for each pointer
@@ -27,10 +27,10 @@ rule_of o = quantify_rule o.kind o.variable
 abbrev pub begins_of : Quantified → Tuple → Tuple
 begins_of o roots = two roots.first roots.first
 
--- a diagram of the table is still to be made
-abbrev pub MakesTable : QuantifySweep → World → TableJob → Type 0
-MakesTable s world job = Makes rule_of begins_of (sweep_of s) world job
+-- a diagram of the table is still to be made, for which no more than so many tuples are met
+abbrev pub MakesTable : QuantifySweep → World → TableWork → Type 0
+MakesTable s world job = MakesWithin rule_of begins_of (sweep_of s) world job
 
--- what is told of the arcs that were made
+-- what is told of the arcs that were made, which have no more sources
 abbrev pub GivesArcs : QuantifySweep → Option Unreduced → Type 0
-GivesArcs s made = Gives rule_of begins_of (sweep_of s) made
+GivesArcs s made = GivesWithin rule_of begins_of (sweep_of s) made

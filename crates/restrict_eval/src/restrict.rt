@@ -4,7 +4,7 @@ use rec_words::Rec;
 use run_merge::Parts;
 use shelf_model::{FileNo, Shelf, SortFault};
 use sweep_core::{Sweep, Turn};
-use top_down_sweep::laws::operations_on_canonical_files_are_tasks;
+use table_work::laws::operations_on_canonical_files_are_work;
 use top_down_sweep::{OperandFiles, Restricted, TopDownSweep};
 
 /// The restriction of a variable of a diagram to a value, level by level from the root down. It makes the arcs of a
@@ -17,13 +17,14 @@ pub struct RestrictSweep<'r> {
 }
 
 impl<'r> RestrictSweep<'r> {
-    ghost use Rattle.std.specs.Prelude.{◌≡◌, ◌≤◌, ◌<◌, ◌∷◌, [], Bool, List, IsTrue, IfOk, IfErr, length};
-    ghost use Rattle.bool_tables.specs.Steps.{step_table};
+    ghost use Rattle.std.specs.Prelude.{◌≡◌, ◌≤◌, ◌<◌, ◌∷◌, [], Bool, List, IsTrue, IfOk, IfErr, length, ◌+◌, ◌*◌};
     ghost use Rattle.bool_tables.specs.declared.steps.Step.TheVariants.{Restrict};
+    ghost use Rattle.step_work.specs.Works.{work_for};
     ghost use Rattle.sweep_core.specs.Accounts.{CanBeTaken};
     ghost use Rattle.sweep_core.specs.Sweeps.{IsNoDamage};
+    ghost use Rattle.table_work.specs.Jobs.{work_of_step, turns_of, arcs_turns};
     ghost use Rattle.top_down_sweep.specs.Beginning.{after_two, files_from, Begun, Starts};
-    ghost use Rattle.top_down_sweep.specs.Sweeps.{parts_of};
+    ghost use Rattle.top_down_sweep.specs.Sweeps.{parts_of, variables_of};
     ghost use Rattle.top_down_sweep.specs.Tasks.{IsCanonicalFile};
     ghost use Rattle.restrict_eval.specs.Restrictions.{operands, sweep_of, MakesTable, GivesArcs};
 
@@ -43,20 +44,32 @@ impl<'r> RestrictSweep<'r> {
         requires past_made { 3 ≤ parts.next }
         ensures begun { IfOk result (λ s. Begun S.tells S.world (files_from (operands f) parts) (after_two parts)
             shelf.old shelf.new (sweep_of s)) }
+        ensures variables { IfOk result (λ s. variables_of (sweep_of s) ≡ n) }
         ensures leaves { Starts S.tells S.world S.faults n (files_from (operands f) parts) parts
             shelf.old shelf.new result }
+        ensures few_calls { IsTrue (S.tells shelf.new) →
+            (S.world shelf.new).clock ≤ (S.world shelf.old).clock + 8 }
 
         // of a canonical file the restriction's table remains to be made, and it isn't damaged
         ensures means { IfOk result (λ s. IsTrue (S.tells shelf.new) → (t : List Bool) →
             IsCanonicalFile n t f (S.world shelf.old) →
             ¬ CanBeTaken parts.step 3 f →
-            MakesTable s (S.world shelf.new)
-            (record { n = n; table = step_table n (t ∷ []) (Restrict 0 level value) })) }
+            MakesTable s (S.world shelf.new) (work_of_step n (Restrict 0 level value) (t ∷ []))) }
+        ensures left { IfOk result (λ s. IsTrue (S.tells shelf.new) → (t : List Bool) →
+            IsCanonicalFile n t f (S.world shelf.old) →
+            ¬ CanBeTaken parts.step 3 f →
+            turns_of (sweep_of s) (S.world shelf.new) (work_of_step n (Restrict 0 level value) (t ∷ []))
+            ≤ arcs_turns n (Restrict 0 level value) (t ∷ [])) }
+        ensures half { IfOk result (λ s. IsTrue (S.tells shelf.new) → (t : List Bool) →
+            IsCanonicalFile n t f (S.world shelf.old) →
+            ¬ CanBeTaken parts.step 3 f →
+            2 * turns_of (sweep_of s) (S.world shelf.new) (work_of_step n (Restrict 0 level value) (t ∷ []))
+            ≤ work_for n (Restrict 0 level value) (t ∷ [])) }
         ensures undamaged { IfErr result (λ e. IsTrue (S.tells shelf.new) → (t : List Bool) →
             IsCanonicalFile n t f (S.world shelf.old) →
             ¬ CanBeTaken parts.step 3 f → IsNoDamage e) }
     {
-        operations_on_canonical_files_are_tasks();
+        operations_on_canonical_files_are_work();
         let operands = OperandFiles {
             first: f,
             second: f,
@@ -90,18 +103,19 @@ impl<'r> Sweep<'r> for RestrictSweep<'r> {
     ghost use Rattle.top_down_sweep.specs.Calls.{IsInStep};
     ghost use Rattle.top_down_sweep.specs.Damage.{IsDamage};
     ghost use Rattle.top_down_sweep.specs.Fuel.{fuel_of};
-    ghost use Rattle.top_down_sweep.specs.Making.{TableJob, accounts_along};
+    ghost use Rattle.top_down_sweep.specs.Making.{accounts_along};
+    ghost use Rattle.table_work.specs.Jobs.{TableWork, turns_of};
     ghost use Rattle.top_down_sweep.specs.Sweeps.{SweepTask, task_of, accounts};
     ghost use Rattle.top_down_sweep.specs.declared.restricted.Restricted.{Restricted};
     ghost use Rattle.restrict_eval.specs.Restrictions.{sweep_of, MakesTable};
 
-    ghost Job = { TableJob };
+    ghost Job = { TableWork };
 
     ghost remains = { MakesTable };
 
     ghost fuel = { λ s. fuel_of (sweep_of s) };
 
-    ghost left = { λ s world job. fuel_of (sweep_of s) };
+    ghost left = { λ s world job. turns_of (sweep_of s) world job };
 
     ghost accounts = { accounts_along sweep_of (accounts Restricted) };
 

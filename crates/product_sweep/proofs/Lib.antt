@@ -1,0 +1,4 @@
+mod Somewhere
+pub mod Refuting
+mod Search
+mod Turning

@@ -1,0 +1,4 @@
+mod CanonicalWork
+pub mod Sources
+pub mod Turns
+pub mod Workings
