@@ -173,7 +173,7 @@ steps_stand text s steps wanted made h begun room on =
 
 -- the names of a line stand where its words do
 
-pub all_drop : (P : Word → Type 0) (n : ℕ) (words : List Word) → AllByRecursion P words → AllByRecursion P (drop n words)
+all_drop : (P : Word → Type 0) (n : ℕ) (words : List Word) → AllByRecursion P words → AllByRecursion P (drop n words)
 all_drop P zero words all = all
 all_drop P (suc n) [] all = tt
 all_drop P (suc n) (w ∷ words) all = all_drop P n words all.1
