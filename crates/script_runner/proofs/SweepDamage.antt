@@ -40,15 +40,54 @@ pub record AreAlike (a b c d : World) : Type 0 where
   pub first : (now c).folder ≡ (now a).folder
   pub second : (now d).folder ≡ (now b).folder
 
+-- damage of a step's own arcs is judged by the folder alone
+own_framed : (n number : ℕ) (a b : World) (f : FileNo) (at : ℕ) → IsSweepFault n [] number a b (sort.Damaged f at)
+    → IsSweepFault n [] number a (with_folder (now b).folder b) (sort.Damaged f at)
+own_framed n number a b f at (inl none) = absurd none
+own_framed n number a b f at (inr (inl x)) = inr (inl (record {
+  place = x.place;
+  given = x.given;
+  file_is = x.file_is;
+  at_is = x.at_is;
+  damaged = x.damaged;
+}))
+own_framed n number a b f at (inr (inr x)) = inr (inr (record {
+  place = x.place;
+  given = x.given;
+  file_is = x.file_is;
+  at_is = x.at_is;
+  damaged = x.damaged;
+}))
+
+own_moved : (n number : ℕ) (a b d : World) (f : FileNo) (at : ℕ)
+    → IsSweepFault n [] number a (with_folder (now d).folder b) (sort.Damaged f at)
+    → IsSweepFault n [] number a d (sort.Damaged f at)
+own_moved n number a b d f at (inl none) = absurd none
+own_moved n number a b d f at (inr (inl x)) = inr (inl (record {
+  place = x.place;
+  given = x.given;
+  file_is = x.file_is;
+  at_is = x.at_is;
+  damaged = x.damaged;
+}))
+own_moved n number a b d f at (inr (inr x)) = inr (inr (record {
+  place = x.place;
+  given = x.given;
+  file_is = x.file_is;
+  at_is = x.at_is;
+  damaged = x.damaged;
+}))
+
 sweep_there : (n : ℕ) (xs : List ℕ) (number : ℕ) (a b c d : World) (fault : SortFault) → AreAlike a b c d
     → IsSweepFault n xs number a b fault → IsSweepFault n xs number c d fault
 sweep_there n xs number a b c d sort.Shelf alike is = tt
 sweep_there n xs number a b c d (sort.Damaged f at) alike is = elim is [
   | inl among ↦ inl (among_there n xs a c f at alike.first among)
   | inr own ↦
-      let here : IsSweepFault n [] number a d (sort.Damaged f at) =
+      let framed : IsSweepFault n [] number a (with_folder (now d).folder b) (sort.Damaged f at) =
       subst (λ (folder : Folder). IsSweepFault n [] number a (with_folder folder b) (sort.Damaged f at)) (sym alike.second)
-      (inr own) in
+      (own_framed n number a b f at (inr own)) in
+      let here : IsSweepFault n [] number a d (sort.Damaged f at) = own_moved n number a b d f at framed in
       elim here [ inl none ↦ absurd none | inr there ↦ inr there ]
 ]
 sweep_there n xs number a b c d sort.RunsSpent alike is = tt
