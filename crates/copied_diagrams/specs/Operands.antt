@@ -25,4 +25,5 @@ value_of Right b c = c
 
 -- the operator gives the value of that operand, whichever two values may meet
 abbrev pub IsResult : Bin → Bool → ℕ → ℕ → Operand → Type 0
-IsResult op same left right operand = (b c : Bool) → MayMeet same left right b c → op_value op b c ≡ value_of operand b c
+IsResult op same left right operand = (b c : Bool) → MayMeet same left right b c
+    → op_value op b c ≡ value_of operand b c

@@ -8,7 +8,7 @@ ghost use Rattle.copied_diagrams.specs.Copies.{Changed};
 
 use shelf_model::{Failed, FileNo, PIECE, Shelf};
 
-/// Makes a file that of the first pieces of another one, 2,048 bytes each: of all of it where it has no more than these.
+/// Makes a file that of the first pieces of another one, 2,048 bytes each: of all of it where it has no more.
 /// It stands there whatever a stop leaves.
 pub fn copy_file<S: Shelf>(
     from: FileNo,

@@ -25,7 +25,8 @@ pub(crate) struct Known {
 /// The operand whose values an operator gives, wherever the two values that meet are as is known of them.
 pub(crate) fn operand_of(op: Bin, known: &Known) -> Option<Operand>
     ensures result { IfSome result (IsResult op known.now.same known.now.left known.now.right) }
-    ensures none { IfNone result ((operand : Operand) → ¬ IsResult op known.now.same known.now.left known.now.right operand) }
+    ensures none { IfNone result ((operand : Operand) → ¬ IsResult op known.now.same known.now.left
+        known.now.right operand) }
 {
     if is_result(op, known, Operand::Left) {
         Some(Operand::Left)

@@ -114,8 +114,8 @@ pub record IsToBeMade (s : LeqSweep) (world : World) (d : Implication) : Type 0 
   pub right_form : HasForm d.n d.right
   pub makes : MakesTable s.product world (refutation d)
 
--- the left function doesn't imply the right one exactly where the truth value 1 is the root or an arc that is left leads
--- to it
+-- the left function doesn't imply the right one exactly where the truth value 1 is the root or an arc that is left
+-- leads to it
 pub record IsToBeFound (left : Unreduced) (world : World) (d : Implication) : Type 0 where
   pub ends : List Arc
   pub has_ends : HasEnds left world ends

@@ -19,7 +19,8 @@ use Rattle.script_runner.specs.Running.{SaysFront}
 abbrev pub EndsList : ℕ → Type 0
 EndsList status = (status ≡ 0) ⊎ (status ≡ 7) ⊎ (status ≡ 8) ⊎ (status ≡ 10)
 
--- the line of a job's step, where it is a named diagram that is live after the first n: its name and its number of nodes
+-- the line of a job's step, where it is a named diagram that is live after the first n: its name and its number of
+-- nodes
 abbrev pub diagram_line : Job → ℕ → ℕ → List ℕ
 diagram_line job n k =
     if is_live (take n job.steps) k && nat_lt 0 (length (name_of job (step_at job k)))

@@ -111,7 +111,8 @@ other_job_line at = line_of (codes "other job at " ++ decimal at)
 
 -- a file of the folder doesn't hold what it should, from that byte on
 abbrev pub damaged_line : FileNo → ℕ → List ℕ
-damaged_line f at = line_of (codes "damaged " ++ decimal f.step ++ codes " " ++ decimal f.part ++ codes " " ++ decimal at)
+damaged_line f at =
+    line_of (codes "damaged " ++ decimal f.step ++ codes " " ++ decimal f.part ++ codes " " ++ decimal at)
 
 -- a step has no part number left
 abbrev pub runs_spent_line : ℕ → List ℕ

@@ -88,8 +88,8 @@ fn made_of(
     }
 }
 
-// A copy of the table's file: with one turn for each node and one more, no part taken, and the calls for two trailers, a
-// cut, a sync and the pieces.
+// A copy of the table's file: with one turn for each node and one more, no part taken, and the calls for two trailers,
+// a cut, a sync and the pieces.
 fn copies(
     alloc: Global,
     operation: StepOperation,

@@ -30,8 +30,8 @@ pub struct MadeDiagram {
 /// Makes the node file of an operation on the files of diagrams of `n` variables: a sweep makes the arcs of a diagram
 /// in parts 3 and 4 of the step, and a reduction makes part 0 of them. It begins anew, whatever these files hold.
 ///
-/// An operator whose table is that of one operand, as the operands' trailers show, makes part 0 a copy of its file, where
-/// that has fewer nodes than a checkpoint's interval has turns.
+/// An operator whose table is that of one operand, as the operands' trailers show, makes part 0 a copy of its file,
+/// where that has fewer nodes than a checkpoint's interval has turns.
 ///
 /// It takes no memory: all lies in the room.
 pub fn make_diagram<S: Shelf>(

@@ -17,8 +17,8 @@ use rec_words::Rec;
 use shelf_model::{Shelf, SortFault};
 use top_down_sweep::OperandFiles;
 
-/// Makes the node file of an operation: a sweep makes the arcs of a diagram in parts 3 and 4 of the step, and a reduction
-/// makes part 0 of them. At least one turn of the step's work is left.
+/// Makes the node file of an operation: a sweep makes the arcs of a diagram in parts 3 and 4 of the step, and a
+/// reduction makes part 0 of them. At least one turn of the step's work is left.
 pub(crate) fn sweep_diagram<S: Shelf>(
     operation: StepOperation,
     n: u32,
