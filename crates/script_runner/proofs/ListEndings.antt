@@ -18,7 +18,7 @@ use Rattle.script_runner.specs.Fetching.{OnlyFetched}
 use Rattle.script_runner.specs.Status.{status_of}
 use Rattle.script_runner.specs.Entered.{EndingHasCause}
 use Rattle.script_runner.specs.Listed.{EndsList, diagram_lines, ListsIn}
-use Rattle.script_runner.specs.Outcome.{Asks, Ends, EndsListed, EndsRefused, EndsRan, EndsNetlist, EndsSilent, ByWords, StatusHasCause, NoneRose, MakesFewCalls, Answers}
+use Rattle.script_runner.specs.Outcome.{Asks, Ends, EndsSilent, ByWords, StatusHasCause, NoneRose, Answers}
 
 -- words that ask for a list have that reading alone
 one_reading : (a b : Reading) → Some a ≡ Some b → b ≡ a
