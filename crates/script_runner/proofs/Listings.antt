@@ -27,7 +27,7 @@ use Rattle.catalogue.proofs.Fields.{ReadsAs, entry_reads, same_fields}
 use Rattle.catalogue.proofs.Places.{length_entry}
 use Rattle.diagram_list.specs.declared.fault.ListFault.{ListFault}
 use Rattle.diagram_list.specs.declared.fault.ListFault.TheVariants.{Shelf, Say, Damaged}
-use Rattle.diagram_list.specs.Listing.{entry_read, entry_in, first_steps, is_dropped, is_named, step_line, listing}
+use Rattle.diagram_list.specs.Listing.{entry_read, entry_in, first_steps, is_dropped, step_line, listing}
 use Rattle.diagram_list.specs.Listing as found
 use Rattle.diagram_list.specs.Lists.{StandWhole, SamePlace, DuringList, IsDamagedPlace, NamesDamage, Lists}
 use Rattle.sound_image.specs.Jobs.{Job, no_step, step_at}

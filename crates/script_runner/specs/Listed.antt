@@ -19,8 +19,8 @@ use Rattle.script_runner.specs.Running.{SaysFront}
 abbrev pub EndsList : ℕ → Type 0
 EndsList status = (status ≡ 0) ⊎ (status ≡ 7) ⊎ (status ≡ 8) ⊎ (status ≡ 10)
 
--- the line of a job's step, where it is a named diagram that is live after the first n: its name and its number of
--- nodes
+-- the line of a job's step, where it is a named diagram that is live after the first n steps: its name and its number
+-- of nodes
 abbrev pub diagram_line : Job → ℕ → ℕ → List ℕ
 diagram_line job n k =
     if is_live (take n job.steps) k && nat_lt 0 (length (name_of job (step_at job k)))
@@ -54,7 +54,8 @@ pub record ListsFrom (status : ℕ) (start : Moment) (old new : World) : Type 0 
   pub stand : status ≡ 0 → StandWhole (count_in (present start.folder)) (present start.folder)
   -- with 10 a damaged place is named
   pub damaged : status ≡ 10 → NamesPlace start new
-  -- where each image was sound for a job at first no place is damaged, and the lines are those of its live diagrams
+  -- where each image was sound for a job at first, the lines are those of its live diagrams, and no place is damaged if
+  -- it has as few steps as jobs have
   pub goes_on : (job : Job) → length job.steps ≤ most_steps → AreSound job start.folder → ¬ (status ≡ 10)
   pub lines_are : (job : Job) → AreSound job start.folder
       → listing (present start.folder) ≡ diagram_lines job (count_in (present start.folder))
