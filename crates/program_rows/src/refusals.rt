@@ -41,7 +41,7 @@ fn ends_without_a_script(alloc: Global) -> Result<bool, Fail> {
 
 #[test]
 fn says_the_usage_to_other_words(rt: HostRuntime) -> Result<(), Fail> {
-    let cases: [&[&str]; 17] = [
+    let cases: [&[&str]; 14] = [
         &[],
         &["adiar"],
         &["adiar", "run", "FOLDER", "--script"],
@@ -62,18 +62,6 @@ fn says_the_usage_to_other_words(rt: HostRuntime) -> Result<(), Fail> {
         ],
         &["adiar", "list", "FOLDER", "--script", "script"],
         &["adiar", "list", "FOLDER", "--budget", "16384"],
-        // What the program doesn't do so far.
-        &["adiar", "list", "FOLDER"],
-        &["adiar", "gen", "FOLDER", "--size", "1"],
-        &[
-            "adiar",
-            "run",
-            "FOLDER",
-            "--script",
-            "script",
-            "--netlist",
-            "script",
-        ],
     ];
     for words in cases {
         assert!(rt; says_the_usage(rt.alloc(), words)?, "{words:?}");
