@@ -3,7 +3,9 @@ use Rattle.std.specs.Prelude.{◌≡◌, ℕ, zero, suc, ◌+◌, ◌*◌, ◌^�
 use Rattle.std.proofs.Common.{refl, sym, ◌∙◌, ap, subst, inl, inr, arith}
 use Rattle.std.proofs.lemmas.Bool.{cases_Bool}
 use Rattle.std.proofs.lemmas.List.{take-map, drop-map, length-map, length-append}
-use Rattle.bool_tables.specs.Tables.{low_half, high_half, same_bits}
+use Rattle.bool_tables.specs.Tables.{low_half, high_half, same_bits, value_at, table_with}
+use Rattle.bool_tables.proofs.StepHalves.{table_with-values}
+use Rattle.std.specs.List.{range_with_len}
 use Rattle.list_laws.specs.Members.{Has, put, ascending}
 use Rattle.list_laws.proofs.MemberLaws.{has_map, map_has, has_filter, filter_has}
 use Rattle.canon_file.specs.declared.row.Row.{Row}
@@ -16,7 +18,7 @@ use Rattle.canon_file.proofs.PieceLaws.{has_low, has_high, length-low, length-hi
 use Rattle.canon_file.proofs.RowLaws.{ascending_same, has_row, row_has, pointer-split, pointer-unsplit}
 use Rattle.canon_file.proofs.StandLaws.{at_level, deeper_at, pointer_deep, placed}
 use Rattle.canon_file.proofs.CanonLaws.{canon_nodes-is, canon_root-is}
-use Rattle.complement_laws.specs.Complements.{complement, place_in, other_row, other_rows, other_word, other_levels, HasComplement}
+use Rattle.complement_laws.specs.Complements.{complement, place_in, other_row, other_rows, other_word, other_levels, AreAsMany, HasComplement}
 
 -- complements of halves
 low-complement : (h : ℕ) (p : List Bool) → low_half h (complement p) ≡ complement (low_half h p)
@@ -199,6 +201,24 @@ few_nodes i (rs ∷ deeper) =
       length-numbered i 0 rs,
     )
 
+-- where they are as many in all they are as many on each level
+many_on_each : (i : ℕ) (ls : List (List Row)) → length (nodes_of i ls) ≤ length (nodes_of i (other_levels i ls)) → AreAsMany (other_levels i ls) ls
+many_on_each i [] many = tt
+many_on_each i (rs ∷ deeper) many =
+    let others : List Row = other_rows (other_word (suc i) deeper) rs in
+    let whole : length (nodes_of (suc i) deeper) + length rs ≤ length (nodes_of (suc i) (other_levels (suc i) deeper)) + length others =
+    omega (
+      arith,
+      many,
+      length-append (nodes_of (suc i) (other_levels (suc i) deeper)) (numbered i 0 others),
+      length-numbered i 0 others,
+      length-append (nodes_of (suc i) deeper) (numbered i 0 rs),
+      length-numbered i 0 rs,
+    ) in
+    let few : length others ≤ length rs = few_rows (other_word (suc i) deeper) rs in
+    let below : length (nodes_of (suc i) (other_levels (suc i) deeper)) ≤ length (nodes_of (suc i) deeper) = few_nodes (suc i) deeper in
+    (omega (arith, whole, few, below), many_on_each (suc i) deeper (omega (arith, whole, few, below)))
+
 pub twice_other : (t : List Bool) → complement (complement t) ≡ t
 twice_other [] = refl
 twice_other (true ∷ t) = ap (λ bs. true ∷ bs) (twice_other t)
@@ -228,6 +248,23 @@ few_of n t form =
       few_nodes 0 (levels n 0 (t ∷ [])),
     )
 
+many_of : (n : ℕ) (t : List Bool) → HasForm n t → length (canon_nodes n (complement t)) ≡ length (canon_nodes n t)
+many_of n t form = omega (arith, few_of n t form, few_of n (complement t) (form_of n t form), ap (λ u. length (canon_nodes n u)) (twice_other t))
+
+as_many_of : (n : ℕ) (t : List Bool) → HasForm n t → AreAsMany (levels n 0 (complement t ∷ [])) (levels n 0 (t ∷ []))
+as_many_of n t form =
+    subst (λ ls. AreAsMany ls (levels n 0 (t ∷ []))) (sym (levels_of n t form))
+    (many_on_each 0 (levels n 0 (t ∷ []))
+    (omega (arith, many_of n t form, ap length (canon_nodes-is n (complement t) ∙ ap (nodes_of 0) (levels_of n t form)), ap length (canon_nodes-is n t))))
+
+-- the table with the other values
+pub others_at : (n : ℕ) (t : List Bool) → length t ≡ 2 ^ n → table_with n (λ p. not (value_at t p)) ≡ complement t
+others_at n t whole = others (range_with_len 0 (2 ^ n)) ∙ ap complement (table_with-values n t whole)
+  where
+    others : (places : List ℕ) → map (λ p. not (value_at t p)) places ≡ map not (map (value_at t) places)
+    others [] = refl
+    others (p ∷ places) = ap (λ bs. not (value_at t p) ∷ bs) (others places)
+
 pub has_complement : (n : ℕ) (t : List Bool) → HasForm n t → HasComplement n t
 has_complement n t form = record {
   form = form_of n t form;
@@ -235,5 +272,6 @@ has_complement n t form = record {
   root_is = canon_root-is n (complement t)
       ∙ pointer-other n 0 (t ∷ []) (let few = form.few in omega (arith, few)) (one_long n t form.whole) form.fits t (inl refl)
       ∙ sym (ap (other_word 0 (levels n 0 (t ∷ []))) (canon_root-is n t));
-  nodes_are = omega (arith, few_of n t form, few_of n (complement t) (form_of n t form), ap (λ u. length (canon_nodes n u)) (twice_other t));
+  nodes_are = many_of n t form;
+  as_many = as_many_of n t form;
 }

@@ -41,9 +41,18 @@ abbrev pub other_levels : ℕ → List (List Row) → List (List Row)
 other_levels i [] = []
 other_levels i (rs ∷ deeper) = other_rows (other_word (suc i) deeper) rs ∷ other_levels (suc i) deeper
 
--- the diagram of the complement of a table is made of the table's, and has as many nodes
+-- of each level there are as many rows
+abbrev pub AreAsMany : List (List Row) → List (List Row) → Type 0
+AreAsMany [] [] = Unit {0}
+AreAsMany [] (rs ∷ deeper) = ⊥
+AreAsMany (rs ∷ deeper) [] = ⊥
+AreAsMany (rs ∷ deeper) (ss ∷ below) = (length rs ≡ length ss) × AreAsMany deeper below
+
+-- the diagram of the complement of a table is made of the table's, and has as many nodes on each
+-- level: so no two rows of a level become one
 pub record HasComplement (n : ℕ) (t : List Bool) : Type 0 where
   pub form : HasForm n (complement t)
   pub levels_are : levels n 0 (complement t ∷ []) ≡ other_levels 0 (levels n 0 (t ∷ []))
+  pub as_many : AreAsMany (levels n 0 (complement t ∷ [])) (levels n 0 (t ∷ []))
   pub root_is : canon_root n (complement t) ≡ other_word 0 (levels n 0 (t ∷ [])) (canon_root n t)
   pub nodes_are : length (canon_nodes n (complement t)) ≡ length (canon_nodes n t)
