@@ -41,6 +41,7 @@ fresh_put f old new fresh still listed watched = record {
   folder_is = still.folder_is ∙ fresh.folder_is;
   say_is = still.say_is ∙ fresh.say_is;
   text_is = λ path. still.text_is path ∙ fresh.text_is path;
+  reads_are = λ q. still.reads_are q ∙ fresh.reads_are q;
   unlisted = λ n. listed n ∙ fresh.unlisted n;
   unwatched = watched ∙ ap (λ w. seen w (file_at new)) fresh.unwatched;
 }
@@ -58,6 +59,7 @@ fresh_still old new fresh still failures = record {
   folder_is = still.folder_is ∙ fresh.folder_is;
   say_is = still.say_is ∙ fresh.say_is;
   text_is = λ path. still.text_is path ∙ fresh.text_is path;
+  reads_are = λ q. still.reads_are q ∙ fresh.reads_are q;
   unlisted = λ n. failures.lists_are n ∙ fresh.unlisted n;
   unwatched = failures.watch_is ∙ fresh.unwatched;
 }

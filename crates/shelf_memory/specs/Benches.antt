@@ -1,5 +1,5 @@
 -- What a station in memory tells, and which of its calls fail.
-use Rattle.std.specs.Prelude.{◌≡◌, ◌≢◌, ℕ, ◌+◌, ◌-◌, ◌^◌, ◌<◌, ◌≤◌, ◌⊎◌, ◌||◌, Bool, IsTrue, nat_lt, min, false, List, [], codes, String, Option, None, Result, OnErr, IsErr}
+use Rattle.std.specs.Prelude.{◌≡◌, ◌≢◌, ℕ, ◌+◌, ◌-◌, ◌^◌, ◌<◌, ◌≤◌, ◌⊎◌, ◌||◌, Bool, IsTrue, nat_lt, min, true, false, List, [], codes, String, Option, None, Result, OnOk, OnErr, IsErr}
 use Rattle.shelf_model.specs.declared.file_no.FileNo.{FileNo}
 use Rattle.shelf_model.specs.declared.fault.Failed.{Failed}
 use Rattle.shelf_model.specs.File.{File, firm_file}
@@ -15,7 +15,8 @@ use Rattle.shelf_memory.specs.declared.disk.Disk.{Disk}
 use Rattle.shelf_memory.specs.declared.texts.Text.{Text}
 use Rattle.shelf_memory.specs.Events.{moment_of}
 use Rattle.shelf_memory.specs.Files.{stored_in}
-use Rattle.shelf_memory.specs.Texts.{text_at, count_at}
+use Rattle.shelf_memory.specs.Texts.{text_at, count_at, raised}
+use Rattle.shelf_memory.specs.Reads.{read_count}
 use Rattle.shelf_memory.specs.Failures.{is_listed, is_met, seen}
 
 -- the path of the station's folder
@@ -65,6 +66,10 @@ file_at b f = stored_in b.disk.files f
 abbrev pub said_of : Bench → List ℕ
 said_of b = b.disk.said.items
 
+-- how often `read_at` was called on the file of that number, but for the calls in which memory was refused
+abbrev pub reads_of : Bench → FileNo → ℕ
+reads_of b f = read_count b.reads f
+
 -- the call of that number is to fail by its number
 abbrev pub lists : Bench → ℕ → Bool
 lists b n = is_listed b.failures n
@@ -99,7 +104,19 @@ pub record FailsExactly {T : Type 0} (Reason : Type 0) (result : Result T Failed
   pub lists_are : (n : ℕ) → lists new n ≡ lists old n
   pub watch_is : watch_of new ≡ seen (watch_of old) (file_at new)
 
--- a station at its start: nothing was said, no call was made or failed, and none is to fail
+-- no file was read
+abbrev pub SameReads : Bench → Bench → Type 0
+SameReads old new = (f : FileNo) → reads_of new f ≡ reads_of old f
+
+-- one file was read once, whether that failed or not; where memory was refused, that isn't counted
+pub record CountsRead {T : Type 0} (f : FileNo) (result : Result T Failed) (old new : Bench) : Type 0 where
+  pub ok : OnOk result (reads_of new f ≡ raised true (reads_of old f))
+  pub counted : starved_of new ≡ starved_of old → starved_of new < 2 ^ 64 - 1
+      → reads_of new f ≡ raised true (reads_of old f)
+  pub starving : starved_of old < starved_of new → reads_of new f ≡ reads_of old f
+  pub others : (q : FileNo) → q ≢ f → reads_of new q ≡ reads_of old q
+
+-- a station at its start: nothing was said or read, no call was made or failed, and none is to fail
 pub record IsFresh (b : Bench) : Type 0 where
   pub tells : IsTrue (tells_of b)
   pub clock_is : clock_of b ≡ 0
@@ -111,6 +128,7 @@ pub record IsFresh (b : Bench) : Type 0 where
   pub folder_is : (faults_of b).folder ≡ 0
   pub say_is : (faults_of b).say ≡ 0
   pub text_is : (path : List ℕ) → (faults_of b).text path ≡ 0
+  pub reads_are : (f : FileNo) → reads_of b f ≡ 0
   pub unlisted : (n : ℕ) → lists b n ≡ false
   pub unwatched : watch_of b ≡ None
 
@@ -128,6 +146,7 @@ pub record StandsStill (old new : Bench) : Type 0 where
   pub folder_is : (faults_of new).folder ≡ (faults_of old).folder
   pub say_is : (faults_of new).say ≡ (faults_of old).say
   pub text_is : (path : List ℕ) → (faults_of new).text path ≡ (faults_of old).text path
+  pub reads_are : SameReads old new
 
 -- but for one file, its texts and what is to fail the station is as it was, its past with it
 pub record StandsStillBut (f : FileNo) (old new : Bench) : Type 0 where
@@ -145,6 +164,7 @@ pub record StandsStillBut (f : FileNo) (old new : Bench) : Type 0 where
   pub folder_is : (faults_of new).folder ≡ (faults_of old).folder
   pub say_is : (faults_of new).say ≡ (faults_of old).say
   pub text_is : (path : List ℕ) → (faults_of new).text path ≡ (faults_of old).text path
+  pub reads_are : SameReads old new
 
 -- the file has these bytes, all of them firm, and the watch looked at it
 pub record PutsFile (f : FileNo) (bytes : List ℕ) (old new : Bench) : Type 0 where

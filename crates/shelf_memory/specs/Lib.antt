@@ -5,6 +5,7 @@ pub mod Files
 pub mod Past
 pub mod Disks
 pub mod Texts
+pub mod Reads
 pub mod Failures
 pub mod Counts
 pub mod Benches

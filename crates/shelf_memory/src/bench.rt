@@ -5,6 +5,7 @@ use crate::counts::Counts;
 use crate::disk::Disk;
 use crate::failures::{Failures, Watch};
 use crate::files::bytes_of;
+use crate::reads::count_of;
 use crate::texts::{Text, put_text};
 use shelf_model::{Failed, FileNo};
 use std::alloc::{AllocError, Global};
@@ -21,6 +22,7 @@ pub struct Bench {
     pub(crate) texts: BTreeMap<String, Text>,
     pub(crate) failures: Failures,
     pub(crate) counts: Counts,
+    pub(crate) reads: BTreeMap<FileNo, u64>,
     ghost counts_are: { disk.clock < 2 ^ 64 - 1 → (counts.strays ≤ disk.clock) × (counts.starved ≡ 0) },
 }
 
@@ -36,7 +38,7 @@ impl Bench {
     ghost use Rattle.shelf_model.specs.Faults.{OnlyFolder};
     ghost use Rattle.shelf_memory.specs.Changes.{changed, FitsIn};
     ghost use Rattle.shelf_memory.specs.Files.{stored_in};
-    ghost use Rattle.shelf_memory.specs.Benches.{IsFresh, StandsStill, StandsStillBut, PutsFile, watch_of, SameTexts, SameFailures, tells_of, world_of, faults_of, clock_of, starved_of, file_at, said_of, lists, is_spent, fails_next, FailsExactly};
+    ghost use Rattle.shelf_memory.specs.Benches.{IsFresh, StandsStill, StandsStillBut, PutsFile, watch_of, SameTexts, SameFailures, tells_of, world_of, faults_of, clock_of, starved_of, file_at, said_of, reads_of, lists, is_spent, fails_next, FailsExactly, SameReads, CountsRead};
 
     /// A station with no files, texts or said bytes. It takes no memory.
     pub fn empty(alloc: Global) -> Bench
@@ -51,6 +53,7 @@ impl Bench {
             texts: BTreeMap::new(alloc),
             failures: Failures::none(alloc),
             counts: Counts::NONE,
+            reads: BTreeMap::new(alloc),
         }
     }
 
@@ -158,6 +161,16 @@ impl Bench {
         self.counts.starved
     }
 
+    /// How often `read_at` was called on the file since the station was made, or 2^64 - 1 where it was more often.
+    ///
+    /// Calls that failed are counted too, but none in which memory was refused. It takes no memory; the first read
+    /// of a file does, for its count.
+    pub fn reads(&self, f: FileNo) -> u64
+        ensures { result ≡ reads_of self.now f }
+    {
+        count_of(&self.reads, f)
+    }
+
     /// Whether the next call is to fail.
     pub(crate) fn fails_next(&self) -> bool
         ensures { result ≡ fails_next self.now }
@@ -171,8 +184,22 @@ impl Bench {
             (OnShelf (world_of self.old) (world_of self.new) × (now (world_of self.new) ≡ now (world_of self.old))) }
         ensures faults { OnlyFolder (faults_of self.old) (faults_of self.new) result }
         ensures exactly { FailsExactly (IsTrue fails) result self.old self.new }
+        ensures reads { SameReads self.old self.new }
     {
         let refused = self.disk.keep().is_err();
+        self.failures.observe(&self.disk.files);
+        self.counts.end_folder_call(fails, refused)
+    }
+
+    // A call that reads a file, is counted as that, and changes nothing.
+    pub(crate) fn look_into(&mut self, f: FileNo, fails: bool) -> Result<(), Failed>
+        ensures content { Told tells_of self.old self.new
+            (OnShelf (world_of self.old) (world_of self.new) × (now (world_of self.new) ≡ now (world_of self.old))) }
+        ensures faults { OnlyFolder (faults_of self.old) (faults_of self.new) result }
+        ensures exactly { FailsExactly (IsTrue fails) result self.old self.new }
+        ensures reads { CountsRead f result self.old self.new }
+    {
+        let refused = self.disk.read(&mut self.reads, f).is_err();
         self.failures.observe(&self.disk.files);
         self.counts.end_folder_call(fails, refused)
     }
@@ -186,6 +213,7 @@ impl Bench {
             × (file (world_of self.new) f ≡ changed change (file (world_of self.old) f))) }
         ensures faults { OnlyFolder (faults_of self.old) (faults_of self.new) result }
         ensures exactly { FailsExactly (IsTrue fails) result self.old self.new }
+        ensures reads { SameReads self.old self.new }
     {
         let refused = self.disk.change(f, change).is_err();
         self.failures.observe(&self.disk.files);
@@ -200,6 +228,7 @@ impl Bench {
             × (file (world_of self.new) f ≡ appended piece.now (file (world_of self.old) f))) }
         ensures faults { OnlyFolder (faults_of self.old) (faults_of self.new) result }
         ensures exactly { FailsExactly (IsTrue false) result self.old self.new }
+        ensures reads { SameReads self.old self.new }
     {
         let refused = self.disk.append(f, piece).is_err();
         self.failures.observe(&self.disk.files);

@@ -6,6 +6,7 @@ ghost use Rattle.shelf_memory.specs.Past.{Agrees};
 use crate::change::{Change, Stored};
 use crate::event::{Call, Event};
 use crate::files::{change_file, put_stored};
+use crate::reads::count_read;
 use shelf_model::FileNo;
 use std::alloc::{AllocError, Global};
 use std::collections::BTreeMap;
@@ -31,8 +32,10 @@ impl Disk {
     ghost use Rattle.shelf_model.specs.Calls.{longest};
     ghost use Rattle.shelf_memory.specs.Changes.{changed, FitsIn};
     ghost use Rattle.shelf_memory.specs.Disks.{Stays, StaysBut, Ticked, SameMoment, SameFolder, clock_after};
-    ghost use Rattle.std.specs.Prelude.{ℕ, [], ◌++◌, ◌∷◌, vec_len, vec_capacity};
+    ghost use Rattle.std.specs.Prelude.{ℕ, true, ◌≢◌, [], ◌++◌, ◌∷◌, vec_len, vec_capacity};
     ghost use Rattle.shelf_memory.specs.declared.event.Event.TheVariants.{Called};
+    ghost use Rattle.shelf_memory.specs.Reads.{read_count};
+    ghost use Rattle.shelf_memory.specs.Texts.{raised};
 
     pub fn empty(alloc: Global) -> Disk
         ensures clock { result.clock ≡ 0 }
@@ -58,6 +61,24 @@ impl Disk {
         let was = self.clock;
         self.clock = u64::MAX;
         self.events.reserve(1)?;
+        self.note(was, Call::Nothing);
+        Ok(())
+    }
+
+    /// A call that reads a file and changes nothing. Want of memory leaves the counts of reads as they were.
+    pub fn read(&mut self, reads: &mut BTreeMap<FileNo, u64>, f: FileNo) -> Result<(), AllocError>
+        ensures ok { OnOk result (read_count reads.new f ≡ raised true (read_count reads.old f)) }
+        ensures err { OnErr result ((q : FileNo) → read_count reads.new q ≡ read_count reads.old q) }
+        ensures others { (q : FileNo) → q ≢ f → read_count reads.new q ≡ read_count reads.old q }
+        ensures stays { Stays self.old self.new }
+        ensures clock { self.new.clock ≡ clock_after (is_err result) self.old.clock }
+        ensures past { self.new.clock < 2 ^ 64 - 1 → Ticked self.old self.new }
+        ensures same { self.new.clock < 2 ^ 64 - 1 → SameMoment self.old self.new }
+    {
+        let was = self.clock;
+        self.clock = u64::MAX;
+        self.events.reserve(1)?;
+        count_read(reads, f)?;
         self.note(was, Call::Nothing);
         Ok(())
     }

@@ -12,6 +12,7 @@ mod event;
 mod failures;
 mod files;
 mod piece;
+mod reads;
 mod shelf;
 mod station;
 mod stop;

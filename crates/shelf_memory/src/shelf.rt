@@ -10,7 +10,7 @@ impl Shelf for Bench {
     ghost use Rattle.shelf_model.specs.World.{file};
     ghost use Rattle.shelf_model.specs.Calls.{Told, Measured, DidRead, Appended, WasCut, Synced, longest, most_piece};
     ghost use Rattle.shelf_model.specs.Faults.{OnlyFolder};
-    ghost use Rattle.shelf_memory.specs.Benches.{tells_of, world_of, faults_of, file_at, fails_next, FailsExactly};
+    ghost use Rattle.shelf_memory.specs.Benches.{tells_of, world_of, faults_of, file_at, fails_next, FailsExactly, SameReads, CountsRead};
     ghost use Rattle.shelf_memory.specs.Laws.{all_are_files};
 
     ghost tells = { tells_of };
@@ -26,6 +26,7 @@ impl Shelf for Bench {
         ensures faults { OnlyFolder (faults_of self.old) (faults_of self.new) result }
         ensures most { IfOk result (λ n. n ≤ longest) }
         ensures exactly { FailsExactly (IsTrue (fails_next self.old)) result self.old self.new }
+        ensures reads { SameReads self.old self.new }
     {
         let fails = self.fails_next();
         let size = bytes_of(&self.disk.files, f).len() as u64;
@@ -39,9 +40,10 @@ impl Shelf for Bench {
         ensures faults { OnlyFolder (faults_of self.old) (faults_of self.new) result }
         ensures most { IfOk result (λ k. k ≤ length buf.old) }
         ensures exactly { FailsExactly (IsTrue (fails_next self.old)) result self.old self.new }
+        ensures reads { CountsRead f result self.old self.new }
     {
         let fails = self.fails_next();
-        self.look(fails)?;
+        self.look_into(f, fails)?;
         Ok(copy_piece(bytes_of(&self.disk.files, f), at, buf))
     }
 
@@ -54,6 +56,7 @@ impl Shelf for Bench {
         ensures most { longest < at + length bytes.now → IsErr result }
         ensures exactly { FailsExactly (IsTrue (fails_next self.old) ⊎
             (longest < max at (length (file_at self.old f).bytes) + length bytes.now)) result self.old self.new }
+        ensures reads { SameReads self.old self.new }
     {
         let fails = self.fails_next();
         let size = bytes_of(&self.disk.files, f).len() as u64;
@@ -71,6 +74,7 @@ impl Shelf for Bench {
         ensures content { Told tells_of self.old self.new (WasCut f to result (world_of self.old) (world_of self.new)) }
         ensures faults { OnlyFolder (faults_of self.old) (faults_of self.new) result }
         ensures exactly { FailsExactly (IsTrue (fails_next self.old)) result self.old self.new }
+        ensures reads { SameReads self.old self.new }
     {
         if self.fails_next() {
             return self.reach(f, Change::Loosened(to), true);
@@ -82,6 +86,7 @@ impl Shelf for Bench {
         ensures content { Told tells_of self.old self.new (Synced f result (world_of self.old) (world_of self.new)) }
         ensures faults { OnlyFolder (faults_of self.old) (faults_of self.new) result }
         ensures exactly { FailsExactly (IsTrue (fails_next self.old)) result self.old self.new }
+        ensures reads { SameReads self.old self.new }
     {
         if self.fails_next() {
             return self.look(true);

@@ -11,7 +11,7 @@ impl Station for Bench {
     ghost use Rattle.std.specs.Prelude.{◌≡◌, IsTrue, IfOk, ◌≤◌, ◌⊎◌, None, length};
     ghost use Rattle.shelf_model.specs.Calls.{Told, Entered, Fetched, Said};
     ghost use Rattle.shelf_model.specs.Faults.{OnlyFolder, OnlySay, OnlyText, OtherTextsSame};
-    ghost use Rattle.shelf_memory.specs.Benches.{tells_of, world_of, faults_of, fails_next, FailsExactly};
+    ghost use Rattle.shelf_memory.specs.Benches.{tells_of, world_of, faults_of, fails_next, FailsExactly, SameReads};
     ghost use Rattle.shelf_memory.specs.Texts.{text_at};
 
     fn enter(&mut self, path: &str) -> Result<(), Failed>
@@ -19,6 +19,7 @@ impl Station for Bench {
             (Entered path.now result (world_of self.old) (world_of self.new)) }
         ensures faults { OnlyFolder (faults_of self.old) (faults_of self.new) result }
         ensures exactly { FailsExactly (IsTrue (fails_next self.old)) result self.old self.new }
+        ensures reads { SameReads self.old self.new }
     {
         let fails = self.fails_next();
         let home = path == HOME;
@@ -36,6 +37,7 @@ impl Station for Bench {
         ensures most { IfOk result (λ k. k ≤ length buf.old) }
         ensures exactly { FailsExactly (IsTrue (fails_next self.old) ⊎
             (text_at self.old.texts path.now ≡ None)) result self.old self.new }
+        ensures reads { SameReads self.old self.new }
     {
         let fails = self.fails_next();
         let refused = self.disk.keep().is_err();
@@ -55,6 +57,7 @@ impl Station for Bench {
             (Said bytes.now result (world_of self.old) (world_of self.new)) }
         ensures faults { OnlySay (faults_of self.old) (faults_of self.new) result }
         ensures exactly { FailsExactly (IsTrue (fails_next self.old)) result self.old self.new }
+        ensures reads { SameReads self.old self.new }
     {
         if self.fails_next() {
             return self.keep_silent();
@@ -70,7 +73,7 @@ impl Bench {
     ghost use Rattle.shelf_model.specs.World.{now};
     ghost use Rattle.shelf_model.specs.Calls.{Told, Elsewhere};
     ghost use Rattle.shelf_model.specs.Faults.{OnlySay};
-    ghost use Rattle.shelf_memory.specs.Benches.{tells_of, world_of, faults_of, FailsExactly};
+    ghost use Rattle.shelf_memory.specs.Benches.{tells_of, world_of, faults_of, FailsExactly, SameReads};
 
     // A saying that fails, and says nothing.
     fn keep_silent(&mut self) -> Result<(), Failed>
@@ -78,6 +81,7 @@ impl Bench {
             (Elsewhere (world_of self.old) (world_of self.new) × (now (world_of self.new) ≡ now (world_of self.old))) }
         ensures faults { OnlySay (faults_of self.old) (faults_of self.new) result }
         ensures exactly { FailsExactly Unit result self.old self.new }
+        ensures reads { SameReads self.old self.new }
     {
         let refused = self.disk.keep().is_err();
         self.failures.observe(&self.disk.files);

@@ -18,6 +18,7 @@ returns-clause-fresh c =
       folder_is = refl;
       say_is = refl;
       text_is = search rules;
+      reads_are = search rules;
       unlisted = c.none.ensures.listed;
       unwatched = c.none.ensures.watch;
     }

@@ -32,4 +32,5 @@ returns-clause-still c =
       folder_is = refl;
       say_is = refl;
       text_is = λ path. refl;
+      reads_are = λ q. refl;
     }
