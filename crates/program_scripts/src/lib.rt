@@ -1,4 +1,5 @@
-//! Scripts that look random, run by the program over a station in memory, beside the tables of their steps.
+//! Scripts that look random, run by the program over a station in memory, beside the tables of their steps, and a
+//! script whose diagrams outgrow the least room.
 #![tactic(auto)]
 
 #[cfg(test)]
@@ -9,3 +10,5 @@ mod runs;
 mod script;
 #[cfg(test)]
 mod wanted;
+#[cfg(test)]
+mod windows;

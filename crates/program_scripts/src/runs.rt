@@ -49,7 +49,7 @@ const WORDS: [&str; 6] = [
 ];
 
 /// Runs the program, and answers its status.
-fn run(alloc: Global, bench: &mut Bench) -> Result<u8, Fail> {
+pub(crate) fn run(alloc: Global, bench: &mut Bench) -> Result<u8, Fail> {
     let mut owned = Vec::new(alloc);
     for word in WORDS {
         owned.push(String::from_str(alloc, word)?)?;
@@ -165,7 +165,7 @@ fn eight_variables_give_what_the_tables_tell(rt: HostRuntime) -> Result<(), Fail
 }
 
 /// Whether a text has this piece.
-fn has_piece(text: &[u8], piece: &[u8]) -> bool {
+pub(crate) fn has_piece(text: &[u8], piece: &[u8]) -> bool {
     for at in 0..text.len() {
         if text.split_at(at).1.starts_with(piece) {
             return true;
