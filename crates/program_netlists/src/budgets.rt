@@ -6,7 +6,9 @@ use std::alloc::Global;
 use std::test::Fail;
 
 /// The words of a run in the least room.
-const LEAST: [&str; 7] = ["adiar", "run", "FOLDER", "--script", "script", "--budget", "16384"];
+const LEAST: [&str; 7] = [
+    "adiar", "run", "FOLDER", "--script", "script", "--budget", "16384",
+];
 
 /// The job of the script in the usual room of 262,144 records, and in the least one.
 const USUAL_JOB: &[u8] =
@@ -28,11 +30,15 @@ fn stores_the_budget_of_the_words(rt: HostRuntime) -> Result<(), Fail> {
         (&PLAIN, USUAL_JOB),
         (&LEAST, LEAST_JOB),
         (
-            &["adiar", "run", "FOLDER", "--script", "script", "--budget", "262144"],
+            &[
+                "adiar", "run", "FOLDER", "--script", "script", "--budget", "262144",
+            ],
             USUAL_JOB,
         ),
         (
-            &["adiar", "--budget", "0016384", "run", "--script", "script", "FOLDER"],
+            &[
+                "adiar", "--budget", "0016384", "run", "--script", "script", "FOLDER",
+            ],
             LEAST_JOB,
         ),
     ];
@@ -51,26 +57,58 @@ fn says_the_usage(alloc: Global, words: &[&str]) -> Result<bool, Fail> {
 #[test]
 fn says_the_usage_to_words_without_a_reading(rt: HostRuntime) -> Result<(), Fail> {
     let cases: [&[&str]; 18] = [
-        &["adiar", "run", "FOLDER", "--script", "script", "--budget", "16383"],
+        &[
+            "adiar", "run", "FOLDER", "--script", "script", "--budget", "16383",
+        ],
         &["adiar", "gen", "FOLDER", "--size", "17"],
         &["adiar", "gen", "FOLDER", "--size", "0"],
-        &["adiar", "run", "FOLDER", "--script", "script", "--budget", "4194305"],
-        &["adiar", "run", "FOLDER", "--script", "script", "--script", "script"],
+        &[
+            "adiar", "run", "FOLDER", "--script", "script", "--budget", "4194305",
+        ],
+        &[
+            "adiar", "run", "FOLDER", "--script", "script", "--script", "script",
+        ],
         &["adiar", "list", "FOLDER", "--budget", "16384"],
         // An abbreviation, eight digits, a sign, and no digits.
-        &["adiar", "run", "FOLDER", "--script", "script", "--bud", "16384"],
-        &["adiar", "run", "FOLDER", "--script", "script", "--budget", "00016384"],
-        &["adiar", "run", "FOLDER", "--script", "script", "--budget", "+16384"],
+        &[
+            "adiar", "run", "FOLDER", "--script", "script", "--bud", "16384",
+        ],
+        &[
+            "adiar", "run", "FOLDER", "--script", "script", "--budget", "00016384",
+        ],
+        &[
+            "adiar", "run", "FOLDER", "--script", "script", "--budget", "+16384",
+        ],
         &["adiar", "gen", "FOLDER", "--size", ""],
         // An option that the action doesn't have, or one that it needs and wasn't given.
         &["adiar", "run", "FOLDER", "--netlist", "script"],
-        &["adiar", "run", "FOLDER", "--script", "script", "--size", "1"],
+        &[
+            "adiar", "run", "FOLDER", "--script", "script", "--size", "1",
+        ],
         &["adiar", "list", "FOLDER", "--netlist", "script"],
         &["adiar", "gen", "FOLDER"],
-        &["adiar", "gen", "FOLDER", "--size", "1", "--netlist", "script"],
-        &["adiar", "gen", "FOLDER", "--size", "1", "--script", "script"],
         &[
-            "adiar", "run", "FOLDER", "--script", "script", "--netlist", "n", "--netlist", "n",
+            "adiar",
+            "gen",
+            "FOLDER",
+            "--size",
+            "1",
+            "--netlist",
+            "script",
+        ],
+        &[
+            "adiar", "gen", "FOLDER", "--size", "1", "--script", "script",
+        ],
+        &[
+            "adiar",
+            "run",
+            "FOLDER",
+            "--script",
+            "script",
+            "--netlist",
+            "n",
+            "--netlist",
+            "n",
         ],
         &["adiar", "make", "FOLDER"],
     ];
@@ -104,7 +142,10 @@ fn says_where_the_job_of_other_words_differs(rt: HostRuntime) -> Result<(), Fail
         (&LEAST, ONE_VARIABLE, 5, b"other job at 9\n"),
     ];
     for (words, script, status, said) in cases {
-        assert!(rt; answers_over(rt.alloc(), words, script, status, said)?, "{said:?}");
+        assert!(rt;
+            answers_over(rt.alloc(), words, script, status, said)?,
+            "{said:?}"
+        );
     }
     Ok(())
 }

@@ -11,7 +11,8 @@ const SCRIPT: &[u8] = b"vars x1 y1\nconst p0 1\nvar a1 x1\nvar b1 y1\nxnor e1 a1
                         const r0 1\nand r1 r0 e1\nsame p1 r1\nsize p1\n";
 
 /// What its run says in an empty folder.
-const TEXT: &[u8] = b"start 9\n2: nodes 0\n3: nodes 1\n4: nodes 1\n5: nodes 3\n6: nodes 3\n7: nodes 0\n\
+const TEXT: &[u8] =
+    b"start 9\n2: nodes 0\n3: nodes 1\n4: nodes 1\n5: nodes 3\n6: nodes 3\n7: nodes 0\n\
                       8: nodes 3\n9: yes\n10: nodes 3\ndone\n";
 
 /// The words of that run.
@@ -101,7 +102,9 @@ const TWELVE: Parts = Parts {
 /// Whether a run in the least room makes the same file as one in the usual room.
 fn makes_the_same_file(alloc: Global) -> Result<bool, Fail> {
     let usual = ["adiar", "gen", "FOLDER", "--size", "12"];
-    let least = ["adiar", "gen", "FOLDER", "--size", "12", "--budget", "16384"];
+    let least = [
+        "adiar", "gen", "FOLDER", "--size", "12", "--budget", "16384",
+    ];
     let Some(a) = made(alloc, &usual, &TWELVE)? else {
         return Ok(false);
     };

@@ -1,10 +1,6 @@
 // The netlist in a stored job. It is stored also where the script doesn't use it.
-use crate::bench_run::{
-    NET, ONE_TEXT, ONE_VARIABLE, PLAIN, SMALL_NET, gives, run, with_texts,
-};
-use crate::files::{
-    CATALOGUE, FIRST, JOB, JOB_GATE, SECOND_OF_THREE, STEP_GATE, has_words,
-};
+use crate::bench_run::{NET, ONE_TEXT, ONE_VARIABLE, PLAIN, SMALL_NET, gives, run, with_texts};
+use crate::files::{CATALOGUE, FIRST, JOB, JOB_GATE, SECOND_OF_THREE, STEP_GATE, has_words};
 use crate::rows::JOINED;
 use shelf_memory::{Bench, Choice};
 use std::alloc::Global;
@@ -60,7 +56,10 @@ fn stores_the_netlist_behind_the_script(rt: HostRuntime) -> Result<(), Fail> {
         ),
     ];
     for (words, script, said, job) in cases {
-        assert!(rt; stores(rt.alloc(), words, script, said, job)?, "{words:?} {script:?}");
+        assert!(rt;
+            stores(rt.alloc(), words, script, said, job)?,
+            "{words:?} {script:?}"
+        );
     }
     Ok(())
 }
@@ -121,7 +120,14 @@ fn says_where_another_netlist_differs(rt: HostRuntime) -> Result<(), Fail> {
         ),
         (&NET, CONSTANT, &PLAIN, CONSTANT, 5, b"other job at 16\n"),
         (&PLAIN, CONSTANT, &NET, CONSTANT, 5, b"other job at 16\n"),
-        (&NET, CONSTANT, &NET, b".model m\n", 4, b"netlist: line 0: NoInputs\n"),
+        (
+            &NET,
+            CONSTANT,
+            &NET,
+            b".model m\n",
+            4,
+            b"netlist: line 0: NoInputs\n",
+        ),
     ];
     for (first, stored, words, netlist, status, said) in cases {
         assert!(rt;
@@ -142,7 +148,16 @@ fn goes_on_behind(alloc: Global, netlist: &[u8], status: u8, said: &[u8]) -> Res
     let answered = gives(alloc, &NET, &mut other, status, said)?;
     let mut next = other.stop(Choice::Firm)?;
     next.put_text("netlist", JOINED.netlist)?;
-    Ok(answered && gives(alloc, &NET, &mut next, 0, b"resume 0 of 1\n2: nodes 2\ndone\n")?)
+    Ok(
+        answered
+            && gives(
+                alloc,
+                &NET,
+                &mut next,
+                0,
+                b"resume 0 of 1\n2: nodes 2\ndone\n",
+            )?,
+    )
 }
 
 #[test]
@@ -157,7 +172,10 @@ fn goes_on_behind_a_run_over_another_netlist(rt: HostRuntime) -> Result<(), Fail
         (b".model m\n", 4, b"netlist: line 0: NoInputs\n"),
     ];
     for (netlist, status, said) in cases {
-        assert!(rt; goes_on_behind(rt.alloc(), netlist, status, said)?, "{said:?}");
+        assert!(rt;
+            goes_on_behind(rt.alloc(), netlist, status, said)?,
+            "{said:?}"
+        );
     }
     Ok(())
 }

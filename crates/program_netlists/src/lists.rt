@@ -76,7 +76,12 @@ fn says_the_answers_of_a_line_behind_its_last_step(rt: HostRuntime) -> Result<()
         },
     ];
     for halt in cases {
-        assert!(rt; halts(rt.alloc(), &halt)?, "{:?} {}", halt.row.script, halt.steps);
+        assert!(rt;
+            halts(rt.alloc(), &halt)?,
+            "{:?} {}",
+            halt.row.script,
+            halt.steps
+        );
     }
     Ok(())
 }

@@ -109,7 +109,8 @@ fn ends_well(
     let mut text = Vec::from_slice(alloc, before)?;
     text.extend_from_slice(due_text(alloc, row, bench, due)?.as_slice())?;
     let status = run(alloc, &SMALL_NET, bench)?;
-    let told = bench.said() == text.as_slice() && lines.saturating_sub(1).min(row.ends.len()) <= due;
+    let told = bench.said() == text.as_slice()
+        && lines.saturating_sub(1).min(row.ends.len()) <= due;
     let right = has_files(alloc, bench, row.files)?;
     Ok(kept && status == 0 && told && right && same_files(row, committed, bench, whole))
 }
@@ -218,7 +219,9 @@ fn a_line_loses_nothing_at_a_stop_that_leaves_a_first_mixture(rt: HostRuntime) -
 }
 
 #[test]
-fn a_line_loses_nothing_at_a_stop_that_leaves_a_second_mixture(rt: HostRuntime) -> Result<(), Fail> {
+fn a_line_loses_nothing_at_a_stop_that_leaves_a_second_mixture(
+    rt: HostRuntime,
+) -> Result<(), Fail> {
     let lost = first_lost_row(rt.alloc(), Some(Choice::Mixed(1)))?;
     assert!(rt; lost.is_none(), "row and call {lost:?}");
     Ok(())

@@ -8,7 +8,12 @@ use std::test::Fail;
 const CONSTANT: &[u8] = b".model m\n.inputs a\n.outputs y\n.names y\n";
 
 /// A script and a netlist where they are there, and the status and text of their run.
-type Case = (Option<&'static [u8]>, Option<&'static [u8]>, u8, &'static [u8]);
+type Case = (
+    Option<&'static [u8]>,
+    Option<&'static [u8]>,
+    u8,
+    &'static [u8],
+);
 
 /// Whether a run over what is there ends so, and the folder is as it was. No text is longer than one piece: two calls
 /// fetch each of them, and one says.
@@ -71,7 +76,12 @@ const FAULTY: [(&[u8], &[u8]); 10] = [
 fn says_which_line_of_a_netlist_is_refused_and_why(rt: HostRuntime) -> Result<(), Fail> {
     for (netlist, said) in FAULTY {
         // A script that takes the inputs, one that uses no netlist, one that isn't accepted, and none.
-        for script in [Some(b"inputs\n".as_slice()), Some(ONE_VARIABLE), Some(b"vars a a\n"), None] {
+        for script in [
+            Some(b"inputs\n".as_slice()),
+            Some(ONE_VARIABLE),
+            Some(b"vars a a\n"),
+            None,
+        ] {
             let case = (script, Some(netlist), 4, said);
             assert!(rt; refuses(rt.alloc(), &case)?, "{script:?} {netlist:?}");
         }
@@ -119,7 +129,13 @@ fn refuses_many_rows(alloc: Global) -> Result<bool, Fail> {
         netlist.extend_from_slice(b"- 1\n")?;
     }
     let mut bench = with_texts(alloc, b"inputs\nnet y y\n", netlist.as_slice())?;
-    let refused = gives(alloc, &NET, &mut bench, 3, b"script: line 2: TooManySteps\n")?;
+    let refused = gives(
+        alloc,
+        &NET,
+        &mut bench,
+        3,
+        b"script: line 2: TooManySteps\n",
+    )?;
     Ok(refused && is_untouched(&bench))
 }
 

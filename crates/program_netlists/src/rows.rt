@@ -181,9 +181,7 @@ const TURNED: Row = Row {
 fn has_no_others(row: &Row, bench: &Bench) -> bool {
     for step in 0..row.steps.saturating_add(1) {
         let dropped = !row.files.iter().any(|(left, _)| *left == step);
-        if !has_no_other_parts(bench, step)
-            || dropped && !bench.file(node_file(step)).is_empty()
-        {
+        if !has_no_other_parts(bench, step) || dropped && !bench.file(node_file(step)).is_empty() {
             return false;
         }
     }
