@@ -103,7 +103,9 @@ fn ends_well(
     lines: usize,
     before: &[u8],
 ) -> Result<bool, Fail> {
-    let committed = bench.file(STEP_GATE).len() as u32;
+    let Ok(committed) = u32::try_from(bench.file(STEP_GATE).len()) else {
+        return Ok(false);
+    };
     let kept = keeps_what_is_not_dropped(row, bench, committed);
     let due = lines_due(row, committed);
     let mut text = Vec::from_slice(alloc, before)?;

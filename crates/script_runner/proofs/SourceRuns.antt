@@ -32,7 +32,7 @@ use Rattle.script_runner.proofs.Endings.{fetched_then, fetched_line, fetched_sou
 -- a netlist that was read is spelled by its text, which is short
 spelled_there : (netlist : Option ReadNetlist) → IsSpelled netlist → Spells (netlist_text netlist) (netlist_in netlist)
 spelled_there None x = refl
-spelled_there (Some given) x = (net_of given.net, refl, x)
+spelled_there (Some given) x = (net_of given.net, refl, record { reads = x; sound = given.net.sound })
 
 pub short_there : (netlist : Option ReadNetlist) (text : Option (List ℕ)) → text ≡ netlist_text netlist
     → IsSpelled netlist → IsShort text

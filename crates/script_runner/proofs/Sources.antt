@@ -59,7 +59,7 @@ settled_or_not (Ok net) n fault x y = x.1 y.0 y.1.around
 one_spelled : (text : Option (List ℕ)) (a b : Option Net) → Spells text a → Spells text b → a ≡ b
 one_spelled None a b x y = x ∙ sym y
 one_spelled (Some text) a b x y =
-    x.1 ∙ ap Some (settled_once (reading text) x.0 y.0 x.2 y.2) ∙ sym y.1
+    x.1 ∙ ap Some (settled_once (reading text) x.0 y.0 x.2.reads y.2.reads) ∙ sym y.1
 
 -- sources of one script and one netlist have one plan
 pub one_planned : (a b : Source) (p q : Plan) → a.script ≡ b.script → a.netlist ≡ b.netlist → Plans a p → Plans b q → p ≡ q
@@ -88,7 +88,7 @@ netlist_is_good w (run folder script (Some path) budget) s p fault is plans faul
     let bytes : named.0 ≡ faulty.0 = one_some named.0 faulty.0 (w.texts path) named.2 faulty.1 in
     let spelled : Spells (Some faulty.0) plans.netlist = subst (λ b. Spells (Some b) plans.netlist) bytes
     (subst (λ t. Spells t plans.netlist) named.1 plans.spelled) in
-    settled_or_not (reading faulty.0) spelled.0 fault spelled.2 faulty.2
+    settled_or_not (reading faulty.0) spelled.0 fault spelled.2.reads faulty.2
 netlist_is_good w (run folder script None budget) s p fault is plans faulty = absurd faulty
 netlist_is_good w (list folder) s p fault is plans faulty = absurd faulty
 netlist_is_good w (gen folder size budget) s p fault is plans faulty = absurd faulty
@@ -96,7 +96,7 @@ netlist_is_good w (gen folder size budget) s p fault is plans faulty = absurd fa
 -- the netlist of a source that is planned is short
 spelled_is_short : (text : Option (List ℕ)) (net : Option Net) → Spells text net → IsShort text
 spelled_is_short None net x = tt
-spelled_is_short (Some text) net x = accepted_is_short text x.0 x.2
+spelled_is_short (Some text) net x = accepted_is_short text x.0 x.2.reads
 
 pub planned_is_short : (s : Source) (p : Plan) → Plans s p → (length s.script ≤ 1048576) × IsShort s.netlist
 planned_is_short s p plans =

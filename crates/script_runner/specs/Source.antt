@@ -1,6 +1,6 @@
 -- What a run is asked to do: by words, and by the texts that they name.
 use Rattle.std.specs.Prelude.{◌≡◌, ℕ, ◌⊎◌, List, Option, Some, None, Ok, Err}
-use Rattle.blif_reader.specs.Netlist.{Net, IsReading}
+use Rattle.blif_reader.specs.Netlist.{Net, IsNet, IsReading}
 use Rattle.blif_reader.specs.declared.fault.BlifFault.{BlifFault}
 use Rattle.command_words.specs.Readings.{Reading, run, list, gen}
 use Rattle.example_script.specs.Script.{script_of}
@@ -39,10 +39,15 @@ NamesText (run folder script netlist budget) path = (path ≡ script) ⊎ (netli
 NamesText (list folder) path = ⊥
 NamesText (gen folder size budget) path = ⊥
 
+-- a text spells a netlist, which is sound
+pub record IsSpelling (text : List ℕ) (net : Net) : Type 0 where
+  pub reads : IsReading text (Ok net)
+  pub sound : IsNet net
+
 -- the netlist that a text spells, and none where there is no text
 abbrev pub Spells : Option (List ℕ) → Option Net → Type 0
 Spells None netlist = netlist ≡ None
-Spells (Some text) netlist = (net : Net) × (netlist ≡ Some net) × IsReading text (Ok net)
+Spells (Some text) netlist = (net : Net) × (netlist ≡ Some net) × IsSpelling text net
 
 -- the script asks for this plan, over the netlist that is spelled
 pub record Plans (s : Source) (plan : Plan) : Type 0 where

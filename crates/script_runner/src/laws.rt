@@ -1,5 +1,8 @@
 //! Laws of the program, each the contract of a function that does nothing.
-ghost use Rattle.std.specs.Prelude.{◌≡◌, ◌⊎◌, ◌≤◌, ◌++◌, ℕ, List, Option, Some, length};
+ghost use Rattle.std.specs.Prelude.{Ok, ◌≡◌, ◌⊎◌, ◌≤◌, ◌++◌, ℕ, List, Option, Some, length};
+ghost use Rattle.bool_tables.specs.Steps.{plan_tables, table_of_step};
+ghost use Rattle.blif_reader.specs.Netlist.{Net, IsReading};
+ghost use Rattle.script_reader.specs.Signals.{MakesSignals};
 ghost use Rattle.shelf_model.specs.declared.file_no.FileNo.{FileNo};
 ghost use Rattle.shelf_model.specs.File.{no_file};
 ghost use Rattle.shelf_model.specs.Folder.{Folder, file_in};
@@ -8,7 +11,7 @@ ghost use Rattle.shelf_model.specs.Faults.{Faults};
 ghost use Rattle.catalogue.specs.Counts.{present, count_in};
 ghost use Rattle.catalogue.specs.Standings.{most_steps};
 ghost use Rattle.command_words.specs.Readings.{Reading, list};
-ghost use Rattle.sound_image.specs.Jobs.{Job};
+ghost use Rattle.sound_image.specs.Jobs.{Job, table_at};
 ghost use Rattle.sound_image.specs.Holds.{AreSound};
 ghost use Rattle.script_reader.specs.declared.plan.Plan.{Plan};
 ghost use Rattle.script_runner.specs.Text.{run_text};
@@ -18,6 +21,8 @@ ghost use Rattle.script_runner.specs.Listed.{diagram_lines};
 ghost use Rattle.script_runner.specs.Source.{Source, Plans};
 ghost use Rattle.script_runner.specs.Outcome.{Accepts, Ends, ByWords, StatusHasCause, NoneRose, IsSmall};
 ghost use Rattle.script_runner.specs.Lives.{Life, AreLives, LivesKeep};
+
+use script_reader::laws::net_lines_make_their_signals;
 
 /// Over any list of calls in one folder, each of which finds what the one before left: a call is ended by its
 /// status, by a kill, which leaves what is pending, or by a power cut, which leaves an image. The words are those
@@ -46,6 +51,18 @@ pub fn accepted_runs_end()
         × (said new ≡ said old ++ run_text (job_of accepts.source plan) plan.lines (present (now old).folder)))
         ⊎ ((status ≡ 9) × OnlyFetched old new) }
 {}
+
+/// The diagrams that the lines over a netlist name are those of its signals: the netlist's text spells a netlist, and
+/// each pair of a name and a signal on such a line has a said line, which shows a step with that name whose table is
+/// that of the signal. The node file of such a step is the canonical file of this table, as of all steps.
+pub fn named_signals_are_made()
+    ensures made { (source : Source) (plan : Plan) (text : List ℕ) → Plans source plan → source.netlist ≡ Some text
+        → (net : Net) × IsReading text (Ok net) × MakesSignals net source.script plan }
+    ensures tables { (source : Source) (plan : Plan) (k : ℕ)
+        → table_at (job_of source plan) k ≡ table_of_step (plan_tables plan.n plan.steps) k }
+{
+    net_lines_make_their_signals();
+}
 
 /// A list of a folder that is sound for a job of at most 1,048,576 steps, in which no call failed, ends with 0 and says
 /// the line of each named diagram of the job's committed steps that is live, or with 9 before it says anything.
