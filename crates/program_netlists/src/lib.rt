@@ -24,3 +24,5 @@ mod refusals;
 mod rows;
 #[cfg(test)]
 mod tools;
+#[cfg(test)]
+mod wrong_bodies;
