@@ -1,5 +1,6 @@
 // Runs of scripts that are made from a size: whether a word is the same read from either end, in two ways.
 use crate::bench_run::{PLAIN, gives, run};
+use crate::case::{Act, Case, all_go};
 use crate::files::{JOB, node_file};
 use crate::parts_said::has_part;
 use shelf_memory::{Bench, Choice};
@@ -10,6 +11,11 @@ use std::test::Fail;
 const SCRIPT: &[u8] = b"vars x1 y1\nconst p0 1\nvar a1 x1\nvar b1 y1\nxnor e1 a1 b1\nand p1 p0 e1\n\
                         const r0 1\nand r1 r0 e1\nsame p1 r1\nsize p1\n";
 
+/// Its job, in a room of 262,144 records.
+const SCRIPT_JOB: &[u8] = b"ADIARJ01\x00\x04\x00\x00\x00\x00\x00\x70\xff\xff\xff\xff\
+                            vars x1 y1\nconst p0 1\nvar a1 x1\nvar b1 y1\nxnor e1 a1 b1\n\
+                            and p1 p0 e1\nconst r0 1\nand r1 r0 e1\nsame p1 r1\nsize p1\n";
+
 /// What its run says in an empty folder.
 const TEXT: &[u8] =
     b"start 9\n2: nodes 0\n3: nodes 1\n4: nodes 1\n5: nodes 3\n6: nodes 3\n7: nodes 0\n\
@@ -18,19 +24,17 @@ const TEXT: &[u8] =
 /// The words of that run.
 const SIZE_1: [&str; 5] = ["adiar", "gen", "FOLDER", "--size", "1"];
 
-/// Whether the run stores the script's job without a netlist, and one of the script itself goes on behind it.
-fn is_a_run_of_the_script(alloc: Global, mut bench: Bench) -> Result<bool, Fail> {
-    let ended = gives(alloc, &SIZE_1, &mut bench, 0, TEXT)?;
-    let mut job = Vec::from_slice(
-        alloc,
-        b"ADIARJ01\x00\x04\x00\x00\x00\x00\x00\x70\xff\xff\xff\xff",
-    )?;
-    job.extend_from_slice(SCRIPT)?;
-    let stored = bench.file(JOB) == job.as_slice();
-    let mut next = bench.stop(Choice::Firm)?;
-    next.put_text("script", SCRIPT)?;
-    Ok(ended && stored && gives(alloc, &PLAIN, &mut next, 0, b"resume 9 of 9\ndone\n")?)
-}
+/// Its run stores the script's job without a netlist, and a run of the script itself goes on behind it.
+const SCRIPT_RUN: [Case; 1] = [(
+    "the script itself behind its size",
+    &[
+        Act::Run(&SIZE_1, 0, TEXT),
+        Act::Bytes(JOB, SCRIPT_JOB),
+        Act::Stop(Choice::Firm),
+        Act::Put("script", SCRIPT),
+        Act::Run(&PLAIN, 0, b"resume 9 of 9\ndone\n"),
+    ],
+)];
 
 /// Whether a run with a text at each path that the words name makes as many calls as one without any.
 fn fetches_nothing(alloc: Global) -> Result<bool, Fail> {
@@ -44,11 +48,8 @@ fn fetches_nothing(alloc: Global) -> Result<bool, Fail> {
 }
 
 #[test]
-fn makes_a_script_and_fetches_nothing(rt: HostRuntime) -> Result<(), Fail> {
-    let bench = Bench::empty(rt.alloc());
-    assert!(rt; is_a_run_of_the_script(rt.alloc(), bench)?);
-    assert!(rt; fetches_nothing(rt.alloc())?);
-    Ok(())
+fn makes_a_script_whose_job_is_its_own(rt: HostRuntime) -> Result<(), Fail> {
+    all_go(&rt, rt.alloc(), &SCRIPT_RUN)
 }
 
 /// What a run with a size says at its beginning, in its middle and at its end.
@@ -84,11 +85,10 @@ const EIGHT: Parts = Parts {
     made: (32, 18_384),
 };
 
-#[test]
-fn says_the_sizes_of_both_ways(rt: HostRuntime) -> Result<(), Fail> {
+/// Whether a run of size 8 says its parts and makes a file as long.
+fn says_both_ways(alloc: Global) -> Result<bool, Fail> {
     let words = ["adiar", "gen", "FOLDER", "--size", "8"];
-    assert!(rt; made(rt.alloc(), &words, &EIGHT)?.is_some());
-    Ok(())
+    Ok(made(alloc, &words, &EIGHT)?.is_some())
 }
 
 /// Size 12: a file of 12,286 records of 24 bytes.
@@ -114,8 +114,22 @@ fn makes_the_same_file(alloc: Global) -> Result<bool, Fail> {
     Ok(a.as_slice() == b.as_slice())
 }
 
+/// What a run with a size does otherwise.
+fn first_fault(alloc: Global) -> Result<Option<&'static str>, Fail> {
+    Ok(if !fetches_nothing(alloc)? {
+        Some("a text is fetched")
+    } else if !says_both_ways(alloc)? {
+        Some("size 8")
+    } else if !makes_the_same_file(alloc)? {
+        Some("size 12 in either room")
+    } else {
+        None
+    })
+}
+
 #[test]
-fn makes_the_same_file_in_the_least_room(rt: HostRuntime) -> Result<(), Fail> {
-    assert!(rt; makes_the_same_file(rt.alloc())?);
+fn fetches_nothing_and_makes_the_same_file_in_the_least_room(rt: HostRuntime) -> Result<(), Fail> {
+    let fault = first_fault(rt.alloc())?;
+    assert!(rt; fault.is_none(), "{fault:?}");
     Ok(())
 }

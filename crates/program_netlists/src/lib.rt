@@ -7,6 +7,8 @@ mod bench_run;
 #[cfg(test)]
 mod budgets;
 #[cfg(test)]
+mod case;
+#[cfg(test)]
 mod files;
 #[cfg(test)]
 mod generated;

@@ -6,6 +6,7 @@ use crate::parts_said::{line_count, lines_said, resumed};
 use crate::rows::{JOINED, Row, SUM_CARRY, THREE_LINES, has_files};
 use shelf_memory::{Bench, Choice};
 use std::alloc::Global;
+use std::process::Abort;
 use std::test::Fail;
 
 /// How a run ended that was stopped or of which a call failed, and how many lines it had said.
@@ -182,63 +183,59 @@ fn first_loss(alloc: Global, row: &Row, choice: Option<Choice>) -> Result<Option
     })
 }
 
+/// The rows whose runs are stopped.
+const ROWS: [Row; 3] = [JOINED, THREE_LINES, SUM_CARRY];
+
 /// What isn't outlived: the row's place, and the first call.
 fn first_lost_row(alloc: Global, choice: Option<Choice>) -> Result<Option<(usize, u64)>, Fail> {
-    for (k, row) in [JOINED, THREE_LINES, SUM_CARRY].into_iter().enumerate() {
-        if let Some(call) = first_loss(alloc, &row, choice)? {
+    for (k, row) in ROWS.iter().enumerate() {
+        if let Some(call) = first_loss(alloc, row, choice)? {
             return Ok(Some((k, call)));
         }
     }
     Ok(None)
 }
 
-#[test]
-fn a_line_loses_nothing_at_a_stop_that_leaves_what_is_sure(rt: HostRuntime) -> Result<(), Fail> {
-    let lost = first_lost_row(rt.alloc(), Some(Choice::Firm))?;
+/// Nothing is lost at a stop that leaves what the choice takes, or where a call fails.
+fn loses_nothing(rt: &impl Abort, alloc: Global, choice: Option<Choice>) -> Result<(), Fail> {
+    let lost = first_lost_row(alloc, choice)?;
     assert!(rt; lost.is_none(), "row and call {lost:?}");
     Ok(())
+}
+
+#[test]
+fn a_line_loses_nothing_at_a_stop_that_leaves_what_is_sure(rt: HostRuntime) -> Result<(), Fail> {
+    loses_nothing(&rt, rt.alloc(), Some(Choice::Firm))
 }
 
 #[test]
 fn a_line_loses_nothing_at_a_stop_that_leaves_what_is_read(rt: HostRuntime) -> Result<(), Fail> {
-    let lost = first_lost_row(rt.alloc(), Some(Choice::Present))?;
-    assert!(rt; lost.is_none(), "row and call {lost:?}");
-    Ok(())
+    loses_nothing(&rt, rt.alloc(), Some(Choice::Present))
 }
 
 #[test]
 fn a_line_loses_nothing_at_a_stop_that_leaves_other_bytes(rt: HostRuntime) -> Result<(), Fail> {
-    let lost = first_lost_row(rt.alloc(), Some(Choice::Fill(255)))?;
-    assert!(rt; lost.is_none(), "row and call {lost:?}");
-    Ok(())
+    loses_nothing(&rt, rt.alloc(), Some(Choice::Fill(255)))
 }
 
 #[test]
 fn a_line_loses_nothing_at_a_stop_that_leaves_a_first_mixture(rt: HostRuntime) -> Result<(), Fail> {
-    let lost = first_lost_row(rt.alloc(), Some(Choice::Mixed(0)))?;
-    assert!(rt; lost.is_none(), "row and call {lost:?}");
-    Ok(())
+    loses_nothing(&rt, rt.alloc(), Some(Choice::Mixed(0)))
 }
 
 #[test]
 fn a_line_loses_nothing_at_a_stop_that_leaves_a_second_mixture(
     rt: HostRuntime,
 ) -> Result<(), Fail> {
-    let lost = first_lost_row(rt.alloc(), Some(Choice::Mixed(1)))?;
-    assert!(rt; lost.is_none(), "row and call {lost:?}");
-    Ok(())
+    loses_nothing(&rt, rt.alloc(), Some(Choice::Mixed(1)))
 }
 
 #[test]
 fn a_line_loses_nothing_at_a_stop_that_leaves_a_third_mixture(rt: HostRuntime) -> Result<(), Fail> {
-    let lost = first_lost_row(rt.alloc(), Some(Choice::Mixed(2)))?;
-    assert!(rt; lost.is_none(), "row and call {lost:?}");
-    Ok(())
+    loses_nothing(&rt, rt.alloc(), Some(Choice::Mixed(2)))
 }
 
 #[test]
 fn a_line_loses_nothing_after_a_call_that_failed(rt: HostRuntime) -> Result<(), Fail> {
-    let lost = first_lost_row(rt.alloc(), None)?;
-    assert!(rt; lost.is_none(), "row and call {lost:?}");
-    Ok(())
+    loses_nothing(&rt, rt.alloc(), None)
 }

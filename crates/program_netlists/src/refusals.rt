@@ -1,37 +1,13 @@
 // Netlists that aren't accepted, and texts that aren't there.
 use crate::bench_run::{NET, ONE_VARIABLE, gives, is_untouched, with_texts};
-use shelf_memory::Bench;
+use crate::case::{Act, first_fault, goes};
 use std::alloc::Global;
 use std::test::Fail;
 
 /// A netlist that is accepted.
 const CONSTANT: &[u8] = b".model m\n.inputs a\n.outputs y\n.names y\n";
 
-/// A script and a netlist where they are there, and the status and text of their run.
-type Case = (
-    Option<&'static [u8]>,
-    Option<&'static [u8]>,
-    u8,
-    &'static [u8],
-);
-
-/// Whether a run over what is there ends so, and the folder is as it was. No text is longer than one piece: two calls
-/// fetch each of them, and one says.
-fn refuses(alloc: Global, case: &Case) -> Result<bool, Fail> {
-    let (script, netlist, status, said) = *case;
-    let mut bench = Bench::empty(alloc);
-    bench.put_text("FOLDER", CONSTANT)?;
-    if let Some(script) = script {
-        bench.put_text("script", script)?;
-    }
-    if let Some(netlist) = netlist {
-        bench.put_text("netlist", netlist)?;
-    }
-    let refused = gives(alloc, &NET, &mut bench, status, said)?;
-    Ok(refused && is_untouched(&bench) && bench.clock() <= 5)
-}
-
-/// The netlists, with a script that takes their inputs.
+/// Netlists, and what is said of each whatever the script is.
 const FAULTY: [(&[u8], &[u8]); 10] = [
     (
         b".model m\n.inputs a\n.outputs y\n.names x y\n1 1\n.names y x\n1 1\n",
@@ -72,57 +48,119 @@ const FAULTY: [(&[u8], &[u8]); 10] = [
     ),
 ];
 
-#[test]
-fn says_which_line_of_a_netlist_is_refused_and_why(rt: HostRuntime) -> Result<(), Fail> {
-    for (netlist, said) in FAULTY {
-        // A script that takes the inputs, one that uses no netlist, one that isn't accepted, and none.
-        for script in [
-            Some(b"inputs\n".as_slice()),
-            Some(ONE_VARIABLE),
-            Some(b"vars a a\n"),
-            None,
-        ] {
-            let case = (script, Some(netlist), 4, said);
-            assert!(rt; refuses(rt.alloc(), &case)?, "{script:?} {netlist:?}");
+/// A script that takes the inputs, one that uses no netlist, one that isn't accepted, and none.
+const SCRIPTS: [Act; 4] = [
+    Act::Put("script", b"inputs\n"),
+    Act::Put("script", ONE_VARIABLE),
+    Act::Put("script", b"vars a a\n"),
+    Act::Untouched,
+];
+
+/// The acts of a run over these texts that ends so and leaves the folder as it was. No text is longer than one piece:
+/// two calls fetch each of them, and one says.
+fn refusal(script: Act, netlist: Act, status: u8, said: &'static [u8]) -> [Act; 6] {
+    [
+        Act::Put("FOLDER", CONSTANT),
+        script,
+        netlist,
+        Act::Run(&NET, status, said),
+        Act::Untouched,
+        Act::Calls(5),
+    ]
+}
+
+/// The places of the first netlist and script that aren't refused so.
+fn first_accepted(alloc: Global) -> Result<Option<(usize, usize)>, Fail> {
+    for (k, (netlist, said)) in FAULTY.iter().enumerate() {
+        for (i, script) in SCRIPTS.iter().enumerate() {
+            let acts = refusal(*script, Act::Put("netlist", netlist), 4, said);
+            if first_fault(alloc, &acts)?.is_some() {
+                return Ok(Some((k, i)));
+            }
         }
     }
+    Ok(None)
+}
+
+#[test]
+fn says_which_line_of_a_netlist_is_refused_and_why(rt: HostRuntime) -> Result<(), Fail> {
+    let accepted = first_accepted(rt.alloc())?;
+    assert!(rt; accepted.is_none(), "netlist and script {accepted:?}");
     Ok(())
 }
+
+/// A name, the texts that are there, and the status and text of the run.
+type Refused = (&'static str, Act, Act, u8, &'static [u8]);
+
+/// Paths without a text, and scripts that ask for what a netlist doesn't have.
+const REFUSED: [Refused; 8] = [
+    (
+        "no netlist",
+        Act::Put("script", b"inputs\n"),
+        Act::Untouched,
+        6,
+        b"",
+    ),
+    (
+        "no netlist, and a script that uses none",
+        Act::Put("script", ONE_VARIABLE),
+        Act::Untouched,
+        6,
+        b"",
+    ),
+    (
+        "no netlist, and a script that isn't accepted",
+        Act::Put("script", b"vars a a\n"),
+        Act::Untouched,
+        6,
+        b"",
+    ),
+    (
+        "no script",
+        Act::Untouched,
+        Act::Put("netlist", CONSTANT),
+        6,
+        b"",
+    ),
+    ("no text", Act::Untouched, Act::Untouched, 6, b""),
+    (
+        "no such signal",
+        Act::Put("script", b"inputs\nnet f x\n"),
+        Act::Put("netlist", CONSTANT),
+        3,
+        b"script: line 2: UnknownName\n",
+    ),
+    (
+        "no such variable",
+        Act::Put("script", b"vars b\nnet f y\n"),
+        Act::Put("netlist", CONSTANT),
+        3,
+        b"script: line 2: Variable\n",
+    ),
+    (
+        "a signal twice",
+        Act::Put("script", b"inputs\nnet f y g y\n"),
+        Act::Put("netlist", CONSTANT),
+        3,
+        b"script: line 2: Word\n",
+    ),
+];
 
 #[test]
 fn refuses_scripts_over_netlists_and_paths_without_a_text(rt: HostRuntime) -> Result<(), Fail> {
-    let cases: [Case; 8] = [
-        (Some(b"inputs\n"), None, 6, b""),
-        (Some(ONE_VARIABLE), None, 6, b""),
-        (Some(b"vars a a\n"), None, 6, b""),
-        (None, Some(CONSTANT), 6, b""),
-        (None, None, 6, b""),
-        (
-            Some(b"inputs\nnet f x\n"),
-            Some(CONSTANT),
-            3,
-            b"script: line 2: UnknownName\n",
-        ),
-        (
-            Some(b"vars b\nnet f y\n"),
-            Some(CONSTANT),
-            3,
-            b"script: line 2: Variable\n",
-        ),
-        (
-            Some(b"inputs\nnet f y g y\n"),
-            Some(CONSTANT),
-            3,
-            b"script: line 2: Word\n",
-        ),
-    ];
-    for case in cases {
-        assert!(rt; refuses(rt.alloc(), &case)?, "{case:?}");
+    for (name, script, netlist, status, said) in REFUSED {
+        goes(
+            &rt,
+            rt.alloc(),
+            name,
+            &refusal(script, netlist, status, said),
+        )?;
     }
     Ok(())
 }
 
-/// Whether a block of one input with so many rows of one `-` is refused, since it has three steps more than are allowed.
+/// Whether a block of one input with so many rows of one `-` is refused, since it has three steps more than are
+/// allowed.
 fn refuses_many_rows(alloc: Global) -> Result<bool, Fail> {
     let mut netlist = Vec::from_slice(alloc, b".model m\n.inputs a\n.outputs y\n.names a y\n")?;
     for _ in 0..262_144 {

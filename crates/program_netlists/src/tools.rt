@@ -1,6 +1,6 @@
 // Netlists as tools write them, with the numbers of nodes of what they mean.
-use crate::bench_run::{NET, gives, with_texts};
-use std::alloc::Global;
+use crate::bench_run::NET;
+use crate::case::{Act, Case, all_go};
 use std::test::Fail;
 
 /// As Yosys writes: a comment and an empty line in front, three constants, wide blocks, and names with dollar signs. An
@@ -30,37 +30,76 @@ const ABC: &[u8] = b"# Benchmark \"top\" written by ABC on Thu Feb  8 18:20:13 2
 const BARE: &[u8] = b".model bare\n.outputs y w\n.inputs a\n.inputs b c\n.names v c y\n11 1\n\
     .names a b w\n1- 0\n-1 0\n.names a b v\n0- 1\n-0 1";
 
+/// A disjunction or conjunction of k variables has k nodes, a sum 2 k - 1, a majority of three has 4; `y` of the last
+/// one is `c` unless both others are 1, and then 0.
+const CASES: [Case; 4] = [
+    (
+        "as Yosys writes",
+        &[
+            Act::Put("netlist", YOSYS),
+            Act::Put(
+                "script",
+                b"inputs\nnet w $abc$123$new_n5 y y n n\nnet t $true f $false u $undef\nsame y w\n\
+                  same f u\nleq t f\nsize n\n",
+            ),
+            Act::Run(
+                &NET,
+                0,
+                b"start 10\n2: nodes 4\n2: nodes 4\n2: nodes 4\n3: nodes 0\n3: nodes 0\n\
+                  3: nodes 0\n4: yes\n5: yes\n6: no\n7: nodes 4\ndone\n",
+            ),
+        ],
+    ),
+    (
+        "wide blocks",
+        &[
+            Act::Put("netlist", WIDE),
+            Act::Put(
+                "script",
+                b"inputs\nnet any any all all\nleq all any\nleq any all\n",
+            ),
+            Act::Run(
+                &NET,
+                0,
+                b"start 4\n2: nodes 16\n2: nodes 16\n3: yes\n4: no\ndone\n",
+            ),
+        ],
+    ),
+    (
+        "as ABC writes",
+        &[
+            Act::Put("netlist", ABC),
+            Act::Put(
+                "script",
+                b"inputs\nnet sum sum cout cout\nnet z z o o\nleq z o\nleq o z\neval sum 1101\n\
+                  eval cout 1001\n",
+            ),
+            Act::Run(
+                &NET,
+                0,
+                b"start 8\n2: nodes 7\n2: nodes 4\n3: nodes 0\n3: nodes 0\n4: yes\n5: no\n6: 1\n\
+                  7: 1\ndone\n",
+            ),
+        ],
+    ),
+    (
+        "outputs in front and no end",
+        &[
+            Act::Put("netlist", BARE),
+            Act::Put(
+                "script",
+                b"inputs\nnet y y v v w w\neval y 111\neval y 101\neval w 001\n",
+            ),
+            Act::Run(
+                &NET,
+                0,
+                b"start 6\n2: nodes 3\n2: nodes 2\n2: nodes 2\n3: 0\n4: 1\n5: 1\ndone\n",
+            ),
+        ],
+    ),
+];
+
 #[test]
 fn counts_the_nodes_of_netlists_as_tools_write_them(rt: HostRuntime) -> Result<(), Fail> {
-    // A disjunction or conjunction of k variables has k nodes, a sum 2 k - 1, a majority of three has 4; `y` of the last
-    // one is `c` unless both others are 1, and then 0.
-    let cases: [(&[u8], &[u8], &[u8]); 4] = [
-        (
-            YOSYS,
-            b"inputs\nnet w $abc$123$new_n5 y y n n\nnet t $true f $false u $undef\nsame y w\nsame f u\n\
-              leq t f\nsize n\n",
-            b"start 10\n2: nodes 4\n2: nodes 4\n2: nodes 4\n3: nodes 0\n3: nodes 0\n3: nodes 0\n4: yes\n5: yes\n\
-              6: no\n7: nodes 4\ndone\n",
-        ),
-        (
-            WIDE,
-            b"inputs\nnet any any all all\nleq all any\nleq any all\n",
-            b"start 4\n2: nodes 16\n2: nodes 16\n3: yes\n4: no\ndone\n",
-        ),
-        (
-            ABC,
-            b"inputs\nnet sum sum cout cout\nnet z z o o\nleq z o\nleq o z\neval sum 1101\neval cout 1001\n",
-            b"start 8\n2: nodes 7\n2: nodes 4\n3: nodes 0\n3: nodes 0\n4: yes\n5: no\n6: 1\n7: 1\ndone\n",
-        ),
-        (
-            BARE,
-            b"inputs\nnet y y v v w w\neval y 111\neval y 101\neval w 001\n",
-            b"start 6\n2: nodes 3\n2: nodes 2\n2: nodes 2\n3: 0\n4: 1\n5: 1\ndone\n",
-        ),
-    ];
-    for (netlist, script, said) in cases {
-        let mut bench = with_texts(rt.alloc(), script, netlist)?;
-        assert!(rt; gives(rt.alloc(), &NET, &mut bench, 0, said)?, "{said:?}");
-    }
-    Ok(())
+    all_go(&rt, rt.alloc(), &CASES)
 }
