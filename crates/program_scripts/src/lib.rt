@@ -3,6 +3,8 @@
 #![tactic(auto)]
 
 #[cfg(test)]
+mod large;
+#[cfg(test)]
 mod random;
 #[cfg(test)]
 mod runs;
@@ -10,5 +12,3 @@ mod runs;
 mod script;
 #[cfg(test)]
 mod wanted;
-#[cfg(test)]
-mod windows;

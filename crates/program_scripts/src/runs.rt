@@ -49,9 +49,9 @@ const WORDS: [&str; 6] = [
 ];
 
 /// Runs the program, and answers its status.
-pub(crate) fn run(alloc: Global, bench: &mut Bench) -> Result<u8, Fail> {
+pub(crate) fn run(alloc: Global, words: &[&str], bench: &mut Bench) -> Result<u8, Fail> {
     let mut owned = Vec::new(alloc);
-    for word in WORDS {
+    for word in words {
         owned.push(String::from_str(alloc, word)?)?;
     }
     Ok(adiar(alloc, owned.as_slice(), bench))
@@ -102,7 +102,7 @@ fn says_and_leaves(alloc: Global, script: &[u8]) -> Result<bool, Fail> {
     let mut bench = Bench::empty(alloc);
     bench.put_text("script", script)?;
     Ok(
-        run(alloc, &mut bench)? == 0
+        run(alloc, &WORDS, &mut bench)? == 0
             && bench.said() == text.as_slice()
             && leaves(plan.steps.items(), files.as_slice(), &bench),
     )
