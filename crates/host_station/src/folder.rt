@@ -1,8 +1,9 @@
 //! A real folder of numbered files.
 ghost use Rattle.std.specs.Prelude.{◌^◌, ◌<◌, ◌≤◌, IfOk, IfSome, length, vec_len};
 
-use crate::handle::Handle;
+use crate::handle::{Handle, are_one};
 use crate::handles::Handles;
+use crate::known::Known;
 use catalogue::JOB_GATE;
 use shelf_model::{FileNo, LONGEST};
 use std::alloc::Global;
@@ -10,6 +11,15 @@ use std::fs::{Metadata, OpenFile, OpenOptions};
 use std::io::{ErrorKind, Read, Seek, Write};
 use std::rt::Files;
 use std::{fs, io};
+
+/// The part of a step that is its node file.
+const NODES: u64 = 0;
+
+/// The part of a step that has its arcs to nodes. A step that sweeps begins with it where it has such arcs.
+const INNER_ARCS: u64 = 3;
+
+/// The part of a step that has its arcs to truth values, which it writes before its node file.
+const END_ARCS: u64 = 4;
 
 /// A real folder, whose file `(step, part)` is `sSTEPpPART`. A file that isn't there is empty, and
 /// nothing but an append makes one. Only regular files are files of the folder.
@@ -22,6 +32,9 @@ pub(crate) struct Folder<F> {
     path: String,
     is_entered: bool,
     handles: Handles<F>,
+    known: Known,
+    /// The folder itself, open since its first sync.
+    itself: Option<F>,
     /// Whether a file's name may not be synced.
     unsure_names: bool,
     /// Whether the folder's own name may not be synced.
@@ -35,6 +48,8 @@ impl<F: Read + Write + Seek + OpenFile + Drop> Folder<F> {
             path: String::new(alloc),
             is_entered: false,
             handles: Handles::new(alloc),
+            known: Known::nothing(),
+            itself: None,
             unsure_names: false,
             unsure_folder: false,
         }
@@ -46,9 +61,12 @@ impl<F: Read + Write + Seek + OpenFile + Drop> Folder<F> {
     /// folder's own name is synced where a job is stored, for that needed a sync.
     pub(crate) fn enter<R: Files<File = F>>(&mut self, rt: &R, path: &str) -> io::Result<()> {
         self.is_entered = false;
+        self.known = Known::nothing();
+        self.itself = None;
         self.handles.give_up_all()?;
         let is_made = make_folder(rt, path)?;
         self.path = String::from_str(self.alloc, path)?;
+        self.known = self.list(rt)?;
         self.is_entered = true;
         self.unsure_names = true;
         self.unsure_folder = true;
@@ -129,22 +147,42 @@ impl<F: Read + Write + Seek + OpenFile + Drop> Folder<F> {
             self.handles.all[i].sync()?;
         }
         if self.unsure_names {
-            self.sync_folder(rt, "")?;
+            self.sync_itself(rt)?;
             self.unsure_names = false;
         }
         if self.unsure_folder {
-            self.sync_folder(rt, "/..")?;
+            self.open_folder(rt, "/..")?.sync_all()?;
             self.unsure_folder = false;
         }
         Ok(())
     }
 
-    // Syncs the folder at the end of that way from this one.
-    fn sync_folder<R: Files<File = F>>(&mut self, rt: &R, way: &str) -> io::Result<()> {
+    // Syncs the folder itself, which stays open for the next time.
+    fn sync_itself<R: Files<File = F>>(&mut self, rt: &R) -> io::Result<()> {
+        let itself = match self.itself.take() {
+            Some(itself) => itself,
+            None => self.open_folder(rt, "")?,
+        };
+        itself.sync_all()?;
+        self.itself = Some(itself);
+        Ok(())
+    }
+
+    // Opens the folder at the end of that way from this one.
+    fn open_folder<R: Files<File = F>>(&mut self, rt: &R, way: &str) -> io::Result<F> {
         let path = format!(in self.alloc; "{}{way}", self.path)?;
         let mut how = OpenOptions::new();
         how.read(true);
-        self.open(rt, &how, path.as_str())?.sync_all()
+        self.open(rt, &how, path.as_str())
+    }
+
+    // What the folder's names tell. Where they can't be listed, that is nothing: then each file is asked for.
+    fn list<R: Files<File = F>>(&self, rt: &R) -> io::Result<Known> {
+        let path = format!(in self.alloc; "{}/", self.path)?;
+        match rt.open_dir(path.as_str()) {
+            Ok(mut listing) => Ok(Known::of_listing(&mut listing)),
+            Err(_) => Ok(Known::nothing()),
+        }
     }
 
     // The place of a file's handle, opened where it wasn't open. There is none where the file isn't
@@ -154,6 +192,9 @@ impl<F: Read + Write + Seek + OpenFile + Drop> Folder<F> {
     {
         if let Some(i) = self.handles.place_of(f) {
             return Ok(Some(i));
+        }
+        if self.known.is_absent(f) {
+            return Ok(None);
         }
         let path = self.path_of(f)?;
         match fs::symlink_metadata(rt, path.as_str()) {
@@ -181,28 +222,58 @@ impl<F: Read + Write + Seek + OpenFile + Drop> Folder<F> {
         }
         let mut how = OpenOptions::new();
         how.read(true).write(true);
-        let handle = Handle::of(f, self.open(rt, &how, path)?)?;
-        if handle.is_that(seen)? || handle.is_that(&fs::symlink_metadata(rt, path)?)? {
-            Ok(handle)
+        let file = self.open(rt, &how, path)?;
+        let opened = file.metadata()?;
+        let is_file = opened.is_file();
+        if is_file
+            && (are_one(seen, &opened) || are_one(&fs::symlink_metadata(rt, path)?, &opened))
+        {
+            Ok(Handle::of(f, file, opened.len()))
         } else {
             Err(io::Error::from(ErrorKind::InvalidInput))
         }
     }
 
     // Makes a file that isn't there, and answers the place of its handle.
+    //
+    // With a step's arcs the files are made that it writes after them, so that one sync of the folder covers
+    // all their names. They are empty, as those are that aren't there.
     fn make<R: Files<File = F>>(&mut self, rt: &R, f: FileNo) -> io::Result<usize>
+        ensures { IfOk result (λ i. i < vec_len self.new.handles.all) }
+    {
+        if f.part == INNER_ARCS {
+            self.make_early(rt, f.step, END_ARCS)?;
+        }
+        if f.part == INNER_ARCS || f.part == END_ARCS {
+            self.make_early(rt, f.step, NODES)?;
+        }
+        self.make_alone(rt, f)
+    }
+
+    // Makes a part of a step that isn't written yet, unless it may be there.
+    fn make_early<R: Files<File = F>>(&mut self, rt: &R, step: u32, part: u64) -> io::Result<()> {
+        let f = FileNo { step, part };
+        if self.known.is_absent(f) {
+            self.make_alone(rt, f)?;
+        }
+        Ok(())
+    }
+
+    fn make_alone<R: Files<File = F>>(&mut self, rt: &R, f: FileNo) -> io::Result<usize>
         ensures { IfOk result (λ i. i < vec_len self.new.handles.all) }
     {
         let path = self.path_of(f)?;
         let mut how = OpenOptions::new();
         how.read(true).write(true).create_new(true);
+        // A call that fails may have made it all the same.
         self.unsure_names = true;
+        self.known.see(f);
         let file = self.open(rt, &how, path.as_str())?;
-        self.handles.add(Handle::of(f, file)?)
+        self.handles.add(Handle::of(f, file, 0))
     }
 
     /// Opens a file at a path. Where the process may have no more open, files of the folder are given
-    /// up.
+    /// up, and at last the folder's own handle.
     pub(crate) fn open<R: Files<File = F>>(
         &mut self,
         rt: &R,
@@ -219,6 +290,11 @@ impl<F: Read + Write + Seek + OpenFile + Drop> Folder<F> {
             }
             self.handles.give_up()?;
         }
+        match how.open(rt, path) {
+            Err(e) if are_spent(&e) => {}
+            opened => return opened,
+        }
+        self.itself = None;
         how.open(rt, path)
     }
 

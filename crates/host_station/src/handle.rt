@@ -17,21 +17,16 @@ pub(crate) struct Handle<F> {
     pub(crate) len: u64,
     /// How many of the bytes still stand that stood when it was opened. 0 once it was synced.
     older: u64,
-    /// Whether it was changed since it was opened or synced.
+    /// Whether it has bytes that were changed since it was opened or synced.
     pub(crate) is_changed: bool,
-    /// The call that used it last.
+    /// The call that used it last, or 0 where it was cut to nothing since.
     pub(crate) used: u64,
 }
 
 impl<F: Read + Write + Seek + OpenFile + Drop> Handle<F> {
-    /// A handle of a file that was just opened. Only regular files have one.
-    pub(crate) fn of(number: FileNo, file: F) -> io::Result<Handle<F>> {
-        let opened = file.metadata()?;
-        if !opened.is_file() {
-            return Err(io::Error::from(ErrorKind::InvalidInput));
-        }
-        let len = opened.len();
-        Ok(Handle {
+    /// A handle of a regular file of that length that was just opened.
+    pub(crate) fn of(number: FileNo, file: F, len: u64) -> Handle<F> {
+        Handle {
             number,
             file,
             at: 0,
@@ -39,13 +34,7 @@ impl<F: Read + Write + Seek + OpenFile + Drop> Handle<F> {
             older: len,
             is_changed: false,
             used: 0,
-        })
-    }
-
-    /// Whether the open file is the one that was seen at a name, which was no link then.
-    pub(crate) fn is_that(&self, seen: &Metadata) -> io::Result<bool> {
-        let opened = self.file.metadata()?;
-        Ok(seen.ino() == opened.ino() && seen.dev() == opened.dev())
+        }
     }
 
     /// Reads from a byte on. Behind the file's end there is nothing to read.
@@ -55,8 +44,10 @@ impl<F: Read + Write + Seek + OpenFile + Drop> Handle<F> {
         if self.len <= at {
             return Ok(0);
         }
+        // No more is asked for than there is: a read that meets the end would be followed by another one.
+        let most = (self.len - at).min(buf.len() as u64) as usize;
         self.stand_at(at)?;
-        let count = read_full(&mut self.file, buf)?;
+        let count = read_full(&mut self.file, &mut buf[..most])?;
         self.at = at.saturating_add(count as u64);
         Ok(count)
     }
@@ -80,6 +71,10 @@ impl<F: Read + Write + Seek + OpenFile + Drop> Handle<F> {
             self.file.set_len(to)?;
             self.len = to;
             self.older = self.older.min(to);
+        }
+        if to == 0 {
+            self.is_changed = false;
+            self.used = 0;
         }
         Ok(())
     }
@@ -117,4 +112,9 @@ impl<F: Read + Write + Seek + OpenFile + Drop> Handle<F> {
         }
         Ok(())
     }
+}
+
+/// Whether an open file is the one that was seen at a name, which was no link then.
+pub(crate) fn are_one(seen: &Metadata, opened: &Metadata) -> bool {
+    seen.ino() == opened.ino() && seen.dev() == opened.dev()
 }

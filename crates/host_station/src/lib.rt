@@ -5,6 +5,7 @@ mod bytes;
 mod folder;
 mod handle;
 mod handles;
+mod known;
 mod station;
 mod text;
 

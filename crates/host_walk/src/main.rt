@@ -54,10 +54,15 @@ fn walk_twice(walk: &Walk<'_>, seed: u64, calls: u64, rt: &HostRuntime) -> Resul
     fs::write(rt, walk.text, bytes.as_slice())?;
     bench.put_text(walk.text, &bytes)?;
     let mut dice = Dice::new(seed);
-    for _round in 0..2 {
+    // The steps that are swept lie behind those of the walk. The second round begins with the first one's last.
+    for first in [1000u32, 1004] {
         let mut real = HostStation::new(rt, rt.alloc());
         if let Some(call) = walk.go(calls, &mut dice, &mut real, &mut bench)? {
             println!(rt; "call {call} isn't answered as in memory")?;
+            return Ok(false);
+        }
+        if !walk.sweep(first, &mut dice, &mut real, &mut bench)? {
+            println!(rt; "the steps from {first} on aren't answered as in memory")?;
             return Ok(false);
         }
         println!(rt; "{calls} calls as in memory")?;

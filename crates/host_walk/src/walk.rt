@@ -11,6 +11,9 @@ use std::test::Fail;
 /// The text that is fetched has so many bytes.
 pub(crate) const TEXT_LEN: usize = 5000;
 
+/// So many steps are written as one that sweeps does, at a time.
+const SWEPT: u32 = 5;
+
 /// What a walk goes over.
 #[derive(Drop)]
 pub(crate) struct Walk<'w> {
@@ -47,6 +50,51 @@ impl<'w> Walk<'w> {
             }
         }
         Ok(None)
+    }
+
+    /// Writes the files of some steps as a step that sweeps does: its arcs to nodes, its arcs to truth values
+    /// and its node file, after which the arcs are cut. The last step's arcs stay, as where a run was stopped.
+    /// Answers whether all was answered alike.
+    pub(crate) fn sweep(
+        &self,
+        first: u32,
+        dice: &mut Dice,
+        real: &mut Real<'_>,
+        bench: &mut Bench,
+    ) -> Result<bool, Fail> {
+        for step in first..first.saturating_add(SWEPT) {
+            for part in [3u64, 4, 0] {
+                if !self.write(FileNo { step, part }, dice, real, bench)? {
+                    return Ok(false);
+                }
+            }
+            let arcs = FileNo { step, part: 3 };
+            let ends = FileNo { step, part: 4 };
+            let is_last = step == first.saturating_add(SWEPT - 1);
+            if !is_last && !(pair::cut(arcs, 0, real, bench) && pair::cut(ends, 0, real, bench)) {
+                return Ok(false);
+            }
+        }
+        Ok(true)
+    }
+
+    // Writes a file anew, syncs it and reads it.
+    fn write(
+        &self,
+        f: FileNo,
+        dice: &mut Dice,
+        real: &mut Real<'_>,
+        bench: &mut Bench,
+    ) -> Result<bool, Fail> {
+        if !pair::cut(f, 0, real, bench) || !put_some(f, dice, real, bench) {
+            return Ok(false);
+        }
+        let is_synced = if self.marks {
+            self.sync_marked(f, real, bench)?
+        } else {
+            pair::sync(f, real, bench)
+        };
+        Ok(is_synced && pair::whole(f, real, bench))
     }
 
     // Makes one call, and answers whether both answered alike.
@@ -98,8 +146,8 @@ fn file_of(k: u64) -> FileNo {
         };
     }
     FileNo {
-        step: (k / 4 % 1000) as u32,
-        part: k % 4,
+        step: (k / 5 % 1000) as u32,
+        part: k % 5,
     }
 }
 
