@@ -1,4 +1,5 @@
-// Scripts whose steps sweep over diagrams: what a run of each says, and the words of node files that it leaves.
+// Scripts, most of whose steps sweep over diagrams: what a run of each says, and the words of node files that it
+// leaves.
 use crate::bench_run::{bench_with, gives};
 use crate::files::{LEVEL_0, LEVEL_1, LEVEL_2, ONE, ZERO, has_words, node_file, part_of};
 use shelf_memory::Bench;
@@ -163,8 +164,16 @@ pub(crate) const COMPLEMENTS: Row = Row {
     drops: false,
 };
 
+/// A comment, an empty line and a tab before a request, in lines that end with a carriage return.
+pub(crate) const OTHER_LAYOUT: Row = Row {
+    script: b"vars a b # order\r\n\r\n\tvar f a\r\n",
+    said: b"start 1\n3: nodes 1\ndone\n",
+    files: &[(0, &[LEVEL_0, ZERO, ONE, LEVEL_0, 1, 2])],
+    drops: false,
+};
+
 /// All of them.
-pub(crate) const ROWS: [Row; 12] = [
+pub(crate) const ROWS: [Row; 13] = [
     AND,
     XOR,
     XOR_SAME,
@@ -177,6 +186,7 @@ pub(crate) const ROWS: [Row; 12] = [
     AND_LEQ,
     CONSTANTS_LEQ,
     COMPLEMENTS,
+    OTHER_LAYOUT,
 ];
 
 /// Whether the node files have these words.

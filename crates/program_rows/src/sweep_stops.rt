@@ -1,11 +1,11 @@
-// Runs whose steps sweep, in the least room, that are stopped at any of their calls, or of which any one call fails,
-// and are then run again.
+// Runs of scripts in the least room that are stopped at any of their calls, or of which any one call fails, and are
+// then run again.
 use crate::bench_run::{SMALL, bench_with, run};
 use crate::files::{CATALOGUE, FIRST, JOB, JOB_GATE, STEP_GATE, node_file};
 use crate::parts_said::{goes_on_behind, line_count, lines_said};
 use crate::rows::{
-    AND_DROP, AND_LEQ, EVAL_OF_NONE, EXISTS_LEQ, ITE_QUANTIFIERS, RESTRICT_EVAL, Row, STEPS,
-    XOR_ITE, XOR_SAME, has_files, has_no_other_parts,
+    AND_DROP, AND_LEQ, CONSTANTS_LEQ, EVAL_OF_NONE, EXISTS_LEQ, ITE_QUANTIFIERS, OTHER_LAYOUT,
+    RESTRICT_EVAL, Row, STEPS, XOR_ITE, XOR_SAME, has_files, has_no_other_parts,
 };
 use shelf_memory::{Bench, Choice};
 use std::alloc::Global;
@@ -163,7 +163,7 @@ fn first_failure(alloc: Global, row: &Row) -> Result<Option<u64>, Fail> {
 }
 
 /// The rows that are stopped.
-const STOPPED: [Row; 8] = [
+const STOPPED: [Row; 10] = [
     XOR_SAME,
     XOR_ITE,
     EXISTS_LEQ,
@@ -172,6 +172,8 @@ const STOPPED: [Row; 8] = [
     EVAL_OF_NONE,
     AND_DROP,
     AND_LEQ,
+    CONSTANTS_LEQ,
+    OTHER_LAYOUT,
 ];
 
 /// What isn't outlived: the row's place, and the first call.
