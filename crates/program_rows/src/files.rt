@@ -59,11 +59,11 @@ pub(crate) fn entry(step: u8, name: u8) -> [u8; 128] {
     bytes
 }
 
-/// The files of a folder of three or four steps but for its gates and the first step's node file, and some that stay
-/// empty.
-const FILES: [FileNo; 15] = [
+/// The files of a folder of three or four steps but for its gates, and some that stay empty.
+const FILES: [FileNo; 16] = [
     JOB,
     CATALOGUE,
+    FIRST,
     FileNo { step: 0, part: 1 },
     FileNo { step: 0, part: 2 },
     FileNo { step: 0, part: 3 },
@@ -106,11 +106,6 @@ pub(crate) fn has_words(
 /// Whether the files of two folders read alike, and their gates are as long: what the bytes of a gate are means
 /// nothing.
 pub(crate) fn same_files(a: &Bench, b: &Bench) -> bool {
-    a.file(FIRST) == b.file(FIRST) && same_files_but_the_first(a, b)
-}
-
-/// The same, whatever the first step's node file is.
-pub(crate) fn same_files_but_the_first(a: &Bench, b: &Bench) -> bool {
     for f in FILES {
         if a.file(f) != b.file(f) {
             return false;
