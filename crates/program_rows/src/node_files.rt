@@ -19,7 +19,7 @@ fn makes_files(alloc: Global, script: &[u8], said: &[u8], files: &[&[u64]]) -> R
     let told = gives(alloc, &mut bench, 0, said)?;
     let mut step = 0;
     for words in files {
-        if !has_words(alloc, &bench, node_file(step), words)? {
+        if !has_words(&bench, node_file(step), words) {
             return Ok(false);
         }
         step = step.saturating_add(1);

@@ -233,19 +233,19 @@ pub(crate) const ROWS: [Row; 15] = [
 ];
 
 /// Whether the node files have these words.
-pub(crate) fn has_files(alloc: Global, bench: &Bench, files: &[Left]) -> Result<bool, Fail> {
+pub(crate) fn has_files(bench: &Bench, files: &[Left]) -> bool {
     for (step, words) in files {
-        if !has_words(alloc, bench, node_file(*step), words)? {
-            return Ok(false);
+        if !has_words(bench, node_file(*step), words) {
+            return false;
         }
     }
-    Ok(true)
+    true
 }
 
 /// Whether a run of the script in an empty folder says its text and leaves its files.
 fn says_and_leaves(alloc: Global, row: &Row) -> Result<bool, Fail> {
     let mut bench = bench_with(alloc, row.script)?;
-    Ok(gives(alloc, &mut bench, 0, row.said)? && has_files(alloc, &bench, row.files)?)
+    Ok(gives(alloc, &mut bench, 0, row.said)? && has_files(&bench, row.files))
 }
 
 #[test]

@@ -60,12 +60,11 @@ fn same_files(row: &Row, committed: usize, bench: &Bench, whole: &Bench) -> bool
 }
 
 /// Whether the first step's node file has its words while that step is committed and the drop isn't.
-fn keeps_what_is_not_dropped(alloc: Global, row: &Row, bench: &Bench) -> Result<bool, Fail> {
-    let committed = bench.file(STEP_GATE).len();
-    if row.dropped.is_empty() || committed == 0 || committed == 4 {
-        return Ok(true);
-    }
-    has_words(alloc, bench, FIRST, row.dropped)
+fn keeps_what_is_not_dropped(row: &Row, committed: usize, bench: &Bench) -> bool {
+    row.dropped.is_empty()
+        || committed == 0
+        || committed == 4
+        || has_words(bench, FIRST, row.dropped)
 }
 
 /// Goes on in a folder where a run ended that had said this front part of so many lines, and says whether the text and
@@ -77,13 +76,16 @@ fn ends_well(
     bench: &mut Bench,
     lines: usize,
 ) -> Result<bool, Fail> {
-    let before = Vec::from_slice(alloc, bench.said())?;
-    let kept = keeps_what_is_not_dropped(alloc, row, bench)?;
+    let told_before = bench.said().len();
     let committed = bench.file(STEP_GATE).len();
+    let kept = keeps_what_is_not_dropped(row, committed, bench);
     let status = run(alloc, &SMALL, bench)?;
-    let told = goes_on_behind(alloc, row.said, bench.said(), lines, before.as_slice())?;
+    let Some(before) = row.said.get(..told_before) else {
+        return Ok(false);
+    };
+    let told = goes_on_behind(row.said, bench.said(), lines, before);
     let may_be_left = !row.dropped.is_empty() && committed == 4;
-    let right = may_be_left || has_files(alloc, bench, row.files)?;
+    let right = may_be_left || has_files(bench, row.files);
     Ok(kept && status == 0 && told && right && same_files(row, committed, bench, whole))
 }
 
