@@ -5,32 +5,15 @@ use crate::rows::{AND_LEQ, RESTRICT_EVAL, Row, XOR_SAME};
 use std::alloc::Global;
 use std::test::Fail;
 
-/// Whether bytes are those of an answer's entry: its step's number, kind 3, the answer, no name and no count; then
-/// the turns and the next part number, and bytes 0.
-fn is_answer(bytes: &[u8], step: u8, answer: u8) -> bool {
+/// Whether a step's entry is that of an answer: its step's number, kind 3, the answer, no name and no count; then the
+/// turns and the next part number, and bytes 0.
+fn is_answer(catalogue: &[u8], step: u8, answer: u8) -> bool {
     let front = [0, 0, 0, step, 3, answer, 0, 0, 0, 0, 0, 0, 0, 0, 0, 0];
-    for (k, byte) in bytes.iter().enumerate() {
-        let wanted = match front.as_slice().get(k) {
-            Some(wanted) => *wanted,
-            None => 0,
-        };
-        if *byte != wanted && (k < 16 || 32 <= k) {
-            return false;
-        }
+    let first = step as usize * 128;
+    match catalogue.get(first..first + 128) {
+        Some(entry) => entry.starts_with(&front) && entry.ends_with(&[0; 96]),
+        None => false,
     }
-    bytes.len() == 128
-}
-
-/// The bytes of a step's entry.
-fn entry_bytes(alloc: Global, catalogue: &[u8], step: usize) -> Result<Vec<u8>, Fail> {
-    let first = step.saturating_mul(128);
-    let mut bytes = Vec::new(alloc);
-    for (k, byte) in catalogue.iter().enumerate() {
-        if first <= k && k < first.saturating_add(128) {
-            bytes.push(*byte)?;
-        }
-    }
-    Ok(bytes)
 }
 
 /// Whether a run says the row's text, in which an answer's line has its answer alone, and the step's entry has the
@@ -38,8 +21,7 @@ fn entry_bytes(alloc: Global, catalogue: &[u8], step: usize) -> Result<Vec<u8>, 
 fn answers(alloc: Global, row: &Row, step: u8, answer: u8) -> Result<bool, Fail> {
     let mut bench = bench_with(alloc, row.script)?;
     let told = gives(alloc, &mut bench, 0, row.said)?;
-    let bytes = entry_bytes(alloc, bench.file(CATALOGUE), step as usize)?;
-    Ok(told && is_answer(bytes.as_slice(), step, answer))
+    Ok(told && is_answer(bench.file(CATALOGUE), step, answer))
 }
 
 #[test]

@@ -1,23 +1,9 @@
-// A script that asks for a size and drops a diagram. Numbers in files have the highest byte first.
+// A script that asks for a size and drops a diagram.
 use crate::bench_run::{DROPPING, DROPPING_TEXT, RUN, bench_with, gives, run};
-use crate::files::{CATALOGUE, FIRST, STEP_GATE, entry};
+use crate::files::{CATALOGUE, STEP_GATE};
 use shelf_memory::{Bench, Choice};
-use shelf_model::FileNo;
 use std::alloc::Global;
 use std::test::Fail;
-
-const SECOND: FileNo = FileNo { step: 1, part: 0 };
-
-/// The entry of an answer (kind 3) or a drop (kind 2): no name, one turn, and 3 as its next part.
-fn nameless(step: u8, kind: u8, count: u8) -> [u8; 128] {
-    let mut bytes = [0; 128];
-    bytes[3] = step;
-    bytes[4] = kind;
-    bytes[15] = count;
-    bytes[23] = 1;
-    bytes[31] = 3;
-    bytes
-}
 
 /// A folder where the run was stopped behind the commit of the second of its four steps.
 fn half_done(alloc: Global) -> Result<Bench, Fail> {
@@ -26,44 +12,6 @@ fn half_done(alloc: Global) -> Result<Bench, Fail> {
     bench.fail_from(31);
     run(alloc, &RUN, &mut bench)?;
     Ok(bench.stop(Choice::Firm)?)
-}
-
-/// Whether a run of the script in an empty folder says its text and leaves the first step's file empty, and this one
-/// with these bytes.
-fn leaves(alloc: Global, f: FileNo, wanted: &[u8]) -> Result<bool, Fail> {
-    let mut bench = bench_with(alloc, DROPPING)?;
-    Ok(
-        gives(alloc, &mut bench, 0, DROPPING_TEXT)?
-            && bench.file(FIRST).is_empty()
-            && bench.file(f) == wanted,
-    )
-}
-
-#[test]
-fn empties_the_dropped_file_alone(rt: HostRuntime) -> Result<(), Fail> {
-    let variable = b"\x00\x00\xff\xff\xff\xff\xff\xff\x80\x00\x00\x00\x00\x00\x00\x00\
-                     \x80\x00\x00\x00\x00\x00\x00\x01\x00\x00\xff\xff\xff\xff\xff\xff\
-                     \x00\x00\x00\x00\x00\x00\x00\x01\x00\x00\x00\x00\x00\x00\x00\x02";
-    assert!(rt; leaves(rt.alloc(), SECOND, variable)?);
-    Ok(())
-}
-
-/// The entries of the script's four steps. The constant has no nodes, the variable one.
-fn entries(alloc: Global) -> Result<Vec<u8>, Fail> {
-    let mut constant = entry(0, b'z');
-    constant[15] = 0;
-    let mut all = Vec::from_slice(alloc, &constant)?;
-    all.extend_from_slice(&entry(1, b'f'))?;
-    all.extend_from_slice(&nameless(2, 3, 1))?;
-    all.extend_from_slice(&nameless(3, 2, 0))?;
-    Ok(all)
-}
-
-#[test]
-fn keeps_the_entries_of_a_size_and_a_drop(rt: HostRuntime) -> Result<(), Fail> {
-    let wanted = entries(rt.alloc())?;
-    assert!(rt; leaves(rt.alloc(), CATALOGUE, wanted.as_slice())?);
-    Ok(())
 }
 
 /// Whether a run where all is done says only that.

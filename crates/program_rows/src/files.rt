@@ -1,8 +1,6 @@
 // The files of a folder, by hand, and the bytes of a job and of an entry. Numbers have the highest byte first.
 use shelf_memory::Bench;
 use shelf_model::FileNo;
-use std::alloc::Global;
-use std::test::Fail;
 
 pub(crate) const JOB: FileNo = FileNo {
     step: 4_294_967_295,
@@ -59,11 +57,11 @@ pub(crate) fn entry(step: u8, name: u8) -> [u8; 128] {
     bytes
 }
 
-/// The files of a folder of three or four steps but for its gates and the first step's node file, and some that stay
-/// empty.
-const FILES: [FileNo; 15] = [
+/// The files of a folder of three or four steps but for its gates, and some that stay empty.
+const FILES: [FileNo; 16] = [
     JOB,
     CATALOGUE,
+    FIRST,
     FileNo { step: 0, part: 1 },
     FileNo { step: 0, part: 2 },
     FileNo { step: 0, part: 3 },
@@ -90,27 +88,21 @@ pub(crate) fn part_of(step: u32, part: u64) -> FileNo {
 }
 
 /// Whether a file has these words and no other bytes.
-pub(crate) fn has_words(
-    alloc: Global,
-    bench: &Bench,
-    f: FileNo,
-    words: &[u64],
-) -> Result<bool, Fail> {
-    let mut wanted = Vec::new(alloc);
-    for word in words {
-        wanted.extend_from_slice(&word.to_be_bytes())?;
+pub(crate) fn has_words(bench: &Bench, f: FileNo, words: &[u64]) -> bool {
+    let bytes = bench.file(f);
+    for (k, word) in words.iter().enumerate() {
+        let at = k.saturating_mul(8);
+        match bytes.get(at..at.saturating_add(8)) {
+            Some(part) if part == word.to_be_bytes().as_slice() => {}
+            _ => return false,
+        }
     }
-    Ok(bench.file(f) == wanted.as_slice())
+    bytes.len() == words.len().saturating_mul(8)
 }
 
 /// Whether the files of two folders read alike, and their gates are as long: what the bytes of a gate are means
 /// nothing.
 pub(crate) fn same_files(a: &Bench, b: &Bench) -> bool {
-    a.file(FIRST) == b.file(FIRST) && same_files_but_the_first(a, b)
-}
-
-/// The same, whatever the first step's node file is.
-pub(crate) fn same_files_but_the_first(a: &Bench, b: &Bench) -> bool {
     for f in FILES {
         if a.file(f) != b.file(f) {
             return false;

@@ -30,5 +30,3 @@ mod resumed;
 mod rows;
 #[cfg(test)]
 mod stops;
-#[cfg(test)]
-mod sweep_stops;

@@ -1,26 +1,25 @@
 // What accepted scripts say, and the bytes that they leave. Numbers in files have the highest byte first.
-use crate::bench_run::{ONE_VARIABLE, RUN, SMALL, bench_with, gives, run};
+use crate::bench_run::{DROPPING, ONE_VARIABLE, RUN, SMALL, bench_with, gives, run};
 use crate::files::{
-    CATALOGUE, JOB, JOB_GATE, LEVEL_0, LEVEL_1, LEVEL_2, ONE, STEP_GATE, ZERO, ZERO_OF_TWO, entry,
-    node_file,
+    CATALOGUE, FIRST, JOB, JOB_GATE, LEVEL_0, LEVEL_1, LEVEL_2, ONE, STEP_GATE, ZERO, ZERO_OF_TWO,
+    entry, has_words, node_file,
 };
 use shelf_memory::Bench;
 use shelf_model::FileNo;
 use std::alloc::Global;
 use std::test::Fail;
 
-/// The words of a variable's file: its node, the truth values 0 and 1 that it leads to, and the trailer
-/// with the root, the number of nodes and the number of variables.
-type Words = [u64; 6];
+/// A script of both constants.
+const CONSTANTS: &[u8] = b"vars a b\nconst z 0\nconst o 1\n";
 
 /// Whether a run of the script in an empty folder says this text, and each step's node file has these words and the
 /// next one no bytes.
-fn makes_files(alloc: Global, script: &[u8], said: &[u8], files: &[Words]) -> Result<bool, Fail> {
+fn makes_files(alloc: Global, script: &[u8], said: &[u8], files: &[&[u64]]) -> Result<bool, Fail> {
     let mut bench = bench_with(alloc, script)?;
     let told = gives(alloc, &mut bench, 0, said)?;
     let mut step = 0;
     for words in files {
-        if !holds(&bench, node_file(step), words) {
+        if !has_words(&bench, node_file(step), words) {
             return Ok(false);
         }
         step = step.saturating_add(1);
@@ -28,23 +27,9 @@ fn makes_files(alloc: Global, script: &[u8], said: &[u8], files: &[Words]) -> Re
     Ok(told && bench.file(node_file(step)).is_empty())
 }
 
-/// Whether the run of a script of both constants says its text, and leaves the file of 0 and these bytes.
-fn makes_constants(alloc: Global, one: &[u8]) -> Result<bool, Fail> {
-    let mut bench = bench_with(alloc, b"vars a b\nconst z 0\nconst o 1\n")?;
-    Ok(
-        gives(
-            alloc,
-            &mut bench,
-            0,
-            b"start 2\n2: nodes 0\n3: nodes 0\ndone\n",
-        )? && bench.file(node_file(0)) == ZERO_OF_TWO.as_slice()
-            && bench.file(node_file(1)) == one,
-    )
-}
-
-/// Whether a run of one variable leaves the file with these bytes.
-fn leaves(alloc: Global, f: FileNo, wanted: &[u8]) -> Result<bool, Fail> {
-    let mut bench = bench_with(alloc, ONE_VARIABLE)?;
+/// Whether a run of the script leaves the file with these bytes.
+fn leaves(alloc: Global, script: &[u8], f: FileNo, wanted: &[u8]) -> Result<bool, Fail> {
+    let mut bench = bench_with(alloc, script)?;
     Ok(run(alloc, &RUN, &mut bench)? == 0 && bench.file(f) == wanted)
 }
 
@@ -68,13 +53,19 @@ fn keeps(
 
 #[test]
 fn makes_the_file_of_each_request(rt: HostRuntime) -> Result<(), Fail> {
-    let a = [LEVEL_0, ZERO, ONE, LEVEL_0, 1, 3];
-    let b = [LEVEL_1, ZERO, ONE, LEVEL_1, 1, 3];
-    let c = [LEVEL_2, ZERO, ONE, LEVEL_2, 1, 3];
-    let alone = [LEVEL_0, ZERO, ONE, LEVEL_0, 1, 1];
-    let second = [LEVEL_0, ZERO, ONE, LEVEL_0, 1, 2];
-    let cases: [(&[u8], &[u8], &[Words]); 9] = [
+    let a: &[u64] = &[LEVEL_0, ZERO, ONE, LEVEL_0, 1, 3];
+    let b: &[u64] = &[LEVEL_1, ZERO, ONE, LEVEL_1, 1, 3];
+    let c: &[u64] = &[LEVEL_2, ZERO, ONE, LEVEL_2, 1, 3];
+    let alone: &[u64] = &[LEVEL_0, ZERO, ONE, LEVEL_0, 1, 1];
+    let second: &[u64] = &[LEVEL_0, ZERO, ONE, LEVEL_0, 1, 2];
+    let (zero, one): (&[u64], &[u64]) = (&[ZERO, 0, 2], &[ONE, 0, 2]);
+    let cases: [(&[u8], &[u8], &[&[u64]]); 10] = [
         (ONE_VARIABLE, b"start 1\n2: nodes 1\ndone\n", &[b]),
+        (
+            CONSTANTS,
+            b"start 2\n2: nodes 0\n3: nodes 0\ndone\n",
+            &[zero, one],
+        ),
         (b"vars a\n", b"start 0\ndone\n", &[]),
         (b"", b"start 0\ndone\n", &[]),
         (b"vars\n", b"start 0\ndone\n", &[]),
@@ -110,21 +101,52 @@ fn makes_the_file_of_each_request(rt: HostRuntime) -> Result<(), Fail> {
     Ok(())
 }
 
-#[test]
-fn makes_the_files_of_both_constants(rt: HostRuntime) -> Result<(), Fail> {
-    let one = b"\x80\x00\x00\x00\x00\x00\x00\x01\
-                \x00\x00\x00\x00\x00\x00\x00\x00\
-                \x00\x00\x00\x00\x00\x00\x00\x02";
-    assert!(rt; makes_constants(rt.alloc(), one)?);
-    Ok(())
+/// The entry of an answer (kind 3) or a drop (kind 2): no name, one turn, and 3 as its next part.
+fn nameless(step: u8, kind: u8, count: u8) -> [u8; 128] {
+    let mut bytes = [0; 128];
+    bytes[3] = step;
+    bytes[4] = kind;
+    bytes[15] = count;
+    bytes[23] = 1;
+    bytes[31] = 3;
+    bytes
+}
+
+/// The entries of the four steps of the script that drops a diagram. The constant has no nodes, the variable one.
+fn dropping_entries(alloc: Global) -> Result<Vec<u8>, Fail> {
+    let mut constant = entry(0, b'z');
+    constant[15] = 0;
+    let mut all = Vec::from_slice(alloc, &constant)?;
+    all.extend_from_slice(&entry(1, b'f'))?;
+    all.extend_from_slice(&nameless(2, 3, 1))?;
+    all.extend_from_slice(&nameless(3, 2, 0))?;
+    Ok(all)
 }
 
 #[test]
 fn writes_numbers_with_the_highest_byte_first(rt: HostRuntime) -> Result<(), Fail> {
-    let wanted = b"\x00\x00\xff\xff\xff\xff\xff\xff\x80\x00\x00\x00\x00\x00\x00\x00\
+    let one = b"\x80\x00\x00\x00\x00\x00\x00\x01\
+                \x00\x00\x00\x00\x00\x00\x00\x00\
+                \x00\x00\x00\x00\x00\x00\x00\x02";
+    let of_two = b"\x00\x00\xff\xff\xff\xff\xff\xff\x80\x00\x00\x00\x00\x00\x00\x00\
                    \x80\x00\x00\x00\x00\x00\x00\x01\x00\x00\xff\xff\xff\xff\xff\xff\
-                   \x00\x00\x00\x00\x00\x00\x00\x01\x00\x00\x00\x00\x00\x00\x00\x03";
-    assert!(rt; leaves(rt.alloc(), node_file(0), wanted)?);
+                   \x00\x00\x00\x00\x00\x00\x00\x01\x00\x00\x00\x00\x00\x00\x00\x02";
+    let of_three = b"\x00\x00\xff\xff\xff\xff\xff\xff\x80\x00\x00\x00\x00\x00\x00\x00\
+                     \x80\x00\x00\x00\x00\x00\x00\x01\x00\x00\xff\xff\xff\xff\xff\xff\
+                     \x00\x00\x00\x00\x00\x00\x00\x01\x00\x00\x00\x00\x00\x00\x00\x03";
+    let variable = entry(0, b'f');
+    let drop = dropping_entries(rt.alloc())?;
+    let cases: [(&[u8], FileNo, &[u8]); 6] = [
+        (CONSTANTS, FIRST, ZERO_OF_TWO),
+        (CONSTANTS, node_file(1), one),
+        (ONE_VARIABLE, FIRST, of_three),
+        (ONE_VARIABLE, CATALOGUE, &variable),
+        (DROPPING, node_file(1), of_two),
+        (DROPPING, CATALOGUE, drop.as_slice()),
+    ];
+    for (script, f, wanted) in cases {
+        assert!(rt; leaves(rt.alloc(), script, f, wanted)?, "{script:?} {f:?}");
+    }
     Ok(())
 }
 
@@ -165,20 +187,4 @@ fn keeps_the_job_and_the_gates(rt: HostRuntime) -> Result<(), Fail> {
         );
     }
     Ok(())
-}
-
-#[test]
-fn keeps_the_entry_of_a_step(rt: HostRuntime) -> Result<(), Fail> {
-    let wanted = entry(0, b'f');
-    assert!(rt; leaves(rt.alloc(), CATALOGUE, &wanted)?);
-    Ok(())
-}
-
-/// Whether the file has these words and no other bytes.
-fn holds(bench: &Bench, f: FileNo, words: &Words) -> bool {
-    let mut wanted = [0; 48];
-    for (k, word) in words.iter().enumerate() {
-        wanted[8 * k..8 * k + 8].copy_from_slice(&word.to_be_bytes());
-    }
-    bench.file(f) == wanted.as_slice()
 }

@@ -1,39 +1,4 @@
 // What a run said that was stopped, and what the next run goes on with.
-use std::alloc::{AllocError, Global};
-
-/// A part of what runs say, and how many lines of the script were said before its end (for a front part), or are
-/// counted as said before it (for a whole text).
-pub(crate) type Part = (usize, &'static [u8]);
-
-/// The front part of the text that was said, and how many steps' lines are in it.
-pub(crate) fn front_of(fronts: &[Part], said: &[u8]) -> Option<Part> {
-    for k in 0..fronts.len() {
-        let (lines, front) = fronts[k];
-        if said == front {
-            return Some((lines, front));
-        }
-    }
-    None
-}
-
-/// Whether what was said is this front part and then a whole text that counts at least its lines.
-pub(crate) fn goes_on(
-    alloc: Global,
-    rests: &[Part],
-    said: &[u8],
-    lines: usize,
-    front: &[u8],
-) -> Result<bool, AllocError> {
-    for k in 0..rests.len() {
-        let (count, rest) = rests[k];
-        let mut whole = Vec::from_slice(alloc, front)?;
-        whole.extend_from_slice(rest)?;
-        if lines <= count && said == whole.as_slice() {
-            return Ok(true);
-        }
-    }
-    Ok(false)
-}
 
 /// How many lines a text has.
 pub(crate) fn line_count(text: &[u8]) -> usize {
@@ -64,47 +29,62 @@ fn digit(number: usize) -> u8 {
     b'0' + (number % 10) as u8
 }
 
-/// What a run says that counts so many of less than ten lines as said before: of a text whose first line tells how
-/// many lines follow before the last, the lines behind those.
-fn resumed(alloc: Global, text: &[u8], count: usize, all: usize) -> Result<Vec<u8>, AllocError> {
-    let mut rest = Vec::from_slice(alloc, b"resume ")?;
-    rest.push(digit(count))?;
-    rest.extend_from_slice(b" of ")?;
-    rest.push(digit(all))?;
-    rest.push(b'\n')?;
-    let mut passed = 0usize;
-    for byte in text {
-        if count < passed {
-            rest.push(*byte)?;
+/// What is behind so many lines of a text.
+fn behind(text: &[u8], lines: usize) -> &[u8] {
+    let (mut passed, mut start) = (0usize, 0usize);
+    for (k, byte) in text.iter().enumerate() {
+        if passed < lines {
+            start = k.saturating_add(1);
         }
         if *byte == b'\n' {
             passed = passed.saturating_add(1);
         }
     }
-    Ok(rest)
+    match text.get(start..) {
+        Some(rest) => rest,
+        None => b"",
+    }
+}
+
+/// Whether this is what a run says that counts so many of less than ten lines as said before: of a text whose first
+/// line tells how many lines follow before the last, the lines behind those.
+fn is_resumed(text: &[u8], said: &[u8], count: usize, all: usize) -> bool {
+    let front = [
+        b'r',
+        b'e',
+        b's',
+        b'u',
+        b'm',
+        b'e',
+        b' ',
+        digit(count),
+        b' ',
+        b'o',
+        b'f',
+        b' ',
+        digit(all),
+        b'\n',
+    ];
+    said.starts_with(&front) && said.get(14..) == Some(behind(text, count.saturating_add(1)))
 }
 
 /// Whether what was said is this part, and behind it what a run says that goes on where so many lines of the text were
 /// said: it counts at least the steps' lines among them. The whole text is said again only where no line was.
-pub(crate) fn goes_on_behind(
-    alloc: Global,
-    text: &[u8],
-    said: &[u8],
-    lines: usize,
-    before: &[u8],
-) -> Result<bool, AllocError> {
-    let mut anew = Vec::from_slice(alloc, before)?;
-    anew.extend_from_slice(text)?;
-    if lines == 0 && said == anew.as_slice() {
-        return Ok(true);
+pub(crate) fn goes_on_behind(text: &[u8], said: &[u8], lines: usize, before: &[u8]) -> bool {
+    let Some(rest) = said.get(before.len()..) else {
+        return false;
+    };
+    if !said.starts_with(before) {
+        return false;
+    }
+    if lines == 0 && rest == text {
+        return true;
     }
     let all = line_count(text).saturating_sub(2);
     for count in lines.saturating_sub(1).min(all)..all.saturating_add(1) {
-        let mut whole = Vec::from_slice(alloc, before)?;
-        whole.extend_from_slice(resumed(alloc, text, count, all)?.as_slice())?;
-        if said == whole.as_slice() {
-            return Ok(true);
+        if is_resumed(text, rest, count, all) {
+            return true;
         }
     }
-    Ok(false)
+    false
 }

@@ -1,5 +1,7 @@
 // Runs in a folder where a run ended or was stopped, and in folders that hold something else.
-use crate::bench_run::{ONE_VARIABLE, RUN, THREE_TEXT, THREE_VARIABLES, bench_with, gives, run};
+use crate::bench_run::{
+    ONE_VARIABLE, RUN, SMALL, THREE_TEXT, THREE_VARIABLES, bench_with, gives, run,
+};
 use crate::files::{CATALOGUE, STEP_GATE, same_files};
 use crate::rows::AND;
 use shelf_memory::{Bench, Choice};
@@ -77,10 +79,12 @@ fn says_that_a_longer_gate_is_damaged(rt: HostRuntime) -> Result<(), Fail> {
     Ok(())
 }
 
-/// Whether a run of the script where another ended answers this, says this text and leaves all as it was.
+/// Whether a run of the script with these words, where another ended that had the usual ones, answers this, says this
+/// text and leaves all as it was.
 fn answers_over(
     alloc: Global,
     stored: &[u8],
+    words: &[&str],
     script: &[u8],
     status: u8,
     said: &[u8],
@@ -88,37 +92,49 @@ fn answers_over(
     let mut bench = ended(alloc, stored)?;
     let left = ended(alloc, stored)?;
     bench.put_text("script", script)?;
-    Ok(gives(alloc, &mut bench, status, said)? && same_files(&bench, &left))
+    let answered = run(alloc, words, &mut bench)? == status && bench.said() == said;
+    Ok(answered && same_files(&bench, &left))
 }
 
 #[test]
 fn says_where_another_job_differs(rt: HostRuntime) -> Result<(), Fail> {
-    // The script begins at byte 20 of a job, and the last byte of its length is byte 15.
-    let cases: [(&[u8], &[u8], u8, &[u8]); 5] = [
-        (ONE_VARIABLE, ONE_VARIABLE, 0, b"resume 1 of 1\ndone\n"),
+    // The script begins at byte 20 of a job, and the last byte of its length is byte 15. Bytes 8 to 11 are the records
+    // of its room, 00040000 where none are given and 00004000 for 16,384.
+    let cases: [(&[u8], &[&str], &[u8], u8, &[u8]); 6] = [
         (
             ONE_VARIABLE,
+            &RUN,
+            ONE_VARIABLE,
+            0,
+            b"resume 1 of 1\ndone\n",
+        ),
+        (ONE_VARIABLE, &SMALL, ONE_VARIABLE, 5, b"other job at 9\n"),
+        (
+            ONE_VARIABLE,
+            &RUN,
             b"vars a b c\nvar f c\n",
             5,
             b"other job at 37\n",
         ),
         (
             THREE_VARIABLES,
+            &RUN,
             b"vars a b c\nvar f a\nvar g b\nvar h a\n",
             5,
             b"other job at 53\n",
         ),
         (
             THREE_VARIABLES,
+            &RUN,
             b"vars a b d\nvar f a\nvar g b\nvar h d\n",
             5,
             b"other job at 29\n",
         ),
-        (THREE_VARIABLES, ONE_VARIABLE, 5, b"other job at 15\n"),
+        (THREE_VARIABLES, &RUN, ONE_VARIABLE, 5, b"other job at 15\n"),
     ];
-    for (stored, script, status, said) in cases {
+    for (stored, words, script, status, said) in cases {
         assert!(rt;
-            answers_over(rt.alloc(), stored, script, status, said)?,
+            answers_over(rt.alloc(), stored, words, script, status, said)?,
             "{said:?}"
         );
     }

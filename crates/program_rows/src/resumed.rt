@@ -20,7 +20,7 @@ fn stopped_when(alloc: Global, f: FileNo, size: u64, choice: Choice) -> Result<B
 /// Whether a run that goes on there says this text and makes the right file.
 fn goes_on(alloc: Global, bench: &mut Bench, said: &[u8]) -> Result<bool, Fail> {
     let status = run(alloc, &SMALL, bench)?;
-    Ok(status == 0 && bench.said() == said && has_files(alloc, bench, XOR.files)?)
+    Ok(status == 0 && bench.said() == said && has_files(bench, XOR.files))
 }
 
 /// Whether a run goes on with this text from what the stop leaves of a gate's second byte, and makes the right file.

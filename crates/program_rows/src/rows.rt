@@ -1,5 +1,6 @@
-// Scripts whose steps sweep over diagrams: what a run of each says, and the words of node files that it leaves.
-use crate::bench_run::{bench_with, gives};
+// Scripts, most of whose steps sweep over diagrams: what a run of each says, and the words of node files that it
+// leaves.
+use crate::bench_run::{DROPPING, DROPPING_TEXT, THREE_TEXT, THREE_VARIABLES, bench_with, gives};
 use crate::files::{LEVEL_0, LEVEL_1, LEVEL_2, ONE, ZERO, has_words, node_file, part_of};
 use shelf_memory::Bench;
 use std::alloc::Global;
@@ -14,8 +15,11 @@ pub(crate) struct Row {
     pub(crate) script: &'static [u8],
     pub(crate) said: &'static [u8],
     pub(crate) files: &'static [Left],
-    /// Whether the last of four steps drops the diagram of the first.
-    pub(crate) drops: bool,
+    /// The words of the first step's node file until the last of four steps drops it, or none where none does.
+    pub(crate) dropped: &'static [u64],
+    /// Which calls of a run in an empty folder say, where no step sweeps. The last of them is the run's last call, and
+    /// the first two calls fetch the script. Of other scripts they aren't written out.
+    pub(crate) says: &'static [u64],
 }
 
 /// More steps than a row has.
@@ -65,7 +69,8 @@ pub(crate) const AND: Row = Row {
     script: b"vars a b\nvar f a\nvar g b\nand h f g\n",
     said: b"start 3\n2: nodes 1\n3: nodes 1\n4: nodes 2\ndone\n",
     files: &[(2, BOTH)],
-    drops: false,
+    dropped: &[],
+    says: &[],
 };
 
 /// Another, whose file has two nodes on one level.
@@ -73,7 +78,8 @@ pub(crate) const XOR: Row = Row {
     script: b"vars a b\nvar f a\nvar g b\nxor h f g\n",
     said: b"start 3\n2: nodes 1\n3: nodes 1\n4: nodes 3\ndone\n",
     files: &[(2, DIFFERENT)],
-    drops: false,
+    dropped: &[],
+    says: &[],
 };
 
 /// A constant by an operator and by itself, and whether they are the same.
@@ -81,7 +87,8 @@ pub(crate) const XOR_SAME: Row = Row {
     script: b"vars a b\nvar f a\nvar g b\nxor h f g\nxor z h h\nconst y 0\nsame z y\n",
     said: b"start 6\n2: nodes 1\n3: nodes 1\n4: nodes 3\n5: nodes 0\n6: nodes 0\n7: yes\ndone\n",
     files: &[(2, DIFFERENT), (3, NEVER), (4, NEVER)],
-    drops: false,
+    dropped: &[],
+    says: &[],
 };
 
 /// A choice between a diagram and itself by itself.
@@ -89,7 +96,8 @@ pub(crate) const XOR_ITE: Row = Row {
     script: b"vars a b\nvar f a\nvar g b\nxor h f g\nite k h h h\n",
     said: b"start 4\n2: nodes 1\n3: nodes 1\n4: nodes 3\n5: nodes 3\ndone\n",
     files: &[(2, DIFFERENT), (3, DIFFERENT)],
-    drops: false,
+    dropped: &[],
+    says: &[],
 };
 
 /// A quantifier over a variable on which nothing depends, and whether it implies what it was made of.
@@ -97,7 +105,8 @@ pub(crate) const EXISTS_LEQ: Row = Row {
     script: b"vars a b c\nvar f b\nexists g f a\nleq g f\n",
     said: b"start 3\n2: nodes 1\n3: nodes 1\n4: yes\ndone\n",
     files: &[(0, SECOND), (1, SECOND)],
-    drops: false,
+    dropped: &[],
+    says: &[],
 };
 
 /// A choice and both quantifiers over its first variable.
@@ -107,7 +116,8 @@ pub(crate) const ITE_QUANTIFIERS: Row = Row {
     said: b"start 9\n2: nodes 1\n3: nodes 1\n4: nodes 1\n5: nodes 2\n6: nodes 3\n7: nodes 1\n\
             8: nodes 2\n9: yes\n10: yes\ndone\n",
     files: &[(3, LAST_TWO), (4, CHOICE), (5, THIRD), (6, LAST_TWO)],
-    drops: false,
+    dropped: &[],
+    says: &[],
 };
 
 /// Both restrictions of a variable, which differ and have as many nodes, and a value.
@@ -120,7 +130,8 @@ pub(crate) const RESTRICT_EVAL: Row = Row {
         (3, &[LEVEL_1, ZERO, ONE, LEVEL_1, 1, 2]),
         (4, &[LEVEL_1, ONE, ZERO, LEVEL_1, 1, 2]),
     ],
-    drops: false,
+    dropped: &[],
+    says: &[],
 };
 
 /// The value of a constant of no variables.
@@ -128,7 +139,8 @@ pub(crate) const EVAL_OF_NONE: Row = Row {
     script: b"vars\nconst t 1\neval t\n",
     said: b"start 2\n2: nodes 0\n3: 1\ndone\n",
     files: &[(0, &[ONE, 0, 0])],
-    drops: false,
+    dropped: &[],
+    says: &[],
 };
 
 /// A drop of an operand.
@@ -136,7 +148,8 @@ pub(crate) const AND_DROP: Row = Row {
     script: b"vars a b\nvar f a\nvar g b\nand h f g\ndrop f\n",
     said: b"start 4\n2: nodes 1\n3: nodes 1\n4: nodes 2\n5: dropped\ndone\n",
     files: &[(0, &[]), (2, BOTH)],
-    drops: true,
+    dropped: &[LEVEL_0, ZERO, ONE, LEVEL_0, 1, 2],
+    says: &[],
 };
 
 /// Whether a conjunction implies an operand, and the other way round.
@@ -144,7 +157,8 @@ pub(crate) const AND_LEQ: Row = Row {
     script: b"vars a b\nvar f a\nvar g b\nand h f g\nleq h f\nleq f h\n",
     said: b"start 5\n2: nodes 1\n3: nodes 1\n4: nodes 2\n5: yes\n6: no\ndone\n",
     files: &[(2, BOTH)],
-    drops: false,
+    dropped: &[],
+    says: &[],
 };
 
 /// Which constants imply which.
@@ -152,7 +166,8 @@ pub(crate) const CONSTANTS_LEQ: Row = Row {
     script: b"vars\nconst o 1\nconst z 0\nleq z o\nleq o z\n",
     said: b"start 4\n2: nodes 0\n3: nodes 0\n4: yes\n5: no\ndone\n",
     files: &[(0, &[ONE, 0, 0]), (1, &[ZERO, 0, 0])],
-    drops: false,
+    dropped: &[],
+    says: &[],
 };
 
 /// A complement in two ways.
@@ -160,11 +175,46 @@ pub(crate) const COMPLEMENTS: Row = Row {
     script: b"vars a b\nvar f a\nvar g b\nand h f g\nnot k h\nnand m f g\nsame k m\n",
     said: b"start 6\n2: nodes 1\n3: nodes 1\n4: nodes 2\n5: nodes 2\n6: nodes 2\n7: yes\ndone\n",
     files: &[(2, BOTH), (3, NOT_BOTH), (4, NOT_BOTH)],
-    drops: false,
+    dropped: &[],
+    says: &[],
+};
+
+/// A comment, an empty line and a tab before a request, in lines that end with a carriage return.
+pub(crate) const OTHER_LAYOUT: Row = Row {
+    script: b"vars a b # order\r\n\r\n\tvar f a\r\n",
+    said: b"start 1\n3: nodes 1\ndone\n",
+    files: &[(0, &[LEVEL_0, ZERO, ONE, LEVEL_0, 1, 2])],
+    dropped: &[],
+    says: &[13, 22, 23],
+};
+
+/// Three variables. Three calls before the folder is read, ten that store the job, one that says how many lines there
+/// are, nine for each of three steps, and one that says that all was done.
+pub(crate) const THREE: Row = Row {
+    script: THREE_VARIABLES,
+    said: THREE_TEXT,
+    files: &[
+        (0, &[LEVEL_0, ZERO, ONE, LEVEL_0, 1, 3]),
+        (1, SECOND),
+        (2, THIRD),
+    ],
+    dropped: &[],
+    says: &[13, 22, 31, 40, 41],
+};
+
+/// A drop behind a size. Three calls before the folder is read, ten that store the job, one that says how many lines
+/// there are; nine for each of the two steps that make a file, seven for the size, which reads an entry, seven for the
+/// drop, which empties a file; and one that says that all was done.
+pub(crate) const DROP: Row = Row {
+    script: DROPPING,
+    said: DROPPING_TEXT,
+    files: &[(0, &[]), (1, &[LEVEL_1, ZERO, ONE, LEVEL_1, 1, 2])],
+    dropped: NEVER,
+    says: &[13, 22, 31, 38, 45, 46],
 };
 
 /// All of them.
-pub(crate) const ROWS: [Row; 12] = [
+pub(crate) const ROWS: [Row; 15] = [
     AND,
     XOR,
     XOR_SAME,
@@ -177,22 +227,25 @@ pub(crate) const ROWS: [Row; 12] = [
     AND_LEQ,
     CONSTANTS_LEQ,
     COMPLEMENTS,
+    OTHER_LAYOUT,
+    THREE,
+    DROP,
 ];
 
 /// Whether the node files have these words.
-pub(crate) fn has_files(alloc: Global, bench: &Bench, files: &[Left]) -> Result<bool, Fail> {
+pub(crate) fn has_files(bench: &Bench, files: &[Left]) -> bool {
     for (step, words) in files {
-        if !has_words(alloc, bench, node_file(*step), words)? {
-            return Ok(false);
+        if !has_words(bench, node_file(*step), words) {
+            return false;
         }
     }
-    Ok(true)
+    true
 }
 
 /// Whether a run of the script in an empty folder says its text and leaves its files.
 fn says_and_leaves(alloc: Global, row: &Row) -> Result<bool, Fail> {
     let mut bench = bench_with(alloc, row.script)?;
-    Ok(gives(alloc, &mut bench, 0, row.said)? && has_files(alloc, &bench, row.files)?)
+    Ok(gives(alloc, &mut bench, 0, row.said)? && has_files(&bench, row.files))
 }
 
 #[test]
