@@ -29,13 +29,13 @@ use Rattle.arc_file.specs.declared.reader.ArcReader.{ArcReader}
 use Rattle.arc_file.specs.declared.stream.ArcStream.{ArcStream}
 use Rattle.arc_file.specs.declared.unreduced.Unreduced.{Unreduced}
 use Rattle.arc_file.specs.Arcs.{arc_words, IsArc}
-use Rattle.arc_file.specs.Files.{is_before, IsInOrder, HasArcs}
+use Rattle.arc_file.specs.Files.{is_before, IsInOrder, HasArcs, IsDamagedArc}
 use Rattle.arc_file.specs.Readers.{root_of, inner_of, ends_of, left_over_of}
-use Rattle.arc_file.specs.Streams.{IsInOrderBefore, file_of, left_of, Reads, AreLeft, GoesUp}
+use Rattle.arc_file.specs.Streams.{IsInOrderBefore, file_of, left_of, Reads, AreLeft, GoesUp, IsArcAnswer}
 use Rattle.arc_diagrams.specs.Arcs.{IsMet}
 use Rattle.product_sweep.specs.declared.ones.Searching.{Searching}
 use Rattle.product_sweep.specs.declared.ones.Searching.TheVariants.{More, Found}
-use Rattle.product_sweep.specs.Ones.{HasEnds, IsSomewhereOne, Searched}
+use Rattle.product_sweep.specs.Ones.{HasEnds, IsSomewhereOne, IsEndsFault, Searched}
 
 -- the bytes of a file
 abbrev pub bytes_in : World → FileNo → List ℕ
@@ -67,6 +67,8 @@ pub record HasRead {S : Type 0} (tells : S → Bool) (world : S → World) (coun
   pub goes : GoesUp End old new result
   pub reads : IsTrue (tells after) → Reads End old (bytes_in (world before) (file_of old))
       → OnOk result (Reads End new (bytes_in (world before) (file_of old)))
+  pub value : IsTrue (tells after) → Reads End old (bytes_in (world before) (file_of old))
+      → IsArcAnswer End old (bytes_in (world before) (file_of old)) result
   pub gives : IsTrue (tells after) → Reads End old (bytes_in (world before) (file_of old)) → (xs : List Arc)
       → AreLeft End old (bytes_in (world before) (file_of old)) xs
       → GivesLast (AreLeft End new (bytes_in (world before) (file_of old))) xs result
@@ -152,6 +154,18 @@ fault_of : (s t : ArcStream) (f : FileNo) (e : StreamFault) → file_of s ≡ f 
 fault_of s t f stream.Shelf same goes = tt
 fault_of s t f (stream.Damaged g at) same goes = goes.1.0 ∙ same
 
+-- and damage is that of the record that comes next
+ends_fault : (s t : ArcStream) (f : FileNo) (world : World) (e : StreamFault) → file_of s ≡ f → GoesUp End s t (Err e)
+    → IsArcAnswer End s (bytes_in world (file_of s)) (Err e) → IsEndsFault f world (handed_on e)
+ends_fault s t f world stream.Shelf same goes answer = tt
+ends_fault s t f world (stream.Damaged g at) same goes answer = record {
+  place = left_of s - 1;
+  given = s.given;
+  file_is = goes.1.0 ∙ same;
+  at_is = goes.1.1;
+  damaged = subst (λ (q : FileNo). IsDamagedArc End (left_of s - 1) (bytes_in world q) s.given) (sym goes.1.0) answer;
+}
+
 -- the reader of the same files has other arcs left to truth values alone
 pub same_left : (arcs : Unreduced) (r q : ArcReader) → left_over_of r ≡ record arcs { ends_count = left_of (ends_of r) }
     → root_of q ≡ root_of r → inner_of q ≡ inner_of r → file_of (ends_of q) ≡ file_of (ends_of r)
@@ -191,6 +205,7 @@ module _ {S : Type 0} (tells : S → Bool) (world : S → World) (counts : S →
     found = λ _ ends has. (λ _. inl first, λ _. refl);
     goes_on = tt;
     undamaged = tt;
+    damaged = tt;
     refused = tt;
     content = looked_none 33 at;
     faults = no_faults (Found true) at;
@@ -231,6 +246,7 @@ module _ {S : Type 0} (tells : S → Bool) (world : S → World) (counts : S →
       fewer = subst (λ (x : Unreduced). x.ends_count < arcs.ends_count) (sym is) fewer;
     };
     undamaged = tt;
+    damaged = tt;
     refused = tt;
     content = looked_more (arcs.ends_count - left_of s) 33 before after few so_far.content;
     faults = record {
@@ -351,6 +367,7 @@ module _ {S : Type 0} (tells : S → Bool) (world : S → World) (counts : S →
       );
       goes_on = tt;
       undamaged = tt;
+      damaged = tt;
       refused = tt;
       content = looked_last (Ok (Some a)) read few;
       faults = faults_ok (Some a) (Found true) read;
@@ -368,6 +385,7 @@ module _ {S : Type 0} (tells : S → Bool) (world : S → World) (counts : S →
       );
       goes_on = tt;
       undamaged = tt;
+      damaged = tt;
       refused = tt;
       content = looked_last (Ok None) read few;
       faults = faults_ok None (Found false) read;
@@ -382,6 +400,12 @@ module _ {S : Type 0} (tells : S → Bool) (world : S → World) (counts : S →
       undamaged = λ tells_after ends has. (let tells_mid = read.content.before tells_after in
           only_shelf t (bytes_in (world before) arcs.ends) (so_far.remain tells_mid ends has).rest e
           (gives_of (Err e) read tells_mid tells_after ends has));
+      damaged = λ tells_after. (let tells_mid = read.content.before tells_after in
+          let bytes = same_bytes tells_mid in
+          let kept = looked_same 1 (file_of s) (file_of s) (world mid) (world after) (read.content.did tells_after) refl in
+          ends_fault s t arcs.ends (world after) e so_far.file_is read.goes
+          (subst (λ (b : List ℕ). IsArcAnswer End s b (Err e)) (sym kept)
+          (read.value tells_after (subst (Reads End s) (sym bytes) (so_far.reads tells_mid)))));
       refused = fault_of s t arcs.ends e so_far.file_is read.goes;
       content = looked_last (Err e) read few;
       faults = faults_err e read;

@@ -37,7 +37,7 @@ use Rattle.product_sweep.specs.declared.leq.LeqSweep.{LeqSweep}
 use Rattle.product_sweep.specs.declared.ones.Searching.TheVariants as searching
 use Rattle.product_sweep.specs.declared.sweep.ProductSweep.{ProductSweep}
 use Rattle.product_sweep.specs.Implications.{refutation, accounts, AreFirm, Turned}
-use Rattle.product_sweep.specs.Ones.{IsSomewhereOne, Searched}
+use Rattle.product_sweep.specs.Ones.{IsSomewhereOne, IsEndsFault, Searched}
 use Rattle.product_sweep.specs.Products.{sweep_of, MakesTable, GivesArcs}
 use Rattle.product_sweep.proofs.Refuting.{decides_leq}
 
@@ -276,7 +276,7 @@ module _ {S : Type 0} (tells : S → Bool) (world : S → World) (counts : S →
       firm = tt;
       keeps = tt;
       fewer = λ is d r. tt;
-      damaged = λ is. subst (λ f. IsFaultOf f e) files.ends_are s.refused;
+      damaged = λ is. subst (λ f. IsEndsFault f (world after) e) files.ends_are (s.damaged is);
       undamaged = λ is d r. subst IsNoDamage (sym (s.undamaged is r.ends r.has_ends)) tt;
       leaves = read_leaves p (Reading left) (Reading left) (Err e) s.content (record {
         later = s.faults.later;

@@ -11,7 +11,6 @@ use Rattle.shelf_model.specs.Faults.{Faults}
 use Rattle.shelf_model.specs.World.{World, file}
 use Rattle.arc_file.specs.declared.arc.Arc.{Arc}
 use Rattle.arc_file.specs.declared.unreduced.Unreduced.{Unreduced}
-use Rattle.node_reading.specs.Reading.{IsFaultOf}
 use Rattle.sweep_core.specs.Accounts.{Accounts, Leaves}
 use Rattle.sweep_core.specs.Sweeps.{Falls, MovesOn, AtEnd, IsFirm, StaysEnded, IsNoDamage}
 use Rattle.sweep_core.specs.declared.turn.Turn.{Turn}
@@ -27,7 +26,7 @@ use Rattle.top_down_sweep.specs.Sweeps as sweeps
 use Rattle.product_sweep.specs.declared.leq.LeqPhase.{LeqPhase}
 use Rattle.product_sweep.specs.declared.leq.LeqPhase.TheVariants.{Making, Reading, Answered}
 use Rattle.product_sweep.specs.declared.leq.LeqSweep.{LeqSweep}
-use Rattle.product_sweep.specs.Ones.{HasEnds, IsSomewhereOne}
+use Rattle.product_sweep.specs.Ones.{HasEnds, IsSomewhereOne, IsEndsFault}
 use Rattle.product_sweep.specs.Products.{sweep_of, MakesTable}
 
 -- two tables of n variables, of which the left one may imply the right one everywhere
@@ -130,10 +129,10 @@ RefutesAt (Answered b) s world d = b ≡ is_leq d.left d.right
 abbrev pub Refutes : LeqSweep → World → Implication → Type 0
 Refutes s world d = RefutesAt s.phase s world d
 
--- damage is that of an operand, or of its own arcs to truth values
+-- damage is that of an operand, or of a record of its own arcs to truth values
 abbrev pub IsDamageAt : LeqPhase → LeqSweep → World → SortFault → Type 0
 IsDamageAt Making s world e = damage.IsDamage (product_in s) world e
-IsDamageAt (Reading left) s world e = IsFaultOf (sweeps.files_of (product_in s)).ends e
+IsDamageAt (Reading left) s world e = IsEndsFault (sweeps.files_of (product_in s)).ends world e
 IsDamageAt (Answered b) s world e = ⊥
 
 abbrev pub IsDamage : LeqSweep → World → SortFault → Type 0

@@ -1,54 +1,32 @@
--- What an implication's step finds, and what it costs, by what its arcs are and how they were searched.
-use Rattle.std.specs.Prelude.{◌≡◌, ℕ, ◌+◌, ◌-◌, ◌*◌, ◌^◌, ◌<◌, ◌≤◌, min, Bool, not, IsTrue, List, [], ◌∷◌, Result, Ok, Err, IsErrOf, IsErrAnd}
-use Rattle.std.proofs.Common.{refl, sym, ◌∙◌, ap, subst, inl, inr, arith}
+-- Where the step of an implication finds a file damaged, and what it costs, by what its sweep says.
+use Rattle.std.specs.Prelude.{◌≡◌, ℕ, ◌+◌, ◌-◌, ◌*◌, ◌^◌, ◌<◌, ◌≤◌, min, Bool, IsTrue, List, [], ◌∷◌}
+use Rattle.std.proofs.Common.{subst, inl, inr, arith}
 use Rattle.std.proofs.lemmas.Bool.{cases_lt}
-use Rattle.bool_tables.specs.Tables.{is_leq}
-use Rattle.canon_file.specs.Laws.{HasForm}
 use Rattle.bool_tables.specs.declared.steps.Step.TheVariants.{Leq}
 use Rattle.shelf_model.specs.declared.file_no.FileNo.{FileNo}
 use Rattle.shelf_model.specs.declared.sort_fault.SortFault.{SortFault}
 use Rattle.shelf_model.specs.declared.sort_fault.SortFault.TheVariants.{Shelf, Damaged, RunsSpent}
-use Rattle.shelf_model.specs.Faults.{Faults}
 use Rattle.shelf_model.specs.World.{World}
-use Rattle.sweep_core.specs.Sweeps.{IsNoDamage}
+use Rattle.run_tiers.specs.Parts.{Paid}
+use Rattle.sweep_core.specs.Counted.{Costs}
 use Rattle.arc_file.specs.declared.kind.Kind.TheVariants.{End}
 use Rattle.reduce_sweep.specs.Damage.{IsDamagedRecord}
 use Rattle.step_work.specs.Works.{work_for}
-use Rattle.top_down_sweep.specs.declared.beginning.OperandFiles.{OperandFiles}
-use Rattle.top_down_sweep.specs.Tasks.{IsCanonicalFile}
-use Rattle.step_sweeps.specs.declared.arcs.MadeArcs.{MadeArcs}
-use Rattle.step_sweeps.specs.declared.operation.StepOperation.{StepOperation}
-use Rattle.step_sweeps.specs.declared.operation.StepOperation.TheVariants.{Operator}
+use Rattle.top_down_sweep.specs.Damage.{IsDamage}
+use Rattle.top_down_sweep.specs.Sweeps.{files_of}
+use Rattle.product_sweep.specs.declared.leq.LeqPhase.{LeqPhase}
+use Rattle.product_sweep.specs.declared.leq.LeqPhase.TheVariants.{Making, Reading, Answered}
+use Rattle.product_sweep.specs.declared.leq.LeqSweep.{LeqSweep}
+use Rattle.product_sweep.specs.Implications.{product_in, accounts, IsDamageAt}
+use Rattle.product_sweep.specs.Ones.{IsEndsFault}
+use Rattle.product_sweep.specs.Products.{operands}
 use Rattle.step_sweeps.specs.Damage.{IsArcsFault, IsImplicationFault}
-use Rattle.step_sweeps.specs.Given.{Tables, AreGiven, tuples_by, arcs_turns}
-use Rattle.step_sweeps.specs.Made.{ends_file, AreArcsOf, IsCounted}
-use Rattle.step_sweeps.specs.Ones.{HasEnds, IsEndsFault, Searched}
-use Rattle.step_sweeps.proofs.ConstantDiagrams.{and_not}
-use Rattle.step_sweeps.proofs.ImpliedAnswer.{answer_is, work_same}
+use Rattle.step_sweeps.specs.Made.{ends_file, IsCounted}
+use Rattle.step_sweeps.proofs.Running.{few_calls}
 
--- the operation, its files and their tables
-abbrev pub refuting : StepOperation
-refuting = Operator and_not
-
-abbrev pub both_files : FileNo → FileNo → OperandFiles
-both_files left right = record { first = left; second = right; third = right }
-
-abbrev pub both_tables : List Bool → List Bool → Tables
-both_tables t u = record { first = t; second = u; third = u }
-
-pub are_given : (n : ℕ) (left right : FileNo) (world : World) (t u : List Bool) → IsCanonicalFile n t left world
-    → IsCanonicalFile n u right world
-    → AreGiven refuting n (both_files left right) world (both_tables t u)
-are_given n left right world t u first second = record {
-  first = first;
-  second = second;
-  third = second;
-  repeated = refl;
-}
-
--- a fault of the arcs is one of the implication
+-- a fault of an operand is one of the implication
 pub implication_fault : (n : ℕ) (left right : FileNo) (number : ℕ) (old new : World) (e : SortFault)
-    → IsArcsFault n (both_files left right) old e
+    → IsArcsFault n (operands left right) old e
     → IsImplicationFault n left right number old new e
 implication_fault n left right number old new Shelf is = tt
 implication_fault n left right number old new (Damaged f at) (inl first) = inl first
@@ -56,80 +34,56 @@ implication_fault n left right number old new (Damaged f at) (inr (inl second)) 
 implication_fault n left right number old new (Damaged f at) (inr (inr third)) = inr (inl third)
 implication_fault n left right number old new RunsSpent is = tt
 
--- so is one of the search
-pub search_fault : (n : ℕ) (left right : FileNo) (number : ℕ) (ends : FileNo) (old new : World) (e : SortFault)
+-- so is one of the file of arcs to truth values
+search_fault : (n : ℕ) (left right : FileNo) (number : ℕ) (ends : FileNo) (old new : World) (e : SortFault)
     → ends ≡ ends_file number → IsEndsFault ends new e → IsImplicationFault n left right number old new e
 search_fault n left right number ends old new Shelf same is = tt
 search_fault n left right number ends old new (Damaged f at) same is =
     inr (inr (inr (subst (λ (q : FileNo). IsDamagedRecord End q new f at) same is)))
 search_fault n left right number ends old new RunsSpent same is = tt
 
-module _ (n : ℕ) (t u : List Bool) where
-  -- the first sweep's part numbers are spent by much work alone
-  pub spent_within : 256 * (2 ^ 32 - 5) ≤ 12 * arcs_turns refuting n (both_tables t u)
+-- so each fault is that a turn of the sweep finds
+pub turn_fault_at : (phase : LeqPhase) (n : ℕ) (left right : FileNo) (number : ℕ) (s : LeqSweep) (old new : World)
+    (e : SortFault) → (IsDamage (product_in s) new e → IsArcsFault n (operands left right) old e)
+    → (files_of (product_in s)).ends ≡ ends_file number → IsDamageAt phase s new e
+    → IsImplicationFault n left right number old new e
+turn_fault_at Making n left right number s old new e arcs ends damage =
+    implication_fault n left right number old new e (arcs damage)
+turn_fault_at (Reading arcs_left) n left right number s old new e arcs ends damage =
+    search_fault n left right number (files_of (product_in s)).ends old new e ends damage
+turn_fault_at (Answered b) n left right number s old new e arcs ends damage = absurd damage
+
+module _ (n : ℕ) (t u : List Bool) (left : ℕ) (half : 2 * left ≤ work_for n (Leq 0 1) (t ∷ u ∷ [])) where
+  -- the turns that are left and one more are within the work
+  pub within_work : left + 1 ≤ work_for n (Leq 0 1) (t ∷ u ∷ [])
+  within_work = omega (arith, half)
+
+  -- no part number is left only after long work
+  pub spent_after : (first last before after : ℕ) → first ≡ 5 → before ≡ 0
+      → 256 * (last - first) + after ≤ before + 12 * (left + 1) → 2 ^ 32 ≤ last
       → 2 ^ 35 ≤ work_for n (Leq 0 1) (t ∷ u ∷ [])
-  spent_within much = omega (arith, work_same and_not n (t ∷ u ∷ []))
-
-  -- its calls are within the work
-  pub calls_within : (old new : ℕ) → new ≤ old + (224 * arcs_turns refuting n (both_tables t u) + 8)
-      → new ≤ old + (224 * work_for n (Leq 0 1) (t ∷ u ∷ []) + 11)
-  calls_within old new few = omega (arith, work_same and_not n (t ∷ u ∷ []))
-
-  module _ (m : MadeArcs) (world : World) (made : AreArcsOf refuting n (both_tables t u) m world) where
-    -- the arcs to truth values are two for each tuple at most
-    ends_few : m.arcs.ends_count ≤ 2 * tuples_by refuting n (both_tables t u)
-    ends_few =
-        let both : m.arcs.inner_count + m.arcs.ends_count ≡ 2 * made.sources = made.has_sources in
-        let few : made.sources ≤ tuples_by refuting n (both_tables t u) = made.few_sources in
-        omega (arith, both, few)
-
-    -- with the arcs that are read the turns are within the work
-    pub read_within : (turns : ℕ) → turns ≤ m.turns + m.arcs.ends_count → turns ≤ work_for n (Leq 0 1) (t ∷ u ∷ [])
-    read_within turns few =
-        let arcs : m.turns ≤ arcs_turns refuting n (both_tables t u) = made.few in
-        omega (arith, few, arcs, ends_few, work_same and_not n (t ∷ u ∷ []))
-
-    -- and so are the calls
-    pub calls_read : (old mid new : ℕ) → mid ≤ old + (224 * arcs_turns refuting n (both_tables t u) + 8)
-        → new ≤ mid + (m.arcs.ends_count + 1)
-        → new ≤ old + (224 * work_for n (Leq 0 1) (t ∷ u ∷ []) + 11)
-    calls_read old mid new few read = omega (arith, few, read, ends_few, work_same and_not n (t ∷ u ∷ []))
-
-    -- no damage is found among the arcs
-    pub only_shelf : {S : Type 0} (tells : S → Bool) (world_of : S → World) (counts : S → Faults)
-        (mid new : S) (e : SortFault) → world_of mid ≡ world
-        → Searched tells world_of counts m.arcs mid new (Err e) → IsTrue (tells new) → IsNoDamage e
-    only_shelf tells world_of counts mid new e same searched told =
-        subst IsNoDamage (sym (searched.undamaged told made.arcs.ends (subst (λ w. HasEnds m.arcs w made.arcs.ends)
-        (sym same) made.arcs.ends_has))) tt
-
-    -- the answer is the other value than what is found
-    pub answers : {S : Type 0} (tells : S → Bool) (world_of : S → World) (counts : S → Faults)
-        (mid new : S) (found : Bool) → world_of mid ≡ world
-        → HasForm n t → HasForm n u → Searched tells world_of counts m.arcs mid new (Ok found) → IsTrue (tells new)
-        → not found ≡ is_leq t u
-    answers tells world_of counts mid new found same form_t form_u searched told =
-        answer_is n t u m.arcs.root made.arcs.inner made.arcs.ends found form_t.few form_t.whole form_u.whole
-        made.arcs.inner_has.lead made.arcs.diagram
-        (searched.found told made.arcs.ends (subst (λ w. HasEnds m.arcs w made.arcs.ends)
-        (sym same) made.arcs.ends_has))
+  spent_after first last before after from none few spent = omega (arith, half, from, none, few, spent)
 
 -- the turns and the parts are counted
-pub counted : (made ends next turns taken : ℕ) → 0 < made → 5 ≤ next
-    → (made < 2 ^ 64 - 1 → 256 * (next - 5) ≤ 12 * made)
-    → turns ≡ min (made + ends) (2 ^ 64 - 1) → taken ≡ min next (2 ^ 32) → IsCounted turns taken
-counted made ends next turns taken some from spends turns_are taken_is = record {
-  some = omega (arith, some, turns_are);
-  from = omega (arith, from, taken_is);
+pub counted : (turns first last before after taken : ℕ) → 0 < turns → first ≡ 5 → before ≡ 0 → first ≤ last
+    → (turns < 2 ^ 64 - 1 → 256 * (last - first) + after ≤ before + 12 * turns)
+    → taken ≡ min last (2 ^ 32) → IsCounted turns taken
+counted turns first last before after taken some from none later spends taken_is = record {
+  some = some;
+  from = omega (arith, from, later, taken_is);
   below = omega (arith, taken_is);
-  few = elim (cases_lt made (2 ^ 64 - 1)) [
-    | inl below ↦ omega (arith, spends below, turns_are, taken_is)
-    | inr above ↦ omega (arith, above, turns_are, taken_is)
+  few = elim (cases_lt turns (2 ^ 64 - 1)) [
+    | inl below ↦ (let parts = spends below in omega (arith, from, none, parts, taken_is))
+    | inr above ↦ omega (arith, above, taken_is)
   ];
 }
 
--- a fault that was handed on is the one that was answered
-pub fault_is : {A B : Type 0} (r : Result A SortFault) (e d : SortFault) → IsErrAnd r (λ f. f ≡ e) → IsErrOf r d
-    → IsErrOf {T = B} (Err e) d
-fault_is (Ok x) e d same is = absurd same
-fault_is (Err f) e d same is = let fault : f ≡ d = cc in ap Err (sym same ∙ fault)
+-- the calls of the start and of so many turns
+pub called : {S : Type 0} (tells : S → Bool) (world : S → World) (old mid new : S) (p q : LeqSweep) (turns : ℕ)
+    → (IsTrue (tells new) → IsTrue (tells mid))
+    → (IsTrue (tells mid) → Paid 8 0 (accounts.credit p) (world old) (world mid))
+    → Costs tells world accounts turns mid new p q → IsTrue (tells new)
+    → (world new).clock ≤ (world old).clock + (224 * turns + 11)
+called tells world old mid new p q turns before begun costs told =
+    let calls = few_calls tells world accounts old mid new p q 8 turns turns before begun costs (omega arith) told in
+    omega (arith, calls)

@@ -32,7 +32,7 @@ use Rattle.step_sweeps.specs.Damage.{IsArcsFault}
 use Rattle.step_sweeps.specs.Work.{parts_of}
 use Rattle.step_sweeps.proofs.Faults.{AreStill, turn_fault}
 use Rattle.step_sweeps.proofs.Running.{not_of_step, taken_from, taken_changes, runs_on, file_stays}
-use Rattle.step_sweeps.proofs.Sources.{sources_are, sources_few}
+use Rattle.table_work.proofs.Sources.{sources_are, sources_few}
 use Rattle.step_sweeps.proofs.Tasks.{earlier_apart}
 
 -- what was made is the task's

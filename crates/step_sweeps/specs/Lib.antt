@@ -2,5 +2,4 @@ pub mod Operations
 pub mod Given
 pub mod Made
 pub mod Damage
-pub mod Ones
 pub mod Work

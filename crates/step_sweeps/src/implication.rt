@@ -12,13 +12,13 @@ ghost use Rattle.top_down_sweep.specs.Tasks.{IsCanonicalFile};
 ghost use Rattle.step_sweeps.specs.Made.{OnlyParts, IsAnswer, IsCounted, Called};
 ghost use Rattle.step_sweeps.specs.Damage.{IsImplicationFault};
 
-use crate::arcs::make_arcs;
-use crate::ones::has_one;
-use crate::{Answered, StepOperation};
-use bool_tables::Bin;
+use crate::Answered;
+use crate::arcs::FIRST_PART;
+use product_sweep::LeqSweep;
 use rec_words::Rec;
+use run_merge::Parts;
 use shelf_model::{FileNo, Shelf, SortFault};
-use top_down_sweep::OperandFiles;
+use sweep_core::run_to_end;
 
 /// How many part numbers a step has.
 const PARTS: u64 = 1 << 32;
@@ -60,23 +60,19 @@ pub fn imply<S: Shelf>(
     ensures calls { IfOk result (λ a. Called S.tells S.world a.turns 11 shelf.old shelf.new) }
     ensures faults { OnlySortShelf (S.faults shelf.old) (S.faults shelf.new) result }
 {
-    let operation = StepOperation::Operator(Bin {
-        v00: false,
-        v01: false,
-        v10: true,
-        v11: false,
-    });
-    let operands = OperandFiles {
-        first: left,
-        second: right,
-        third: right,
+    let parts = Parts {
+        step: number,
+        next: FIRST_PART,
     };
-    let made = make_arcs(operation, n, operands, number, room, shelf)?;
-    let holds = !has_one(&made.arcs, room, shelf)?;
+    let mut sweep = LeqSweep::start(n, left, right, parts, room, shelf)?;
+    let turns = run_to_end(&mut sweep, shelf)?;
+    let Some(answer) = sweep.answer() else {
+        unreachable!();
+    };
     Ok(Answered {
-        answer: holds,
-        turns: made.turns.saturating_add(made.arcs.ends_count),
+        answer,
+        turns,
         // A step has no more part numbers.
-        next: made.parts.next.min(PARTS),
+        next: sweep.parts().next.min(PARTS),
     })
 }

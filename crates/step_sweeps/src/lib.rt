@@ -7,7 +7,6 @@ mod arcs;
 mod diagram;
 mod implication;
 mod laws;
-mod ones;
 mod operation;
 mod reduction;
 mod swept;
