@@ -20,7 +20,6 @@ use Rattle.canon_file.specs.Laws.{HasForm}
 use Rattle.canon_file.proofs.ConstDiagram.{no_node-const}
 use Rattle.canon_file.proofs.ByteLaws.{bytes_unique}
 use Rattle.node_file.specs.Nodes.{IsTrailerDamage}
-use Rattle.block_stream.specs.Writes.{DuringCut, DuringWrite, Cut, Wrote}
 use Rattle.copied_diagrams.specs.declared.operand.Operand.{Operand}
 use Rattle.copied_diagrams.specs.declared.operand.Operand.TheVariants.{Left, Right}
 use Rattle.copied_diagrams.specs.declared.source.Source.{Source}
@@ -160,28 +159,3 @@ way_made n op t u left right way to old mid late new first second pair one two i
         (copy_is n op is.same t u operand pair.first.form pair.second.form equal
         (subst (IsResult op is.same (canon_root n t) (canon_root n u)) chosen result))
         (source_has n operand left right t u source old pair one two source_is) done
-
--- what was written is a change of one file
-pub cut_and_wrote : {S : Type 0} (tells : S → Bool) (world : S → World) (m n : ℕ) (f g : FileNo) (old mid new : S) → g ≡ f
-    → Told tells old mid (Cut m f 0 (world old) (world mid)) → Told tells mid new (Wrote n g (world mid) (world new))
-    → Told tells old new (Changed (m + n) f (world old) (world new))
-cut_and_wrote tells world m n f g old mid new same first second = told_then tells old mid new _ _ _ first second (λ _ cut wrote.
-    changed_after m n f (world old) (world mid) (world new)
-    (record {
-      run = ran_weakens (world old) (world mid) (DuringCut f 0 (now (world old))) (OnlyChanged (λ q. q ≡ f) (now (world old)))
-          (λ x during. during.others) cut.run;
-      few = cut.few;
-    })
-    (record {
-      run = ran_weakens (world mid) (world new) (DuringWrite g (now (world mid))) (OnlyChanged (λ q. q ≡ f) (now (world mid)))
-          (λ x during q apart. during.others q (λ is. apart (is ∙ same))) wrote.run;
-      few = wrote.few;
-    }))
-
-pub cut_changed : {S : Type 0} (tells : S → Bool) (world : S → World) (m n : ℕ) (f : FileNo) (old new : S)
-    → Told tells old new (Cut m f 0 (world old) (world new)) → Told tells old new (Changed (m + n) f (world old) (world new))
-cut_changed tells world m n f old new first = told tells old new _ _ first (λ _ cut. record {
-  run = ran_weakens (world old) (world new) (DuringCut f 0 (now (world old))) (OnlyChanged (λ q. q ≡ f) (now (world old)))
-      (λ x during. during.others) cut.run;
-  few = let few = cut.few in omega (arith, few);
-})

@@ -126,8 +126,8 @@ fn is_unswept(
     )
 }
 
-// Each operator with what stands beside a table makes the right file, without sweeps where it gives one value everywhere
-// or the table's values.
+// Each operator with what stands beside a table makes the right file, without sweeps where it gives one value
+// everywhere or the table's values.
 fn copy_beside(
     alloc: Global,
     n: u32,
