@@ -1,5 +1,5 @@
 -- A copy after two trailers were read.
-use Rattle.std.proofs.Common.{◌≡◌, ◌∙◌, ℕ, ◌+◌, ◌*◌, ◌≤◌, Bool, List, length, sym, ap, subst, arith}
+use Rattle.std.proofs.Common.{◌≡◌, ◌∙◌, ℕ, ◌+◌, ◌*◌, ◌≤◌, Bool, IsTrue, List, length, sym, ap, subst, arith}
 use Rattle.bool_tables.specs.declared.steps.Bin.{Bin}
 use Rattle.shelf_model.specs.declared.file_no.FileNo.{FileNo}
 use Rattle.shelf_model.specs.declared.fault.StreamFault.{StreamFault}
@@ -13,18 +13,22 @@ use Rattle.shelf_model.proofs.Changing.{changed_then}
 use Rattle.shelf_model.proofs.Runs.{told, told_then, ran_end, ran_weakens}
 use Rattle.block_stream.specs.Reads.{Looked}
 use Rattle.block_stream.proofs.WriteRuns.{looked_on}
-use Rattle.canon_file.specs.Canon.{canon_nodes, canon_bytes}
+use Rattle.canon_file.specs.Canon.{canon_nodes, canon_root, canon_bytes, trailer_bytes}
+use Rattle.canon_file.specs.Constants.{const_table}
+use Rattle.rec_words.specs.Words.{terminal}
 use Rattle.canon_file.specs.Laws.{HasForm}
+use Rattle.canon_file.proofs.ConstDiagram.{no_node-const}
 use Rattle.canon_file.proofs.ByteLaws.{bytes_unique}
 use Rattle.node_file.specs.Nodes.{IsTrailerDamage}
-use Rattle.node_file.specs.declared.trailer.Trailer.{Trailer}
 use Rattle.copied_diagrams.specs.declared.operand.Operand.{Operand}
 use Rattle.copied_diagrams.specs.declared.operand.Operand.TheVariants.{Left, Right}
 use Rattle.copied_diagrams.specs.declared.source.Source.{Source}
+use Rattle.copied_diagrams.specs.declared.source.Way.{Way}
+use Rattle.copied_diagrams.specs.declared.source.Way.TheVariants.{Constant, Copy}
 use Rattle.copied_diagrams.specs.Copies.{Changed}
 use Rattle.copied_diagrams.specs.Operands.{pair_table, IsResult}
-use Rattle.copied_diagrams.specs.Pairs.{IsFileOf, ArePair, IsTrailerOf, IsSource, IsOperandDamage, IsMade, of_operand, nodes_of_both}
-use Rattle.copied_diagrams.proofs.PairTables.{result_is}
+use Rattle.copied_diagrams.specs.Pairs.{IsFileOf, ArePair, IsTrailerOf, IsWay, IsWayOf, HasMade, IsOperandDamage, IsMade, of_operand, nodes_of_both, count_of}
+use Rattle.copied_diagrams.proofs.PairTables.{copy_is, constant_is, constant_form}
 use Rattle.copied_diagrams.proofs.TrailerFacts.{long_canonical}
 
 -- a look changes no file
@@ -56,10 +60,10 @@ module _ {S : Type 0} (tells : S → Bool) (world : S → World) (f : FileNo) wh
       → Told tells old new (Changed 4 f (world old) (world new))
   two_looks old mid new first second = told_looked 4 old new (looked_on tells world 2 2 old mid new first second)
 
-  -- and a copy behind them
-  pub then_copied : (n : ℕ) (old mid late new : S) → Told tells old mid (Looked 2 (world old) (world mid)) → Told tells mid late (Looked 2 (world mid) (world late))
+  -- and a change behind them
+  pub then_changed : (n : ℕ) (old mid late new : S) → Told tells old mid (Looked 2 (world old) (world mid)) → Told tells mid late (Looked 2 (world mid) (world late))
       → Told tells late new (Changed n f (world late) (world new)) → Told tells old new (Changed (4 + n) f (world old) (world new))
-  then_copied n old mid late new first second copied =
+  then_changed n old mid late new first second copied =
       told_then tells old late new _ _ _ (two_looks old mid late first second) copied
       (λ _ a b. changed_after 4 n f (world old) (world late) (world new) a b)
 
@@ -75,59 +79,83 @@ file_before n k t f old new looked is = record {
   bytes_are = ap (λ (x : File). x.bytes) (looked_same k f old new looked) ∙ is.bytes_are;
 }
 
--- what is known of a source among the files of two tables: whose table it has, and how many nodes
-pub record IsSourceOf (n : ℕ) (op : Bin) (t u : List Bool) (s : Source) (world : World) : Type 0 where
-  pub table : List Bool
-  pub table_is : pair_table n op t u ≡ table
-  pub of : IsFileOf n table s.from world
-  pub count_is : s.count ≡ length (canon_nodes n table)
-  pub few : s.count ≤ nodes_of_both n t u
-
 -- one file is that of one table
 one_table : (n : ℕ) (left right : FileNo) (t u : List Bool) (world : World) → ArePair n left right t u world → left ≡ right → t ≡ u
 one_table n left right t u world pair same =
     bytes_unique n t u pair.first.form.few pair.first.form.whole pair.second.form.whole pair.first.form.fits pair.second.form.fits
     (sym pair.first.bytes_are ∙ ap (λ f. (file world f).bytes) same ∙ pair.second.bytes_are)
 
-pub source_has : (n : ℕ) (op : Bin) (left right : FileNo) (t u : List Bool) (first second : Trailer) (s : Source) (world : World)
-    → ArePair n left right t u world → IsTrailerOf n t first → IsTrailerOf n u second → IsSource op left right first second s
-    → IsSourceOf n op t u s world
-source_has n op left right t u first second s world pair one two is =
-    by is.operand is.from_is is.count_is
-    (result_is n op is.same t u is.operand pair.first.form pair.second.form
-    (λ same. one_table n left right t u world pair (is.same_is same))
-    (subst (λ v. v) (λ i. IsResult op is.same (one.root_is i) (two.root_is i) is.operand) is.result))
-  where
-    by : (o : Operand) → s.from ≡ of_operand o left right → s.count ≡ (of_operand o first second).count
-        → pair_table n op t u ≡ of_operand o t u → IsSourceOf n op t u s world
-    by Left from count table = record {
-      table = t;
-      table_is = table;
-      of = subst (λ f. IsFileOf n t f world) (sym from) pair.first;
-      count_is = count ∙ one.count_is;
-      few = omega (arith, count, one.count_is);
-    }
-    by Right from count table = record {
-      table = u;
-      table_is = table;
-      of = subst (λ f. IsFileOf n u f world) (sym from) pair.second;
-      count_is = count ∙ two.count_is;
-      few = omega (arith, count, two.count_is);
-    }
+-- what is known of a source among the files of two tables: whose table it has, and how many nodes
+pub record IsSourceOf (n : ℕ) (table : List Bool) (most : ℕ) (s : Source) (world : World) : Type 0 where
+  pub of : IsFileOf n table s.from world
+  pub count_is : s.trailer.count ≡ length (canon_nodes n table)
+  pub few : s.trailer.count ≤ most
 
--- so a copy of that file is the canonical one of the operator's table
-pub made_of : (n : ℕ) (op : Bin) (t u : List Bool) (s : Source) (to : FileNo) (old mid late new : World) → Looked 2 old mid → Looked 2 mid late
-    → IsSourceOf n op t u s old
-    → (length (file late s.from).bytes ≡ (s.count + 1) * 24 → file new to ≡ firm_file (file late s.from).bytes)
-    → IsMade n (pair_table n op t u) to s.count (nodes_of_both n t u) new
-made_of n op t u s to old mid late new first second has copied =
-    let bytes : (file late s.from).bytes ≡ canon_bytes n has.table =
+source_has : (n : ℕ) (o : Operand) (left right : Source) (t u : List Bool) (s : Source) (world : World)
+    → ArePair n left.from right.from t u world → IsTrailerOf n t left.trailer → IsTrailerOf n u right.trailer → s ≡ of_operand o left right
+    → IsSourceOf n (of_operand o t u) (nodes_of_both n t u) s world
+source_has n Left left right t u s world pair one two is =
+    subst (λ x. IsSourceOf n t (nodes_of_both n t u) x world) (sym is)
+    (record { of = pair.first; count_is = one.count_is; few = omega (arith, one.count_is) })
+source_has n Right left right t u s world pair one two is =
+    subst (λ x. IsSourceOf n u (nodes_of_both n t u) x world) (sym is)
+    (record { of = pair.second; count_is = two.count_is; few = omega (arith, two.count_is) })
+
+-- a copy of that file is the canonical one of the table
+copy_made : (n : ℕ) (table wanted : List Bool) (most : ℕ) (s : Source) (to : FileNo) (old mid late new : World) → Looked 2 old mid → Looked 2 mid late
+    → wanted ≡ table → IsSourceOf n table most s old
+    → (length (file late s.from).bytes ≡ (s.trailer.count + 1) * 24 → file new to ≡ firm_file (file late s.from).bytes)
+    → IsMade n wanted to s.trailer.count most new
+copy_made n table wanted most s to old mid late new first second is has copied =
+    let bytes : (file late s.from).bytes ≡ canon_bytes n table =
     ap (λ (x : File). x.bytes) (looked_same 2 s.from mid late second ∙ looked_same 2 s.from old mid first) ∙ has.of.bytes_are in
-    let long : length (file late s.from).bytes ≡ (s.count + 1) * 24 =
-    ap length bytes ∙ long_canonical n has.table ∙ ap (λ k. (k + 1) * 24) (sym has.count_is) in
+    let long : length (file late s.from).bytes ≡ (s.trailer.count + 1) * 24 =
+    ap length bytes ∙ long_canonical n table ∙ ap (λ k. (k + 1) * 24) (sym has.count_is) in
     record {
-      form = subst (HasForm n) (sym has.table_is) has.of.form;
-      file_is = copied long ∙ ap firm_file (bytes ∙ ap (canon_bytes n) (sym has.table_is));
-      nodes_are = has.count_is ∙ ap (λ x. length (canon_nodes n x)) (sym has.table_is);
+      form = subst (HasForm n) (sym is) has.of.form;
+      file_is = copied long ∙ ap firm_file (bytes ∙ ap (canon_bytes n) (sym is));
+      nodes_are = has.count_is ∙ ap (λ x. length (canon_nodes n x)) (sym is);
       few = has.few;
     }
+
+-- and a constant's file is that of its table
+constant_made : (n : ℕ) (wanted : List Bool) (value : Bool) (most : ℕ) (to : FileNo) (new : World) → n ≤ 65535 → wanted ≡ const_table n value
+    → file new to ≡ firm_file (trailer_bytes (terminal value) 0 n) → IsMade n wanted to 0 most new
+constant_made n wanted value most to new few is made =
+    let none = no_node-const n value in
+    record {
+      form = subst (HasForm n) (sym is) (constant_form n value few);
+      file_is = made ∙ ap firm_file (sym none.bytes ∙ ap (canon_bytes n) (sym is));
+      nodes_are = sym (ap (λ x. length (canon_nodes n x)) is ∙ ap length none.nodes);
+      few = omega arith;
+    }
+
+-- as many nodes are made where the numbers are the same
+pub so_many : (n : ℕ) (table : List Bool) (to : FileNo) (nodes count most : ℕ) (new : World) → nodes ≡ count → IsMade n table to count most new
+    → IsMade n table to nodes most new
+so_many n table to nodes count most new same made =
+    let few = made.few in
+    record { form = made.form; file_is = made.file_is; nodes_are = same ∙ made.nodes_are; few = omega (arith, same, few) }
+
+-- so in each way the operator's table is made
+pub way_made : (n : ℕ) (op : Bin) (t u : List Bool) (left right : Source) (way : Way) (to : FileNo) (old mid late new : World)
+    → Looked 2 old mid → Looked 2 mid late → ArePair n left.from right.from t u old → IsTrailerOf n t left.trailer → IsTrailerOf n u right.trailer
+    → IsWay op left right way → HasMade n way to late new → IsMade n (pair_table n op t u) to (count_of way) (nodes_of_both n t u) new
+way_made n op t u left right way to old mid late new first second pair one two is made = by way is.way_is made
+  where
+    equal : IsTrue is.same → t ≡ u
+    equal same = one_table n left.from right.from t u old pair (is.same_is same)
+
+    result : IsResult op is.same (canon_root n t) (canon_root n u) is.choice
+    result = subst (λ v. v) (λ i. IsResult op is.same (one.root_is i) (two.root_is i) is.choice) is.result
+
+    by : (w : Way) → IsWayOf is.choice left right w → HasMade n w to late new → IsMade n (pair_table n op t u) to (count_of w) (nodes_of_both n t u) new
+    by (Constant value) chosen done =
+        constant_made n (pair_table n op t u) value (nodes_of_both n t u) to new pair.first.form.few
+        (constant_is n op is.same t u value pair.first.form pair.second.form equal
+        (subst (IsResult op is.same (canon_root n t) (canon_root n u)) chosen result)) done
+    by (Copy source) (operand, chosen, source_is) done =
+        copy_made n (of_operand operand t u) (pair_table n op t u) (nodes_of_both n t u) source to old mid late new first second
+        (copy_is n op is.same t u operand pair.first.form pair.second.form equal
+        (subst (IsResult op is.same (canon_root n t) (canon_root n u)) chosen result))
+        (source_has n operand left right t u source old pair one two source_is) done

@@ -1,20 +1,26 @@
 -- The table of an operator's result, where it gives the value of one operand.
-use Rattle.std.proofs.Common.{◌≡◌, ◌≢◌, ◌∙◌, ℕ, zero, suc, ◌+◌, ◌*◌, ◌^◌, ◌<◌, ◌≤◌, Bool, true, false, not, cond, List, ◌++◌, replicate, refl, sym, ap, arith}
+use Rattle.std.proofs.Common.{◌≡◌, ◌≢◌, ◌∙◌, ℕ, zero, suc, ◌+◌, ◌*◌, ◌^◌, ◌<◌, ◌≤◌, Bool, true, false, not, cond, List, [], ◌∷◌, ◌++◌, replicate, refl, sym, ap, subst, arith}
 use Rattle.std.specs.Prelude.{IsTrue}
 use Rattle.std.proofs.lemmas.List.{get_or-replicate, replicate-append-replicate}
 use Rattle.bool_tables.specs.Steps.{op_value}
 use Rattle.bool_tables.specs.Tables.{value_at}
 use Rattle.bool_tables.specs.declared.steps.Bin.{Bin}
-use Rattle.bool_tables.proofs.Halves.{twice, table_with_same}
+use Rattle.bool_tables.proofs.Halves.{twice, table_with_same, table_with_one, length-table_with, low_half-constant, high_half-constant}
 use Rattle.bool_tables.proofs.StepHalves.{table_with-values}
 use Rattle.rec_words.specs.Words.{terminal}
 use Rattle.canon_file.specs.declared.row.Row.{Row}
 use Rattle.canon_file.specs.Canon.{canon_nodes, canon_root}
+use Rattle.canon_file.specs.Constants.{const_table}
 use Rattle.canon_file.specs.Laws.{HasForm}
+use Rattle.canon_file.specs.Pieces.{halves}
+use Rattle.canon_file.specs.Rows.{levels, Fits}
 use Rattle.canon_file.specs.Walks.{table_of, row_at}
+use Rattle.canon_file.proofs.ConstDiagram.{constant, constant_unsplit, once_same}
+use Rattle.canon_file.proofs.RowLaws.{levels_same}
 use Rattle.canon_file.proofs.StandLaws.{deeper_at, nodes_stand}
 use Rattle.copied_diagrams.specs.declared.operand.Operand.{Operand}
 use Rattle.copied_diagrams.specs.declared.operand.Operand.TheVariants.{Left, Right}
+use Rattle.copied_diagrams.specs.declared.operand.Choice.TheVariants.{Constant, Copy}
 use Rattle.copied_diagrams.specs.Operands.{pair_table, MayMeet, IsResult}
 use Rattle.copied_diagrams.specs.Pairs.{of_operand}
 
@@ -63,13 +69,37 @@ values_meet n same t u p first second equal below = record {
 }
 
 -- the table of that operand is that of the result
-pub result_is : (n : ℕ) (op : Bin) (same : Bool) (t u : List Bool) (o : Operand) → HasForm n t → HasForm n u → (IsTrue same → t ≡ u)
-    → IsResult op same (canon_root n t) (canon_root n u) o → pair_table n op t u ≡ of_operand o t u
-result_is n op same t u Left first second equal is =
+pub copy_is : (n : ℕ) (op : Bin) (same : Bool) (t u : List Bool) (o : Operand) → HasForm n t → HasForm n u → (IsTrue same → t ≡ u)
+    → IsResult op same (canon_root n t) (canon_root n u) (Copy o) → pair_table n op t u ≡ of_operand o t u
+copy_is n op same t u Left first second equal is =
     table_with_same n (λ p. op_value op (value_at t p) (value_at u p)) (value_at t)
     (λ p below. is (value_at t p) (value_at u p) (values_meet n same t u p first second equal below))
     ∙ table_with-values n t first.whole
-result_is n op same t u Right first second equal is =
+copy_is n op same t u Right first second equal is =
     table_with_same n (λ p. op_value op (value_at t p) (value_at u p)) (value_at u)
     (λ p below. is (value_at t p) (value_at u p) (values_meet n same t u p first second equal below))
     ∙ table_with-values n u second.whole
+
+-- and so is that of a constant
+pub constant_is : (n : ℕ) (op : Bin) (same : Bool) (t u : List Bool) (value : Bool) → HasForm n t → HasForm n u → (IsTrue same → t ≡ u)
+    → IsResult op same (canon_root n t) (canon_root n u) (Constant value) → pair_table n op t u ≡ const_table n value
+constant_is n op same t u value first second equal is =
+    table_with_same n (λ p. op_value op (value_at t p) (value_at u p)) (λ p. value)
+    (λ p below. is (value_at t p) (value_at u p) (values_meet n same t u p first second equal below))
+
+-- below a constant no level has rows
+fits_constant : (h i : ℕ) (b : Bool) → Fits (levels h i (constant h b ∷ []))
+fits_constant zero i b = tt
+fits_constant (suc h) i b =
+    let deeper : levels h (suc i) (halves h (constant (suc h) b ∷ [])) ≡ levels h (suc i) (constant h b ∷ []) =
+    (λ j. levels h (suc i) (low_half-constant h b j ∷ high_half-constant h b j ∷ []))
+    ∙ levels_same h (suc i) _ _ (once_same (constant h b)) in
+    rw (constant_unsplit h b) (omega arith, subst Fits (sym deeper) (fits_constant h (suc i) b))
+
+-- so its canonical form is defined
+pub constant_form : (n : ℕ) (b : Bool) → n ≤ 65535 → HasForm n (const_table n b)
+constant_form n b few = record {
+  few = few;
+  whole = length-table_with n _;
+  fits = subst (λ t. Fits (levels n 0 (t ∷ []))) (sym (table_with_one n (λ _. b) b (λ p below. refl))) (fits_constant n 0 b);
+}

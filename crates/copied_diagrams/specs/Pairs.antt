@@ -1,18 +1,23 @@
 -- What an operator is given, and what is made of it.
-use Rattle.std.specs.Prelude.{◌≡◌, ◌⊎◌, ℕ, ◌+◌, ◌*◌, ◌≤◌, Bool, IsTrue, List, length, Option, Some, None}
+use Rattle.std.specs.Prelude.{◌≡◌, ◌≢◌, ◌⊎◌, ℕ, ◌+◌, ◌*◌, ◌≤◌, Bool, IsTrue, List, length, Option, Some, None}
 use Rattle.bool_tables.specs.declared.steps.Bin.{Bin}
+use Rattle.rec_words.specs.Words.{node_size, terminal}
 use Rattle.shelf_model.specs.declared.file_no.FileNo.{FileNo}
 use Rattle.shelf_model.specs.declared.fault.StreamFault.{StreamFault}
 use Rattle.shelf_model.specs.declared.fault.StreamFault.TheVariants.{Shelf, Damaged}
 use Rattle.shelf_model.specs.File.{firm_file}
 use Rattle.shelf_model.specs.World.{World, file}
-use Rattle.canon_file.specs.Canon.{canon_nodes, canon_root, canon_bytes}
+use Rattle.canon_file.specs.Canon.{canon_nodes, canon_root, canon_bytes, trailer_bytes}
 use Rattle.canon_file.specs.Laws.{HasForm}
 use Rattle.node_file.specs.Nodes.{IsTrailerDamage}
 use Rattle.node_file.specs.declared.trailer.Trailer.{Trailer}
 use Rattle.copied_diagrams.specs.declared.operand.Operand.{Operand}
 use Rattle.copied_diagrams.specs.declared.operand.Operand.TheVariants.{Left, Right}
+use Rattle.copied_diagrams.specs.declared.operand.Choice.{Choice}
+use Rattle.copied_diagrams.specs.declared.operand.Choice.TheVariants as choices
 use Rattle.copied_diagrams.specs.declared.source.Source.{Source}
+use Rattle.copied_diagrams.specs.declared.source.Way.{Way}
+use Rattle.copied_diagrams.specs.declared.source.Way.TheVariants.{Constant, Copy}
 use Rattle.copied_diagrams.specs.Operands.{IsResult}
 
 -- the file is the canonical one of the table, which has a form
@@ -61,11 +66,32 @@ abbrev pub of_operand : {X : Type 0} → Operand → X → X → X
 of_operand Left x y = x
 of_operand Right x y = y
 
--- the source is the file of an operand, with its count, and the operand has the table of the operator's result
-pub record IsSource (op : Bin) (left right : FileNo) (first second : Trailer) (s : Source) : Type 0 where
+-- how many nodes are made in that way
+abbrev pub count_of : Way → ℕ
+count_of (Constant value) = 0
+count_of (Copy source) = source.trailer.count
+
+-- it copies no file over itself
+abbrev pub IsApart : FileNo → Way → Type 0
+IsApart to (Constant value) = Unit
+IsApart to (Copy source) = source.from ≢ to
+
+-- the way is that of a choice, whose values are those of the operator's result
+abbrev pub IsWayOf : Choice → Source → Source → Way → Type 0
+IsWayOf choice left right (Constant value) = choice ≡ choices.Constant value
+IsWayOf choice left right (Copy source) = (operand : Operand) × (choice ≡ choices.Copy operand)
+    × (source ≡ of_operand operand left right)
+
+pub record IsWay (op : Bin) (left right : Source) (way : Way) : Type 0 where
   pub same : Bool
-  pub same_is : IsTrue same → left ≡ right
-  pub operand : Operand
-  pub result : IsResult op same first.root second.root operand
-  pub from_is : s.from ≡ of_operand operand left right
-  pub count_is : s.count ≡ (of_operand operand first second).count
+  pub same_is : IsTrue same → left.from ≡ right.from
+  pub choice : Choice
+  pub result : IsResult op same left.trailer.root right.trailer.root choice
+  pub way_is : IsWayOf choice left right way
+
+-- the file holds what is made in that way, whatever a stop leaves
+abbrev pub HasMade : ℕ → Way → FileNo → World → World → Type 0
+HasMade n (Constant value) to old new = file new to ≡ firm_file (trailer_bytes (terminal value) 0 n)
+HasMade n (Copy source) to old new =
+    length (file old source.from).bytes ≡ (source.trailer.count + 1) * node_size →
+    file new to ≡ firm_file (file old source.from).bytes

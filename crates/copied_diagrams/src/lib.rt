@@ -1,4 +1,4 @@
-//! The diagram of an operator whose table is that of one operand: the operand's node file is copied.
+//! The diagram of an operator whose table is a constant or that of one operand: it needs no sweep.
 #![tactic(auto)]
 
 mod copy;
@@ -8,6 +8,6 @@ mod source;
 mod trailers;
 
 pub use copy::copy_file;
-pub use operand::Operand;
-pub use pair::copy_operand;
+pub use operand::{Choice, Operand};
+pub use pair::make_without_sweeps;
 pub use source::Source;

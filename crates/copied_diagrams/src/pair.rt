@@ -1,6 +1,7 @@
-//! The diagram of an operator on two diagrams, where one of them has its table.
+//! The diagram of an operator on two diagrams, where it needs no sweep.
 ghost use Rattle.std.specs.Prelude.{◌≡◌, ◌≢◌, ◌+◌, ◌*◌, ◌<◌, ◌≤◌, min, Bool, List, IsTrue, OnOk, IfOk, IfErr, IfSome, length};
-ghost use Rattle.rec_words.specs.Words.{node_size};
+ghost use Rattle.rec_words.specs.Words.{node_size, terminal};
+ghost use Rattle.canon_file.specs.Canon.{trailer_bytes};
 ghost use Rattle.shelf_model.specs.File.{firm_file};
 ghost use Rattle.shelf_model.specs.World.{now, file};
 ghost use Rattle.shelf_model.specs.Moments.{Ran, OnlyChanged};
@@ -8,21 +9,23 @@ ghost use Rattle.shelf_model.specs.Calls.{Told};
 ghost use Rattle.shelf_model.specs.Faults.{OnlyFolder, OnlyShelf};
 ghost use Rattle.copied_diagrams.specs.Copies.{Changed};
 ghost use Rattle.copied_diagrams.specs.Operands.{pair_table};
-ghost use Rattle.copied_diagrams.specs.Pairs.{ArePair, IsMade, IsPairDamage, nodes_of_both, made_calls};
+ghost use Rattle.copied_diagrams.specs.Pairs.{ArePair, IsMade, IsPairDamage, nodes_of_both, made_calls, count_of, IsApart, HasMade};
 
 use crate::copy::copy_file;
-use crate::source::source_of;
+use crate::source::{Source, Way, way_of};
 use crate::trailers::read_trailer;
 use bool_tables::Bin;
-use rec_words::{NODE_SIZE, Rec};
+use node_file::NodeWriter;
+use rec_words::{NODE_SIZE, Ptr, Rec};
 use shelf_model::{Failed, FileNo, PIECE, Shelf, StreamFault};
 
 /// Makes the node file of an operator on the files of two diagrams of `n` variables, where their trailers show that its
-/// table is that of one of them, and answers how many nodes it has.
+/// table is a constant or that of one of them, and answers how many nodes it has.
 ///
-/// That is so where the other diagram is a constant or the same, or the operator gives always one operand. A diagram
-/// with as many nodes as the room has records, or as a checkpoint's interval has turns, is left to a sweep.
-pub fn copy_operand<S: Shelf>(
+/// That is so where the other diagram is a constant or the same, or the operator gives always one operand or always one
+/// value. A diagram with as many nodes as the room has records, or as a checkpoint's interval has turns, is left to a
+/// sweep.
+pub fn make_without_sweeps<S: Shelf>(
     op: Bin,
     n: u32,
     left: FileNo,
@@ -58,11 +61,68 @@ pub fn copy_operand<S: Shelf>(
 {
     let first = read_trailer(left, n, room, shelf)?;
     let second = read_trailer(right, n, room, shelf)?;
-    let Some(source) = source_of(op, left, right, first, second, room.len() as u64) else {
+    let first = Source {
+        from: left,
+        trailer: first,
+    };
+    let second = Source {
+        from: right,
+        trailer: second,
+    };
+    let Some(way) = way_of(op, first, second, room.len() as u64) else {
         return Ok(None);
     };
-    copy_nodes(source.from, to, source.count, shelf)?;
-    Ok(Some(source.count))
+    let nodes = make_by(way, n, to, room, shelf)?;
+    Ok(Some(nodes))
+}
+
+// Makes a diagram in one way, and answers how many nodes it has.
+fn make_by<S: Shelf>(
+    way: Way,
+    n: u32,
+    to: FileNo,
+    room: &mut [Rec],
+    shelf: &mut S,
+) -> Result<u64, StreamFault>
+    requires room { 8 ≤ length room.old }
+    requires few { count_of way < 65536 }
+    requires apart { IsApart to way }
+    ensures nodes { IfOk result (λ nodes. nodes ≡ count_of way) }
+    ensures made { OnOk result (IsTrue (S.tells shelf.new) →
+        HasMade n way to (S.world shelf.old) (S.world shelf.new)) }
+    ensures cause { IfErr result (λ e. e ≡ StreamFault.Shelf) }
+    ensures content { Told S.tells shelf.old shelf.new
+        (Changed (2 * count_of way + 4) to (S.world shelf.old) (S.world shelf.new)) }
+    ensures faults { OnlyShelf (S.faults shelf.old) (S.faults shelf.new) result }
+{
+    match way {
+        Way::Constant(value) => make_constant(value, n, to, room, shelf),
+        Way::Copy(source) => {
+            copy_nodes(source.from, to, source.trailer.count, shelf)?;
+            Ok(source.trailer.count)
+        }
+    }
+}
+
+// Makes the file of a constant.
+fn make_constant<S: Shelf>(
+    value: bool,
+    n: u32,
+    to: FileNo,
+    window: &mut [Rec],
+    shelf: &mut S,
+) -> Result<u64, StreamFault>
+    requires window { 8 ≤ length window.old }
+    ensures none { IfOk result (λ nodes. nodes ≡ 0) }
+    ensures made { OnOk result (IsTrue (S.tells shelf.new) →
+        file (S.world shelf.new) to ≡ firm_file (trailer_bytes (terminal value) 0 n)) }
+    ensures cause { IfErr result (λ e. e ≡ StreamFault.Shelf) }
+    ensures content { Told S.tells shelf.old shelf.new
+        (Changed 4 to (S.world shelf.old) (S.world shelf.new)) }
+    ensures faults { OnlyShelf (S.faults shelf.old) (S.faults shelf.new) result }
+{
+    let writer = NodeWriter::start(to, n, window, shelf)?;
+    writer.finish(Ptr::terminal(value), shelf)
 }
 
 // Copies the file of a diagram of so many nodes.

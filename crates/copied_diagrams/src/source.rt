@@ -1,8 +1,9 @@
-//! Where a diagram is copied from.
-ghost use Rattle.std.specs.Prelude.{◌+◌, ◌<◌, min, IfSome};
-ghost use Rattle.copied_diagrams.specs.Pairs.{IsSource};
+//! How a diagram is made without a sweep.
+ghost use Rattle.std.specs.Prelude.{◌≡◌, ◌+◌, ◌<◌, min, Bool, IsTrue, IfSome};
+ghost use Rattle.copied_diagrams.specs.Operands.{IsResult};
+ghost use Rattle.copied_diagrams.specs.Pairs.{IsWay, IsWayOf, count_of, of_operand};
 
-use crate::operand::{Known, Operand, operand_of};
+use crate::operand::{Choice, Known, Operand, choice_of};
 use bool_tables::Bin;
 use node_file::Trailer;
 use shelf_model::FileNo;
@@ -10,43 +11,89 @@ use shelf_model::FileNo;
 /// How many turns a sweep makes from one checkpoint to the next at most.
 const INTERVAL: u64 = 65_536;
 
-/// The file of a diagram, and how many nodes it has.
+/// The file of a diagram, and its trailer.
 #[derive(Clone, Copy, Debug, PartialEq, Eq)]
 pub struct Source {
     pub from: FileNo,
-    pub count: u64,
+    pub trailer: Trailer,
 }
 
-/// The file of the operand that has the table of an operator's result, where the trailers of both show one, and it has
+/// A way to make a diagram: that of a constant, or a copy of a file.
+#[derive(Clone, Copy, Debug, PartialEq, Eq)]
+pub(crate) enum Way {
+    Constant(bool),
+    Copy(Source),
+}
+
+/// The way to make the diagram of an operator's result, where the trailers of both operands show one, and it has
 /// fewer nodes than a room of so many records allows.
-pub(crate) fn source_of(
-    op: Bin,
-    left: FileNo,
-    right: FileNo,
-    first: Trailer,
-    second: Trailer,
-    room: u64,
-) -> Option<Source>
-    ensures source { IfSome result (IsSource op left right first second) }
-    ensures few { IfSome result (λ s. s.count + 1 < min room 65536) }
+pub(crate) fn way_of(op: Bin, left: Source, right: Source, room: u64) -> Option<Way>
+    requires room { 1 < room }
+    ensures way { IfSome result (IsWay op left right) }
+    ensures few { IfSome result (λ way. count_of way + 1 < min room 65536) }
 {
-    let known = Known {
-        same: left == right,
-        left: first.root,
-        right: second.root,
-    };
-    let source = match operand_of(op, &known)? {
-        Operand::Left => Source {
-            from: left,
-            count: first.count,
-        },
-        Operand::Right => Source {
-            from: right,
-            count: second.count,
-        },
-    };
-    if source.count < INTERVAL.min(room).saturating_sub(1) {
-        Some(source)
+    match choice_between(op, &left, &right) {
+        Some(choice) => way_by(choice, left, right, room),
+        None => None,
+    }
+}
+
+// What gives the operator's values.
+fn choice_between(op: Bin, left: &Source, right: &Source) -> Option<Choice>
+    ensures { IfSome result (λ choice. (same : Bool) × (IsTrue same → left.now.from ≡ right.now.from)
+        × IsResult op same left.now.trailer.root right.now.trailer.root choice) }
+{
+    let known = known_of(left, right);
+    choice_of(op, &known)
+}
+
+// What is known of the values of two diagrams.
+fn known_of(left: &Source, right: &Source) -> Known
+    ensures same { IsTrue result.same → left.now.from ≡ right.now.from }
+    ensures left { result.left ≡ left.now.trailer.root }
+    ensures right { result.right ≡ right.now.trailer.root }
+{
+    let same = left.from == right.from;
+    let first = left.trailer.root;
+    let second = right.trailer.root;
+    Known {
+        same,
+        left: first,
+        right: second,
+    }
+}
+
+// The way of a choice.
+fn way_by(choice: Choice, left: Source, right: Source, room: u64) -> Option<Way>
+    requires room { 1 < room }
+    ensures way { IfSome result (IsWayOf choice left right) }
+    ensures few { IfSome result (λ way. count_of way + 1 < min room 65536) }
+{
+    match choice {
+        Choice::Constant(value) => Some(Way::Constant(value)),
+        Choice::Copy(operand) => copy_of(source_of(operand, left, right), room),
+        // A sweep orders the rows of a complement anew.
+        Choice::Complement(_) => None,
+    }
+}
+
+// The file of an operand.
+fn source_of(operand: Operand, left: Source, right: Source) -> Source
+    ensures { result ≡ of_operand operand left right }
+{
+    match operand {
+        Operand::Left => left,
+        Operand::Right => right,
+    }
+}
+
+// A copy, where a turn for each node and one more are below a checkpoint's interval and the records of the room.
+fn copy_of(source: Source, room: u64) -> Option<Way>
+    ensures copy { IfSome result (λ way. way ≡ Way.Copy source) }
+    ensures few { IfSome result (λ way. source.trailer.count + 1 < min room 65536) }
+{
+    if source.trailer.count < INTERVAL.min(room).saturating_sub(1) {
+        Some(Way::Copy(source))
     } else {
         None
     }

@@ -1,4 +1,5 @@
-//! Operators whose table is that of one operand, since the other one is a constant or the same: its file is copied.
+//! Operators whose table is a constant or that of one operand, since the other one is a constant or the same: they make
+//! its file without sweeps.
 ghost use Rattle.std.specs.Prelude.{◌≤◌, length};
 ghost use Rattle.step_sweeps.specs.Given.{AreEarlier};
 ghost use Rattle.step_sweeps.specs.Operations.{IsWithin};
@@ -16,6 +17,9 @@ use top_down_sweep::OperandFiles;
 
 /// How many tables are operands, of four variables and more.
 const TABLES: u64 = 9;
+
+/// How many calls a constant's file takes: those for two trailers, a cut, an append and a sync.
+const CONSTANT_CALLS: u64 = 7;
 
 /// The places of a table that depends on each variable.
 const ALL: usize = usize::MAX;
@@ -88,14 +92,20 @@ fn made_of(
     }
 }
 
-// A copy of the table's file: with one turn for each node and one more, no part taken, and the calls for two trailers,
-// a cut, a sync and the pieces.
-fn copies(
+// How many calls a copy of the table's file takes: those for two trailers, a cut, a sync and the pieces.
+fn copy_calls(bench: &Bench) -> u64 {
+    let pieces = (bench.file(FIRST).len() as u64).div_ceil(2048);
+    pieces.wrapping_mul(2).wrapping_add(6)
+}
+
+// A table's file is made with one turn for each node and one more, no part taken, and so many calls.
+fn is_unswept(
     alloc: Global,
     operation: StepOperation,
     n: u32,
     operands: OperandFiles,
-    f: &[bool],
+    wanted: &[bool],
+    calls: u64,
     room: &mut [Rec],
     bench: &mut Bench,
 ) -> Result<bool, Fail>
@@ -108,17 +118,16 @@ fn copies(
     let Ok(made) = make_diagram(operation, n, operands, NUMBER, room, bench) else {
         return Ok(false);
     };
-    let calls = bench.clock().wrapping_sub(before);
-    let pieces = (bench.file(FIRST).len() as u64).div_ceil(2048);
     Ok(
         made.turns == made.nodes.wrapping_add(1)
             && made.next == 3
-            && calls == pieces.wrapping_mul(2).wrapping_add(6)
-            && is_made(alloc, n, made, f, bench)?,
+            && bench.clock().wrapping_sub(before) == calls
+            && is_made(alloc, n, made, wanted, bench)?,
     )
 }
 
-// Each operator with what stands beside a table makes the right file, by a copy where it gives the table's values.
+// Each operator with what stands beside a table makes the right file, without sweeps where it gives one value
+// everywhere or the table's values.
 fn copy_beside(
     alloc: Global,
     n: u32,
@@ -139,19 +148,27 @@ fn copy_beside(
         let wanted = made_of(alloc, digits, beside, f, constant)?;
         let operation = StepOperation::Operator(operator(digits));
         let operands = beside.operands();
-        let kept = !beside.given(digits, false) && beside.given(digits, true);
-        let right = if kept {
-            copies(alloc, operation, n, operands, f, room, &mut bench)?
-        } else {
-            makes(
+        let wanted = wanted.as_slice();
+        let if_zero = beside.given(digits, false);
+        let if_one = beside.given(digits, true);
+        let right = if if_zero == if_one {
+            is_unswept(
                 alloc,
                 operation,
                 n,
                 operands,
-                wanted.as_slice(),
+                wanted,
+                CONSTANT_CALLS,
                 room,
                 &mut bench,
             )?
+        } else if if_one {
+            let calls = copy_calls(&bench);
+            is_unswept(
+                alloc, operation, n, operands, wanted, calls, room, &mut bench,
+            )?
+        } else {
+            makes(alloc, operation, n, operands, wanted, room, &mut bench)?
         };
         if !right {
             return Ok(false);
@@ -177,7 +194,9 @@ fn copy_each(rt: HostRuntime) -> Result<bool, Fail> {
 }
 
 #[test]
-fn an_operator_that_gives_one_operand_copies_its_file(rt: HostRuntime) -> Result<(), Fail> {
+fn an_operator_that_gives_one_operand_or_one_value_needs_no_sweep(
+    rt: HostRuntime,
+) -> Result<(), Fail> {
     let copied = copy_each(rt)?;
     assert!(rt; copied);
     Ok(())

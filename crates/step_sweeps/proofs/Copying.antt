@@ -1,4 +1,4 @@
--- A step whose diagram is copied, or is made by sweeps after a look at two trailers.
+-- A step whose diagram is made without sweeps, or by sweeps after a look at two trailers.
 use Rattle.std.proofs.Common.{◌≡◌, ◌⊎◌, ◌∙◌, ℕ, ◌+◌, ◌-◌, ◌<◌, Bool, List, length, ap, sym, subst, inl, inr, arith}
 use Rattle.std.specs.Prelude.{Option, Some, IfSome}
 use Rattle.bool_tables.specs.declared.steps.Bin.{Bin}
@@ -23,7 +23,7 @@ use Rattle.step_sweeps.specs.Given.{Tables, AreGiven, AreEarlier, made_by}
 use Rattle.step_sweeps.specs.Made.{node_file, IsDiagramOf}
 use Rattle.step_sweeps.proofs.Running.{file_stays}
 
--- a canonical file, as a copy takes it
+-- a canonical file, as the look at its trailer takes it
 file_of : (n : ℕ) (t : List Bool) (f : FileNo) (world : World) → IsCanonicalFile n t f world → IsFileOf n t f world
 file_of n t f world is = record { form = is.form; bytes_are = is.bytes_are }
 
@@ -34,7 +34,7 @@ pair_of n op operands world g given = record {
   second = file_of n g.second operands.second world given.second;
 }
 
--- a copy is the diagram that the operator makes
+-- what is made without sweeps is the diagram that the operator makes
 pub copy_is : (operation : StepOperation) (op : Bin) (n number : ℕ) (operands : OperandFiles) (g : Tables) (nodes : ℕ) (m : MadeDiagram) (old new : World)
     → operation ≡ Operator op → m ≡ record { nodes = nodes; turns = nodes + 1; next = 3 }
     → ((t u : List Bool) → ArePair n operands.first operands.second t u old

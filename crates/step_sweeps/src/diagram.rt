@@ -13,7 +13,7 @@ ghost use Rattle.step_sweeps.specs.Damage.{IsDiagramFault};
 use crate::StepOperation;
 use crate::arcs::FIRST_PART;
 use crate::swept::sweep_diagram;
-use copied_diagrams::copy_operand;
+use copied_diagrams::make_without_sweeps;
 use rec_words::Rec;
 use shelf_model::{FileNo, Shelf, SortFault};
 use top_down_sweep::OperandFiles;
@@ -30,8 +30,8 @@ pub struct MadeDiagram {
 /// Makes the node file of an operation on the files of diagrams of `n` variables: a sweep makes the arcs of a diagram
 /// in parts 3 and 4 of the step, and a reduction makes part 0 of them. It begins anew, whatever these files hold.
 ///
-/// An operator whose table is that of one operand, as the operands' trailers show, makes part 0 a copy of its file,
-/// where that has fewer nodes than a checkpoint's interval has turns.
+/// An operator whose table is a constant or that of one operand, as the operands' trailers show, makes part 0 the
+/// constant's file or a copy of the operand's, where that has fewer nodes than a checkpoint's interval has turns.
 ///
 /// It takes no memory: all lies in the room.
 pub fn make_diagram<S: Shelf>(
@@ -76,15 +76,23 @@ pub fn make_diagram<S: Shelf>(
         step: number,
         part: 0,
     };
-    if let Some(nodes) = copy_operand(op, n, operands.first, operands.second, out, room, shelf)? {
-        return Ok(copied(nodes));
+    if let Some(nodes) = make_without_sweeps(
+        op,
+        n,
+        operands.first,
+        operands.second,
+        out,
+        room,
+        shelf,
+    )? {
+        return Ok(unswept(nodes));
     }
     let swept = sweep_diagram(operation, n, operands, number, room, shelf)?;
     Ok(after_a_look(swept))
 }
 
-/// What was made by a copy, whose turns are counted as one for each node and one.
-fn copied(nodes: u64) -> MadeDiagram
+/// What was made without a sweep, whose turns are counted as one for each node and one.
+fn unswept(nodes: u64) -> MadeDiagram
     requires few { nodes < 65536 }
     ensures { result ≡ record { nodes = nodes; turns = nodes + 1; next = 3 } }
 {
