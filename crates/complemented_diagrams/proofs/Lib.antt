@@ -1,3 +1,4 @@
 pub mod RowFacts
 pub mod FirstPlaces
 pub mod FirstRecords
+pub mod LevelRows

@@ -56,9 +56,19 @@ fn name_nodes(nodes: &[Rec], own: &mut [Rec]) -> bool
         let Some(word) = node_of(nodes, own[place].w[2], own[place].w[3]) else {
             return false;
         };
-        own[place].w[1] = word;
+        own[place] = entry_saying(&own[place], word);
     }
     true
+}
+
+// An entry of the same node, which says what its word became.
+fn entry_saying(entry: &Rec, became: u64) -> Rec
+    ensures node { word 0 result ≡ word 0 entry.now }
+    ensures became { word 1 result ≡ became }
+{
+    Rec {
+        w: [entry.w[0], became, entry.w[2], entry.w[3], 0, 0, 0, 0],
+    }
 }
 
 // The word of the node with that row. The rows of the nodes ascend.
