@@ -1,12 +1,12 @@
 -- The step from the deeper levels of a diagram to the next one above them.
-use Rattle.std.proofs.Common.{◌≡◌, ◌∙◌, ℕ, zero, suc, ◌+◌, ◌-◌, ◌*◌, ◌<◌, ◌≤◌, ◌==◌, true, false, cond, List, [], ◌∷◌, ◌++◌, length, get_or, take, drop, refl, sym, ap, subst, arith}
+use Rattle.std.proofs.Common.{◌≡◌, ◌∙◌, ℕ, zero, suc, ◌+◌, ◌-◌, ◌*◌, ◌^◌, ◌<◌, ◌≤◌, ◌==◌, Bool, true, false, cond, List, [], ◌∷◌, ◌++◌, length, get_or, take, drop, refl, sym, ap, subst, arith}
 use Rattle.std.proofs.Math.Seq.{drop-cons}
 use Rattle.std.proofs.lemmas.Bool.Decides.{nat_tests}
-use Rattle.std.proofs.lemmas.List.{append_assoc, map-append, length-append, length-map, length-drop, take_at, drop_at, drop-drop}
+use Rattle.std.proofs.lemmas.List.{append-nil, append_assoc, map-append, length-append, length-map, length-drop, take_at, take_all, drop_at, drop_all, drop-drop}
 use Rattle.std.proofs.lemmas.List.Elements.{All-append, All-weaker}
 use Rattle.std.proofs.lemmas.Slice.{take-put_mid, drop-put_mid}
 use borrow.Rule.Slice.PartMut.{put_mid}
-use Rattle.rec_words.specs.Words.{level_of, level_numbers}
+use Rattle.rec_words.specs.Words.{level_of, level_numbers, terminal}
 use Rattle.rec_words.specs.Records.{node_words}
 use Rattle.rec_words.specs.declared.rec.Rec.{Rec}
 use Rattle.rec_words.specs.declared.node.Node.{Node}
@@ -17,7 +17,7 @@ use Rattle.canon_file.specs.Canon.{numbered, nodes_of}
 use Rattle.canon_file.specs.Walks.{is_at, nowhere}
 use Rattle.canon_file.proofs.StandLaws.{deeper_at}
 use Rattle.complement_laws.specs.Complements.{place_in, other_row, other_rows, other_word, other_levels}
-use Rattle.complemented_diagrams.specs.Records.{word, node_records}
+use Rattle.complemented_diagrams.specs.Records.{word, node_records, GivesOthers, AreEntries}
 use Rattle.complemented_diagrams.specs.Levels.{nodes_above, level_run, AreNamed, AreDone}
 
 -- a node is of its row's level
@@ -51,6 +51,28 @@ length-records : (i k : ℕ) (rs : List Row) → length (node_records (numbered 
 length-records i k [] = refl
 length-records i k (r ∷ rs) = ap suc (length-records i (suc k) rs)
 
+-- all nodes are those of the levels from one on, and those above it
+nodes_both : (i : ℕ) (ls : List (List Row)) → i ≤ length ls → nodes_of i (drop i ls) ++ nodes_above i ls ≡ nodes_of 0 ls
+nodes_both zero ls within = append-nil (nodes_of 0 ls)
+nodes_both (suc i) ls within =
+    let here : drop i ls ≡ get_or ls i [] ∷ drop (suc i) ls = drop-cons ls i [] (omega (arith, within)) in
+    sym (append_assoc (nodes_of (suc i) (drop (suc i) ls)) (numbered i 0 (get_or ls i [])) (nodes_above i ls))
+    ∙ sym (ap (λ deeper. nodes_of i deeper ++ nodes_above i ls) here) ∙ nodes_both i ls (omega (arith, within))
+
+-- at first no node is done
+pub none_done : (n : ℕ) (ls : List (List Row)) (nodes entries : List Rec) → length ls ≡ n
+    → nodes ≡ node_records (nodes_of 0 ls) → AreDone n ls 0 nodes entries
+none_done n ls nodes entries whole are =
+    let past : drop n ls ≡ [] = drop_all n ls (omega (arith, whole)) in
+    let above : nodes_above n ls ≡ nodes_of 0 ls =
+    sym (ap (λ deeper. nodes_of n deeper ++ nodes_above n ls) past) ∙ nodes_both n ls (omega (arith, whole)) in
+    record {
+      done_is = sym (ap (λ deeper. length (nodes_of n deeper)) past);
+      front = sym (ap (λ deeper. node_records (nodes_of n (other_levels n deeper))) past);
+      rest = are ∙ sym (ap node_records above);
+      entries_are = λ k d none. absurd (omega (arith, none));
+    }
+
 -- a word that isn't of the level becomes what the deeper levels say
 other_word-below : (i : ℕ) (rs : List Row) (deeper : List (List Row)) (w : ℕ) → is_at i w ≡ false
     → other_word i (rs ∷ deeper) w ≡ other_word (suc i) deeper w
@@ -58,6 +80,18 @@ other_word-below i rs deeper w below =
     let f : ℕ → ℕ = other_word (suc i) deeper in
     let r : Row = get_or rs (place_in i w) nowhere in
     ap (λ b. cond b (row_word i (place_of (other_row f r) (other_rows f rs))) (f w)) below
+
+-- a truth value becomes the other one
+pub other_word-value : (i : ℕ) (ls : List (List Row)) → i + length ls ≤ 65535 → GivesOthers (other_word i ls)
+other_word-value i [] few true = refl
+other_word-value i [] few false = refl
+other_word-value i (rs ∷ deeper) few b =
+    other_word-below i rs deeper (terminal b) (deeper_at i (terminal b) (deep b))
+    ∙ other_word-value (suc i) deeper (omega (arith, few)) b
+  where
+    deep : (b : Bool) → suc i * 2 ^ 47 ≤ terminal b
+    deep true = omega (arith, few)
+    deep false = omega (arith, few)
 
 -- the names of the deeper nodes are theirs among those of the level too
 names_kept : (i : ℕ) (rs : List Row) (deeper : List (List Row)) (entries : List Rec)
@@ -127,3 +161,11 @@ level_done i ls done end nodes entries part new known own back within was ends i
           (All-append (λ e. (i * level_numbers ≤ word 0 e) × (word 1 e ≡ other_word i (rs ∷ deeper) (word 0 e)))
           known own (names_kept i rs deeper known named) own_named));
     }
+
+-- at the end the entries are those of all nodes
+pub entries_done : (ls : List (List Row)) (done : ℕ) (nodes entries : List Rec) → AreDone 0 ls done nodes entries
+    → length entries ≤ done → AreEntries (other_word 0 ls) entries
+entries_done ls done nodes entries are whole =
+    All-weaker (λ e. (0 ≤ word 0 e) × (word 1 e ≡ other_word 0 ls (word 0 e)))
+    (λ e. word 1 e ≡ other_word 0 ls (word 0 e)) (λ e is. is.1)
+    entries (subst (AreNamed 0 ls) (take_all done entries whole) are.entries_are)
