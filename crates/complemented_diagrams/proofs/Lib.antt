@@ -2,3 +2,4 @@ pub mod RowFacts
 pub mod FirstPlaces
 pub mod FirstRecords
 pub mod LevelRows
+pub mod LevelSteps
