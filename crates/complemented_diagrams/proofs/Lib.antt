@@ -3,3 +3,5 @@ pub mod FirstPlaces
 pub mod FirstRecords
 pub mod LevelRows
 pub mod LevelSteps
+pub mod FileChanges
+mod WrittenBytes
