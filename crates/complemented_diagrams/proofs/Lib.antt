@@ -1,1 +1,3 @@
 pub mod RowFacts
+pub mod FileChanges
+mod WrittenBytes
