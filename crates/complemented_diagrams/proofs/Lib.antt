@@ -1,3 +1,4 @@
 pub mod RowFacts
 pub mod FileChanges
 mod WrittenBytes
+mod CanonicalFile
