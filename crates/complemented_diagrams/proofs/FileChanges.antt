@@ -42,7 +42,8 @@ changed_within m n f old new within changed = record {
 module _ {S : Type 0} (tells : S → Bool) (world : S → World) (f : FileNo) where
   -- a write behind a change
   pub then_wrote : (m n most : ℕ) (g : FileNo) (old mid new : S) → m + n ≤ most → g ≡ f
-      → Told tells old mid (Changed m f (world old) (world mid)) → Told tells mid new (Wrote n g (world mid) (world new))
+      → Told tells old mid (Changed m f (world old) (world mid))
+      → Told tells mid new (Wrote n g (world mid) (world new))
       → Told tells old new (Changed most f (world old) (world new))
   then_wrote m n most g old mid new within same first second =
       told_then tells old mid new _ _ _ first second

@@ -3,6 +3,7 @@ use Rattle.std.proofs.lemmas.Result.{on_ok_weaker}
 use Rattle.shelf_model.specs.File.{firm_file}
 use Rattle.shelf_model.specs.World.{file}
 use Rattle.block_stream.specs.declared.filling.Filling.{Filling}
+use Rattle.block_stream.specs.Writes.{written}
 use Rattle.complemented_diagrams.proofs.FileChanges.{then_wrote, cut_and_wrote}
 use Rattle.complemented_diagrams.proofs.WrittenBytes.{put_behind}
 use Rattle.complemented_diagrams.proofs.writing.write_nodes.Goals as goal
@@ -39,7 +40,10 @@ returns-clause-made g c = on_ok_weaker c.settle_records.result (λ firm tells.
     let three = of_nodes.words_are ∙ ap (λ (w : Filling). w.words) fresh in
     let put = c.in_ok-put_nodes.ensures.bytes mid in
     let behind = c.in_ok-put_record.ensures.bytes late in
+    let middle = written c.put_nodes.new.filling c.put_nodes.new.window (g.S.Shelf.world c.put_nodes.new.shelf) in
+    let last = written c.put_record.new.filling c.put_record.new.window (g.S.Shelf.world c.put_record.new.shelf) in
     ap (file (g.S.Shelf.world c.settle_records.new.shelf)) (sym same) ∙ firm tells
     ∙ ap firm_file (put_behind c.in_ok-filling.filling c.args.f c.args.window.now (g.S.Shelf.world c.start.new.shelf)
-    c.args.nodes.now c.trailer_with-trailer.result _ c.args.root (length c.args.nodes.now) c.args.n _ _ fresh empty
-    put.bytes_are three c.trailer_with-trailer.ensures behind.bytes_are)) c.settle_records.ensures.bytes
+    c.args.nodes.now c.trailer_with-trailer.result c.put_nodes.new.filling.words c.args.root
+    (length c.args.nodes.now) c.args.n middle last fresh empty put.bytes_are three c.trailer_with-trailer.ensures
+    behind.bytes_are)) c.settle_records.ensures.bytes
