@@ -1,5 +1,6 @@
 -- A copy after two trailers were read.
 use Rattle.std.proofs.Common.{◌≡◌, ◌∙◌, ℕ, ◌+◌, ◌*◌, ◌≤◌, Bool, IsTrue, List, length, sym, ap, subst, arith}
+use Rattle.std.specs.Prelude.{Result, Ok, Err, IfOk}
 use Rattle.bool_tables.specs.declared.steps.Bin.{Bin}
 use Rattle.shelf_model.specs.declared.file_no.FileNo.{FileNo}
 use Rattle.shelf_model.specs.declared.fault.StreamFault.{StreamFault}
@@ -22,13 +23,17 @@ use Rattle.canon_file.proofs.ByteLaws.{bytes_unique}
 use Rattle.node_file.specs.Nodes.{IsTrailerDamage}
 use Rattle.copied_diagrams.specs.declared.operand.Operand.{Operand}
 use Rattle.copied_diagrams.specs.declared.operand.Operand.TheVariants.{Left, Right}
+use Rattle.copied_diagrams.specs.declared.pair.Making.{Making}
+use Rattle.copied_diagrams.specs.declared.pair.Making.TheVariants.{Made, NotMade}
 use Rattle.copied_diagrams.specs.declared.source.Source.{Source}
 use Rattle.copied_diagrams.specs.declared.source.Way.{Way}
-use Rattle.copied_diagrams.specs.declared.source.Way.TheVariants.{Constant, Copy}
-use Rattle.copied_diagrams.specs.Copies.{Changed}
+use Rattle.copied_diagrams.specs.declared.source.Way.TheVariants.{Constant, Copy, Complement}
+use Rattle.complemented_diagrams.specs.Changes.{Changed}
 use Rattle.copied_diagrams.specs.Operands.{pair_table, IsResult}
-use Rattle.copied_diagrams.specs.Pairs.{IsFileOf, ArePair, IsTrailerOf, IsWay, IsWayOf, HasMade, IsOperandDamage, IsMade, of_operand, nodes_of_both, count_of}
-use Rattle.copied_diagrams.proofs.PairTables.{copy_is, constant_is, constant_form}
+use Rattle.copied_diagrams.specs.Pairs.{IsFileOf, ArePair, IsTrailerOf, IfMade, IsWay, IsWayOf, HasMade, IsOperandDamage, IsMade, of_operand, nodes_of_both, count_of}
+use Rattle.complement_laws.specs.Complements.{complement}
+use Rattle.complement_laws.proofs.ComplementLaws.{has_complement}
+use Rattle.copied_diagrams.proofs.PairTables.{copy_is, complement_is, constant_is, constant_form}
 use Rattle.copied_diagrams.proofs.TrailerFacts.{long_canonical}
 
 -- a look changes no file
@@ -85,10 +90,10 @@ one_table n left right t u world pair same =
     bytes_unique n t u pair.first.form.few pair.first.form.whole pair.second.form.whole pair.first.form.fits pair.second.form.fits
     (sym pair.first.bytes_are ∙ ap (λ f. (file world f).bytes) same ∙ pair.second.bytes_are)
 
--- what is known of a source among the files of two tables: whose table it has, and how many nodes
+-- what is known of a source among the files of two tables: whose table it has, and that its trailer is that table's
 pub record IsSourceOf (n : ℕ) (table : List Bool) (most : ℕ) (s : Source) (world : World) : Type 0 where
   pub of : IsFileOf n table s.from world
-  pub count_is : s.trailer.count ≡ length (canon_nodes n table)
+  pub trailer : IsTrailerOf n table s.trailer
   pub few : s.trailer.count ≤ most
 
 source_has : (n : ℕ) (o : Operand) (left right : Source) (t u : List Bool) (s : Source) (world : World)
@@ -96,10 +101,10 @@ source_has : (n : ℕ) (o : Operand) (left right : Source) (t u : List Bool) (s 
     → IsSourceOf n (of_operand o t u) (nodes_of_both n t u) s world
 source_has n Left left right t u s world pair one two is =
     subst (λ x. IsSourceOf n t (nodes_of_both n t u) x world) (sym is)
-    (record { of = pair.first; count_is = one.count_is; few = omega (arith, one.count_is) })
+    (record { of = pair.first; trailer = one; few = omega (arith, one.count_is) })
 source_has n Right left right t u s world pair one two is =
     subst (λ x. IsSourceOf n u (nodes_of_both n t u) x world) (sym is)
-    (record { of = pair.second; count_is = two.count_is; few = omega (arith, two.count_is) })
+    (record { of = pair.second; trailer = two; few = omega (arith, two.count_is) })
 
 -- a copy of that file is the canonical one of the table
 copy_made : (n : ℕ) (table wanted : List Bool) (most : ℕ) (s : Source) (to : FileNo) (old mid late new : World) → Looked 2 old mid → Looked 2 mid late
@@ -110,11 +115,25 @@ copy_made n table wanted most s to old mid late new first second is has copied =
     let bytes : (file late s.from).bytes ≡ canon_bytes n table =
     ap (λ (x : File). x.bytes) (looked_same 2 s.from mid late second ∙ looked_same 2 s.from old mid first) ∙ has.of.bytes_are in
     let long : length (file late s.from).bytes ≡ (s.trailer.count + 1) * 24 =
-    ap length bytes ∙ long_canonical n table ∙ ap (λ k. (k + 1) * 24) (sym has.count_is) in
+    ap length bytes ∙ long_canonical n table ∙ ap (λ k. (k + 1) * 24) (sym has.trailer.count_is) in
     record {
       form = subst (HasForm n) (sym is) has.of.form;
       file_is = copied long ∙ ap firm_file (bytes ∙ ap (canon_bytes n) (sym is));
-      nodes_are = has.count_is ∙ ap (λ x. length (canon_nodes n x)) (sym is);
+      nodes_are = has.trailer.count_is ∙ ap (λ x. length (canon_nodes n x)) (sym is);
+      few = has.few;
+    }
+
+-- the complement of that file's diagram is that of the complement of the table
+complement_made : (n : ℕ) (table wanted : List Bool) (most : ℕ) (s : Source) (to : FileNo) (old mid late new : World) → Looked 2 old mid → Looked 2 mid late
+    → wanted ≡ complement table → IsSourceOf n table most s old → HasMade n (Complement s) to late new → IsMade n wanted to s.trailer.count most new
+complement_made n table wanted most s to old mid late new first second is has made =
+    let bytes : (file late s.from).bytes ≡ canon_bytes n table =
+    ap (λ (x : File). x.bytes) (looked_same 2 s.from mid late second ∙ looked_same 2 s.from old mid first) ∙ has.of.bytes_are in
+    let other = has_complement n table has.of.form in
+    record {
+      form = subst (HasForm n) (sym is) other.form;
+      file_is = made table has.of.form bytes has.trailer ∙ ap firm_file (ap (canon_bytes n) (sym is));
+      nodes_are = has.trailer.count_is ∙ sym other.nodes_are ∙ ap (λ x. length (canon_nodes n x)) (sym is);
       few = has.few;
     }
 
@@ -137,6 +156,13 @@ so_many n table to nodes count most new same made =
     let few = made.few in
     record { form = made.form; file_is = made.file_is; nodes_are = same ∙ made.nodes_are; few = omega (arith, same, few) }
 
+-- what holds of the nodes where a diagram was made
+pub if_made : (r : Result Making StreamFault) (P Q R : ℕ → Type 0) → IfOk r (λ m. IfMade m P) → IfOk r (λ m. IfMade m Q)
+    → ((nodes : ℕ) → P nodes → Q nodes → R nodes) → IfOk r (λ m. IfMade m R)
+if_made (Ok (Made nodes)) P Q R p q both = both nodes p q
+if_made (Ok (NotMade read)) P Q R p q both = tt
+if_made (Err e) P Q R p q both = tt
+
 -- so in each way the operator's table is made
 pub way_made : (n : ℕ) (op : Bin) (t u : List Bool) (left right : Source) (way : Way) (to : FileNo) (old mid late new : World)
     → Looked 2 old mid → Looked 2 mid late → ArePair n left.from right.from t u old → IsTrailerOf n t left.trailer → IsTrailerOf n u right.trailer
@@ -157,5 +183,10 @@ way_made n op t u left right way to old mid late new first second pair one two i
     by (Copy source) (operand, chosen, source_is) done =
         copy_made n (of_operand operand t u) (pair_table n op t u) (nodes_of_both n t u) source to old mid late new first second
         (copy_is n op is.same t u operand pair.first.form pair.second.form equal
+        (subst (IsResult op is.same (canon_root n t) (canon_root n u)) chosen result))
+        (source_has n operand left right t u source old pair one two source_is) done
+    by (Complement source) (operand, chosen, source_is) done =
+        complement_made n (of_operand operand t u) (pair_table n op t u) (nodes_of_both n t u) source to old mid late new first second
+        (complement_is n op is.same t u operand pair.first.form pair.second.form equal
         (subst (IsResult op is.same (canon_root n t) (canon_root n u)) chosen result))
         (source_has n operand left right t u source old pair one two source_is) done

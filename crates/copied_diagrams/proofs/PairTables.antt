@@ -20,7 +20,9 @@ use Rattle.canon_file.proofs.RowLaws.{levels_same}
 use Rattle.canon_file.proofs.StandLaws.{deeper_at, nodes_stand}
 use Rattle.copied_diagrams.specs.declared.operand.Operand.{Operand}
 use Rattle.copied_diagrams.specs.declared.operand.Operand.TheVariants.{Left, Right}
-use Rattle.copied_diagrams.specs.declared.operand.Choice.TheVariants.{Constant, Copy}
+use Rattle.copied_diagrams.specs.declared.operand.Choice.TheVariants.{Constant, Copy, Complement}
+use Rattle.complement_laws.specs.Complements.{complement}
+use Rattle.complement_laws.proofs.ComplementLaws.{others_at}
 use Rattle.copied_diagrams.specs.Operands.{pair_table, MayMeet, IsResult}
 use Rattle.copied_diagrams.specs.Pairs.{of_operand}
 
@@ -80,7 +82,19 @@ copy_is n op same t u Right first second equal is =
     (λ p below. is (value_at t p) (value_at u p) (values_meet n same t u p first second equal below))
     ∙ table_with-values n u second.whole
 
--- and so is that of a constant
+-- and so is that of its complement
+pub complement_is : (n : ℕ) (op : Bin) (same : Bool) (t u : List Bool) (o : Operand) → HasForm n t → HasForm n u → (IsTrue same → t ≡ u)
+    → IsResult op same (canon_root n t) (canon_root n u) (Complement o) → pair_table n op t u ≡ complement (of_operand o t u)
+complement_is n op same t u Left first second equal is =
+    table_with_same n (λ p. op_value op (value_at t p) (value_at u p)) (λ p. not (value_at t p))
+    (λ p below. is (value_at t p) (value_at u p) (values_meet n same t u p first second equal below))
+    ∙ others_at n t first.whole
+complement_is n op same t u Right first second equal is =
+    table_with_same n (λ p. op_value op (value_at t p) (value_at u p)) (λ p. not (value_at u p))
+    (λ p below. is (value_at t p) (value_at u p) (values_meet n same t u p first second equal below))
+    ∙ others_at n u second.whole
+
+-- and that of a constant
 pub constant_is : (n : ℕ) (op : Bin) (same : Bool) (t u : List Bool) (value : Bool) → HasForm n t → HasForm n u → (IsTrue same → t ≡ u)
     → IsResult op same (canon_root n t) (canon_root n u) (Constant value) → pair_table n op t u ≡ const_table n value
 constant_is n op same t u value first second equal is =

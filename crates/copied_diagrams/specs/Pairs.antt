@@ -1,5 +1,5 @@
 -- What an operator is given, and what is made of it.
-use Rattle.std.specs.Prelude.{◌≡◌, ◌≢◌, ◌⊎◌, ℕ, ◌+◌, ◌*◌, ◌≤◌, Bool, IsTrue, List, length, Option, Some, None}
+use Rattle.std.specs.Prelude.{◌≡◌, ◌≢◌, ◌⊎◌, ℕ, ◌+◌, ◌*◌, ◌≤◌, Bool, IsTrue, List, length}
 use Rattle.bool_tables.specs.declared.steps.Bin.{Bin}
 use Rattle.rec_words.specs.Words.{node_size, terminal}
 use Rattle.shelf_model.specs.declared.file_no.FileNo.{FileNo}
@@ -9,15 +9,18 @@ use Rattle.shelf_model.specs.File.{firm_file}
 use Rattle.shelf_model.specs.World.{World, file}
 use Rattle.canon_file.specs.Canon.{canon_nodes, canon_root, canon_bytes, trailer_bytes}
 use Rattle.canon_file.specs.Laws.{HasForm}
+use Rattle.complement_laws.specs.Complements.{complement}
 use Rattle.node_file.specs.Nodes.{IsTrailerDamage}
 use Rattle.node_file.specs.declared.trailer.Trailer.{Trailer}
 use Rattle.copied_diagrams.specs.declared.operand.Operand.{Operand}
 use Rattle.copied_diagrams.specs.declared.operand.Operand.TheVariants.{Left, Right}
 use Rattle.copied_diagrams.specs.declared.operand.Choice.{Choice}
 use Rattle.copied_diagrams.specs.declared.operand.Choice.TheVariants as choices
+use Rattle.copied_diagrams.specs.declared.pair.Making.{Making}
+use Rattle.copied_diagrams.specs.declared.pair.Making.TheVariants.{Made, NotMade}
 use Rattle.copied_diagrams.specs.declared.source.Source.{Source}
 use Rattle.copied_diagrams.specs.declared.source.Way.{Way}
-use Rattle.copied_diagrams.specs.declared.source.Way.TheVariants.{Constant, Copy}
+use Rattle.copied_diagrams.specs.declared.source.Way.TheVariants.{Constant, Copy, Complement}
 use Rattle.copied_diagrams.specs.Operands.{IsResult}
 
 -- the file is the canonical one of the table, which has a form
@@ -42,10 +45,20 @@ pub record IsMade (n : ℕ) (t : List Bool) (f : FileNo) (nodes most : ℕ) (wor
   pub nodes_are : nodes ≡ length (canon_nodes n t)
   pub few : nodes ≤ most
 
--- the calls of the folder: four for two trailers, and where a diagram was made two for each of its nodes and four more
-abbrev pub made_calls : Option ℕ → ℕ
-made_calls None = 4
-made_calls (Some nodes) = 2 * nodes + 8
+-- what holds of the number of nodes where a diagram was made, and of the number of those that were read where none was
+abbrev pub IfMade : Making → (ℕ → Type 0) → Type 0
+IfMade (Made nodes) P = P nodes
+IfMade (NotMade read) P = Unit
+
+abbrev pub IfNotMade : Making → (ℕ → Type 0) → Type 0
+IfNotMade (Made nodes) P = Unit
+IfNotMade (NotMade read) P = P read
+
+-- the calls of the folder: four for two trailers, and where a diagram was made two for each of its nodes and four more,
+-- else one for each node that was read
+abbrev pub made_calls : Making → ℕ
+made_calls (Made nodes) = 2 * nodes + 8
+made_calls (NotMade read) = read + 4
 
 -- the file has no trailer for n variables where one had to stand
 abbrev pub IsOperandDamage : ℕ → FileNo → World → StreamFault → Type 0
@@ -70,16 +83,32 @@ of_operand Right x y = y
 abbrev pub count_of : Way → ℕ
 count_of (Constant value) = 0
 count_of (Copy source) = source.trailer.count
+count_of (Complement source) = source.trailer.count
 
--- it copies no file over itself
+-- how many records that takes: for a complement two for each node, and a window
+abbrev pub room_of : Way → ℕ
+room_of (Constant value) = 8
+room_of (Copy source) = 0
+room_of (Complement source) = 2 * source.trailer.count + 8
+
+-- a diagram that is read has so many variables
+abbrev pub HasVariables : ℕ → Way → Type 0
+HasVariables n (Constant value) = Unit
+HasVariables n (Copy source) = source.trailer.n ≡ n
+HasVariables n (Complement source) = source.trailer.n ≡ n
+
+-- no file is made of itself
 abbrev pub IsApart : FileNo → Way → Type 0
 IsApart to (Constant value) = Unit
 IsApart to (Copy source) = source.from ≢ to
+IsApart to (Complement source) = source.from ≢ to
 
 -- the way is that of a choice, whose values are those of the operator's result
 abbrev pub IsWayOf : Choice → Source → Source → Way → Type 0
 IsWayOf choice left right (Constant value) = choice ≡ choices.Constant value
 IsWayOf choice left right (Copy source) = (operand : Operand) × (choice ≡ choices.Copy operand)
+    × (source ≡ of_operand operand left right)
+IsWayOf choice left right (Complement source) = (operand : Operand) × (choice ≡ choices.Complement operand)
     × (source ≡ of_operand operand left right)
 
 pub record IsWay (op : Bin) (left right : Source) (way : Way) : Type 0 where
@@ -95,3 +124,6 @@ HasMade n (Constant value) to old new = file new to ≡ firm_file (trailer_bytes
 HasMade n (Copy source) to old new =
     length (file old source.from).bytes ≡ (source.trailer.count + 1) * node_size →
     file new to ≡ firm_file (file old source.from).bytes
+HasMade n (Complement source) to old new = (t : List Bool) → HasForm n t →
+    (file old source.from).bytes ≡ canon_bytes n t → IsTrailerOf n t source.trailer →
+    file new to ≡ firm_file (canon_bytes n (complement t))

@@ -4,7 +4,7 @@ ghost use Rattle.shelf_model.specs.File.{firm_file};
 ghost use Rattle.shelf_model.specs.World.{file};
 ghost use Rattle.shelf_model.specs.Calls.{Told, longest, most_piece};
 ghost use Rattle.shelf_model.specs.Faults.{OnlyFolder};
-ghost use Rattle.copied_diagrams.specs.Copies.{Changed};
+ghost use Rattle.complemented_diagrams.specs.Changes.{Changed};
 
 use shelf_model::{Failed, FileNo, PIECE, Shelf};
 

@@ -1,4 +1,4 @@
-//! The diagram of an operator whose table is a constant or that of one operand: it needs no sweep.
+//! The diagram of an operator whose table is a constant, that of one operand or its complement: it needs no sweep.
 #![tactic(auto)]
 
 mod copy;
@@ -9,5 +9,5 @@ mod trailers;
 
 pub use copy::copy_file;
 pub use operand::{Choice, Operand};
-pub use pair::make_without_sweeps;
+pub use pair::{Making, make_without_sweeps};
 pub use source::Source;

@@ -1,5 +1,5 @@
 //! The diagram of an operator on two diagrams, where it needs no sweep.
-ghost use Rattle.std.specs.Prelude.{◌≡◌, ◌≢◌, ◌+◌, ◌*◌, ◌<◌, ◌≤◌, min, Bool, List, IsTrue, OnOk, IfOk, IfErr, IfSome, length};
+ghost use Rattle.std.specs.Prelude.{◌≡◌, ◌≢◌, ◌+◌, ◌*◌, ◌<◌, ◌≤◌, min, Bool, List, IsTrue, OnOk, IfOk, IfErr, length};
 ghost use Rattle.rec_words.specs.Words.{node_size, terminal};
 ghost use Rattle.canon_file.specs.Canon.{trailer_bytes};
 ghost use Rattle.shelf_model.specs.File.{firm_file};
@@ -7,24 +7,34 @@ ghost use Rattle.shelf_model.specs.World.{now, file};
 ghost use Rattle.shelf_model.specs.Moments.{Ran, OnlyChanged};
 ghost use Rattle.shelf_model.specs.Calls.{Told};
 ghost use Rattle.shelf_model.specs.Faults.{OnlyFolder, OnlyShelf};
-ghost use Rattle.copied_diagrams.specs.Copies.{Changed};
+ghost use Rattle.block_stream.specs.Reads.{Looked};
+ghost use Rattle.complemented_diagrams.specs.Changes.{Changed};
 ghost use Rattle.copied_diagrams.specs.Operands.{pair_table};
-ghost use Rattle.copied_diagrams.specs.Pairs.{ArePair, IsMade, IsPairDamage, nodes_of_both, made_calls, count_of, IsApart, HasMade};
+ghost use Rattle.copied_diagrams.specs.Pairs.{ArePair, IsMade, IsPairDamage, nodes_of_both, IfMade, IfNotMade, made_calls, count_of, room_of, HasVariables, IsApart, HasMade};
 
 use crate::copy::copy_file;
 use crate::source::{Source, Way, way_of};
 use crate::trailers::read_trailer;
 use bool_tables::Bin;
+use complemented_diagrams::complement_file;
 use node_file::NodeWriter;
 use rec_words::{NODE_SIZE, Ptr, Rec};
 use shelf_model::{Failed, FileNo, PIECE, Shelf, StreamFault};
 
+/// What came of a look at two operands: a node file of so many nodes was made, or none was made, after so many nodes of
+/// an operand were read.
+#[derive(Clone, Copy, Debug, PartialEq, Eq)]
+pub enum Making {
+    Made(u64),
+    NotMade(u64),
+}
+
 /// Makes the node file of an operator on the files of two diagrams of `n` variables, where their trailers show that its
-/// table is a constant or that of one of them, and answers how many nodes it has.
+/// table is a constant, that of one of them or its complement, and answers how many nodes it has.
 ///
-/// That is so where the other diagram is a constant or the same, or the operator gives always one operand or always one
-/// value. A diagram with as many nodes as the room has records, or as a checkpoint's interval has turns, is left to a
-/// sweep.
+/// That is so where the other diagram is a constant or the same, or the operator hangs on one operand at most. A diagram
+/// with as many nodes as the room has records, or as a checkpoint's interval has turns, is left to a sweep. So is a
+/// complement where the room hasn't two records for each node and eight more, or the operand's nodes aren't in order.
 pub fn make_without_sweeps<S: Shelf>(
     op: Bin,
     n: u32,
@@ -33,14 +43,14 @@ pub fn make_without_sweeps<S: Shelf>(
     to: FileNo,
     room: &mut [Rec],
     shelf: &mut S,
-) -> Result<Option<u64>, StreamFault>
+) -> Result<Making, StreamFault>
     requires variables { n ≤ 65535 }
     requires room { 8 ≤ length room.old }
     requires left { left ≢ to }
     requires right { right ≢ to }
 
     // of canonical files
-    ensures made { IfOk result (λ made. IfSome made (λ nodes. IsTrue (S.tells shelf.new) → (t u : List Bool) →
+    ensures made { IfOk result (λ made. IfMade made (λ nodes. IsTrue (S.tells shelf.new) → (t u : List Bool) →
         ArePair n left right t u (S.world shelf.old) →
         IsMade n (pair_table n op t u) to nodes (nodes_of_both n t u) (S.world shelf.new))) }
     ensures sound { IfErr result (λ e. IsTrue (S.tells shelf.new) → (t u : List Bool) →
@@ -49,10 +59,15 @@ pub fn make_without_sweeps<S: Shelf>(
         ArePair n left right t u (S.world shelf.old) →
         (S.world shelf.new).clock ≤ (S.world shelf.old).clock + (2 * nodes_of_both n t u + 8) }
 
+    ensures few_read { IfOk result (λ made. IfNotMade made (λ read. IsTrue (S.tells shelf.new) → (t u : List Bool) →
+        ArePair n left right t u (S.world shelf.old) → read ≤ nodes_of_both n t u)) }
+
     // whatever the files hold
-    ensures few { IfOk result (λ made. IfSome made (λ nodes. nodes + 1 < min (length room.entry.now) 65536)) }
+    ensures few { IfOk result (λ made. IfMade made (λ nodes. nodes + 1 < min (length room.entry.now) 65536)) }
     ensures calls { IfOk result (λ made. IsTrue (S.tells shelf.new) →
         (S.world shelf.new).clock ≤ (S.world shelf.old).clock + made_calls made) }
+    ensures not_made { IfOk result (λ made. IfNotMade made (λ read. Told S.tells shelf.old shelf.new
+        (Looked (read + 4) (S.world shelf.old) (S.world shelf.new)))) }
     ensures damaged { IfErr result (λ e. IsTrue (S.tells shelf.new) →
         IsPairDamage n left right (S.world shelf.old) e) }
     ensures content { Told S.tells shelf.old shelf.new
@@ -69,37 +84,51 @@ pub fn make_without_sweeps<S: Shelf>(
         from: right,
         trailer: second,
     };
-    let Some(way) = way_of(op, first, second, room.len() as u64) else {
-        return Ok(None);
-    };
-    let nodes = make_by(way, n, to, room, shelf)?;
-    Ok(Some(nodes))
+    match way_of(op, first, second, room.len() as u64) {
+        Some(way) => make_by(way, n, to, room, shelf),
+        None => Ok(Making::NotMade(0)),
+    }
 }
 
-// Makes a diagram in one way, and answers how many nodes it has.
+// Makes a diagram in one way, or none where the nodes of the operand aren't in order.
 fn make_by<S: Shelf>(
     way: Way,
     n: u32,
     to: FileNo,
     room: &mut [Rec],
     shelf: &mut S,
-) -> Result<u64, StreamFault>
-    requires room { 8 ≤ length room.old }
+) -> Result<Making, StreamFault>
+    requires variables { n ≤ 65535 }
+    requires room { room_of way ≤ length room.old }
     requires few { count_of way < 65536 }
+    requires of { HasVariables n way }
     requires apart { IsApart to way }
-    ensures nodes { IfOk result (λ nodes. nodes ≡ count_of way) }
-    ensures made { OnOk result (IsTrue (S.tells shelf.new) →
-        HasMade n way to (S.world shelf.old) (S.world shelf.new)) }
+    ensures nodes { IfOk result (λ making. IfMade making (λ nodes. nodes ≡ count_of way)) }
+    ensures made { IfOk result (λ making. IfMade making (λ nodes. IsTrue (S.tells shelf.new) →
+        HasMade n way to (S.world shelf.old) (S.world shelf.new))) }
+    ensures read { IfOk result (λ making. IfNotMade making (λ read. read ≡ count_of way)) }
+    ensures not_made { IfOk result (λ making. IfNotMade making (λ read. Told S.tells shelf.old shelf.new
+        (Looked (count_of way) (S.world shelf.old) (S.world shelf.new)))) }
     ensures cause { IfErr result (λ e. e ≡ StreamFault.Shelf) }
     ensures content { Told S.tells shelf.old shelf.new
         (Changed (2 * count_of way + 4) to (S.world shelf.old) (S.world shelf.new)) }
     ensures faults { OnlyShelf (S.faults shelf.old) (S.faults shelf.new) result }
 {
     match way {
-        Way::Constant(value) => make_constant(value, n, to, room, shelf),
+        Way::Constant(value) => {
+            make_constant(value, n, to, room, shelf)?;
+            Ok(Making::Made(0))
+        }
         Way::Copy(source) => {
             copy_nodes(source.from, to, source.trailer.count, shelf)?;
-            Ok(source.trailer.count)
+            Ok(Making::Made(source.trailer.count))
+        }
+        Way::Complement(source) => {
+            if complement_file(source.from, to, source.trailer, room, shelf)? {
+                Ok(Making::Made(source.trailer.count))
+            } else {
+                Ok(Making::NotMade(source.trailer.count))
+            }
         }
     }
 }

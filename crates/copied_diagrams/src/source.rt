@@ -1,7 +1,7 @@
 //! How a diagram is made without a sweep.
-ghost use Rattle.std.specs.Prelude.{◌≡◌, ◌+◌, ◌<◌, min, Bool, IsTrue, IfSome};
+ghost use Rattle.std.specs.Prelude.{◌≡◌, ◌+◌, ◌*◌, ◌<◌, ◌≤◌, min, Bool, IsTrue, IfSome};
 ghost use Rattle.copied_diagrams.specs.Operands.{IsResult};
-ghost use Rattle.copied_diagrams.specs.Pairs.{IsWay, IsWayOf, count_of, of_operand};
+ghost use Rattle.copied_diagrams.specs.Pairs.{IsWay, IsWayOf, count_of, room_of, of_operand};
 
 use crate::operand::{Choice, Known, Operand, choice_of};
 use bool_tables::Bin;
@@ -11,6 +11,9 @@ use shelf_model::FileNo;
 /// How many turns a sweep makes from one checkpoint to the next at most.
 const INTERVAL: u64 = 65_536;
 
+/// How many records more than two for each node a complement takes: those that wait to be written.
+const WINDOW: u64 = 8;
+
 /// The file of a diagram, and its trailer.
 #[derive(Clone, Copy, Debug, PartialEq, Eq)]
 pub struct Source {
@@ -18,19 +21,21 @@ pub struct Source {
     pub trailer: Trailer,
 }
 
-/// A way to make a diagram: that of a constant, or a copy of a file.
+/// A way to make a diagram: that of a constant, a copy of a file, or the complement of a file's diagram.
 #[derive(Clone, Copy, Debug, PartialEq, Eq)]
 pub(crate) enum Way {
     Constant(bool),
     Copy(Source),
+    Complement(Source),
 }
 
 /// The way to make the diagram of an operator's result, where the trailers of both operands show one, and it has
 /// fewer nodes than a room of so many records allows.
 pub(crate) fn way_of(op: Bin, left: Source, right: Source, room: u64) -> Option<Way>
-    requires room { 1 < room }
+    requires room { 8 ≤ room }
     ensures way { IfSome result (IsWay op left right) }
     ensures few { IfSome result (λ way. count_of way + 1 < min room 65536) }
+    ensures fits { IfSome result (λ way. room_of way ≤ room) }
 {
     match choice_between(op, &left, &right) {
         Some(choice) => way_by(choice, left, right, room),
@@ -65,15 +70,15 @@ fn known_of(left: &Source, right: &Source) -> Known
 
 // The way of a choice.
 fn way_by(choice: Choice, left: Source, right: Source, room: u64) -> Option<Way>
-    requires room { 1 < room }
+    requires room { 8 ≤ room }
     ensures way { IfSome result (IsWayOf choice left right) }
     ensures few { IfSome result (λ way. count_of way + 1 < min room 65536) }
+    ensures fits { IfSome result (λ way. room_of way ≤ room) }
 {
     match choice {
         Choice::Constant(value) => Some(Way::Constant(value)),
         Choice::Copy(operand) => copy_of(source_of(operand, left, right), room),
-        // A sweep orders the rows of a complement anew.
-        Choice::Complement(_) => None,
+        Choice::Complement(operand) => complement_of(source_of(operand, left, right), room),
     }
 }
 
@@ -87,14 +92,35 @@ fn source_of(operand: Operand, left: Source, right: Source) -> Source
     }
 }
 
-// A copy, where a turn for each node and one more are below a checkpoint's interval and the records of the room.
+// A copy, where there are few nodes.
 fn copy_of(source: Source, room: u64) -> Option<Way>
     ensures copy { IfSome result (λ way. way ≡ Way.Copy source) }
     ensures few { IfSome result (λ way. source.trailer.count + 1 < min room 65536) }
 {
-    if source.trailer.count < INTERVAL.min(room).saturating_sub(1) {
+    if is_small(source.trailer.count, room) {
         Some(Way::Copy(source))
     } else {
         None
     }
+}
+
+// A complement, where there are few nodes, and two records for each of them and a window fit into the room.
+fn complement_of(source: Source, room: u64) -> Option<Way>
+    ensures complement { IfSome result (λ way. way ≡ Way.Complement source) }
+    ensures few { IfSome result (λ way. source.trailer.count + 1 < min room 65536) }
+    ensures fits { IfSome result (λ way. 8 ≤ room → 2 * source.trailer.count + 8 ≤ room) }
+{
+    let count = source.trailer.count;
+    if is_small(count, room) && count <= room.saturating_sub(WINDOW) / 2 {
+        Some(Way::Complement(source))
+    } else {
+        None
+    }
+}
+
+// Whether a turn for each of so many nodes and one more are below a checkpoint's interval and the records of the room.
+fn is_small(count: u64, room: u64) -> bool
+    ensures { IsTrue result → count + 1 < min room 65536 }
+{
+    count < INTERVAL.min(room).saturating_sub(1)
 }

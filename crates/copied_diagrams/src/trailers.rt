@@ -19,6 +19,7 @@ pub(crate) fn read_trailer<S: Shelf>(
 ) -> Result<Trailer, StreamFault>
     requires room { 8 ≤ length room.old }
     requires variables { n ≤ 65535 }
+    ensures variables { IfOk result (λ r. r.n ≡ n) }
     ensures of { IfOk result (λ r. IsTrue (S.tells shelf.new) → (t : List Bool) →
         IsFileOf n t f (S.world shelf.old) → IsTrailerOf n t r) }
     ensures sound { IfErr result (λ e. IsTrue (S.tells shelf.new) → (t : List Bool) →

@@ -1,6 +1,5 @@
 -- A step whose diagram is made without sweeps, or by sweeps after a look at two trailers.
 use Rattle.std.proofs.Common.{◌≡◌, ◌⊎◌, ◌∙◌, ℕ, ◌+◌, ◌-◌, ◌<◌, Bool, List, length, ap, sym, subst, inl, inr, arith}
-use Rattle.std.specs.Prelude.{Option, Some, IfSome}
 use Rattle.bool_tables.specs.declared.steps.Bin.{Bin}
 use Rattle.rec_words.specs.Words.{node_size}
 use Rattle.shelf_model.specs.declared.file_no.FileNo.{FileNo}
@@ -11,7 +10,9 @@ use Rattle.shelf_model.specs.Moments.{Ran, OnlyChanged}
 use Rattle.shelf_model.specs.World.{World, now, file}
 use Rattle.node_file.specs.Nodes.{HasTrailer}
 use Rattle.node_reading.specs.Reading.{IsDamagedNode}
-use Rattle.copied_diagrams.specs.Pairs.{ArePair, IsFileOf, IsMade, nodes_of_both}
+use Rattle.copied_diagrams.specs.declared.pair.Making.{Making}
+use Rattle.copied_diagrams.specs.declared.pair.Making.TheVariants.{Made}
+use Rattle.copied_diagrams.specs.Pairs.{ArePair, IsFileOf, IsMade, IfMade, nodes_of_both}
 use Rattle.top_down_sweep.specs.declared.beginning.OperandFiles.{OperandFiles}
 use Rattle.top_down_sweep.specs.Damage.{IsAbsent}
 use Rattle.top_down_sweep.specs.Tasks.{IsCanonicalFile}
@@ -79,6 +80,6 @@ fault_before n operands number old mid new (Damaged f at) earlier ran (inl (inr 
 fault_before n operands number old mid new (Damaged f at) earlier ran (inr own) = inr own
 fault_before n operands number old mid new RunsSpent earlier ran is = tt
 
--- what holds of the value that there is
-pub of_some : {A : Type 0} (o : Option A) (x : A) (P : A → Type 0) → o ≡ Some x → IfSome o P → P x
-of_some o x P is held = subst (λ q. IfSome q P) is held
+-- what holds of the nodes of a diagram that was made
+pub of_made : (m : Making) (nodes : ℕ) (P : ℕ → Type 0) → m ≡ Made nodes → IfMade m P → P nodes
+of_made m nodes P is held = subst (λ q. IfMade q P) is held

@@ -13,7 +13,7 @@ ghost use Rattle.step_sweeps.specs.Damage.{IsDiagramFault};
 use crate::StepOperation;
 use crate::arcs::FIRST_PART;
 use crate::swept::sweep_diagram;
-use copied_diagrams::make_without_sweeps;
+use copied_diagrams::{Making, make_without_sweeps};
 use rec_words::Rec;
 use shelf_model::{FileNo, Shelf, SortFault};
 use top_down_sweep::OperandFiles;
@@ -30,8 +30,9 @@ pub struct MadeDiagram {
 /// Makes the node file of an operation on the files of diagrams of `n` variables: a sweep makes the arcs of a diagram
 /// in parts 3 and 4 of the step, and a reduction makes part 0 of them. It begins anew, whatever these files hold.
 ///
-/// An operator whose table is a constant or that of one operand, as the operands' trailers show, makes part 0 the
-/// constant's file or a copy of the operand's, where that has fewer nodes than a checkpoint's interval has turns.
+/// An operator whose table is a constant, that of one operand or its complement, as the operands' trailers show, makes
+/// part 0 the constant's file, a copy of the operand's or the file of the complement, where that has fewer nodes than a
+/// checkpoint's interval has turns and the room holds what a complement takes.
 ///
 /// It takes no memory: all lies in the room.
 pub fn make_diagram<S: Shelf>(
@@ -76,19 +77,13 @@ pub fn make_diagram<S: Shelf>(
         step: number,
         part: 0,
     };
-    if let Some(nodes) = make_without_sweeps(
-        op,
-        n,
-        operands.first,
-        operands.second,
-        out,
-        room,
-        shelf,
-    )? {
-        return Ok(unswept(nodes));
-    }
+    let made = make_without_sweeps(op, n, operands.first, operands.second, out, room, shelf)?;
+    let read = match made {
+        Making::Made(nodes) => return Ok(unswept(nodes)),
+        Making::NotMade(read) => read,
+    };
     let swept = sweep_diagram(operation, n, operands, number, room, shelf)?;
-    Ok(after_a_look(swept))
+    Ok(after_a_look(swept, read))
 }
 
 /// What was made without a sweep, whose turns are counted as one for each node and one.
@@ -103,12 +98,13 @@ fn unswept(nodes: u64) -> MadeDiagram
     }
 }
 
-/// What was made by sweeps after a look at the operands' trailers, which is a turn too.
-fn after_a_look(swept: MadeDiagram) -> MadeDiagram
-    ensures { result ≡ record swept { turns = min (swept.turns + 1) (2 ^ 64 - 1) } }
+/// What was made by sweeps after a look at the operands' trailers, which is a turn too, and at so many nodes, of which
+/// each is one.
+fn after_a_look(swept: MadeDiagram, read: u64) -> MadeDiagram
+    ensures { result ≡ record swept { turns = min (swept.turns + read + 1) (2 ^ 64 - 1) } }
 {
     MadeDiagram {
-        turns: swept.turns.saturating_add(1),
+        turns: swept.turns.saturating_add(read).saturating_add(1),
         ..swept
     }
 }

@@ -1,12 +1,12 @@
 use Rattle.run_tiers.proofs.FaultLaws.{on_fault}
-use Rattle.step_sweeps.proofs.Copying.{copy_is, of_some, fault_before}
+use Rattle.step_sweeps.proofs.Copying.{copy_is, of_made, fault_before}
 use Rattle.step_sweeps.proofs.diagram.make_diagram.Goals as goal
 
 -- a diagram that needs no sweep
-pub returns-in-Some-clause-made : goal.returns-in-Some-clause-made
-returns-in-Some-clause-made g c told tables given =
-    copy_is c.args.operation c.in-Operator.op c.args.n c.args.number c.args.operands tables c.in-Some.nodes c.unswept.result _ _
-    c.in-Operator.is c.unswept.ensures (of_some _ c.in-Some.nodes _ c.in-Some.is c.in_ok-nodes.ensures.made told) given
+pub returns-in-Made-clause-made : goal.returns-in-Made-clause-made
+returns-in-Made-clause-made g c told tables given =
+    copy_is c.args.operation c.in-Operator.op c.args.n c.args.number c.args.operands tables c.in-Made.nodes c.unswept.result _ _
+    c.in-Operator.is c.unswept.ensures (of_made _ c.in-Made.nodes _ c.in-Made.is c.in_ok-made.ensures.made told) given
 
 -- damage that the sweeps found
 pub returns-in_err-swept-clause-damaged : goal.returns-in_err-swept-clause-damaged

@@ -1,4 +1,4 @@
--- What a copy leaves of the folder.
+-- What the making of one file leaves of the folder.
 use Rattle.std.specs.Prelude.{◌≡◌, ℕ, ◌+◌, ◌≤◌}
 use Rattle.shelf_model.specs.declared.file_no.FileNo.{FileNo}
 use Rattle.shelf_model.specs.Moments.{Ran, OnlyChanged}

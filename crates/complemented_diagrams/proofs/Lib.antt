@@ -1,0 +1,8 @@
+pub mod RowFacts
+pub mod FirstPlaces
+pub mod FirstRecords
+pub mod LevelRows
+pub mod LevelSteps
+pub mod FileChanges
+mod WrittenBytes
+mod CanonicalFile
