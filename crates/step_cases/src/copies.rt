@@ -1,12 +1,12 @@
-//! Operators whose table is a constant or that of one operand, since the other one is a constant or the same: they make
-//! its file without sweeps.
+//! Operators whose table is a constant, that of one operand or its complement, since the other one is a constant or the
+//! same: they make its file without sweeps.
 ghost use Rattle.std.specs.Prelude.{◌≤◌, length};
 ghost use Rattle.step_sweeps.specs.Given.{AreEarlier};
 ghost use Rattle.step_sweeps.specs.Operations.{IsWithin};
 ghost use Rattle.step_cases.specs.declared.steps.TheConstants.{NUMBER, LEAST_ROOM};
 
 use crate::random::Random;
-use crate::steps::{EMPTY, FIRST, LEAST_ROOM, NUMBER, ONE, SECOND, TWO, bench_of, is_made, makes};
+use crate::steps::{EMPTY, FIRST, LEAST_ROOM, NUMBER, ONE, SECOND, TWO, bench_of, is_made};
 use crate::tables::{operator, product_of};
 use rec_words::Rec;
 use shelf_memory::Bench;
@@ -98,8 +98,16 @@ fn copy_calls(bench: &Bench) -> u64 {
     pieces.wrapping_mul(2).wrapping_add(6)
 }
 
-// A table's file is made with one turn for each node and one more, no part taken, and so many calls.
-fn is_unswept(
+/// How many calls the file of the complement of the table's takes: those for two trailers, a cut, a sync, and the
+/// pieces that are read and written, of 85 nodes each.
+pub(crate) fn complement_calls(bench: &Bench) -> u64 {
+    let records = bench.file(FIRST).len() as u64 / 24;
+    let read = records.saturating_sub(1).div_ceil(85);
+    records.div_ceil(85).wrapping_add(read).wrapping_add(6)
+}
+
+/// A table's file is made with one turn for each node and one more, no part taken, and so many calls.
+pub(crate) fn is_unswept(
     alloc: Global,
     operation: StepOperation,
     n: u32,
@@ -126,8 +134,17 @@ fn is_unswept(
     )
 }
 
-// Each operator with what stands beside a table makes the right file, without sweeps where it gives one value
-// everywhere or the table's values.
+// How many calls an operator's file takes, that gives these values where the table has 0 and 1.
+fn wanted_calls(if_zero: bool, if_one: bool, bench: &Bench) -> u64 {
+    match (if_zero, if_one) {
+        (false, true) => copy_calls(bench),
+        (true, false) => complement_calls(bench),
+        _ => CONSTANT_CALLS,
+    }
+}
+
+// Each operator with what stands beside a table makes the right file without sweeps: that of a constant, of the table
+// or of its complement.
 fn copy_beside(
     alloc: Global,
     n: u32,
@@ -151,25 +168,10 @@ fn copy_beside(
         let wanted = wanted.as_slice();
         let if_zero = beside.given(digits, false);
         let if_one = beside.given(digits, true);
-        let right = if if_zero == if_one {
-            is_unswept(
-                alloc,
-                operation,
-                n,
-                operands,
-                wanted,
-                CONSTANT_CALLS,
-                room,
-                &mut bench,
-            )?
-        } else if if_one {
-            let calls = copy_calls(&bench);
-            is_unswept(
-                alloc, operation, n, operands, wanted, calls, room, &mut bench,
-            )?
-        } else {
-            makes(alloc, operation, n, operands, wanted, room, &mut bench)?
-        };
+        let calls = wanted_calls(if_zero, if_one, &bench);
+        let right = is_unswept(
+            alloc, operation, n, operands, wanted, calls, room, &mut bench,
+        )?;
         if !right {
             return Ok(false);
         }
@@ -194,7 +196,7 @@ fn copy_each(rt: HostRuntime) -> Result<bool, Fail> {
 }
 
 #[test]
-fn an_operator_that_gives_one_operand_or_one_value_needs_no_sweep(
+fn an_operator_that_hangs_on_one_operand_at_most_needs_no_sweep(
     rt: HostRuntime,
 ) -> Result<(), Fail> {
     let copied = copy_each(rt)?;

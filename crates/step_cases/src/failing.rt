@@ -28,11 +28,14 @@ const MOST: u32 = 9;
 /// The exclusive or.
 const DIFFER: u32 = 0b0110;
 
+/// Neither of two: of one table twice it is the complement.
+pub(crate) const NEITHER: u32 = 0b0001;
+
 /// More calls than any of the cases makes.
 const MOST_CALLS: u64 = 400;
 
 /// How many cases make a diagram.
-pub(crate) const CASES: u32 = 4;
+pub(crate) const CASES: u32 = 5;
 
 /// The operation of a case of so many variables.
 pub(crate) fn operation_of(case: u32, n: u32) -> StepOperation
@@ -46,10 +49,11 @@ pub(crate) fn operation_of(case: u32, n: u32) -> StepOperation
             kind: Quant::Exists,
             level: 1,
         },
-        _ => StepOperation::Restriction {
+        3 => StepOperation::Restriction {
             level: 2,
             value: true,
         },
+        _ => StepOperation::Operator(operator(NEITHER)),
     }
 }
 
@@ -70,7 +74,8 @@ fn wanted_of(alloc: Global, case: u32, n: u32, tables: [&[bool]; 3]) -> Result<V
         0 => product_of(alloc, DIFFER, tables[0], tables[1])?,
         1 => choice_of(alloc, tables[0], tables[1], tables[2])?,
         2 => quantified_of(alloc, n, Quant::Exists, 1, tables[0])?,
-        _ => restricted_of(alloc, n, 2, true, tables[0])?,
+        3 => restricted_of(alloc, n, 2, true, tables[0])?,
+        _ => product_of(alloc, NEITHER, tables[0], tables[0])?,
     })
 }
 
