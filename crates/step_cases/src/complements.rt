@@ -25,6 +25,7 @@ const ALL: usize = usize::MAX;
 
 // Makes the complement of the first file.
 fn complement(n: u32, room: &mut [Rec], bench: &mut Bench) -> Result<MadeDiagram, SortFault>
+    requires few { n ≤ 20 }
     requires enough { LEAST_ROOM ≤ length room.old }
 {
     let operation = StepOperation::Operator(operator(NEITHER));
@@ -111,6 +112,7 @@ fn is_damaged(
     room: &mut [Rec],
     bench: &mut Bench,
 ) -> Result<bool, Fail>
+    requires few { n ≤ 20 }
     requires enough { LEAST_ROOM ≤ length room.old }
 {
     let bytes = bytes_of(alloc, words)?;
