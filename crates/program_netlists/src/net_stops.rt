@@ -3,7 +3,7 @@
 use crate::bench_run::{SMALL_NET, run, with_texts};
 use crate::files::{CATALOGUE, JOB, JOB_GATE, STEP_GATE, has_no_other_parts, node_file};
 use crate::parts_said::{line_count, lines_said, resumed};
-use crate::rows::{JOINED, Row, SUM_CARRY, THREE_LINES, has_files};
+use crate::rows::{ROWS, Row, has_files};
 use shelf_memory::{Bench, Choice};
 use std::alloc::Global;
 use std::process::Abort;
@@ -182,9 +182,6 @@ fn first_loss(alloc: Global, row: &Row, choice: Option<Choice>) -> Result<Option
         Some(calls)
     })
 }
-
-/// The rows whose runs are stopped.
-const ROWS: [Row; 3] = [JOINED, THREE_LINES, SUM_CARRY];
 
 /// What isn't outlived: the row's place, and the first call.
 fn first_lost_row(alloc: Global, choice: Option<Choice>) -> Result<Option<(usize, u64)>, Fail> {

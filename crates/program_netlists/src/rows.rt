@@ -208,7 +208,7 @@ fn says_and_leaves(alloc: Global, row: &Row) -> Result<bool, Fail> {
 }
 
 /// The scripts, in the order of their places.
-const ROWS: [Row; 7] = [
+pub(crate) const ROWS: [Row; 7] = [
     SUM_CARRY,
     CARRY_SUM,
     CARRY_DROPPED,

@@ -143,6 +143,15 @@ pub(crate) const EVAL_OF_NONE: Row = Row {
     says: &[],
 };
 
+/// A script without steps.
+pub(crate) const NO_STEPS: Row = Row {
+    script: b"vars\n",
+    said: b"start 0\ndone\n",
+    files: &[],
+    dropped: &[],
+    says: &[],
+};
+
 /// A drop of an operand.
 pub(crate) const AND_DROP: Row = Row {
     script: b"vars a b\nvar f a\nvar g b\nand h f g\ndrop f\n",

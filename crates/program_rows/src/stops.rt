@@ -4,7 +4,7 @@ use crate::bench_run::{SMALL, bench_with, run};
 use crate::files::{CATALOGUE, FIRST, JOB, JOB_GATE, STEP_GATE, has_words, node_file};
 use crate::parts_said::{goes_on_behind, line_count, lines_said};
 use crate::rows::{
-    AND_DROP, AND_LEQ, CONSTANTS_LEQ, DROP, EVAL_OF_NONE, EXISTS_LEQ, ITE_QUANTIFIERS,
+    AND_DROP, AND_LEQ, CONSTANTS_LEQ, DROP, EVAL_OF_NONE, EXISTS_LEQ, ITE_QUANTIFIERS, NO_STEPS,
     OTHER_LAYOUT, RESTRICT_EVAL, Row, STEPS, THREE, XOR_ITE, XOR_SAME, has_files,
     has_no_other_parts,
 };
@@ -13,7 +13,7 @@ use std::alloc::Global;
 use std::test::Fail;
 
 /// The rows that are stopped, and of which each call fails in turn.
-const STOPPED: [Row; 12] = [
+const STOPPED: [Row; 13] = [
     THREE,
     DROP,
     XOR_SAME,
@@ -22,6 +22,7 @@ const STOPPED: [Row; 12] = [
     ITE_QUANTIFIERS,
     RESTRICT_EVAL,
     EVAL_OF_NONE,
+    NO_STEPS,
     AND_DROP,
     AND_LEQ,
     CONSTANTS_LEQ,

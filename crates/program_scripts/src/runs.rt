@@ -1,4 +1,4 @@
-//! Runs of scripts that look random, in the least room.
+//! Runs of scripts that look random, in the least room and in the usual one.
 use crate::script::script_of;
 use crate::wanted::{Bytes, files_of, is_dropped, text_of};
 use bool_tables::{Planned, eval_steps};
@@ -47,6 +47,9 @@ const WORDS: [&str; 6] = [
     "--script",
     "script",
 ];
+
+/// The words of a run in the usual room.
+const USUAL: [&str; 5] = ["adiar", "run", "FOLDER", "--script", "script"];
 
 /// Runs the program, and answers its status.
 pub(crate) fn run(alloc: Global, words: &[&str], bench: &mut Bench) -> Result<u8, Fail> {
@@ -99,13 +102,18 @@ fn says_and_leaves(alloc: Global, script: &[u8]) -> Result<bool, Fail> {
     };
     let files = files_of(alloc, plan.n, tables.as_slice())?;
     let text = text_of(alloc, script, &plan, tables.as_slice(), files.as_slice())?;
-    let mut bench = Bench::empty(alloc);
-    bench.put_text("script", script)?;
-    Ok(
-        run(alloc, &WORDS, &mut bench)? == 0
-            && bench.said() == text.as_slice()
-            && leaves(plan.steps.items(), files.as_slice(), &bench),
-    )
+    for words in [WORDS.as_slice(), USUAL.as_slice()] {
+        let mut bench = Bench::empty(alloc);
+        bench.put_text("script", script)?;
+        let ended = run(alloc, words, &mut bench)? == 0;
+        if !ended
+            || bench.said() != text.as_slice()
+            || !leaves(plan.steps.items(), files.as_slice(), &bench)
+        {
+            return Ok(false);
+        }
+    }
+    Ok(true)
 }
 
 /// The first seed whose script of so many variables says or leaves something else in its run.
