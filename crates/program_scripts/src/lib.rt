@@ -1,11 +1,13 @@
 //! Scripts that look random, run by the program over a station in memory, beside the tables of their steps, and a
-//! script whose diagrams outgrow the least room.
+//! script whose diagrams outgrow the least room; and scripts and netlists that are refused, stopped at each call.
 #![tactic(auto)]
 
 #[cfg(test)]
 mod large;
 #[cfg(test)]
 mod random;
+#[cfg(test)]
+mod refused;
 #[cfg(test)]
 mod runs;
 #[cfg(test)]
