@@ -11,6 +11,7 @@ pub mod KnownTurn
 pub mod SideLaws
 pub mod NewTurn
 pub mod EndLaws
+pub mod EndValues
 pub mod CanonReduced
 pub mod PickLaws
 pub mod CanonTasks

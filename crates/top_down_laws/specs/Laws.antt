@@ -192,6 +192,14 @@ NothingWaits n rule d roots =
     → Remains n rule d roots place [] last r inner ends
     → IsWhole n rule d roots place.root inner ends
 
+-- the truth value to which an arc leads is a value of the table
+abbrev pub EndIsValue : ℕ → Rule → Diagrams → Tuple → Type 0
+EndIsValue n rule d roots =
+    (place : Place) (waiting : List Waiting) (last : Option Waiting) (r : Readings)
+    (inner ends : List Arc) → Remains n rule d roots place waiting last r inner ends
+    → (a : Arc) (value : Bool) → Has a ends → a.target ≡ terminal value
+    → Has value (task_table n rule d roots)
+
 -- a member is a pointer from the key on, or two pointers that lie deeper than the key
 abbrev pub Stands : ℕ → Row → Type 0
 Stands key m = ((m.low ≡ m.high) × (key ≤ m.low))

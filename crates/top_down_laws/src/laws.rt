@@ -1,7 +1,7 @@
 //! The laws of what remains of a sweep from the root to the leaves. Each function does nothing:
 //! what it ensures is the law.
 ghost use Rattle.std.specs.Prelude.{ℕ};
-ghost use Rattle.top_down_laws.specs.Laws.{ForEachTask, ConstantEnds, RootIsAsked, WaitInAnyOrder, WantedIsRead, AskIsReadOn, KnownIsAnswered, NewIsNumbered, AsksForOne, NothingWaits, WrittenStands, RootStands, AsksAreSound};
+ghost use Rattle.top_down_laws.specs.Laws.{ForEachTask, ConstantEnds, RootIsAsked, WaitInAnyOrder, WantedIsRead, AskIsReadOn, KnownIsAnswered, NewIsNumbered, AsksForOne, NothingWaits, WrittenStands, RootStands, AsksAreSound, EndIsValue};
 ghost use Rattle.top_down_laws.specs.Operations.{ProductIsTask, ChoiceIsTask, QuantifyIsTask, RestrictIsTask};
 ghost use Rattle.top_down_laws.specs.Turns.{CountBegins, CountInAnyOrder, ReadIsCounted, ReadOnIsCounted, KnownIsCounted, NewIsCounted, TurnsAreFew};
 
@@ -69,6 +69,11 @@ pub fn a_sweep_ends_with_a_diagram()
 pub fn what_is_written_stands_for_the_table()
     ensures root { ForEachTask RootStands }
     ensures written { ForEachTask WrittenStands }
+{}
+
+/// Where an arc that was put leads to a truth value, that is a value of the table.
+pub fn an_arc_leads_to_a_value_of_the_table()
+    ensures { ForEachTask EndIsValue }
 {}
 
 /// Each ask that waits passes the tests of a sweep: its key is a node that a member is, all members
