@@ -42,7 +42,7 @@ made_of t begins Fresh m world made is remains = absurd (cc)
 made_of t begins (Asking s) m world made is remains = absurd (cc)
 made_of t begins (Ended x) m world made is remains =
     let same : x ≡ made = cc in
-    subst (IsMadeOf t world) same remains
+    subst (IsMadeOf t world) same remains.made_of
 
 -- so it is a diagram of the table that the operation makes, of few sources
 pub arcs_of : (operation : StepOperation) (n : ℕ) (g : Tables) (w : Work) (begins : Tuple → Tuple) (m : Machine)

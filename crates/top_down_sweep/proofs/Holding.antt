@@ -102,13 +102,13 @@ operands_still m old new are same apart reading = record {
 
 -- arcs were put
 pub holds_written : (most n : ℕ) (m q : Machine) (old new : World) (asks : List Ask)
-    → q ≡ record m { writer = q.writer } → files_in q ≡ files_in m
+    → q ≡ record m { writer = q.writer; has_one = q.has_one } → files_in q ≡ files_in m
     → AreOperands m.place.variables m.operands
     → WroteBoth n (inner_file m.writer) (ends_file m.writer) old new → Holds most m old asks
     → Holds most q new asks
 holds_written most n m q old new asks rest files are wrote hold =
-    let same : files_in (record m { writer = q.writer }) ≡ files_in m = ap files_in (sym rest)
-    ∙ files in
+    let same : files_in (record m { writer = q.writer; has_one = q.has_one }) ≡ files_in m =
+    ap files_in (sym rest) ∙ files in
     let during = ran_end old new (DuringWrites (inner_file m.writer) (ends_file m.writer) (now old))
     wrote.run in
     let unwritten : (f : FileNo) → queues.IsRunOf m.queue f
@@ -397,8 +397,8 @@ module _ {S : Type 0} (tells : S → Bool) (world : S → World) where
       (list told asks hold.wait) (fits (did.before told)) hold)
 
   -- an arc was put
-  pub written_at : (most n : ℕ) (s t : S) (m q : Machine) → q ≡ record m { writer = q.writer }
-      → files_in q ≡ files_in m → AreOperands m.place.variables m.operands
+  pub written_at : (most n : ℕ) (s t : S) (m q : Machine)
+      → q ≡ record m { writer = q.writer; has_one = q.has_one } → files_in q ≡ files_in m → AreOperands m.place.variables m.operands
       → Told tells s t (WroteBoth n (inner_file m.writer) (ends_file m.writer) (world s) (world t))
       → HoldsAt tells world most s m → HoldsAt tells world most t q
   written_at most n s t m q rest files are did holds = λ told.

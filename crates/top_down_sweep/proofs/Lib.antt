@@ -20,3 +20,5 @@ pub mod ReadKeeps
 pub mod StartKeeps
 pub mod TaskLaws
 pub mod Makings
+pub mod Somewhere
+pub mod MetOnes

@@ -41,7 +41,7 @@ use Rattle.top_down_sweep.specs.Items.{ask_words, IsAsk, ask_cmp}
 use Rattle.top_down_sweep.specs.Sweeps.{files_in, IsMade, IsServed, IsOperand, AreOperands}
 use Rattle.top_down_sweep.specs.Waiting.{Waits, AreApart}
 use Rattle.top_down_sweep.specs.Calls.{HoldsAt}
-use Rattle.top_down_sweep.specs.Meaning.{Contents, IsReadOf, AreRead, StandsFor}
+use Rattle.top_down_sweep.specs.Meaning.{Contents, IsReadOf, AreRead, StandsFor, some_one}
 use Rattle.top_down_sweep.specs.Changes.{ShowsAsk, TakesAsk, JoinAsks}
 use Rattle.top_down_sweep.proofs.OwnRuns.{serves_past}
 use Rattle.top_down_sweep.proofs.Holding.{SameApart, apart_written, apart_spilled, looked_same, runs_apart}
@@ -101,14 +101,14 @@ arcs_still w old new inner ends first second held = record {
 
 -- arcs were put
 pub stands_written : (n : ℕ) (m q : Machine) (old new : World) (k : Contents)
-    (inner ends : List Arc) → q ≡ record m { writer = q.writer } → files_in q ≡ files_in m
-    → AreOperands m.place.variables m.operands
+    (inner ends : List Arc) → q ≡ record m { writer = q.writer; has_one = q.has_one }
+    → files_in q ≡ files_in m → AreOperands m.place.variables m.operands
     → WroteBoth n (inner_file m.writer) (ends_file m.writer) old new
-    → HoldsArcs q.writer new inner ends → StandsFor m old k
+    → HoldsArcs q.writer new inner ends → q.has_one ≡ some_one ends → StandsFor m old k
     → StandsFor q new (record k { inner = inner; ends = ends })
-stands_written n m q old new k inner ends rest files are wrote held stands =
-    let same : files_in (record m { writer = q.writer }) ≡ files_in m = ap files_in (sym rest)
-    ∙ files in
+stands_written n m q old new k inner ends rest files are wrote held one stands =
+    let same : files_in (record m { writer = q.writer; has_one = q.has_one }) ≡ files_in m =
+    ap files_in (sym rest) ∙ files in
     let during = ran_end old new (DuringWrites (inner_file m.writer) (ends_file m.writer) (now old))
     wrote.run in
     let unwritten : (f : FileNo) → queues.IsRunOf m.queue f
@@ -122,6 +122,7 @@ stands_written n m q old new k inner ends rest files are wrote held stands =
       read = all_still m old new k.readings are (apart_written m n old new wrote) stands.apart
           stands.read;
       written = held;
+      one_is = one;
       no_run = λ f made. stands.no_run f (subst (λ fs. IsMade fs f) same made);
       apart = subst (λ fs. AreApart fs m.parts.step) (sym same) stands.apart;
     })
@@ -139,6 +140,7 @@ stands_spilled m q after old new k asks served are spilled took runs waits stand
       (apart_spilled m after old new (serves_past m.parts m.queue served.serves) spilled) stands.apart stands.read;
   written = arcs_still m.writer old new k.inner k.ends (untaken _ served.inner_made)
       (untaken _ served.ends_made) stands.written;
+  one_is = stands.one_is;
   no_run = runs_apart m q after served runs stands.no_run;
   apart = subst (AreApart (files_in m)) (sym took.step_is) stands.apart;
 }
@@ -162,6 +164,7 @@ stands_shown m q old new k are ran runs waits stands = record {
       stands.read;
   written = arcs_still m.writer old new k.inner k.ends (stays_same old new ran _)
       (stays_same old new ran _) stands.written;
+  one_is = stands.one_is;
   no_run = λ f made run. stands.no_run f made (runs f run);
   apart = stands.apart;
 }
@@ -177,6 +180,7 @@ stands_read m o old new k r files ran read stands = record {
   read = read;
   written = arcs_still m.writer old new k.inner k.ends (stays_same old new ran _)
       (stays_same old new ran _) stands.written;
+  one_is = stands.one_is;
   no_run = λ f made. stands.no_run f (subst (λ fs. IsMade fs f) files made);
   apart = subst (λ fs. AreApart fs m.parts.step) (sym files) stands.apart;
 }
@@ -189,6 +193,7 @@ stands_placed m q place world k rest stands = subst (λ (p : Machine). StandsFor
       asks_are = stands.asks_are;
       read = stands.read;
       written = stands.written;
+      one_is = stands.one_is;
       no_run = stands.no_run;
       apart = stands.apart;
     })

@@ -30,7 +30,7 @@ use Rattle.top_down_sweep.specs.declared.place.Phase.TheVariants as phases
 use Rattle.top_down_sweep.specs.declared.machine.Machine.{Machine}
 use Rattle.top_down_sweep.specs.Members.{want, all_filled, all_waiting, least}
 use Rattle.top_down_sweep.specs.Soundness.{identifier, next_numbered, known}
-use Rattle.top_down_sweep.specs.Meaning.{Task, waiting_of, Contents, StandsFor, IsLeft, IsWorking, IsHandling, IsFresh, first_contents, AreFilesOf, IsMadeOf, RemainsIn, RemainsOf, WorksIn, WorksOn, IsMadeWhere}
+use Rattle.top_down_sweep.specs.Meaning.{Task, waiting_of, Contents, StandsFor, IsLeft, IsWorking, IsHandling, IsFresh, first_contents, AreFilesOf, IsDone, RemainsIn, RemainsOf, WorksIn, WorksOn, IsMadeWhere}
 use Rattle.top_down_sweep.specs.Changes.{ShowsAsk, JoinAsks, AsksInstead, ServesSide, side_asks, goal_below, ask_for}
 use Rattle.top_down_sweep.specs.Sweeps.{made_at}
 use Rattle.top_down_sweep.proofs.FormsOf.{IsKnown, is_unknown}
@@ -245,25 +245,29 @@ module _ (t : Task) (s : Asking) (a : Ask) (m q : Machine) (old new : World)
 
 -- the sweep ended
 made_remains : (t : Task) (begins : Tuple → Tuple) (q : Machine) (new : World) (made : Unreduced)
-    → q.place.phase ≡ phases.Ended made → IsMadeOf t new made → RemainsOf t begins q new
+    → q.place.phase ≡ phases.Ended made → IsDone t q new made → RemainsOf t begins q new
 made_remains t begins q new made is done = subst (λ p. RemainsIn t begins p q new) (sym is) done
 
 pub ended_remains : (t : Task) (begins : Tuple → Tuple) (s : Asking) (m n q : Machine)
     (old mid new : World) (made : Unreduced) (h : IsWorking t s m old)
     → ShowsAsk n mid h.contents None → made.root ≡ s.root → q.place.phase ≡ phases.Ended made
+    → q.has_one ≡ n.has_one
     → ((k : Contents) → StandsFor n mid k → AreFilesOf made new k.inner k.ends)
     → RemainsOf t begins q new
-ended_remains t begins s m n q old mid new made h (none, stands) root phase files =
+ended_remains t begins s m n q old mid new made h (none, stands) root phase one files =
     let k = h.contents in
     let whole = nothing_waits t.n t.rule t.diagrams t.roots t.is_task
     (laws.at_place s.root _) (option_map waiting_of (queues.last_of m.queue)) k.readings k.inner
     k.ends (subst (λ (xs : List Ask). IsLeft t s (queues.last_of m.queue) (record k { asks = xs }))
     none h.left) in
     made_remains t begins q new made phase (record {
-      inner = k.inner;
-      ends = k.ends;
-      whole = subst (λ r. IsWhole t.n t.rule t.diagrams t.roots r k.inner k.ends) (sym root) whole;
-      files = files k stands;
+      made_of = record {
+        inner = k.inner;
+        ends = k.ends;
+        whole = subst (λ r. IsWhole t.n t.rule t.diagrams t.roots r k.inner k.ends) (sym root) whole;
+        files = files k stands;
+      };
+      one_is = one ∙ stands.one_is;
     })
 
 -- no tuple is met where the roots' is constant
@@ -274,27 +278,30 @@ none_met t targets value is x (laws.Below y z side met goes) = none_met t target
 
 pub constant_remains : (t : Task) (begins : Tuple → Tuple) (m q : Machine) (old new : World)
     (value : Bool) (made : Unreduced) → IsFresh t begins m old → t.rule.goal t.roots ≡ End value
-    → made.root ≡ terminal value → q.place.phase ≡ phases.Ended made
+    → made.root ≡ terminal value → q.place.phase ≡ phases.Ended made → q.has_one ≡ m.has_one
     → ((k : Contents) → StandsFor m old k → AreFilesOf made new k.inner k.ends)
     → RemainsOf t begins q new
-constant_remains t begins m q old new value made fresh is root phase files =
+constant_remains t begins m q old new value made fresh is root phase one files =
     made_remains t begins q new made phase (record {
-      inner = [];
-      ends = [];
-      whole = record {
-        diagram = subst (λ r. IsDiagramOf t.n r [] (task_table t.n t.rule t.diagrams t.roots)) (sym root)
-            (constant_ends t.n t.rule t.diagrams t.roots t.is_task value is);
-        inner_order = λ k d from within. absurd (omega (arith, within));
-        end_order = λ k d from within. absurd (omega (arith, within));
-        inner_lead = λ k d within. absurd (omega (arith, within));
-        ends_lead = λ k d within. absurd (omega (arith, within));
-        tuples = [];
-        different = tt;
-        are_met = λ x has. absurd has;
-        all_met = λ x met. absurd (none_met t _ value is x met);
-        two_each = refl;
+      made_of = record {
+        inner = [];
+        ends = [];
+        whole = record {
+          diagram = subst (λ r. IsDiagramOf t.n r [] (task_table t.n t.rule t.diagrams t.roots)) (sym root)
+              (constant_ends t.n t.rule t.diagrams t.roots t.is_task value is);
+          inner_order = λ k d from within. absurd (omega (arith, within));
+          end_order = λ k d from within. absurd (omega (arith, within));
+          inner_lead = λ k d within. absurd (omega (arith, within));
+          ends_lead = λ k d within. absurd (omega (arith, within));
+          tuples = [];
+          different = tt;
+          are_met = λ x has. absurd has;
+          all_met = λ x met. absurd (none_met t _ value is x met);
+          two_each = refl;
+        };
+        files = files (first_contents t) fresh.stands;
       };
-      files = files (first_contents t) fresh.stands;
+      one_is = one ∙ fresh.stands.one_is;
     })
 
 -- the root was asked for
@@ -333,7 +340,7 @@ pub made_where : (t : Task) (begins : Tuple → Tuple) (p : Phase) (m : Machine)
     → RemainsIn t begins p m world → IsMadeWhere t world (made_at p)
 made_where t begins phases.Fresh m world remains = tt
 made_where t begins (phases.Asking s) m world remains = tt
-made_where t begins (phases.Ended made) m world remains = remains
+made_where t begins (phases.Ended made) m world remains = remains.made_of
 
 -- as many turns remain of the same lists
 pub fewer_since : (t : Task) (s : Asking) (m n q : Machine) (old mid new : World)

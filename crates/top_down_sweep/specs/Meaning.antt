@@ -1,5 +1,7 @@
 -- What a sweep from the root down stands for as lists, and what remains of its task.
-use Rattle.std.specs.Prelude.{◌≡◌, ℕ, List, [], ◌∷◌, map, Bool, Option, Some, None, option_map}
+use Rattle.std.specs.Prelude.{◌≡◌, ◌==◌, ℕ, List, [], ◌∷◌, map, Bool, true, Option, Some, None, option_map}
+use Rattle.std.specs.List.{list_any}
+use Rattle.rec_words.specs.Words.{terminal}
 use Rattle.rec_words.specs.declared.node.Node.{Node}
 use Rattle.shelf_model.specs.declared.file_no.FileNo.{FileNo}
 use Rattle.shelf_model.specs.World.{World, file}
@@ -87,11 +89,19 @@ pub record AreRead (o : Operands) (world : World) (r : Readings) : Type 0 where
   pub second : IsReadOf o.second world r.second
   pub third : IsReadOf o.third world r.third
 
+-- an arc leads to the truth value 1, and one of those of a list does
+abbrev pub leads_to_one : Arc → Bool
+leads_to_one a = a.target == terminal true
+
+abbrev pub some_one : List Arc → Bool
+some_one arcs = list_any leads_to_one arcs
+
 -- in that world the machine stands for these lists, and none of its files is another one of them
 pub record StandsFor (m : Machine) (world : World) (k : Contents) : Type 0 where
   pub asks_are : Waits m.queue world k.asks
   pub read : AreRead m.operands world k.readings
   pub written : HoldsArcs m.writer world k.inner k.ends
+  pub one_is : m.has_one ≡ some_one k.ends
   pub no_run : (f : FileNo) → IsMade (files_in m) f → ¬ queues.IsRunOf m.queue f
   pub apart : AreApart (files_in m) m.parts.step
 
@@ -143,11 +153,16 @@ pub record IsMadeOf (t : Task) (world : World) (made : Unreduced) : Type 0 where
   pub whole : IsWhole t.n t.rule t.diagrams t.roots made.root inner ends
   pub files : AreFilesOf made world inner ends
 
+-- and whether one of them leads to 1 is known
+pub record IsDone (t : Task) (m : Machine) (world : World) (made : Unreduced) : Type 0 where
+  pub made_of : IsMadeOf t world made
+  pub one_is : m.has_one ≡ some_one made_of.ends
+
 -- what remains of the task in each phase
 abbrev pub RemainsIn : Task → (Tuple → Tuple) → Phase → Machine → World → Type 0
 RemainsIn t begins phases.Fresh m world = IsFresh t begins m world
 RemainsIn t begins (phases.Asking s) m world = IsWorking t s m world
-RemainsIn t begins (phases.Ended made) m world = IsMadeOf t world made
+RemainsIn t begins (phases.Ended made) m world = IsDone t m world made
 
 abbrev pub RemainsOf : Task → (Tuple → Tuple) → Machine → World → Type 0
 RemainsOf t begins m world = RemainsIn t begins m.place.phase m world

@@ -1,9 +1,9 @@
 -- What is seen of a sweep from the root down, and what it keeps between turns.
-use Rattle.std.specs.Prelude.{◌≡◌, ◌⊎◌, ℕ, ◌^◌, ◌≤◌, Option, Some, None, IsSome, IfSome}
+use Rattle.std.specs.Prelude.{◌≡◌, ◌⊎◌, ℕ, ◌==◌, ◌||◌, ◌^◌, ◌≤◌, Bool, true, false, Option, Some, None, IsSome, IfSome}
 use Rattle.shelf_model.specs.declared.file_no.FileNo.{FileNo}
 use Rattle.shelf_model.specs.declared.sort_fault.SortFault.{SortFault}
 use Rattle.shelf_model.specs.declared.sort_fault.SortFault.TheVariants.{Shelf, Damaged, RunsSpent}
-use Rattle.rec_words.specs.Words.{level_of}
+use Rattle.rec_words.specs.Words.{level_of, terminal}
 use Rattle.canon_file.specs.NodeFiles.{IsProper}
 use Rattle.rec_words.specs.declared.node.Node.{Node}
 use Rattle.node_file.specs.declared.reader.NodeReader.{NodeReader}
@@ -187,6 +187,14 @@ IsSound s = IsSoundMachine s.machine
 
 abbrev pub Refused : {O : Type 0} → TopDownSweep O → SortFault → Type 0
 Refused s e = Refuses s.machine e
+
+-- the truth value 1 was met: an arc that was put leads to it or, once all is made, it is the root
+abbrev pub has_root_one : Option Unreduced → Bool
+has_root_one None = false
+has_root_one (Some made) = made.root == terminal true
+
+abbrev pub meets_one : {O : Type 0} → TopDownSweep O → Bool
+meets_one s = s.machine.has_one || has_root_one (made_in s)
 
 -- what a sweep of that kind may change, and what it owes
 abbrev pub accounts : (O : Type 0) → Accounts (TopDownSweep O)

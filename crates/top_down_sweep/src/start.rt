@@ -107,6 +107,7 @@ impl<'r, O: Operation> TopDownSweep<'r, O> {
                 operands,
                 queue: LevelQueue::start(asking),
                 writer,
+                has_one: false,
                 parts,
             },
         })

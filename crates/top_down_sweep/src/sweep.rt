@@ -3,6 +3,7 @@ use crate::Operation;
 use crate::machine::Machine;
 use crate::place::Phase;
 use arc_file::Unreduced;
+use rec_words::Ptr;
 use run_merge::Parts;
 use shelf_model::{Shelf, SortFault};
 use sweep_core::{Sweep, Turn};
@@ -39,19 +40,63 @@ impl<'r, O> TopDownSweep<'r, O> {
 }
 
 impl<'r, O: Operation> TopDownSweep<'r, O> {
-    ghost use Rattle.std.specs.Prelude.{◌≡◌, IsTrue, IsSome, OnOk, IfOk, IfErr, IfSome};
+    ghost use Rattle.std.specs.Prelude.{◌≡◌, true, false, IsTrue, IsSome, OnOk, IfOk, IfErr, IfSome};
     ghost use Rattle.shelf_model.specs.declared.file_no.FileNo.{FileNo};
-    ghost use Rattle.shelf_model.specs.World.{file};
+    ghost use Rattle.shelf_model.specs.World.{World, file};
+    ghost use Rattle.canon_file.specs.Members.{Has};
     ghost use Rattle.sweep_core.specs.Accounts.{Leaves};
     ghost use Rattle.sweep_core.specs.Sweeps.{Falls, AtEnd, IsFirm, StaysEnded};
-    ghost use Rattle.top_down_sweep.specs.Sweeps.{files_of, task_of, made_in, accounts, IsMade, HasMade, IsSound, MakesAtEnd, Refused};
+    ghost use Rattle.top_down_sweep.specs.Sweeps.{files_of, task_of, made_in, accounts, meets_one, IsMade, HasMade, IsSound, MakesAtEnd, Refused};
     ghost use Rattle.top_down_sweep.specs.Fuel.{fuel_of};
     ghost use Rattle.top_down_sweep.specs.Damage.{IsDamage};
     ghost use Rattle.top_down_sweep.specs.Calls.{IsInStep};
     ghost use Rattle.sweep_core.specs.Sweeps.{IsNoDamage};
     ghost use Rattle.sweep_core.specs.Sweeps.{MovesOn};
-    ghost use Rattle.top_down_sweep.specs.Meaning.{Task, Remains, IsMadeWhere};
+    ghost use Rattle.top_down_sweep.specs.Meaning.{Task, Remains, IsMadeWhere, table_of};
     ghost use Rattle.top_down_sweep.specs.Turns.{Work, left_of};
+
+    /// Whether the truth value 1 was met: an arc that was put leads to it or, once all is made, it is the root. The table
+    /// that is made has a 1 then, and once all is made only then.
+    pub fn meets_one(&self) -> bool
+        ensures is { result ≡ meets_one self.now }
+        ensures value { result ≡ true → (world : World) → (t : Task) →
+            Remains O.rule O.begins self.now world t → Has true (table_of t) }
+        ensures none { result ≡ false → IsSome (made_in self.now) → (world : World) → (t : Task) →
+            Remains O.rule O.begins self.now world t → Has true (table_of t) → ⊥ }
+    {
+        self.machine.has_one
+            || match self.machine.place.phase {
+                Phase::Ended(made) => made.root == Ptr::terminal(true),
+                _ => false,
+            }
+    }
+
+    /// Ends, whether all is made or not. Where it wasn't, the arcs that were put stand in their files, and are no diagram.
+    pub fn end_early<S: Shelf>(&mut self, shelf: &mut S) -> Result<(), SortFault>
+        requires ready { IsSound self.old }
+        requires in_step { IsTrue (S.tells shelf.old) → IsInStep self.old (S.world shelf.old) }
+        ensures ready { OnOk result (IsSound self.new) }
+        ensures in_step { OnOk result (IsTrue (S.tells shelf.new) → IsInStep self.new (S.world shelf.new)) }
+        ensures files { files_of self.new ≡ files_of self.old }
+        ensures same { task_of self.new ≡ task_of self.old }
+        ensures operation { self.new.operation ≡ self.old.operation }
+        ensures made { OnOk result (IsSome (made_in self.new)) }
+        ensures fuel { OnOk result (fuel_of self.new ≡ 0) }
+        ensures firm { OnOk result (IsTrue (S.tells shelf.new) → (f : FileNo) → IsMade (files_of self.new) f →
+            IsFirm (file (S.world shelf.new) f)) }
+        ensures leaves { Leaves S.tells S.world S.faults
+            (accounts O) 4 0 shelf.old shelf.new self.old self.new result }
+        ensures refused { IfErr result (Refused self.new) }
+        ensures undamaged { IfErr result IsNoDamage }
+    {
+        match self.machine.place.phase {
+            Phase::Ended(_made) => Ok(()),
+            _ => {
+                self.machine.end(Ptr::terminal(true), shelf)?;
+                Ok(())
+            }
+        }
+    }
 
     /// Handles one ask or reads one node, or ends the sweep. Once it has ended, each further turn answers so and does
     /// nothing.

@@ -16,10 +16,10 @@ impl<'r> Machine<'r> {
     ghost use Rattle.top_down_sweep.specs.declared.place.Phase.TheVariants as phases;
     ghost use Rattle.top_down_sweep.specs.Sweeps.{IsSoundMachine};
     ghost use Rattle.top_down_sweep.specs.Calls.{Does, IsFit, IsMachineInStep, HoldsAt};
-    ghost use Rattle.std.specs.Prelude.{IfErr, ◌++◌};
+    ghost use Rattle.std.specs.Prelude.{IfErr, ◌++◌, ◌||◌};
     ghost use Rattle.arc_file.specs.Files.{end_arcs};
     ghost use Rattle.sweep_core.specs.Sweeps.{IsNoDamage};
-    ghost use Rattle.top_down_sweep.specs.Meaning.{Contents, StandsFor, AreFilesOf};
+    ghost use Rattle.top_down_sweep.specs.Meaning.{Contents, StandsFor, AreFilesOf, leads_to_one};
 
     /// Puts an arc into the file that its target chooses.
     pub(crate) fn put<S: Shelf>(&mut self, arc: Arc, shelf: &mut S) -> Result<(), SortFault>
@@ -28,7 +28,8 @@ impl<'r> Machine<'r> {
         ensures fit { OnOk result (IsFit S.tells S.world shelf.new self.new) }
         ensures holds { (most : ℕ) → HoldsAt S.tells S.world most shelf.old self.old →
             OnOk result (HoldsAt S.tells S.world most shelf.new self.new) }
-        ensures rest { self.new ≡ record self.old { writer = self.new.writer } }
+        ensures rest { self.new ≡ record self.old { writer = self.new.writer; has_one = self.new.has_one } }
+        ensures one { self.new.has_one ≡ (self.old.has_one || leads_to_one arc) }
         ensures count { OnOk result
             (inner_count self.new.writer ≡ inner_count self.old.writer + length (inner_arcs (arc ∷ []))) }
         ensures written { OnOk result (IsTrue (S.tells shelf.new) → (k : Contents) →
@@ -36,6 +37,7 @@ impl<'r> Machine<'r> {
             (record k { inner = k.inner ++ inner_arcs (arc ∷ []); ends = k.ends ++ end_arcs (arc ∷ []) })) }
         ensures undamaged { IfErr result IsNoDamage }
     {
+        self.has_one = self.has_one || arc.target == Ptr::terminal(true);
         self.writer.put(arc, shelf)?;
         Ok(())
     }
@@ -47,6 +49,7 @@ impl<'r> Machine<'r> {
         ensures sound { OnOk result (IsSoundMachine self.new) }
         ensures in_step { OnOk result (IsTrue (S.tells shelf.new) → IsMachineInStep self.new (S.world shelf.new)) }
         ensures turn { IfOk result (λ turn. turn ≡ turns.Ended) }
+        ensures one { self.new.has_one ≡ self.old.has_one }
         ensures made { OnOk result (self.new.place.phase ≡ phases.Ended (made_of self.new.writer root)) }
         ensures files { OnOk result (IsTrue (S.tells shelf.new) → (k : Contents) →
             StandsFor self.old (S.world shelf.old) k →

@@ -18,7 +18,7 @@ returns-in-End-clause-keeps g c = on_ok_both c.end.result (λ phase files told t
     _ c.in-End.value _ fresh
     (ap (λ (r : Rule). r.goal t.roots) rule ∙ ap (g.O.Operation.rule c.args.operation.now).goal (sym (c.roots-roots.ensures ∙ ap (g.O.Operation.begins c.args.operation.now) c.roots.ensures ∙ fresh.roots_are))
     ∙ sym c.goal.ensures ∙ c.in-End.is)
-    c.terminal.ensures phase (files told)) c.end.ensures.made c.end.ensures.files
+    c.terminal.ensures phase c.end.ensures.one (files told)) c.end.ensures.made c.end.ensures.files
 
 -- and otherwise the root is asked for
 pub returns-in_ok-ask_first-in-Go-clause-keeps : goal.returns-in_ok-ask_first-in-Go-clause-keeps

@@ -87,7 +87,7 @@ returns-in_default-clause-keeps g c = on_ok_both c.end.result (λ phase files to
     (subst (λ found. ShowsAsk c.first_ask.new.self
     (g.S.Shelf.world c.first_ask.new.shelf) h.contents found) c.in_default.is
     (c.in_ok-ask.ensures.list (c.end.ensures.does.leaves.content.before told) h.contents h.stands))
-    c.ptr.ensures.value phase (files told)) c.end.ensures.made c.end.ensures.files
+    c.ptr.ensures.value phase c.end.ensures.one (files told)) c.end.ensures.made c.end.ensures.files
 
 -- and what the handling of the first one leaves remains
 pub returns-clause-keeps : goal.returns-clause-keeps

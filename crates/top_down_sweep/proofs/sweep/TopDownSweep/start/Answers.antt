@@ -1,5 +1,5 @@
 use Rattle.top_down_sweep.specs.Meaning.{first_contents}
-use Rattle.std.proofs.Common.{◌+◌, ◌*◌, ◌≡◌, ap, inl, ◌∙◌, [], sym, subst, arith}
+use Rattle.std.proofs.Common.{◌+◌, ◌*◌, ◌≡◌, ap, inl, ◌∙◌, [], false, refl, sym, subst, arith}
 use Rattle.std.specs.Prelude.{length}
 use Rattle.top_down_sweep.proofs.TurnNumbers.{unread_is}
 use Rattle.top_down_laws.specs.Laws.{unread_all}
@@ -46,6 +46,7 @@ returns-clause-in_step g c told =
       operands = c.in_ok-operands.operands;
       queue = c.start-3.result;
       writer = c.in_ok-writer.writer;
+      has_one = false;
       parts = c.args.parts;
     } in
     let files = c.in_ok-writer.ensures.files in (
@@ -78,6 +79,7 @@ returns-clause-remains g c told t is =
       operands = c.in_ok-operands.operands;
       queue = c.start-3.result;
       writer = c.in_ok-writer.writer;
+      has_one = false;
       parts = c.args.parts;
     } in
     let made = c.in_ok-writer.ensures.files in
@@ -101,6 +103,7 @@ returns-clause-remains g c told t is =
               (λ f is_apart. others_uncut 2 c.args.files.inner c.args.files.ends f _ _ (c.start-2.ensures.content.did told) (λ it. is_apart.not_inner (it ∙ sym made.0)) (λ it. is_apart.not_ends (it ∙ sym made.1)))
               apart unread.read;
           written = c.in_ok-writer.ensures.arcs told;
+          one_is = refl;
           no_run = λ f own run. c.start-3.ensures.runs f run;
           apart = apart;
         };
@@ -124,6 +127,7 @@ returns-clause-left g c told w is =
       operands = c.in_ok-operands.operands;
       queue = c.start-3.result;
       writer = c.in_ok-writer.writer;
+      has_one = false;
       parts = c.args.parts;
     } in
     ap (λ nodes. 6 * length w.tuples + nodes + 5) (unread_is m
