@@ -1,4 +1,2 @@
-mod Somewhere
-pub mod Refuting
-mod Search
+mod Refuting
 mod Turning

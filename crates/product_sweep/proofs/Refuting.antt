@@ -1,64 +1,60 @@
--- What the arcs of "left and not right" say of two tables, and the work that it is.
-use Rattle.std.specs.Prelude.{◌≡◌, ◌↔◌, ◌⊎◌, ℕ, zero, suc, ◌+◌, ◌^◌, ◌≤◌, Bool, true, false, List, [], ◌∷◌, ◌++◌, length, All}
-use Rattle.std.proofs.Common.{refl, sym, ◌∙◌, ap, subst, inl, inr, true≢false}
-use Rattle.std.specs.List.{flat_map}
-use Rattle.list_laws.specs.Members.{Has}
-use Rattle.list_laws.proofs.SameMembers.{contains_from_has}
-use Rattle.bool_tables.specs.Tables.{is_leq}
-use Rattle.bool_tables.specs.Steps.{step_table}
+-- What the table of "left and not right" says of two tables, and the work that it is.
+use Rattle.std.specs.Prelude.{◌≡◌, ◌↔◌, ℕ, zero, suc, ◌+◌, ◌^◌, Bool, true, false, List, [], ◌∷◌, length, map}
+use Rattle.std.proofs.Common.{refl, sym, ap, subst, true≢false}
+use Rattle.std.specs.List.{range_with_len, flat_map}
+use Rattle.list_laws.proofs.MemberLaws.{has_map, map_has}
+use Rattle.bool_tables.specs.Tables.{is_leq, value_at}
+use Rattle.bool_tables.specs.Steps.{op_value, step_table}
 use Rattle.bool_tables.specs.declared.steps.Bin.{Bin}
 use Rattle.bool_tables.specs.declared.steps.Step.TheVariants.{Pair, Leq}
-use Rattle.rec_words.specs.Words.{terminal}
-use Rattle.arc_file.specs.declared.arc.Arc.{Arc}
-use Rattle.arc_file.specs.declared.kind.Kind.TheVariants.{Inner}
-use Rattle.arc_file.specs.Files.{Leads}
-use Rattle.arc_diagrams.specs.Arcs.{IsMet}
-use Rattle.arc_diagrams.specs.Laws.{IsDiagramOf}
+use Rattle.canon_file.specs.Members.{Has}
 use Rattle.step_work.specs.Tuples.{tuple_count, tuples_from, both_sides, split_tuples}
+use Rattle.top_down.specs.Operations.{implies}
+use Rattle.top_down.proofs.ImplicationLaws.{implication_answers}
 use Rattle.product_sweep.specs.Implications.{and_not}
-use Rattle.product_sweep.proofs.Somewhere.{one_somewhere, met_at_end, leq_nowhere}
 
--- what all of a list are, each of them is
-each_is : {X : Type 0} (P : X → Type 0) (xs : List X) → All P xs → (x : X) → Has x xs → P x
-each_is P xs all x m = let (k, below, is) = contains_from_has x xs m in subst P is (all k x below)
+-- where it is 1 the implication is 0, and the other way round
+refuted_at : (b c : Bool) → op_value and_not b c ≡ true → op_value implies b c ≡ false
+refuted_at true true e = sym e
+refuted_at true false e = refl
+refuted_at false true e = absurd (true≢false (sym e))
+refuted_at false false e = absurd (true≢false (sym e))
 
--- a list of truth values has 1 or has none
-one_or_none : (xs : List Bool) → Has true xs ⊎ (Has true xs → ⊥)
-one_or_none [] = inr (λ m. m)
-one_or_none (true ∷ xs) = inl (inl refl)
-one_or_none (false ∷ xs) = elim (one_or_none xs) [
-  | inl m ↦ inl (inr m)
-  | inr none ↦ inr (λ m. elim m [ inl same ↦ true≢false (sym same) | inr k ↦ none k ])
-]
+refutes_at : (b c : Bool) → op_value implies b c ≡ false → op_value and_not b c ≡ true
+refutes_at true true e = sym e
+refutes_at true false e = refl
+refutes_at false true e = sym e
+refutes_at false false e = sym e
 
--- the arcs to truth values decide whether the left table implies the right one
-pub decides_leq : (n : ℕ) (t u : List Bool) (root : ℕ) (inner ends : List Arc) → n ≤ 65535
-    → length t ≡ 2 ^ n → length u ≡ 2 ^ n → All (Leads Inner) inner
-    → IsDiagramOf n root (inner ++ ends) (step_table n (t ∷ u ∷ []) (Pair and_not 0 1))
-    → IsMet root ends (terminal true) ↔ (is_leq t u ≡ false)
-decides_leq n t u root inner ends few long_t long_u leads diagram = (
-  λ met. other (is_leq t u) (λ below. leq.0 below (says.1 (at_end.1 met))),
-  λ no. elim (one_or_none table) [
-    | inl one ↦ at_end.0 (says.0 one)
-    | inr none ↦ absurd (true≢false (sym (leq.1 none) ∙ no))
-  ],
-)
+-- a value of one map is somewhere where one of the other is
+has_other : (f g : ℕ → Bool) (b c : Bool) (xs : List ℕ) → ((p : ℕ) → f p ≡ b → g p ≡ c) → Has b (map f xs)
+    → Has c (map g xs)
+has_other f g b c xs follows m =
+    let (p, k, e) = map_has f b xs m in
+    subst (λ v. Has v (map g xs)) (follows p e) (has_map g p xs k)
+
+-- one table is nowhere above another exactly where that of "left and not right" is nowhere 1
+pub leq_nowhere : (n : ℕ) (t u : List Bool) → length t ≡ 2 ^ n → length u ≡ 2 ^ n
+    → (is_leq t u ≡ true) ↔ (Has true (step_table n (t ∷ u ∷ []) (Pair and_not 0 1)) → ⊥)
+leq_nowhere n t u long_t long_u =
+    let answers = implication_answers n t u long_t long_u in (
+      λ leq one. answers.0 leq (has_other (value_of and_not) (value_of implies) true false (range_with_len 0 (2 ^ n))
+          (λ p. refuted_at (value_at t p) (value_at u p)) one),
+      λ none. answers.1 (λ zeros. none (has_other (value_of implies) (value_of and_not) false true
+          (range_with_len 0 (2 ^ n)) (λ p. refutes_at (value_at t p) (value_at u p)) zeros)),
+    )
   where
-    table : List Bool
-    table = step_table n (t ∷ u ∷ []) (Pair and_not 0 1)
+    value_of : Bin → ℕ → Bool
+    value_of op p = op_value op (value_at t p) (value_at u p)
 
-    says : Has true table ↔ IsMet root (inner ++ ends) (terminal true)
-    says = one_somewhere n root (inner ++ ends) table few diagram
-
-    at_end : IsMet root (inner ++ ends) (terminal true) ↔ IsMet root ends (terminal true)
-    at_end = met_at_end root inner ends (each_is (Leads Inner) inner leads)
-
-    leq : (is_leq t u ≡ true) ↔ (Has true table → ⊥)
-    leq = leq_nowhere n t u long_t long_u
-
-    other : (b : Bool) → (b ≡ true → ⊥) → b ≡ false
-    other true apart = absurd (apart refl)
-    other false apart = refl
+-- so one 1 decides that it is
+pub refuted : (n : ℕ) (t u : List Bool) → length t ≡ 2 ^ n → length u ≡ 2 ^ n
+    → Has true (step_table n (t ∷ u ∷ []) (Pair and_not 0 1)) → false ≡ is_leq t u
+refuted n t u long_t long_u one = by (is_leq t u) (λ leq. (leq_nowhere n t u long_t long_u).0 leq one)
+  where
+    by : (b : Bool) → (b ≡ true → ⊥) → false ≡ b
+    by true apart = absurd (apart refl)
+    by false apart = refl
 
 -- the comparison joins the tuples that an operator joins
 tuples_same : (op : Bin) (h i : ℕ) (tuples : List (List (List Bool)))

@@ -1,5 +1,5 @@
 -- Whether one function implies another, seen as a sweep: what remains of that, and how many turns.
-use Rattle.std.specs.Prelude.{◌≡◌, ◌↔◌, ℕ, ◌+◌, ◌*◌, ◌^◌, Bool, true, false, IsTrue, List, [], ◌∷◌, Option, Some, None, IsSome, IfSome, Result, OnOk, IfErr, IsErrOf, ◌≤◌}
+use Rattle.std.specs.Prelude.{◌≡◌, ◌↔◌, ℕ, ◌+◌, ◌^◌, Bool, true, false, IsTrue, List, [], ◌∷◌, Option, Some, None, IsSome, IfSome, Result, OnOk, IfErr, IsErrOf, ◌≤◌}
 use Rattle.bool_tables.specs.Tables.{is_leq}
 use Rattle.bool_tables.specs.declared.steps.Bin.{Bin}
 use Rattle.bool_tables.specs.declared.steps.Step.TheVariants.{Pair}
@@ -9,8 +9,6 @@ use Rattle.shelf_model.specs.declared.sort_fault.SortFault.{SortFault}
 use Rattle.shelf_model.specs.declared.sort_fault.SortFault.TheVariants.{RunsSpent}
 use Rattle.shelf_model.specs.Faults.{Faults}
 use Rattle.shelf_model.specs.World.{World, file}
-use Rattle.arc_file.specs.declared.arc.Arc.{Arc}
-use Rattle.arc_file.specs.declared.unreduced.Unreduced.{Unreduced}
 use Rattle.sweep_core.specs.Accounts.{Accounts, Leaves}
 use Rattle.sweep_core.specs.Sweeps.{Falls, MovesOn, AtEnd, IsFirm, StaysEnded, IsNoDamage}
 use Rattle.sweep_core.specs.declared.turn.Turn.{Turn}
@@ -24,9 +22,8 @@ use Rattle.top_down_sweep.specs.Fuel as fuel
 use Rattle.top_down_sweep.specs.Making.{accounts_along}
 use Rattle.top_down_sweep.specs.Sweeps as sweeps
 use Rattle.product_sweep.specs.declared.leq.LeqPhase.{LeqPhase}
-use Rattle.product_sweep.specs.declared.leq.LeqPhase.TheVariants.{Making, Reading, Answered}
+use Rattle.product_sweep.specs.declared.leq.LeqPhase.TheVariants.{Making, Answered}
 use Rattle.product_sweep.specs.declared.leq.LeqSweep.{LeqSweep}
-use Rattle.product_sweep.specs.Ones.{HasEnds, IsSomewhereOne, IsEndsFault}
 use Rattle.product_sweep.specs.Products.{sweep_of, MakesTable}
 
 -- two tables of n variables, of which the left one may imply the right one everywhere
@@ -50,31 +47,26 @@ product_in s = sweep_of s.product
 -- the answer, once it has ended
 abbrev pub answer_at : LeqPhase → Option Bool
 answer_at Making = None
-answer_at (Reading left) = None
 answer_at (Answered b) = Some b
 
 abbrev pub answer_of : LeqSweep → Option Bool
 answer_of s = answer_at s.phase
 
--- what falls with each turn: while arcs are made, the fuel of that and one for each arc that may be made; then one for
--- each that is left
+-- what falls with each turn: while arcs are made, the fuel of that and one
 abbrev pub fuel_at : LeqPhase → ℕ → ℕ
-fuel_at Making making = making + 2 ^ 46 + 2
-fuel_at (Reading left) making = left.ends_count + 1
+fuel_at Making making = making + 1
 fuel_at (Answered b) making = 0
 
 abbrev pub fuel_of : LeqSweep → ℕ
 fuel_of s = fuel_at s.phase (fuel.fuel_of (product_in s))
 
--- no more turns than these remain: while arcs are made, those of that and two for each tuple that may be met; then one
--- for each arc that is left
-abbrev pub left_at : LeqPhase → ℕ → ℕ → ℕ
-left_at Making making tuples = making + 2 * tuples + 2
-left_at (Reading left) making tuples = left.ends_count + 1
-left_at (Answered b) making tuples = 0
+-- no more turns than these remain: while arcs are made, those of that
+abbrev pub left_at : LeqPhase → ℕ → ℕ
+left_at Making making = making
+left_at (Answered b) making = 0
 
 abbrev pub turns_left : LeqSweep → World → Implication → ℕ
-turns_left s world d = left_at s.phase (turns_of (product_in s) world (refutation d)) (refutation d).tuples
+turns_left s world d = left_at s.phase (turns_of (product_in s) world (refutation d))
 
 -- it makes the files of arcs, and takes parts for the queue
 abbrev pub accounts : Accounts LeqSweep
@@ -84,24 +76,17 @@ accounts = accounts_along product_in (sweeps.accounts Product)
 abbrev pub task_of : LeqSweep → sweeps.SweepTask
 task_of s = sweeps.task_of (product_in s)
 
--- what is true of it whatever the folder holds: the arcs that are left are of its files
-abbrev pub IsPhase : LeqPhase → TopDownSweep Product → Type 0
-IsPhase Making p = Unit
-IsPhase (Reading left) p = sweeps.HasMade (sweeps.files_of p).inner (sweeps.files_of p).ends left
-IsPhase (Answered b) p = Unit
+-- what is true of it whatever the folder holds
+abbrev pub IsReady : LeqSweep → Type 0
+IsReady s = top.IsReady (product_in s)
 
-pub record IsReady (s : LeqSweep) : Type 0 where
-  pub product : top.IsReady (product_in s)
-  pub phase : IsPhase s.phase (product_in s)
-
--- once the arcs are made, they stand in their files whatever a stop leaves
+-- once it is answered, the arcs that were made stand in their files whatever a stop leaves
 abbrev pub AreFirm : LeqSweep → World → Type 0
 AreFirm s world = (f : FileNo) → accounts.makes s f → IsFirm (file world f)
 
 -- its files hold what it takes them to hold
 abbrev pub IsInStepAt : LeqPhase → LeqSweep → World → Type 0
 IsInStepAt Making s world = calls.IsInStep (product_in s) world
-IsInStepAt (Reading left) s world = AreFirm s world
 IsInStepAt (Answered b) s world = AreFirm s world
 
 abbrev pub IsInStep : LeqSweep → World → Type 0
@@ -113,26 +98,17 @@ pub record IsToBeMade (s : LeqSweep) (world : World) (d : Implication) : Type 0 
   pub right_form : HasForm d.n d.right
   pub makes : MakesTable s.product world (refutation d)
 
--- the left function doesn't imply the right one exactly where the truth value 1 is the root or an arc that is left
--- leads to it
-pub record IsToBeFound (left : Unreduced) (world : World) (d : Implication) : Type 0 where
-  pub ends : List Arc
-  pub has_ends : HasEnds left world ends
-  pub decides : IsSomewhereOne left ends ↔ (is_leq d.left d.right ≡ false)
-
--- what remains: arcs are made, they are read, and the answer is right
+-- what remains: arcs are made, and the answer is right
 abbrev pub RefutesAt : LeqPhase → LeqSweep → World → Implication → Type 0
 RefutesAt Making s world d = IsToBeMade s world d
-RefutesAt (Reading left) s world d = IsToBeFound left world d
 RefutesAt (Answered b) s world d = b ≡ is_leq d.left d.right
 
 abbrev pub Refutes : LeqSweep → World → Implication → Type 0
 Refutes s world d = RefutesAt s.phase s world d
 
--- damage is that of an operand, or of a record of its own arcs to truth values
+-- damage is that of an operand
 abbrev pub IsDamageAt : LeqPhase → LeqSweep → World → SortFault → Type 0
 IsDamageAt Making s world e = damage.IsDamage (product_in s) world e
-IsDamageAt (Reading left) s world e = IsEndsFault (sweeps.files_of (product_in s)).ends world e
 IsDamageAt (Answered b) s world e = ⊥
 
 abbrev pub IsDamage : LeqSweep → World → SortFault → Type 0

@@ -1,15 +1,13 @@
 //! Whether one function implies another, as a sweep.
 use crate::ProductSweep;
-use crate::ones::{Searching, search};
-use arc_file::Unreduced;
 use bool_tables::Bin;
 use rec_words::Rec;
 use run_merge::Parts;
 use shelf_model::{FileNo, Shelf, SortFault};
 use sweep_core::{Sweep, Turn};
 
-/// Whether the left function implies the right one everywhere: the arcs of "left and not right" are made, and then read
-/// up to the first one that leads to 1.
+/// Whether the left function implies the right one everywhere: the arcs of "left and not right" are made, until one leads
+/// to 1 or there are no more.
 ///
 /// After a refusal it isn't used again.
 #[derive(Drop)]
@@ -23,8 +21,6 @@ pub struct LeqSweep<'r> {
 pub(crate) enum LeqPhase {
     /// The arcs are made.
     Making,
-    /// These are left to be read.
-    Reading(Unreduced),
     /// All is done.
     Answered(bool),
 }
@@ -108,39 +104,23 @@ impl<'r> LeqSweep<'r> {
         self.product.parts()
     }
 
-    // Makes arcs on. Where all are made, they are to be read.
+    // Makes arcs on. Where one was made that leads to 1, or all are made, it is answered.
     fn make<S: Shelf>(&mut self, shelf: &mut S) -> Result<Turn, SortFault>
         requires phase { self.old.phase ≡ LeqPhase.Making }
         requires ready { IsReady self.old }
         requires in_step { IsTrue (S.tells shelf.old) → IsInStep self.old (S.world shelf.old) }
         ensures { Turned S.tells S.world S.faults shelf.old shelf.new self.old self.new result }
     {
-        if self.product.turn(shelf)? == Turn::Ended {
-            let Some(arcs) = self.product.made() else {
-                unreachable!();
-            };
-            self.phase = LeqPhase::Reading(arcs);
+        if self.product.sweep.meets_one() {
+            self.product.sweep.end_early(shelf)?;
+            self.phase = LeqPhase::Answered(false);
+            return Ok(Turn::Ended);
         }
-        Ok(Turn::More)
-    }
-
-    // Reads on among those that are left.
-    fn read<S: Shelf>(&mut self, left: Unreduced, shelf: &mut S) -> Result<Turn, SortFault>
-        requires phase { self.old.phase ≡ LeqPhase.Reading left }
-        requires ready { IsReady self.old }
-        requires in_step { IsTrue (S.tells shelf.old) → IsInStep self.old (S.world shelf.old) }
-        ensures { Turned S.tells S.world S.faults shelf.old shelf.new self.old self.new result }
-    {
-        match search(left, shelf)? {
-            Searching::More(left) => {
-                self.phase = LeqPhase::Reading(left);
-                Ok(Turn::More)
-            }
-            Searching::Found(one) => {
-                self.phase = LeqPhase::Answered(!one);
-                Ok(Turn::Ended)
-            }
+        let turn = self.product.turn(shelf)?;
+        if turn == Turn::Ended {
+            self.phase = LeqPhase::Answered(!self.product.sweep.meets_one());
         }
+        Ok(turn)
     }
 }
 
@@ -171,7 +151,6 @@ impl<'r> Sweep<'r> for LeqSweep<'r> {
     fn turn<S: Shelf>(&mut self, shelf: &mut S) -> Result<Turn, SortFault> {
         match self.phase {
             LeqPhase::Making => self.make(shelf),
-            LeqPhase::Reading(left) => self.read(left, shelf),
             LeqPhase::Answered(_) => Ok(Turn::Ended),
         }
     }

@@ -2,7 +2,6 @@
 #![tactic(auto)]
 
 mod leq;
-mod ones;
 mod sweep;
 
 pub use leq::LeqSweep;

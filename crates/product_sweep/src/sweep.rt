@@ -14,7 +14,7 @@ use top_down_sweep::{OperandFiles, Product, TopDownSweep};
 /// After a refusal it isn't used again.
 #[derive(Drop)]
 pub struct ProductSweep<'r> {
-    sweep: TopDownSweep<'r, Product>,
+    pub(crate) sweep: TopDownSweep<'r, Product>,
 }
 
 impl<'r> ProductSweep<'r> {

@@ -10,7 +10,7 @@ use Rattle.shelf_model.specs.Folder.{Folder}
 use Rattle.shelf_model.specs.World.{Moment, World, now}
 use Rattle.shelf_model.specs.Moments.{Throughout}
 use Rattle.catalogue.specs.Counts.{present, count_in}
-use Rattle.step_engine.specs.StepFaults.{IsKindFault, IsDamagedAmong, IsReadingFault, IsSweepFault, IsStepFault}
+use Rattle.step_engine.specs.StepFaults.{IsKindFault, IsDamagedAmong, IsReadingFault, IsSweepFault, IsMakingFault, IsStepFault}
 use Rattle.script_runner.specs.Running.{IsMetDamage}
 
 -- a station with that folder
@@ -34,6 +34,12 @@ reading_there : (n : ℕ) (xs : List ℕ) (a b : World) (fault : SortFault) → 
 reading_there n xs a b sort.Shelf same is = tt
 reading_there n xs a b (sort.Damaged f at) same is = among_there n xs a b f at same is
 reading_there n xs a b sort.RunsSpent same is = is
+
+making_there : (n : ℕ) (xs : List ℕ) (a b : World) (fault : SortFault) → (now b).folder ≡ (now a).folder
+    → IsMakingFault n xs a fault → IsMakingFault n xs b fault
+making_there n xs a b sort.Shelf same is = tt
+making_there n xs a b (sort.Damaged f at) same is = among_there n xs a b f at same is
+making_there n xs a b sort.RunsSpent same is = tt
 
 -- the worlds at two moments, and worlds with the same folders
 pub record AreAlike (a b c d : World) : Type 0 where
@@ -108,7 +114,7 @@ fault_there n (Drop gone) number a b c d fault alike is = is
 fault_there n (Same left right) number a b c d fault alike is =
     reading_there n (left ∷ right ∷ []) a c fault alike.first is
 fault_there n (Leq left right) number a b c d fault alike is =
-    sweep_there n (left ∷ right ∷ []) number a b c d fault alike is
+    making_there n (left ∷ right ∷ []) a c fault alike.first is
 fault_there n (Eval operand at) number a b c d fault alike is =
     reading_there n (operand ∷ []) a c fault alike.first is
 fault_there n (Size operand) number a b c d fault alike is = (

@@ -68,11 +68,10 @@ one_read n of world (sort.Damaged f place) (inr two) = inl two
 one_read n of world sort.RunsSpent is = is
 
 implied : (n number left right : ℕ) (old new : World) (e : SortFault)
-    → IsImplicationFault n (node_file left) (node_file right) number old new e → IsStepFault n (Leq left right) number old new e
+    → IsImplicationFault n (node_file left) (node_file right) old e → IsStepFault n (Leq left right) number old new e
 implied n number left right old new sort.Shelf is = tt
-implied n number left right old new (sort.Damaged f at) (inl one) = inl (inl one)
-implied n number left right old new (sort.Damaged f at) (inr (inl two)) = inl (inr (inl two))
-implied n number left right old new (sort.Damaged f at) (inr (inr own)) = inr own
+implied n number left right old new (sort.Damaged f at) (inl one) = inl one
+implied n number left right old new (sort.Damaged f at) (inr two) = inr (inl two)
 implied n number left right old new sort.RunsSpent is = tt
 
 pub same_fault : (n number left right : ℕ) (step : Step) → step ≡ Same left right → (old new : World) (e : SortFault)
@@ -81,7 +80,7 @@ same_fault n number left right step is old new e fault =
     subst (λ s. IsStepFault n s number old new e) (sym is) (two_read n left right old e fault)
 
 pub leq_fault : (n number left right : ℕ) (step : Step) → step ≡ Leq left right → (old new : World) (e : SortFault)
-    → IsImplicationFault n (node_file left) (node_file right) number old new e → IsStepFault n step number old new e
+    → IsImplicationFault n (node_file left) (node_file right) old e → IsStepFault n step number old new e
 leq_fault n number left right step is old new e fault =
     subst (λ s. IsStepFault n s number old new e) (sym is) (implied n number left right old new e fault)
 

@@ -35,13 +35,20 @@ IsReadingFault n operands world sort.Shelf = Unit
 IsReadingFault n operands world (sort.Damaged f at) = IsDamagedAmong n operands world f at
 IsReadingFault n operands world sort.RunsSpent = ⊥
 
--- a fault of a step that makes arcs of them: a call of the folder failed; one of the operands was damaged as the step
+-- a fault of a step that makes arcs of them and reduces these: a call of the folder failed; one of the operands was damaged as the step
 -- began, or one of its two files of arcs is as it ends; or it has no part number left
 abbrev pub IsSweepFault : ℕ → List ℕ → ℕ → World → World → SortFault → Type 0
 IsSweepFault n operands number old new sort.Shelf = Unit
 IsSweepFault n operands number old new (sort.Damaged f at) =
     IsDamagedAmong n operands old f at ⊎ IsDamagedOwn number new f at
 IsSweepFault n operands number old new sort.RunsSpent = Unit
+
+-- a fault of a step that makes arcs and reads none of them: a call of the folder failed, one of the operands was damaged
+-- as the step began, or it has no part number left
+abbrev pub IsMakingFault : ℕ → List ℕ → World → SortFault → Type 0
+IsMakingFault n operands world sort.Shelf = Unit
+IsMakingFault n operands world (sort.Damaged f at) = IsDamagedAmong n operands world f at
+IsMakingFault n operands world sort.RunsSpent = Unit
 
 -- a size finds the entry of its diagram damaged, and where nothing is read a call of the folder failed
 abbrev pub IsStepFault : ℕ → Step → ℕ → World → World → SortFault → Type 0
@@ -54,7 +61,7 @@ IsStepFault n (Quantify kind operand level) number old new fault = IsSweepFault 
 IsStepFault n (Restrict operand level value) number old new fault = IsSweepFault n (operand ∷ []) number old new fault
 IsStepFault n (Drop gone) number old new fault = fault ≡ sort.Shelf
 IsStepFault n (Same left right) number old new fault = IsReadingFault n (left ∷ right ∷ []) old fault
-IsStepFault n (Leq left right) number old new fault = IsSweepFault n (left ∷ right ∷ []) number old new fault
+IsStepFault n (Leq left right) number old new fault = IsMakingFault n (left ∷ right ∷ []) old fault
 IsStepFault n (Eval operand at) number old new fault = IsReadingFault n (operand ∷ []) old fault
 IsStepFault n (Size operand) number old new fault =
     (found : StreamFault) × (fault ≡ handed_on found) × IsKindFault operand 1 (present (now old).folder) found

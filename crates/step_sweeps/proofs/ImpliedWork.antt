@@ -1,6 +1,6 @@
 -- Where the step of an implication finds a file damaged, and what it costs, by what its sweep says.
 use Rattle.std.specs.Prelude.{◌≡◌, ℕ, ◌+◌, ◌-◌, ◌*◌, ◌^◌, ◌<◌, ◌≤◌, min, Bool, IsTrue, List, [], ◌∷◌}
-use Rattle.std.proofs.Common.{subst, inl, inr, arith}
+use Rattle.std.proofs.Common.{inl, inr, arith}
 use Rattle.std.proofs.lemmas.Bool.{cases_lt}
 use Rattle.bool_tables.specs.declared.steps.Step.TheVariants.{Leq}
 use Rattle.shelf_model.specs.declared.file_no.FileNo.{FileNo}
@@ -9,49 +9,32 @@ use Rattle.shelf_model.specs.declared.sort_fault.SortFault.TheVariants.{Shelf, D
 use Rattle.shelf_model.specs.World.{World}
 use Rattle.run_tiers.specs.Parts.{Paid}
 use Rattle.sweep_core.specs.Counted.{Costs}
-use Rattle.arc_file.specs.declared.kind.Kind.TheVariants.{End}
-use Rattle.reduce_sweep.specs.Damage.{IsDamagedRecord}
 use Rattle.step_work.specs.Works.{work_for}
 use Rattle.top_down_sweep.specs.Damage.{IsDamage}
-use Rattle.top_down_sweep.specs.Sweeps.{files_of}
 use Rattle.product_sweep.specs.declared.leq.LeqPhase.{LeqPhase}
-use Rattle.product_sweep.specs.declared.leq.LeqPhase.TheVariants.{Making, Reading, Answered}
+use Rattle.product_sweep.specs.declared.leq.LeqPhase.TheVariants.{Making, Answered}
 use Rattle.product_sweep.specs.declared.leq.LeqSweep.{LeqSweep}
 use Rattle.product_sweep.specs.Implications.{product_in, accounts, IsDamageAt}
-use Rattle.product_sweep.specs.Ones.{IsEndsFault}
 use Rattle.product_sweep.specs.Products.{operands}
 use Rattle.step_sweeps.specs.Damage.{IsArcsFault, IsImplicationFault}
-use Rattle.step_sweeps.specs.Made.{ends_file, IsCounted}
+use Rattle.step_sweeps.specs.Made.{IsCounted}
 use Rattle.step_sweeps.proofs.Running.{few_calls}
 
 -- a fault of an operand is one of the implication
-pub implication_fault : (n : ℕ) (left right : FileNo) (number : ℕ) (old new : World) (e : SortFault)
-    → IsArcsFault n (operands left right) old e
-    → IsImplicationFault n left right number old new e
-implication_fault n left right number old new Shelf is = tt
-implication_fault n left right number old new (Damaged f at) (inl first) = inl first
-implication_fault n left right number old new (Damaged f at) (inr (inl second)) = inr (inl second)
-implication_fault n left right number old new (Damaged f at) (inr (inr third)) = inr (inl third)
-implication_fault n left right number old new RunsSpent is = tt
+pub implication_fault : (n : ℕ) (left right : FileNo) (world : World) (e : SortFault)
+    → IsArcsFault n (operands left right) world e → IsImplicationFault n left right world e
+implication_fault n left right world Shelf is = tt
+implication_fault n left right world (Damaged f at) (inl first) = inl first
+implication_fault n left right world (Damaged f at) (inr (inl second)) = inr second
+implication_fault n left right world (Damaged f at) (inr (inr third)) = inr third
+implication_fault n left right world RunsSpent is = tt
 
--- so is one of the file of arcs to truth values
-search_fault : (n : ℕ) (left right : FileNo) (number : ℕ) (ends : FileNo) (old new : World) (e : SortFault)
-    → ends ≡ ends_file number → IsEndsFault ends new e → IsImplicationFault n left right number old new e
-search_fault n left right number ends old new Shelf same is = tt
-search_fault n left right number ends old new (Damaged f at) same is =
-    inr (inr (inr (subst (λ (q : FileNo). IsDamagedRecord End q new f at) same is)))
-search_fault n left right number ends old new RunsSpent same is = tt
-
--- so each fault is that a turn of the sweep finds
-pub turn_fault_at : (phase : LeqPhase) (n : ℕ) (left right : FileNo) (number : ℕ) (s : LeqSweep) (old new : World)
-    (e : SortFault) → (IsDamage (product_in s) new e → IsArcsFault n (operands left right) old e)
-    → (files_of (product_in s)).ends ≡ ends_file number → IsDamageAt phase s new e
-    → IsImplicationFault n left right number old new e
-turn_fault_at Making n left right number s old new e arcs ends damage =
-    implication_fault n left right number old new e (arcs damage)
-turn_fault_at (Reading arcs_left) n left right number s old new e arcs ends damage =
-    search_fault n left right number (files_of (product_in s)).ends old new e ends damage
-turn_fault_at (Answered b) n left right number s old new e arcs ends damage = absurd damage
+-- so is each that a turn of the sweep finds
+pub turn_fault_at : (phase : LeqPhase) (n : ℕ) (left right : FileNo) (s : LeqSweep) (old new : World) (e : SortFault)
+    → (IsDamage (product_in s) new e → IsArcsFault n (operands left right) old e) → IsDamageAt phase s new e
+    → IsImplicationFault n left right old e
+turn_fault_at Making n left right s old new e arcs damage = implication_fault n left right old e (arcs damage)
+turn_fault_at (Answered b) n left right s old new e arcs damage = absurd damage
 
 module _ (n : ℕ) (t u : List Bool) (left : ℕ) (half : 2 * left ≤ work_for n (Leq 0 1) (t ∷ u ∷ [])) where
   -- the turns that are left and one more are within the work

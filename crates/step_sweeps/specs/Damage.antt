@@ -54,10 +54,9 @@ IsReadFault n left right world Shelf = Unit
 IsReadFault n left right world (Damaged f at) = IsDamagedFile n left world f at ⊎ IsDamagedFile n right world f at
 IsReadFault n left right world RunsSpent = ⊥
 
--- a fault of a step that answers whether one diagram implies another: that of an operand as the step began, or of one
--- of its files of arcs as it ended
-abbrev pub IsImplicationFault : ℕ → FileNo → FileNo → ℕ → World → World → SortFault → Type 0
-IsImplicationFault n left right number old new Shelf = Unit
-IsImplicationFault n left right number old new (Damaged f at) =
-    IsDamagedFile n left old f at ⊎ (IsDamagedFile n right old f at ⊎ IsDamagedOwn number new f at)
-IsImplicationFault n left right number old new RunsSpent = Unit
+-- a fault of a step that answers whether one diagram implies another: that of an operand, or it has no part number left
+abbrev pub IsImplicationFault : ℕ → FileNo → FileNo → World → SortFault → Type 0
+IsImplicationFault n left right world Shelf = Unit
+IsImplicationFault n left right world (Damaged f at) =
+    IsDamagedFile n left world f at ⊎ IsDamagedFile n right world f at
+IsImplicationFault n left right world RunsSpent = Unit

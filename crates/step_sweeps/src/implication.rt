@@ -24,7 +24,7 @@ use sweep_core::run_to_end;
 const PARTS: u64 = 1 << 32;
 
 /// Whether the left function implies the right one everywhere, of the files of two diagrams of `n` variables: the arcs
-/// of "left and not right" are made, in parts 3 and 4 of the step, and searched for one that leads to 1.
+/// of "left and not right" are made, in parts 3 and 4 of the step, until one leads to 1.
 pub fn imply<S: Shelf>(
     n: u32,
     left: FileNo,
@@ -53,7 +53,7 @@ pub fn imply<S: Shelf>(
 
     // whatever the files hold
     ensures damaged { IfErr result (λ e. IsTrue (S.tells shelf.new) →
-        IsImplicationFault n left right number (S.world shelf.old) (S.world shelf.new) e) }
+        IsImplicationFault n left right (S.world shelf.old) e) }
     ensures content { Told S.tells shelf.old shelf.new
         (Ran (OnlyParts number (now (S.world shelf.old))) (S.world shelf.old) (S.world shelf.new)) }
     ensures counted { IfOk result (λ a. IsCounted a.turns a.next) }

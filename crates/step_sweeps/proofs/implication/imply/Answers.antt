@@ -2,7 +2,6 @@ use Rattle.std.proofs.Common.{◌∙◌, refl, ap, arith}
 use Rattle.std.specs.Prelude.{min, ◌^◌, ◌≤◌}
 use Rattle.run_tiers.specs.declared.parts.Parts.{Parts}
 use Rattle.run_tiers.proofs.FaultLaws.{on_fault, sort_shelf_on, sort_shelf_then}
-use Rattle.top_down_sweep.specs.declared.start.Files.{Files}
 use Rattle.sweep_core.specs.Accounts.{CanBeTaken}
 use Rattle.top_down_sweep.specs.Beginning.{after_two, files_from}
 use Rattle.top_down_sweep.specs.Sweeps.{SweepTask}
@@ -24,8 +23,8 @@ returns-in_err-sweep-clause-undamaged g c = on_fault c.from_residual.result c.in
 
 pub returns-in_err-sweep-clause-damaged : goal.returns-in_err-sweep-clause-damaged
 returns-in_err-sweep-clause-damaged g c = on_fault c.from_residual.result c.in_err-sweep.field-0.0 _
-    c.from_residual.ensures.1 (λ told. implication_fault c.args.n c.args.left c.args.right c.args.number
-    (g.S.Shelf.world c.args.shelf.now) _ c.in_err-sweep.field-0.0
+    c.from_residual.ensures.1 (λ told. implication_fault c.args.n c.args.left c.args.right
+    (g.S.Shelf.world c.args.shelf.now) c.in_err-sweep.field-0.0
     (start_fault c.args.n (operands c.args.left c.args.right)
     (files_from (operands c.args.left c.args.right) (parts_of c.args.number)) (g.S.Shelf.world c.args.shelf.now)
     c.in_err-sweep.field-0.0 refl refl refl (λ other. c.in_err-sweep.ensures.leaves.damage other told)))
@@ -103,14 +102,14 @@ returns-clause-content g c = sweep_changes g.S.Shelf.tells g.S.Shelf.world c.arg
     c.in_ok-sweep.ensures.begun.files_are c.in_ok-sweep.ensures.begun.parts_are
     c.start.ensures.leaves.content c.run_to_end.ensures.leaves.content
 
--- an operand is damaged as it was at first, or an arc that was made as it is now
+-- an operand is damaged as it was at first
 pub returns-in_err-turns-clause-damaged : goal.returns-in_err-turns-clause-damaged
 returns-in_err-turns-clause-damaged g c = on_fault c.from_residual-in_err-turns.result
     c.in_err-turns.field-0.0 _ c.from_residual-in_err-turns.ensures.1 (λ told.
     let begun = c.in_ok-sweep.ensures.begun in
     let sweep = c.run_to_end.new.sweep in
     let files = ap (λ (t : SweepTask). t.files) c.run_to_end.ensures.same ∙ begun.files_are in
-    turn_fault_at sweep.phase c.args.n c.args.left c.args.right c.args.number sweep
+    turn_fault_at sweep.phase c.args.n c.args.left c.args.right sweep
     (g.S.Shelf.world c.args.shelf.now) (g.S.Shelf.world c.run_to_end.new.shelf) c.in_err-turns.field-0.0
     (arcs_fault c.args.n c.args.number (operands c.args.left c.args.right) (product_in sweep).machine _ _
     c.in_err-turns.field-0.0 files
@@ -118,7 +117,7 @@ returns-in_err-turns-clause-damaged g c = on_fault c.from_residual-in_err-turns.
     (c.run_to_end.ensures.leaves.step_is ∙ ap (λ (p : Parts). p.step) begun.parts_are)
     (record { first = c.requires.earlier.0; second = c.requires.earlier.1; third = c.requires.earlier.1 })
     ((returns-in_err-turns-clause-content g c).did told))
-    (ap (λ (f : Files). f.ends) files) (c.in_err-turns.ensures.damage told))
+    (c.in_err-turns.ensures.damage told))
 
 pub returns-in_err-turns-clause-faults : goal.returns-in_err-turns-clause-faults
 returns-in_err-turns-clause-faults g c = sort_shelf_on _ _ c.in_err-turns.field-0.0
