@@ -7,3 +7,5 @@ mod operations;
 mod reducing;
 #[cfg(test)]
 mod sweeps;
+#[cfg(test)]
+mod turns;
