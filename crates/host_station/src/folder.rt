@@ -190,11 +190,12 @@ impl<F: Read + Write + Seek + OpenFile + Drop> Folder<F> {
     fn find<R: Files<File = F>>(&mut self, rt: &R, f: FileNo) -> io::Result<Option<usize>>
         ensures { IfOk result (λ found. IfSome found (λ i. i < vec_len self.new.handles.all)) }
     {
-        if let Some(i) = self.handles.place_of(f) {
-            return Ok(Some(i));
-        }
+        // A file that is open was seen, so that one that is known to be absent needn't be looked for.
         if self.known.is_absent(f) {
             return Ok(None);
+        }
+        if let Some(i) = self.handles.place_of(f) {
+            return Ok(Some(i));
         }
         let path = self.path_of(f)?;
         match fs::symlink_metadata(rt, path.as_str()) {

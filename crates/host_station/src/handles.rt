@@ -9,12 +9,20 @@ use std::io;
 use std::io::{Read, Seek, Write};
 
 /// How many files are held open, where the process may have so many.
-const MOST_OPEN: usize = 320;
+const MOST_OPEN: usize = 4000;
+
+/// A file that one of the last calls used, so many of them, is taken for one in use.
+const CALLS_IN_USE: u64 = 320;
+
+/// How many places are remembered, so that a file is mostly found at once.
+const PLACES: usize = 4096;
 
 /// The open files. The one that was used longest ago is given up for another one.
 #[derive(Drop)]
 pub(crate) struct Handles<F> {
     pub(crate) all: Vec<Handle<F>>,
+    /// Where files stood last, each remembered at its own [`turn_of`]. Another may stand there now.
+    places: [usize; PLACES],
     calls: u64,
     /// Whether bytes were written whose sync failed, or that were given up unsynced: a later sync
     /// might answer Ok without them.
@@ -25,6 +33,7 @@ impl<F: Read + Write + Seek + OpenFile + Drop> Handles<F> {
     pub(crate) fn new(alloc: Global) -> Handles<F> {
         Handles {
             all: Vec::new(alloc),
+            places: [0; PLACES],
             calls: 0,
             is_lost: false,
         }
@@ -34,10 +43,22 @@ impl<F: Read + Write + Seek + OpenFile + Drop> Handles<F> {
     pub(crate) fn place_of(&mut self, f: FileNo) -> Option<usize>
         ensures { IfSome result (λ i. i < vec_len self.new.all) }
     {
-        let i = self.all.iter().position(|handle| handle.number == f)?;
+        let i = self.look_up(f)?;
         self.calls = self.calls.saturating_add(1);
         self.all[i].used = self.calls;
+        self.places[turn_of(f)] = i;
         Some(i)
+    }
+
+    // Where it stood last, or else where it is found among all.
+    fn look_up(&self, f: FileNo) -> Option<usize>
+        ensures { IfSome result (λ i. i < vec_len self.now.all) }
+    {
+        let i = self.places[turn_of(f)];
+        if i < self.all.len() && self.all[i].number == f {
+            return Some(i);
+        }
+        self.all.iter().position(|handle| handle.number == f)
     }
 
     /// Keeps one more handle, and answers its place.
@@ -45,9 +66,11 @@ impl<F: Read + Write + Seek + OpenFile + Drop> Handles<F> {
         ensures { IfOk result (λ i. i < vec_len self.new.all) }
     {
         self.calls = self.calls.saturating_add(1);
+        let f = handle.number;
         self.all.push(handle)?;
         let i = self.all.len() - 1;
         self.all[i].used = self.calls;
+        self.places[turn_of(f)] = i;
         Ok(i)
     }
 
@@ -57,7 +80,7 @@ impl<F: Read + Write + Seek + OpenFile + Drop> Handles<F> {
     }
 
     /// Gives up the handle that was used longest ago, of those that weren't changed since their
-    /// sync where there are any. Otherwise it is synced first. Answers whether there was one.
+    /// sync and aren't in use where there are any. One that was changed is synced first. Answers whether there was one.
     pub(crate) fn give_up(&mut self) -> io::Result<bool> {
         let Some(i) = self.longest_unused() else {
             return Ok(false);
@@ -75,8 +98,11 @@ impl<F: Read + Write + Seek + OpenFile + Drop> Handles<F> {
     fn longest_unused(&self) -> Option<usize>
         ensures { IfSome result (λ i. i < vec_len self.now.all) }
     {
-        let first = self.all.iter().map(rank_of).min()?;
-        self.all.iter().position(|handle| rank_of(handle) == first)
+        let calls = self.calls;
+        let first = self.all.iter().map(|handle| rank_of(handle, calls)).min()?;
+        self.all
+            .iter()
+            .position(|handle| rank_of(handle, calls) == first)
     }
 
     /// Lets go of a file's handle.
@@ -96,7 +122,17 @@ impl<F: Read + Write + Seek + OpenFile + Drop> Handles<F> {
     }
 }
 
-// The handle with the least rank is given up first.
-fn rank_of<F>(handle: &Handle<F>) -> (bool, u64) {
-    (handle.is_changed, handle.used)
+// Which of the remembered places is a file's. Parts of a step have different ones, and so have the node files of steps
+// that follow one another.
+fn turn_of(f: FileNo) -> usize
+    ensures { result < 4096 }
+{
+    (u64::from(f.step).wrapping_add(f.part) % PLACES as u64) as usize
+}
+
+// The handle with the least rank is given up first, after so many calls. Files that are read in turn would be opened at
+// each call if one of them were given up for the next.
+fn rank_of<F>(handle: &Handle<F>, calls: u64) -> (bool, u64) {
+    let is_in_use = calls.saturating_sub(handle.used) < CALLS_IN_USE;
+    (handle.is_changed || is_in_use, handle.used)
 }
