@@ -9,6 +9,3 @@ mod words;
 
 pub use fault::WordsFault;
 pub use words::{Words, read_words};
-
-#[cfg(test)]
-mod tests;

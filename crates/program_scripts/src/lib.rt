@@ -1,5 +1,6 @@
 //! Scripts that look random, run by the program over a station in memory, beside the tables of their steps, and a
-//! script whose diagrams outgrow the least room; and scripts and netlists that are refused, stopped at each call.
+//! script whose diagrams outgrow the least room; scripts and netlists that are refused, stopped at each call; and lists of
+//! words.
 #![tactic(auto)]
 
 #[cfg(test)]
@@ -14,3 +15,5 @@ mod runs;
 mod script;
 #[cfg(test)]
 mod wanted;
+#[cfg(test)]
+mod words;

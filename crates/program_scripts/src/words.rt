@@ -1,6 +1,6 @@
 //! Lists of words that are read, with what they ask for, and lists that are not.
 
-use crate::{Words, WordsFault, read_words};
+use command_words::{Words, WordsFault, read_words};
 use std::alloc::Global;
 use std::test::Fail;
 
