@@ -1,8 +1,7 @@
 // A run of the program over a station in memory, with a text at the path that its words name.
 use script_runner::adiar;
 use shelf_memory::Bench;
-use std::alloc::Global;
-use std::test::Fail;
+use std::alloc::{AllocError, Global};
 
 /// The words of a run in the station's own folder.
 pub(crate) const RUN: [&str; 5] = ["adiar", "run", "FOLDER", "--script", "script"];
@@ -20,6 +19,9 @@ pub(crate) const SMALL: [&str; 6] = [
 /// A script of one request.
 pub(crate) const ONE_VARIABLE: &[u8] = b"vars a b c\nvar f b\n";
 
+/// What its run says in an empty folder.
+pub(crate) const ONE_TEXT: &[u8] = b"start 1\n2: nodes 1\ndone\n";
+
 /// A script of three requests.
 pub(crate) const THREE_VARIABLES: &[u8] = b"vars a b c\nvar f a\nvar g b\nvar h c\n";
 
@@ -33,28 +35,32 @@ pub(crate) const DROPPING: &[u8] = b"vars a b\nconst z 0\nvar f b\nsize f\ndrop 
 pub(crate) const DROPPING_TEXT: &[u8] =
     b"start 4\n2: nodes 0\n3: nodes 1\n4: nodes 1\n5: dropped\ndone\n";
 
+/// The words of a list of the station's own folder.
+pub(crate) const LIST: [&str; 3] = ["adiar", "list", "FOLDER"];
+
+/// What is said to words that aren't accepted.
+pub(crate) const USAGE: &[u8] = b"usage: adiar ACTION FOLDER [options]\n";
+
 /// A station with a script at the path that `RUN` names.
-pub(crate) fn bench_with(alloc: Global, script: &[u8]) -> Result<Bench, Fail> {
+pub(crate) fn bench_with(alloc: Global, script: &[u8]) -> Result<Bench, AllocError> {
     let mut bench = Bench::empty(alloc);
     bench.put_text("script", script)?;
     Ok(bench)
 }
 
-/// Runs the program, and answers its status.
-pub(crate) fn run(alloc: Global, words: &[&str], bench: &mut Bench) -> Result<u8, Fail> {
+/// Words, each as a text of its own.
+fn owned(alloc: Global, words: &[&str]) -> Result<Vec<String>, AllocError> {
     let mut owned = Vec::new(alloc);
     for word in words {
         owned.push(String::from_str(alloc, word)?)?;
     }
-    Ok(adiar(alloc, owned.as_slice(), bench))
+    Ok(owned)
 }
 
-/// Whether a run with the usual words answers this status, and the station was told this text in all.
-pub(crate) fn gives(
-    alloc: Global,
-    bench: &mut Bench,
-    status: u8,
-    said: &[u8],
-) -> Result<bool, Fail> {
-    Ok(run(alloc, &RUN, bench)? == status && bench.said() == said)
+/// Runs the program, and answers its status, or 9, as where it finds no memory, where there is none for the words.
+pub(crate) fn run(alloc: Global, words: &[&str], bench: &mut Bench) -> u8 {
+    match owned(alloc, words) {
+        Ok(owned) => adiar(alloc, owned.as_slice(), bench),
+        Err(_) => 9,
+    }
 }

@@ -1,4 +1,4 @@
-// The files of a folder, by hand, and the bytes of a job and of an entry. Numbers have the highest byte first.
+// The files of a folder, by hand. Numbers have the highest byte first.
 use shelf_memory::Bench;
 use shelf_model::FileNo;
 
@@ -35,27 +35,14 @@ pub(crate) const LEVEL_1: u64 = 0x0000_ffff_ffff_ffff;
 
 pub(crate) const LEVEL_2: u64 = 0x0001_7fff_ffff_ffff;
 
-/// The node file of the first step.
+/// The node files of the first four steps.
 pub(crate) const FIRST: FileNo = FileNo { step: 0, part: 0 };
 
-/// The file of the constant 0 of two variables: the trailer alone, with the root, no nodes and two variables.
-pub(crate) const ZERO_OF_TWO: &[u8; 24] = b"\x80\x00\x00\x00\x00\x00\x00\x00\
-      \x00\x00\x00\x00\x00\x00\x00\x00\
-      \x00\x00\x00\x00\x00\x00\x00\x02";
+pub(crate) const SECOND: FileNo = FileNo { step: 1, part: 0 };
 
-/// The entry of a variable's step: its number, kind 1, a name of one letter, one node, one turn, and 3 as its next
-/// part.
-pub(crate) fn entry(step: u8, name: u8) -> [u8; 128] {
-    let mut bytes = [0; 128];
-    bytes[3] = step;
-    bytes[4] = 1;
-    bytes[6] = 1;
-    bytes[15] = 1;
-    bytes[23] = 1;
-    bytes[31] = 3;
-    bytes[32] = name;
-    bytes
-}
+pub(crate) const THIRD: FileNo = FileNo { step: 2, part: 0 };
+
+pub(crate) const FOURTH: FileNo = FileNo { step: 3, part: 0 };
 
 /// The files of a folder of three or four steps but for its gates, and some that stay empty.
 const FILES: [FileNo; 16] = [
@@ -82,11 +69,6 @@ pub(crate) fn node_file(step: u32) -> FileNo {
     FileNo { step, part: 0 }
 }
 
-/// A part of a step.
-pub(crate) fn part_of(step: u32, part: u64) -> FileNo {
-    FileNo { step, part }
-}
-
 /// Whether a file has these words and no other bytes.
 pub(crate) fn has_words(bench: &Bench, f: FileNo, words: &[u64]) -> bool {
     let bytes = bench.file(f);
@@ -98,6 +80,16 @@ pub(crate) fn has_words(bench: &Bench, f: FileNo, words: &[u64]) -> bool {
         }
     }
     bytes.len() == words.len().saturating_mul(8)
+}
+
+/// Whether the parts of a step behind its node file are empty: its checkpoints, their gate and its arcs.
+pub(crate) fn has_no_other_parts(bench: &Bench, step: u32) -> bool {
+    for part in 1..5 {
+        if !bench.file(FileNo { step, part }).is_empty() {
+            return false;
+        }
+    }
+    true
 }
 
 /// Whether the files of two folders read alike, and their gates are as long: what the bytes of a gate are means

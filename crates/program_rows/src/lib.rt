@@ -3,15 +3,11 @@
 #![tactic(auto)]
 
 #[cfg(test)]
-mod answers;
-#[cfg(test)]
 mod bench_run;
 #[cfg(test)]
-mod between;
+mod calls;
 #[cfg(test)]
-mod dropping;
-#[cfg(test)]
-mod failing_calls;
+mod case;
 #[cfg(test)]
 mod files;
 #[cfg(test)]
@@ -24,8 +20,6 @@ mod parts_said;
 mod refusals;
 #[cfg(test)]
 mod restart;
-#[cfg(test)]
-mod resumed;
 #[cfg(test)]
 mod rows;
 #[cfg(test)]

@@ -68,23 +68,25 @@ fn is_resumed(text: &[u8], said: &[u8], count: usize, all: usize) -> bool {
     said.starts_with(&front) && said.get(14..) == Some(behind(text, count.saturating_add(1)))
 }
 
-/// Whether what was said is this part, and behind it what a run says that goes on where so many lines of the text were
-/// said: it counts at least the steps' lines among them. The whole text is said again only where no line was.
-pub(crate) fn goes_on_behind(text: &[u8], said: &[u8], lines: usize, before: &[u8]) -> bool {
-    let Some(rest) = said.get(before.len()..) else {
+/// Whether what was said is so many bytes of the text, and behind them what a run says that goes on where so many lines
+/// of the text were said: the whole text where no job is stored, and no line was said then, and else the lines of the
+/// steps that aren't committed, where none of those that were said is among them.
+pub(crate) fn goes_on(
+    text: &[u8],
+    said: &[u8],
+    before: usize,
+    lines: usize,
+    committed: Option<usize>,
+) -> bool {
+    let (Some(front), Some(rest)) = (text.get(..before), said.get(before..)) else {
         return false;
     };
-    if !said.starts_with(before) {
-        return false;
-    }
-    if lines == 0 && rest == text {
-        return true;
-    }
     let all = line_count(text).saturating_sub(2);
-    for count in lines.saturating_sub(1).min(all)..all.saturating_add(1) {
-        if is_resumed(text, rest, count, all) {
-            return true;
+    said.starts_with(front)
+        && match committed {
+            Some(count) => {
+                lines.saturating_sub(1).min(all) <= count && is_resumed(text, rest, count, all)
+            }
+            None => lines == 0 && rest == text,
         }
-    }
-    false
 }

@@ -1,171 +1,339 @@
 // Runs in a folder where a run ended or was stopped, and in folders that hold something else.
 use crate::bench_run::{
-    ONE_VARIABLE, RUN, SMALL, THREE_TEXT, THREE_VARIABLES, bench_with, gives, run,
+    DROPPING, DROPPING_TEXT, ONE_TEXT, ONE_VARIABLE, RUN, SMALL, THREE_TEXT, THREE_VARIABLES, USAGE,
 };
-use crate::files::{CATALOGUE, STEP_GATE, same_files};
-use crate::rows::AND;
-use shelf_memory::{Bench, Choice};
-use std::alloc::Global;
+use crate::case::{Act, Case, all_go};
+use crate::files::{CATALOGUE, STEP_GATE, THIRD};
+use crate::rows::{AND, DIFFERENT};
+use shelf_memory::Choice;
 use std::test::Fail;
 
-/// A folder in which the script was run to its end, and then given to a new life.
-fn ended(alloc: Global, script: &[u8]) -> Result<Bench, Fail> {
-    let mut bench = bench_with(alloc, script)?;
-    run(alloc, &RUN, &mut bench)?;
-    Ok(bench.stop(Choice::Firm)?)
-}
+/// A run of one request that ended, and then a new life.
+const ONE_ENDED: &[Act] = &[
+    Act::Put("script", ONE_VARIABLE),
+    Act::Run(&RUN, 0, ONE_TEXT),
+    Act::Stop(Choice::Firm),
+];
 
-/// Whether a run that was stopped with a second byte of the gate that isn't made sure goes on with this text.
-fn goes_on_with(alloc: Global, choice: Choice, said: &[u8]) -> Result<bool, Fail> {
-    let mut bench = bench_with(alloc, THREE_VARIABLES)?;
-    bench.fail_when(STEP_GATE, 2);
-    let begun = gives(alloc, &mut bench, 7, b"start 3\n2: nodes 1\n")?;
-    let mut next = bench.stop(choice)?;
-    let whole = ended(alloc, THREE_VARIABLES)?;
-    Ok(begun && gives(alloc, &mut next, 0, said)? && same_files(&next, &whole))
-}
+/// The same with three requests.
+const THREE_ENDED: &[Act] = &[
+    Act::Put("script", THREE_VARIABLES),
+    Act::Run(&RUN, 0, THREE_TEXT),
+    Act::Stop(Choice::Firm),
+];
+
+/// A run of three steps that ends once its step gate has a second byte, which isn't made sure.
+const THREE_FAILED: &[Act] = &[
+    Act::Put("script", THREE_VARIABLES),
+    Act::FailWhen(STEP_GATE, 2),
+    Act::Run(&RUN, 7, b"start 3\n2: nodes 1\n"),
+];
+
+/// The same of a script whose third step sweeps, in the least room.
+const XOR_FAILED: &[Act] = &[
+    Act::Put("script", b"vars a b\nvar f a\nvar g b\nxor h f g\n"),
+    Act::FailWhen(STEP_GATE, 2),
+    Act::Run(&SMALL, 7, b"start 3\n2: nodes 1\n"),
+];
+
+/// The stopped run goes on from what the stop leaves.
+const STOPPED: [Case; 4] = [
+    (
+        "a second step that isn't committed",
+        THREE_FAILED,
+        &[
+            Act::Stop(Choice::Firm),
+            Act::Run(&RUN, 0, b"resume 1 of 3\n3: nodes 1\n4: nodes 1\ndone\n"),
+        ],
+        Some(THREE_ENDED),
+    ),
+    (
+        "a second step that is committed",
+        THREE_FAILED,
+        &[
+            Act::Stop(Choice::Present),
+            Act::Run(&RUN, 0, b"resume 2 of 3\n4: nodes 1\ndone\n"),
+        ],
+        Some(THREE_ENDED),
+    ),
+    (
+        "an operand that isn't committed",
+        XOR_FAILED,
+        &[
+            Act::Stop(Choice::Firm),
+            Act::Run(&SMALL, 0, b"resume 1 of 3\n3: nodes 1\n4: nodes 3\ndone\n"),
+            Act::Words(THIRD, DIFFERENT),
+        ],
+        None,
+    ),
+    (
+        "an operand that is committed",
+        XOR_FAILED,
+        &[
+            Act::Stop(Choice::Present),
+            Act::Run(&SMALL, 0, b"resume 2 of 3\n4: nodes 3\ndone\n"),
+            Act::Words(THIRD, DIFFERENT),
+        ],
+        None,
+    ),
+];
+
+/// A run of three steps that was stopped behind its second one, and other calls between it and the next run of it: they
+/// change nothing. The scripts' lengths differ, and byte 15 of a job is the last of its script's length. Bytes 8 to 11
+/// are the records of its room, 00040000 where none are given and 00004000 for 16,384.
+const BETWEEN: [Case; 4] = [
+    (
+        "words without a reading",
+        THREE_FAILED,
+        &[
+            Act::Stop(Choice::Present),
+            Act::Run(&["adiar"], 2, USAGE),
+            Act::Stop(Choice::Firm),
+            Act::Run(&RUN, 0, b"resume 2 of 3\n4: nodes 1\ndone\n"),
+        ],
+        Some(THREE_ENDED),
+    ),
+    (
+        "a path without a text",
+        THREE_FAILED,
+        &[
+            Act::Stop(Choice::Present),
+            Act::Run(&["adiar", "run", "FOLDER", "--script", "nothing"], 6, b""),
+            Act::Stop(Choice::Firm),
+            Act::Run(&RUN, 0, b"resume 2 of 3\n4: nodes 1\ndone\n"),
+        ],
+        Some(THREE_ENDED),
+    ),
+    (
+        "another script",
+        THREE_FAILED,
+        &[
+            Act::Stop(Choice::Present),
+            Act::Put("script", ONE_VARIABLE),
+            Act::Run(&RUN, 5, b"other job at 15\n"),
+            Act::Stop(Choice::Firm),
+            Act::Put("script", THREE_VARIABLES),
+            Act::Run(&RUN, 0, b"resume 2 of 3\n4: nodes 1\ndone\n"),
+        ],
+        Some(THREE_ENDED),
+    ),
+    (
+        "another room",
+        THREE_FAILED,
+        &[
+            Act::Stop(Choice::Present),
+            Act::Run(&SMALL, 5, b"other job at 9\n"),
+            Act::Stop(Choice::Firm),
+            Act::Run(&RUN, 0, b"resume 2 of 3\n4: nodes 1\ndone\n"),
+        ],
+        Some(THREE_ENDED),
+    ),
+];
+
+/// Runs where another ended that had the usual words. The script begins at byte 20 of a job.
+const OTHER_JOBS: [Case; 6] = [
+    (
+        "the same job",
+        ONE_ENDED,
+        &[Act::Run(&RUN, 0, b"resume 1 of 1\ndone\n")],
+        Some(ONE_ENDED),
+    ),
+    (
+        "the same script in another room",
+        ONE_ENDED,
+        &[Act::Run(&SMALL, 5, b"other job at 9\n")],
+        Some(ONE_ENDED),
+    ),
+    (
+        "another variable",
+        ONE_ENDED,
+        &[
+            Act::Put("script", b"vars a b c\nvar f c\n"),
+            Act::Run(&RUN, 5, b"other job at 37\n"),
+        ],
+        Some(ONE_ENDED),
+    ),
+    (
+        "another variable in the last line",
+        THREE_ENDED,
+        &[
+            Act::Put("script", b"vars a b c\nvar f a\nvar g b\nvar h a\n"),
+            Act::Run(&RUN, 5, b"other job at 53\n"),
+        ],
+        Some(THREE_ENDED),
+    ),
+    (
+        "another name of a variable",
+        THREE_ENDED,
+        &[
+            Act::Put("script", b"vars a b d\nvar f a\nvar g b\nvar h d\n"),
+            Act::Run(&RUN, 5, b"other job at 29\n"),
+        ],
+        Some(THREE_ENDED),
+    ),
+    (
+        "a shorter script",
+        THREE_ENDED,
+        &[
+            Act::Put("script", ONE_VARIABLE),
+            Act::Run(&RUN, 5, b"other job at 15\n"),
+        ],
+        Some(THREE_ENDED),
+    ),
+];
+
+/// A run of three steps that ended, and a catalogue of 300 bytes.
+const THREE_CUT: &[Act] = &[
+    Act::Put("script", THREE_VARIABLES),
+    Act::Run(&RUN, 0, THREE_TEXT),
+    Act::Stop(Choice::Firm),
+    Act::Replace(CATALOGUE, 300, 384, b""),
+];
+
+/// The same of a script whose third step sweeps.
+const AND_CUT: &[Act] = &[
+    Act::RunRow(&AND),
+    Act::Stop(Choice::Firm),
+    Act::Replace(CATALOGUE, 300, 384, b""),
+];
+
+/// Files that are cut or have too many bytes, and lines and steps that count nevertheless.
+const DAMAGED: [Case; 5] = [
+    (
+        "a third entry that is cut",
+        THREE_CUT,
+        &[
+            Act::Run(&RUN, 10, b"damaged 4294967295 2 256\n"),
+            Act::Length(CATALOGUE, 300),
+        ],
+        Some(THREE_CUT),
+    ),
+    (
+        "a third entry that is cut, of a step that sweeps",
+        AND_CUT,
+        &[
+            Act::Run(&RUN, 10, b"damaged 4294967295 2 256\n"),
+            Act::Length(CATALOGUE, 300),
+        ],
+        Some(AND_CUT),
+    ),
+    (
+        "a step gate that is longer than the script has steps",
+        THREE_ENDED,
+        &[
+            Act::Replace(STEP_GATE, 0, 3, &[0; 4]),
+            Act::Run(&RUN, 10, b"damaged 4294967295 3 3\n"),
+            Act::Bytes(STEP_GATE, &[0; 4]),
+        ],
+        None,
+    ),
+    (
+        "a step gate that has bytes where no job is stored",
+        &[],
+        &[
+            Act::Put("script", THREE_VARIABLES),
+            Act::Replace(STEP_GATE, 0, 0, &[0; 3]),
+            Act::Run(&RUN, 0, THREE_TEXT),
+        ],
+        Some(THREE_ENDED),
+    ),
+    // Calls 13, 22 and 23 say.
+    (
+        "a step whose line wasn't said",
+        &[],
+        &[
+            Act::Put("script", ONE_VARIABLE),
+            Act::FailAt(22),
+            Act::Run(&RUN, 8, b"start 1\n"),
+            Act::Bytes(STEP_GATE, &[0]),
+            Act::Run(&RUN, 0, b"start 1\nresume 1 of 1\ndone\n"),
+        ],
+        None,
+    ),
+];
+
+/// A run of four steps that was stopped behind the commit of the second, where its line is said.
+const HALF_DONE: &[Act] = &[
+    Act::Put("script", DROPPING),
+    Act::FailFrom(31),
+    Act::Run(&RUN, 8, b"start 4\n2: nodes 0\n"),
+    Act::Stop(Choice::Firm),
+    Act::Length(CATALOGUE, 256),
+];
+
+/// What that run says where the size reads a damaged entry.
+const READS_DAMAGE: Act = Act::Run(&RUN, 10, b"resume 2 of 4\ndamaged 4294967295 2 128\n");
+
+/// The second entry begins at byte 128: its kind is at byte 4, its name's length at byte 6, and byte 7 is 0.
+const SIZES: [Case; 6] = [
+    (
+        "a drop that isn't done twice",
+        &[],
+        &[
+            Act::Put("script", DROPPING),
+            Act::Run(&RUN, 0, DROPPING_TEXT),
+            Act::Stop(Choice::Firm),
+            Act::Run(&RUN, 0, b"resume 4 of 4\ndone\n"),
+        ],
+        None,
+    ),
+    (
+        "an entry of an answer",
+        HALF_DONE,
+        &[
+            Act::Replace(CATALOGUE, 132, 133, &[3]),
+            READS_DAMAGE,
+            Act::Length(STEP_GATE, 2),
+        ],
+        None,
+    ),
+    (
+        "an entry of a drop",
+        HALF_DONE,
+        &[
+            Act::Replace(CATALOGUE, 132, 133, &[2]),
+            READS_DAMAGE,
+            Act::Length(STEP_GATE, 2),
+        ],
+        None,
+    ),
+    (
+        "a name of 64 letters",
+        HALF_DONE,
+        &[
+            Act::Replace(CATALOGUE, 134, 135, &[64]),
+            READS_DAMAGE,
+            Act::Length(STEP_GATE, 2),
+        ],
+        None,
+    ),
+    (
+        "a byte that isn't 0",
+        HALF_DONE,
+        &[
+            Act::Replace(CATALOGUE, 135, 136, &[1]),
+            READS_DAMAGE,
+            Act::Length(STEP_GATE, 2),
+        ],
+        None,
+    ),
+    (
+        "an entry that is cut, before all lines",
+        HALF_DONE,
+        &[
+            Act::Replace(CATALOGUE, 255, 256, b""),
+            Act::Run(&RUN, 10, b"damaged 4294967295 2 128\n"),
+        ],
+        None,
+    ),
+];
+
+const FAMILIES: [&[Case]; 5] = [&STOPPED, &BETWEEN, &OTHER_JOBS, &DAMAGED, &SIZES];
 
 #[test]
-fn goes_on_where_a_step_may_be_committed(rt: HostRuntime) -> Result<(), Fail> {
-    let cases: [(Choice, &[u8]); 2] = [
-        (
-            Choice::Firm,
-            b"resume 1 of 3\n3: nodes 1\n4: nodes 1\ndone\n",
-        ),
-        (Choice::Present, b"resume 2 of 3\n4: nodes 1\ndone\n"),
-    ];
-    for (choice, said) in cases {
-        assert!(rt; goes_on_with(rt.alloc(), choice, said)?, "{choice:?}");
+fn goes_on_or_says_what_the_folder_holds(rt: HostRuntime) -> Result<(), Fail> {
+    for cases in FAMILIES {
+        all_go(&rt, rt.alloc(), cases)?;
     }
-    Ok(())
-}
-
-/// Whether a run finds the third entry damaged where the catalogue has 300 bytes, and leaves all as it was.
-fn finds_a_damaged_entry(alloc: Global, script: &[u8]) -> Result<bool, Fail> {
-    let mut bench = ended(alloc, script)?;
-    let mut left = ended(alloc, script)?;
-    let mut front = Vec::from_slice(alloc, bench.file(CATALOGUE))?;
-    front.truncate(300);
-    bench.put_file(CATALOGUE, &front)?;
-    left.put_file(CATALOGUE, &front)?;
-    Ok(
-        gives(alloc, &mut bench, 10, b"damaged 4294967295 2 256\n")?
-            && bench.file(CATALOGUE).len() == 300
-            && same_files(&bench, &left),
-    )
-}
-
-#[test]
-fn says_which_entry_is_damaged(rt: HostRuntime) -> Result<(), Fail> {
-    for script in [THREE_VARIABLES, AND.script] {
-        assert!(rt; finds_a_damaged_entry(rt.alloc(), script)?, "{script:?}");
-    }
-    Ok(())
-}
-
-/// Whether a run finds a step gate damaged that is longer than the script has steps, and leaves it.
-fn finds_a_longer_gate(alloc: Global) -> Result<bool, Fail> {
-    let mut bench = ended(alloc, THREE_VARIABLES)?;
-    bench.put_file(STEP_GATE, &[0; 4])?;
-    Ok(
-        gives(alloc, &mut bench, 10, b"damaged 4294967295 3 3\n")?
-            && bench.file(STEP_GATE) == [0; 4].as_slice(),
-    )
-}
-
-#[test]
-fn says_that_a_longer_gate_is_damaged(rt: HostRuntime) -> Result<(), Fail> {
-    assert!(rt; finds_a_longer_gate(rt.alloc())?);
-    Ok(())
-}
-
-/// Whether a run of the script with these words, where another ended that had the usual ones, answers this, says this
-/// text and leaves all as it was.
-fn answers_over(
-    alloc: Global,
-    stored: &[u8],
-    words: &[&str],
-    script: &[u8],
-    status: u8,
-    said: &[u8],
-) -> Result<bool, Fail> {
-    let mut bench = ended(alloc, stored)?;
-    let left = ended(alloc, stored)?;
-    bench.put_text("script", script)?;
-    let answered = run(alloc, words, &mut bench)? == status && bench.said() == said;
-    Ok(answered && same_files(&bench, &left))
-}
-
-#[test]
-fn says_where_another_job_differs(rt: HostRuntime) -> Result<(), Fail> {
-    // The script begins at byte 20 of a job, and the last byte of its length is byte 15. Bytes 8 to 11 are the records
-    // of its room, 00040000 where none are given and 00004000 for 16,384.
-    let cases: [(&[u8], &[&str], &[u8], u8, &[u8]); 6] = [
-        (
-            ONE_VARIABLE,
-            &RUN,
-            ONE_VARIABLE,
-            0,
-            b"resume 1 of 1\ndone\n",
-        ),
-        (ONE_VARIABLE, &SMALL, ONE_VARIABLE, 5, b"other job at 9\n"),
-        (
-            ONE_VARIABLE,
-            &RUN,
-            b"vars a b c\nvar f c\n",
-            5,
-            b"other job at 37\n",
-        ),
-        (
-            THREE_VARIABLES,
-            &RUN,
-            b"vars a b c\nvar f a\nvar g b\nvar h a\n",
-            5,
-            b"other job at 53\n",
-        ),
-        (
-            THREE_VARIABLES,
-            &RUN,
-            b"vars a b d\nvar f a\nvar g b\nvar h d\n",
-            5,
-            b"other job at 29\n",
-        ),
-        (THREE_VARIABLES, &RUN, ONE_VARIABLE, 5, b"other job at 15\n"),
-    ];
-    for (stored, words, script, status, said) in cases {
-        assert!(rt;
-            answers_over(rt.alloc(), stored, words, script, status, said)?,
-            "{said:?}"
-        );
-    }
-    Ok(())
-}
-
-/// Whether a step counts whose line wasn't said, since the call that says it failed. Calls 13, 22 and 23 say.
-fn counts_an_unsaid_step(alloc: Global) -> Result<bool, Fail> {
-    let mut bench = bench_with(alloc, ONE_VARIABLE)?;
-    bench.fail_at(22)?;
-    let begun = gives(alloc, &mut bench, 8, b"start 1\n")?
-        && bench.file(STEP_GATE) == [0].as_slice();
-    Ok(begun && gives(alloc, &mut bench, 0, b"start 1\nresume 1 of 1\ndone\n")?)
-}
-
-#[test]
-fn counts_a_step_whose_line_was_not_said(rt: HostRuntime) -> Result<(), Fail> {
-    assert!(rt; counts_an_unsaid_step(rt.alloc())?);
-    Ok(())
-}
-
-/// Whether a run where the step gate has bytes and no job is stored is one from nothing.
-fn runs_as_from_nothing(alloc: Global) -> Result<bool, Fail> {
-    let whole = ended(alloc, THREE_VARIABLES)?;
-    let mut bench = bench_with(alloc, THREE_VARIABLES)?;
-    bench.put_file(STEP_GATE, &[0; 3])?;
-    Ok(gives(alloc, &mut bench, 0, THREE_TEXT)? && same_files(&bench, &whole))
-}
-
-#[test]
-fn runs_as_from_nothing_where_no_job_is_stored(rt: HostRuntime) -> Result<(), Fail> {
-    assert!(rt; runs_as_from_nothing(rt.alloc())?);
     Ok(())
 }

@@ -1,7 +1,11 @@
 // Scripts, most of whose steps sweep over diagrams: what a run of each says, and the words of node files that it
 // leaves.
-use crate::bench_run::{DROPPING, DROPPING_TEXT, THREE_TEXT, THREE_VARIABLES, bench_with, gives};
-use crate::files::{LEVEL_0, LEVEL_1, LEVEL_2, ONE, ZERO, has_words, node_file, part_of};
+use crate::bench_run::{
+    DROPPING, DROPPING_TEXT, RUN, THREE_TEXT, THREE_VARIABLES, bench_with, run,
+};
+use crate::files::{
+    LEVEL_0, LEVEL_1, LEVEL_2, ONE, ZERO, has_no_other_parts, has_words, node_file,
+};
 use shelf_memory::Bench;
 use std::alloc::Global;
 use std::test::Fail;
@@ -32,7 +36,7 @@ const BOTH: &[u64] = &[LEVEL_1, ZERO, ONE, LEVEL_0, ZERO, LEVEL_1, LEVEL_0, 2, 2
 const NOT_BOTH: &[u64] = &[LEVEL_1, ONE, ZERO, LEVEL_0, ONE, LEVEL_1, LEVEL_0, 2, 2];
 
 /// The file of `a xor b`.
-const DIFFERENT: &[u64] = &[
+pub(crate) const DIFFERENT: &[u64] = &[
     LEVEL_1,
     ZERO,
     ONE,
@@ -223,7 +227,7 @@ pub(crate) const DROP: Row = Row {
 };
 
 /// All of them.
-pub(crate) const ROWS: [Row; 15] = [
+const ROWS: [Row; 15] = [
     AND,
     XOR,
     XOR_SAME,
@@ -251,46 +255,25 @@ pub(crate) fn has_files(bench: &Bench, files: &[Left]) -> bool {
     true
 }
 
-/// Whether a run of the script in an empty folder says its text and leaves its files.
-fn says_and_leaves(alloc: Global, row: &Row) -> Result<bool, Fail> {
-    let mut bench = bench_with(alloc, row.script)?;
-    Ok(gives(alloc, &mut bench, 0, row.said)? && has_files(&bench, row.files))
+/// Whether a run of the script in an empty folder says its text and leaves its files, and of no step more than a node
+/// file.
+fn says_and_leaves(alloc: Global, row: &Row) -> bool {
+    let Ok(mut bench) = bench_with(alloc, row.script) else {
+        return false;
+    };
+    let status = run(alloc, &RUN, &mut bench);
+    for step in 0..STEPS {
+        if !has_no_other_parts(&bench, step) {
+            return false;
+        }
+    }
+    status == 0 && bench.said() == row.said && has_files(&bench, row.files)
 }
 
 #[test]
 fn says_and_leaves_what_each_script_asks_for(rt: HostRuntime) -> Result<(), Fail> {
-    for row in ROWS {
-        assert!(rt; says_and_leaves(rt.alloc(), &row)?, "{:?}", row.script);
-    }
-    Ok(())
-}
-
-/// Whether the parts of a step behind its node file are empty: its checkpoints, their gate and its arcs.
-pub(crate) fn has_no_other_parts(bench: &Bench, step: u32) -> bool {
-    for part in 1..5 {
-        if !bench.file(part_of(step, part)).is_empty() {
-            return false;
-        }
-    }
-    true
-}
-
-/// Whether a run of the script says its text, and leaves of no step more than a node file.
-fn leaves_no_arcs(alloc: Global, row: &Row) -> Result<bool, Fail> {
-    let mut bench = bench_with(alloc, row.script)?;
-    let told = gives(alloc, &mut bench, 0, row.said)?;
-    for step in 0..STEPS {
-        if !has_no_other_parts(&bench, step) {
-            return Ok(false);
-        }
-    }
-    Ok(told)
-}
-
-#[test]
-fn leaves_no_arcs_of_a_step_that_swept(rt: HostRuntime) -> Result<(), Fail> {
-    for row in ROWS {
-        assert!(rt; leaves_no_arcs(rt.alloc(), &row)?, "{:?}", row.script);
+    for (k, row) in ROWS.iter().enumerate() {
+        assert!(rt; says_and_leaves(rt.alloc(), row), "row {k}");
     }
     Ok(())
 }

@@ -1,21 +1,24 @@
 // Runs of scripts in the least room that are stopped at any of their calls, or of which any one call fails, and are
 // then run again.
 use crate::bench_run::{SMALL, bench_with, run};
-use crate::files::{CATALOGUE, FIRST, JOB, JOB_GATE, STEP_GATE, has_words, node_file};
-use crate::parts_said::{goes_on_behind, line_count, lines_said};
+use crate::files::{
+    CATALOGUE, FIRST, JOB, JOB_GATE, STEP_GATE, has_no_other_parts, has_words, node_file,
+};
+use crate::parts_said::{goes_on, line_count, lines_said};
 use crate::rows::{
     AND_DROP, AND_LEQ, CONSTANTS_LEQ, DROP, EVAL_OF_NONE, EXISTS_LEQ, ITE_QUANTIFIERS, NO_STEPS,
-    OTHER_LAYOUT, RESTRICT_EVAL, Row, STEPS, THREE, XOR_ITE, XOR_SAME, has_files,
-    has_no_other_parts,
+    OTHER_LAYOUT, RESTRICT_EVAL, Row, STEPS, THREE, XOR, XOR_ITE, XOR_SAME, has_files,
 };
 use shelf_memory::{Bench, Choice};
 use std::alloc::Global;
+use std::process::Abort;
 use std::test::Fail;
 
 /// The rows that are stopped, and of which each call fails in turn.
-const STOPPED: [Row; 13] = [
+const STOPPED: [Row; 14] = [
     THREE,
     DROP,
+    XOR,
     XOR_SAME,
     XOR_ITE,
     EXISTS_LEQ,
@@ -27,16 +30,6 @@ const STOPPED: [Row; 13] = [
     AND_LEQ,
     CONSTANTS_LEQ,
     OTHER_LAYOUT,
-];
-
-/// What a stop may leave of what was pending.
-pub(crate) const CHOICES: [Choice; 6] = [
-    Choice::Firm,
-    Choice::Present,
-    Choice::Fill(255),
-    Choice::Mixed(0),
-    Choice::Mixed(1),
-    Choice::Mixed(2),
 ];
 
 /// Whether the job, the entries, the gates and the node files are those of the whole run, and the parts behind the
@@ -70,31 +63,27 @@ fn keeps_what_is_not_dropped(row: &Row, committed: usize, bench: &Bench) -> bool
 
 /// Goes on in a folder where a run ended that had said this front part of so many lines, and says whether the text and
 /// the files are those of the whole run, which nobody stopped. The station was told that part, or nothing.
-fn ends_well(
-    alloc: Global,
-    row: &Row,
-    whole: &Bench,
-    bench: &mut Bench,
-    lines: usize,
-) -> Result<bool, Fail> {
-    let told_before = bench.said().len();
+fn ends_well(alloc: Global, row: &Row, whole: &Bench, bench: &mut Bench, lines: usize) -> bool {
+    let before = bench.said().len();
     let committed = bench.file(STEP_GATE).len();
     let kept = keeps_what_is_not_dropped(row, committed, bench);
-    let status = run(alloc, &SMALL, bench)?;
-    let Some(before) = row.said.get(..told_before) else {
-        return Ok(false);
-    };
-    let told = goes_on_behind(row.said, bench.said(), lines, before);
+    let is_stored = !bench.file(JOB_GATE).is_empty();
+    let status = run(alloc, &SMALL, bench);
+    let count = if is_stored { Some(committed) } else { None };
+    let told = goes_on(row.said, bench.said(), before, lines, count);
     let may_be_left = !row.dropped.is_empty() && committed == 4;
     let right = may_be_left || has_files(bench, row.files);
-    Ok(kept && status == 0 && told && right && same_files(row, committed, bench, whole))
+    kept && status == 0 && told && right && same_files(row, committed, bench, whole)
 }
 
 /// What is left for the next run: the same station where one call failed, and else what the choice leaves at a stop.
-fn left(bench: Bench, choice: Option<Choice>) -> Result<Bench, Fail> {
+fn left(bench: Bench, choice: Option<Choice>) -> Option<Bench> {
     match choice {
-        Some(choice) => Ok(bench.stop(choice)?),
-        None => Ok(bench),
+        Some(choice) => match bench.stop(choice) {
+            Ok(next) => Some(next),
+            Err(_) => None,
+        },
+        None => Some(bench),
     }
 }
 
@@ -120,96 +109,96 @@ fn outlives(
     choice: Option<Choice>,
     call: u64,
     lines: usize,
-) -> Result<Option<usize>, Fail> {
-    let mut bench = bench_with(alloc, row.script)?;
-    match choice {
-        Some(_) => bench.fail_from(call),
-        None => bench.fail_at(call)?,
-    }
-    let status = run(alloc, &SMALL, &mut bench)?;
-    if lines_said(row.said, bench.said()) != Some(lines) {
-        return Ok(None);
-    }
+) -> Option<usize> {
+    let Ok(mut bench) = bench_with(alloc, row.script) else {
+        return None;
+    };
+    let listed = match choice {
+        Some(_) => {
+            bench.fail_from(call);
+            true
+        }
+        None => bench.fail_at(call).is_ok(),
+    };
+    let status = run(alloc, &SMALL, &mut bench);
+    let said = lines_said(row.said, bench.said()) == Some(lines);
     let mut next = left(bench, choice)?;
-    let well = ends_well(alloc, row, whole, &mut next, lines)?;
-    Ok(if !well || !is_due(row, status, call, whole.clock()) {
-        None
-    } else if status == 8 {
-        Some(lines.saturating_add(1))
+    let well = ends_well(alloc, row, whole, &mut next, lines);
+    if listed && said && well && is_due(row, status, call, whole.clock()) {
+        Some(lines.saturating_add(if status == 8 { 1 } else { 0 }))
     } else {
-        Some(lines)
-    })
+        None
+    }
 }
 
 /// The first call that isn't outlived, or the number of all calls where they aren't as many as they should be or leave
 /// a line unsaid.
-fn first_loss(alloc: Global, row: &Row, choice: Option<Choice>) -> Result<Option<u64>, Fail> {
-    let mut whole = bench_with(alloc, row.script)?;
-    run(alloc, &SMALL, &mut whole)?;
+fn first_loss(alloc: Global, row: &Row, choice: Option<Choice>) -> Option<u64> {
+    let Ok(mut whole) = bench_with(alloc, row.script) else {
+        return Some(0);
+    };
+    let ended = run(alloc, &SMALL, &mut whole) == 0;
     let calls = whole.clock();
     // A stop may come behind the last call, but the next call after it is one of the next run.
-    let end = match choice {
-        Some(_) => calls.saturating_add(1),
-        None => calls,
-    };
+    let end = calls.saturating_add(if choice.is_some() { 1 } else { 0 });
     let mut lines = 0usize;
     for call in 0..end {
-        match outlives(alloc, row, &whole, choice, call, lines)? {
+        match outlives(alloc, row, &whole, choice, call, lines) {
             Some(then) => lines = then,
-            None => return Ok(Some(call)),
+            None => return Some(call),
         }
     }
     let as_many = match row.says.last() {
         Some(last) => last.saturating_add(1) == calls,
         None => true,
     };
-    Ok(if as_many && lines == line_count(row.said) {
+    if ended && as_many && lines == line_count(row.said) {
         None
     } else {
         Some(calls)
-    })
+    }
 }
 
-/// What isn't outlived: the row's place, and the first call.
-fn first_lost_row(alloc: Global, choice: Option<Choice>) -> Result<Option<(usize, u64)>, Fail> {
-    for (k, row) in STOPPED.into_iter().enumerate() {
-        if let Some(call) = first_loss(alloc, &row, choice)? {
-            return Ok(Some((k, call)));
-        }
+/// No row loses anything at a stop that leaves what the choice takes, or where a call fails.
+fn loses_nothing(rt: &impl Abort, alloc: Global, choice: Option<Choice>) -> Result<(), Fail> {
+    for (k, row) in STOPPED.iter().enumerate() {
+        let lost = first_loss(alloc, row, choice);
+        assert!(rt; lost.is_none(), "row {k}, call {lost:?}");
     }
-    Ok(None)
+    Ok(())
 }
 
 #[test]
-fn loses_nothing_at_a_stop_that_leaves_what_is_sure_or_read(rt: HostRuntime) -> Result<(), Fail> {
-    for choice in [Choice::Firm, Choice::Present] {
-        let lost = first_lost_row(rt.alloc(), Some(choice))?;
-        assert!(rt; lost.is_none(), "{choice:?}, row and call {lost:?}");
-    }
-    Ok(())
+fn loses_nothing_at_a_stop_that_leaves_what_is_sure(rt: HostRuntime) -> Result<(), Fail> {
+    loses_nothing(&rt, rt.alloc(), Some(Choice::Firm))
+}
+
+#[test]
+fn loses_nothing_at_a_stop_that_leaves_what_is_read(rt: HostRuntime) -> Result<(), Fail> {
+    loses_nothing(&rt, rt.alloc(), Some(Choice::Present))
 }
 
 #[test]
 fn loses_nothing_at_a_stop_that_leaves_other_bytes(rt: HostRuntime) -> Result<(), Fail> {
-    for choice in [Choice::Fill(255), Choice::Mixed(0)] {
-        let lost = first_lost_row(rt.alloc(), Some(choice))?;
-        assert!(rt; lost.is_none(), "{choice:?}, row and call {lost:?}");
-    }
-    Ok(())
+    loses_nothing(&rt, rt.alloc(), Some(Choice::Fill(255)))
 }
 
 #[test]
-fn loses_nothing_at_a_stop_that_leaves_a_mixture(rt: HostRuntime) -> Result<(), Fail> {
-    for choice in [Choice::Mixed(1), Choice::Mixed(2)] {
-        let lost = first_lost_row(rt.alloc(), Some(choice))?;
-        assert!(rt; lost.is_none(), "{choice:?}, row and call {lost:?}");
-    }
-    Ok(())
+fn loses_nothing_at_a_stop_that_leaves_a_first_mixture(rt: HostRuntime) -> Result<(), Fail> {
+    loses_nothing(&rt, rt.alloc(), Some(Choice::Mixed(0)))
+}
+
+#[test]
+fn loses_nothing_at_a_stop_that_leaves_a_second_mixture(rt: HostRuntime) -> Result<(), Fail> {
+    loses_nothing(&rt, rt.alloc(), Some(Choice::Mixed(1)))
+}
+
+#[test]
+fn loses_nothing_at_a_stop_that_leaves_a_third_mixture(rt: HostRuntime) -> Result<(), Fail> {
+    loses_nothing(&rt, rt.alloc(), Some(Choice::Mixed(2)))
 }
 
 #[test]
 fn loses_nothing_after_a_call_that_failed(rt: HostRuntime) -> Result<(), Fail> {
-    let lost = first_lost_row(rt.alloc(), None)?;
-    assert!(rt; lost.is_none(), "row and call {lost:?}");
-    Ok(())
+    loses_nothing(&rt, rt.alloc(), None)
 }
