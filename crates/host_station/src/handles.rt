@@ -17,12 +17,14 @@ const CALLS_IN_USE: u64 = 320;
 /// How many places are remembered, so that a file is mostly found at once.
 const PLACES: usize = 4096;
 
-/// The open files. The one that was used longest ago is given up for another one.
+/// The open files. One that isn't in use is given up for another one.
 #[derive(Drop)]
 pub(crate) struct Handles<F> {
     pub(crate) all: Vec<Handle<F>>,
     /// Where files stood last, each remembered at its own [`turn_of`]. Another may stand there now.
     places: [usize; PLACES],
+    /// Which of them is looked at first for one to give up.
+    hand: usize,
     calls: u64,
     /// Whether bytes were written whose sync failed, or that were given up unsynced: a later sync
     /// might answer Ok without them.
@@ -34,6 +36,7 @@ impl<F: Read + Write + Seek + OpenFile + Drop> Handles<F> {
         Handles {
             all: Vec::new(alloc),
             places: [0; PLACES],
+            hand: 0,
             calls: 0,
             is_lost: false,
         }
@@ -79,10 +82,10 @@ impl<F: Read + Write + Seek + OpenFile + Drop> Handles<F> {
         self.all.len() >= MOST_OPEN
     }
 
-    /// Gives up the handle that was used longest ago, of those that weren't changed since their
-    /// sync and aren't in use where there are any. One that was changed is synced first. Answers whether there was one.
+    /// Gives up a handle, of those that weren't changed since their sync and aren't in use where there
+    /// are any. One that was changed is synced first. Answers whether there was one.
     pub(crate) fn give_up(&mut self) -> io::Result<bool> {
-        let Some(i) = self.longest_unused() else {
+        let Some(i) = self.in_turn() else {
             return Ok(false);
         };
         let mut handle = self.all.swap_remove(i);
@@ -93,6 +96,21 @@ impl<F: Read + Write + Seek + OpenFile + Drop> Handles<F> {
             return Err(e);
         }
         Ok(true)
+    }
+
+    // The one whose turn it is, where it can be given up as it is. Otherwise they are all looked at.
+    fn in_turn(&mut self) -> Option<usize>
+        ensures { IfSome result (λ i. i < vec_len self.new.all) }
+    {
+        if self.hand >= self.all.len() {
+            self.hand = 0;
+        }
+        let i = self.hand;
+        self.hand = self.hand.saturating_add(1);
+        match self.all.get(i) {
+            Some(handle) if !rank_of(handle, self.calls).0 => Some(i),
+            _ => self.longest_unused(),
+        }
     }
 
     fn longest_unused(&self) -> Option<usize>
