@@ -272,7 +272,7 @@ ask_total =
     (then_total (member_total (λ a. a.members.second)) (member_total (λ a. a.members.third))))
     (on_total (λ (a : Ask). a.asker) nat_cmp_total))
 
-key_from : (a b : Ask) → is_lt (ask_cmp b a) ≡ false → a.key ≤ b.key
+pub key_from : (a b : Ask) → is_lt (ask_cmp b a) ≡ false → a.key ≤ b.key
 key_from a b none = by (nat_cmp b.key a.key) (ranked b.key a.key (nat_cmp b.key a.key) refl) none
   where
     by : (o : Ordering) → MatchOrdering o (b.key < a.key) (b.key ≡ a.key) (a.key < b.key)

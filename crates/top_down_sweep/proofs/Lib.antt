@@ -19,6 +19,7 @@ pub mod TurnKeeps
 pub mod ReadKeeps
 pub mod StartKeeps
 pub mod TaskLaws
+pub mod Orders
 pub mod Makings
 pub mod Somewhere
 pub mod MetOnes

@@ -1,6 +1,6 @@
 -- What is true in a phase stays while asks are answered.
 use Rattle.std.proofs.Common.{◌≡◌, ◌∙◌, ap, subst, sym}
-use Rattle.std.specs.Prelude.{Option}
+use Rattle.std.specs.Prelude.{Option, []}
 use Rattle.arc_file.specs.declared.writer.ArcWriter.{ArcWriter}
 use Rattle.top_down_sweep.specs.declared.ask.Ask.{Ask}
 use Rattle.top_down_sweep.specs.declared.place.Phase.{Phase}
@@ -8,9 +8,10 @@ use Rattle.top_down_sweep.specs.declared.place.Place.{Place}
 use Rattle.top_down_sweep.specs.declared.machine.Machine.{Machine}
 use Rattle.top_down_sweep.specs.declared.place.Phase.TheVariants.{Fresh, Asking, Ended}
 use Rattle.shelf_model.specs.World.{World}
-use Rattle.arc_file.specs.Writers.{AreInStep}
+use Rattle.arc_file.specs.Writers.{AreInStep, HoldsArcs}
 use Rattle.top_down_sweep.specs.Sweeps.{IsPhaseAt, IsAsking}
 use Rattle.top_down_sweep.specs.Waiting.{HoldsSome, HasNoHands}
+use Rattle.top_down_sweep.specs.Ordered.{HoldsPut, IsOrdered, IsOrderedAt}
 use Rattle.top_down_sweep.specs.Calls.{IsStepAt, IsMachineInStep}
 
 -- whatever was taken
@@ -28,18 +29,18 @@ pub still_asking : (p q : Machine) (s : _) → p.place.phase ≡ Asking s → q.
 still_asking p q s is same = is_asking q.place.phase s (ap (λ (place : Place). place.phase) same ∙ is)
 
 -- what a folder holds while asks are answered
-pub step_at : (m : Machine) (world : World) → IsAsking m.place.phase → AreInStep m.writer world → HoldsSome 1 m world → IsMachineInStep m world
-step_at m world is writes holds = by m.place.phase is
+pub step_at : (m : Machine) (world : World) → IsAsking m.place.phase → AreInStep m.writer world → HoldsSome 1 m world → IsOrdered m world → IsMachineInStep m world
+step_at m world is writes holds put = by m.place.phase is put
   where
-    by : (phase : Phase) → IsAsking phase → IsStepAt phase m world
-    by Fresh is = absurd is
-    by (Asking s) is = (writes, holds)
-    by (Ended made) is = absurd is
+    by : (phase : Phase) → IsAsking phase → IsOrderedAt phase m world → IsStepAt phase m world
+    by Fresh is put = absurd is
+    by (Asking s) is put = (writes, holds, put)
+    by (Ended made) is put = absurd is
 
 -- what it holds before the root is asked for
-pub fresh_step : (m : Machine) (world : World) → m.place.phase ≡ Fresh → IsMachineInStep m world → AreInStep m.writer world × HoldsSome 0 m world × HasNoHands m.operands
+pub fresh_step : (m : Machine) (world : World) → m.place.phase ≡ Fresh → IsMachineInStep m world → AreInStep m.writer world × HoldsSome 0 m world × HasNoHands m.operands × HoldsArcs m.writer world [] []
 fresh_step m world is step = subst (λ p. IsStepAt p m world) is step
 
 -- and while asks are answered
-pub asking_step : (m : Machine) (world : World) (s : _) → m.place.phase ≡ Asking s → IsMachineInStep m world → AreInStep m.writer world × HoldsSome 1 m world
+pub asking_step : (m : Machine) (world : World) (s : _) → m.place.phase ≡ Asking s → IsMachineInStep m world → AreInStep m.writer world × HoldsSome 1 m world × HoldsPut s m world
 asking_step m world s is step = subst (λ p. IsStepAt p m world) is step

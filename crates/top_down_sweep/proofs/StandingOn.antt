@@ -127,6 +127,25 @@ stands_written n m q old new k inner ends rest files are wrote held one stands =
       apart = subst (λ fs. AreApart fs m.parts.step) (sym same) stands.apart;
     })
 
+-- they do where parts were taken, and where files were looked at
+pub arcs_spilled : (m : Machine) (after : Parts) (old new : World) → IsServed m
+    → Spilled m.parts after old new → (inner ends : List Arc) → HoldsArcs m.writer old inner ends
+    → HoldsArcs m.writer new inner ends
+arcs_spilled m after old new served spilled inner ends held =
+    arcs_still m.writer old new inner ends (untaken _ served.inner_made)
+    (untaken _ served.ends_made) held
+  where
+    untaken : (f : FileNo) → ¬ CanBeTaken m.parts.step m.parts.next f → file new f ≡ file old f
+    untaken f free = ran_end old new (OnlyTaken m.parts after (now old)) spilled f
+        (λ taken. free (record { step_is = taken.step_is; from = taken.from }))
+
+pub arcs_shown : (w : ArcWriter) (old new : World) → Ran (Stays (now old)) old new
+    → (inner ends : List Arc) → HoldsArcs w old inner ends → HoldsArcs w new inner ends
+arcs_shown w old new ran inner ends held = arcs_still w old new inner ends (same _) (same _) held
+  where
+    same : (f : FileNo) → file new f ≡ file old f
+    same f = ap (λ (d : Folder). file_in d f) (ran_end old new (Stays (now old)) ran)
+
 -- a queue has another list, and parts were taken
 pub stands_spilled : (m : Machine) (q : LevelQueue Ask) (after : Parts) (old new : World)
     (k : Contents) (asks : List Ask) → IsServed m → AreOperands m.place.variables m.operands
@@ -138,22 +157,13 @@ stands_spilled m q after old new k asks served are spilled took runs waits stand
   asks_are = waits;
   read = all_still m old new k.readings are
       (apart_spilled m after old new (serves_past m.parts m.queue served.serves) spilled) stands.apart stands.read;
-  written = arcs_still m.writer old new k.inner k.ends (untaken _ served.inner_made)
-      (untaken _ served.ends_made) stands.written;
+  written = arcs_spilled m after old new served spilled k.inner k.ends stands.written;
   one_is = stands.one_is;
   no_run = runs_apart m q after served runs stands.no_run;
   apart = subst (AreApart (files_in m)) (sym took.step_is) stands.apart;
 }
-  where
-    untaken : (f : FileNo) → ¬ CanBeTaken m.parts.step m.parts.next f → file new f ≡ file old f
-    untaken f free = ran_end old new (OnlyTaken m.parts after (now old)) spilled f
-        (λ taken. free (record { step_is = taken.step_is; from = taken.from }))
 
 -- files were looked at
-stays_same : (old new : World) → Ran (Stays (now old)) old new → (f : FileNo)
-    → file new f ≡ file old f
-stays_same old new ran f = ap (λ (d : Folder). file_in d f) (ran_end old new (Stays (now old)) ran)
-
 pub stands_shown : (m : Machine) (q : LevelQueue Ask) (old new : World) (k : Contents)
     → AreOperands m.place.variables m.operands → Ran (Stays (now old)) old new
     → ((f : FileNo) → queues.IsRunOf q f → queues.IsRunOf m.queue f) → Waits q new k.asks
@@ -162,8 +172,7 @@ stands_shown m q old new k are ran runs waits stands = record {
   asks_are = waits;
   read = all_still m old new k.readings are (λ f _. looked_same old new ran f) stands.apart
       stands.read;
-  written = arcs_still m.writer old new k.inner k.ends (stays_same old new ran _)
-      (stays_same old new ran _) stands.written;
+  written = arcs_shown m.writer old new ran k.inner k.ends stands.written;
   one_is = stands.one_is;
   no_run = λ f made run. stands.no_run f made (runs f run);
   apart = stands.apart;
@@ -178,8 +187,7 @@ stands_read m o old new k r files ran read stands = record {
   asks_are = queue_kept IsAsk ask_words ask_cmp m.queue old new k.asks
       (λ f run. looked_same old new ran f) stands.asks_are;
   read = read;
-  written = arcs_still m.writer old new k.inner k.ends (stays_same old new ran _)
-      (stays_same old new ran _) stands.written;
+  written = arcs_shown m.writer old new ran k.inner k.ends stands.written;
   one_is = stands.one_is;
   no_run = λ f made. stands.no_run f (subst (λ fs. IsMade fs f) files made);
   apart = subst (λ fs. AreApart fs m.parts.step) (sym files) stands.apart;

@@ -63,14 +63,12 @@ handling t s a m q old new h last shows = record {
 }
 
 -- an arc that answers an ask goes to the arcs to nodes
-pub stands_answered : (m : Machine) (world : World) (k : Contents) (asker target : ℕ) (a : Arc)
+pub answered : (P : List Arc → List Arc → Type 0) (xs ys : List Arc) (asker target : ℕ) (a : Arc)
     → level_of (asker / 2) < most_variables → target < 2 ^ 63
     → a ≡ record { source = asker / 2; high = asker % 2 == 1; target = target }
-    → StandsFor m world (record k {
-      inner = k.inner ++ inner_arcs (a ∷ []);
-      ends = k.ends ++ end_arcs (a ∷ []);
-    }) → StandsFor m world (record k { inner = k.inner ++ laws.answer_arcs asker target })
-stands_answered m world k asker target a node fits is stands =
+    → P (xs ++ inner_arcs (a ∷ [])) (ys ++ end_arcs (a ∷ []))
+    → P (xs ++ laws.answer_arcs asker target) ys
+answered P xs ys asker target a node fits is holds =
     let there : nat_lt (level_of (asker / 2)) most_variables ≡ true = grind (arith, nat_tests) in
     let leads : a.target < 2 ^ 63 = subst (λ w. w < 2 ^ 63) (sym (ap (λ (x : Arc). x.target) is))
     fits in
@@ -79,26 +77,38 @@ stands_answered m world k asker target a node fits is stands =
     let mine : inner_arcs (a ∷ []) ≡ laws.answer_arcs asker target = inner
     ∙ ap (λ (x : Arc). x ∷ []) is
     ∙ sym (ap (λ b. cond b (laws.arc_from asker target ∷ []) []) there) in
-    subst (λ v. v) (λ i. StandsFor m world (record k {
-      inner = k.inner ++ mine i;
-      ends = (ap (λ xs. k.ends ++ xs) ends ∙ append-nil k.ends) i;
-    })) stands
+    subst (λ v. v) (λ i. P (xs ++ mine i) ((ap (λ zs. ys ++ zs) ends ∙ append-nil ys) i)) holds
 
 -- the root's ask has none
-pub stands_unasked : (m : Machine) (world : World) (k : Contents) (asker target : ℕ)
-    → (level_of (asker / 2) < most_variables → ⊥) → StandsFor m world k
-    → StandsFor m world (record k { inner = k.inner ++ laws.answer_arcs asker target })
-stands_unasked m world k asker target none stands =
+pub unasked : (P : List Arc → Type 0) (xs : List Arc) (asker target : ℕ)
+    → (level_of (asker / 2) < most_variables → ⊥) → P xs → P (xs ++ laws.answer_arcs asker target)
+unasked P xs asker target none holds =
     let there : nat_lt (level_of (asker / 2)) most_variables ≡ false = grind (arith, nat_tests) in
     let mine : laws.answer_arcs asker target ≡ [] =
     ap (λ b. cond b (laws.arc_from asker target ∷ []) []) there in
-    subst (λ v. v) (λ i. StandsFor m world (record k {
-      inner = sym (ap (λ xs. k.inner ++ xs) mine ∙ append-nil k.inner) i;
-    })) stands
+    subst P (sym (ap (λ zs. xs ++ zs) mine ∙ append-nil xs)) holds
 
 -- a side that is constant has its arc
 abbrev value_arc : ℕ → Bool → Bool → Arc
 value_arc s side v = record { source = s; high = side; target = terminal v }
+
+pub valued : (P : List Arc → List Arc → Type 0) (xs ys : List Arc) (s : ℕ) (side value : Bool)
+    (goal : Goal) → goal ≡ End value → (a : Arc)
+    → a ≡ record { source = s; high = side; target = terminal value }
+    → P (xs ++ inner_arcs (a ∷ [])) (ys ++ end_arcs (a ∷ [])) → P xs (ys ++ side_arcs s side goal)
+valued P xs ys s side value goal is a arc_is holds =
+    subst (λ g. P xs (ys ++ side_arcs s side g)) (sym is)
+    (subst (λ v. v) (λ i. P ((ap (λ (x : Arc). xs ++ inner_arcs (x ∷ [])) arc_is
+    ∙ ap (λ zs. xs ++ zs) (none value) ∙ append-nil xs) i)
+    ((ap (λ (x : Arc). ys ++ end_arcs (x ∷ [])) arc_is ∙ ap (λ zs. ys ++ zs) (one value)) i)) holds)
+  where
+    none : (v : Bool) → inner_arcs (value_arc s side v ∷ []) ≡ []
+    none true = refl
+    none false = refl
+
+    one : (v : Bool) → end_arcs (value_arc s side v ∷ []) ≡ value_arc s side v ∷ []
+    one true = refl
+    one false = refl
 
 pub serves_end : (m : Machine) (world : World) (k : Contents) (s : ℕ) (side value : Bool)
     (goal : Goal) → goal ≡ End value → (a : Arc)
@@ -111,21 +121,9 @@ serves_end m world k s side value goal is a arc_is stands =
     subst (ServesSide m world k s side) (sym is) (
       k.asks,
       IsPermutation-refl k.asks,
-      subst (λ v. v) (λ i. StandsFor m world (record k {
-        inner = (ap (λ (x : Arc). k.inner ++ inner_arcs (x ∷ [])) arc_is
-            ∙ ap (λ xs. k.inner ++ xs) (none value) ∙ append-nil k.inner) i;
-        ends = (ap (λ (x : Arc). k.ends ++ end_arcs (x ∷ [])) arc_is
-            ∙ ap (λ xs. k.ends ++ xs) (one value)) i;
-      })) stands,
+      valued (λ xs ys. StandsFor m world (record k { inner = xs; ends = ys })) k.inner k.ends s
+          side value (End value) refl a arc_is stands,
     )
-  where
-    none : (v : Bool) → inner_arcs (value_arc s side v ∷ []) ≡ []
-    none true = refl
-    none false = refl
-
-    one : (v : Bool) → end_arcs (value_arc s side v ∷ []) ≡ value_arc s side v ∷ []
-    one true = refl
-    one false = refl
 
 -- and for any other side an ask waits
 pub serves_go : (m : Machine) (world : World) (k : Contents) (s : ℕ) (side : Bool) (x : Tuple)

@@ -1,9 +1,9 @@
 -- What every call within a turn leaves and costs.
-use Rattle.std.specs.Prelude.{◌≡◌, ℕ, Bool, IsTrue, Result, IfErr, Some, true}
+use Rattle.std.specs.Prelude.{◌≡◌, ℕ, Bool, IsTrue, [], Result, IfErr, Some, true}
 use Rattle.shelf_model.specs.declared.sort_fault.SortFault.{SortFault}
 use Rattle.shelf_model.specs.Faults.{Faults}
 use Rattle.shelf_model.specs.World.{World, file}
-use Rattle.arc_file.specs.Writers.{inner_file, ends_file, AreInStep}
+use Rattle.arc_file.specs.Writers.{inner_file, ends_file, AreInStep, HoldsArcs}
 use Rattle.level_queue.specs.Queues.{shown, last_of, IsNoLess}
 use Rattle.sweep_core.specs.Accounts.{Leaves}
 use Rattle.sweep_core.specs.Sweeps.{IsFirm}
@@ -16,16 +16,17 @@ use Rattle.top_down_sweep.specs.Items.{IsAsk, ask_cmp}
 use Rattle.top_down_sweep.specs.Soundness.{is_sound}
 use Rattle.top_down_sweep.specs.Waiting.{HasNoHands, HoldsSome, HoldsFirst}
 use Rattle.top_down_sweep.specs.Damage.{IsMachineDamage}
+use Rattle.top_down_sweep.specs.Ordered.{AreOrdered, HoldsPut}
 use Rattle.top_down_sweep.specs.Sweeps.{files_in, machine_accounts, IsSoundMachine, Refuses}
 
--- its files of arcs end behind the arcs that were put, and asks that fit wait; once it has ended,
--- the files stay
--- whatever a stop leaves
+-- its files of arcs end behind the arcs that were put, which are in order, and asks that fit wait;
+-- once it has ended, the files stay whatever a stop leaves, and are arcs in their order
 abbrev pub IsStepAt : Phase → Machine → World → Type 0
 IsStepAt Fresh m world = AreInStep m.writer world × HoldsSome 0 m world × HasNoHands m.operands
-IsStepAt (Asking s) m world = AreInStep m.writer world × HoldsSome 1 m world
+    × HoldsArcs m.writer world [] []
+IsStepAt (Asking s) m world = AreInStep m.writer world × HoldsSome 1 m world × HoldsPut s m world
 IsStepAt (Ended made) m world = IsFirm (file world (inner_file m.writer)) × IsFirm
-    (file world (ends_file m.writer))
+    (file world (ends_file m.writer)) × AreOrdered made world
 
 abbrev pub IsMachineInStep : Machine → World → Type 0
 IsMachineInStep m world = IsStepAt m.place.phase m world

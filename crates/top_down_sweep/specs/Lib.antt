@@ -8,6 +8,7 @@ pub mod Sweeps
 pub mod Fuel
 pub mod Waiting
 pub mod Damage
+pub mod Ordered
 pub mod Calls
 pub mod Meaning
 pub mod Changes

@@ -16,7 +16,7 @@ use top_down::{Goal, Tuple};
 impl<'r> Machine<'r> {
     ghost use Rattle.std.specs.Prelude.{ℕ, ◌+◌, Some, OnOk, IfOk, IsTrue, true, false, cond};
     ghost use Rattle.rec_words.specs.Words.{terminal_level};
-    ghost use Rattle.arc_file.specs.Writers.{inner_count};
+    ghost use Rattle.arc_file.specs.Writers.{inner_count, HoldsArcs};
     ghost use Rattle.level_queue.specs.Queues.{shown, last_of, held};
     ghost use Rattle.top_down.specs.Tuples.{level_of_tuple};
     ghost use Rattle.top_down_sweep.specs.Members.{IsResolved};
@@ -24,7 +24,10 @@ impl<'r> Machine<'r> {
     ghost use Rattle.top_down_sweep.specs.Sweeps.{IsTakenTo, IsAsking};
     ghost use Rattle.top_down_sweep.specs.Waiting.{is_first_at, AreReadTo};
     ghost use Rattle.top_down_sweep.specs.Calls.{Does, IsFit, IsShown, HoldsAt, HoldsFirstAt};
-    ghost use Rattle.std.specs.Prelude.{IfErr, ◌++◌, [], ◌∷◌, ◌^◌};
+    ghost use Rattle.std.specs.Prelude.{IfErr, ◌++◌, [], ◌∷◌, ◌^◌, List};
+    ghost use Rattle.arc_file.specs.declared.arc.Arc.{Arc};
+    ghost use Rattle.top_down.specs.Asks.{side_arcs};
+    ghost use Rattle.top_down_sweep.specs.Ordered.{IsOrdered, KeepsArcs};
     ghost use Rattle.sweep_core.specs.Sweeps.{IsNoDamage};
     ghost use Rattle.top_down_laws.specs.Remains.{answer_arcs};
     ghost use Rattle.top_down_sweep.specs.Members.{want, all_filled, all_waiting, least};
@@ -57,6 +60,8 @@ impl<'r> Machine<'r> {
         ensures list { OnOk result (IsTrue (S.tells shelf.new) → (k : Contents) →
             StandsFor self.old (S.world shelf.old) k → AsksInstead self.new (S.world shelf.new) k ask.now
             (record { key = key; members = members; asker = ask.now.asker })) }
+        ensures arcs { OnOk result (IsTrue (S.tells shelf.new) →
+            KeepsArcs self.old (S.world shelf.old) self.new (S.world shelf.new)) }
         ensures undamaged { IfErr result (λ e. IsTrue (S.tells shelf.new) → IsNoDamage e) }
     {
         self.take(ask, shelf)?;
@@ -94,6 +99,8 @@ impl<'r> Machine<'r> {
             (least (all_waiting (level_of ask.now.key) members.now) < 2 ^ 63 → ⊥) →
             IsHandling t asking.now ask.now self.old (S.world shelf.old) →
             Advances t asking.now self.old (S.world shelf.old) self.new (S.world shelf.new)) }
+        ensures ordered { OnOk result (IsTrue (S.tells shelf.new) →
+            IsOrdered self.old (S.world shelf.old) → IsOrdered self.new (S.world shelf.new)) }
         ensures undamaged { IfErr result (λ e. IsTrue (S.tells shelf.new) → IsNoDamage e) }
     {
         self.take(ask, shelf)?;
@@ -134,6 +141,9 @@ impl<'r> Machine<'r> {
               inner =
                   k.inner ++ answer_arcs ask.now.asker (identifier (next_numbered asking.now ask.now));
             })) }
+        ensures arcs { OnOk result (IsTrue (S.tells shelf.new) → (xs ys : List Arc) →
+            HoldsArcs self.old.writer (S.world shelf.old) xs ys → HoldsArcs self.new.writer (S.world shelf.new)
+            (xs ++ answer_arcs ask.now.asker (identifier (next_numbered asking.now ask.now))) ys) }
         ensures undamaged { IfErr result IsNoDamage }
     {
         let next = asking.next(ask);
@@ -164,6 +174,9 @@ impl<'r> Machine<'r> {
         ensures written { OnOk result (IsTrue (S.tells shelf.new) → (k : Contents) →
             StandsFor self.old (S.world shelf.old) k → StandsFor self.new (S.world shelf.new)
             (record k { inner = k.inner ++ answer_arcs ask.now.asker target })) }
+        ensures arcs { OnOk result (IsTrue (S.tells shelf.new) → (xs ys : List Arc) →
+            HoldsArcs self.old.writer (S.world shelf.old) xs ys → HoldsArcs self.new.writer (S.world shelf.new)
+            (xs ++ answer_arcs ask.now.asker target) ys) }
         ensures undamaged { IfErr result IsNoDamage }
     {
         let Some(source) = Source::of_word(ask.asker) else {
@@ -202,6 +215,10 @@ impl<'r> Machine<'r> {
         ensures served { OnOk result (IsTrue (S.tells shelf.new) → (k : Contents) →
             StandsFor self.old (S.world shelf.old) k → ServesSide self.new (S.world shelf.new) k uid high
             (goal_below (O.rule operation.now) (level_of uid) high members.now)) }
+        ensures arcs { OnOk result (IsTrue (S.tells shelf.new) → (xs ys : List Arc) →
+            HoldsArcs self.old.writer (S.world shelf.old) xs ys → HoldsArcs self.new.writer (S.world shelf.new)
+            xs (ys ++ side_arcs uid high
+            (goal_below (O.rule operation.now) (level_of uid) high members.now))) }
         ensures undamaged { IfErr result (λ e. IsTrue (S.tells shelf.new) → IsNoDamage e) }
     {
         let lows = members.on_side(false);
@@ -243,6 +260,8 @@ impl<'r> Machine<'r> {
         ensures list { OnOk result (IsTrue (S.tells shelf.new) → (k : Contents) →
             StandsFor self.old (S.world shelf.old) k → JoinAsks self.new (S.world shelf.new) k
             (ask_for tuple.now (asker_word source) ∷ [])) }
+        ensures arcs { OnOk result (IsTrue (S.tells shelf.new) →
+            KeepsArcs self.old (S.world shelf.old) self.new (S.world shelf.new)) }
         ensures undamaged { IfErr result (λ e. IsTrue (S.tells shelf.new) → IsNoDamage e) }
     {
         let Some(key) = key_of(tuple) else {

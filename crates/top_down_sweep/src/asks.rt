@@ -14,6 +14,7 @@ impl<'r> Machine<'r> {
     ghost use Rattle.sweep_core.specs.Sweeps.{IsNoDamage};
     ghost use Rattle.top_down_sweep.specs.Meaning.{Contents, StandsFor};
     ghost use Rattle.top_down_sweep.specs.Changes.{ShowsAsk, TakesAsk, JoinAsks};
+    ghost use Rattle.top_down_sweep.specs.Ordered.{KeepsArcs};
 
     /// The first ask, which stays.
     pub(crate) fn first_ask<S: Shelf>(&mut self, shelf: &mut S) -> Result<Option<Ask>, SortFault>
@@ -28,6 +29,8 @@ impl<'r> Machine<'r> {
         ensures shown { IfOk result (λ found. IfSome found (IsFirst self.new)) }
         ensures list { IfOk result (λ found. IsTrue (S.tells shelf.new) → (k : Contents) →
             StandsFor self.old (S.world shelf.old) k → ShowsAsk self.new (S.world shelf.new) k found) }
+        ensures arcs { OnOk result (IsTrue (S.tells shelf.new) →
+            KeepsArcs self.old (S.world shelf.old) self.new (S.world shelf.new)) }
         ensures undamaged { IfErr result (λ e. IsTrue (S.tells shelf.new) → IsNoDamage e) }
     {
         self.queue.peek(shelf)
@@ -47,6 +50,8 @@ impl<'r> Machine<'r> {
         ensures last { OnOk result (last_of self.new.queue ≡ Some ask.now) }
         ensures list { OnOk result (IsTrue (S.tells shelf.new) → (k : Contents) →
             StandsFor self.old (S.world shelf.old) k → TakesAsk self.new (S.world shelf.new) k ask.now) }
+        ensures arcs { OnOk result (IsTrue (S.tells shelf.new) →
+            KeepsArcs self.old (S.world shelf.old) self.new (S.world shelf.new)) }
         ensures undamaged { IfErr result (λ e. IsTrue (S.tells shelf.new) → IsNoDamage e) }
     {
         self.queue.take(&mut self.parts, shelf)?;
@@ -67,6 +72,8 @@ impl<'r> Machine<'r> {
         ensures last { last_of self.new.queue ≡ last_of self.old.queue }
         ensures list { OnOk result (IsTrue (S.tells shelf.new) → (k : Contents) →
             StandsFor self.old (S.world shelf.old) k → JoinAsks self.new (S.world shelf.new) k (ask ∷ [])) }
+        ensures arcs { OnOk result (IsTrue (S.tells shelf.new) →
+            KeepsArcs self.old (S.world shelf.old) self.new (S.world shelf.new)) }
         ensures undamaged { IfErr result (λ e. IsTrue (S.tells shelf.new) → IsNoDamage e) }
     {
         self.queue.push(ask, &mut self.parts, shelf)

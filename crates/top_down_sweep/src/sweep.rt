@@ -50,6 +50,7 @@ impl<'r, O: Operation> TopDownSweep<'r, O> {
     ghost use Rattle.top_down_sweep.specs.Fuel.{fuel_of};
     ghost use Rattle.top_down_sweep.specs.Damage.{IsDamage};
     ghost use Rattle.top_down_sweep.specs.Calls.{IsInStep};
+    ghost use Rattle.top_down_sweep.specs.Ordered.{AreOrdered};
     ghost use Rattle.sweep_core.specs.Sweeps.{IsNoDamage};
     ghost use Rattle.sweep_core.specs.Sweeps.{MovesOn};
     ghost use Rattle.top_down_sweep.specs.Meaning.{Task, Remains, IsMadeWhere, table_of};
@@ -84,6 +85,8 @@ impl<'r, O: Operation> TopDownSweep<'r, O> {
         ensures fuel { OnOk result (fuel_of self.new ≡ 0) }
         ensures firm { OnOk result (IsTrue (S.tells shelf.new) → (f : FileNo) → IsMade (files_of self.new) f →
             IsFirm (file (S.world shelf.new) f)) }
+        ensures ordered { OnOk result (IsTrue (S.tells shelf.new) →
+            IfSome (made_in self.new) (λ made. AreOrdered made (S.world shelf.new))) }
         ensures leaves { Leaves S.tells S.world S.faults
             (accounts O) 4 0 shelf.old shelf.new self.old self.new result }
         ensures refused { IfErr result (Refused self.new) }
@@ -115,6 +118,8 @@ impl<'r, O: Operation> TopDownSweep<'r, O> {
         ensures ended { IsSome (made_in self.old) → StaysEnded shelf.old shelf.new self.old self.new result }
         ensures firm { AtEnd result (IsTrue (S.tells shelf.new) → (f : FileNo) → IsMade (files_of self.new) f →
             IsFirm (file (S.world shelf.new) f)) }
+        ensures ordered { OnOk result (IsTrue (S.tells shelf.new) →
+            IfSome (made_in self.new) (λ made. AreOrdered made (S.world shelf.new))) }
 
         // what the call leaves, and what it costs
         ensures leaves { Leaves S.tells S.world S.faults

@@ -24,7 +24,9 @@ impl<'r> Machine<'r> {
     ghost use Rattle.top_down_sweep.specs.Fuel.{unread, weight, machine_fuel};
     ghost use Rattle.top_down_sweep.specs.Waiting.{is_first_at, HasNoHands};
     ghost use Rattle.top_down_sweep.specs.Calls.{Does, IsFit, IsShown, IsMachineInStep, HoldsAt, HoldsFirstAt};
-    ghost use Rattle.std.specs.Prelude.{IfErr};
+    ghost use Rattle.std.specs.Prelude.{IfErr, []};
+    ghost use Rattle.arc_file.specs.Writers.{HoldsArcs};
+    ghost use Rattle.top_down_sweep.specs.Ordered.{HoldsPut, IsOrdered, KeepsArcs};
     ghost use Rattle.sweep_core.specs.Sweeps.{IsNoDamage};
     ghost use Rattle.top_down_sweep.specs.declared.place.Asking.{Asking};
     ghost use Rattle.top_down_sweep.specs.Meaning.{Task, StandsFor, first_contents, IsFresh, IsWorking, IsHandling, WorksOn, RemainsOf};
@@ -70,6 +72,7 @@ impl<'r> Machine<'r> {
         requires fit { IsFit S.tells S.world shelf.old self.old }
         requires holds { HoldsAt S.tells S.world 0 shelf.old self.old }
         requires unread { IsTrue (S.tells shelf.old) → HasNoHands self.old.operands }
+        requires unwritten { IsTrue (S.tells shelf.old) → HoldsArcs self.old.writer (S.world shelf.old) [] [] }
         ensures does { Does S.tells S.world S.faults 48 3 shelf.old shelf.new self.old self.new result }
         ensures sound { OnOk result (IsSoundMachine self.new) }
         ensures in_step { OnOk result (IsTrue (S.tells shelf.new) → IsMachineInStep self.new (S.world shelf.new)) }
@@ -110,6 +113,8 @@ impl<'r> Machine<'r> {
             t.rule.goal t.roots ≡ Goal.Go tuple.now →
             StandsFor self.old (S.world shelf.old) (first_contents t) → WorksOn t self.new (S.world shelf.new)
             × HasFewer t Phase.Fresh self.old (S.world shelf.old) self.new.place.phase self.new (S.world shelf.new)) }
+        ensures ordered { OnOk result (IsTrue (S.tells shelf.new) →
+            IsOrdered self.old (S.world shelf.old) → IsOrdered self.new (S.world shelf.new)) }
         ensures undamaged { IfErr result (λ e. IsTrue (S.tells shelf.new) → IsNoDamage e) }
     {
         let Some(key) = key_of(tuple) else {
@@ -137,6 +142,7 @@ impl<'r> Machine<'r> {
         requires phase { self.old.place.phase ≡ Phase.Asking asking.now }
         requires fit { IsFit S.tells S.world shelf.old self.old }
         requires holds { HoldsAt S.tells S.world 1 shelf.old self.old }
+        requires put { IsTrue (S.tells shelf.old) → HoldsPut asking.now self.old (S.world shelf.old) }
         ensures does { Does S.tells S.world S.faults 113 6 shelf.old shelf.new self.old self.new result }
         ensures sound { OnOk result (IsSoundMachine self.new) }
         ensures in_step { OnOk result (IsTrue (S.tells shelf.new) → IsMachineInStep self.new (S.world shelf.new)) }
@@ -181,6 +187,8 @@ impl<'r> Machine<'r> {
         ensures keeps { OnOk result (IsTrue (S.tells shelf.new) → (t : Task) → t.rule ≡ O.rule operation.now →
             IsHandling t asking.now ask.now self.old (S.world shelf.old) →
             Advances t asking.now self.old (S.world shelf.old) self.new (S.world shelf.new)) }
+        ensures ordered { OnOk result (IsTrue (S.tells shelf.new) →
+            IsOrdered self.old (S.world shelf.old) → IsOrdered self.new (S.world shelf.new)) }
         ensures undamaged { IfErr result (λ e. IsTrue (S.tells shelf.new) → (t : Task) →
             IsHandling t asking.now ask.now self.old (S.world shelf.old) → IsNoDamage e) }
     {
@@ -211,6 +219,8 @@ impl<'r> Machine<'r> {
         ensures keeps { OnOk result (IsTrue (S.tells shelf.new) → (t : Task) → (s : Asking) →
             IsHandling t s ask.now self.old (S.world shelf.old) →
             AdvancesAt t s self.old (S.world shelf.old) self.new (S.world shelf.new)) }
+        ensures arcs { OnOk result (IsTrue (S.tells shelf.new) →
+            KeepsArcs self.old (S.world shelf.old) self.new (S.world shelf.new)) }
         ensures undamaged { IfErr result (λ e. IsTrue (S.tells shelf.new) → (t : Task) → (s : Asking) →
             IsHandling t s ask.now self.old (S.world shelf.old) → IsNoDamage e) }
     {

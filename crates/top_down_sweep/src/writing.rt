@@ -9,13 +9,14 @@ use sweep_core::Turn;
 impl<'r> Machine<'r> {
     ghost use Rattle.std.specs.Prelude.{◌≡◌, ℕ, ◌+◌, ◌^◌, ◌≤◌, IsTrue, OnOk, IfOk, length};
     ghost use Rattle.arc_file.specs.declared.arc.Arc.{Arc};
-    ghost use Rattle.std.specs.Prelude.{[], ◌∷◌};
+    ghost use Rattle.std.specs.Prelude.{[], ◌∷◌, List};
     ghost use Rattle.arc_file.specs.Files.{inner_arcs};
-    ghost use Rattle.arc_file.specs.Writers.{inner_count, made_of};
+    ghost use Rattle.arc_file.specs.Writers.{inner_count, made_of, HoldsArcs};
     ghost use Rattle.sweep_core.specs.declared.turn.Turn.TheVariants as turns;
     ghost use Rattle.top_down_sweep.specs.declared.place.Phase.TheVariants as phases;
     ghost use Rattle.top_down_sweep.specs.Sweeps.{IsSoundMachine};
     ghost use Rattle.top_down_sweep.specs.Calls.{Does, IsFit, IsMachineInStep, HoldsAt};
+    ghost use Rattle.top_down_sweep.specs.Ordered.{HoldsOrdered};
     ghost use Rattle.std.specs.Prelude.{IfErr, ◌++◌, ◌||◌};
     ghost use Rattle.arc_file.specs.Files.{end_arcs};
     ghost use Rattle.sweep_core.specs.Sweeps.{IsNoDamage};
@@ -35,6 +36,9 @@ impl<'r> Machine<'r> {
         ensures written { OnOk result (IsTrue (S.tells shelf.new) → (k : Contents) →
             StandsFor self.old (S.world shelf.old) k → StandsFor self.new (S.world shelf.new)
             (record k { inner = k.inner ++ inner_arcs (arc ∷ []); ends = k.ends ++ end_arcs (arc ∷ []) })) }
+        ensures arcs { OnOk result (IsTrue (S.tells shelf.new) → (xs ys : List Arc) →
+            HoldsArcs self.old.writer (S.world shelf.old) xs ys → HoldsArcs self.new.writer (S.world shelf.new)
+            (xs ++ inner_arcs (arc ∷ [])) (ys ++ end_arcs (arc ∷ []))) }
         ensures undamaged { IfErr result IsNoDamage }
     {
         self.has_one = self.has_one || arc.target == Ptr::terminal(true);
@@ -45,6 +49,7 @@ impl<'r> Machine<'r> {
     /// Makes the arcs stand in their files, as those of a diagram with that root, and ends.
     pub(crate) fn end<S: Shelf>(&mut self, root: Ptr, shelf: &mut S) -> Result<Turn, SortFault>
         requires fit { IsFit S.tells S.world shelf.old self.old }
+        requires ordered { IsTrue (S.tells shelf.old) → HoldsOrdered self.old.writer (S.world shelf.old) }
         ensures does { Does S.tells S.world S.faults 4 0 shelf.old shelf.new self.old self.new result }
         ensures sound { OnOk result (IsSoundMachine self.new) }
         ensures in_step { OnOk result (IsTrue (S.tells shelf.new) → IsMachineInStep self.new (S.world shelf.new)) }

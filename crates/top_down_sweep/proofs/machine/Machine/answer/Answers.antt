@@ -1,11 +1,15 @@
 use Rattle.std.proofs.Common.{true, ℕ, ◌<◌, ◌^◌, ◌++◌, ◌∙◌, ap, sym, subst, arith, ◌≡◌, false}
 use Rattle.top_down_laws.specs.Remains.{answer_arcs}
 use Rattle.top_down.specs.Asks.{side_arcs}
-use Rattle.top_down_sweep.specs.Soundness.{identifier, next_numbered}
+use Rattle.top_down_sweep.specs.Soundness.{is_none, identifier, next_numbered}
+use Rattle.top_down_sweep.specs.Ordered.{ArePut}
+use Rattle.top_down_sweep.proofs.Numbers.{last_few}
+use Rattle.top_down_sweep.proofs.MemberLaws.{and_right}
+use Rattle.top_down_sweep.proofs.Orders.{put_of, put_at, put_known, put_new}
 use Rattle.top_down_sweep.specs.Members.{all_waiting, least}
 use Rattle.top_down_sweep.specs.declared.ask.Members.{Members}
 use Rattle.top_down.specs.declared.tuple.Goal.{Goal}
-use Rattle.std.specs.Prelude.{Bool}
+use Rattle.std.specs.Prelude.{Bool, Some}
 use Rattle.top_down_sweep.specs.Changes.{goal_below}
 use Rattle.top_down_sweep.specs.Meaning.{Contents, StandsFor}
 use Rattle.top_down_sweep.proofs.FormsOf.{is_known, unknown_where}
@@ -191,3 +195,60 @@ returns-clause-keeps g c = on_ok_weaker c.ask_side-2.result (λ serves told t ru
       inner = h.contents.inner ++ answer_arcs a.asker w;
       ends = (h.contents.ends ++ side_arcs uid false (goal_of false)) ++ side_arcs uid true (goal_of true);
     })) (sym uid_is) high.2)) c.ask_side-2.ensures.served
+
+-- the arcs that were put are still in order where a known number answered it
+pub returns-in-Some-clause-ordered : goal.returns-in-Some-clause-ordered
+returns-in-Some-clause-ordered g c = on_ok_weaker c.put_inner.result (λ put told ordered.
+    let m = c.args.self.now in
+    let a = c.args.ask.now in
+    let s = c.args.asking.now in
+    let mid = c.put_inner.ensures.does.leaves.content.before told in
+    let h = put_of m (g.S.Shelf.world c.args.shelf.now) s c.requires.phase ordered in
+    put_at c.put_inner.new.self (g.S.Shelf.world c.put_inner.new.shelf) s
+    (ap (λ (m : Machine). m.place.phase) c.put_inner.ensures.rest
+    ∙ ap (λ (m : Machine). m.place.phase) c.take.ensures.rest ∙ c.requires.phase)
+    (record {
+      inner = h.inner ++ answer_arcs a.asker c.in-Some.known;
+      ends = h.ends;
+      held = put told h.inner h.ends (c.in_ok-take.ensures.arcs mid h.inner h.ends h.held);
+      put = subst (λ o. ArePut s.last o (h.inner ++ answer_arcs a.asker c.in-Some.known) h.ends)
+          (sym (ap (λ (m : Machine). last_of m.queue) c.put_inner.ensures.rest ∙ c.in_ok-take.ensures.last))
+          (put_known s.last (last_of m.queue) a (is_none s.last) c.in-Some.known h.inner h.ends
+          (last_few m.writer _ m.place.phase s c.requires.phase c.requires.fit.sound.phase)
+          c.requires.shown.first.value.key_is (and_right _ _ c.requires.shown.sound)
+          c.requires.shown.first.no_less
+          (is_known s.last a c.in-Some.known (sym c.known.ensures ∙ c.in-Some.is)) h.put);
+    })) c.put_inner.ensures.arcs
+
+-- and where its tuple got a number, and its two sides were served
+pub returns-clause-ordered : goal.returns-clause-ordered
+returns-clause-ordered g c = on_ok_weaker c.ask_side-2.result (λ high told ordered.
+    let m = c.args.self.now in
+    let a = c.args.ask.now in
+    let s = c.args.asking.now in
+    let uid = c.in_ok-uid.uid in
+    let after_low = c.ask_side-2.ensures.does.leaves.content.before told in
+    let after_number = c.ask_side.ensures.does.leaves.content.before after_low in
+    let after_take = c.number.ensures.does.leaves.content.before after_number in
+    let h = put_of m (g.S.Shelf.world c.args.shelf.now) s c.requires.phase ordered in
+    let goal_of : Bool → Goal = λ side. goal_below (g.O.Operation.rule c.args.operation.now) (level_of uid) side c.args.members.now in
+    let inner = h.inner ++ answer_arcs a.asker (identifier (next_numbered s a)) in
+    let ends = h.ends ++ side_arcs uid false (goal_of false) in
+    let last : last_of c.ask_side-2.new.self.queue ≡ Some a = c.ask_side-2.ensures.last ∙ c.ask_side.ensures.last
+    ∙ ap (λ (m : Machine). last_of m.queue) c.number.ensures.rest ∙ c.in_ok-take.ensures.last in
+    put_at c.ask_side-2.new.self (g.S.Shelf.world c.ask_side-2.new.shelf)
+    (record { root = s.root; last = Some (next_numbered s a) })
+    (ap (λ (p : Place). p.phase) c.ask_side-2.ensures.place ∙ ap (λ (p : Place). p.phase) c.ask_side.ensures.place ∙ c.in_ok-uid.ensures.placed)
+    (record {
+      inner = inner;
+      ends = ends ++ side_arcs uid true (goal_of true);
+      held = high told inner ends (c.in_ok-ask_side.ensures.arcs after_low inner h.ends
+          (c.in_ok-uid.ensures.arcs after_number h.inner h.ends
+          (c.in_ok-take.ensures.arcs after_take h.inner h.ends h.held)));
+      put = subst (λ o. ArePut (Some (next_numbered s a)) o inner (ends ++ side_arcs uid true (goal_of true)))
+          (sym last)
+          (put_new s (last_of m.queue) a uid (goal_of false) (goal_of true) h.inner h.ends
+          (last_few m.writer _ m.place.phase s c.requires.phase c.requires.fit.sound.phase)
+          c.requires.shown.first.value.key_is (is_none s.last) (and_right _ _ c.requires.shown.sound)
+          c.requires.shown.first.no_less c.in_ok-uid.ensures.number c.in_ok-uid.ensures.level h.put);
+    })) c.ask_side-2.ensures.arcs

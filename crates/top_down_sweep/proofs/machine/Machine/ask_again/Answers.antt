@@ -30,3 +30,9 @@ returns-clause-list g c = on_ok_weaker c.push.result (λ joins told k stands.
     in
     let after : Contents = record k { asks = taken.0 } in
     (taken.0, taken.1, joins told after taken.2)) c.push.ensures.list
+
+-- the files of arcs stay
+pub returns-clause-arcs : goal.returns-clause-arcs
+returns-clause-arcs g c = on_ok_weaker c.push.result (λ keeps told xs ys held. keeps told xs ys
+    (c.in_ok-take.ensures.arcs (c.push.ensures.does.leaves.content.before told) xs ys held))
+    c.push.ensures.arcs

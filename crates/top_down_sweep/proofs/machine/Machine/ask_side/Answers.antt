@@ -1,9 +1,11 @@
 use Rattle.rec_words.specs.Words.{level_of}
 use Rattle.top_down_sweep.specs.Changes.{goal_below}
-use Rattle.top_down_sweep.proofs.TurnKeeps.{serves_end, serves_go}
+use Rattle.top_down_sweep.proofs.TurnKeeps.{serves_end, serves_go, valued}
+use Rattle.arc_file.specs.Writers.{HoldsArcs}
+use Rattle.top_down.specs.Asks.{side_arcs}
 use Rattle.arc_file.specs.declared.arc.Arc.{Arc}
 use Rattle.std.proofs.lemmas.Result.{on_ok_weaker}
-use Rattle.std.proofs.Common.{◌∙◌, ap, sym}
+use Rattle.std.proofs.Common.{◌∙◌, ◌++◌, ap, sym, subst, append-nil}
 use Rattle.top_down_sweep.proofs.machine.Machine.ask_side.Goals as goal
 
 -- the side is constant
@@ -34,3 +36,33 @@ returns-in-Go-clause-served g c = on_ok_weaker c.ask_for.result (λ joins told k
     (sym c.on_side-lows.ensures i) (sym c.on_side-highs.ensures i)))
     ∙ ap rule.goal (sym c.below-below.ensures) ∙ sym c.goal.ensures ∙ c.in-Go.is)
     (joins told k stands)) c.ask_for.ensures.list
+
+-- so far as the arcs go
+pub returns-in-End-clause-arcs : goal.returns-in-End-clause-arcs
+returns-in-End-clause-arcs g c = on_ok_weaker c.put.result (λ put told xs ys held.
+    let rule = g.O.Operation.rule c.args.operation.now in
+    let arc : Arc = record {
+      source = c.args.uid;
+      high = c.args.high;
+      target = c.terminal.result;
+    } in
+    valued (HoldsArcs c.put.new.self.writer (g.S.Shelf.world c.put.new.shelf)) xs ys c.args.uid
+    c.args.high c.in-End.value (goal_below rule (level_of c.args.uid) c.args.high c.args.members.now)
+    ((λ i. rule.goal (rule.below (sym c.level_at.ensures.level i) c.args.high
+    (sym c.on_side-lows.ensures i) (sym c.on_side-highs.ensures i)))
+    ∙ ap rule.goal (sym c.below-below.ensures) ∙ sym c.goal.ensures ∙ c.in-End.is) arc
+    (λ i. record {
+      source = c.args.uid;
+      high = c.args.high;
+      target = c.terminal.ensures i;
+    }) (put told xs ys held)) c.put.ensures.arcs
+
+pub returns-in-Go-clause-arcs : goal.returns-in-Go-clause-arcs
+returns-in-Go-clause-arcs g c = on_ok_weaker c.ask_for.result (λ keeps told xs ys held.
+    let rule = g.O.Operation.rule c.args.operation.now in
+    let goes = ((λ i. rule.goal (rule.below (sym c.level_at.ensures.level i) c.args.high
+    (sym c.on_side-lows.ensures i) (sym c.on_side-highs.ensures i)))
+    ∙ ap rule.goal (sym c.below-below.ensures) ∙ sym c.goal.ensures ∙ c.in-Go.is) in
+    subst (HoldsArcs c.ask_for.new.self.writer (g.S.Shelf.world c.ask_for.new.shelf) xs)
+    (sym (ap (λ goal. ys ++ side_arcs c.args.uid c.args.high goal) goes ∙ append-nil ys))
+    (keeps told xs ys held)) c.ask_for.ensures.arcs

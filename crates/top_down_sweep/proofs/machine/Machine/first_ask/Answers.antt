@@ -1,6 +1,7 @@
 use Rattle.std.proofs.Common.{arith}
 use Rattle.top_down_sweep.proofs.QueueCalls.{does_shown}
-use Rattle.top_down_sweep.proofs.StandingOn.{shows_ask, shows_undamaged}
+use Rattle.top_down_sweep.proofs.StandingOn.{shows_ask, shows_undamaged, arcs_shown}
+use Rattle.top_down_sweep.proofs.Doing.{on_ok}
 use Rattle.top_down_sweep.proofs.Holding.{shown_at}
 use Rattle.top_down_sweep.proofs.FuelLaws.{first_shown}
 use Rattle.top_down_sweep.proofs.machine.Machine.first_ask.Goals as goal
@@ -31,6 +32,10 @@ pub returns-clause-list : goal.returns-clause-list
 returns-clause-list g c = shows_ask g.S.Shelf.tells g.S.Shelf.world _ _ c.args.self.now
     c.peek.new.self c.peek.result c.requires.fit.sound.operands c.peek.ensures.content
     c.peek.ensures.list c.peek.ensures.runs
+
+pub returns-clause-arcs : goal.returns-clause-arcs
+returns-clause-arcs g c = on_ok c.peek.result (λ told. arcs_shown c.args.self.now.writer _ _
+    (c.peek.ensures.content.did told))
 
 pub returns-clause-undamaged : goal.returns-clause-undamaged
 returns-clause-undamaged g c = shows_undamaged g.S.Shelf.tells g.S.Shelf.world _ _

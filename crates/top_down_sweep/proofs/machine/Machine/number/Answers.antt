@@ -7,7 +7,7 @@ use Rattle.std.specs.Prelude.{Some}
 use Rattle.std.proofs.Common.{ℕ, ◌++◌, ◌≡◌, ◌≤◌, ◌<◌, ◌∙◌, ap, sym, subst, arith, refl}
 use Rattle.top_down_sweep.proofs.Holding.{numbered_at}
 use Rattle.rec_words.specs.Words.{level_of, level_numbers}
-use Rattle.arc_file.specs.Writers.{inner_count}
+use Rattle.arc_file.specs.Writers.{inner_count, HoldsArcs}
 use Rattle.top_down_sweep.specs.declared.place.Numbered.{Numbered}
 use Rattle.top_down_sweep.specs.Soundness.{identifier}
 use Rattle.top_down_sweep.proofs.Numbers.{number_fits, few_arcs, level_of_node}
@@ -82,3 +82,9 @@ returns-clause-written g c told k stands =
     (stands_placed m (record m { place = place }) place world
     (record k { inner = k.inner ++ answer_arcs asker c.uid-uid.result }) refl
     (c.in_ok-put_inner.ensures.written told k stands))
+
+pub returns-clause-arcs : goal.returns-clause-arcs
+returns-clause-arcs g c told xs ys held =
+    subst (λ (w : ℕ). HoldsArcs c.put_inner.new.self.writer (g.S.Shelf.world c.put_inner.new.shelf)
+    (xs ++ answer_arcs c.args.ask.now.asker w) ys) (c.uid-uid.ensures ∙ ap identifier c.next-next.ensures)
+    (c.in_ok-put_inner.ensures.arcs told xs ys held)

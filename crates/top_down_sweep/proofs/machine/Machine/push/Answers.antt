@@ -1,4 +1,4 @@
-use Rattle.top_down_sweep.proofs.StandingOn.{joins_ask, joins_undamaged}
+use Rattle.top_down_sweep.proofs.StandingOn.{joins_ask, joins_undamaged, arcs_spilled}
 use Rattle.top_down_sweep.proofs.Holding.{put_at}
 use Rattle.std.proofs.Common.{rules}
 use Rattle.top_down_sweep.specs.Sweeps.{IsServed}
@@ -43,6 +43,11 @@ returns-clause-list g c = joins_ask g.S.Shelf.tells g.S.Shelf.world _ _ c.args.s
     c.push.new.self c.push.new.parts c.push.ensures.content c.args.ask c.push.result
     c.requires.fit.sound.served c.requires.fit.sound.operands c.push.ensures.parts
     c.push.ensures.runs c.push.ensures.list
+
+-- the files of arcs stay
+pub returns-clause-arcs : goal.returns-clause-arcs
+returns-clause-arcs g c = on_ok c.push.result (λ told. arcs_spilled c.args.self.now
+    c.push.new.parts _ _ c.requires.fit.sound.served (c.push.ensures.content.did told))
 
 pub returns-clause-undamaged : goal.returns-clause-undamaged
 returns-clause-undamaged g c = joins_undamaged g.S.Shelf.tells g.S.Shelf.world _ _

@@ -3,7 +3,8 @@ use Rattle.top_down_sweep.proofs.ReadKeeps.{first_kept, second_kept, third_kept}
 use Rattle.std.proofs.Common.{◌≡◌, ◌∙◌, true, sym, rules}
 use Rattle.std.proofs.lemmas.Result.{on_ok_weaker}
 use Rattle.top_down_sweep.specs.Members.{wants}
-use Rattle.top_down_sweep.proofs.Doing.{does_looked}
+use Rattle.top_down_sweep.proofs.Doing.{does_looked, on_ok}
+use Rattle.top_down_sweep.proofs.StandingOn.{arcs_shown}
 use Rattle.top_down_sweep.proofs.OperandReading.{wanted_is, behind_hand}
 use Rattle.top_down_sweep.proofs.Holding.{first_fits, if_err_map, third_wanted, first_files, first_damage, first_read, second_files, second_damage, second_read, third_files, third_damage, third_read}
 use Rattle.top_down_sweep.proofs.machine.Machine.read_wanted.Goals as goal
@@ -104,6 +105,19 @@ returns-clause-holds g c =
     (λ reads. reads told s.place.variables are.third reading) c.read-2.ensures.reads)
     (λ told. (c.read-2.ensures.content.did told).run)
     (λ told. c.requires.first (c.read-2.ensures.content.before told))
+
+-- the files of arcs stay
+pub returns-then-wants-clause-arcs : goal.returns-then-wants-clause-arcs
+returns-then-wants-clause-arcs g c = on_ok c.read.result (λ told.
+    arcs_shown c.args.self.now.writer _ _ (c.read.ensures.content.did told).run)
+
+pub returns-then-wants-2-clause-arcs : goal.returns-then-wants-2-clause-arcs
+returns-then-wants-2-clause-arcs g c = on_ok c.read-then-wants-2.result (λ told.
+    arcs_shown c.args.self.now.writer _ _ (c.read-then-wants-2.ensures.content.did told).run)
+
+pub returns-clause-arcs : goal.returns-clause-arcs
+returns-clause-arcs g c = on_ok c.read-2.result (λ told.
+    arcs_shown c.args.self.now.writer _ _ (c.read-2.ensures.content.did told).run)
 
 -- what remains of a task stays when the first operand's next node was read
 pub returns-then-wants-clause-keeps : goal.returns-then-wants-clause-keeps

@@ -1,5 +1,5 @@
 use Rattle.node_reading.proofs.NodeReading.{if_handed}
-use Rattle.top_down_sweep.proofs.StandingOn.{first_taken, takes_ask, takes_undamaged}
+use Rattle.top_down_sweep.proofs.StandingOn.{first_taken, takes_ask, takes_undamaged, arcs_spilled}
 use Rattle.top_down_sweep.proofs.Holding.{taken_at}
 use Rattle.std.proofs.Common.{rules}
 use Rattle.level_queue.specs.Queues.{held, shown}
@@ -67,6 +67,11 @@ returns-clause-list g c = takes_ask g.S.Shelf.tells g.S.Shelf.world _ _ c.args.s
     c.take.ensures.runs c.in_ok-take.ensures.list
     (first_taken c.in_ok-take.field-0 _ c.args.ask.now c.in_ok-take.ensures.again
     c.requires.shown)
+
+-- the files of arcs stay
+pub returns-clause-arcs : goal.returns-clause-arcs
+returns-clause-arcs g c told = arcs_spilled c.args.self.now c.take.new.parts _ _
+    c.requires.fit.sound.served (c.take.ensures.content.did told)
 
 pub returns-in_err-take-clause-undamaged : goal.returns-in_err-take-clause-undamaged
 returns-in_err-take-clause-undamaged g c = if_handed _ c.from_residual.result _
