@@ -11,7 +11,7 @@ use Rattle.std.proofs.lemmas.Cmp.{ranked}
 use Rattle.std.proofs.lemmas.List.Elements.{All-push, All-weaker}
 use Rattle.std.proofs.lemmas.List.Kept.{IsSortedBy-push}
 use Rattle.std.proofs.lemmas.List.MinMax.{ranks_by}
-use Rattle.rec_words.specs.Words.{level_of, node_word, level_numbers, most_variables, terminal, IsNodeWord, IsTerminal}
+use Rattle.rec_words.specs.Words.{level_of, node_word, level_numbers, terminal, IsNodeWord, IsTerminal}
 use Rattle.shelf_model.specs.World.{World}
 use Rattle.arc_file.specs.declared.arc.Arc.{Arc}
 use Rattle.arc_file.specs.declared.kind.Kind.TheVariants.{Inner, End}
@@ -36,7 +36,7 @@ use Rattle.top_down_sweep.specs.Items.{members_cmp, ask_cmp}
 use Rattle.top_down_sweep.specs.Sweeps.{made_at, made_in}
 use Rattle.top_down_sweep.specs.Calls.{IsStepAt, IsInStep}
 use Rattle.top_down_sweep.specs.Meaning.{form_of}
-use Rattle.top_down_sweep.specs.Soundness.{side_number, asker_word, is_asker, asks_above, nobody, identifier, known, next_number, next_numbered}
+use Rattle.top_down_sweep.specs.Soundness.{side_number, asker_word, is_asker, asks_above, nobody, identifier, next_number, next_numbered}
 use Rattle.top_down_sweep.specs.Ordered.{AreOrdered, source_word, AreInnerTo, AreEndsTo, ArePutTo, ArePut, HoldsPut, HoldsOrdered, IsOrderedAt, IsOrdered, KeepsArcs}
 use Rattle.top_down_sweep.proofs.FormsOf.{IsKnown}
 use Rattle.top_down_sweep.proofs.Holding.{ask_total, key_from}
@@ -403,7 +403,14 @@ module _ (s : Asking) (m q : Machine) (old new : World) where
         (put_taken s.last (last_of m.queue) a h.inner h.ends none h.put);
   }
 
--- in each phase the step tells what was put, and once it has ended, the arcs that were made
+-- in each phase before the last one what was put is in order
+pub step_ordered : (p : Phase) (m : Machine) (world : World) → ((made : Unreduced) → p ≡ phases.Ended made → ⊥)
+    → IsStepAt p m world → HoldsOrdered m.writer world
+step_ordered phases.Fresh m world not_ended step = none_ordered m.writer world step.3
+step_ordered (phases.Asking s) m world not_ended step = put_ordered s m world step.2
+step_ordered (phases.Ended made) m world not_ended step = absurd (not_ended made refl)
+
+-- and once it has ended, so is what was made
 pub ended_ordered : (p : Phase) (m : Machine) (world : World) → IsStepAt p m world
     → IfSome (made_at p) (λ made. AreOrdered made world)
 ended_ordered phases.Fresh m world step = tt

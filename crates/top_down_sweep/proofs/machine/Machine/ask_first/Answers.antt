@@ -12,6 +12,8 @@ use Rattle.std.proofs.lemmas.Result.{on_ok_weaker}
 use Rattle.top_down_sweep.proofs.TurnKeeps.{asked_works}
 use Rattle.top_down_sweep.specs.declared.machine.Machine.{Machine}
 use Rattle.top_down_sweep.proofs.FuelLaws.{weight_put}
+use Rattle.top_down_sweep.proofs.Orders.{put_at}
+use Rattle.top_down_sweep.specs.Ordered.{IsOrderedAt}
 use Rattle.top_down_sweep.proofs.machine.Machine.ask_first.Goals as goal
 
 -- one ask more waits
@@ -39,3 +41,17 @@ returns-clause-keeps g c = on_ok_weaker c.push.result (λ joins told t goes stan
       asker = nobody;
     }) (joins told (first_contents t) (stands_placed m (record m { place = place }) place
     (g.S.Shelf.world c.args.shelf.now) (first_contents t) refl stands)))) c.push.ensures.list
+
+-- nothing was put
+pub returns-clause-ordered : goal.returns-clause-ordered
+returns-clause-ordered g c = on_ok_weaker c.push.result (λ keeps told ordered.
+    put_at c.push.new.self (g.S.Shelf.world c.push.new.shelf)
+    (record { root = c.in-Some-of.root; last = None })
+    (ap (λ (q : Machine). q.place.phase) c.push.ensures.rest)
+    (record {
+      inner = [];
+      ends = [];
+      held = keeps told [] [] (subst (λ p. IsOrderedAt p c.args.self.now (g.S.Shelf.world c.args.shelf.now))
+          c.requires.fresh ordered);
+      put = (refl, refl);
+    })) c.push.ensures.arcs

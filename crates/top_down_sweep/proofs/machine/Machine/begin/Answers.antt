@@ -4,12 +4,18 @@ use Rattle.std.proofs.Common.{◌∙◌, sym, ap}
 use Rattle.list_laws.proofs.AnswerLaws.{on_ok_both}
 use Rattle.top_down_sweep.proofs.TurnKeeps.{works_remain, constant_remains, ended_left}
 use Rattle.top_down_sweep.proofs.FuelLaws.{end_falls}
+use Rattle.top_down_sweep.proofs.Orders.{none_ordered}
 use Rattle.top_down_sweep.proofs.machine.Machine.begin.Goals as goal
 
 -- it is constant
 pub returns-in-End-clause-falls : goal.returns-in-End-clause-falls
 returns-in-End-clause-falls g c = end_falls _ c.end.new.self _ c.end.result c.end.ensures.turn
     c.end.ensures.made
+
+-- no arc was put
+pub end-requires-clause-ordered : goal.end-requires-clause-ordered
+end-requires-clause-ordered g c told = none_ordered c.args.self.now.writer
+    (g.S.Shelf.world c.args.shelf.now) (c.requires.unwritten told)
 
 -- then that truth value is a diagram of the task's table
 pub returns-in-End-clause-keeps : goal.returns-in-End-clause-keeps

@@ -5,7 +5,9 @@ use Rattle.top_down_sweep.specs.Changes.{ShowsAsk}
 use Rattle.top_down_sweep.proofs.TurnKeeps.{handling, works_remain, ended_remains, fewer_since, ended_left}
 use Rattle.top_down_sweep.proofs.Holding.{never_unsound}
 use Rattle.top_down_sweep.proofs.Phases.{step_at}
-use Rattle.std.proofs.Common.{◌≡◌, ◌∙◌, sym, subst, arith, false}
+use Rattle.top_down_sweep.proofs.Orders.{put_at, put_kept, put_ordered}
+use Rattle.top_down_sweep.specs.declared.machine.Machine.{Machine}
+use Rattle.std.proofs.Common.{◌≡◌, ◌∙◌, ap, sym, subst, arith, false}
 use Rattle.std.specs.Prelude.{IfSome, true}
 use Rattle.top_down_sweep.specs.Soundness.{is_sound}
 use Rattle.top_down_sweep.specs.Calls.{IsFirst, HoldsFirstAt}
@@ -76,8 +78,26 @@ handle-requires-clause-first g c = subst (λ found. IfSome found
     c.in-Some.is c.in_ok-ask.ensures.holds
 
 pub returns-clause-in_step : goal.returns-clause-in_step
-returns-clause-in_step g c told = step_at c.handle.new.self _ c.in_ok-handle.ensures.phase
+returns-clause-in_step g c told =
+    let mid = c.handle.ensures.does.leaves.content.before told in
+    let s = c.args.asking.now in
+    step_at c.handle.new.self _ c.in_ok-handle.ensures.phase
     (c.in_ok-handle.ensures.fit.at_work told) (c.in_ok-handle.ensures.holds told)
+    (c.in_ok-handle.ensures.ordered told (put_at c.first_ask.new.self
+    (g.S.Shelf.world c.first_ask.new.shelf) s
+    (ap (λ (m : Machine). m.place.phase) c.first_ask.ensures.rest ∙ c.requires.phase)
+    (put_kept s c.args.self.now c.first_ask.new.self (g.S.Shelf.world c.args.shelf.now)
+    (g.S.Shelf.world c.first_ask.new.shelf) c.first_ask.ensures.last (c.in_ok-ask.ensures.arcs mid)
+    (c.requires.put (c.first_ask.ensures.does.leaves.content.before mid)))))
+
+-- the arcs that were put are in order
+pub end-requires-clause-ordered : goal.end-requires-clause-ordered
+end-requires-clause-ordered g c mid =
+    let s = c.args.asking.now in
+    put_ordered s c.first_ask.new.self (g.S.Shelf.world c.first_ask.new.shelf)
+    (put_kept s c.args.self.now c.first_ask.new.self (g.S.Shelf.world c.args.shelf.now)
+    (g.S.Shelf.world c.first_ask.new.shelf) c.first_ask.ensures.last (c.in_ok-ask.ensures.arcs mid)
+    (c.requires.put (c.first_ask.ensures.does.leaves.content.before mid)))
 
 -- where no ask is left, what was put is of the task
 pub returns-in_default-clause-keeps : goal.returns-in_default-clause-keeps

@@ -1,6 +1,8 @@
 use Rattle.list_laws.proofs.AnswerLaws.{on_ok_both}
 use Rattle.top_down_sweep.proofs.Holding.{if_err_map, first_at, more_at}
 use Rattle.top_down_sweep.proofs.TurnKeeps.{again_works, advances_at}
+use Rattle.top_down_sweep.proofs.Orders.{put_of, put_at, put_kept, put_later}
+use Rattle.level_queue.specs.Queues.{last_of}
 use Rattle.top_down_sweep.proofs.WorkingOn.{not_last}
 use Rattle.std.proofs.lemmas.Result.{on_ok_weaker}
 use Rattle.top_down_sweep.proofs.SoundAsks.{again_sound}
@@ -137,6 +139,41 @@ returns-in-None-clause-keeps g c = on_ok_weaker c.answer.result (λ keeps told t
     keeps told t rule (sym c.want.ensures ∙ c.if-want.false) c.filled-members.ensures
     (λ below. c.in-None.ensures (subst (λ l. least (all_waiting l c.filled-members.result) < 2 ^ 63) (sym c.level_at.ensures.level) below))
     h) c.answer.ensures.keeps
+
+-- the arcs that were put are still in order
+pub returns-then-eq-clause-ordered : goal.returns-then-eq-clause-ordered
+returns-then-eq-clause-ordered g c = on_ok_both c.take.result (λ last keeps told ordered.
+    let m = c.args.self.now in
+    let s = c.args.asking.now in
+    let old = g.S.Shelf.world c.args.shelf.now in
+    let new = g.S.Shelf.world c.take.new.shelf in
+    put_at c.take.new.self new s (ap (λ (m : Machine). m.place.phase) c.take.ensures.rest ∙ c.requires.phase)
+    (put_later s m c.take.new.self old new c.args.ask.now c.requires.shown.first.no_less last
+    (keeps told) (put_of m old s c.requires.phase ordered))) c.take.ensures.last c.take.ensures.arcs
+
+pub returns-then-want-clause-ordered : goal.returns-then-want-clause-ordered
+returns-then-want-clause-ordered g c = on_ok_weaker c.read_wanted.result (λ keeps told ordered.
+    let m = c.args.self.now in
+    let s = c.args.asking.now in
+    let old = g.S.Shelf.world c.args.shelf.now in
+    let new = g.S.Shelf.world c.read_wanted.new.shelf in
+    put_at c.read_wanted.new.self new s
+    (ap (λ (m : Machine). m.place.phase) c.read_wanted.ensures.rest ∙ c.requires.phase)
+    (put_kept s m c.read_wanted.new.self old new
+    (ap (λ (m : Machine). last_of m.queue) c.read_wanted.ensures.rest) (keeps told)
+    (put_of m old s c.requires.phase ordered))) c.read_wanted.ensures.arcs
+
+pub returns-in-Some-clause-ordered : goal.returns-in-Some-clause-ordered
+returns-in-Some-clause-ordered g c = on_ok_both c.ask_again.result (λ last keeps told ordered.
+    let m = c.args.self.now in
+    let s = c.args.asking.now in
+    let old = g.S.Shelf.world c.args.shelf.now in
+    let new = g.S.Shelf.world c.ask_again.new.shelf in
+    put_at c.ask_again.new.self new s
+    (ap (λ (m : Machine). m.place.phase) c.ask_again.ensures.rest ∙ c.requires.phase)
+    (put_later s m c.ask_again.new.self old new c.args.ask.now c.requires.shown.first.no_less last
+    (keeps told) (put_of m old s c.requires.phase ordered))) c.ask_again.ensures.last
+    c.ask_again.ensures.arcs
 
 -- where something of a task remains no damage is found
 pub returns-then-eq-clause-undamaged : goal.returns-then-eq-clause-undamaged

@@ -15,10 +15,18 @@ pub begin-requires-clause-unread : goal.begin-requires-clause-unread
 begin-requires-clause-unread g c told = (fresh_step c.args.self.now _ c.in-Fresh.is
     (c.requires.in_step told)).2
 
+pub begin-requires-clause-unwritten : goal.begin-requires-clause-unwritten
+begin-requires-clause-unwritten g c told = (fresh_step c.args.self.now _ c.in-Fresh.is
+    (c.requires.in_step told)).3
+
 -- asks that fit wait
 pub go_on-requires-clause-holds : goal.go_on-requires-clause-holds
 go_on-requires-clause-holds g c told = (asking_step c.args.self.now _ _ c.in-Asking.is
     (c.requires.in_step told)).1
+
+pub go_on-requires-clause-put : goal.go_on-requires-clause-put
+go_on-requires-clause-put g c told = (asking_step c.args.self.now _ _ c.in-Asking.is
+    (c.requires.in_step told)).2
 
 -- what remains of a task in each phase
 pub returns-in-Fresh-clause-keeps : goal.returns-in-Fresh-clause-keeps

@@ -38,7 +38,7 @@ returns-clause-ready g c = record {
   phase = c.start-3.ensures.last;
 }
 
--- no ask waits, and the operands are read from the front on
+-- no ask waits, no arc was put, and the operands are read from the front on
 pub returns-clause-in_step : goal.returns-clause-in_step
 returns-clause-in_step g c told =
     let m : Machine = record {
@@ -64,6 +64,7 @@ returns-clause-in_step g c told =
         },
       ),
       c.in_ok-operands.ensures.unread,
+      c.in_ok-writer.ensures.arcs told,
     )
 
 -- the files of arcs couldn't be cut

@@ -1,5 +1,6 @@
 use Rattle.top_down_sweep.proofs.Doing.{task_same}
 use Rattle.top_down_sweep.proofs.TurnKeeps.{made_where}
+use Rattle.top_down_sweep.proofs.Orders.{ended_ordered}
 use Rattle.top_down_sweep.proofs.Holding.{if_err_map}
 use Rattle.std.proofs.lemmas.Result.{on_ok_weaker}
 use Rattle.top_down_sweep.proofs.sweep.TopDownSweep.turn.Goals as goal
@@ -26,3 +27,8 @@ returns-clause-undamaged g c = if_err_map c.turn.result
 pub returns-clause-fewer : goal.returns-clause-fewer
 returns-clause-fewer g c told w remains = c.turn.ensures.fewer told w.task remains.0 remains.1
     w.tuples w.all_met
+
+-- once it has ended, the two files are arcs in their order
+pub returns-clause-ordered : goal.returns-clause-ordered
+returns-clause-ordered g c = on_ok_weaker c.turn.result (λ in_step told.
+    ended_ordered c.turn.new.self.place.phase c.turn.new.self _ (in_step told)) c.turn.ensures.in_step
