@@ -28,7 +28,8 @@ use Rattle.top_down_sweep.specs.declared.place.Asking.{Asking}
 use Rattle.top_down_sweep.specs.declared.place.Phase.{Phase}
 use Rattle.top_down_sweep.specs.declared.place.Phase.TheVariants as phases
 use Rattle.top_down_sweep.specs.declared.machine.Machine.{Machine}
-use Rattle.top_down_sweep.specs.Members.{want, all_filled, all_waiting, least}
+use Rattle.top_down.specs.Rules.{Rule}
+use Rattle.top_down_sweep.specs.Members.{want, all_filled, all_waiting, least, on_side}
 use Rattle.top_down_sweep.specs.Soundness.{identifier, next_numbered, known}
 use Rattle.top_down_sweep.specs.Meaning.{Task, waiting_of, Contents, StandsFor, IsLeft, IsWorking, IsHandling, IsFresh, first_contents, AreFilesOf, IsDone, RemainsIn, RemainsOf, WorksIn, WorksOn, IsMadeWhere}
 use Rattle.top_down_sweep.specs.Changes.{ShowsAsk, JoinAsks, AsksInstead, ServesSide, side_asks, goal_below, ask_for}
@@ -87,6 +88,15 @@ unasked P xs asker target none holds =
     let mine : laws.answer_arcs asker target ≡ [] =
     ap (λ b. cond b (laws.arc_from asker target ∷ []) []) there in
     subst P (sym (ap (λ zs. xs ++ zs) mine ∙ append-nil xs)) holds
+
+-- what the rule makes of the tuple on a side
+pub goal_from : (rule : Rule) (level node : ℕ) (side : Bool) (lows highs below : Tuple) (members : Members)
+    (found goal : Goal) → level ≡ level_of node → lows ≡ on_side false members → highs ≡ on_side true members
+    → below ≡ rule.below level side lows highs → found ≡ rule.goal below → found ≡ goal
+    → goal_below rule (level_of node) side members ≡ goal
+goal_from rule level node side lows highs below members found goal level_is low high below_is found_is is =
+    (λ i. rule.goal (rule.below (sym level_is i) side (sym low i) (sym high i)))
+    ∙ ap rule.goal (sym below_is) ∙ sym found_is ∙ is
 
 -- a side that is constant has its arc
 abbrev value_arc : ℕ → Bool → Bool → Arc

@@ -42,8 +42,8 @@ pub record AreEndsTo (asker : ℕ) (xs : List Arc) : Type 0 where
   pub ordered : IsEndOrder xs
   pub askers : All (λ a. source_word a ≤ asker) xs
 
--- the arcs to nodes go to the tuple that was numbered last and to the last of its asks, which comes no later than the
--- last ask that was taken; the others are from that tuple or one before it
+-- the arcs to nodes go up to the tuple that was numbered last, and to the last of its asks that was answered, which
+-- comes no later than the last ask that was taken; those to truth values are from nodes up to that tuple
 pub record ArePutTo (x : Numbered) (taken : Option Ask) (inner ends : List Arc) : Type 0 where
   pub last : Ask
   pub last_is : taken ≡ Some last
@@ -52,12 +52,12 @@ pub record ArePutTo (x : Numbered) (taken : Option Ask) (inner ends : List Arc) 
   pub inner_are : AreInnerTo (identifier x) asker inner
   pub ends_are : AreEndsTo (asker_word (record { uid = identifier x; high = true })) ends
 
--- and there are none while no tuple has a number
+-- and while no tuple has a number there are none
 abbrev pub ArePut : Option Numbered → Option Ask → List Arc → List Arc → Type 0
 ArePut None taken inner ends = (inner ≡ []) × (ends ≡ [])
 ArePut (Some x) taken inner ends = ArePutTo x taken inner ends
 
--- so are those that the machine's files are to hold
+-- such arcs the machine's files are to hold
 pub record HoldsPut (s : Asking) (m : Machine) (world : World) : Type 0 where
   pub inner : List Arc
   pub ends : List Arc

@@ -1,6 +1,6 @@
 use Rattle.rec_words.specs.Words.{level_of}
 use Rattle.top_down_sweep.specs.Changes.{goal_below}
-use Rattle.top_down_sweep.proofs.TurnKeeps.{serves_end, serves_go, valued}
+use Rattle.top_down_sweep.proofs.TurnKeeps.{goal_from, serves_end, serves_go, valued}
 use Rattle.arc_file.specs.Writers.{HoldsArcs}
 use Rattle.top_down.specs.Asks.{side_arcs}
 use Rattle.arc_file.specs.declared.arc.Arc.{Arc}
@@ -18,26 +18,15 @@ returns-in-End-clause-served g c = on_ok_weaker c.put.result (λ put told k stan
       target = c.terminal.result;
     } in
     serves_end c.put.new.self (g.S.Shelf.world c.put.new.shelf) k c.args.uid c.args.high
-    c.in-End.value (goal_below rule (level_of c.args.uid) c.args.high c.args.members.now) ((λ i. rule.goal (rule.below (sym c.level_at.ensures.level i) c.args.high
-    (sym c.on_side-lows.ensures i) (sym c.on_side-highs.ensures i)))
-    ∙ ap rule.goal (sym c.below-below.ensures) ∙ sym c.goal.ensures ∙ c.in-End.is) arc
+    c.in-End.value (goal_below rule (level_of c.args.uid) c.args.high c.args.members.now)
+    (goal_from rule _ c.args.uid c.args.high _ _ _ c.args.members.now _ _ c.level_at.ensures.level
+    c.on_side-lows.ensures c.on_side-highs.ensures c.below-below.ensures c.goal.ensures c.in-End.is) arc
     (λ i. record {
       source = c.args.uid;
       high = c.args.high;
       target = c.terminal.ensures i;
     }) (put told k stands)) c.put.ensures.written
 
--- it goes on
-pub returns-in-Go-clause-served : goal.returns-in-Go-clause-served
-returns-in-Go-clause-served g c = on_ok_weaker c.ask_for.result (λ joins told k stands.
-    let rule = g.O.Operation.rule c.args.operation.now in
-    serves_go c.ask_for.new.self (g.S.Shelf.world c.ask_for.new.shelf) k c.args.uid c.args.high
-    c.in-Go.tuple (goal_below rule (level_of c.args.uid) c.args.high c.args.members.now) ((λ i. rule.goal (rule.below (sym c.level_at.ensures.level i) c.args.high
-    (sym c.on_side-lows.ensures i) (sym c.on_side-highs.ensures i)))
-    ∙ ap rule.goal (sym c.below-below.ensures) ∙ sym c.goal.ensures ∙ c.in-Go.is)
-    (joins told k stands)) c.ask_for.ensures.list
-
--- so far as the arcs go
 pub returns-in-End-clause-arcs : goal.returns-in-End-clause-arcs
 returns-in-End-clause-arcs g c = on_ok_weaker c.put.result (λ put told xs ys held.
     let rule = g.O.Operation.rule c.args.operation.now in
@@ -48,21 +37,29 @@ returns-in-End-clause-arcs g c = on_ok_weaker c.put.result (λ put told xs ys he
     } in
     valued (HoldsArcs c.put.new.self.writer (g.S.Shelf.world c.put.new.shelf)) xs ys c.args.uid
     c.args.high c.in-End.value (goal_below rule (level_of c.args.uid) c.args.high c.args.members.now)
-    ((λ i. rule.goal (rule.below (sym c.level_at.ensures.level i) c.args.high
-    (sym c.on_side-lows.ensures i) (sym c.on_side-highs.ensures i)))
-    ∙ ap rule.goal (sym c.below-below.ensures) ∙ sym c.goal.ensures ∙ c.in-End.is) arc
+    (goal_from rule _ c.args.uid c.args.high _ _ _ c.args.members.now _ _ c.level_at.ensures.level
+    c.on_side-lows.ensures c.on_side-highs.ensures c.below-below.ensures c.goal.ensures c.in-End.is) arc
     (λ i. record {
       source = c.args.uid;
       high = c.args.high;
       target = c.terminal.ensures i;
     }) (put told xs ys held)) c.put.ensures.arcs
 
+-- it goes on
+pub returns-in-Go-clause-served : goal.returns-in-Go-clause-served
+returns-in-Go-clause-served g c = on_ok_weaker c.ask_for.result (λ joins told k stands.
+    let rule = g.O.Operation.rule c.args.operation.now in
+    serves_go c.ask_for.new.self (g.S.Shelf.world c.ask_for.new.shelf) k c.args.uid c.args.high
+    c.in-Go.tuple (goal_below rule (level_of c.args.uid) c.args.high c.args.members.now)
+    (goal_from rule _ c.args.uid c.args.high _ _ _ c.args.members.now _ _ c.level_at.ensures.level
+    c.on_side-lows.ensures c.on_side-highs.ensures c.below-below.ensures c.goal.ensures c.in-Go.is)
+    (joins told k stands)) c.ask_for.ensures.list
+
 pub returns-in-Go-clause-arcs : goal.returns-in-Go-clause-arcs
 returns-in-Go-clause-arcs g c = on_ok_weaker c.ask_for.result (λ keeps told xs ys held.
     let rule = g.O.Operation.rule c.args.operation.now in
-    let goes = ((λ i. rule.goal (rule.below (sym c.level_at.ensures.level i) c.args.high
-    (sym c.on_side-lows.ensures i) (sym c.on_side-highs.ensures i)))
-    ∙ ap rule.goal (sym c.below-below.ensures) ∙ sym c.goal.ensures ∙ c.in-Go.is) in
     subst (HoldsArcs c.ask_for.new.self.writer (g.S.Shelf.world c.ask_for.new.shelf) xs)
-    (sym (ap (λ goal. ys ++ side_arcs c.args.uid c.args.high goal) goes ∙ append-nil ys))
-    (keeps told xs ys held)) c.ask_for.ensures.arcs
+    (sym (ap (λ goal. ys ++ side_arcs c.args.uid c.args.high goal)
+    (goal_from rule _ c.args.uid c.args.high _ _ _ c.args.members.now _ _ c.level_at.ensures.level
+    c.on_side-lows.ensures c.on_side-highs.ensures c.below-below.ensures c.goal.ensures c.in-Go.is)
+    ∙ append-nil ys)) (keeps told xs ys held)) c.ask_for.ensures.arcs
