@@ -1,6 +1,6 @@
 -- Calls within a turn, one behind the other: what they leave and cost together, and what is damaged.
-use Rattle.std.proofs.Common.{◌≡◌, ℕ, ◌+◌, ◌-◌, ◌≤◌, ◌∙◌, Bool, subst, sym, ap, inl, inr}
-use Rattle.std.specs.Prelude.{Result, Ok, Err, IsErrAnd, IfErr, IsTrue}
+use Rattle.std.proofs.Common.{◌≡◌, ℕ, ◌+◌, ◌-◌, ◌<◌, ◌≤◌, ◌∙◌, Bool, subst, sym, ap, inl, inr, arith}
+use Rattle.std.specs.Prelude.{Result, Ok, Err, Option, Some, None, IsErrAnd, IfErr, IfSome, IsTrue}
 use Rattle.shelf_model.specs.declared.file_no.FileNo.{FileNo}
 use Rattle.shelf_model.specs.declared.sort_fault.SortFault.{SortFault}
 use Rattle.shelf_model.specs.declared.sort_fault.SortFault.TheVariants.{Shelf, Damaged, RunsSpent}
@@ -12,6 +12,7 @@ use Rattle.block_stream.specs.Writes.{DuringWrite, Wrote}
 use Rattle.shelf_model.specs.Faults.{Faults}
 use Rattle.shelf_model.specs.World.{World, now, file}
 use Rattle.shelf_model.proofs.Runs.{told, ran_end, ran_weakens}
+use Rattle.arc_file.specs.declared.arc.Arc.{Arc}
 use Rattle.arc_file.specs.declared.reader.ArcReader.{ArcReader}
 use Rattle.arc_file.specs.declared.kind.Kind.{Kind}
 use Rattle.arc_file.specs.declared.kind.Kind.TheVariants.{Inner, End}
@@ -23,14 +24,15 @@ use Rattle.sweep_core.specs.Accounts.{OnlyOwn}
 use Rattle.sweep_core.proofs.Leaving.{leaves_then, leaves_more, leaves_ok, leaves_err}
 use Rattle.reduce_sweep.specs.declared.place.Place.{Place}
 use Rattle.reduce_sweep.specs.declared.reduce.ReduceSweep.{ReduceSweep}
-use Rattle.reduce_sweep.specs.Sweeps.{inner_file, ends_file, task_of, accounts, IsSound, Refuses}
-use Rattle.reduce_sweep.specs.Damage.{IsDamagedIn, IsDamageOf, IsDamagedRecord, IsDamage}
+use Rattle.reduce_sweep.specs.Sweeps.{inner_file, ends_file, task_of, accounts, IsWithin, IsSound, Refuses}
+use Rattle.reduce_sweep.specs.Damage.{IsDamagedIn, IsDamageOf, IsDamagedRecord, IsDamageAmong, IsDamage}
 use Rattle.reduce_sweep.specs.Calls.{SameTask, Does}
 
 -- a task that stays, and stays again
 pub task_then : (p q r : ReduceSweep) → SameTask p q → SameTask q r → SameTask p r
 task_then p q r first second = record {
   out_is = second.out_is ∙ first.out_is;
+  arcs_are = second.arcs_are ∙ first.arcs_are;
   inner_is = second.inner_is ∙ first.inner_is;
   ends_are = second.ends_are ∙ first.ends_are;
   variables_are = second.variables_are ∙ first.variables_are;
@@ -43,6 +45,7 @@ task_same p q same = λ i. record {
   out = same.out_is i;
   inner = same.inner_is i;
   ends = same.ends_are i;
+  arcs = same.arcs_are i;
   variables = same.variables_are i;
 }
 
@@ -66,15 +69,24 @@ damage_before r old new (Damaged f at) inner ends damage = elim damage [
 damage_before r old new RunsSpent inner ends damage = tt
 
 -- what is damaged now is a record that is damaged then, where the bytes of the file are the same
-damaged_after : (kind : Kind) (s t : ArcStream) (old new : World) (f : FileNo) (at : ℕ) → file_of t ≡ file_of s → (file new (file_of s)).bytes ≡ (file old (file_of s)).bytes
-    → IsDamagedIn kind s old f at → IsDamagedRecord kind (file_of t) new f at
-damaged_after kind s t old new f at place same d = record {
+damaged_after : (kind : Kind) (g : FileNo) (count : ℕ) (s : ArcStream) (old new : World) (f : FileNo) (at : ℕ)
+    → IsWithin g count s
+    → (file new (file_of s)).bytes ≡ (file old (file_of s)).bytes → IsDamagedIn kind s old f at
+    → IsDamagedRecord kind g count new f at
+damaged_after kind g count s old new f at within same d = record {
   place = left_of s - 1;
   given = given_of s;
-  file_is = d.file_is ∙ sym place;
+  file_is = d.file_is ∙ within.file_is;
+  within = let some = d.some in let left = within.left in omega (arith, some, left);
+  behind = behind (given_of s) within.given;
   at_is = d.at_is;
   damaged = subst (λ bytes. IsDamagedArc kind (left_of s - 1) bytes (given_of s)) (sym (subst (λ g. (file new g).bytes ≡ (file old g).bytes) (sym d.file_is) same)) d.damaged;
 }
+  where
+    behind : (given : Option Arc) → IfSome given (λ a. left_of s < count)
+        → IfSome given (λ a. left_of s - 1 + 1 < count)
+    behind None fewer = tt
+    behind (Some a) fewer = let some = d.some in omega (arith, some, fewer)
 
 -- what follows from a fact about why a call was refused
 pub if_err_weaker : {T E : Type 0} {P Q : E → Type 0} (result : Result T E) → ((e : E) → P e → Q e) → IfErr result P → IfErr result Q
@@ -165,6 +177,7 @@ module _ {S : Type 0} (tells : S → Bool) (world : S → World) (counts : S →
     };
     same = record {
       out_is = d.same.out_is;
+      arcs_are = d.same.arcs_are;
       inner_is = d.same.inner_is;
       ends_are = d.same.ends_are;
       variables_are = variables ∙ d.same.variables_are;
@@ -183,14 +196,18 @@ module _ {S : Type 0} (tells : S → Bool) (world : S → World) (counts : S →
   -- where damage is once a turn was refused
   pub damage_after : {T : Type 0} (m a : ℕ) (s t : S) (p q : ReduceSweep) (result : Result T SortFault) → IsSound p → Does tells world counts m a s t p q result
       → IfErr result (λ e. IsTrue (tells t) → IsDamage q (world t) e)
-  damage_after m a s t p q result sound x = if_err_weaker result (λ e damage told. by e (arcs_stay m a s t p q result sound x told) (damage told)) x.damage
+  damage_after m a s t p q result sound x = if_err_weaker result (λ e damage told.
+      subst (λ arcs. IsDamageAmong arcs (world t) e) (sym x.same.arcs_are)
+      (by e (arcs_stay m a s t p q result sound x told) (damage told))) x.damage
     where
       by : (e : SortFault) → ((file (world t) (inner_file p)).bytes ≡ (file (world s) (inner_file p)).bytes) × ((file (world t) (ends_file p)).bytes ≡ (file (world s) (ends_file p)).bytes)
-          → IsDamageOf p.ahead.reader (world s) e → IsDamage q (world t) e
+          → IsDamageOf p.ahead.reader (world s) e → IsDamage p (world t) e
       by Shelf stay damage = tt
       by (Damaged f at) stay damage = elim damage [
-        | inl d ↦ inl (damaged_after Inner (inner_of p.ahead.reader) (inner_of q.ahead.reader) (world s) (world t) f at x.same.inner_is stay.0 d)
-        | inr d ↦ inr (damaged_after End (ends_of p.ahead.reader) (ends_of q.ahead.reader) (world s) (world t) f at x.same.ends_are stay.1 d)
+        | inl d ↦ inl (damaged_after Inner p.arcs.inner p.arcs.inner_count (inner_of p.ahead.reader) (world s) (world t)
+            f at sound.within.inner_within stay.0 d)
+        | inr d ↦ inr (damaged_after End p.arcs.ends p.arcs.ends_count (ends_of p.ahead.reader) (world s) (world t) f at
+            sound.within.ends_within stay.1 d)
       ]
       by RunsSpent stay damage = tt
 

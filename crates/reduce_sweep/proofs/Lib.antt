@@ -1,3 +1,4 @@
+mod Within
 mod Holding
 mod Doing
 mod Listing
@@ -7,7 +8,7 @@ mod Joining
 mod CollectingKeeps
 mod NumberingKeeps
 mod ForwardingKeeps
-mod Undamaged
+pub mod Undamaged
 mod StartKeeps
 mod EndKeeps
 mod TurnKeeps

@@ -217,6 +217,7 @@ module _ {S : Type 0} (tells : S → Bool) (world : S → World) (counts : S →
           | inr other ↦ served.no_run (inr other)
         ];
       };
+      within = fit.sound.within;
       variables = fit.sound.variables;
       phase = fit.sound.phase;
     }
@@ -249,7 +250,14 @@ module _ {S : Type 0} (tells : S → Bool) (world : S → World) (counts : S →
         spent = omega (arith, spent);
         faults = faults;
       };
-      same = record { out_is = refl; inner_is = refl; ends_are = refl; variables_are = refl; root_is = refl };
+      same = record {
+        out_is = refl;
+        arcs_are = refl;
+        inner_is = refl;
+        ends_are = refl;
+        variables_are = refl;
+        root_is = refl;
+      };
       refused = refused;
       damage = damage;
     }
@@ -282,6 +290,7 @@ module _ {S : Type 0} (tells : S → Bool) (world : S → World) (counts : S →
           ]
         ];
       };
+      within = fit.sound.within;
       variables = fit.sound.variables;
       phase = fit.sound.phase;
     }
@@ -314,7 +323,14 @@ module _ {S : Type 0} (tells : S → Bool) (world : S → World) (counts : S →
         spent = omega (arith, spent);
         faults = faults;
       };
-      same = record { out_is = refl; inner_is = refl; ends_are = refl; variables_are = refl; root_is = refl };
+      same = record {
+        out_is = refl;
+        arcs_are = refl;
+        inner_is = refl;
+        ends_are = refl;
+        variables_are = refl;
+        root_is = refl;
+      };
       refused = refused;
       damage = damage;
     }
@@ -347,6 +363,7 @@ module _ {S : Type 0} (tells : S → Bool) (world : S → World) (counts : S →
           ]
         ];
       };
+      within = fit.sound.within;
       variables = fit.sound.variables;
       phase = fit.sound.phase;
     }
@@ -379,7 +396,14 @@ module _ {S : Type 0} (tells : S → Bool) (world : S → World) (counts : S →
         spent = omega (arith, spent);
         faults = faults;
       };
-      same = record { out_is = refl; inner_is = refl; ends_are = refl; variables_are = refl; root_is = refl };
+      same = record {
+        out_is = refl;
+        arcs_are = refl;
+        inner_is = refl;
+        ends_are = refl;
+        variables_are = refl;
+        root_is = refl;
+      };
       refused = refused;
       damage = damage;
     }

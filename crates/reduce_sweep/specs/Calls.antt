@@ -20,7 +20,7 @@ use Rattle.reduce_sweep.specs.declared.reduce.Ahead.{Ahead}
 use Rattle.reduce_sweep.specs.declared.reduce.Lists.{Lists}
 use Rattle.reduce_sweep.specs.declared.reduce.ReduceSweep.{ReduceSweep}
 use Rattle.reduce_sweep.specs.Damage.{IsDamageOf}
-use Rattle.reduce_sweep.specs.Sweeps.{out_of, inner_file, ends_file, accounts, IsSound, Refuses}
+use Rattle.reduce_sweep.specs.Sweeps.{out_of, arcs_of, inner_file, ends_file, accounts, IsSound, Refuses}
 use Rattle.reduce_sweep.specs.Remaining.{QueueLists, RowLists, NameLists}
 
 -- the queue stands for some list, and so do the rows and the names
@@ -56,6 +56,7 @@ pub record IsFit {S : Type 0} (tells : S → Bool) (world : S → World) (shelf 
 -- what no call changes
 pub record SameTask (old new : ReduceSweep) : Type 0 where
   pub out_is : out_of new ≡ out_of old
+  pub arcs_are : arcs_of new ≡ arcs_of old
   pub inner_is : inner_file new ≡ inner_file old
   pub ends_are : ends_file new ≡ ends_file old
   pub variables_are : new.place.variables ≡ old.place.variables

@@ -1,12 +1,15 @@
 -- What is seen of a reduction, and what it keeps between turns.
-use Rattle.std.specs.Prelude.{◌≡◌, ◌≢◌, ◌⊎◌, ℕ, ◌+◌, ◌*◌, ◌^◌, ◌≤◌, ◌<◌, Bool, true, false, Option, Some, None, IsSome}
+use Rattle.std.specs.Prelude.{◌≡◌, ◌≢◌, ◌⊎◌, ℕ, ◌+◌, ◌*◌, ◌^◌, ◌≤◌, ◌<◌, Bool, true, false, Option, Some, None, IsSome, IfSome}
 use Rattle.shelf_model.specs.declared.file_no.FileNo.{FileNo}
 use Rattle.shelf_model.specs.declared.sort_fault.SortFault.{SortFault}
 use Rattle.shelf_model.specs.declared.sort_fault.SortFault.TheVariants.{Shelf, Damaged, RunsSpent}
 use Rattle.block_stream.specs.Writes.{count_of}
 use Rattle.node_file.specs.declared.writer.NodeWriter.{NodeWriter}
 use Rattle.node_file.specs.Writers as nodes
-use Rattle.arc_file.specs.Streams.{file_of, left_of}
+use Rattle.arc_file.specs.declared.reader.ArcReader.{ArcReader}
+use Rattle.arc_file.specs.declared.stream.ArcStream.{ArcStream}
+use Rattle.arc_file.specs.declared.unreduced.Unreduced.{Unreduced}
+use Rattle.arc_file.specs.Streams.{file_of, left_of, given_of}
 use Rattle.arc_file.specs.Readers.{inner_of, ends_of}
 use Rattle.arc_diagrams.specs.Items.{final_arc_words, IsFinalArc, source_row_words, IsSourceRow, name_words, IsName}
 use Rattle.arc_diagrams.specs.declared.final_arc.FinalArc.{FinalArc}
@@ -35,11 +38,17 @@ inner_file r = file_of (inner_of r.ahead.reader)
 abbrev pub ends_file : ReduceSweep → FileNo
 ends_file r = file_of (ends_of r.ahead.reader)
 
--- what no turn changes: the file of the nodes, the two arc files, and the number of variables
+-- the arcs that it began with
+abbrev pub arcs_of : ReduceSweep → Unreduced
+arcs_of r = r.arcs
+
+-- what no turn changes: the file of the nodes, the two arc files, the arcs that it began with, and the number of
+-- variables
 pub record Task : Type 0 where
   pub out : FileNo
   pub inner : FileNo
   pub ends : FileNo
+  pub arcs : Unreduced
   pub variables : ℕ
 
 abbrev pub task_of : ReduceSweep → Task
@@ -47,6 +56,7 @@ task_of r = record {
   out = out_of r;
   inner = inner_file r;
   ends = ends_file r;
+  arcs = arcs_of r;
   variables = r.place.variables;
 }
 
@@ -151,9 +161,21 @@ IsPhaseAt level count (Number s) = IsNumberedAt level count s
 IsPhaseAt level count Forward = Unit
 IsPhaseAt level count (Ended n) = Unit
 
+-- so many arcs of a file are read from its end on: no more of them are left, and fewer once one was given
+pub record IsWithin (f : FileNo) (count : ℕ) (s : ArcStream) : Type 0 where
+  pub file_is : file_of s ≡ f
+  pub left : left_of s ≤ count
+  pub given : IfSome (given_of s) (λ a. left_of s < count)
+
+-- these arcs are read, of both files
+pub record AreWithin (arcs : Unreduced) (r : ArcReader) : Type 0 where
+  pub inner_within : IsWithin arcs.inner arcs.inner_count (inner_of r)
+  pub ends_within : IsWithin arcs.ends arcs.ends_count (ends_of r)
+
 -- what is true of it whatever the folder holds
 pub record IsSound (r : ReduceSweep) : Type 0 where
   pub served : AreServed r.ahead r.lists r.writer r.parts
+  pub within : AreWithin (arcs_of r) r.ahead.reader
   pub variables : r.writer.n ≡ r.place.variables
   pub phase : IsPhaseAt r.place.level (count_of (nodes.filling_of r.writer)) r.place.phase
 

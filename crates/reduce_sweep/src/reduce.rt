@@ -2,7 +2,7 @@
 use crate::phase::Phase;
 use crate::place::Place;
 use arc_diagrams::{FinalArc, Name, SourceRow};
-use arc_file::{Arc, ArcReader};
+use arc_file::{Arc, ArcReader, Unreduced};
 use level_queue::LevelQueue;
 use node_file::NodeWriter;
 use run_merge::{Parts, Sorter};
@@ -28,6 +28,8 @@ pub(crate) struct Lists<'r> {
 /// After a refusal it isn't used again.
 #[derive(Drop)]
 pub struct ReduceSweep<'r> {
+    // The arcs that it began with.
+    pub(crate) arcs: Unreduced,
     pub(crate) place: Place,
     pub(crate) ahead: Ahead<'r>,
     pub(crate) lists: Lists<'r>,

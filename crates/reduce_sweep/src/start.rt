@@ -34,7 +34,7 @@ impl<'r> ReduceSweep<'r> {
     ghost use Rattle.block_stream.specs.Writes.{DuringCut};
     ghost use Rattle.sweep_core.specs.Accounts.{CanBeTaken};
     ghost use Rattle.sweep_core.specs.Sweeps.{IsNoDamage};
-    ghost use Rattle.reduce_sweep.specs.Sweeps.{credit_of, stock_of, out_of, inner_file, ends_file, parts_of, turns_left, count_in, IsSound, IsArcDamage};
+    ghost use Rattle.reduce_sweep.specs.Sweeps.{credit_of, stock_of, out_of, arcs_of, inner_file, ends_file, parts_of, turns_left, count_in, IsSound, IsArcDamage};
 
     /// Begins the reduction of a diagram of `n` variables into a file, with the part numbers that its lists may take.
     ///
@@ -62,6 +62,7 @@ impl<'r> ReduceSweep<'r> {
         ensures ready { IfOk result IsSound }
         ensures in_step { IfOk result (λ r. IsTrue (S.tells shelf.new) → IsInStep r (S.world shelf.new)) }
         ensures files { IfOk result (λ r. (out_of r ≡ out) × (inner_file r ≡ made.inner) × (ends_file r ≡ made.ends)) }
+        ensures arcs { IfOk result (λ r. arcs_of r ≡ made) }
         ensures variables { IfOk result (λ r. r.place.variables ≡ n) }
         ensures parts { IfOk result (λ r. parts_of r ≡ parts) }
         ensures left { IfOk result (λ r. turns_left r ≤ 4 * made.inner_count + 3 * made.ends_count + 1) }
@@ -98,11 +99,13 @@ impl<'r> ReduceSweep<'r> {
         let (rows, names) = sorters.split_at_mut(quarter);
         let writer = NodeWriter::start(out, n, writing, shelf)?;
         let mut reader = ArcReader::start(made, reading);
+        let arcs = reader.left_over();
         let inner = reader.next_inner(shelf)?;
         let end = reader.next_end(shelf)?;
-        let root = reader.left_over().root;
+        let root = arcs.root;
         let known = final_from_start(root);
         Ok(ReduceSweep {
+            arcs,
             place: Place {
                 variables: n,
                 root,

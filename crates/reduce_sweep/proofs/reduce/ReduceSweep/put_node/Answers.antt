@@ -33,6 +33,7 @@ returns-clause-fit g c =
     record {
       sound = record {
         served = served_put s.ahead s.lists s.writer c.put.new.self s.parts c.put.ensures.same.file_is sound.served;
+        within = sound.within;
         variables = c.put.ensures.variables ∙ sound.variables;
         phase = subst (IsNumberedAt s.place.level (count_of (filling_of c.put.new.self))) (sym c.with-next.ensures)
             (subst (λ m. IsNumberedAt s.place.level m (numbered_with c.args.numbered c.args.row.now)) (sym c.in_ok-put.ensures.count)
@@ -55,7 +56,14 @@ returns-clause-does g c = record {
     spent = omega arith;
     faults = search rules;
   };
-  same = record { out_is = c.put.ensures.same.file_is; inner_is = refl; ends_are = refl; variables_are = refl; root_is = refl };
+  same = record {
+    out_is = c.put.ensures.same.file_is;
+    arcs_are = refl;
+    inner_is = refl;
+    ends_are = refl;
+    variables_are = refl;
+    root_is = refl;
+  };
   refused = tt;
   damage = tt;
 }
@@ -73,7 +81,14 @@ returns-in_err-put-clause-does g c = record {
     spent = omega arith;
     faults = search rules;
   };
-  same = record { out_is = c.put.ensures.same.file_is; inner_is = refl; ends_are = refl; variables_are = refl; root_is = refl };
+  same = record {
+    out_is = c.put.ensures.same.file_is;
+    arcs_are = refl;
+    inner_is = refl;
+    ends_are = refl;
+    variables_are = refl;
+    root_is = refl;
+  };
   refused = write_refuses _ _ (record c.args.self.now {
     place = record c.args.self.now.place { phase = Number c.with-next.result };
     writer = c.put.new.self;

@@ -1,6 +1,7 @@
 use Rattle.std.proofs.Common.{refl, rules, IsTrue}
 use Rattle.reduce_sweep.proofs.Joining.{inner_passes, inner_damaged}
 use Rattle.reduce_sweep.proofs.Listing.{work_read_inner}
+use Rattle.reduce_sweep.proofs.Within.{within_read_inner}
 use Rattle.reduce_sweep.proofs.reduce.ReduceSweep.read_inner.Goals as goal
 
 -- the arc before it is the next one
@@ -24,7 +25,13 @@ returns-in_err-self-clause-does g c = record {
 -- what was read is as the bytes say, and the lists are known
 pub returns-clause-fit : goal.returns-clause-fit
 returns-clause-fit g c = record {
-  sound = search rules;
+  sound = record {
+    served = search rules;
+    within = within_read_inner c.args.self.now.arcs c.args.self.now.ahead.reader c.next_inner.new.self _
+        c.next_inner.ensures.ends c.next_inner.ensures.file c.in_ok-self.ensures.place c.requires.fit.sound.within;
+    variables = c.requires.fit.sound.variables;
+    phase = c.requires.fit.sound.phase;
+  };
   at_work = λ told.
       let work = c.requires.fit.at_work (c.next_inner.ensures.content.before told) in
       work_read_inner c.args.self.now.ahead c.args.self.now.lists c.args.self.now.writer c.args.self.now.parts _ _ c.next_inner.new.self _ c.requires.fit.sound.served

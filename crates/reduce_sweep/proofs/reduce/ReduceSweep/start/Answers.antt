@@ -10,8 +10,10 @@ use Rattle.arc_diagrams.specs.Laws.{IsDiagramOf}
 use Rattle.arc_diagrams.specs.Reducing.{Remains}
 use Rattle.sweep_core.specs.Accounts.{CanBeTaken}
 use Rattle.reduce_sweep.specs.declared.reduce.Ahead.{Ahead}
+use Rattle.reduce_sweep.specs.Sweeps.{AreWithin}
 use Rattle.reduce_sweep.proofs.StartKeeps.{begins, few_at_start, at_first, held_at_first, work_begins, as_before, emptied, ReadsNothing, inner_damaged, ends_damaged, was_cut, then_looked}
 use Rattle.reduce_sweep.proofs.Undamaged.{begins_undamaged}
+use Rattle.reduce_sweep.proofs.Within.{within_read_inner, within_read_end, within_at_first}
 use Rattle.reduce_sweep.proofs.reduce.ReduceSweep.start.Goals as goal
 
 pub returns-in_err-inner-clause-content : goal.returns-in_err-inner-clause-content
@@ -50,6 +52,13 @@ returns-clause-ready g c =
           | inr other ↦ elim other [ inl q ↦ c.start-3.ensures.runs _ q | inr q ↦ c.start-4.ensures.runs _ q ]
         ];
       };
+      within = subst (λ arcs. AreWithin arcs c.next_end.new.self) (sym (c.left_over-arcs.ensures ∙ left))
+          (within_read_end c.args.made c.next_inner.new.self c.next_end.new.self _ c.in_ok-end.ensures.inner
+          c.in_ok-end.ensures.file c.in_ok-end.ensures.place
+          (within_read_inner c.args.made c.start-reader.result c.next_inner.new.self _ c.in_ok-inner.ensures.ends
+          c.in_ok-inner.ensures.file c.in_ok-inner.ensures.place
+          (within_at_first c.args.made c.start-reader.result left c.start-reader.ensures.given.0
+          c.start-reader.ensures.given.1)));
       variables = c.in_ok-writer.ensures.variables;
       phase = tt;
     }
@@ -82,8 +91,8 @@ returns-clause-in_step g c = λ told.
 pub returns-clause-remains : goal.returns-clause-remains
 returns-clause-remains g c = λ told d inner ends has_inner has_ends arcs diagram.
     let left : left_over_of c.start-reader.result ≡ c.args.made = c.start-reader.ensures.left_over in
-    let root : c.left_over-root.result.root ≡ c.args.made.root =
-    ap (λ (u : Unreduced). u.root) c.left_over-root.ensures ∙ c.in_ok-end.ensures.root ∙ c.in_ok-inner.ensures.root ∙ ap (λ (u : Unreduced). u.root) left in
+    let root : c.left_over-arcs.result.root ≡ c.args.made.root = ap (λ (u : Unreduced). u.root)
+    (c.left_over-arcs.ensures ∙ left) in
     let read_told = c.next_end.ensures.content.before told in
     let cut_told = c.next_inner.ensures.content.before read_told in
     let a : Ahead = record { reader = c.next_end.new.self; inner = c.in_ok-inner.inner; end = c.in_ok-end.end; queue = c.start-2.result } in
