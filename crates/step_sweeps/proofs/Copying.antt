@@ -19,7 +19,7 @@ use Rattle.top_down_sweep.specs.Tasks.{IsCanonicalFile}
 use Rattle.step_sweeps.specs.declared.diagram.MadeDiagram.{MadeDiagram}
 use Rattle.step_sweeps.specs.declared.operation.StepOperation.{StepOperation}
 use Rattle.step_sweeps.specs.declared.operation.StepOperation.TheVariants.{Operator}
-use Rattle.step_sweeps.specs.Damage.{IsDamagedFile, IsDiagramFault}
+use Rattle.step_sweeps.specs.Damage.{IsDamagedFile, IsArcsFault}
 use Rattle.step_sweeps.specs.Given.{Tables, AreGiven, AreEarlier, made_by}
 use Rattle.step_sweeps.specs.Made.{node_file, IsDiagramOf}
 use Rattle.step_sweeps.proofs.Running.{file_stays}
@@ -64,21 +64,23 @@ still_damaged n read old new f at same damage =
     ⊎ (IsDamagedNode n x.bytes at ⊎ ((key : ℕ) × IsAbsent x.bytes key at)))) same damage
 
 -- so a fault that is found after the step's node file alone was changed was there before
-pub fault_before : (n : ℕ) (operands : OperandFiles) (number : ℕ) (old mid new : World) (e : SortFault) → AreEarlier number operands
+pub fault_before : (n : ℕ) (operands : OperandFiles) (number : ℕ) (old mid : World) (e : SortFault)
+    → AreEarlier number operands
     → Ran (OnlyChanged (λ q. q ≡ node_file number) (now old)) old mid
-    → IsDiagramFault n operands number mid new e → IsDiagramFault n operands number old new e
-fault_before n operands number old mid new Shelf earlier ran is = tt
-fault_before n operands number old mid new (Damaged f at) earlier ran (inl (inl one)) =
-    inl (inl (still_damaged n operands.first old mid f at
-    (file_stays (λ q. q ≡ node_file number) old mid operands.first (apart number operands.first earlier.first) ran) one))
-fault_before n operands number old mid new (Damaged f at) earlier ran (inl (inr (inl two))) =
-    inl (inr (inl (still_damaged n operands.second old mid f at
-    (file_stays (λ q. q ≡ node_file number) old mid operands.second (apart number operands.second earlier.second) ran) two)))
-fault_before n operands number old mid new (Damaged f at) earlier ran (inl (inr (inr three))) =
-    inl (inr (inr (still_damaged n operands.third old mid f at
-    (file_stays (λ q. q ≡ node_file number) old mid operands.third (apart number operands.third earlier.third) ran) three)))
-fault_before n operands number old mid new (Damaged f at) earlier ran (inr own) = inr own
-fault_before n operands number old mid new RunsSpent earlier ran is = tt
+    → IsArcsFault n operands mid e → IsArcsFault n operands old e
+fault_before n operands number old mid Shelf earlier ran is = tt
+fault_before n operands number old mid (Damaged f at) earlier ran (inl one) =
+    inl (still_damaged n operands.first old mid f at
+    (file_stays (λ q. q ≡ node_file number) old mid operands.first (apart number operands.first earlier.first) ran) one)
+fault_before n operands number old mid (Damaged f at) earlier ran (inr (inl two)) =
+    inr (inl (still_damaged n operands.second old mid f at
+    (file_stays (λ q. q ≡ node_file number) old mid operands.second (apart number operands.second earlier.second) ran)
+    two))
+fault_before n operands number old mid (Damaged f at) earlier ran (inr (inr three)) =
+    inr (inr (still_damaged n operands.third old mid f at
+    (file_stays (λ q. q ≡ node_file number) old mid operands.third (apart number operands.third earlier.third) ran)
+    three))
+fault_before n operands number old mid RunsSpent earlier ran is = tt
 
 -- what holds of the nodes of a diagram that was made
 pub of_made : (m : Making) (nodes : ℕ) (P : ℕ → Type 0) → m ≡ Made nodes → IfMade m P → P nodes

@@ -5,6 +5,7 @@ use Rattle.shelf_model.specs.declared.sort_fault.SortFault.{SortFault}
 use Rattle.shelf_model.specs.declared.sort_fault.SortFault.TheVariants.{Shelf, Damaged, RunsSpent}
 use Rattle.shelf_model.specs.File.{File}
 use Rattle.shelf_model.specs.World.{World, file}
+use Rattle.sweep_core.specs.Sweeps.{IsNoDamage}
 use Rattle.node_reading.specs.Reading.{IsDamagedNode, IsTrailerFault}
 use Rattle.top_down_sweep.specs.declared.beginning.OperandFiles.{OperandFiles}
 use Rattle.top_down_sweep.specs.declared.machine.Machine.{Machine}
@@ -12,7 +13,7 @@ use Rattle.top_down_sweep.specs.declared.start.Files.{Files}
 use Rattle.top_down_sweep.specs.Damage.{IsAbsent, IsReadDamage, IsStartFault, IsMachineDamage}
 use Rattle.top_down_sweep.specs.Sweeps.{files_in}
 use Rattle.top_down_sweep.specs.Waiting.{AreApart}
-use Rattle.step_sweeps.specs.Damage.{IsDamagedFile, IsArcsFault, IsOwnFault, IsDiagramFault}
+use Rattle.step_sweeps.specs.Damage.{IsDamagedFile, IsArcsFault}
 
 -- a file without its trailer is damaged
 no_trailer : (n : ℕ) (read : FileNo) (world : World) (f : FileNo) (at : ℕ)
@@ -71,16 +72,9 @@ turn_fault n operands m old new (Damaged f at) variables still apart is =
     ]
 turn_fault n operands m old new RunsSpent variables still apart is = tt
 
--- a fault of an operand is one of the step
-pub arcs_or_own : (n : ℕ) (operands : OperandFiles) (number : ℕ) (old new : World) (e : SortFault)
-    → IsArcsFault n operands old e → IsDiagramFault n operands number old new e
-arcs_or_own n operands number old new Shelf is = tt
-arcs_or_own n operands number old new (Damaged f at) is = inl is
-arcs_or_own n operands number old new RunsSpent is = tt
-
--- so is one of its files of arcs
-pub own_fault : (n : ℕ) (operands : OperandFiles) (number : ℕ) (old new : World) (e : SortFault)
-    → IsOwnFault number new e → IsDiagramFault n operands number old new e
-own_fault n operands number old new Shelf is = tt
-own_fault n operands number old new (Damaged f at) is = inr is
-own_fault n operands number old new RunsSpent is = tt
+-- a fault that is no damage is one of the step
+pub no_damage : (n : ℕ) (operands : OperandFiles) (world : World) (e : SortFault) → IsNoDamage e
+    → IsArcsFault n operands world e
+no_damage n operands world Shelf none = tt
+no_damage n operands world (Damaged f at) none = absurd none
+no_damage n operands world RunsSpent none = tt

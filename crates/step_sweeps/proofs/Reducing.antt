@@ -1,11 +1,10 @@
 -- The reduction of a step's arcs.
-use Rattle.std.proofs.Common.{◌≡◌, ◌≢◌, ◌⊎◌, ◌∙◌, ℕ, ◌+◌, ◌-◌, ◌^◌, ◌≤◌, List, ◌++◌, Bool, refl, sym, subst, ap, inl, inr, arith}
-use Rattle.std.specs.Prelude.{length, Option, Some, None}
+use Rattle.std.proofs.Common.{◌≡◌, ◌≢◌, ◌⊎◌, ◌∙◌, ℕ, ◌+◌, ◌^◌, ◌<◌, ◌≤◌, List, ◌++◌, Bool, refl, sym, subst, ap, inl, inr, arith}
+use Rattle.std.specs.Prelude.{length, Option, Some}
 use Rattle.std.proofs.lemmas.List.{length-append}
 use Rattle.shelf_model.specs.Calls.{Told}
 use Rattle.shelf_model.specs.declared.file_no.FileNo.{FileNo}
 use Rattle.shelf_model.specs.declared.sort_fault.SortFault.{SortFault}
-use Rattle.shelf_model.specs.declared.sort_fault.SortFault.TheVariants.{Shelf, Damaged, RunsSpent}
 use Rattle.shelf_model.specs.File.{File, firm_file}
 use Rattle.shelf_model.proofs.Runs.{ran_end}
 use Rattle.shelf_model.specs.Moments.{Ran}
@@ -13,24 +12,25 @@ use Rattle.shelf_model.specs.World.{World, now, file}
 use Rattle.block_stream.specs.Writes.{DuringCut}
 use Rattle.run_tiers.specs.declared.parts.Parts.{Parts}
 use Rattle.sweep_core.specs.Accounts.{CanBeTaken, OnlyOwn}
+use Rattle.sweep_core.specs.Sweeps.{IsNoDamage}
 use Rattle.canon_file.specs.Canon.{canon_nodes, canon_bytes}
 use Rattle.canon_file.specs.Laws.{HasForm}
 use Rattle.arc_file.specs.declared.arc.Arc.{Arc}
 use Rattle.arc_file.specs.declared.unreduced.Unreduced.{Unreduced}
-use Rattle.arc_file.specs.declared.kind.Kind.{Kind}
 use Rattle.arc_file.specs.declared.kind.Kind.TheVariants.{Inner, End}
-use Rattle.arc_file.specs.Files.{IsDamagedArc}
+use Rattle.arc_file.specs.Files.{HasArcs}
 use Rattle.arc_diagrams.specs.Laws.{Reduces}
 use Rattle.top_down_sweep.specs.Tasks.{AreArcFiles}
+use Rattle.top_down_sweep.specs.Ordered.{AreOrdered}
 use Rattle.reduce_sweep.specs.declared.phase.Phase.{Phase}
 use Rattle.reduce_sweep.specs.declared.phase.Phase.TheVariants.{Between, Collect, Number, Forward, Ended}
 use Rattle.reduce_sweep.specs.declared.reduce.ReduceSweep.{ReduceSweep}
 use Rattle.reduce_sweep.specs.Remaining as sweep
-use Rattle.reduce_sweep.specs.Sweeps.{out_of, inner_file as inner_in, ends_file as ends_in, count_in, fuel_at, turns_left, arcs_weight, lists_weight}
-use Rattle.reduce_sweep.specs.Damage.{IsDamagedAt, IsDamagedRecord, IsDamage, IsDamageAtStart}
+use Rattle.reduce_sweep.specs.Sweeps.{out_of, count_in, fuel_at, turns_left, arcs_weight, lists_weight}
+use Rattle.reduce_sweep.specs.Damage.{IsDamageAmong}
+use Rattle.reduce_sweep.proofs.Undamaged.{none_among}
 use Rattle.step_sweeps.specs.declared.diagram.MadeDiagram.{MadeDiagram}
-use Rattle.step_sweeps.specs.Made.{node_file, inner_file, ends_file, HasArcFiles, OnlyStepFiles, IsReduced}
-use Rattle.step_sweeps.specs.Damage.{IsOwnFault}
+use Rattle.step_sweeps.specs.Made.{node_file, HasArcFiles, OnlyStepFiles, IsReduced}
 use Rattle.step_sweeps.proofs.Running.{taken_from, cut_changes, runs_on}
 
 -- the arcs of a table's diagram, as they are to be reduced
@@ -96,42 +96,33 @@ reduction_changes tells world number s parts old mid new out same step past cut 
     (cut_changes tells world (λ q. (q ≡ node_file number) ⊎ CanBeTaken number 3 q) (node_file number) 0 old mid
     (inl refl) cut) ran
 
--- a record that is damaged as the reduction starts is so when it was refused
-start_record : (kind : Kind) (number : ℕ) (read : FileNo) (left : ℕ) (old new : World) (f : FileNo) (at : ℕ)
-    → read ≢ node_file number → Ran (DuringCut (node_file number) 0 (now old)) old new
-    → IsDamagedAt kind read left None old f at → IsDamagedRecord kind read new f at
-start_record kind number read left old new f at apart ran is =
-    let kept : file new read ≡ file old read =
-    (ran_end old new (DuringCut (node_file number) 0 (now old)) ran).others read apart in
-    record {
-      place = left - 1;
-      given = None;
-      file_is = is.file_is;
-      at_is = is.at_is;
-      damaged = subst (λ (x : File). IsDamagedArc kind (left - 1) x.bytes None)
-          (ap (file old) is.file_is ∙ sym kept ∙ ap (file new) (sym is.file_is)) is.damaged;
-    }
+-- a file of an earlier part of the step is as it was
+part_stays : (number : ℕ) (s : ReduceSweep) (parts : Parts) (old mid new : World) (f : FileNo) → f ≢ node_file number
+    → f.part < 5 → out_of s ≡ node_file number → s.parts ≡ parts → 5 ≤ parts.next
+    → Ran (DuringCut (node_file number) 0 (now old)) old mid
+    → Ran (OnlyOwn (λ g. g ≡ out_of s) s.parts.step s.parts.next (now mid)) mid new → file new f ≡ file old f
+part_stays number s parts old mid new f other early out same past cut ran =
+    let free : ¬ CanBeTaken s.parts.step s.parts.next f = λ can.
+    let from = can.from in absurd (omega (arith, from, ap (λ (p : Parts). p.next) same, past, early)) in
+    (ran_end mid new (OnlyOwn (λ g. g ≡ out_of s) s.parts.step s.parts.next (now mid)) ran).others f
+    (λ is. other (is ∙ out)) free
+    ∙ (ran_end old mid (DuringCut (node_file number) 0 (now old)) cut).others f other
 
--- a fault of the start is that of a file of arcs
-pub start_fault : (number : ℕ) (made : Unreduced) (old new : World) (e : SortFault) → HasArcFiles number made
-    → Ran (DuringCut (node_file number) 0 (now old)) old new → IsDamageAtStart made old e → IsOwnFault number new e
-start_fault number made old new Shelf files ran is = tt
-start_fault number made old new (Damaged f at) files ran (inl inner) = inl
-    (subst (λ (q : FileNo). IsDamagedRecord Inner q new f at) files.inner_is
-    (start_record Inner number made.inner made.inner_count old new f at
-    (λ same. let part : 3 ≡ 0 = ap (λ (q : FileNo). q.part) (sym files.inner_is ∙ same) in omega (arith, part)) ran inner))
-start_fault number made old new (Damaged f at) files ran (inr ends) = inr
-    (subst (λ (q : FileNo). IsDamagedRecord End q new f at) files.ends_are
-    (start_record End number made.ends made.ends_count old new f at
-    (λ same. let part : 4 ≡ 0 = ap (λ (q : FileNo). q.part) (sym files.ends_are ∙ same) in omega (arith, part)) ran ends))
-start_fault number made old new RunsSpent files ran is = tt
-
--- so is one of a turn
-pub turn_fault : (number : ℕ) (s : ReduceSweep) (world : World) (e : SortFault) → inner_in s ≡ inner_file number
-    → ends_in s ≡ ends_file number → IsDamage s world e → IsOwnFault number world e
-turn_fault number s world Shelf inner ends is = tt
-turn_fault number s world (Damaged f at) inner ends (inl one) =
-    inl (subst (λ (q : FileNo). IsDamagedRecord Inner q world f at) inner one)
-turn_fault number s world (Damaged f at) inner ends (inr one) =
-    inr (subst (λ (q : FileNo). IsDamagedRecord End q world f at) ends one)
-turn_fault number s world RunsSpent inner ends is = tt
+-- so where the arcs were in order, none of them is damaged
+pub none_damaged : (number : ℕ) (s : ReduceSweep) (parts : Parts) (made : Unreduced) (old mid new : World)
+    (e : SortFault) → HasArcFiles number made → out_of s ≡ node_file number → s.parts ≡ parts → 5 ≤ parts.next
+    → Ran (DuringCut (node_file number) 0 (now old)) old mid
+    → Ran (OnlyOwn (λ g. g ≡ out_of s) s.parts.step s.parts.next (now mid)) mid new → AreOrdered made old
+    → IsDamageAmong made new e → IsNoDamage e
+none_damaged number s parts made old mid new e files out same past cut ran are =
+    let inner : made.inner.part ≡ 3 = ap (λ (f : FileNo). f.part) files.inner_is in
+    let ends : made.ends.part ≡ 4 = ap (λ (f : FileNo). f.part) files.ends_are in
+    none_among made new e are.inner are.ends
+    (subst (λ (x : File). HasArcs Inner are.inner made.inner_count x.bytes)
+    (sym (part_stays number s parts old mid new made.inner
+    (λ is. let part = ap (λ (f : FileNo). f.part) is in omega (arith, part, inner)) (omega (arith, inner)) out same past
+    cut ran)) are.inner_has)
+    (subst (λ (x : File). HasArcs End are.ends made.ends_count x.bytes)
+    (sym (part_stays number s parts old mid new made.ends
+    (λ is. let part = ap (λ (f : FileNo). f.part) is in omega (arith, part, ends)) (omega (arith, ends)) out same past
+    cut ran)) are.ends_has)

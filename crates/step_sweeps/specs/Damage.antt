@@ -7,9 +7,6 @@ use Rattle.shelf_model.specs.World.{World, file}
 use Rattle.node_reading.specs.Reading.{IsDamagedNode, IsTrailerFault}
 use Rattle.top_down_sweep.specs.declared.beginning.OperandFiles.{OperandFiles}
 use Rattle.top_down_sweep.specs.Damage.{IsAbsent}
-use Rattle.arc_file.specs.declared.kind.Kind.TheVariants.{Inner, End}
-use Rattle.reduce_sweep.specs.Damage.{IsDamagedRecord}
-use Rattle.step_sweeps.specs.Made.{inner_file, ends_file}
 
 -- the file has no trailer for n variables where one has to stand, a record is that of no node that may stand there or
 -- isn't in order, or a node that is asked for isn't there
@@ -22,31 +19,11 @@ abbrev pub IsDamagedOperand : ℕ → OperandFiles → World → FileNo → ℕ 
 IsDamagedOperand n operands world f at = IsDamagedFile n operands.first world f at
     ⊎ (IsDamagedFile n operands.second world f at ⊎ IsDamagedFile n operands.third world f at)
 
--- a fault of a step that makes arcs: that of an operand
+-- a fault of a step that makes arcs, or a diagram: that of an operand
 abbrev pub IsArcsFault : ℕ → OperandFiles → World → SortFault → Type 0
 IsArcsFault n operands world Shelf = Unit
 IsArcsFault n operands world (Damaged f at) = IsDamagedOperand n operands world f at
 IsArcsFault n operands world RunsSpent = Unit
-
--- a record of one of the step's two files of arcs is damaged: it isn't whole, is that of no arc that may stand in that
--- file, or isn't in order with the one behind it
-abbrev pub IsDamagedOwn : ℕ → World → FileNo → ℕ → Type 0
-IsDamagedOwn number world f at = IsDamagedRecord Inner (inner_file number) world f at
-    ⊎ IsDamagedRecord End (ends_file number) world f at
-
--- a fault of a step that makes a diagram: that of an operand as the step began, or of one of its files of arcs as it
--- ended
-abbrev pub IsDiagramFault : ℕ → OperandFiles → ℕ → World → World → SortFault → Type 0
-IsDiagramFault n operands number old new Shelf = Unit
-IsDiagramFault n operands number old new (Damaged f at) =
-    IsDamagedOperand n operands old f at ⊎ IsDamagedOwn number new f at
-IsDiagramFault n operands number old new RunsSpent = Unit
-
--- a fault of a step that reduces arcs: that of one of its files of arcs
-abbrev pub IsOwnFault : ℕ → World → SortFault → Type 0
-IsOwnFault number world Shelf = Unit
-IsOwnFault number world (Damaged f at) = IsDamagedOwn number world f at
-IsOwnFault number world RunsSpent = Unit
 
 -- a fault of a step that reads one or two diagrams
 abbrev pub IsReadFault : ℕ → FileNo → FileNo → World → SortFault → Type 0

@@ -6,6 +6,7 @@ ghost use Rattle.shelf_model.specs.Calls.{Told};
 ghost use Rattle.shelf_model.specs.Moments.{Ran};
 ghost use Rattle.run_tiers.specs.Faults.{OnlySortShelf};
 ghost use Rattle.sweep_core.specs.Sweeps.{IsNoDamage};
+ghost use Rattle.top_down_sweep.specs.Ordered.{AreOrdered};
 ghost use Rattle.step_sweeps.specs.Operations.{IsWithin};
 ghost use Rattle.step_sweeps.specs.Given.{Tables, AreGiven, AreEarlier, arcs_turns};
 ghost use Rattle.step_sweeps.specs.Made.{HasArcFiles, OnlyParts, Spends, AreArcsOf};
@@ -47,6 +48,7 @@ pub(crate) fn make_arcs<S: Shelf>(
     requires earlier { AreEarlier number operands }
     ensures files { IfOk result (λ m. HasArcFiles number m.arcs) }
     ensures parts { IfOk result (λ m. (m.parts.step ≡ number) × (5 ≤ m.parts.next)) }
+    ensures ordered { IfOk result (λ m. IsTrue (S.tells shelf.new) → AreOrdered m.arcs (S.world shelf.new)) }
 
     // of canonical files
     ensures made { IfOk result (λ m. IsTrue (S.tells shelf.new) → (g : Tables) →

@@ -5,9 +5,9 @@ ghost use Rattle.shelf_model.specs.Calls.{Told};
 ghost use Rattle.shelf_model.specs.Moments.{Ran};
 ghost use Rattle.run_tiers.specs.Faults.{OnlySortShelf};
 ghost use Rattle.sweep_core.specs.Sweeps.{IsNoDamage};
+ghost use Rattle.top_down_sweep.specs.Ordered.{AreOrdered};
 ghost use Rattle.top_down_sweep.specs.Tasks.{AreArcFiles};
 ghost use Rattle.step_sweeps.specs.Made.{HasArcFiles, HasSources, OnlyStepFiles, Spends, IsReduced};
-ghost use Rattle.step_sweeps.specs.Damage.{IsOwnFault};
 
 use crate::MadeDiagram;
 use crate::arcs::MadeArcs;
@@ -38,8 +38,6 @@ pub(crate) fn reduce_arcs<S: Shelf>(
     // of the arcs of a table's diagram
     ensures reduced { IfOk result (λ m. IsTrue (S.tells shelf.new) → (table : List Bool) →
         AreArcFiles n table made.arcs (S.world shelf.old) → IsReduced n number table m (S.world shelf.new)) }
-    ensures undamaged { IfErr result (λ e. IsTrue (S.tells shelf.new) → (table : List Bool) →
-        AreArcFiles n table made.arcs (S.world shelf.old) → IsNoDamage e) }
     ensures few { IfOk result (λ m. IsTrue (S.tells shelf.new) → (table : List Bool) (sources : ℕ) →
         AreArcFiles n table made.arcs (S.world shelf.old) → HasSources made.arcs sources →
         m.turns ≤ 8 * sources + 9) }
@@ -50,9 +48,11 @@ pub(crate) fn reduce_arcs<S: Shelf>(
         AreArcFiles n table made.arcs (S.world shelf.old) → HasSources made.arcs sources →
         (S.world shelf.new).clock ≤ (S.world shelf.old).clock + (224 * (8 * sources + 9) + 3) }
 
+    // of arcs in the order of their files
+    ensures undamaged { IfErr result (λ e. IsTrue (S.tells shelf.new) →
+        AreOrdered made.arcs (S.world shelf.old) → IsNoDamage e) }
+
     // whatever the files hold
-    ensures damaged { IfErr result (λ e. IsTrue (S.tells shelf.new) →
-        IsOwnFault number (S.world shelf.new) e) }
     ensures content { Told S.tells shelf.old shelf.new
         (Ran (OnlyStepFiles number (now (S.world shelf.old))) (S.world shelf.old) (S.world shelf.new)) }
     ensures counted { IfOk result (λ m. (0 < m.turns) × (m.turns < 2 ^ 64 - 1 →

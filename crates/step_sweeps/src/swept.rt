@@ -8,7 +8,7 @@ ghost use Rattle.sweep_core.specs.Sweeps.{IsNoDamage};
 ghost use Rattle.step_sweeps.specs.Operations.{IsWithin};
 ghost use Rattle.step_sweeps.specs.Given.{Tables, AreGiven, AreEarlier, made_by, nodes_by, work_by};
 ghost use Rattle.step_sweeps.specs.Made.{OnlyStepFiles, IsReduced, IsCounted};
-ghost use Rattle.step_sweeps.specs.Damage.{IsDiagramFault};
+ghost use Rattle.step_sweeps.specs.Damage.{IsArcsFault};
 
 use crate::arcs::make_arcs;
 use crate::reduction::reduce_arcs;
@@ -48,7 +48,7 @@ pub(crate) fn sweep_diagram<S: Shelf>(
 
     // whatever the files hold
     ensures damaged { IfErr result (λ e. IsTrue (S.tells shelf.new) →
-        IsDiagramFault n operands number (S.world shelf.old) (S.world shelf.new) e) }
+        IsArcsFault n operands (S.world shelf.old) e) }
     ensures content { Told S.tells shelf.old shelf.new
         (Ran (OnlyStepFiles number (now (S.world shelf.old))) (S.world shelf.old) (S.world shelf.new)) }
     ensures counted { IfOk result (λ m. IsCounted m.turns m.next) }

@@ -10,6 +10,7 @@ use Rattle.step_sweeps.specs.Work.{parts_of}
 use Rattle.step_sweeps.proofs.Faults.{start_fault}
 use Rattle.step_sweeps.proofs.Making.{arcs_of, few_turns, spent_turns, sweep_changes, arcs_fault}
 use Rattle.step_sweeps.proofs.Running.{few_calls, faults_ok, spent_before}
+use Rattle.top_down_sweep.proofs.Orders.{ended_in_order}
 use Rattle.step_sweeps.proofs.arcs.make_arcs.Goals as goal
 
 -- a start finds no canonical file damaged
@@ -104,6 +105,12 @@ returns-in_err-turns-clause-faults g c = sort_shelf_on _ _ c.in_err-turns.field-
 pub returns-clause-faults : goal.returns-clause-faults
 returns-clause-faults g c = faults_ok _ _ _ c.begin.result c.run_to_end.result _ c.begin.ensures.leaves.faults
     c.run_to_end.ensures.leaves.faults
+
+-- whatever the operands' files hold, the arcs that were made are in order
+pub returns-clause-ordered : goal.returns-clause-ordered
+returns-clause-ordered g c told =
+    let is : made_in c.run_to_end.new.sweep ≡ Some c.in-Some.arcs = cc in
+    ended_in_order c.run_to_end.new.sweep _ c.in-Some.arcs (c.in_ok-turns.ensures.in_step told) is
 
 -- the sweep ends with a diagram of the operation's table
 pub returns-clause-made : goal.returns-clause-made

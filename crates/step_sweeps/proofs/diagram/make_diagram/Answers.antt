@@ -12,5 +12,5 @@ returns-in-Made-clause-made g c told tables given =
 pub returns-in_err-swept-clause-damaged : goal.returns-in_err-swept-clause-damaged
 returns-in_err-swept-clause-damaged g c = on_fault c.from_residual-in_err-swept.result c.in_err-swept.field-0.0 _
     c.from_residual-in_err-swept.ensures.1
-    (λ told. fault_before c.args.n c.args.operands c.args.number _ _ _ c.in_err-swept.field-0.0 c.requires.earlier
+    (λ told. fault_before c.args.n c.args.operands c.args.number _ _ c.in_err-swept.field-0.0 c.requires.earlier
     (c.make_without_sweeps.ensures.content.did (c.in_err-swept.ensures.content.before told)) (c.in_err-swept.ensures.damaged told))

@@ -1,33 +1,28 @@
-use Rattle.std.proofs.Common.{◌≡◌, ◌∙◌, refl, ap, arith}
+use Rattle.std.proofs.Common.{◌≡◌, ◌∙◌, refl, ap, subst, arith}
 use Rattle.std.specs.Prelude.{Some}
 use Rattle.run_tiers.proofs.FaultLaws.{on_fault, sort_shelf_on, sort_shelf_then}
+use Rattle.reduce_sweep.specs.Damage.{IsDamageAmong}
 use Rattle.reduce_sweep.specs.Sweeps.{Task, count_in}
-use Rattle.step_sweeps.proofs.Reducing.{job_of, has_form, reduced_at_end, reduction_changes, start_fault, turn_fault}
+use Rattle.step_sweeps.proofs.Reducing.{job_of, has_form, reduced_at_end, reduction_changes, none_damaged}
 use Rattle.step_sweeps.proofs.Running.{faults_ok}
 use Rattle.step_sweeps.proofs.reduction.reduce_arcs.Goals as goal
 
--- an arc that is damaged stands in one of the two files of arcs
-pub returns-in_err-sweep-clause-damaged : goal.returns-in_err-sweep-clause-damaged
-returns-in_err-sweep-clause-damaged g c = on_fault c.from_residual.result c.in_err-sweep.field-0.0 _
-    c.from_residual.ensures.1 (λ told. start_fault c.args.number c.args.made.arcs _ _ c.in_err-sweep.field-0.0
-    c.requires.files (c.start.ensures.content.did told) (c.in_err-sweep.ensures.damage told))
-
-pub returns-in_err-turns-clause-damaged : goal.returns-in_err-turns-clause-damaged
-returns-in_err-turns-clause-damaged g c =
-    let same = c.run_to_end.ensures.same in
-    on_fault c.from_residual-in_err-turns.result c.in_err-turns.field-0.0 _ c.from_residual-in_err-turns.ensures.1
-    (λ told. turn_fault c.args.number c.run_to_end.new.sweep _ c.in_err-turns.field-0.0
-    (ap (λ (t : Task). t.inner) same ∙ c.in_ok-sweep.ensures.files.1 ∙ c.requires.files.inner_is)
-    (ap (λ (t : Task). t.ends) same ∙ c.in_ok-sweep.ensures.files.2 ∙ c.requires.files.ends_are)
-    (c.in_err-turns.ensures.damage told))
-
 -- no arc is damaged
+pub returns-in_err-sweep-clause-undamaged : goal.returns-in_err-sweep-clause-undamaged
+returns-in_err-sweep-clause-undamaged g c = on_fault c.from_residual.result c.in_err-sweep.field-0.0 _
+    c.from_residual.ensures.1
+    (λ told are. c.in_err-sweep.ensures.undamaged told are.inner are.ends are.inner_has are.ends_has)
+
 pub returns-in_err-turns-clause-undamaged : goal.returns-in_err-turns-clause-undamaged
 returns-in_err-turns-clause-undamaged g c = on_fault c.from_residual-in_err-turns.result
-    c.in_err-turns.field-0.0 _ c.from_residual-in_err-turns.ensures.1 (λ told table is.
-    c.in_err-turns.ensures.undamaged told (job_of is)
-    (c.in_ok-sweep.ensures.remains (c.run_to_end.ensures.leaves.content.before told) (job_of is) is.inner is.ends
-    is.inner_has is.ends_has refl is.diagram))
+    c.in_err-turns.field-0.0 _ c.from_residual-in_err-turns.ensures.1 (λ told are.
+    none_damaged c.args.number c.in_ok-sweep.sweep c.args.made.parts c.args.made.arcs _ _ _ c.in_err-turns.field-0.0
+    c.requires.files c.in_ok-sweep.ensures.files.0 c.in_ok-sweep.ensures.parts c.requires.parts.1
+    (c.start.ensures.content.did (c.run_to_end.ensures.leaves.content.before told))
+    (c.run_to_end.ensures.leaves.content.did told) are
+    (subst (λ arcs. IsDamageAmong arcs (g.S.Shelf.world c.run_to_end.new.shelf) c.in_err-turns.field-0.0)
+    (ap (λ (t : Task). t.arcs) c.run_to_end.ensures.same ∙ c.in_ok-sweep.ensures.arcs)
+    (c.in_err-turns.ensures.damage told)))
 
 -- only the node file and parts of the step were changed
 pub returns-in_err-turns-clause-content : goal.returns-in_err-turns-clause-content

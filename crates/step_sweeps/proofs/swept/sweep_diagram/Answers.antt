@@ -1,26 +1,22 @@
 use Rattle.run_tiers.proofs.FaultLaws.{on_fault}
-use Rattle.step_sweeps.proofs.Faults.{arcs_or_own, own_fault}
+use Rattle.step_sweeps.proofs.Faults.{no_damage}
 use Rattle.step_sweeps.proofs.Numbers.{both_within, both_calls, long_work}
 use Rattle.step_sweeps.proofs.Running.{spent_before, then_node_file}
 use Rattle.step_sweeps.proofs.swept.sweep_diagram.Goals as goal
 
-pub returns-in_err-arcs-clause-damaged : goal.returns-in_err-arcs-clause-damaged
-returns-in_err-arcs-clause-damaged g c = on_fault c.from_residual.result c.in_err-arcs.field-0.0 _
-    c.from_residual.ensures.1 (λ told. arcs_or_own c.args.n c.args.operands c.args.number
-    (g.S.Shelf.world c.args.shelf.now) _ c.in_err-arcs.field-0.0 (c.in_err-arcs.ensures.damaged told))
-
+-- the arcs that were made are in order
 pub returns-in_err-reduced-clause-damaged : goal.returns-in_err-reduced-clause-damaged
 returns-in_err-reduced-clause-damaged g c = on_fault c.from_residual-in_err-reduced.result
-    c.in_err-reduced.field-0.0 _ c.from_residual-in_err-reduced.ensures.1 (λ told. own_fault c.args.n c.args.operands
-    c.args.number (g.S.Shelf.world c.args.shelf.now) _ c.in_err-reduced.field-0.0 (c.in_err-reduced.ensures.damaged told))
+    c.in_err-reduced.field-0.0 _ c.from_residual-in_err-reduced.ensures.1 (λ told. no_damage c.args.n c.args.operands
+    (g.S.Shelf.world c.args.shelf.now) c.in_err-reduced.field-0.0 (c.in_err-reduced.ensures.undamaged told
+    (c.in_ok-arcs.ensures.ordered (c.reduce_arcs.ensures.content.before told))))
 
--- the arcs that were made are reduced
 pub returns-in_err-reduced-clause-undamaged : goal.returns-in_err-reduced-clause-undamaged
 returns-in_err-reduced-clause-undamaged g c = on_fault c.from_residual-in_err-reduced.result
     c.in_err-reduced.field-0.0 _ c.from_residual-in_err-reduced.ensures.1 (λ told tables given.
-    let arcs = c.in_ok-arcs.ensures.made (c.reduce_arcs.ensures.content.before told) tables given in
-    c.in_err-reduced.ensures.undamaged told _ arcs.arcs)
+    c.in_err-reduced.ensures.undamaged told (c.in_ok-arcs.ensures.ordered (c.reduce_arcs.ensures.content.before told)))
 
+-- and they are reduced
 pub returns-in_err-reduced-clause-spent : goal.returns-in_err-reduced-clause-spent
 returns-in_err-reduced-clause-spent g c spent told tables given =
     let arcs = c.in_ok-arcs.ensures.made (c.reduce_arcs.ensures.content.before told) tables given in
