@@ -1,11 +1,10 @@
 -- The runs of steps that take one turn.
-use Rattle.std.proofs.Common.{◌≡◌, ◌∙◌, ◌⊎◌, ℕ, ◌+◌, ◌*◌, ◌^◌, ◌<◌, ◌≤◌, Bool, true, false, cond, nat_lt, List, [], ◌∷◌, refl, sym, ap, subst, inl, inr, arith}
-use Rattle.std.specs.Prelude.{IsTrue, Result, Ok, Err}
-use Rattle.std.specs.List.{list_all}
+use Rattle.std.proofs.Common.{◌≡◌, ◌∙◌, ℕ, ◌+◌, ◌*◌, ◌^◌, ◌<◌, ◌≤◌, Bool, true, false, cond, List, refl, sym, ap, subst, inl, arith}
+use Rattle.std.specs.Prelude.{IsTrue, Ok, Err}
 use Rattle.bool_tables.specs.declared.steps.Step.{Step}
 use Rattle.bool_tables.specs.declared.steps.Step.TheVariants.{Const, Var, Drop, Size}
 use Rattle.bool_tables.specs.declared.steps.Planned.{Planned}
-use Rattle.bool_tables.specs.Plans.{operands, levels_of, makes_diagram}
+use Rattle.bool_tables.specs.Plans.{makes_diagram}
 use Rattle.canon_file.specs.Canon.{canon_bytes}
 use Rattle.canon_file.specs.Constants.{const_table}
 use Rattle.canon_file.specs.Variables.{var_table}
@@ -25,11 +24,11 @@ use Rattle.catalogue.specs.declared.layout.Entry.{Entry}
 use Rattle.step_work.specs.Tuples.{sweeps}
 use Rattle.sound_image.specs.Files.{node_file}
 use Rattle.catalogue.specs.Counts.{present}
-use Rattle.sound_image.specs.Jobs.{Job, step_at, table_at, nodes_at, file_of}
+use Rattle.sound_image.specs.Jobs.{Job, step_at, table_at, file_of}
 use Rattle.sound_image.specs.Entries.{IsEntryOfStep, kind_of, answer_of, count_of, work_of}
 use Rattle.sound_image.specs.Holds.{Holds}
-use Rattle.step_engine.specs.OneFile.{OnlyFile, OnlyMade}
-use Rattle.step_engine.specs.Running.{run_calls, IsReadyFor, RunsStep}
+use Rattle.step_engine.specs.OneFile.{OnlyFile}
+use Rattle.step_engine.specs.Running.{run_calls, RunsStep}
 use Rattle.step_engine.specs.Simple.{reads, MayRun, IsStepOf}
 use Rattle.step_engine.specs.StepEntries.{diagram_entry, nameless_entry, one_turn}
 use Rattle.step_engine.specs.StepFaults.{IsKindFault, IsStepFault, IsSoundFault, IsOfKind, OnlyStep}
@@ -55,7 +54,7 @@ pub record IsSimple (n number : ℕ) (step : Step) (nodes : ℕ) (bytes : List �
   pub makes : makes_diagram step ≡ true
   pub kind_is : kind_of step ≡ 1
   pub no_answer : (job : Job) → answer_of job step ≡ 0
-  pub only_folder : (old new : World) (e : SortFault) → e ≡ sort.Shelf → IsStepFault n step number old new e
+  pub only_folder : (world : World) (e : SortFault) → e ≡ sort.Shelf → IsStepFault n step world e
   pub counts : (job : Job) (text : List ℕ) (p : Planned) → p.step ≡ step → IsStepOf job n text number p → count_of job number step ≡ nodes
   pub bytes_are : (job : Job) (text : List ℕ) (p : Planned) → p.step ≡ step → IsStepOf job n text number p → bytes ≡ file_of job number
   pub form : (job : Job) (text : List ℕ) (p : Planned) → p.step ≡ step → IsStepOf job n text number p → HasForm job.n (table_at job number)
@@ -73,7 +72,7 @@ module _ {S : Type 0} (tells : S → Bool) (world : S → World) (counts : S →
     entry = tt;
     made = tt;
     sound = λ told job is holds. subst (IsSoundFault p.step (work_of job p.step)) (sym folder) tt;
-    damaged = λ told. simple.only_folder (world before) (world after) e folder;
+    damaged = λ told. simple.only_folder (world before) e folder;
     kind = subst (IsOfKind p.step) (sym folder) tt;
     calls = tt;
     one_turn = λ told not. calls told;
@@ -112,7 +111,7 @@ constant_simple n number value step few step_is = subst (λ s. IsSimple n number
   makes = refl;
   kind_is = refl;
   no_answer = λ job. refl;
-  only_folder = λ old new e is. is;
+  only_folder = λ world e is. is;
   counts = λ job text p p_is is. constant_nodes job number value is.within (place_step job number p (Const value) is.step_is p_is);
   bytes_are = λ job text p p_is is. constant_is job number n value is.n_is is.within (place_step job number p (Const value) is.step_is p_is);
   form = λ job text p p_is is. constant_form job number value is.well_formed.few_variables is.within (place_step job number p (Const value) is.step_is p_is);
@@ -125,7 +124,7 @@ variable_simple n number level step few below step_is = subst (λ s. IsSimple n 
   makes = refl;
   kind_is = refl;
   no_answer = λ job. refl;
-  only_folder = λ old new e is. is;
+  only_folder = λ world e is. is;
   counts = λ job text p p_is is.
       variable_nodes job number level is.within (place_step job number p (Var level) is.step_is p_is) (subst (λ m. level < m) (sym is.n_is) below);
   bytes_are = λ job text p p_is is. variable_is job number n level is.n_is is.within (place_step job number p (Var level) is.step_is p_is);
@@ -145,9 +144,9 @@ pub size_kind : (step : Step) (e : StreamFault) → IsOfKind step (handed_on e)
 size_kind step stream.Shelf = tt
 size_kind step (stream.Damaged f at) = tt
 
-pub size_fault : (n number of : ℕ) (step : Step) → step ≡ Size of → (old new : World) (e : StreamFault)
-    → IsKindFault of 1 (present (now old).folder) e → IsStepFault n step number old new (handed_on e)
-size_fault n number of step is old new e fault = subst (λ s. IsStepFault n s number old new (handed_on e)) (sym is) (e, refl, fault)
+pub size_fault : (n of : ℕ) (step : Step) → step ≡ Size of → (world : World) (e : StreamFault)
+    → IsKindFault of 1 (present (now world).folder) e → IsStepFault n step world (handed_on e)
+size_fault n of step is world e fault = subst (λ s. IsStepFault n s world (handed_on e)) (sym is) (e, refl, fault)
 
 pub size_sound : (job : Job) (n number of : ℕ) (text : List ℕ) (p : Planned) (e : StreamFault) (world : World) → p.step ≡ Size of → IsStepOf job n text number p
     → of < number → Holds job number (now world).folder → IsKindFault of 1 (present (now world).folder) e

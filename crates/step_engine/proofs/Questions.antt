@@ -1,6 +1,6 @@
 -- Faults, bits and values of the steps that answer by reading diagrams.
-use Rattle.std.proofs.Common.{◌≡◌, ◌≢◌, ◌∙◌, ◌⊎◌, ℕ, ◌+◌, ◌*◌, ◌^◌, ◌<◌, ◌≤◌, Bool, true, ◌&&◌, nat_le, List, [], ◌∷◌, length, take, drop, refl, sym, ap, subst, inl, inr, arith}
-use Rattle.std.specs.Prelude.{IsTrue, Result, Err, IsErrOf}
+use Rattle.std.proofs.Common.{◌≡◌, ◌≢◌, ℕ, ◌+◌, ◌*◌, ◌^◌, ◌≤◌, nat_le, List, [], ◌∷◌, length, take, drop, refl, sym, ap, subst, inl, inr, arith}
+use Rattle.std.specs.Prelude.{IsTrue, Err, IsErrOf}
 use Rattle.std.specs.List.{list_all}
 use Rattle.bool_tables.specs.declared.steps.Step.{Step}
 use Rattle.bool_tables.specs.declared.steps.Step.TheVariants.{Same, Leq, Eval}
@@ -67,27 +67,27 @@ one_read n of world (sort.Damaged f place) (inl one) = inl one
 one_read n of world (sort.Damaged f place) (inr two) = inl two
 one_read n of world sort.RunsSpent is = is
 
-implied : (n number left right : ℕ) (old new : World) (e : SortFault)
-    → IsImplicationFault n (node_file left) (node_file right) old e → IsStepFault n (Leq left right) number old new e
-implied n number left right old new sort.Shelf is = tt
-implied n number left right old new (sort.Damaged f at) (inl one) = inl one
-implied n number left right old new (sort.Damaged f at) (inr two) = inr (inl two)
-implied n number left right old new sort.RunsSpent is = tt
+implied : (n left right : ℕ) (world : World) (e : SortFault)
+    → IsImplicationFault n (node_file left) (node_file right) world e → IsStepFault n (Leq left right) world e
+implied n left right world sort.Shelf is = tt
+implied n left right world (sort.Damaged f at) (inl one) = inl one
+implied n left right world (sort.Damaged f at) (inr two) = inr (inl two)
+implied n left right world sort.RunsSpent is = tt
 
-pub same_fault : (n number left right : ℕ) (step : Step) → step ≡ Same left right → (old new : World) (e : SortFault)
-    → IsReadFault n (node_file left) (node_file right) old e → IsStepFault n step number old new e
-same_fault n number left right step is old new e fault =
-    subst (λ s. IsStepFault n s number old new e) (sym is) (two_read n left right old e fault)
+pub same_fault : (n left right : ℕ) (step : Step) → step ≡ Same left right → (world : World) (e : SortFault)
+    → IsReadFault n (node_file left) (node_file right) world e → IsStepFault n step world e
+same_fault n left right step is world e fault =
+    subst (λ s. IsStepFault n s world e) (sym is) (two_read n left right world e fault)
 
-pub leq_fault : (n number left right : ℕ) (step : Step) → step ≡ Leq left right → (old new : World) (e : SortFault)
-    → IsImplicationFault n (node_file left) (node_file right) old e → IsStepFault n step number old new e
-leq_fault n number left right step is old new e fault =
-    subst (λ s. IsStepFault n s number old new e) (sym is) (implied n number left right old new e fault)
+pub leq_fault : (n left right : ℕ) (step : Step) → step ≡ Leq left right → (world : World) (e : SortFault)
+    → IsImplicationFault n (node_file left) (node_file right) world e → IsStepFault n step world e
+leq_fault n left right step is world e fault =
+    subst (λ s. IsStepFault n s world e) (sym is) (implied n left right world e fault)
 
-pub eval_fault : (n number of at : ℕ) (step : Step) → step ≡ Eval of at → (old new : World) (e : SortFault)
-    → IsReadFault n (node_file of) (node_file of) old e → IsStepFault n step number old new e
-eval_fault n number of at step is old new e fault =
-    subst (λ s. IsStepFault n s number old new e) (sym is) (one_read n of old e fault)
+pub eval_fault : (n of at : ℕ) (step : Step) → step ≡ Eval of at → (world : World) (e : SortFault)
+    → IsReadFault n (node_file of) (node_file of) world e → IsStepFault n step world e
+eval_fault n of at step is world e fault =
+    subst (λ s. IsStepFault n s world e) (sym is) (one_read n of world e fault)
 
 -- the bits of an evaluation stand in the text
 pub bits_within : (n of at : ℕ) (text : List ℕ) (step : Step) → step ≡ Eval of at → IsTrue (has_bits n text step) → at + n ≤ length text

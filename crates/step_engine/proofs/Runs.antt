@@ -1,32 +1,28 @@
 -- The runs of steps that sweep, from what the sweeps say.
-use Rattle.std.proofs.Common.{◌≡◌, ◌∙◌, ◌⊎◌, ℕ, ◌+◌, ◌-◌, ◌*◌, ◌^◌, ◌<◌, ◌≤◌, Bool, true, false, cond, nat_lt, List, [], ◌∷◌, length, refl, sym, ap, subst, inl, inr, arith}
-use Rattle.std.specs.Prelude.{IsTrue, Option, Some, None, Result, Ok, Err, IsErrOf, IsErrAnd}
+use Rattle.std.proofs.Common.{◌≡◌, ◌∙◌, ℕ, ◌+◌, ◌-◌, ◌*◌, ◌^◌, ◌<◌, ◌≤◌, Bool, true, false, cond, nat_lt, List, [], ◌∷◌, refl, sym, ap, subst, inl, inr, arith}
+use Rattle.std.specs.Prelude.{IsTrue, Some, None, Result, Ok, Err, IsErrOf, IsErrAnd}
 use Rattle.std.specs.List.{list_all}
 use Rattle.bool_tables.specs.declared.steps.Step.{Step}
 use Rattle.bool_tables.specs.declared.steps.Step.TheVariants.{Const, Var, Pair, Ite, Quantify, Restrict, Drop, Same, Leq, Eval, Size}
 use Rattle.bool_tables.specs.declared.steps.Planned.{Planned}
-use Rattle.bool_tables.specs.Plans.{operands, levels_of, makes_diagram, has_name}
-use Rattle.shelf_model.specs.declared.file_no.FileNo.{FileNo}
+use Rattle.bool_tables.specs.Plans.{operands, levels_of, makes_diagram}
 use Rattle.shelf_model.specs.declared.sort_fault.SortFault.{SortFault}
 use Rattle.shelf_model.specs.declared.sort_fault.SortFault.TheVariants as sort
 use Rattle.shelf_model.specs.Calls.{Told}
 use Rattle.shelf_model.specs.Faults.{Faults}
 use Rattle.shelf_model.specs.File.{firm_file}
 use Rattle.shelf_model.specs.Moments.{Ran}
-use Rattle.shelf_model.specs.World.{World, now, file}
+use Rattle.shelf_model.specs.World.{World, now}
 use Rattle.catalogue.specs.declared.layout.Entry.{Entry}
 use Rattle.run_tiers.specs.Faults.{OnlySortShelf}
 use Rattle.step_work.specs.Tuples.{joins, sweeps}
-use Rattle.sweep_core.specs.Accounts.{CanBeTaken}
 use Rattle.sweep_core.specs.Sweeps.{IsNoDamage}
-use Rattle.sound_image.specs.Files.{node_file}
-use Rattle.sound_image.specs.Jobs.{Job, step_at, nodes_at, file_of}
+use Rattle.sound_image.specs.Jobs.{Job, step_at, nodes_at}
 use Rattle.sound_image.specs.Entries.{IsEntryOfStep, kind_of, answer_of, bit_of, count_of, work_of}
-use Rattle.sound_image.specs.Holds.{Holds, IsMade}
-use Rattle.top_down_sweep.specs.declared.beginning.OperandFiles.{OperandFiles}
+use Rattle.sound_image.specs.Holds.{Holds}
 use Rattle.step_sweeps.specs.declared.answers.Answered.{Answered}
 use Rattle.step_sweeps.specs.declared.diagram.MadeDiagram.{MadeDiagram}
-use Rattle.step_sweeps.specs.Damage.{IsDamagedFile, IsDamagedOperand, IsDiagramFault}
+use Rattle.step_sweeps.specs.Damage.{IsArcsFault}
 use Rattle.step_sweeps.specs.Given.{Tables, AreGiven, AreEarlier, work_by}
 use Rattle.step_sweeps.specs.Made.{OnlyParts, OnlyStepFiles, IsDiagramOf, IsCounted}
 use Rattle.step_sweeps.specs.Operations.{IsWithin}
@@ -35,11 +31,11 @@ use Rattle.step_engine.specs.declared.sweeping.Sweeping.{Sweeping}
 use Rattle.step_engine.specs.OneFile.{OnlyMade}
 use Rattle.step_engine.specs.Simple.{reads, MayRun, IsStepOf}
 use Rattle.step_engine.specs.Sweeping.{files_of, sweeping_of}
-use Rattle.step_engine.specs.StepEntries.{diagram_entry, answer_entry, nameless_entry}
-use Rattle.step_engine.specs.StepFaults.{IsDamagedAmong, IsSweepFault, IsStepFault, IsSoundFault, IsOfKind, OnlyStep}
-use Rattle.step_engine.specs.Running.{run_calls, IsReadyFor, RunsStep}
-use Rattle.step_engine.proofs.EntryLaws.{IsSpent, for_diagram, for_nameless, diagram_entry_is, nameless_entry_is, bit_says, only_below}
-use Rattle.step_engine.proofs.Operands.{IsGivenTo, step_given}
+use Rattle.step_engine.specs.StepEntries.{diagram_entry, answer_entry}
+use Rattle.step_engine.specs.StepFaults.{IsMakingFault, IsStepFault, IsSoundFault, IsOfKind, OnlyStep}
+use Rattle.step_engine.specs.Running.{run_calls, RunsStep}
+use Rattle.step_engine.proofs.EntryLaws.{IsSpent, for_diagram, for_nameless, diagram_entry_is, nameless_entry_is, bit_says}
+use Rattle.step_engine.proofs.Operands.{step_given}
 use Rattle.step_engine.proofs.PlanLaws.{first_true, second_true}
 use Rattle.step_engine.proofs.Written.{parts_only, step_only}
 
@@ -85,8 +81,7 @@ pub record IsOperation (n number : ℕ) (step : Step) (sweeping : Sweeping) : Ty
   pub counts : (job : Job) → count_of job number step ≡ nodes_at job number
   pub earlier : IsTrue (list_all (λ k. nat_lt k number) (operands step)) → AreEarlier number sweeping.operands
   pub within : IsTrue (list_all (λ level. nat_lt level n) (levels_of step)) → IsWithin n sweeping.operation
-  pub fault : (old new : World) (e : SortFault) → IsDiagramFault n sweeping.operands number old new e
-      → IsStepFault n step number old new e
+  pub fault : (world : World) (e : SortFault) → IsArcsFault n sweeping.operands world e → IsStepFault n step world e
   pub reads_is : reads step ≡ true
 
 below : (a b : ℕ) → IsTrue (nat_lt a b) → a < b
@@ -100,32 +95,29 @@ more_below : (number a : ℕ) (more : List ℕ) → IsTrue (list_all (λ k. nat_
 more_below number a more h = second_true (nat_lt a number) (list_all (λ k. nat_lt k number) more) h
 
 -- faults of two, three and one operands
-two_faults : (n number a b : ℕ) (old new : World) (e : SortFault) → IsDiagramFault n (files_of a b b) number old new e
-    → IsSweepFault n (a ∷ b ∷ []) number old new e
-two_faults n number a b old new sort.Shelf is = tt
-two_faults n number a b old new (sort.Damaged f at) (inl (inl one)) = inl (inl one)
-two_faults n number a b old new (sort.Damaged f at) (inl (inr (inl two))) = inl (inr (inl two))
-two_faults n number a b old new (sort.Damaged f at) (inl (inr (inr two))) = inl (inr (inl two))
-two_faults n number a b old new (sort.Damaged f at) (inr own) = inr own
-two_faults n number a b old new sort.RunsSpent is = tt
+two_faults : (n a b : ℕ) (world : World) (e : SortFault) → IsArcsFault n (files_of a b b) world e
+    → IsMakingFault n (a ∷ b ∷ []) world e
+two_faults n a b world sort.Shelf is = tt
+two_faults n a b world (sort.Damaged f at) (inl one) = inl one
+two_faults n a b world (sort.Damaged f at) (inr (inl two)) = inr (inl two)
+two_faults n a b world (sort.Damaged f at) (inr (inr two)) = inr (inl two)
+two_faults n a b world sort.RunsSpent is = tt
 
-three_faults : (n number a b c : ℕ) (old new : World) (e : SortFault) → IsDiagramFault n (files_of a b c) number old new e
-    → IsSweepFault n (a ∷ b ∷ c ∷ []) number old new e
-three_faults n number a b c old new sort.Shelf is = tt
-three_faults n number a b c old new (sort.Damaged f at) (inl (inl one)) = inl (inl one)
-three_faults n number a b c old new (sort.Damaged f at) (inl (inr (inl two))) = inl (inr (inl two))
-three_faults n number a b c old new (sort.Damaged f at) (inl (inr (inr three))) = inl (inr (inr (inl three)))
-three_faults n number a b c old new (sort.Damaged f at) (inr own) = inr own
-three_faults n number a b c old new sort.RunsSpent is = tt
+three_faults : (n a b c : ℕ) (world : World) (e : SortFault) → IsArcsFault n (files_of a b c) world e
+    → IsMakingFault n (a ∷ b ∷ c ∷ []) world e
+three_faults n a b c world sort.Shelf is = tt
+three_faults n a b c world (sort.Damaged f at) (inl one) = inl one
+three_faults n a b c world (sort.Damaged f at) (inr (inl two)) = inr (inl two)
+three_faults n a b c world (sort.Damaged f at) (inr (inr three)) = inr (inr (inl three))
+three_faults n a b c world sort.RunsSpent is = tt
 
-one_fault : (n number a : ℕ) (old new : World) (e : SortFault) → IsDiagramFault n (files_of a a a) number old new e
-    → IsSweepFault n (a ∷ []) number old new e
-one_fault n number a old new sort.Shelf is = tt
-one_fault n number a old new (sort.Damaged f at) (inl (inl one)) = inl (inl one)
-one_fault n number a old new (sort.Damaged f at) (inl (inr (inl one))) = inl (inl one)
-one_fault n number a old new (sort.Damaged f at) (inl (inr (inr one))) = inl (inl one)
-one_fault n number a old new (sort.Damaged f at) (inr own) = inr own
-one_fault n number a old new sort.RunsSpent is = tt
+one_fault : (n a : ℕ) (world : World) (e : SortFault) → IsArcsFault n (files_of a a a) world e
+    → IsMakingFault n (a ∷ []) world e
+one_fault n a world sort.Shelf is = tt
+one_fault n a world (sort.Damaged f at) (inl one) = inl one
+one_fault n a world (sort.Damaged f at) (inr (inl one)) = inl one
+one_fault n a world (sort.Damaged f at) (inr (inr one)) = inl one
+one_fault n a world sort.RunsSpent is = tt
 
 some_is : {x : Sweeping} (y : Sweeping) → Some x ≡ Some y → x ≡ y
 some_is y same = ap (λ o. elim o [ None ↦ y | Some z ↦ z ]) same
@@ -147,7 +139,7 @@ is_operation n number (Pair op left right) sweeping some =
         third = first_below number right [] (more_below number left (right ∷ []) h);
       };
       within = λ h. tt;
-      fault = two_faults n number left right;
+      fault = two_faults n left right;
       reads_is = refl;
     })
 is_operation n number (Ite test if_one if_zero) sweeping some =
@@ -164,7 +156,7 @@ is_operation n number (Ite test if_one if_zero) sweeping some =
         third = first_below number if_zero [] (more_below number if_one (if_zero ∷ []) (more_below number test (if_one ∷ if_zero ∷ []) h));
       };
       within = λ h. tt;
-      fault = three_faults n number test if_one if_zero;
+      fault = three_faults n test if_one if_zero;
       reads_is = refl;
     })
 is_operation n number (Quantify kind of level) sweeping some =
@@ -181,7 +173,7 @@ is_operation n number (Quantify kind of level) sweeping some =
         third = first_below number of [] h;
       };
       within = λ h. first_below n level [] h;
-      fault = one_fault n number of;
+      fault = one_fault n of;
       reads_is = refl;
     })
 is_operation n number (Restrict of level value) sweeping some =
@@ -198,7 +190,7 @@ is_operation n number (Restrict of level value) sweeping some =
         third = first_below number of [] h;
       };
       within = λ h. first_below n level [] h;
-      fault = one_fault n number of;
+      fault = one_fault n of;
       reads_is = refl;
     })
 is_operation n number (Drop gone) sweeping none = cc
@@ -256,7 +248,7 @@ module _ {S : Type 0} (tells : S → Bool) (world : S → World) (counts : S →
       → (IsTrue (tells after) → (g : Tables) → AreGiven sweeping.operation n sweeping.operands (world before) g → IsNoDamage e)
       → (IsErrOf {T = MadeDiagram} (Err e) sort.RunsSpent → IsTrue (tells after) → (g : Tables)
       → AreGiven sweeping.operation n sweeping.operands (world before) g → 2 ^ 35 ≤ work_by sweeping.operation n g)
-      → (IsTrue (tells after) → IsDiagramFault n sweeping.operands number (world before) (world after) e)
+      → (IsTrue (tells after) → IsArcsFault n sweeping.operands (world before) e)
       → OnlySortShelf {T = MadeDiagram} (counts before) (counts after) (Err e)
       → RunsStep tells world counts n text number p before after (Err e)
   operation_refused e undamaged spent damaged faults = record {
@@ -268,7 +260,7 @@ module _ {S : Type 0} (tells : S → Bool) (world : S → World) (counts : S →
         let given = step_given job n number text p sweeping (world before) some is holds in
         sound_fault p.step (work_of job p.step) _ e is_one.joins_is given.work_is (undamaged told given.tables given.are)
         (λ is_spent. spent (ap (λ f. Err f) is_spent) told given.tables given.are);
-    damaged = λ told. is_one.fault (world before) (world after) e (damaged told);
+    damaged = λ told. is_one.fault (world before) e (damaged told);
     kind = of_kind p.step e is_one.joins_is;
     calls = tt;
     one_turn = λ told not. never_one p.step is_one.sweeps_is not;
@@ -348,7 +340,7 @@ module _ {S : Type 0} (tells : S → Bool) (world : S → World) (counts : S →
   pub question_refused : (e : SortFault)
       → (IsTrue (tells after) → (job : Job) → IsStepOf job n text number p → Holds job number (now (world before)).folder
       → IsSoundFault p.step (work_of job p.step) e)
-      → (IsTrue (tells after) → IsStepFault n p.step number (world before) (world after) e) → IsOfKind p.step e
+      → (IsTrue (tells after) → IsStepFault n p.step (world before) e) → IsOfKind p.step e
       → OnlySortShelf {T = Answered} (counts before) (counts after) (Err e)
       → RunsStep tells world counts n text number p before after (Err e)
   question_refused e sound damaged kind faults = record {

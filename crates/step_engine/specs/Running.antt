@@ -37,8 +37,7 @@ pub record RunsStep {S : Type 0} (tells : S → Bool) (world : S → World) (cou
       → IsMade job number (now (world after)).folder)
   pub sound : IfErr result (λ fault. IsTrue (tells after) → (job : Job) → IsStepOf job n text number p
       → Holds job number (now (world before)).folder → IsSoundFault p.step (work_of job p.step) fault)
-  pub damaged : IfErr result (λ fault. IsTrue (tells after)
-      → IsStepFault n p.step number (world before) (world after) fault)
+  pub damaged : IfErr result (λ fault. IsTrue (tells after) → IsStepFault n p.step (world before) fault)
   pub kind : IfErr result (IsOfKind p.step)
   pub calls : IfOk result (λ e. IsTrue (tells after) → e.turns < 2 ^ 64 - 1
       → (world after).clock ≤ (world before).clock + run_calls p.step e.turns)

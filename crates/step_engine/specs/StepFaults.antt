@@ -15,7 +15,7 @@ use Rattle.catalogue.specs.Counts.{present}
 use Rattle.catalogue.specs.Files.{catalogue}
 use Rattle.catalogue.specs.Entries.{IsEntryOf}
 use Rattle.step_work.specs.Tuples.{joins}
-use Rattle.step_sweeps.specs.Damage.{IsDamagedFile, IsDamagedOwn}
+use Rattle.step_sweeps.specs.Damage.{IsDamagedFile}
 use Rattle.sound_image.specs.Files.{node_file}
 
 -- the entry of step k is damaged where no entry of that step and of that kind stands whole at its place
@@ -35,36 +35,27 @@ IsReadingFault n operands world sort.Shelf = Unit
 IsReadingFault n operands world (sort.Damaged f at) = IsDamagedAmong n operands world f at
 IsReadingFault n operands world sort.RunsSpent = ⊥
 
--- a fault of a step that makes arcs of them and reduces these: a call of the folder failed; one of the operands was damaged as the step
--- began, or one of its two files of arcs is as it ends; or it has no part number left
-abbrev pub IsSweepFault : ℕ → List ℕ → ℕ → World → World → SortFault → Type 0
-IsSweepFault n operands number old new sort.Shelf = Unit
-IsSweepFault n operands number old new (sort.Damaged f at) =
-    IsDamagedAmong n operands old f at ⊎ IsDamagedOwn number new f at
-IsSweepFault n operands number old new sort.RunsSpent = Unit
-
--- a fault of a step that makes arcs and reads none of them: a call of the folder failed, one of the operands was damaged
--- as the step began, or it has no part number left
+-- a fault of a step that makes arcs of them: a call of the folder failed, one of them was damaged as the step began, or
+-- the step has no part number left
 abbrev pub IsMakingFault : ℕ → List ℕ → World → SortFault → Type 0
 IsMakingFault n operands world sort.Shelf = Unit
 IsMakingFault n operands world (sort.Damaged f at) = IsDamagedAmong n operands world f at
 IsMakingFault n operands world sort.RunsSpent = Unit
 
 -- a size finds the entry of its diagram damaged, and where nothing is read a call of the folder failed
-abbrev pub IsStepFault : ℕ → Step → ℕ → World → World → SortFault → Type 0
-IsStepFault n (Const value) number old new fault = fault ≡ sort.Shelf
-IsStepFault n (Var level) number old new fault = fault ≡ sort.Shelf
-IsStepFault n (Pair op left right) number old new fault = IsSweepFault n (left ∷ right ∷ []) number old new fault
-IsStepFault n (Ite test if_one if_zero) number old new fault =
-    IsSweepFault n (test ∷ if_one ∷ if_zero ∷ []) number old new fault
-IsStepFault n (Quantify kind operand level) number old new fault = IsSweepFault n (operand ∷ []) number old new fault
-IsStepFault n (Restrict operand level value) number old new fault = IsSweepFault n (operand ∷ []) number old new fault
-IsStepFault n (Drop gone) number old new fault = fault ≡ sort.Shelf
-IsStepFault n (Same left right) number old new fault = IsReadingFault n (left ∷ right ∷ []) old fault
-IsStepFault n (Leq left right) number old new fault = IsMakingFault n (left ∷ right ∷ []) old fault
-IsStepFault n (Eval operand at) number old new fault = IsReadingFault n (operand ∷ []) old fault
-IsStepFault n (Size operand) number old new fault =
-    (found : StreamFault) × (fault ≡ handed_on found) × IsKindFault operand 1 (present (now old).folder) found
+abbrev pub IsStepFault : ℕ → Step → World → SortFault → Type 0
+IsStepFault n (Const value) world fault = fault ≡ sort.Shelf
+IsStepFault n (Var level) world fault = fault ≡ sort.Shelf
+IsStepFault n (Pair op left right) world fault = IsMakingFault n (left ∷ right ∷ []) world fault
+IsStepFault n (Ite test if_one if_zero) world fault = IsMakingFault n (test ∷ if_one ∷ if_zero ∷ []) world fault
+IsStepFault n (Quantify kind operand level) world fault = IsMakingFault n (operand ∷ []) world fault
+IsStepFault n (Restrict operand level value) world fault = IsMakingFault n (operand ∷ []) world fault
+IsStepFault n (Drop gone) world fault = fault ≡ sort.Shelf
+IsStepFault n (Same left right) world fault = IsReadingFault n (left ∷ right ∷ []) world fault
+IsStepFault n (Leq left right) world fault = IsMakingFault n (left ∷ right ∷ []) world fault
+IsStepFault n (Eval operand at) world fault = IsReadingFault n (operand ∷ []) world fault
+IsStepFault n (Size operand) world fault =
+    (found : StreamFault) × (fault ≡ handed_on found) × IsKindFault operand 1 (present (now world).folder) found
 
 -- where the folder holds the steps before: a call of it failed, or a step of much work has no part number left
 abbrev pub IsSoundFault : Step → ℕ → SortFault → Type 0

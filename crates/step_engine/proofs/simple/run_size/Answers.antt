@@ -26,7 +26,8 @@ returns-in_err-nodes g c =
             made = tt;
             sound = λ told job is holds. size_sound job c.args.n c.args.number c.args.of c.args.text.now p e (g.S.Shelf.world c.args.shelf.now) c.requires.kind is below
                 holds (said.err told);
-            damaged = λ told. size_fault c.args.n c.args.number c.args.of p.step c.requires.kind (g.S.Shelf.world c.args.shelf.now) _ e (said.err told);
+            damaged = λ told. size_fault c.args.n c.args.of p.step c.requires.kind (g.S.Shelf.world c.args.shelf.now) e
+                (said.err told);
             kind = size_kind p.step e;
             calls = tt;
             one_turn = λ told not. let few = said.calls told in omega (arith, few);

@@ -1,8 +1,6 @@
-use Rattle.std.proofs.Common.{◌≡◌, ◌∙◌, ℕ, ◌+◌, ◌*◌, ◌≤◌, ◌<◌, List, [], ◌∷◌, refl, sym, ap, subst, arith}
-use Rattle.std.specs.Prelude.{IsTrue}
+use Rattle.std.proofs.Common.{◌∙◌, ◌≤◌, refl, sym, ap, subst, arith}
 use Rattle.bool_tables.specs.declared.steps.Step.TheVariants.{Eval}
-use Rattle.sound_image.specs.Entries.{bit_of, answer_of, work_of}
-use Rattle.sound_image.specs.Jobs.{Job, table_at}
+use Rattle.sound_image.specs.Entries.{bit_of, answer_of}
 use Rattle.step_engine.proofs.Operands.{one_given, work_given}
 use Rattle.step_engine.proofs.Questions.{bits_within, value_given, eval_sound, eval_fault, not_spent, not_spent_kind, few_more}
 use Rattle.step_engine.proofs.Runs.{handed_runs, eval_question, question_refused, question_answered}
@@ -29,7 +27,8 @@ returns-in_err-answered g c =
           (λ told job is holds.
           let given = one_given job c.args.n c.args.number c.args.text.now p (g.S.Shelf.world c.args.shelf.now) (Eval c.args.of c.args.at) c.args.of c.requires.kind refl is holds in
           eval_sound p.step _ c.in_err-answered.field-0.0 (said.undamaged told _ given) (not_spent c.in_err-answered.field-0.0 said.kind))
-          (λ told. eval_fault c.args.n c.args.number c.args.of c.args.at p.step c.requires.kind (g.S.Shelf.world c.args.shelf.now) _ c.in_err-answered.field-0.0 (said.damaged told))
+          (λ told. eval_fault c.args.n c.args.of c.args.at p.step c.requires.kind (g.S.Shelf.world c.args.shelf.now)
+          c.in_err-answered.field-0.0 (said.damaged told))
           (not_spent_kind p.step c.in_err-answered.field-0.0 said.kind)
           said.faults);
     }

@@ -1,8 +1,6 @@
-use Rattle.std.proofs.Common.{◌≡◌, ◌∙◌, ℕ, ◌+◌, ◌*◌, ◌≤◌, ◌<◌, List, [], ◌∷◌, refl, sym, ap, subst, arith}
-use Rattle.std.specs.Prelude.{IsTrue}
+use Rattle.std.proofs.Common.{◌∙◌, ◌≤◌, refl, sym, ap, subst, arith}
 use Rattle.bool_tables.specs.declared.steps.Step.TheVariants.{Leq}
-use Rattle.sound_image.specs.Entries.{bit_of, answer_of, work_of}
-use Rattle.sound_image.specs.Jobs.{Job, table_at}
+use Rattle.sound_image.specs.Entries.{bit_of, answer_of}
 use Rattle.step_engine.proofs.Operands.{two_given, work_given}
 use Rattle.step_engine.proofs.Questions.{leq_sound, leq_fault, leq_kind, few_more}
 use Rattle.step_engine.proofs.Runs.{handed_runs, leq_question, question_refused, question_answered}
@@ -25,7 +23,8 @@ returns-in_err-answered g c =
           (λ told job is holds.
           let given = two_given job c.args.n c.args.number c.args.text.now p (g.S.Shelf.world c.args.shelf.now) (Leq c.args.left c.args.right) c.args.left c.args.right c.requires.kind refl is holds in
           leq_sound p.step c.args.left c.args.right c.requires.kind _ _ c.in_err-answered.field-0.0 (work_given job c.args.n c.args.number c.args.text.now p (Leq 0 1) (Leq c.args.left c.args.right) c.requires.kind refl (λ i h x. refl) is) (said.undamaged told _ _ given.0 given.1) (λ spent. said.spent spent told _ _ given.0 given.1))
-          (λ told. leq_fault c.args.n c.args.number c.args.left c.args.right p.step c.requires.kind (g.S.Shelf.world c.args.shelf.now) _ c.in_err-answered.field-0.0 (said.damaged told))
+          (λ told. leq_fault c.args.n c.args.left c.args.right p.step c.requires.kind (g.S.Shelf.world c.args.shelf.now)
+          c.in_err-answered.field-0.0 (said.damaged told))
           (leq_kind c.args.left c.args.right p.step c.requires.kind c.in_err-answered.field-0.0)
           said.faults);
     }
