@@ -10,7 +10,7 @@ use Rattle.shelf_model.specs.Folder.{Folder}
 use Rattle.shelf_model.specs.World.{Moment, World, now}
 use Rattle.shelf_model.specs.Moments.{Throughout}
 use Rattle.catalogue.specs.Counts.{present, count_in}
-use Rattle.step_engine.specs.StepFaults.{IsKindFault, IsDamagedAmong, IsReadingFault, IsSweepFault, IsMakingFault, IsStepFault}
+use Rattle.step_engine.specs.StepFaults.{IsKindFault, IsDamagedAmong, IsReadingFault, IsMakingFault, IsStepFault}
 use Rattle.script_runner.specs.Running.{IsMetDamage}
 
 -- a station with that folder
@@ -41,86 +41,23 @@ making_there n xs a b sort.Shelf same is = tt
 making_there n xs a b (sort.Damaged f at) same is = among_there n xs a b f at same is
 making_there n xs a b sort.RunsSpent same is = tt
 
--- the worlds at two moments, and worlds with the same folders
-pub record AreAlike (a b c d : World) : Type 0 where
-  pub first : (now c).folder ≡ (now a).folder
-  pub second : (now d).folder ≡ (now b).folder
-
--- damage of a step's own arcs is judged by the folder alone
-own_framed : (n number : ℕ) (a b : World) (f : FileNo) (at : ℕ) → IsSweepFault n [] number a b (sort.Damaged f at)
-    → IsSweepFault n [] number a (with_folder (now b).folder b) (sort.Damaged f at)
-own_framed n number a b f at (inl none) = absurd none
-own_framed n number a b f at (inr (inl x)) = inr (inl (record {
-  place = x.place;
-  given = x.given;
-  file_is = x.file_is;
-  at_is = x.at_is;
-  damaged = x.damaged;
-}))
-own_framed n number a b f at (inr (inr x)) = inr (inr (record {
-  place = x.place;
-  given = x.given;
-  file_is = x.file_is;
-  at_is = x.at_is;
-  damaged = x.damaged;
-}))
-
-own_moved : (n number : ℕ) (a b d : World) (f : FileNo) (at : ℕ)
-    → IsSweepFault n [] number a (with_folder (now d).folder b) (sort.Damaged f at)
-    → IsSweepFault n [] number a d (sort.Damaged f at)
-own_moved n number a b d f at (inl none) = absurd none
-own_moved n number a b d f at (inr (inl x)) = inr (inl (record {
-  place = x.place;
-  given = x.given;
-  file_is = x.file_is;
-  at_is = x.at_is;
-  damaged = x.damaged;
-}))
-own_moved n number a b d f at (inr (inr x)) = inr (inr (record {
-  place = x.place;
-  given = x.given;
-  file_is = x.file_is;
-  at_is = x.at_is;
-  damaged = x.damaged;
-}))
-
-sweep_there : (n : ℕ) (xs : List ℕ) (number : ℕ) (a b c d : World) (fault : SortFault) → AreAlike a b c d
-    → IsSweepFault n xs number a b fault → IsSweepFault n xs number c d fault
-sweep_there n xs number a b c d sort.Shelf alike is = tt
-sweep_there n xs number a b c d (sort.Damaged f at) alike is = elim is [
-  | inl among ↦ inl (among_there n xs a c f at alike.first among)
-  | inr own ↦
-      let framed : IsSweepFault n [] number a (with_folder (now d).folder b) (sort.Damaged f at) =
-      subst (λ (folder : Folder). IsSweepFault n [] number a (with_folder folder b) (sort.Damaged f at)) (sym alike.second)
-      (own_framed n number a b f at (inr own)) in
-      let here : IsSweepFault n [] number a d (sort.Damaged f at) = own_moved n number a b d f at framed in
-      elim here [ inl none ↦ absurd none | inr there ↦ inr there ]
-]
-sweep_there n xs number a b c d sort.RunsSpent alike is = tt
-
-pub fault_there : (n : ℕ) (s : Step) (number : ℕ) (a b c d : World) (fault : SortFault) → AreAlike a b c d
-    → IsStepFault n s number a b fault → IsStepFault n s number c d fault
-fault_there n (Const value) number a b c d fault alike is = is
-fault_there n (Var level) number a b c d fault alike is = is
-fault_there n (Pair op left right) number a b c d fault alike is =
-    sweep_there n (left ∷ right ∷ []) number a b c d fault alike is
-fault_there n (Ite test if_one if_zero) number a b c d fault alike is =
-    sweep_there n (test ∷ if_one ∷ if_zero ∷ []) number a b c d fault alike is
-fault_there n (Quantify kind operand level) number a b c d fault alike is =
-    sweep_there n (operand ∷ []) number a b c d fault alike is
-fault_there n (Restrict operand level value) number a b c d fault alike is =
-    sweep_there n (operand ∷ []) number a b c d fault alike is
-fault_there n (Drop gone) number a b c d fault alike is = is
-fault_there n (Same left right) number a b c d fault alike is =
-    reading_there n (left ∷ right ∷ []) a c fault alike.first is
-fault_there n (Leq left right) number a b c d fault alike is =
-    making_there n (left ∷ right ∷ []) a c fault alike.first is
-fault_there n (Eval operand at) number a b c d fault alike is =
-    reading_there n (operand ∷ []) a c fault alike.first is
-fault_there n (Size operand) number a b c d fault alike is = (
+pub fault_there : (n : ℕ) (s : Step) (a b : World) (fault : SortFault) → (now b).folder ≡ (now a).folder
+    → IsStepFault n s a fault → IsStepFault n s b fault
+fault_there n (Const value) a b fault same is = is
+fault_there n (Var level) a b fault same is = is
+fault_there n (Pair op left right) a b fault same is = making_there n (left ∷ right ∷ []) a b fault same is
+fault_there n (Ite test if_one if_zero) a b fault same is =
+    making_there n (test ∷ if_one ∷ if_zero ∷ []) a b fault same is
+fault_there n (Quantify kind operand level) a b fault same is = making_there n (operand ∷ []) a b fault same is
+fault_there n (Restrict operand level value) a b fault same is = making_there n (operand ∷ []) a b fault same is
+fault_there n (Drop gone) a b fault same is = is
+fault_there n (Same left right) a b fault same is = reading_there n (left ∷ right ∷ []) a b fault same is
+fault_there n (Leq left right) a b fault same is = making_there n (left ∷ right ∷ []) a b fault same is
+fault_there n (Eval operand at) a b fault same is = reading_there n (operand ∷ []) a b fault same is
+fault_there n (Size operand) a b fault same is = (
   is.0,
   is.1,
-  subst (λ (folder : Folder). IsKindFault operand 1 (present folder) is.0) (sym alike.first) is.2,
+  subst (λ (folder : Folder). IsKindFault operand 1 (present folder) is.0) (sym same) is.2,
 )
 
 -- what a step of a part of a run met is met in the run
@@ -132,9 +69,7 @@ met_since n steps f at first old mid new later (inr swept) = inr (record {
   within = swept.within;
   swept = swept.swept;
   began = swept.began;
-  refused = swept.refused;
   since = let since = swept.since in omega (arith, later, since);
-  later = swept.later;
   until = swept.until;
   committed = swept.committed;
   fault = swept.fault;
@@ -145,19 +80,15 @@ pub met_until : (n : ℕ) (steps : List Planned) (f : FileNo) (at : ℕ) (first 
     → IsMetDamage n steps f at first old new
 met_until n steps f at first old mid new P run (inl entry) = inl entry
 met_until n steps f at first old mid new P run (inr swept) =
-    let same : (k : ℕ) → k ≤ mid.clock → (new.moment k).folder ≡ (mid.moment k).folder =
-    λ k within. ap (λ (m : Moment). m.folder) (run.past k within) in
-    let began : swept.began ≤ mid.clock = let later = swept.later in let until = swept.until in omega (arith, later, until) in
+    let same : (new.moment swept.began).folder ≡ (mid.moment swept.began).folder =
+    ap (λ (m : Moment). m.folder) (run.past swept.began swept.until) in
     inr (record {
       step = swept.step;
       within = swept.within;
       swept = swept.swept;
       began = swept.began;
-      refused = swept.refused;
       since = swept.since;
-      later = swept.later;
       until = let until = swept.until in let later = run.later in omega (arith, until, later);
-      committed = ap (λ (folder : Folder). count_in (present folder)) (same swept.began began) ∙ swept.committed;
-      fault = fault_there n _ swept.step _ _ _ _ (sort.Damaged f at)
-          (record { first = same swept.began began; second = same swept.refused swept.until }) swept.fault;
+      committed = ap (λ (folder : Folder). count_in (present folder)) same ∙ swept.committed;
+      fault = fault_there n _ _ _ (sort.Damaged f at) same swept.fault;
     })

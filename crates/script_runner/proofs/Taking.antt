@@ -233,7 +233,7 @@ module _ (n : ℕ) (text : List ℕ) (steps : List Planned) (k : ℕ) (few : len
   -- a place that a step that sweeps found damaged
   swept_damage : (s : Step) (f : FileNo) (at : ℕ) (P : Moment → Type 0) (old new : World) → (get_or steps k no_step).step ≡ s
       → IsTrue (sweeps s) → count_in (present (now old).folder) ≡ k → Throughout old new P
-      → IsStepFault n s k old new (sort.Damaged f at) → IsMetDamage n steps f at (now old).folder old new
+      → IsStepFault n s old (sort.Damaged f at) → IsMetDamage n steps f at (now old).folder old new
   swept_damage s f at P old new step swept count run fault =
       let same : (new.moment old.clock).folder ≡ (now old).folder =
       ap (λ (m : Moment). m.folder) (run.past old.clock (omega arith)) in
@@ -242,19 +242,17 @@ module _ (n : ℕ) (text : List ℕ) (steps : List Planned) (k : ℕ) (few : len
         within = within;
         swept = subst (λ x. IsTrue (sweeps x)) (sym step) swept;
         began = old.clock;
-        refused = new.clock;
         since = omega arith;
-        later = run.later;
-        until = omega arith;
+        until = run.later;
         committed = ap (λ (folder : Folder). count_in (present folder)) same ∙ count;
-        fault = fault_there n _ k old new _ _ (sort.Damaged f at) (record { first = same; second = refl })
-            (subst (λ x. IsStepFault n x k old new (sort.Damaged f at)) (sym step) fault);
+        fault = fault_there n _ old _ (sort.Damaged f at) same
+            (subst (λ x. IsStepFault n x old (sort.Damaged f at)) (sym step) fault);
       })
 
   -- the entry that a size couldn't use, or the file that a step that sweeps couldn't
   pub step_damage : (plan : IsWellFormed n text steps) (s : Step) (f : FileNo) (at : ℕ) (P : Moment → Type 0) (old new : World)
       → (get_or steps k no_step).step ≡ s → IsTrue (list_all (λ j. nat_lt j k) (operands s))
-      → count_in (present (now old).folder) ≡ k → Throughout old new P → IsStepFault n s k old new (sort.Damaged f at)
+      → count_in (present (now old).folder) ≡ k → Throughout old new P → IsStepFault n s old (sort.Damaged f at)
       → IsMetDamage n steps f at (now old).folder old new
   step_damage plan (Const value) f at P old new step earlier count run fault = absurd cc
   step_damage plan (Var level) f at P old new step earlier count run fault = absurd cc
@@ -295,7 +293,7 @@ module _ (n : ℕ) (text : List ℕ) (steps : List Planned) (k : ℕ) (few : len
   -- what the run says of a fault of the step
   pub names_met : (plan : IsWellFormed n text steps) (s : Step) (fault : SortFault) (P : Moment → Type 0) (old new : World)
       → (get_or steps k no_step).step ≡ s → IsTrue (list_all (λ j. nat_lt j k) (operands s))
-      → count_in (present (now old).folder) ≡ k → Throughout old new P → IsStepFault n s k old new fault
+      → count_in (present (now old).folder) ≡ k → Throughout old new P → IsStepFault n s old fault
       → NamesMet n steps old new (stopped_by k fault)
   names_met plan s sort.Shelf P old new step earlier count run fault = λ f at e. absurd cc
   names_met plan s (sort.Damaged g b) P old new step earlier count run fault = λ f at e.

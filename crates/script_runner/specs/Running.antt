@@ -155,19 +155,16 @@ abbrev pub stood_after : ℕ → World → World
 stood_after calls world = record world { clock = calls }
 
 -- a step that sweeps found that place damaged: it began at a moment of the run at which the steps before it were
--- committed, and was refused at a later one, for its fault as the folder stood at these two
+-- committed, and that is its fault as the folder stood then
 pub record IsSweepDamage (n : ℕ) (steps : List Planned) (f : FileNo) (at : ℕ) (old new : World) : Type 0 where
   pub step : ℕ
   pub within : step < length steps
   pub swept : IsTrue (sweeps (get_or steps step no_step).step)
   pub began : ℕ
-  pub refused : ℕ
   pub since : old.clock ≤ began
-  pub later : began ≤ refused
-  pub until : refused ≤ new.clock
+  pub until : began ≤ new.clock
   pub committed : count_in (present (new.moment began).folder) ≡ step
-  pub fault : IsStepFault n (get_or steps step no_step).step step (stood_after began new) (stood_after refused new)
-      (sort.Damaged f at)
+  pub fault : IsStepFault n (get_or steps step no_step).step (stood_after began new) (sort.Damaged f at)
 
 -- the place was damaged: an entry in the first folder, or what a step that sweeps met
 abbrev pub IsMetDamage : ℕ → List Planned → FileNo → ℕ → Folder → World → World → Type 0
