@@ -22,6 +22,7 @@ use Rattle.catalogue.specs.Counts.{present, is_stored, count_in, entry_at}
 use Rattle.catalogue.specs.Commits.{IsReady}
 use Rattle.catalogue.specs.Standings.{IsBeginning, DuringAttach}
 use Rattle.catalogue.proofs.Counted.{ready_counts}
+use Rattle.sound_image.specs.Files.{node_file}
 use Rattle.sound_image.specs.Jobs.{Job, no_step}
 use Rattle.sound_image.specs.Entries.{IsEntryOfStep}
 use Rattle.sound_image.specs.Holds.{Holds, AreSound}
@@ -35,10 +36,10 @@ use Rattle.script_runner.specs.declared.finish.Finish.{Finish}
 use Rattle.script_runner.specs.Text.{said_line, done_line, ended_before, lines_from_step, banner_line, start_line, resume_line, run_text}
 use Rattle.script_runner.specs.Shapes.{AreShown, IsShape, IsShapeFront}
 use Rattle.script_runner.specs.Said.{whole_lines, acknowledged, said_count, no_line}
-use Rattle.script_runner.specs.Running.{ReachesCount, IsSafe, Begins, AllBegin, WaitsNot, OthersAre, IsRunning, HasSaid, StaysThere, AreEmptied, IsEntryDamage, IsMetDamage}
-use Rattle.script_runner.specs.StepRuns.{CountsAbout, IsTaking, HasEntry, HasSteps, HoldsStep, TakesStep}
+use Rattle.script_runner.specs.Running.{ReachesCount, IsSafe, Begins, AllBegin, WaitsNot, OthersAre, IsRunning, HasSaid, StaysThere, AreEmptied, IsEntryDamage, IsMetDamage, stood_after}
+use Rattle.script_runner.specs.StepRuns.{CountsAbout, IsTaking, HasEntry, HasSteps, HoldsStep, NoneDrops, KeepsDiagrams, TakesStep}
 use Rattle.script_runner.proofs.LineOrder.{none_before, ended_rises}
-use Rattle.script_runner.proofs.SweepDamage.{met_since}
+use Rattle.script_runner.proofs.SweepDamage.{fault_passes, live_not_dropped}
 use Rattle.script_runner.proofs.SaidLaws.{whole_lines-append, start_line_is_one, resume_line_is_one, said_below, acknowledged_least}
 use Rattle.script_runner.proofs.Shown.{same_entries, still_shown, shown_lines, below_later, says_no_shape}
 
@@ -89,12 +90,13 @@ pub record Sounds (job : Job) (lines : List LineEnd) (count : ℕ) (since todo :
   pub holds : Holds job count (now new).folder
 
 -- the catalogue so far: the entries that were there at first stay, as they are sure and as they are read, each step since has its entry,
--- and what these steps drop is empty
+-- what these steps drop is empty, and the diagrams that were there at first and that they don't drop stay
 pub record HasMade (steps : List Planned) (done step : ℕ) (old new : Folder) : Type 0 where
   pub kept : (front : List ℕ) → length front ≤ 128 * done → IsKept front (file_in old catalogue) → IsKept front (file_in new catalogue)
   pub reads : take (128 * done) (file_in new catalogue).bytes ≡ take (128 * done) (file_in old catalogue).bytes
   pub made : (k : ℕ) → done ≤ k → k < step → (e : Entry) × HasEntry steps k e (present new)
   pub emptied : AreEmptied steps done step new
+  pub keeps : KeepsDiagrams steps done step old new
 
 -- where a run stands between two steps: so many are committed, and these lines remain to be said
 pub record AtStep (job : Job) (lines : List LineEnd) (step : ℕ) (rest : List LineEnd) (old new : World) : Type 0 where
@@ -373,8 +375,35 @@ module _ (job : Job) (lines : List LineEnd) (plan : IsPlan job lines) (old : Wor
         → IsMetDamage job.n job.steps f place (now mid).folder mid new
         → IsMetDamage job.n job.steps f place (now old).folder old new
     met_at_first f place new count (inl damage) = inl (damaged_at_first f place count damage)
-    met_at_first f place new count (inr swept) =
-        met_since job.n job.steps f place (now old).folder old mid new at.run.moments.later (inr swept)
+    met_at_first f place new count (inr swept) = inr (record {
+      step = swept.step;
+      within = swept.within;
+      swept = swept.swept;
+      began = swept.began;
+      since = let since = swept.since in let later = at.run.moments.later in omega (arith, since, later);
+      until = swept.until;
+      committed = swept.committed;
+      fault = swept.fault;
+      uncommitted = let low = swept.uncommitted in let reached = at.reached in omega (arith, low, reached, count);
+      at_first = λ k below is.
+          let reached = at.reached in
+          swept.at_first k (omega (arith, below, reached, count)) is
+          ∙ subst (λ (q : FileNo). file_in (now mid).folder q ≡ file_in (now old).folder q) (sym is)
+          (at.made.keeps k below (undropped k is));
+    })
+      where
+        -- the diagram is live as the step begins, so none of the steps before it drops it
+        undropped : (k : ℕ) → f ≡ node_file k → NoneDrops job.steps (done_at old) step k
+        undropped k is j from until =
+            let live = fault_passes (is_live (take swept.step job.steps)) job.n _ (stood_after swept.began new) f place
+            swept.swept
+            (operands_live job.n job.text (take swept.step job.steps) (get_or job.steps swept.step no_step)
+            (follows_at job.n job.text job.steps swept.step no_step swept.within plan.well_formed)) swept.fault in
+            let same : live.0 ≡ k = ap (λ (q : FileNo). q.step) (sym live.1 ∙ is) in
+            let low = swept.uncommitted in
+            let within = swept.within in
+            live_not_dropped job.steps swept.step k j (omega (arith, until, low, count)) (omega (arith, within))
+            (subst (λ i. IsTrue (is_live (take swept.step job.steps) i)) same live.2)
 
     -- a step is taken
     module _ (new : World) (result : Result Entry Finish) (all_said : ended_before step lines ≤ at.place) (takes : TakesStep job.n job.text job.steps step result mid new) where
@@ -480,6 +509,11 @@ module _ (job : Job) (lines : List LineEnd) (plan : IsPlan job lines) (old : Wor
                 takes.still_empty gone (omega (arith, gone_below, below)) (at.made.emptied k from below gone drops_it)
             | inr beyond ↦ takes.emptied k (omega (arith, beyond)) until gone drops_it
           ];
+          keeps = λ k below none.
+              let reached = at.reached in
+              takes.keeps k (omega (arith, below, reached))
+              (λ j from until. none j (omega (arith, reached, from)) until)
+              ∙ at.made.keeps k below (λ j from until. none j from (omega (arith, until)));
         };
         sound = λ sound. record { text_is = (at.sound sound).text_is; holds = (holds_it sound).ok.0 };
       },

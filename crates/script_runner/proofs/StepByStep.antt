@@ -21,10 +21,12 @@ use Rattle.catalogue.specs.Commits.{IsReady}
 use Rattle.catalogue.specs.Standings.{DuringAttach, IsAttached}
 use Rattle.catalogue.proofs.Counted.{ready_counts, catalogue_not_step_gate, job_gate_not_catalogue}
 use Rattle.catalogue.proofs.Stored.{catalogue_not_job_file}
+use Rattle.sound_image.specs.Files.{node_file}
 use Rattle.sound_image.specs.Jobs.{Job}
 use Rattle.sound_image.specs.Entries.{IsEntryOfStep}
 use Rattle.sound_image.specs.Holds.{Holds, AreSound, HaveCount}
 use Rattle.sound_image.proofs.AttachLaws.{holds_after_attach}
+use Rattle.sound_image.proofs.Numbers.{IsOfStep, node_of_step, not_job_file, not_job_gate, not_step_gate}
 use Rattle.script_reader.specs.declared.plan.LineEnd.{LineEnd}
 use Rattle.script_reader.specs.Lines.{rise_from}
 use Rattle.script_runner.specs.declared.finish.Finish.{Finish}
@@ -120,6 +122,17 @@ module _ (job : Job) (lines : List LineEnd) (plan : IsPlan job lines) (old : Wor
     catalogue_same : file_in (now mid).folder catalogue ≡ file_in (now old).folder catalogue
     catalogue_same = (ran_end old mid (DuringAttach job.bytes (now old)) run).others catalogue catalogue_not_job_file (λ e. job_gate_not_catalogue (sym e)) catalogue_not_step_gate
 
+    -- so is the node file of each step that was committed
+    node_file_same : (k : ℕ) → k < done_at old
+        → file_in (now mid).folder (node_file k) ≡ file_in (now old).folder (node_file k)
+    node_file_same k below =
+        let done : s.done ≡ done_at old = is_standing.done in
+        let few = is_standing.few in
+        let few_steps = plan.well_formed.few_steps in
+        let of_step : IsOfStep (node_file k) = node_of_step k (omega (arith, below, done, few, few_steps)) in
+        (ran_end old mid (DuringAttach job.bytes (now old)) run).others (node_file k)
+        (not_job_file (node_file k) of_step) (not_job_gate (node_file k) of_step) (not_step_gate (node_file k) of_step)
+
     pub begun : (result : Result Unit Failed) (new : World) → Said piece result mid new
         → Ongoing job lines old new × OnOk result (AtStep job lines s.done (drop before lines) old new)
     begun result new did = (so_far, at_first result (one_piece piece result mid new did).1)
@@ -167,6 +180,8 @@ module _ (job : Job) (lines : List LineEnd) (plan : IsPlan job lines) (old : Wor
             reads = ap (λ (x : File). take (128 * done_at old) x.bytes) same_catalogue;
             made = λ k from until. let done : s.done ≡ done_at old = is_standing.done in absurd (omega (arith, from, until, done));
             emptied = λ k from until. let done : s.done ≡ done_at old = is_standing.done in absurd (omega (arith, from, until, done));
+            keeps = λ k below none.
+                ap (λ (folder : Folder). file_in folder (node_file k)) same ∙ node_file_same k below;
           };
           sound = λ sound. record {
             text_is = text_parts before within front_done rest_done ∙ ap (λ p. p ++ remains job (drop before lines)) (sym (append-nil (banner_at lines old)));

@@ -1,17 +1,25 @@
 -- Where a step that sweeps found damage, in longer runs.
-use Rattle.std.proofs.Common.{◌≡◌, ◌∙◌, ℕ, ◌≤◌, List, [], ◌∷◌, sym, ap, subst, inl, inr, arith}
+use Rattle.std.proofs.Common.{◌≡◌, ◌≢◌, ◌∙◌, ℕ, zero, suc, ◌<◌, ◌≤◌, Bool, true, false, not, ◌||◌, ◌==◌, List, [], ◌∷◌, length, take, get_or, sym, ap, subst, inl, inr, arith}
+use Rattle.std.specs.Prelude.{IsTrue}
+use Rattle.std.specs.List.{list_all, list_any}
+use Rattle.std.proofs.lemmas.List.{get_or-take, length-take}
 use Rattle.bool_tables.specs.declared.steps.Step.{Step}
 use Rattle.bool_tables.specs.declared.steps.Step.TheVariants.{Const, Var, Pair, Ite, Quantify, Restrict, Drop, Same, Leq, Eval, Size}
 use Rattle.bool_tables.specs.declared.steps.Planned.{Planned}
+use Rattle.bool_tables.specs.Plans.{operands, drops, is_live, is_diagram}
 use Rattle.shelf_model.specs.declared.file_no.FileNo.{FileNo}
 use Rattle.shelf_model.specs.declared.sort_fault.SortFault.{SortFault}
 use Rattle.shelf_model.specs.declared.sort_fault.SortFault.TheVariants as sort
-use Rattle.shelf_model.specs.Folder.{Folder}
+use Rattle.shelf_model.specs.Folder.{Folder, file_in}
 use Rattle.shelf_model.specs.World.{Moment, World, now}
 use Rattle.shelf_model.specs.Moments.{Throughout}
 use Rattle.catalogue.specs.Counts.{present, count_in}
+use Rattle.step_work.specs.Tuples.{sweeps}
+use Rattle.sound_image.specs.Files.{node_file}
+use Rattle.sound_image.specs.Jobs.{no_step}
 use Rattle.step_engine.specs.StepFaults.{IsKindFault, IsDamagedAmong, IsReadingFault, IsMakingFault, IsStepFault}
 use Rattle.script_runner.specs.Running.{IsMetDamage}
+use Rattle.script_runner.proofs.Tests.{first_true, second_true}
 
 -- a station with that folder
 abbrev with_folder : Folder → World → World
@@ -60,6 +68,67 @@ fault_there n (Size operand) a b fault same is = (
   subst (λ (folder : Folder). IsKindFault operand 1 (present folder) is.0) (sym same) is.2,
 )
 
+-- a damaged file among those of some steps is that of a step that passes what all of them pass
+among_passes : (P : ℕ → Bool) (n : ℕ) (xs : List ℕ) (world : World) (f : FileNo) (at : ℕ) → IsTrue (list_all P xs)
+    → IsDamagedAmong n xs world f at → (k : ℕ) × (f ≡ node_file k) × IsTrue (P k)
+among_passes P n [] world f at all fault = absurd fault
+among_passes P n (x ∷ xs) world f at all (inl here) = (x, here.0, first_true (P x) (list_all P xs) all)
+among_passes P n (x ∷ xs) world f at all (inr rest) =
+    among_passes P n xs world f at (second_true (P x) (list_all P xs) all) rest
+
+-- so is one that a step that sweeps names
+pub fault_passes : (P : ℕ → Bool) (n : ℕ) (s : Step) (world : World) (f : FileNo) (at : ℕ) → IsTrue (sweeps s)
+    → IsTrue (list_all P (operands s)) → IsStepFault n s world (sort.Damaged f at)
+    → (k : ℕ) × (f ≡ node_file k) × IsTrue (P k)
+fault_passes P n (Const value) world f at swept all fault = absurd cc
+fault_passes P n (Var level) world f at swept all fault = absurd cc
+fault_passes P n (Pair op left right) world f at swept all fault =
+    among_passes P n (left ∷ right ∷ []) world f at all fault
+fault_passes P n (Ite test if_one if_zero) world f at swept all fault =
+    among_passes P n (test ∷ if_one ∷ if_zero ∷ []) world f at all fault
+fault_passes P n (Quantify kind operand level) world f at swept all fault =
+    among_passes P n (operand ∷ []) world f at all fault
+fault_passes P n (Restrict operand level value) world f at swept all fault =
+    among_passes P n (operand ∷ []) world f at all fault
+fault_passes P n (Drop gone) world f at swept all fault = absurd cc
+fault_passes P n (Same left right) world f at swept all fault =
+    among_passes P n (left ∷ right ∷ []) world f at all fault
+fault_passes P n (Leq left right) world f at swept all fault =
+    among_passes P n (left ∷ right ∷ []) world f at all fault
+fault_passes P n (Eval operand bits) world f at swept all fault =
+    among_passes P n (operand ∷ []) world f at all fault
+fault_passes P n (Size operand) world f at swept all fault = absurd cc
+
+-- a diagram that is live after some steps is dropped by none of them
+pub live_not_dropped : (steps : List Planned) (count k j : ℕ) → j < count → count ≤ length steps
+    → IsTrue (is_live (take count steps) k) → (get_or steps j no_step).step ≢ Drop k
+live_not_dropped steps count k j below within live drops_it =
+    let inside : j < length (take count steps) = omega (arith, below, within, length-take count steps) in
+    let test : Planned → Bool = λ s. drops k s.step in
+    none_passes test (take count steps) j inside
+    (second_true (is_diagram (take count steps) k) (not (list_any test (take count steps))) live)
+    (subst (λ (s : Planned). IsTrue (test s)) (sym (get_or-take count steps j no_step below))
+    (subst (λ s. IsTrue (drops k s)) (sym drops_it) (same_number k)))
+  where
+    same_number : (x : ℕ) → IsTrue (x == x)
+    same_number x = search arith
+
+    none_passes : (test : Planned → Bool) (xs : List Planned) (i : ℕ) → i < length xs
+        → IsTrue (not (list_any test xs)) → IsTrue (test (get_or xs i no_step)) → ⊥
+    none_passes test [] i inside none one = absurd (omega (arith, inside))
+    none_passes test (x ∷ xs) zero inside none one = by_test (test x) one none
+      where
+        by_test : (b : Bool) → IsTrue b → IsTrue (not (b || list_any test xs)) → ⊥
+        by_test true one none = cc
+        by_test false one none = cc
+    none_passes test (x ∷ xs) (suc i) inside none one =
+        let less : i < length xs = omega (arith, inside) in
+        none_passes test xs i less (further (test x) none) one
+      where
+        further : (b : Bool) → IsTrue (not (b || list_any test xs)) → IsTrue (not (list_any test xs))
+        further true none = absurd cc
+        further false none = none
+
 -- what a step of a part of a run met is met in the run
 pub met_since : (n : ℕ) (steps : List Planned) (f : FileNo) (at : ℕ) (first : Folder) (old mid new : World)
     → old.clock ≤ mid.clock → IsMetDamage n steps f at first mid new → IsMetDamage n steps f at first old new
@@ -73,6 +142,8 @@ met_since n steps f at first old mid new later (inr swept) = inr (record {
   until = swept.until;
   committed = swept.committed;
   fault = swept.fault;
+  uncommitted = swept.uncommitted;
+  at_first = swept.at_first;
 })
 
 pub met_until : (n : ℕ) (steps : List Planned) (f : FileNo) (at : ℕ) (first : Folder) (old mid new : World)
@@ -91,4 +162,6 @@ met_until n steps f at first old mid new P run (inr swept) =
       until = let until = swept.until in let later = run.later in omega (arith, until, later);
       committed = ap (λ (folder : Folder). count_in (present folder)) same ∙ swept.committed;
       fault = fault_there n _ _ _ (sort.Damaged f at) same swept.fault;
+      uncommitted = swept.uncommitted;
+      at_first = λ k below is. ap (λ (folder : Folder). file_in folder f) same ∙ swept.at_first k below is;
     })

@@ -43,7 +43,7 @@ use Rattle.step_engine.proofs.EntryLaws.{operand_kind}
 use Rattle.script_runner.specs.declared.finish.Finish.{Finish}
 use Rattle.script_runner.specs.declared.finish.Finish.TheVariants.{FolderFault, RunsSpent}
 use Rattle.script_runner.specs.Running.{OthersAre, AreEmptied, IsMetDamage, RefusesFolder, IsStop}
-use Rattle.script_runner.specs.StepRuns.{IsJobOf, CountsAbout, IsTaking, HasEntry, HasSteps, HoldsStep, NamesMet, NamesSpent, StaysEmpty, TakesStep, stopped_by}
+use Rattle.script_runner.specs.StepRuns.{IsJobOf, CountsAbout, IsTaking, HasEntry, HasSteps, HoldsStep, NamesMet, NamesSpent, StaysEmpty, KeepsDiagrams, TakesStep, stopped_by}
 use Rattle.script_runner.proofs.RunSteps.{held_steps, present_count}
 use Rattle.script_runner.proofs.SweepDamage.{fault_there}
 
@@ -80,21 +80,24 @@ job_apart k f early job_step own = let steps : f.step ≡ k = own.step_is in ome
 only_below : (k x : ℕ) → IsTrue (nat_lt x k && true) → x < k
 only_below k x h = search (arith, h)
 
+-- a step that drops a diagram is that drop
+dropping : (gone : ℕ) (s : Step) → IsTrue (drops gone s) → s ≡ Drop gone
+dropping gone (Const value) dropped = absurd cc
+dropping gone (Var level) dropped = absurd cc
+dropping gone (Pair op left right) dropped = absurd cc
+dropping gone (Ite test if_one if_zero) dropped = absurd cc
+dropping gone (Quantify kind operand level) dropped = absurd cc
+dropping gone (Restrict operand level value) dropped = absurd cc
+dropping gone (Drop dropped_step) dropped = let same : dropped_step ≡ gone = search (arith, dropped) in ap Drop same
+dropping gone (Same left right) dropped = absurd cc
+dropping gone (Leq left right) dropped = absurd cc
+dropping gone (Eval operand at) dropped = absurd cc
+dropping gone (Size operand) dropped = absurd cc
+
 -- the file of the diagram that a step drops is that of an earlier step
 dropped_below : (k gone : ℕ) (s : Step) → IsTrue (drops gone s) → IsTrue (list_all (λ j. nat_lt j k) (operands s)) → gone < k
-dropped_below k gone (Const value) dropped earlier = absurd cc
-dropped_below k gone (Var level) dropped earlier = absurd cc
-dropped_below k gone (Pair op left right) dropped earlier = absurd cc
-dropped_below k gone (Ite test if_one if_zero) dropped earlier = absurd cc
-dropped_below k gone (Quantify kind operand level) dropped earlier = absurd cc
-dropped_below k gone (Restrict operand level value) dropped earlier = absurd cc
-dropped_below k gone (Drop dropped_step) dropped earlier =
-    let same : dropped_step ≡ gone = search (arith, dropped) in
-    subst (λ j. j < k) same (only_below k dropped_step earlier)
-dropped_below k gone (Same left right) dropped earlier = absurd cc
-dropped_below k gone (Leq left right) dropped earlier = absurd cc
-dropped_below k gone (Eval operand at) dropped earlier = absurd cc
-dropped_below k gone (Size operand) dropped earlier = absurd cc
+dropped_below k gone s dropped earlier =
+    only_below k gone (subst (λ x. IsTrue (list_all (λ j. nat_lt j k) (operands x))) (dropping gone s dropped) earlier)
 
 -- a file that is cut behind a step is that of the step or of an earlier one
 cut_file : (s : Step) (k : ℕ) (f : FileNo) → IsTrue (list_all (λ j. nat_lt j k) (operands s)) → IsCutBy s k f → f.step ≤ k
@@ -220,15 +223,37 @@ module _ (n : ℕ) (text : List ℕ) (steps : List Planned) (k : ℕ) (few : len
       let same : j ≡ k = omega (arith, from, until) in
       empty gone (sym step ∙ ap (λ i. (get_or steps i no_step).step) (sym same) ∙ drops_it)
 
-  -- an earlier diagram's file that was empty is empty after the step
+  -- an earlier diagram's file stays until the step is tidied up
+  until_tidied : (e : Entry) (old mid last : World) → Ran (OnlyItsFiles k (now old)) old mid
+      → Ran (DuringCommit e (now mid)) mid last → (j : ℕ) → j < k
+      → file_in (now last).folder (node_file j) ≡ file_in (now old).folder (node_file j)
+  until_tidied e old mid last made commits j below =
+      let of_step : IsOfStep (node_file j) = node_of_step j (omega (arith, below, early)) in
+      (ran_end mid last (DuringCommit e (now mid)) commits).others (node_file j)
+      (not_catalogue (node_file j) of_step) (not_step_gate (node_file j) of_step)
+      ∙ ran_end old mid (OnlyItsFiles k (now old)) made (node_file j)
+      (λ own. let same : j ≡ k = own.step_is in omega (arith, same, below))
+
+  -- where it was empty it is empty after the step
   pub still_empty : (s : Step) (e : Entry) (old mid last new : World) → Ran (OnlyItsFiles k (now old)) old mid → Ran (DuringCommit e (now mid)) mid last
       → Ran (OnlyTidied s k (now last)) last new → (j : ℕ) → j < k → StaysEmpty (node_file j) (now old).folder (now new).folder
   still_empty s e old mid last new made commits tidies j below before =
-      let of_step : IsOfStep (node_file j) = node_of_step j (omega (arith, below, early)) in
       (ran_end last new (OnlyTidied s k (now last)) tidies).stays (node_file j)
-      (ap (λ (x : File). x.bytes) (
-      (ran_end mid last (DuringCommit e (now mid)) commits).others (node_file j) (not_catalogue (node_file j) of_step) (not_step_gate (node_file j) of_step)
-      ∙ ran_end old mid (OnlyItsFiles k (now old)) made (node_file j) (λ own. let same : j ≡ k = own.step_is in omega (arith, same, below))) ∙ before)
+      (ap (λ (x : File). x.bytes) (until_tidied e old mid last made commits j below) ∙ before)
+
+  -- and unless the step drops it, it is as it was
+  pub keeps_diagrams : (s : Step) (e : Entry) (old mid last new : World) → (get_or steps k no_step).step ≡ s
+      → Ran (OnlyItsFiles k (now old)) old mid → Ran (DuringCommit e (now mid)) mid last
+      → Ran (OnlyTidied s k (now last)) last new → KeepsDiagrams steps k (k + 1) (now old).folder (now new).folder
+  keeps_diagrams s e old mid last new step made commits tidies j below none =
+      (ran_end last new (OnlyTidied s k (now last)) tidies).only (node_file j) not_cut
+      ∙ until_tidied e old mid last made commits j below
+    where
+      not_cut : ¬ (IsCutBy s k (node_file j))
+      not_cut (inl (gone, dropped, is)) =
+          let same : gone ≡ j = ap (λ (q : FileNo). q.step) (sym is) in
+          none k (omega arith) (omega arith) (step ∙ dropping gone s dropped ∙ ap Drop same)
+      not_cut (inr (swept, behind)) = let same : j ≡ k = behind.step_is in omega (arith, same, below)
 
   -- a place that a step that sweeps found damaged
   swept_damage : (s : Step) (f : FileNo) (at : ℕ) (P : Moment → Type 0) (old new : World) → (get_or steps k no_step).step ≡ s
@@ -247,6 +272,8 @@ module _ (n : ℕ) (text : List ℕ) (steps : List Planned) (k : ℕ) (few : len
         committed = ap (λ (folder : Folder). count_in (present folder)) same ∙ count;
         fault = fault_there n _ old _ (sort.Damaged f at) same
             (subst (λ x. IsStepFault n x old (sort.Damaged f at)) (sym step) fault);
+        uncommitted = omega (arith, count);
+        at_first = λ j below is. ap (λ (folder : Folder). file_in folder f) same;
       })
 
   -- the entry that a size couldn't use, or the file that a step that sweeps couldn't
@@ -447,6 +474,7 @@ module _ {S : Type 0} (tells : S → Bool) (world : S → World) (counts : S →
             made = tt;
             emptied = tt;
             still_empty = tt;
+            keeps = tt;
             stops = is_stop k fault;
             damaged = names_met n text steps k plan.few_steps within plan p.step fault _ (world old) (world s) place_is earlier
                 (present_count (now (world old)).folder k (law old tells_old) (ready tells_old)) ran.moments (runs.damaged tells_s);
@@ -491,6 +519,7 @@ module _ {S : Type 0} (tells : S → Bool) (world : S → World) (counts : S →
             made = tt;
             emptied = tt;
             still_empty = tt;
+            keeps = tt;
             stops = tt;
             damaged = λ f at d. absurd cc;
             spent = λ j d. absurd cc;
@@ -521,6 +550,7 @@ module _ {S : Type 0} (tells : S → Bool) (world : S → World) (counts : S →
               made = tt;
               emptied = tt;
               still_empty = tt;
+              keeps = tt;
               stops = tt;
               damaged = λ f at d. absurd cc;
               spent = λ j d. absurd cc;
@@ -546,6 +576,8 @@ module _ {S : Type 0} (tells : S → Bool) (world : S → World) (counts : S →
               emptied = emptied_here n text steps k plan.few_steps within p.step (now (world u)).folder place_is (empty tells_u);
               still_empty = still_empty n text steps k plan.few_steps within p.step e (world old) (world s) (world t) (world u) (ran_so tells_s) (commits.did tells_t)
                   (tidies.did tells_u);
+              keeps = keeps_diagrams n text steps k plan.few_steps within p.step e
+                  (world old) (world s) (world t) (world u) place_is (ran_so tells_s) (commits.did tells_t) (tidies.did tells_u);
               stops = tt;
               damaged = tt;
               spent = tt;

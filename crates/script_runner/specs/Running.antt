@@ -3,7 +3,7 @@ use Rattle.std.specs.Prelude.{◌≡◌, ◌≢◌, ◌⊎◌, ℕ, ◌-◌, ◌
 use Rattle.std.specs.List.{common_prefix_len}
 use Rattle.shelf_model.specs.declared.file_no.FileNo.{FileNo}
 use Rattle.shelf_model.specs.Folder.{Folder, Image, file_in, bytes_in, IsImage, OnlyChanges}
-use Rattle.shelf_model.specs.World.{Moment, World, now, said}
+use Rattle.shelf_model.specs.World.{Moment, World, now, said, file}
 use Rattle.shelf_model.specs.Moments.{Throughout, OnlyOldImages}
 use Rattle.bool_tables.specs.declared.steps.Step.TheVariants as step
 use Rattle.bool_tables.specs.declared.steps.Planned.{Planned}
@@ -156,7 +156,8 @@ stood_after calls world = record world { clock = calls }
 
 -- a step that sweeps found that place damaged: it began at a moment of the run at which the steps before it were
 -- committed, and that is its fault as the folder stood then
-pub record IsSweepDamage (n : ℕ) (steps : List Planned) (f : FileNo) (at : ℕ) (old new : World) : Type 0 where
+pub record IsSweepDamage (n : ℕ) (steps : List Planned) (f : FileNo) (at : ℕ) (first : Folder)
+    (old new : World) : Type 0 where
   pub step : ℕ
   pub within : step < length steps
   pub swept : IsTrue (sweeps (get_or steps step no_step).step)
@@ -165,10 +166,15 @@ pub record IsSweepDamage (n : ℕ) (steps : List Planned) (f : FileNo) (at : ℕ
   pub until : began ≤ new.clock
   pub committed : count_in (present (new.moment began).folder) ≡ step
   pub fault : IsStepFault n (get_or steps step no_step).step (stood_after began new) (sort.Damaged f at)
+  -- in the first folder it wasn't committed, and the file is as it was there where it is that of a step that was
+  pub uncommitted : count_in (present first) ≤ step
+  pub at_first : (k : ℕ) → k < count_in (present first) → f ≡ node_file k
+      → file (stood_after began new) f ≡ file_in first f
 
 -- the place was damaged: an entry in the first folder, or what a step that sweeps met
 abbrev pub IsMetDamage : ℕ → List Planned → FileNo → ℕ → Folder → World → World → Type 0
-IsMetDamage n steps f at first old new = IsEntryDamage steps f at (present first) ⊎ IsSweepDamage n steps f at old new
+IsMetDamage n steps f at first old new =
+    IsEntryDamage steps f at (present first) ⊎ IsSweepDamage n steps f at first old new
 
 -- a step that joins pieces has no part number left, and its work is great where each image was sound at first
 pub record IsSpentStep (job : Job) (first : Folder) (step : ℕ) : Type 0 where

@@ -1,6 +1,7 @@
 -- What one step of a run leaves, and what saying its lines leaves.
-use Rattle.std.specs.Prelude.{◌≡◌, ℕ, ◌+◌, ◌*◌, ◌^◌, ◌<◌, ◌≤◌, IsTrue, List, [], ◌++◌, length, take, get_or, Result, OnOk, IfOk, IfErr}
+use Rattle.std.specs.Prelude.{◌≡◌, ◌≢◌, ℕ, ◌+◌, ◌*◌, ◌^◌, ◌<◌, ◌≤◌, IsTrue, List, [], ◌++◌, length, take, get_or, Result, OnOk, IfOk, IfErr}
 use Rattle.std.specs.List.{flat_map}
+use Rattle.bool_tables.specs.declared.steps.Step.TheVariants.{Drop}
 use Rattle.bool_tables.specs.declared.steps.Planned.{Planned}
 use Rattle.bool_tables.specs.Plans.{IsWellFormed}
 use Rattle.shelf_model.specs.declared.file_no.FileNo.{FileNo}
@@ -87,6 +88,15 @@ pub record HasEntry (steps : List Planned) (step : ℕ) (e : Entry) (r : FileNo 
 abbrev pub StaysEmpty : FileNo → Folder → Folder → Type 0
 StaysEmpty f old new = (file_in old f).bytes ≡ [] → (file_in new f).bytes ≡ []
 
+-- none of the steps from that one on drops that diagram
+abbrev pub NoneDrops : List Planned → ℕ → ℕ → ℕ → Type 0
+NoneDrops steps from until k = (j : ℕ) → from ≤ j → j < until → (get_or steps j no_step).step ≢ Drop k
+
+-- the file of each earlier diagram that none of these steps drops is as it was
+abbrev pub KeepsDiagrams : List Planned → ℕ → ℕ → Folder → Folder → Type 0
+KeepsDiagrams steps from until old new = (k : ℕ) → k < from → NoneDrops steps from until k
+    → file_in new (node_file k) ≡ file_in old (node_file k)
+
 -- a step was made, committed and tidied up, or the run stopped there
 pub record TakesStep (n : ℕ) (text : List ℕ) (steps : List Planned) (step : ℕ) (result : Result Entry Finish)
     (old new : World) : Type 0 where
@@ -97,6 +107,8 @@ pub record TakesStep (n : ℕ) (text : List ℕ) (steps : List Planned) (step : 
   pub emptied : OnOk result (AreEmptied steps step (step + 1) (now new).folder)
   pub still_empty : OnOk result ((k : ℕ) → k < step
       → StaysEmpty (node_file k) (now old).folder (now new).folder)
+  -- those that it doesn't drop are as they were
+  pub keeps : OnOk result (KeepsDiagrams steps step (step + 1) (now old).folder (now new).folder)
   pub stops : IfErr result IsStop
   pub damaged : IfErr result (NamesMet n steps old new)
   pub spent : IfErr result (NamesSpent steps step)
