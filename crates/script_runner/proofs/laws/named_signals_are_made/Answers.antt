@@ -1,4 +1,4 @@
-use Rattle.std.proofs.Common.{◌≡◌, refl, subst}
+use Rattle.std.proofs.Common.{refl, subst}
 use Rattle.script_reader.specs.Reads.{Reads}
 use Rattle.script_runner.specs.Source.{Spells}
 use Rattle.script_runner.proofs.laws.named_signals_are_made.Goals as goal
