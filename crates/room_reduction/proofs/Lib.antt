@@ -1,0 +1,8 @@
+pub mod FillingLaws
+pub mod FilledLaws
+mod RowOrder
+mod Numbering
+mod Naming
+mod LevelSources
+mod LevelSteps
+mod RoomFile

@@ -1,0 +1,77 @@
+//! All levels of a diagram.
+ghost use Rattle.std.specs.Prelude.{◌≡◌, ℕ, ◌+◌, ◌*◌, ◌^◌, ◌≤◌, Bool, List, length, IsTrue, IfOk, IfErr, IfSome};
+ghost use Rattle.shelf_model.specs.World.{file};
+ghost use Rattle.shelf_model.specs.File.{firm_file};
+ghost use Rattle.shelf_model.specs.Calls.{Told};
+ghost use Rattle.shelf_model.specs.Faults.{OnlyShelf};
+ghost use Rattle.canon_file.specs.Canon.{canon_nodes, canon_bytes};
+ghost use Rattle.arc_file.specs.declared.arc.Arc.{Arc};
+ghost use Rattle.arc_diagrams.specs.Arcs.{IsComplete};
+ghost use Rattle.arc_diagrams.specs.Laws.{IsDiagramOf};
+ghost use Rattle.complemented_diagrams.specs.Changes.{Changed};
+ghost use Rattle.room_reduction.specs.Sources.{AreSources};
+ghost use Rattle.room_reduction.specs.Levels.{IsDone};
+
+use crate::level::{Done, reduce_level};
+use crate::rows::became;
+use complemented_diagrams::write_nodes;
+use rec_words::{Ptr, Rec};
+use shelf_model::{FileNo, Shelf, StreamFault};
+
+/// Makes the node file of the diagram whose sources stand in the room, and answers how many nodes it has. None is
+/// answered where they aren't those of a diagram.
+pub(crate) fn reduce_sources<S: Shelf>(
+    n: u32,
+    root: Ptr,
+    sources: &mut [Rec],
+    firsts: &[Rec],
+    rows: &mut [Rec],
+    window: &mut [Rec],
+    out: FileNo,
+    shelf: &mut S,
+) -> Result<Option<u64>, StreamFault>
+    requires variables { n ≤ 65535 }
+    requires as_many { length rows.old ≡ length sources.old }
+    requires few { length sources.old ≤ 2 ^ 17 }
+    requires window { 8 ≤ length window.old }
+    ensures made { IfOk result (λ done. IsTrue (S.tells shelf.new) → (arcs : List Arc) → (t : List Bool) →
+        length arcs ≤ 2 ^ 47 → IsDiagramOf n root arcs t → AreSources n root arcs sources.old → IfSome done (λ count.
+        (file (S.world shelf.new) out ≡ firm_file (canon_bytes n t)) × (count ≡ length (canon_nodes n t)))) }
+    ensures cause { IfErr result (λ e. e ≡ StreamFault.Shelf) }
+    ensures content { Told S.tells shelf.old shelf.new
+        (Changed (length sources.old + 6) out (S.world shelf.old) (S.world shelf.new)) }
+    ensures faults { OnlyShelf (S.faults shelf.old) (S.faults shelf.new) result }
+{
+    let Some(count) = reduce_levels(n, sources, firsts, rows) else {
+        return Ok(None);
+    };
+    let Some(word) = became(sources, firsts, 0, root.word()) else {
+        return Ok(None);
+    };
+    write_nodes(out, n, &rows[..count], word, window, shelf)?;
+    Ok(Some(count as u64))
+}
+
+// Makes the nodes of all levels, the deepest first, and answers how many there are. Each source says then what it
+// became.
+fn reduce_levels(n: u32, sources: &mut [Rec], firsts: &[Rec], rows: &mut [Rec]) -> Option<usize>
+    requires variables { n ≤ 65535 }
+    requires as_many { length rows.old ≡ length sources.old }
+    requires few { length sources.old ≤ 2 ^ 17 }
+    ensures rows_len { length rows.new ≡ length rows.old }
+    ensures within { IfSome result (λ count. count ≤ length rows.new) }
+    ensures done { IfSome result (λ count. (root : ℕ) (arcs : List Arc) → IsComplete n root arcs →
+        AreSources n root arcs sources.old → IsDone n root arcs 0 0 count sources.new rows.new) }
+{
+    let mut done = Done {
+        from: sources.len(),
+        count: 0,
+    };
+    for deeper in 0..n {
+        done = reduce_level((n - 1 - deeper) as u16, sources, firsts, rows, done)?;
+    }
+    if done.from > 0 {
+        return None;
+    }
+    Some(done.count)
+}

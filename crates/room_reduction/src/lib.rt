@@ -1,0 +1,13 @@
+//! The reduction of a diagram whose sources all stand in the room: no list is sorted but the rows of a level, and no run
+//! is written.
+#![tactic(auto)]
+
+mod filling;
+mod level;
+mod levels;
+mod numbers;
+mod reduce;
+mod rows;
+mod sources;
+
+pub use reduce::reduce_in_room;

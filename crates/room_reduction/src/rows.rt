@@ -1,0 +1,86 @@
+//! The rows of a level's sources.
+ghost use Rattle.std.specs.Prelude.{◌≡◌, ℕ, ◌+◌, ◌<◌, ◌≤◌, IsTrue, IfSome, length, map};
+ghost use Rattle.canon_file.specs.Rows.{row_before};
+ghost use Rattle.arc_diagrams.specs.Reducing.{IsRising};
+ghost use Rattle.complemented_diagrams.specs.Records.{row_in};
+ghost use Rattle.room_reduction.specs.Levels.{KeepsEnds, AreKnown, IsRowOf, AreRowsOf};
+
+use crate::sources::find;
+use rec_words::{Ptr, Rec};
+
+/// What a pointer became: a truth value stays, and the record of a source says it, where that stands at a place or
+/// behind it.
+pub(crate) fn became(sources: &[Rec], firsts: &[Rec], from: usize, word: u64) -> Option<u64>
+    ensures { IfSome result (λ w. (f : ℕ → ℕ) → KeepsEnds f → AreKnown f from sources.now → w ≡ f word) }
+{
+    match Ptr::from_word(word)?.value() {
+        Some(_value) => Some(word),
+        None => pointer_of(sources, firsts, from, word),
+    }
+}
+
+// What the record of a source says.
+fn pointer_of(sources: &[Rec], firsts: &[Rec], from: usize, source: u64) -> Option<u64>
+    ensures { IfSome result (λ w. (f : ℕ → ℕ) → AreKnown f from sources.now → w ≡ f source) }
+{
+    let place = find(sources, firsts, source)?;
+    if place < from {
+        return None;
+    }
+    Some(sources[place].w[3])
+}
+
+/// Puts the row of each source between two places into the rows, where those behind them say what they became.
+pub(crate) fn collect_rows(
+    sources: &[Rec],
+    firsts: &[Rec],
+    from: usize,
+    end: usize,
+    rows: &mut [Rec],
+) -> bool
+    requires as_many { from + length rows.old ≡ end }
+    requires within { end ≤ length sources.now }
+    ensures len { length rows.new ≡ length rows.old }
+    ensures rows { IsTrue result → (f : ℕ → ℕ) → KeepsEnds f → AreKnown f end sources.now →
+        AreRowsOf f from sources.now rows.new }
+{
+    for place in 0..rows.len() {
+        let Some(row) = row_at(sources, firsts, from + place, end) else {
+            return false;
+        };
+        rows[place] = row;
+    }
+    true
+}
+
+// The row of the source at a place.
+fn row_at(sources: &[Rec], firsts: &[Rec], place: usize, end: usize) -> Option<Rec>
+    requires within { place < length sources.now }
+    ensures { IfSome result (λ r. (f : ℕ → ℕ) → KeepsEnds f → AreKnown f end sources.now →
+        IsRowOf f place sources.now r) }
+{
+    let low = became(sources, firsts, end, sources[place].w[1])?;
+    let high = became(sources, firsts, end, sources[place].w[2])?;
+    Some(Rec {
+        w: [low, high, place as u64, 0, 0, 0, 0, 0],
+    })
+}
+
+/// Whether no row is before the one in front of it.
+pub(crate) fn are_rising(rows: &[Rec]) -> bool
+    ensures { IsTrue result → IsRising (map row_in rows.now) }
+{
+    for place in 1..rows.len() {
+        if is_before(&rows[place], &rows[place - 1]) {
+            return false;
+        }
+    }
+    true
+}
+
+// Whether a row is before another one.
+fn is_before(row: &Rec, other: &Rec) -> bool
+    ensures { result ≡ row_before (row_in row.now) (row_in other.now) }
+{
+    row.w[0] < other.w[0] || (row.w[0] == other.w[0] && row.w[1] < other.w[1])
+}
