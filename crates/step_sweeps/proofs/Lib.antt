@@ -9,3 +9,4 @@ mod Reducing
 mod Making
 mod Numbers
 mod Copying
+mod FewArcs

@@ -46,9 +46,13 @@ pub record HasArcFiles (number : ℕ) (arcs : Unreduced) : Type 0 where
   pub inner_few : arcs.inner_count ≤ 2 ^ 46
   pub ends_few : arcs.ends_count ≤ 2 ^ 46
 
+-- how many they are
+abbrev pub arc_count : Unreduced → ℕ
+arc_count arcs = arcs.inner_count + arcs.ends_count
+
 -- they have so many sources, two arcs each
 abbrev pub HasSources : Unreduced → ℕ → Type 0
-HasSources arcs sources = arcs.inner_count + arcs.ends_count ≡ 2 * sources
+HasSources arcs sources = arc_count arcs ≡ 2 * sources
 
 -- the arcs are those of a diagram of the table, with no more sources than the tuples that are joined; and so many
 -- turns were made at most

@@ -6,6 +6,7 @@ mod answers;
 mod arcs;
 mod diagram;
 mod implication;
+mod in_room;
 mod laws;
 mod operation;
 mod reduction;

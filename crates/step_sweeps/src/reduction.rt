@@ -1,4 +1,4 @@
-//! The second sweep of a step that makes a diagram: from its arcs to its node file.
+//! The second half of a step that makes a diagram: from its arcs to its node file.
 ghost use Rattle.std.specs.Prelude.{◌≡◌, ℕ, ◌+◌, ◌-◌, ◌*◌, ◌^◌, ◌<◌, ◌≤◌, Bool, IsTrue, IsErrOf, List, IfOk, IfErr, length};
 ghost use Rattle.shelf_model.specs.World.{now};
 ghost use Rattle.shelf_model.specs.Calls.{Told};
@@ -11,6 +11,7 @@ ghost use Rattle.step_sweeps.specs.Made.{HasArcFiles, HasSources, OnlyStepFiles,
 
 use crate::MadeDiagram;
 use crate::arcs::MadeArcs;
+use crate::in_room::{after_an_attempt, reduce_few};
 use arc_diagrams::laws::reducing_gives_the_canonical_form;
 use rec_words::Rec;
 use reduce_sweep::ReduceSweep;
@@ -18,11 +19,66 @@ use shelf_model::{FileNo, Shelf, SortFault};
 use sweep_core::run_to_end;
 
 /// How many part numbers a step has.
-const PARTS: u64 = 1 << 32;
+pub(crate) const PARTS: u64 = 1 << 32;
 
-/// Reduces the arcs of a diagram of `n` variables to the step's node file. The turns that are answered are those of
-/// the reduction alone.
+/// The most arcs that are reduced in the room. Their sources are half as many, which is fewer than the turns of a
+/// checkpoint's interval.
+const FEW_ARCS: u64 = (1 << 17) - 2;
+
+/// Reduces the arcs of a diagram of `n` variables to the step's node file: in the room where they are few and it holds
+/// what that takes, and else by a sweep. The turns that are answered are those of the reduction alone, with those of
+/// an attempt in the room.
 pub(crate) fn reduce_arcs<S: Shelf>(
+    n: u32,
+    made: MadeArcs,
+    number: u32,
+    room: &mut [Rec],
+    shelf: &mut S,
+) -> Result<MadeDiagram, SortFault>
+    requires variables { n ≤ 65535 }
+    requires room { 16384 ≤ length room.old }
+    requires files { HasArcFiles number made.arcs }
+    requires parts { (made.parts.step ≡ number) × (5 ≤ made.parts.next) }
+    ensures next { IfOk result (λ m. (5 ≤ m.next) × (m.next ≤ 2 ^ 32)) }
+
+    // of the arcs of a table's diagram
+    ensures reduced { IfOk result (λ m. IsTrue (S.tells shelf.new) → (table : List Bool) →
+        AreArcFiles n table made.arcs (S.world shelf.old) → IsReduced n number table m (S.world shelf.new)) }
+    ensures few { IfOk result (λ m. IsTrue (S.tells shelf.new) → (table : List Bool) (sources : ℕ) →
+        AreArcFiles n table made.arcs (S.world shelf.old) → HasSources made.arcs sources →
+        m.turns ≤ 10 * sources + 9) }
+    ensures spent { IsErrOf result SortFault.RunsSpent → IsTrue (S.tells shelf.new) → (table : List Bool)
+        (sources : ℕ) → AreArcFiles n table made.arcs (S.world shelf.old) → HasSources made.arcs sources →
+        256 * (2 ^ 32 - made.parts.next) ≤ 12 * (10 * sources + 9) }
+    ensures few_calls { IsTrue (S.tells shelf.new) → (table : List Bool) (sources : ℕ) →
+        AreArcFiles n table made.arcs (S.world shelf.old) → HasSources made.arcs sources →
+        (S.world shelf.new).clock ≤ (S.world shelf.old).clock + (224 * (10 * sources + 9) + 3) }
+
+    // of arcs in the order of their files
+    ensures undamaged { IfErr result (λ e. IsTrue (S.tells shelf.new) →
+        AreOrdered made.arcs (S.world shelf.old) → IsNoDamage e) }
+
+    // whatever the files hold
+    ensures content { Told S.tells shelf.old shelf.new
+        (Ran (OnlyStepFiles number (now (S.world shelf.old))) (S.world shelf.old) (S.world shelf.new)) }
+    ensures counted { IfOk result (λ m. (0 < m.turns) × (m.turns < 2 ^ 64 - 1 →
+        Spends S.tells S.world m.turns 3 made.parts.next m.next shelf.old shelf.new)) }
+    ensures faults { OnlySortShelf (S.faults shelf.old) (S.faults shelf.new) result }
+{
+    let arcs = made.arcs.inner_count + made.arcs.ends_count;
+    if arcs == 0 || arcs > FEW_ARCS {
+        return sweep_arcs(n, made, number, room, shelf);
+    }
+    let tried = reduce_few(n, &made, number, room, shelf)?;
+    if let Some(reduced) = tried {
+        return Ok(reduced);
+    }
+    let swept = sweep_arcs(n, made, number, room, shelf)?;
+    Ok(after_an_attempt(swept, arcs))
+}
+
+/// Reduces them by a sweep.
+fn sweep_arcs<S: Shelf>(
     n: u32,
     made: MadeArcs,
     number: u32,

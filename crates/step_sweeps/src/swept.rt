@@ -1,4 +1,4 @@
-//! A step that makes a diagram of others by two sweeps.
+//! A step that makes a diagram of others by a sweep, and a reduction of the arcs that it makes.
 ghost use Rattle.std.specs.Prelude.{◌≡◌, ◌+◌, ◌-◌, ◌*◌, ◌^◌, ◌<◌, ◌≤◌, IsTrue, IsErrOf, IfOk, IfErr, length};
 ghost use Rattle.shelf_model.specs.World.{now};
 ghost use Rattle.shelf_model.specs.Calls.{Told};
