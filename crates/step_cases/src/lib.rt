@@ -16,6 +16,8 @@ mod foreign;
 #[cfg(test)]
 mod random;
 #[cfg(test)]
+mod reductions;
+#[cfg(test)]
 mod steps;
 #[cfg(test)]
 mod tables;

@@ -1,0 +1,81 @@
+//! Diagrams whose arcs are reduced in the room, where it holds what that takes.
+use crate::random::Random;
+use crate::steps::{EMPTY, LARGE_ROOM, LEAST_ROOM, NUMBER, TWO, bench_of, is_made};
+use crate::tables::{operator, product_of};
+use shelf_memory::Bench;
+use shelf_model::FileNo;
+use std::test::Fail;
+use step_sweeps::{StepOperation, make_diagram};
+
+/// So many variables that the least room doesn't hold two records for each source.
+const MANY: u32 = 16;
+
+/// The exclusive or.
+const DIFFER: u32 = 0b0110;
+
+const INNER: FileNo = FileNo {
+    step: NUMBER,
+    part: 3,
+};
+
+const ENDS: FileNo = FileNo {
+    step: NUMBER,
+    part: 4,
+};
+
+// How many sources have the arcs that a step left: each has two, of 16 bytes.
+fn source_count(bench: &Bench) -> u64 {
+    let inner = bench.file(INNER).len() as u64 / 16;
+    let ends = bench.file(ENDS).len() as u64 / 16;
+    inner.wrapping_add(ends) / 2
+}
+
+// At the least room a sweep reduces the arcs, which are two for each source, with more than a turn for each. More room
+// reduces them with a turn for each source and one. Both make the right file, and the arcs take the same turns.
+fn reduces_with_more_room(rt: HostRuntime) -> Result<bool, Fail> {
+    let alloc = rt.alloc();
+    let (first, second, third) = Random::triple(alloc, MANY, 0)?;
+    let wanted = product_of(alloc, DIFFER, first.as_slice(), second.as_slice())?;
+    let wanted = wanted.as_slice();
+    let tables = [first.as_slice(), second.as_slice(), third.as_slice()];
+    let mut bench = bench_of(alloc, MANY, tables)?;
+    let mut least = vec![in alloc; EMPTY; LEAST_ROOM]?;
+    let operation = StepOperation::Operator(operator(DIFFER));
+    let Ok(swept) = make_diagram(
+        operation,
+        MANY,
+        TWO,
+        NUMBER,
+        least.as_mut_slice(),
+        &mut bench,
+    ) else {
+        return Ok(false);
+    };
+    if !is_made(alloc, MANY, swept, wanted, &bench)? {
+        return Ok(false);
+    }
+    let mut large = vec![in alloc; EMPTY; LARGE_ROOM]?;
+    let Ok(made) = make_diagram(
+        operation,
+        MANY,
+        TWO,
+        NUMBER,
+        large.as_mut_slice(),
+        &mut bench,
+    ) else {
+        return Ok(false);
+    };
+    let sources = source_count(&bench);
+    Ok(
+        sources > 0
+            && made.turns.wrapping_add(sources) < swept.turns
+            && is_made(alloc, MANY, made, wanted, &bench)?,
+    )
+}
+
+#[test]
+fn arcs_are_reduced_in_a_room_that_holds_their_sources(rt: HostRuntime) -> Result<(), Fail> {
+    let reduces = reduces_with_more_room(rt)?;
+    assert!(rt; reduces);
+    Ok(())
+}
