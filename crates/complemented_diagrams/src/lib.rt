@@ -10,4 +10,5 @@ mod rows;
 mod writing;
 
 pub use file::complement_file;
+pub use reading::read_nodes;
 pub use writing::write_nodes;

@@ -14,11 +14,7 @@ use shelf_model::{Failed, FileNo, Shelf};
 const PIECE_NODES: usize = 85;
 
 /// Reads the first records of a file, one for each place, and answers whether there are as many.
-pub(crate) fn read_nodes<S: Shelf>(
-    f: FileNo,
-    nodes: &mut [Rec],
-    shelf: &mut S,
-) -> Result<bool, Failed>
+pub fn read_nodes<S: Shelf>(f: FileNo, nodes: &mut [Rec], shelf: &mut S) -> Result<bool, Failed>
     requires few { length nodes.old < 65536 }
     ensures len { length nodes.new ≡ length nodes.old }
     ensures read { IfOk result (λ whole. IsTrue whole → IsTrue (S.tells shelf.new) →

@@ -1,5 +1,5 @@
 //! All levels of a diagram.
-ghost use Rattle.std.specs.Prelude.{◌≡◌, ℕ, ◌+◌, ◌*◌, ◌^◌, ◌≤◌, Bool, List, length, IsTrue, IfOk, IfErr, IfSome};
+ghost use Rattle.std.specs.Prelude.{◌≡◌, ℕ, ◌+◌, ◌*◌, ◌^◌, ◌≤◌, Bool, List, length, IsTrue, IfOk, IfErr, IfSome, IfNone};
 ghost use Rattle.shelf_model.specs.World.{file};
 ghost use Rattle.shelf_model.specs.File.{firm_file};
 ghost use Rattle.shelf_model.specs.Calls.{Told};
@@ -19,8 +19,9 @@ use rec_words::{Ptr, Rec};
 use shelf_model::{FileNo, Shelf, StreamFault};
 
 /// Makes the node file of the diagram whose sources stand in the room, and answers how many nodes it has. None is
-/// answered where they aren't those of a diagram.
-pub(crate) fn reduce_sources<S: Shelf>(
+/// answered, and no file is changed, where they aren't those of a diagram. Of each level the first record's word 0 says
+/// where its sources begin.
+pub fn reduce_sources<S: Shelf>(
     n: u32,
     root: Ptr,
     sources: &mut [Rec],
@@ -37,6 +38,7 @@ pub(crate) fn reduce_sources<S: Shelf>(
     ensures made { IfOk result (λ done. IsTrue (S.tells shelf.new) → (arcs : List Arc) → (t : List Bool) →
         length arcs ≤ 2 ^ 47 → IsDiagramOf n root arcs t → AreSources n root arcs sources.old → IfSome done (λ count.
         (file (S.world shelf.new) out ≡ firm_file (canon_bytes n t)) × (count ≡ length (canon_nodes n t)))) }
+    ensures not_made { IfOk result (λ done. IfNone done (shelf.new ≡ shelf.old)) }
     ensures cause { IfErr result (λ e. e ≡ StreamFault.Shelf) }
     ensures content { Told S.tells shelf.old shelf.new
         (Changed (length sources.old + 6) out (S.world shelf.old) (S.world shelf.new)) }

@@ -10,4 +10,6 @@ mod reduce;
 mod rows;
 mod sources;
 
+pub use levels::reduce_sources;
 pub use reduce::reduce_in_room;
+pub use sources::find;

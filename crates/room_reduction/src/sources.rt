@@ -7,7 +7,7 @@ use rec_words::{LEVEL_NUMBERS, Rec};
 
 /// The place of the record of a source, where it is found: its level begins at a place that is kept, if that is right,
 /// and it has its number among those of the level.
-pub(crate) fn find(sources: &[Rec], firsts: &[Rec], source: u64) -> Option<usize>
+pub fn find(sources: &[Rec], firsts: &[Rec], source: u64) -> Option<usize>
     ensures { IfSome result (λ k. (k < length sources.now) × (word 0 (record_at sources.now k) ≡ source)) }
 {
     let level = (source / LEVEL_NUMBERS) as usize;
