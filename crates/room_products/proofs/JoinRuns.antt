@@ -1,0 +1,49 @@
+-- The calls that join two diagrams: looks, and the making of one file.
+use Rattle.std.proofs.Common.{◌≡◌, ℕ, ◌+◌, ◌≤◌, Bool, ap, arith}
+use Rattle.std.specs.Prelude.{Result, Ok, Err, IfOk}
+use Rattle.shelf_model.specs.declared.file_no.FileNo.{FileNo}
+use Rattle.shelf_model.specs.declared.fault.StreamFault.{StreamFault}
+use Rattle.shelf_model.specs.Calls.{Told}
+use Rattle.shelf_model.specs.Folder.{Folder, file_in}
+use Rattle.shelf_model.specs.Moments.{Stays, OnlyChanged}
+use Rattle.shelf_model.specs.World.{World, now}
+use Rattle.shelf_model.proofs.Changing.{changed_then}
+use Rattle.shelf_model.proofs.Runs.{told, told_then, ran_weakens}
+use Rattle.block_stream.specs.Reads.{Looked}
+use Rattle.complemented_diagrams.specs.Changes.{Changed}
+
+-- what follows from an answer
+pub if_ok : {T : Type 0} (r : Result T StreamFault) (P Q : T → Type 0) → ((x : T) → P x → Q x) → IfOk r P → IfOk r Q
+if_ok (Err e) P Q follows holds = tt
+if_ok (Ok x) P Q follows holds = follows x holds
+
+-- a look changes no file
+looked_changes : (m n : ℕ) (f : FileNo) (old new : World) → m ≤ n → Looked m old new → Changed n f old new
+looked_changes m n f old new within looked = record {
+  run = ran_weakens old new (Stays (now old)) (OnlyChanged (λ q. q ≡ f) (now old))
+      (λ moment same q apart. ap (λ (folder : Folder). file_in folder q) same) looked.run;
+  few = let few = looked.few in omega (arith, few, within);
+}
+
+-- one change after another
+changed_after : (m n k : ℕ) (f : FileNo) (old mid new : World) → m + n ≤ k → Changed m f old mid → Changed n f mid new
+    → Changed k f old new
+changed_after m n k f old mid new within first second = record {
+  run = changed_then (λ q. q ≡ f) (λ q. q ≡ f) old mid new (λ q is. is) first.run second.run;
+  few = let one = first.few in let two = second.few in omega (arith, one, two, within);
+}
+
+module _ {S : Type 0} (tells : S → Bool) (world : S → World) (f : FileNo) where
+  -- the same of stations that tell
+  pub told_looked : (m n : ℕ) (old new : S) → m ≤ n → Told tells old new (Looked m (world old) (world new))
+      → Told tells old new (Changed n f (world old) (world new))
+  told_looked m n old new within did =
+      told tells old new _ _ did (λ _ looked. looked_changes m n f (world old) (world new) within looked)
+
+  -- a change after a look
+  pub told_after : (m n k : ℕ) (old mid new : S) → m + n ≤ k → Told tells old mid (Looked m (world old) (world mid))
+      → Told tells mid new (Changed n f (world mid) (world new))
+      → Told tells old new (Changed k f (world old) (world new))
+  told_after m n k old mid new within first second = told_then tells old mid new _ _ _ first second
+      (λ _ looked changed. changed_after m n k f (world old) (world mid) (world new) within
+      (looked_changes m m f (world old) (world mid) (omega arith) looked) changed)

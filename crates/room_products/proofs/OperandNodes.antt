@@ -1,0 +1,79 @@
+-- The nodes of a canonical file, as they are read.
+use Rattle.std.proofs.Common.{◌≡◌, ◌∙◌, ℕ, ◌<◌, Bool, true, false, List, [], ◌∷◌, ◌++◌, length, refl, sym, ap, subst, inl, inr, arith}
+use Rattle.std.specs.Prelude.{◌==◌}
+use Rattle.std.proofs.lemmas.Bool.Decides.{nat_tests}
+use Rattle.std.specs.Int.{w64, to_be_bytes}
+use Rattle.rec_words.specs.Records.{node_words, IsNode}
+use Rattle.rec_words.specs.RecordLaws.{node_fits}
+use Rattle.rec_words.specs.declared.rec.Rec.{Rec}
+use Rattle.rec_words.specs.declared.node.Node.{Node}
+use Rattle.list_laws.specs.Members.{Has}
+use Rattle.list_laws.proofs.MemberLaws.{map_has}
+use Rattle.shelf_model.specs.declared.file_no.FileNo.{FileNo}
+use Rattle.shelf_model.specs.World.{World, file}
+use Rattle.block_stream.specs.Items.{item_record}
+use Rattle.block_stream.specs.Records.{records_of, records_bytes}
+use Rattle.block_stream.proofs.ItemLaws.{record_back}
+use Rattle.canon_file.specs.declared.row.Row.{Row}
+use Rattle.canon_file.specs.Canon.{canon_nodes, canon_root, node_bytes, trailer_bytes}
+use Rattle.canon_file.specs.NodeFiles.{IsDescending, IsNodeFile}
+use Rattle.canon_file.specs.Laws.{HasForm}
+use Rattle.canon_file.specs.Walks.{row_at}
+use Rattle.canon_file.proofs.CanonLaws.{canon_bytes-is}
+use Rattle.canon_file.proofs.FileLaws.{is_node_file}
+use Rattle.complemented_diagrams.specs.Records.{node_records}
+use Rattle.copied_diagrams.specs.Pairs.{IsFileOf}
+use Rattle.top_down.specs.Tuples.{canon_targets}
+use Rattle.room_reduction.specs.Sources.{word}
+use Rattle.room_products.specs.Goals.{GivesRows}
+
+-- the bytes of the records of nodes are those of the nodes
+bytes_of_nodes : (xs : List Node) → records_bytes 3 (node_records xs) ≡ node_bytes xs
+bytes_of_nodes [] = refl
+bytes_of_nodes (x ∷ xs) =
+    ap (λ bytes. to_be_bytes w64 x.uid ++ (to_be_bytes w64 x.low ++ (to_be_bytes w64 x.high ++ bytes)))
+    (bytes_of_nodes xs)
+
+-- so the records are read back
+nodes_back : (xs : List Node) (rest : List ℕ) → ((x : Node) → Has x xs → IsNode x)
+    → records_of 3 (length xs) (records_bytes 3 (node_records xs) ++ rest) ≡ node_records xs
+nodes_back [] rest nodes = refl
+nodes_back (x ∷ xs) rest nodes =
+    let first = record_back 3 (node_words x) (records_bytes 3 (node_records xs) ++ rest) (omega arith)
+    (node_fits x (nodes x (inl refl))) refl in
+    let later = nodes_back xs rest (λ y has. nodes y (inr has)) in
+    λ i. first i ∷ later i
+
+-- a node's pointers are found by its identifier
+row_at-node : (nodes : List Node) → IsDescending nodes → (x : Node) → Has x nodes
+    → row_at nodes x.uid ≡ record { low = x.low; high = x.high }
+row_at-node [] down x has = absurd has
+row_at-node (y ∷ ys) down x (inl is) =
+    let same : (y.uid == x.uid) ≡ true = let uid = ap (λ (z : Node). z.uid) is in grind (arith, nat_tests) in
+    rw same (ap (λ (z : Node). let r : Row = record { low = z.low; high = z.high } in r) is)
+row_at-node (y ∷ ys) down x (inr has) =
+    let below : x.uid < y.uid = down.0 x has in
+    let other : (y.uid == x.uid) ≡ false = grind (arith, nat_tests) in
+    rw other (row_at-node ys down.1 x has)
+
+-- the records of the canonical nodes give their rows
+records_give : (n : ℕ) (t : List Bool) → IsNodeFile n t → GivesRows (canon_targets n t) (node_records (canon_nodes n t))
+records_give n t rules r has =
+    let (x, member, is) = map_has (item_record node_words) r (canon_nodes n t) has in
+    subst (λ (v : Rec). canon_targets n t (word 0 v) ≡ record { low = word 1 v; high = word 2 v }) is
+    (row_at-node (canon_nodes n t) rules.descend x member)
+
+-- and so do those that are read from a canonical file
+pub read_gives : (n : ℕ) (t : List Bool) (f : FileNo) (world : World) (count : ℕ) (nodes : List Rec)
+    → IsFileOf n t f world → count ≡ length (canon_nodes n t) → nodes ≡ records_of 3 count (file world f).bytes
+    → GivesRows (canon_targets n t) nodes
+read_gives n t f world count nodes is_file many read =
+    let form : HasForm n t = is_file.form in
+    let rules : IsNodeFile n t = is_node_file n t form.few form.whole form.fits in
+    let xs : List Node = canon_nodes n t in
+    let trailer : List ℕ = trailer_bytes (canon_root n t) (length xs) n in
+    let bytes : (file world f).bytes ≡ records_bytes 3 (node_records xs) ++ trailer =
+    is_file.bytes_are ∙ canon_bytes-is n t ∙ ap (λ front. front ++ trailer) (sym (bytes_of_nodes xs)) in
+    let is : nodes ≡ node_records xs = read ∙ (λ j. records_of 3 (many j) (bytes j))
+    ∙ nodes_back xs trailer (λ x has. (rules.proper x has).words) in
+    subst (GivesRows (canon_targets n t)) (sym is) (records_give n t rules)

@@ -1,0 +1,35 @@
+use Rattle.std.proofs.Common.{rules, arith, refl, ◌∙◌, []}
+use Rattle.top_down.specs.Operations.{product_rule}
+use Rattle.room_products.proofs.MarkedLevels.{joining_marked}
+use Rattle.room_products.proofs.levels.join_level.Goals as goal
+
+pub loop-source-init : goal.loop-source-init
+loop-source-init c = record {
+  slots_long = refl;
+  firsts_long = search rules;
+  buckets_long = refl;
+  sources_long = refl;
+  within = c.requires.within;
+  done_within = c.requires.done;
+  joined = λ n root roots targets top rule rows joining.
+      joining_marked c.args.firsts.now c.args.level c.args.begun.done c.requires.level n root roots
+      (product_rule c.args.op) targets [] c.args.slots.now c.args.begun.count c.args.sources.now c.args.begun.done
+      joining;
+}
+
+pub loop-source-preserved : goal.loop-source-preserved
+loop-source-preserved c =
+    let so_far = c.loop-source.invariant in
+    let turn = c.in_ok-count.ensures in
+    let one_more = turn.done in
+    record {
+      slots_long = turn.slots_len ∙ so_far.slots_long;
+      firsts_long = turn.firsts_len ∙ so_far.firsts_long;
+      buckets_long = turn.buckets_len ∙ so_far.buckets_long;
+      sources_long = turn.sources_len ∙ so_far.sources_long;
+      within = turn.within;
+      done_within = omega (arith, one_more);
+      joined = λ n root roots targets top rule rows joining.
+          turn.joined n root roots targets top rule rows
+          (so_far.joined n root roots targets top rule rows joining);
+    }

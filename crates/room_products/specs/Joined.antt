@@ -1,0 +1,38 @@
+-- What is made of two diagrams in the room.
+use Rattle.std.specs.Prelude.{◌≡◌, ℕ, Bool, List, length, map}
+use Rattle.rec_words.specs.declared.node.Node.{Node}
+use Rattle.rec_words.specs.declared.rec.Rec.{Rec}
+use Rattle.shelf_model.specs.declared.file_no.FileNo.{FileNo}
+use Rattle.shelf_model.specs.File.{firm_file}
+use Rattle.shelf_model.specs.World.{World, file}
+use Rattle.canon_file.specs.Canon.{canon_nodes, canon_bytes}
+use Rattle.canon_file.specs.Laws.{HasForm}
+use Rattle.arc_file.specs.declared.arc.Arc.{Arc}
+use Rattle.arc_diagrams.specs.Arcs.{arcs_of}
+use Rattle.arc_diagrams.specs.Laws.{IsDiagramOf}
+use Rattle.copied_diagrams.specs.declared.source.Source.{Source}
+use Rattle.copied_diagrams.specs.Pairs.{IsFileOf, IsTrailerOf}
+use Rattle.room_reduction.specs.Sources.{word, AreSources}
+
+-- the node of a source's record, and the arcs of such records
+abbrev pub node_of : Rec → Node
+node_of r = record { uid = word 0 r; low = word 1 r; high = word 2 r }
+
+abbrev pub arcs_in : List Rec → List Arc
+arcs_in sources = arcs_of (map node_of sources)
+
+-- the records are the sources of a diagram of the table, with that root
+pub record AreOfTable (n root : ℕ) (table : List Bool) (sources : List Rec) : Type 0 where
+  pub sources_are : AreSources n root (arcs_in sources) sources
+  pub diagram : IsDiagramOf n root (arcs_in sources) table
+
+-- the file is the canonical one of a table, and the trailer is its diagram's
+pub record IsOperandOf (n : ℕ) (t : List Bool) (source : Source) (world : World) : Type 0 where
+  pub file_of : IsFileOf n t source.from world
+  pub trailer_of : IsTrailerOf n t source.trailer
+
+-- the table has a form, and the file is its canonical one, whatever a stop leaves; the nodes are counted
+pub record IsJoined (n : ℕ) (t : List Bool) (f : FileNo) (nodes : ℕ) (world : World) : Type 0 where
+  pub form : HasForm n t
+  pub file_is : file world f ≡ firm_file (canon_bytes n t)
+  pub nodes_are : nodes ≡ length (canon_nodes n t)

@@ -1,0 +1,4 @@
+pub mod Goals
+pub mod Slots
+pub mod Joining
+pub mod Joined

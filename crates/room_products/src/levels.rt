@@ -1,0 +1,99 @@
+//! All pairs, level by level.
+ghost use Rattle.std.specs.Prelude.{◌≡◌, ℕ, ◌+◌, ◌<◌, ◌≤◌, IfSome, [], length};
+ghost use Rattle.top_down.specs.declared.tuple.Tuple.{Tuple};
+ghost use Rattle.top_down.specs.Operations.{product_rule};
+ghost use Rattle.top_down.specs.Tuples.{Targets};
+ghost use Rattle.top_down.specs.Rules.{IsRule};
+ghost use Rattle.room_products.specs.Goals.{GiveRows};
+ghost use Rattle.room_products.specs.Joining.{IsJoining};
+
+use crate::sources::join_slot;
+use bool_tables::Bin;
+use rec_words::Rec;
+
+/// How many slots are used, and how many sources are done.
+#[derive(Clone, Copy)]
+pub(crate) struct Progress {
+    pub(crate) count: usize,
+    pub(crate) done: usize,
+}
+
+/// Answers the pairs of the slots, from the first level down, each with its source.
+pub(crate) fn join_levels(
+    op: Bin,
+    left: &[Rec],
+    right: &[Rec],
+    firsts: &mut [Rec],
+    buckets: &mut [Rec],
+    slots: &mut [Rec],
+    sources: &mut [Rec],
+    begun: Progress,
+) -> Option<Progress>
+    requires within { begun.count ≤ length slots.old }
+    requires done { begun.done ≤ length sources.old }
+    ensures slots_len { length slots.new ≡ length slots.old }
+    ensures firsts_len { length firsts.new ≡ length firsts.old }
+    ensures sources_len { length sources.new ≡ length sources.old }
+    ensures within { IfSome result (λ p. p.count ≤ length slots.new) }
+    ensures done { IfSome result (λ p. p.done ≤ length sources.new) }
+    ensures joined { IfSome result (λ p. (n root : ℕ) (roots : Tuple) (targets : Targets) → n ≤ 65535 →
+        IsRule n (product_rule op) targets → GiveRows targets left.now right.now →
+        IsJoining n root roots (product_rule op) targets [] slots.old firsts.old begun.count sources.old begun.done →
+        IsJoining n root roots (product_rule op) targets [] slots.new firsts.new p.count sources.new p.done) }
+{
+    let mut now = begun;
+    for level in 0..firsts.len() {
+        now = join_level(op, level, left, right, firsts, buckets, slots, sources, now)?;
+    }
+    Some(now)
+}
+
+// Answers the pairs that wait on a level.
+fn join_level(
+    op: Bin,
+    level: usize,
+    left: &[Rec],
+    right: &[Rec],
+    firsts: &mut [Rec],
+    buckets: &mut [Rec],
+    slots: &mut [Rec],
+    sources: &mut [Rec],
+    begun: Progress,
+) -> Option<Progress>
+    requires level { level < length firsts.old }
+    requires within { begun.count ≤ length slots.old }
+    requires done { begun.done ≤ length sources.old }
+    ensures slots_len { length slots.new ≡ length slots.old }
+    ensures firsts_len { length firsts.new ≡ length firsts.old }
+    ensures buckets_len { length buckets.new ≡ length buckets.old }
+    ensures sources_len { length sources.new ≡ length sources.old }
+    ensures within { IfSome result (λ p. p.count ≤ length slots.new) }
+    ensures done { IfSome result (λ p. p.done ≤ length sources.new) }
+    ensures joined { IfSome result (λ p. (n root : ℕ) (roots : Tuple) (targets : Targets) → n ≤ 65535 →
+        IsRule n (product_rule op) targets → GiveRows targets left.now right.now →
+        IsJoining n root roots (product_rule op) targets [] slots.old firsts.old begun.count sources.old begun.done →
+        IsJoining n root roots (product_rule op) targets [] slots.new firsts.new p.count sources.new p.done) }
+{
+    let mut now = begun;
+    let mut next = firsts[level].w[1];
+    firsts[level].w[0] = begun.done as u64;
+    for _source in begun.done..sources.len() {
+        if next == 0 {
+            return Some(now);
+        }
+        let place = next - 1;
+        if place >= now.count as u64 {
+            return None;
+        }
+        let place = place as usize;
+        let count = join_slot(
+            op, place, left, right, firsts, buckets, slots, now.count, sources, now.done,
+        )?;
+        now = Progress {
+            count,
+            done: now.done + 1,
+        };
+        next = slots[place].w[3];
+    }
+    if next == 0 { Some(now) } else { None }
+}

@@ -1,0 +1,155 @@
+//! The slots of the room: pairs of pointers that are to be answered.
+ghost use Rattle.std.specs.Prelude.{◌≡◌, ◌≢◌, ℕ, ◌+◌, ◌*◌, ◌<◌, ◌≤◌, ◌^◌, IfSome, length};
+ghost use Rattle.rec_words.specs.Words.{level_of, node_word};
+ghost use Rattle.run_files.specs.Items.{record_at};
+ghost use Rattle.top_down.specs.Operations.{two};
+ghost use Rattle.top_down.specs.Tuples.{level_of_tuple};
+ghost use Rattle.top_down.specs.Rules.{Rule, IsAsked};
+ghost use Rattle.room_products.specs.Slots.{pair_at, id_at, used_at, AreSlots, KeepsSlots};
+
+use rec_words::{LEVEL_NUMBERS, Rec};
+
+/// How many buckets are looked at for a pair, one behind the other.
+const PROBES: usize = 16;
+
+/// How many identifiers of a level are used at most.
+const MOST: u64 = 1 << 17;
+
+/// Where a pair is looked for: the place of its slot, where it has one, and the bucket that a new one gets.
+#[derive(Clone, Copy)]
+pub(crate) struct Looked {
+    pub(crate) slot: Option<usize>,
+    pub(crate) bucket: usize,
+}
+
+/// Looks for the slot of a pair. One that has no free bucket near may be missed.
+pub(crate) fn look_up(
+    first: u64,
+    second: u64,
+    slots: &[Rec],
+    count: usize,
+    buckets: &[Rec],
+) -> Looked
+    ensures { IfSome result.slot (λ k. (k < count) × (pair_at slots.now k ≡ two first second)) }
+{
+    let many = 8 * buckets.len();
+    let home = home_of(first, second, many as u64) as usize;
+    for probe in 0..PROBES {
+        let next = home.saturating_add(probe);
+        let bucket = if next < many { next } else { probe };
+        let Some(place) = held_in(bucket, slots, count, buckets) else {
+            return Looked { slot: None, bucket };
+        };
+        if slots[place].w[0] == first && slots[place].w[1] == second {
+            return Looked {
+                slot: Some(place),
+                bucket,
+            };
+        }
+    }
+    Looked {
+        slot: None,
+        bucket: home,
+    }
+}
+
+// The bucket at which a pair is looked for first, of so many.
+fn home_of(first: u64, second: u64, many: u64) -> u64 {
+    let mixed = first
+        .wrapping_mul(0x9E37_79B9_7F4A_7C15)
+        .wrapping_add(second.wrapping_mul(0xC2B2_AE3D_27D4_EB4F));
+    let folded = (mixed ^ (mixed >> 29)).wrapping_mul(0xBF58_476D_1CE4_E5B9) >> 32;
+    (folded * (many & 0xFFFF_FFFF)) >> 32
+}
+
+// The place of the slot that a bucket holds: one that is used, and says itself that it is there.
+fn held_in(bucket: usize, slots: &[Rec], count: usize, buckets: &[Rec]) -> Option<usize>
+    ensures { IfSome result (λ k. (k < count) × (k < length slots.now)) }
+{
+    if bucket / 8 >= buckets.len() {
+        return None;
+    }
+    let place = buckets[bucket / 8].w[bucket % 8];
+    if place >= count as u64 || place >= slots.len() as u64 {
+        return None;
+    }
+    let place = place as usize;
+    if slots[place].w[4] != bucket as u64 {
+        return None;
+    }
+    Some(place)
+}
+
+/// Puts a pair into a new slot, behind those that wait on its level, and gives it the next identifier there.
+pub(crate) fn add_slot(
+    first: u64,
+    second: u64,
+    bucket: usize,
+    slots: &mut [Rec],
+    count: usize,
+    firsts: &mut [Rec],
+    buckets: &mut [Rec],
+) -> Option<u64>
+    ensures slots_len { length slots.new ≡ length slots.old }
+    ensures firsts_len { length firsts.new ≡ length firsts.old }
+    ensures buckets_len { length buckets.new ≡ length buckets.old }
+    ensures within { IfSome result (λ id. count < length slots.new) }
+    ensures kept { IfSome result (λ id. KeepsSlots count (count + 1) slots.old slots.new) }
+    ensures pair { IfSome result (λ id. pair_at slots.new count ≡ two first second) }
+    ensures id { IfSome result (λ id. id_at slots.new count ≡ id) }
+    ensures added { IfSome result (λ id. (n : ℕ) (rule : Rule) →
+        IsAsked n rule (level_of_tuple (two first second)) (two first second) → level_of_tuple (two first second) < n →
+        AreSlots n rule slots.old firsts.old count → AreSlots n rule slots.new firsts.new (count + 1)) }
+{
+    let level = first.min(second) / LEVEL_NUMBERS;
+    if count >= slots.len() || level >= firsts.len() as u64 || level > 65_534 {
+        return None;
+    }
+    let level = level as usize;
+    let used = firsts[level].w[3];
+    if used >= MOST {
+        return None;
+    }
+    let id = level as u64 * LEVEL_NUMBERS + used;
+    slots[count] = Rec {
+        w: [first, second, id, 0, bucket as u64, 0, 0, 0],
+    };
+    link_slot(level, count, slots, firsts);
+    if bucket / 8 < buckets.len() {
+        buckets[bucket / 8].w[bucket % 8] = count as u64;
+    }
+    Some(id)
+}
+
+// Puts the slot at a place behind those that wait on a level: word 1 of the level's record has the place behind the
+// first of them, word 2 that behind the last, and word 3 of a slot that behind the next one.
+fn link_slot(level: usize, place: usize, slots: &mut [Rec], firsts: &mut [Rec])
+    requires level { level < length firsts.old }
+    requires few { used_at firsts.old level < 2 ^ 17 }
+    ensures slots_len { length slots.new ≡ length slots.old }
+    ensures firsts_len { length firsts.new ≡ length firsts.old }
+    ensures pairs { (k : ℕ) → pair_at slots.new k ≡ pair_at slots.old k }
+    ensures ids { (k : ℕ) → id_at slots.new k ≡ id_at slots.old k }
+    ensures used { used_at firsts.new level ≡ used_at firsts.old level + 1 }
+    ensures others { (i : ℕ) → i ≢ level → used_at firsts.new i ≡ used_at firsts.old i }
+{
+    let behind = (place as u64).saturating_add(1);
+    let begin = firsts[level];
+    let last = begin.w[2];
+    if last > 0 && last <= slots.len() as u64 {
+        slots[last as usize - 1].w[3] = behind;
+    }
+    let first = if last > 0 { begin.w[1] } else { behind };
+    firsts[level] = Rec {
+        w: [
+            begin.w[0],
+            first,
+            behind,
+            begin.w[3] + 1,
+            begin.w[4],
+            begin.w[5],
+            0,
+            0,
+        ],
+    };
+}

@@ -1,0 +1,65 @@
+//! The sources of the operator's diagram, of the nodes of both operands.
+ghost use Rattle.std.specs.Prelude.{◌≡◌, ℕ, ◌<◌, ◌≤◌, IfSome, length, take};
+ghost use Rattle.top_down.specs.Operations.{product_rule, two};
+ghost use Rattle.top_down.specs.Rules.{IsRule, IsAsked, table_for};
+ghost use Rattle.top_down.specs.Tuples.{Targets};
+ghost use Rattle.room_products.specs.Goals.{GiveRows};
+ghost use Rattle.room_products.specs.Joined.{AreOfTable};
+
+use crate::checks::are_done;
+use crate::goals::end_of;
+use crate::levels::{Progress, join_levels};
+use crate::operands::index_nodes;
+use crate::slots::add_slot;
+use bool_tables::Bin;
+use rec_words::Rec;
+
+/// The sources of a diagram: the identifier of its root, and how many there are.
+#[derive(Clone, Copy)]
+pub(crate) struct Tabled {
+    pub(crate) root: u64,
+    pub(crate) count: usize,
+}
+
+/// Puts the sources of the diagram of an operator into the room, where these are the nodes of both operands, and the
+/// words of their roots. None is given where it has more of them than there is room for, where it has none, and where
+/// the nodes aren't those of diagrams.
+pub(crate) fn join_nodes(
+    op: Bin,
+    first: u64,
+    second: u64,
+    left: &[Rec],
+    right: &[Rec],
+    firsts: &mut [Rec],
+    buckets: &mut [Rec],
+    slots: &mut [Rec],
+    sources: &mut [Rec],
+) -> Option<Tabled>
+    ensures slots_len { length slots.new ≡ length slots.old }
+    ensures firsts_len { length firsts.new ≡ length firsts.old }
+    ensures sources_len { length sources.new ≡ length sources.old }
+    ensures within { IfSome result (λ t. t.count ≤ length slots.new) }
+    ensures few { IfSome result (λ t. t.count ≤ length sources.new) }
+    ensures joined { IfSome result (λ t. (n : ℕ) (targets : Targets) → n ≤ 65535 →
+        IsRule n (product_rule op) targets → GiveRows targets left.now right.now →
+        IsAsked n (product_rule op) 0 (two first second) →
+        AreOfTable n t.root (table_for (product_rule op) targets n 0 (two first second)) (take t.count sources.new)) }
+{
+    if end_of(op, first, second).is_some() {
+        return None;
+    }
+    if !index_nodes(left, right, firsts) {
+        return None;
+    }
+    let root = add_slot(first, second, 0, slots, 0, firsts, buckets)?;
+    let begun = Progress { count: 1, done: 0 };
+    let ended = join_levels(op, left, right, firsts, buckets, slots, sources, begun)?;
+    let count = ended.count;
+    if ended.done != count {
+        return None;
+    }
+    if !are_done(&slots[..count], &sources[..count], firsts) {
+        return None;
+    }
+    Some(Tabled { root, count })
+}
