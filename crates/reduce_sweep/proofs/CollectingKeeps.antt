@@ -27,13 +27,16 @@ use Rattle.arc_diagrams.proofs.RowPlaces.{has_right}
 use Rattle.std.specs.List.Sorted.{IsPermutation}
 use Rattle.shelf_model.specs.declared.sort_fault.SortFault.{SortFault}
 use Rattle.shelf_model.specs.World.{World}
+use Rattle.reduce_lists.specs.Contents.{Contents, Holds, IsTakenTo, to_collect}
+use Rattle.reduce_lists.specs.Changes.{JoinsRows, JoinsNames, IsAt, IsGreatest, Passes}
 use Rattle.reduce_sweep.specs.declared.phase.Phase.TheVariants.{Between, Collect, Number}
 use Rattle.reduce_sweep.specs.declared.place.Place.{Place}
 use Rattle.reduce_sweep.specs.declared.source.Source.{Source}
 use Rattle.reduce_sweep.specs.declared.reduce.ReduceSweep.{ReduceSweep}
+use Rattle.reduce_sweep.specs.Sweeps.{held_of}
 use Rattle.reduce_sweep.specs.Sources as sources
-use Rattle.reduce_sweep.specs.Remaining.{Diagram, Contents, Holds, IsTakenTo, IsLeft, IsWorking, RemainsAt, IsBetween, IsCollected, noted, to_collect}
-use Rattle.reduce_sweep.specs.Changes.{JoinsRows, JoinsNames, JoinsOne, IsClosed, IsAt, IsGreatest, Passes, Closes}
+use Rattle.reduce_sweep.specs.Remaining.{Diagram, IsLeft, IsWorking, RemainsAt, IsBetween, IsCollected, noted}
+use Rattle.reduce_sweep.specs.Changes.{JoinsOne, IsClosed, Closes}
 
 -- an arc of the source was noted
 abbrev HasOne : Source → Type 0
@@ -188,7 +191,8 @@ none-left n root i arcs queue unread s rows names nodes known (p, member) low c 
     omega (arith, low q m, ap level_of (same ∙ sym of_s), (c.collects.noted_from p member).1)
 
 -- what is to be collected, without the arc that comes next
-pub rest_of : (queued : Bool) (t : ReduceSweep) (world : World) (k l : Contents) (a : FinalArc) → l.queue ≡ k.queue → l.ends ≡ k.ends → Passes queued t world l a
+pub rest_of : (queued : Bool) (t : ReduceSweep) (world : World) (k l : Contents) (a : FinalArc) → l.queue ≡ k.queue
+    → l.ends ≡ k.ends → Passes queued (held_of t) world l a
     → (m : Contents) × SameMembers (to_collect k) (as_arc a ∷ to_collect m) × Holds t.ahead t.lists t.writer world m × (m.inner ≡ l.inner) × (m.rows ≡ l.rows) × (m.names ≡ l.names) × (m.nodes ≡ l.nodes)
     × ((i : ℕ) → i ≤ level_of a.source → IsTakenTo i l.last → IsTakenTo i m.last)
 rest_of true t world k l a queue ends (rest, first, holds) = (
@@ -220,7 +224,8 @@ at_closed false k rows names a at = at
 -- an arc of the level was noted and passed over: what remains is kept
 pub arc_collected : (p : Place) (s : Source) (u : ReduceSweep) (world : World) (d : Diagram) (k : Contents) (queued : Bool) (a : FinalArc) (rows : List SourceRow) (names : List Name)
     → p.phase ≡ Collect s → u.place ≡ record p { phase = Collect (sources.noted_with s a) } → IsLeft p d k → IsGreatest k a → level_of a.source ≡ p.level
-    → IsClosed (sources.closed_by s a) k.rows k.names rows names → Passes queued u world (record k { rows = rows; names = names }) a → IsWorking u world d
+    → IsClosed (sources.closed_by s a) k.rows k.names rows names
+    → Passes queued (held_of u) world (record k { rows = rows; names = names }) a → IsWorking u world d
 arc_collected p s u world d k queued a rows names phase place left greatest here closed passes =
     let are : IsCollected p.variables p.root p.level p.known s d k = subst (λ f. RemainsAt f p.variables p.root p.level p.known d k) phase left.remains in
     let complete = left.is_of.diagram.complete in
@@ -294,7 +299,7 @@ is_shallower p d k a phase left member =
 -- the level of the arc that comes next opens, and the arc is noted
 pub level_opened : (p : Place) (u : ReduceSweep) (at_last : Place) (world : World) (d : Diagram) (k : Contents) (queued : Bool) (a : FinalArc)
     → p.phase ≡ Between → at_last ≡ record p { level = level_of a.source; phase = Collect (sources.first_noted a) } → IsLeft p d k → IsAt queued k a → IsGreatest k a
-    → Passes queued u world k a → IsWorking (record u { place = at_last }) world d
+    → Passes queued (held_of u) world k a → IsWorking (record u { place = at_last }) world d
 level_opened p u at_last world d k queued a phase place left at greatest passes =
     let between : IsBetween p.variables p.root p.level p.known d k = subst (λ f. RemainsAt f p.variables p.root p.level p.known d k) phase left.remains in
     let complete = left.is_of.diagram.complete in
@@ -325,7 +330,7 @@ level_opened p u at_last world d k queued a phase place left at greatest passes 
 -- a source whose pointers are equal is closed by its name
 pub name_closes : (s : Source) (t u : ReduceSweep) (told : Type 0) (old new : World) (m : Name) (result : Result Unit SortFault) → differs (pair (sources.row_of s)) ≡ false
     → m ≡ record { source = (sources.row_of s).source; pointer = (sources.row_of s).low }
-    → OnOk result (told → (k : Contents) → Holds t.ahead t.lists t.writer old k → JoinsNames u new k m)
+    → OnOk result (told → (k : Contents) → Holds t.ahead t.lists t.writer old k → JoinsNames (held_of u) new k m)
     → OnOk result (told → (k : Contents) → Holds t.ahead t.lists t.writer old k → Closes (Some s) u new k)
 name_closes s t u told old new m (Ok x) same is joined = λ tell k holds.
     let (names, permuted, held) = joined tell k holds in (
@@ -338,7 +343,7 @@ name_closes s t u told old new m (Err e) same is joined = tt
 
 -- another one is closed by its row
 pub row_closes : (s : Source) (t u : ReduceSweep) (told : Type 0) (old new : World) (r : SourceRow) (result : Result Unit SortFault) → differs (pair (sources.row_of s)) ≡ true → r ≡ sources.row_of s
-    → OnOk result (told → (k : Contents) → Holds t.ahead t.lists t.writer old k → JoinsRows u new k r)
+    → OnOk result (told → (k : Contents) → Holds t.ahead t.lists t.writer old k → JoinsRows (held_of u) new k r)
     → OnOk result (told → (k : Contents) → Holds t.ahead t.lists t.writer old k → Closes (Some s) u new k)
 row_closes s t u told old new r (Ok x) other is joined = λ tell k holds.
     let (rows, permuted, held) = joined tell k holds in (

@@ -1,31 +1,24 @@
 -- Calls within a turn, one behind the other: what they leave and cost together, and what is damaged.
-use Rattle.std.proofs.Common.{◌≡◌, ℕ, ◌+◌, ◌-◌, ◌<◌, ◌≤◌, ◌∙◌, Bool, subst, sym, ap, inl, inr, arith}
-use Rattle.std.specs.Prelude.{Result, Ok, Err, Option, Some, None, IsErrAnd, IfErr, IfSome, IsTrue}
-use Rattle.shelf_model.specs.declared.file_no.FileNo.{FileNo}
+use Rattle.std.proofs.Common.{◌≡◌, ℕ, ◌+◌, ◌≤◌, ◌∙◌, Bool, subst, sym, ap, inl, inr}
+use Rattle.std.specs.Prelude.{Result, Ok, Err, IsErrAnd, IfErr, IsTrue}
 use Rattle.shelf_model.specs.declared.sort_fault.SortFault.{SortFault}
 use Rattle.shelf_model.specs.declared.sort_fault.SortFault.TheVariants.{Shelf, Damaged, RunsSpent}
-use Rattle.shelf_model.specs.File.{File, IsKept}
-use Rattle.shelf_model.specs.Folder.{file_in}
-use Rattle.shelf_model.specs.Calls.{Told}
-use Rattle.shelf_model.specs.Moments.{Ran}
-use Rattle.block_stream.specs.Writes.{DuringWrite, Wrote}
+use Rattle.shelf_model.specs.File.{File}
 use Rattle.shelf_model.specs.Faults.{Faults}
 use Rattle.shelf_model.specs.World.{World, now, file}
-use Rattle.shelf_model.proofs.Runs.{told, ran_end, ran_weakens}
-use Rattle.arc_file.specs.declared.arc.Arc.{Arc}
+use Rattle.shelf_model.proofs.Runs.{told, ran_end}
 use Rattle.arc_file.specs.declared.reader.ArcReader.{ArcReader}
-use Rattle.arc_file.specs.declared.kind.Kind.{Kind}
 use Rattle.arc_file.specs.declared.kind.Kind.TheVariants.{Inner, End}
-use Rattle.arc_file.specs.declared.stream.ArcStream.{ArcStream}
-use Rattle.arc_file.specs.Files.{IsDamagedArc}
-use Rattle.arc_file.specs.Streams.{file_of, left_of, given_of}
 use Rattle.arc_file.specs.Readers.{inner_of, ends_of}
 use Rattle.sweep_core.specs.Accounts.{OnlyOwn}
 use Rattle.sweep_core.proofs.Leaving.{leaves_then, leaves_more, leaves_ok, leaves_err}
+use Rattle.reduce_lists.specs.Damage.{IsDamageOf, IsDamageAmong}
+use Rattle.reduce_lists.proofs.DamageLaws.{damage_before, damaged_after}
+use Rattle.reduce_lists.proofs.Refusing.{if_err_weaker}
 use Rattle.reduce_sweep.specs.declared.place.Place.{Place}
 use Rattle.reduce_sweep.specs.declared.reduce.ReduceSweep.{ReduceSweep}
-use Rattle.reduce_sweep.specs.Sweeps.{inner_file, ends_file, task_of, accounts, IsWithin, IsSound, Refuses}
-use Rattle.reduce_sweep.specs.Damage.{IsDamagedIn, IsDamageOf, IsDamagedRecord, IsDamageAmong, IsDamage}
+use Rattle.reduce_sweep.specs.Sweeps.{inner_file, ends_file, task_of, accounts, IsSound, Refuses}
+use Rattle.reduce_sweep.specs.Damage.{IsDamage}
 use Rattle.reduce_sweep.specs.Calls.{SameTask, Does}
 
 -- a task that stays, and stays again
@@ -48,50 +41,6 @@ task_same p q same = λ i. record {
   arcs = same.arcs_are i;
   variables = same.variables_are i;
 }
-
--- what is damaged in a file was so while its bytes were the same
-damaged_before : (kind : Kind) (s : ArcStream) (old new : World) (f : FileNo) (at : ℕ) → (file new (file_of s)).bytes ≡ (file old (file_of s)).bytes
-    → IsDamagedIn kind s new f at → IsDamagedIn kind s old f at
-damaged_before kind s old new f at same d = record {
-  file_is = d.file_is;
-  some = d.some;
-  at_is = d.at_is;
-  damaged = subst (λ bytes. IsDamagedArc kind (left_of s - 1) bytes (given_of s)) (subst (λ g. (file new g).bytes ≡ (file old g).bytes) (sym d.file_is) same) d.damaged;
-}
-
-pub damage_before : (r : ArcReader) (old new : World) (e : SortFault) → (file new (file_of (inner_of r))).bytes ≡ (file old (file_of (inner_of r))).bytes
-    → (file new (file_of (ends_of r))).bytes ≡ (file old (file_of (ends_of r))).bytes → IsDamageOf r new e → IsDamageOf r old e
-damage_before r old new Shelf inner ends damage = tt
-damage_before r old new (Damaged f at) inner ends damage = elim damage [
-  | inl d ↦ inl (damaged_before Inner (inner_of r) old new f at inner d)
-  | inr d ↦ inr (damaged_before End (ends_of r) old new f at ends d)
-]
-damage_before r old new RunsSpent inner ends damage = tt
-
--- what is damaged now is a record that is damaged then, where the bytes of the file are the same
-damaged_after : (kind : Kind) (g : FileNo) (count : ℕ) (s : ArcStream) (old new : World) (f : FileNo) (at : ℕ)
-    → IsWithin g count s
-    → (file new (file_of s)).bytes ≡ (file old (file_of s)).bytes → IsDamagedIn kind s old f at
-    → IsDamagedRecord kind g count new f at
-damaged_after kind g count s old new f at within same d = record {
-  place = left_of s - 1;
-  given = given_of s;
-  file_is = d.file_is ∙ within.file_is;
-  within = let some = d.some in let left = within.left in omega (arith, some, left);
-  behind = behind (given_of s) within.given;
-  at_is = d.at_is;
-  damaged = subst (λ bytes. IsDamagedArc kind (left_of s - 1) bytes (given_of s)) (sym (subst (λ g. (file new g).bytes ≡ (file old g).bytes) (sym d.file_is) same)) d.damaged;
-}
-  where
-    behind : (given : Option Arc) → IfSome given (λ a. left_of s < count)
-        → IfSome given (λ a. left_of s - 1 + 1 < count)
-    behind None fewer = tt
-    behind (Some a) fewer = let some = d.some in omega (arith, some, fewer)
-
--- what follows from a fact about why a call was refused
-pub if_err_weaker : {T E : Type 0} {P Q : E → Type 0} (result : Result T E) → ((e : E) → P e → Q e) → IfErr result P → IfErr result Q
-if_err_weaker (Ok x) weaker p = tt
-if_err_weaker (Err e) weaker p = weaker e p
 
 module _ {S : Type 0} (tells : S → Bool) (world : S → World) (counts : S → Faults) where
   -- a call leaves the bytes of the arc files
@@ -210,13 +159,3 @@ module _ {S : Type 0} (tells : S → Bool) (world : S → World) (counts : S →
             sound.within.ends_within stay.1 d)
       ]
       by RunsSpent stay damage = tt
-
-  -- a write to the file that is made
-  pub own_wrote : (out : FileNo) (step next n : ℕ) (s t : S) → Told tells s t (Wrote n out (world s) (world t))
-      → Told tells s t (Ran (OnlyOwn (λ f. f ≡ out) step next (now (world s))) (world s) (world t))
-  own_wrote out step next n s t did = told tells s t _ _ did (λ _ wrote.
-      ran_weakens (world s) (world t) (DuringWrite out (now (world s))) (OnlyOwn (λ f. f ≡ out) step next (now (world s))) (λ m during. record {
-        others = λ f other apart. during.others f other;
-        kept = λ f mine front kept. subst (λ g. IsKept front (file_in m.folder g)) (sym mine)
-            (during.kept front (subst (λ g. IsKept front (file_in (now (world s)).folder g)) mine kept));
-      }) wrote.run)

@@ -13,10 +13,11 @@ use Rattle.canon_file.specs.Canon.{node_bytes, trailer_bytes, canon_nodes, canon
 use Rattle.canon_file.proofs.CanonLaws.{canon_bytes-is}
 use Rattle.arc_diagrams.specs.Reducing.{Remains}
 use Rattle.arc_diagrams.proofs.Remaining.{nothing_left}
+use Rattle.reduce_lists.specs.Contents.{Contents, Holds, to_collect}
 use Rattle.reduce_sweep.specs.declared.phase.Phase.TheVariants.{Between, Ended}
 use Rattle.reduce_sweep.specs.declared.reduce.ReduceSweep.{ReduceSweep}
 use Rattle.reduce_sweep.specs.Sweeps.{out_of}
-use Rattle.reduce_sweep.specs.Remaining.{Diagram, Contents, Holds, IsLeft, RemainsAt, IsBetween, IsReduced, to_collect}
+use Rattle.reduce_sweep.specs.Remaining.{Diagram, IsLeft, RemainsAt, IsBetween, IsReduced}
 
 -- where no arc is to be collected, what the writer holds with a trailer is the canonical file
 pub file_ended : (s : ReduceSweep) (w : NodeWriter) (count root : ℕ) (old new : World) (d : Diagram) (k : Contents) → s.place.phase ≡ Between → s.writer.n ≡ s.place.variables

@@ -29,11 +29,14 @@ use Rattle.arc_diagrams.proofs.ListViews.{same_permuted, same_self, same_map, sa
 use Rattle.arc_diagrams.proofs.Phases.{one_forwarded, name_done, root_done, level_done}
 use Rattle.arc_diagrams.proofs.RowPlaces.{has_right}
 use Rattle.arc_diagrams.proofs.SameLists.{forwards-same}
+use Rattle.reduce_lists.specs.Contents.{Contents, Holds, IsUnread, IsTakenTo, to_collect}
+use Rattle.reduce_lists.specs.Changes.{JoinsQueue, PassesInner}
 use Rattle.reduce_sweep.specs.declared.phase.Phase.TheVariants.{Between, Forward}
 use Rattle.reduce_sweep.specs.declared.place.Place.{Place}
 use Rattle.reduce_sweep.specs.declared.reduce.ReduceSweep.{ReduceSweep}
-use Rattle.reduce_sweep.specs.Remaining.{Diagram, Contents, Holds, IsUnread, IsTakenTo, IsLeft, IsWorking, RemainsAt, IsForwarded, to_collect}
-use Rattle.reduce_sweep.specs.Changes.{known_with, JoinsQueue, PassesInner, ForwardsAlong}
+use Rattle.reduce_sweep.specs.Sweeps.{held_of}
+use Rattle.reduce_sweep.specs.Remaining.{Diagram, IsLeft, IsWorking, RemainsAt, IsForwarded}
+use Rattle.reduce_sweep.specs.Changes.{known_with, ForwardsAlong}
 
 -- the order of arcs to nodes chains
 inner_weak : IsStrictWeakOrder (λ x y. is_lt (inner_cmp x y))
@@ -219,15 +222,19 @@ arc_forwarded p u world d k m rest a told phase place left named to_source sourc
 
 -- an arc was pushed and the next one to a node passed over
 along : (o : Option Arc) (u : ReduceSweep) (new : World) (k : Contents) (queue : List FinalArc) (a : FinalArc) → IsPermutation (a ∷ k.queue) queue
-    → PassesInner o u new (record k { queue = queue }) → ForwardsAlong o u new k a
+    → PassesInner o (held_of u) new (record k { queue = queue }) → ForwardsAlong o u new k a
 along None u new k queue a joined passes = passes
 along (Some x) u new k queue a joined (front, split, holds) = (queue, front, joined, split, holds)
 
 pub passed_along : (inner : Option Arc) (s t u : ReduceSweep) (told later : Type 0) (old between new : World) (a : FinalArc) (result : Result Unit SortFault) → t.ahead.inner ≡ inner → (later → told)
-    → (told → (k : Contents) → Holds s.ahead s.lists s.writer old k → IsTakenTo (level_of a.source + 1) k.last → JoinsQueue t between k a)
-    → OnOk result (later → (k : Contents) → Holds t.ahead t.lists t.writer between k → PassesInner t.ahead.inner u new k)
+    → (told → (k : Contents) → Holds s.ahead s.lists s.writer old k → IsTakenTo (level_of a.source + 1) k.last
+    → JoinsQueue (held_of t) between k a)
+    → OnOk result (later → (k : Contents) → Holds t.ahead t.lists t.writer between k
+    → PassesInner t.ahead.inner (held_of u) new k)
     → OnOk result (later → (k : Contents) → Holds s.ahead s.lists s.writer old k → IsTakenTo (level_of a.source + 1) k.last → ForwardsAlong inner u new k a)
 passed_along inner s t u told later old between new a (Err e) is before joined passed = tt
 passed_along inner s t u told later old between new a (Ok x) is before joined passed = λ tell k holds taken.
     let (queue, permuted, held) = joined (before tell) k holds taken in
-    along inner u new k queue a permuted (subst (λ (o : Option Arc). PassesInner o u new (record k { queue = queue })) is (passed tell (record k { queue = queue }) held))
+    along inner u new k queue a permuted
+    (subst (λ (o : Option Arc). PassesInner o (held_of u) new (record k { queue = queue })) is
+    (passed tell (record k { queue = queue }) held))

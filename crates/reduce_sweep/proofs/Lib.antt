@@ -1,14 +1,11 @@
-mod Within
-mod Holding
 mod Doing
-mod Listing
 mod Refusing
-mod NextArcs
-mod Joining
+mod Fitting
+mod Putting
 mod CollectingKeeps
 mod NumberingKeeps
 mod ForwardingKeeps
-pub mod Undamaged
+mod Undamaged
 mod StartKeeps
 mod EndKeeps
 mod TurnKeeps

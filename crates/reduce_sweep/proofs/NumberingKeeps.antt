@@ -22,13 +22,14 @@ use Rattle.arc_diagrams.proofs.ListViews.{same_permuted}
 use Rattle.arc_diagrams.proofs.Phases.{row_numbered, row_shared, names_begin}
 use Rattle.arc_diagrams.proofs.RowLists.{after-new}
 use Rattle.arc_diagrams.proofs.SameLists.{numbers-same}
+use Rattle.reduce_lists.specs.Contents.{Contents, Holds, to_collect}
 use Rattle.reduce_sweep.specs.declared.phase.Numbered.{Numbered}
 use Rattle.reduce_sweep.specs.declared.phase.Phase.{Phase}
 use Rattle.reduce_sweep.specs.declared.phase.Phase.TheVariants.{Number, Forward}
 use Rattle.reduce_sweep.specs.declared.place.Place.{Place}
 use Rattle.reduce_sweep.specs.declared.reduce.ReduceSweep.{ReduceSweep}
 use Rattle.reduce_sweep.specs.Sweeps.{IsPhaseAt, IsNumberedAt}
-use Rattle.reduce_sweep.specs.Remaining.{Diagram, Contents, Holds, IsLeft, IsWorking, RemainsAt, IsNumbered, to_collect}
+use Rattle.reduce_sweep.specs.Remaining.{Diagram, IsLeft, IsWorking, RemainsAt, IsNumbered}
 use Rattle.reduce_sweep.specs.Changes.{is_last, numbered_with, nodes_with, NumbersRow}
 
 -- names in another order are the same

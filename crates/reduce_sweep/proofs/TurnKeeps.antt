@@ -7,24 +7,18 @@ use Rattle.shelf_model.specs.declared.sort_fault.SortFault.{SortFault}
 use Rattle.sweep_core.specs.declared.turn.Turn.{Turn}
 use Rattle.sweep_core.specs.declared.turn.Turn.TheVariants as turn
 use Rattle.sweep_core.specs.Sweeps.{Falls, AtEnd, IsFirm}
+use Rattle.reduce_lists.specs.AtWork.{IsAtWork}
 use Rattle.reduce_sweep.specs.declared.source.Source.{Source}
 use Rattle.reduce_sweep.specs.declared.phase.Numbered.{Numbered}
 use Rattle.reduce_sweep.specs.declared.phase.Phase.{Phase}
 use Rattle.reduce_sweep.specs.declared.phase.Phase.TheVariants.{Between, Collect, Number, Forward, Ended}
 use Rattle.reduce_sweep.specs.declared.reduce.ReduceSweep.{ReduceSweep}
 use Rattle.reduce_sweep.specs.Sweeps.{out_of, IsGoing, count_at, count_in, fuel_at, turns_left, CountsAtEnd, Handles}
-use Rattle.reduce_sweep.specs.Calls.{IsAtWork, IsStepAt, IsInStep}
+use Rattle.reduce_sweep.specs.Calls.{IsStepAt, IsInStep}
 use Rattle.reduce_sweep.specs.Remaining.{Diagram, IsWorking, RemainsIn, RemainsOf}
 use Rattle.reduce_sweep.specs.Changes.{IsDoneAt}
 
--- until it has ended, its files hold what it takes them to hold, and it works on what remains
-pub going_at_work : (p : Phase) (s : ReduceSweep) (world : World) → IsGoing p → IsStepAt p s world → IsAtWork s.ahead s.lists s.writer world
-going_at_work Between s world going step = step
-going_at_work (Collect x) s world going step = step
-going_at_work (Number x) s world going step = step
-going_at_work Forward s world going step = step
-going_at_work (Ended n) s world going step = absurd (going n refl)
-
+-- until it has ended, it works on what remains
 pub going_works : (p : Phase) (s : ReduceSweep) (world : World) (d : Diagram) → IsGoing p → RemainsIn p s world d → IsWorking s world d
 going_works Between s world d going remains = remains
 going_works (Collect x) s world d going remains = remains

@@ -1,41 +1,16 @@
 -- What every call within a turn leaves and costs.
-use Rattle.std.specs.Prelude.{◌≡◌, ℕ, Bool, IsTrue, List, Result, IfErr}
+use Rattle.std.specs.Prelude.{◌≡◌, ℕ, Bool, IsTrue, Result, IfErr}
 use Rattle.shelf_model.specs.declared.sort_fault.SortFault.{SortFault}
 use Rattle.shelf_model.specs.Faults.{Faults}
 use Rattle.shelf_model.specs.World.{World, file}
-use Rattle.block_stream.specs.Writes.{InStep}
-use Rattle.node_file.specs.declared.writer.NodeWriter.{NodeWriter}
-use Rattle.node_file.specs.Writers as nodes
-use Rattle.arc_file.specs.declared.kind.Kind.TheVariants.{Inner, End}
-use Rattle.arc_file.specs.Streams.{file_of, Reads}
-use Rattle.arc_file.specs.Readers.{inner_of, ends_of}
-use Rattle.arc_diagrams.specs.declared.final_arc.FinalArc.{FinalArc}
-use Rattle.arc_diagrams.specs.declared.source_row.SourceRow.{SourceRow}
-use Rattle.arc_diagrams.specs.declared.name.Name.{Name}
 use Rattle.sweep_core.specs.Accounts.{Leaves}
 use Rattle.sweep_core.specs.Sweeps.{IsFirm}
+use Rattle.reduce_lists.specs.Damage.{IsDamageOf}
+use Rattle.reduce_lists.specs.AtWork.{IsAtWork}
 use Rattle.reduce_sweep.specs.declared.phase.Phase.{Phase}
 use Rattle.reduce_sweep.specs.declared.phase.Phase.TheVariants.{Between, Collect, Number, Forward, Ended}
-use Rattle.reduce_sweep.specs.declared.reduce.Ahead.{Ahead}
-use Rattle.reduce_sweep.specs.declared.reduce.Lists.{Lists}
 use Rattle.reduce_sweep.specs.declared.reduce.ReduceSweep.{ReduceSweep}
-use Rattle.reduce_sweep.specs.Damage.{IsDamageOf}
 use Rattle.reduce_sweep.specs.Sweeps.{out_of, arcs_of, inner_file, ends_file, accounts, IsSound, Refuses}
-use Rattle.reduce_sweep.specs.Remaining.{QueueLists, RowLists, NameLists}
-
--- the queue stands for some list, and so do the rows and the names
-pub record AreListed (a : Ahead) (l : Lists) (world : World) : Type 0 where
-  pub queue_listed : (xs : List FinalArc) × QueueLists a.queue world xs
-  pub rows_listed : (xs : List SourceRow) × RowLists l.rows world xs
-  pub names_listed : (xs : List Name) × NameLists l.names world xs
-
--- its writer is in step with the file of the nodes, what it has read is as the bytes of the arc files say, and its
--- queue, rows and names stand for lists
-pub record IsAtWork (a : Ahead) (l : Lists) (w : NodeWriter) (world : World) : Type 0 where
-  pub writes : InStep (nodes.filling_of w) world
-  pub reads_inner : Reads Inner (inner_of a.reader) (file world (file_of (inner_of a.reader))).bytes
-  pub reads_ends : Reads End (ends_of a.reader) (file world (file_of (ends_of a.reader))).bytes
-  pub listed : AreListed a l world
 
 -- once it has ended, the file of the nodes stays whatever a stop leaves
 abbrev pub IsStepAt : Phase → ReduceSweep → World → Type 0

@@ -1,6 +1,6 @@
 //! The arcs whose sources are collected: those in the queue, and those to truth values.
 ghost use Rattle.std.specs.Prelude.{◌≡◌};
-ghost use Rattle.reduce_sweep.specs.Changes.{next_of};
+ghost use Rattle.reduce_lists.specs.Changes.{next_of};
 
 use crate::reduce::ReduceSweep;
 use arc_diagrams::FinalArc;
@@ -9,9 +9,10 @@ use shelf_model::{Shelf, SortFault};
 
 impl<'r> ReduceSweep<'r> {
     ghost use Rattle.std.specs.Prelude.{IsTrue, OnOk, IfOk};
-    ghost use Rattle.reduce_sweep.specs.Sweeps.{IsNext, arcs_weight};
-    ghost use Rattle.reduce_sweep.specs.Remaining.{Contents, Holds};
-    ghost use Rattle.reduce_sweep.specs.Changes.{ComesNext};
+    ghost use Rattle.reduce_lists.specs.Held.{IsNext};
+    ghost use Rattle.reduce_sweep.specs.Sweeps.{arcs_weight};
+    ghost use Rattle.reduce_lists.specs.Contents.{Contents, Holds};
+    ghost use Rattle.reduce_lists.specs.Changes.{ComesNext};
     ghost use Rattle.reduce_sweep.specs.Calls.{Does, IsFit};
 
     /// The next arc to collect, and whether it is of the queue.

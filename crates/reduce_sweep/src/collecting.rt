@@ -12,9 +12,12 @@ use shelf_model::{Shelf, SortFault};
 impl<'r> ReduceSweep<'r> {
     ghost use Rattle.std.specs.Prelude.{◌+◌, ◌<◌, IsTrue, OnOk, IfOk, Some};
     ghost use Rattle.reduce_sweep.specs.Sources.{closed_by, noted_with};
-    ghost use Rattle.reduce_sweep.specs.Sweeps.{Handles, IsThere, none_numbered, lists_weight, turns_left};
-    ghost use Rattle.reduce_sweep.specs.Remaining.{Diagram, Contents, Holds, IsLeft, IsWorking};
-    ghost use Rattle.reduce_sweep.specs.Changes.{IsAt, IsGreatest, Closes};
+    ghost use Rattle.reduce_lists.specs.Held.{IsThere};
+    ghost use Rattle.reduce_sweep.specs.Sweeps.{Handles, none_numbered, lists_weight, turns_left};
+    ghost use Rattle.reduce_lists.specs.Contents.{Contents, Holds};
+    ghost use Rattle.reduce_sweep.specs.Remaining.{Diagram, IsLeft, IsWorking};
+    ghost use Rattle.reduce_lists.specs.Changes.{IsAt, IsGreatest};
+    ghost use Rattle.reduce_sweep.specs.Changes.{Closes};
     ghost use Rattle.reduce_sweep.specs.Calls.{Does, IsFit};
 
     /// Collects an arc of the level at hand, or ends the collecting where the next one is of a shallower level.

@@ -11,7 +11,8 @@ impl<'r> ReduceSweep<'r> {
     ghost use Rattle.arc_diagrams.specs.declared.name.Name.{Name};
     ghost use Rattle.run_merge.specs.Sorters.{held};
     ghost use Rattle.reduce_sweep.specs.Sweeps.{Handles, arcs_weight, lists_weight};
-    ghost use Rattle.reduce_sweep.specs.Remaining.{Diagram, Contents, Holds, IsLeft, IsTakenTo, IsWorking};
+    ghost use Rattle.reduce_lists.specs.Contents.{Contents, Holds, IsTakenTo};
+    ghost use Rattle.reduce_sweep.specs.Remaining.{Diagram, IsLeft, IsWorking};
     ghost use Rattle.reduce_sweep.specs.Changes.{known_with, ForwardsAlong};
     ghost use Rattle.reduce_sweep.specs.Calls.{Does, IsFit};
 

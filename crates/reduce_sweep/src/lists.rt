@@ -8,9 +8,9 @@ impl<'r> ReduceSweep<'r> {
     ghost use Rattle.arc_diagrams.specs.declared.name.Name.{Name};
     ghost use Rattle.run_merge.specs.Lists.{CountsDown, CountStays};
     ghost use Rattle.run_merge.specs.Sorters.{held};
-    ghost use Rattle.reduce_sweep.specs.Sweeps.{lists_weight};
-    ghost use Rattle.reduce_sweep.specs.Remaining.{Contents, Holds};
-    ghost use Rattle.reduce_sweep.specs.Changes.{GivesRow, JoinsRows, JoinsNames, ShowsName};
+    ghost use Rattle.reduce_sweep.specs.Sweeps.{held_of, lists_weight};
+    ghost use Rattle.reduce_lists.specs.Contents.{Contents, Holds};
+    ghost use Rattle.reduce_lists.specs.Changes.{GivesRow, JoinsRows, JoinsNames, ShowsName};
     ghost use Rattle.reduce_sweep.specs.Calls.{Does, IsFit};
 
     /// Puts a row into its list.
@@ -29,7 +29,7 @@ impl<'r> ReduceSweep<'r> {
         ensures weight { OnOk result (lists_weight self.new.lists ≡ lists_weight self.old.lists + 2) }
         ensures joined { OnOk result (IsTrue (S.tells shelf.new) → (k : Contents) →
             Holds self.old.ahead self.old.lists self.old.writer (S.world shelf.old) k →
-            JoinsRows self.new (S.world shelf.new) k row) }
+            JoinsRows (held_of self.new) (S.world shelf.new) k row) }
     {
         self.lists.rows.push(row, &mut self.parts, shelf)
     }
@@ -46,7 +46,7 @@ impl<'r> ReduceSweep<'r> {
         ensures weight { OnOk result (lists_weight self.new.lists ≡ lists_weight self.old.lists + 1) }
         ensures joined { OnOk result (IsTrue (S.tells shelf.new) → (k : Contents) →
             Holds self.old.ahead self.old.lists self.old.writer (S.world shelf.old) k →
-            JoinsNames self.new (S.world shelf.new) k name) }
+            JoinsNames (held_of self.new) (S.world shelf.new) k name) }
     {
         self.lists.names.push(name, &mut self.parts, shelf)
     }
@@ -63,7 +63,7 @@ impl<'r> ReduceSweep<'r> {
         ensures count { CountsDown (held self.old.lists.rows) (held self.new.lists.rows) result }
         ensures given { IfOk result (λ row. IsTrue (S.tells shelf.new) → (k : Contents) →
             Holds self.old.ahead self.old.lists self.old.writer (S.world shelf.old) k →
-            GivesRow self.new (S.world shelf.new) k row) }
+            GivesRow (held_of self.new) (S.world shelf.new) k row) }
     {
         self.lists.rows.next(shelf)
     }
@@ -77,7 +77,7 @@ impl<'r> ReduceSweep<'r> {
         ensures count { CountStays (held self.old.lists.names) (held self.new.lists.names) result }
         ensures shown { IfOk result (λ name. IsTrue (S.tells shelf.new) → (k : Contents) →
             Holds self.old.ahead self.old.lists self.old.writer (S.world shelf.old) k →
-            ShowsName self.new (S.world shelf.new) k name) }
+            ShowsName (held_of self.new) (S.world shelf.new) k name) }
     {
         self.lists.names.peek(shelf)
     }

@@ -59,7 +59,8 @@ impl Numbered {
 impl<'r> ReduceSweep<'r> {
     ghost use Rattle.std.specs.Prelude.{◌≡◌, ◌≤◌, ◌^◌, ◌+◌, IsTrue, OnOk, IfOk};
     ghost use Rattle.reduce_sweep.specs.Sweeps.{Handles, lists_weight};
-    ghost use Rattle.reduce_sweep.specs.Remaining.{Diagram, Contents, Holds, IsWorking};
+    ghost use Rattle.reduce_lists.specs.Contents.{Contents, Holds};
+    ghost use Rattle.reduce_sweep.specs.Remaining.{Diagram, IsWorking};
     ghost use Rattle.reduce_sweep.specs.Changes.{numbered_with, nodes_with, NumbersRow};
     ghost use Rattle.reduce_sweep.specs.Calls.{Does, IsFit};
 

@@ -3,7 +3,7 @@ ghost use Rattle.std.specs.Prelude.{◌≡◌, ◌+◌, true};
 ghost use Rattle.rec_words.specs.Words.{level_of};
 ghost use Rattle.arc_diagrams.specs.Items.{final_arc_cmp};
 ghost use Rattle.level_queue.specs.Queues.{IsNoLess};
-ghost use Rattle.reduce_sweep.specs.Remaining.{IsTakenTo};
+ghost use Rattle.reduce_lists.specs.Contents.{IsTakenTo};
 
 use crate::reduce::ReduceSweep;
 use arc_diagrams::FinalArc;
@@ -13,9 +13,10 @@ impl<'r> ReduceSweep<'r> {
     ghost use Rattle.std.specs.Prelude.{◌≤◌, false, IsTrue, OnOk, IfOk, IsSome};
     ghost use Rattle.arc_diagrams.specs.declared.final_arc.FinalArc.{FinalArc};
     ghost use Rattle.level_queue.specs.Queues.{held};
-    ghost use Rattle.reduce_sweep.specs.Sweeps.{IsThere, arcs_weight};
-    ghost use Rattle.reduce_sweep.specs.Remaining.{Contents, Holds};
-    ghost use Rattle.reduce_sweep.specs.Changes.{ShowsQueued, JoinsQueue, IsAt, Passes, PassesInner};
+    ghost use Rattle.reduce_lists.specs.Held.{IsThere};
+    ghost use Rattle.reduce_sweep.specs.Sweeps.{held_of, arcs_weight};
+    ghost use Rattle.reduce_lists.specs.Contents.{Contents, Holds};
+    ghost use Rattle.reduce_lists.specs.Changes.{ShowsQueued, JoinsQueue, IsAt, Passes, PassesInner};
     ghost use Rattle.reduce_sweep.specs.Calls.{Does, IsFit};
 
     /// The first arc of the queue, which stays.
@@ -31,7 +32,7 @@ impl<'r> ReduceSweep<'r> {
         ensures there { IfOk result (λ found. IsSome found → 1 ≤ held self.new.ahead.queue) }
         ensures shown { IfOk result (λ found. IsTrue (S.tells shelf.new) → (k : Contents) →
             Holds self.old.ahead self.old.lists self.old.writer (S.world shelf.old) k →
-            ShowsQueued self.new (S.world shelf.new) k found) }
+            ShowsQueued (held_of self.new) (S.world shelf.new) k found) }
     {
         self.ahead.queue.peek(shelf)
     }
@@ -49,7 +50,7 @@ impl<'r> ReduceSweep<'r> {
         ensures weight { OnOk result (arcs_weight self.new.ahead ≤ arcs_weight self.old.ahead + 3) }
         ensures joined { OnOk result (IsTrue (S.tells shelf.new) → (k : Contents) →
             Holds self.old.ahead self.old.lists self.old.writer (S.world shelf.old) k →
-            IsTakenTo (level_of told.source + 1) k.last → JoinsQueue self.new (S.world shelf.new) k told) }
+            IsTakenTo (level_of told.source + 1) k.last → JoinsQueue (held_of self.new) (S.world shelf.new) k told) }
     {
         if !follows(self.ahead.queue.last(), &told) {
             return Ok(());
@@ -68,7 +69,7 @@ impl<'r> ReduceSweep<'r> {
         ensures passed { OnOk result (IsTrue (S.tells shelf.new) → (k : Contents) → (arc : FinalArc) →
             IsAt queued k arc →
             Holds self.old.ahead self.old.lists self.old.writer (S.world shelf.old) k →
-            Passes queued self.new (S.world shelf.new) k arc) }
+            Passes queued (held_of self.new) (S.world shelf.new) k arc) }
     {
         if queued {
             return self.take(shelf);
@@ -89,7 +90,7 @@ impl<'r> ReduceSweep<'r> {
         ensures weight { OnOk result (arcs_weight self.new.ahead + 3 ≡ arcs_weight self.old.ahead) }
         ensures taken { OnOk result (IsTrue (S.tells shelf.new) → (k : Contents) → (arc : FinalArc) → IsAt true k arc →
             Holds self.old.ahead self.old.lists self.old.writer (S.world shelf.old) k →
-            Passes true self.new (S.world shelf.new) k arc) }
+            Passes true (held_of self.new) (S.world shelf.new) k arc) }
     {
         self.ahead.queue.take(&mut self.parts, shelf)?;
         Ok(())
@@ -111,7 +112,7 @@ impl<'r> ReduceSweep<'r> {
         ensures passed { OnOk result (IsTrue (S.tells shelf.new) → (k : Contents) → (arc : FinalArc) →
             IsAt false k arc →
             Holds self.old.ahead self.old.lists self.old.writer (S.world shelf.old) k →
-            Passes false self.new (S.world shelf.new) k arc) }
+            Passes false (held_of self.new) (S.world shelf.new) k arc) }
     {
         self.ahead.end = self.ahead.reader.next_end(shelf)?;
         Ok(())
@@ -132,7 +133,7 @@ impl<'r> ReduceSweep<'r> {
         ensures weight { OnOk result (arcs_weight self.new.ahead + 4 ≡ arcs_weight self.old.ahead) }
         ensures passed { OnOk result (IsTrue (S.tells shelf.new) → (k : Contents) →
             Holds self.old.ahead self.old.lists self.old.writer (S.world shelf.old) k →
-            PassesInner self.old.ahead.inner self.new (S.world shelf.new) k) }
+            PassesInner self.old.ahead.inner (held_of self.new) (S.world shelf.new) k) }
     {
         self.ahead.inner = self.ahead.reader.next_inner(shelf)?;
         Ok(())

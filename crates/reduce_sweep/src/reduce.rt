@@ -1,27 +1,10 @@
 //! A reduction, as it stands between two turns.
 use crate::phase::Phase;
 use crate::place::Place;
-use arc_diagrams::{FinalArc, Name, SourceRow};
-use arc_file::{Arc, ArcReader, Unreduced};
-use level_queue::LevelQueue;
+use arc_file::Unreduced;
 use node_file::NodeWriter;
-use run_merge::{Parts, Sorter};
-
-/// The arcs that come next: those of the two files, of each of which one is read ahead, and those of the queue.
-#[derive(Drop)]
-pub(crate) struct Ahead<'r> {
-    pub(crate) reader: ArcReader<'r>,
-    pub(crate) inner: Option<Arc>,
-    pub(crate) end: Option<Arc>,
-    pub(crate) queue: LevelQueue<'r, FinalArc>,
-}
-
-/// The rows and the names of the level at hand.
-#[derive(Drop)]
-pub(crate) struct Lists<'r> {
-    pub(crate) rows: Sorter<'r, SourceRow>,
-    pub(crate) names: Sorter<'r, Name>,
-}
+use reduce_lists::{Ahead, Lists};
+use run_merge::Parts;
 
 /// The reduction of a diagram, level by level from the deepest one.
 ///

@@ -4,11 +4,12 @@ ghost use Rattle.rec_words.specs.Words.{IsTerminal};
 
 use crate::phase::Phase;
 use crate::place::Place;
-use crate::reduce::{Ahead, Lists, ReduceSweep};
+use crate::reduce::ReduceSweep;
 use arc_file::{ArcReader, Unreduced};
 use level_queue::LevelQueue;
 use node_file::NodeWriter;
 use rec_words::{Ptr, Rec};
+use reduce_lists::{Ahead, Lists};
 use run_merge::{Parts, Sorter};
 use shelf_model::{FileNo, Shelf, SortFault};
 
@@ -25,7 +26,7 @@ impl<'r> ReduceSweep<'r> {
     ghost use Rattle.arc_file.specs.Files.{HasArcs};
     ghost use Rattle.arc_diagrams.specs.Laws.{IsDiagramOf};
     ghost use Rattle.reduce_sweep.specs.Remaining.{Diagram, RemainsOf};
-    ghost use Rattle.reduce_sweep.specs.Damage.{IsDamageAtStart};
+    ghost use Rattle.reduce_lists.specs.Damage.{IsDamageAtStart};
     ghost use Rattle.reduce_sweep.specs.Calls.{IsInStep};
     ghost use Rattle.shelf_model.specs.Calls.{Told};
     ghost use Rattle.shelf_model.specs.Moments.{Ran};

@@ -13,9 +13,11 @@ impl<'r> ReduceSweep<'r> {
     ghost use Rattle.sweep_core.specs.Accounts.{Leaves};
     ghost use Rattle.sweep_core.specs.Sweeps.{Falls, AtEnd, IsFirm, StaysEnded, IsNoDamage};
     ghost use Rattle.reduce_sweep.specs.Sweeps.{out_of, inner_file, ends_file, task_of, count_in, turns_left, accounts, IsGoing, IsSound, Handles, CountsAtEnd, Refuses};
-    ghost use Rattle.reduce_sweep.specs.Damage.{IsDamageOf, IsDamage};
+    ghost use Rattle.reduce_lists.specs.Damage.{IsDamageOf};
+    ghost use Rattle.reduce_sweep.specs.Damage.{IsDamage};
     ghost use Rattle.reduce_sweep.specs.Calls.{Does, IsFit, IsInStep};
-    ghost use Rattle.reduce_sweep.specs.Remaining.{Diagram, Contents, Holds, IsLeft, to_collect, IsWorking, IsReduced, RemainsOf};
+    ghost use Rattle.reduce_lists.specs.Contents.{Contents, Holds, to_collect};
+    ghost use Rattle.reduce_sweep.specs.Remaining.{Diagram, IsLeft, IsWorking, IsReduced, RemainsOf};
     ghost use Rattle.reduce_sweep.specs.Changes.{IsDoneAt};
 
     /// Handles one item, or ends the reduction. Once it has ended, each further turn answers so and does nothing.

@@ -27,8 +27,8 @@ use Rattle.reduce_sweep.specs.declared.phase.Phase.TheVariants.{Between, Collect
 use Rattle.reduce_sweep.specs.declared.reduce.ReduceSweep.{ReduceSweep}
 use Rattle.reduce_sweep.specs.Remaining as sweep
 use Rattle.reduce_sweep.specs.Sweeps.{out_of, count_in, fuel_at, turns_left, arcs_weight, lists_weight}
-use Rattle.reduce_sweep.specs.Damage.{IsDamageAmong}
-use Rattle.reduce_sweep.proofs.Undamaged.{none_among}
+use Rattle.reduce_lists.specs.Damage.{IsDamageAmong}
+use Rattle.reduce_lists.proofs.Undamaged.{none_among}
 use Rattle.step_sweeps.specs.declared.diagram.MadeDiagram.{MadeDiagram}
 use Rattle.step_sweeps.specs.Made.{node_file, HasArcFiles, OnlyStepFiles, IsReduced}
 use Rattle.step_sweeps.proofs.Running.{taken_from, cut_changes, runs_on}

@@ -1,7 +1,7 @@
 use Rattle.std.proofs.Common.{◌≡◌, ◌∙◌, refl, ap, subst, arith}
 use Rattle.std.specs.Prelude.{Some}
 use Rattle.run_tiers.proofs.FaultLaws.{on_fault, sort_shelf_on, sort_shelf_then}
-use Rattle.reduce_sweep.specs.Damage.{IsDamageAmong}
+use Rattle.reduce_lists.specs.Damage.{IsDamageAmong}
 use Rattle.reduce_sweep.specs.Sweeps.{Task, count_in}
 use Rattle.step_sweeps.proofs.Reducing.{job_of, has_form, reduced_at_end, reduction_changes, none_damaged}
 use Rattle.step_sweeps.proofs.Running.{faults_ok}

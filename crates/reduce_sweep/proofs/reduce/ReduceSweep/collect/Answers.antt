@@ -1,16 +1,16 @@
 use Rattle.std.proofs.Common.{◌≡◌, ◌≤◌, ◌<◌, ◌∙◌, ap, subst, refl, arith, true, false}
-use Rattle.reduce_sweep.specs.declared.reduce.ReduceSweep.{ReduceSweep}
-use Rattle.reduce_sweep.proofs.Doing.{refused_second, then_ok, does_placed}
 use Rattle.std.specs.Prelude.{Ok}
 use Rattle.std.proofs.lemmas.Bool.Decides.{nat_tests}
 use Rattle.rec_words.specs.Words.{level_of}
 use Rattle.canon_file.specs.Members.{Has}
 use Rattle.arc_file.specs.declared.arc.Arc.{Arc}
+use Rattle.reduce_lists.specs.Contents.{to_collect}
+use Rattle.reduce_lists.specs.Changes.{ComesNext}
+use Rattle.reduce_lists.proofs.NextArcs.{none_from}
+use Rattle.reduce_sweep.specs.declared.reduce.ReduceSweep.{ReduceSweep}
 use Rattle.reduce_sweep.specs.declared.phase.Phase.TheVariants.{Number}
 use Rattle.reduce_sweep.specs.Sweeps.{none_numbered}
-use Rattle.reduce_sweep.specs.Remaining.{to_collect}
-use Rattle.reduce_sweep.specs.Changes.{ComesNext}
-use Rattle.reduce_sweep.proofs.NextArcs.{none_from}
+use Rattle.reduce_sweep.proofs.Doing.{refused_second, then_ok, does_placed}
 use Rattle.reduce_sweep.proofs.CollectingKeeps.{next_within, arc_below, none_below, level_collected}
 use Rattle.reduce_sweep.proofs.reduce.ReduceSweep.collect.Goals as goal
 use Rattle.reduce_sweep.proofs.reduce.ReduceSweep.collect.Goals.{in-Some+else-level-self+else-level-self-2, in_default}

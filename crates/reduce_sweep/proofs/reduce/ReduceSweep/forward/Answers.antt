@@ -1,13 +1,14 @@
 use Rattle.std.proofs.Common.{◌≡◌, ◌∙◌, ap, sym, subst, arith, true}
-use Rattle.reduce_sweep.specs.declared.reduce.ReduceSweep.{ReduceSweep}
-use Rattle.reduce_sweep.proofs.Doing.{refused_second, then_ok}
 use Rattle.std.proofs.lemmas.Bool.Decides.{nat_tests}
 use Rattle.rec_words.specs.Words.{level_of}
+use Rattle.reduce_lists.specs.Changes.{ShowsName}
+use Rattle.reduce_lists.proofs.NextArcs.{none_from}
+use Rattle.reduce_sweep.specs.declared.reduce.ReduceSweep.{ReduceSweep}
 use Rattle.reduce_sweep.specs.declared.phase.Phase.TheVariants.{Between}
 use Rattle.reduce_sweep.specs.declared.place.Place.{Place}
+use Rattle.reduce_sweep.specs.Sweeps.{held_of}
 use Rattle.reduce_sweep.specs.Remaining.{IsLeft}
-use Rattle.reduce_sweep.specs.Changes.{ShowsName}
-use Rattle.reduce_sweep.proofs.NextArcs.{none_from}
+use Rattle.reduce_sweep.proofs.Doing.{refused_second, then_ok}
 use Rattle.reduce_sweep.proofs.ForwardingKeeps.{names_done, name_here}
 use Rattle.reduce_sweep.proofs.reduce.ReduceSweep.forward.Goals as goal
 
@@ -35,7 +36,8 @@ returns-clause-does g c = then_ok g.S.Shelf.tells g.S.Shelf.world g.S.Shelf.faul
 pub returns-in_default-clause-keeps : goal.returns-in_default-clause-keeps
 returns-in_default-clause-keeps g c = λ told d working.
     let k = working.contents in
-    let shown = subst (ShowsName c.first_name.new.self (g.S.Shelf.world c.first_name.new.shelf) k) (none_from _ c.in_default.not-Some) (c.in_ok-name.ensures.shown told k working.holds) in
+    let shown = subst (ShowsName (held_of c.first_name.new.self) (g.S.Shelf.world c.first_name.new.shelf) k)
+    (none_from _ c.in_default.not-Some) (c.in_ok-name.ensures.shown told k working.holds) in
     names_done c.args.self.now.place _ _ d k c.requires.phase (λ j. record (c.first_name.ensures.rest j).place { phase = Between }) working.left shown.0 shown.1
 
 -- the first name is of the level
@@ -43,7 +45,8 @@ pub returns-then-level_at-self-clause-keeps : goal.returns-then-level_at-self-cl
 returns-then-level_at-self-clause-keeps g c = λ told d working.
     let s = c.args.self.now in
     let k = working.contents in
-    let shown = subst (ShowsName c.first_name.new.self (g.S.Shelf.world c.first_name.new.shelf) k) c.in-Some.is (c.in_ok-name.ensures.shown (c.take_name.ensures.does.leaves.content.before told) k working.holds) in
+    let shown = subst (ShowsName (held_of c.first_name.new.self) (g.S.Shelf.world c.first_name.new.shelf) k)
+    c.in-Some.is (c.in_ok-name.ensures.shown (c.take_name.ensures.does.leaves.content.before told) k working.holds) in
     let here : level_of c.in-Some.name.source ≡ s.place.level = name_here s.place d k c.in-Some.name shown.0 c.requires.phase working.left shown.1 in
     let same : c.first_name.new.self.place.level ≡ s.place.level = ap (λ (r : ReduceSweep). r.place.level) c.first_name.ensures.rest in
     let level : c.level_at.result ≡ level_of c.in-Some.name.source = c.level_at.ensures.level in
@@ -55,7 +58,9 @@ pub returns-clause-keeps : goal.returns-clause-keeps
 returns-clause-keeps g c = λ told d working.
     let s = c.args.self.now in
     let k = working.contents in
-    let shown = subst (ShowsName c.first_name.new.self (g.S.Shelf.world c.first_name.new.shelf) k) c.in-Some.is (c.in_ok-name.ensures.shown (c.forward_name.ensures.does.leaves.content.before told) k working.holds) in
+    let shown = subst (ShowsName (held_of c.first_name.new.self) (g.S.Shelf.world c.first_name.new.shelf) k)
+    c.in-Some.is (c.in_ok-name.ensures.shown (c.forward_name.ensures.does.leaves.content.before told) k
+    working.holds) in
     let here : level_of c.in-Some.name.source ≡ s.place.level = name_here s.place d k c.in-Some.name shown.0 c.requires.phase working.left shown.1 in
     c.in_ok-forward_name.ensures.keeps told d k shown.0 shown.1 (here ∙ sym (ap (λ (r : ReduceSweep). r.place.level) c.first_name.ensures.rest)) shown.2
     (subst (λ (p : Place). IsLeft p d k) (sym (ap (λ (r : ReduceSweep). r.place) c.first_name.ensures.rest)) working.left)

@@ -1,12 +1,12 @@
 use Rattle.std.proofs.Common.{◌≡◌, ◌<◌, ◌∙◌, ap, sym, subst, refl, arith}
-use Rattle.reduce_sweep.specs.declared.reduce.ReduceSweep.{ReduceSweep}
 use Rattle.std.specs.Prelude.{Option}
 use Rattle.rec_words.specs.Words.{level_of}
 use Rattle.arc_file.specs.declared.arc.Arc.{Arc}
 use Rattle.arc_diagrams.specs.declared.final_arc.FinalArc.{FinalArc}
 use Rattle.std.proofs.lemmas.Bool.Decides.{nat_tests}
+use Rattle.reduce_lists.proofs.NextArcs.{none_from}
+use Rattle.reduce_sweep.specs.declared.reduce.ReduceSweep.{ReduceSweep}
 use Rattle.reduce_sweep.specs.Changes.{ForwardsAlong}
-use Rattle.reduce_sweep.proofs.NextArcs.{none_from}
 use Rattle.reduce_sweep.proofs.TurnKeeps.{on_ok_weaker, on_ok_both}
 use Rattle.reduce_sweep.proofs.ForwardingKeeps.{name_given_up, none_left, none_as_far, leads_within, arc_leads, comes_after, arc_forwarded}
 use Rattle.reduce_sweep.proofs.reduce.ReduceSweep.forward_name.Goals as goal

@@ -1,6 +1,6 @@
 use Rattle.std.proofs.Common.{subst, arith}
-use Rattle.reduce_sweep.specs.Sweeps.{Handles}
 use Rattle.reduce_sweep.specs.declared.phase.Phase.TheVariants.{Between}
+use Rattle.reduce_sweep.specs.Sweeps.{Handles}
 use Rattle.reduce_sweep.proofs.Doing.{does_then, does_more}
 use Rattle.reduce_sweep.proofs.TurnKeeps.{falls_then, on_ok_weaker, left_step, left_remains, left_counts}
 use Rattle.reduce_sweep.proofs.reduce.ReduceSweep.handle.Goals as goal

@@ -2,7 +2,7 @@ use Rattle.std.proofs.Common.{◌-◌, ◌^◌, ◌∙◌, ap}
 use Rattle.rec_words.specs.Words.{node_word}
 use Rattle.reduce_sweep.specs.declared.reduce.ReduceSweep.{ReduceSweep}
 use Rattle.reduce_sweep.proofs.Doing.{does_then}
-use Rattle.reduce_sweep.proofs.Joining.{row_named}
+use Rattle.reduce_sweep.proofs.Putting.{row_named}
 use Rattle.reduce_sweep.proofs.reduce.ReduceSweep.number_row.Goals as goal
 
 -- the node was put, and the name pushed

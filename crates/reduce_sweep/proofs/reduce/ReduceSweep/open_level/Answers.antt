@@ -1,11 +1,11 @@
 use Rattle.std.proofs.Common.{◌≡◌, ◌≤◌, ◌<◌, ◌∙◌, ap, subst, refl, arith}
-use Rattle.reduce_sweep.specs.declared.reduce.ReduceSweep.{ReduceSweep}
-use Rattle.reduce_sweep.proofs.Doing.{refused_second, then_ok, does_placed}
 use Rattle.std.specs.Prelude.{Ok}
 use Rattle.rec_words.specs.Words.{level_of}
 use Rattle.sweep_core.specs.declared.turn.Turn.TheVariants as turn
+use Rattle.reduce_lists.specs.Changes.{ComesNext}
+use Rattle.reduce_sweep.specs.declared.reduce.ReduceSweep.{ReduceSweep}
 use Rattle.reduce_sweep.specs.declared.phase.Phase.TheVariants.{Collect}
-use Rattle.reduce_sweep.specs.Changes.{ComesNext}
+use Rattle.reduce_sweep.proofs.Doing.{refused_second, then_ok, does_placed}
 use Rattle.reduce_sweep.proofs.CollectingKeeps.{is_shallower, level_opened, at_member}
 use Rattle.reduce_sweep.proofs.reduce.ReduceSweep.open_level.Goals as goal
 

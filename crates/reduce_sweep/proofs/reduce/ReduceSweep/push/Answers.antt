@@ -1,13 +1,15 @@
 use Rattle.std.proofs.Common.{IsTrue}
-use Rattle.reduce_sweep.proofs.Doing.{if_err_weaker}
-use Rattle.reduce_sweep.proofs.Joining.{queue_joins}
-use Rattle.reduce_sweep.proofs.Listing.{joins_known, queue_fits, queue_does}
-use Rattle.reduce_sweep.proofs.Refusing.{none_joined, queue_push_refuses}
+use Rattle.reduce_lists.proofs.Refusing.{if_err_weaker, none_joined, queue_push_refuses}
+use Rattle.reduce_lists.proofs.Joining.{queue_joins}
+use Rattle.reduce_lists.proofs.Listing.{joins_known}
+use Rattle.reduce_sweep.specs.Sweeps.{held_of}
+use Rattle.reduce_sweep.proofs.Fitting.{queue_fits, queue_does}
 use Rattle.reduce_sweep.proofs.reduce.ReduceSweep.push.Goals as goal
 
 -- the arc joined the queue, and only parts were taken
 pub returns-clause-joined : goal.returns-clause-joined
-returns-clause-joined g c = queue_joins c.args.self.now c.push.new.self c.push.new.parts (IsTrue (g.S.Shelf.tells c.push.new.shelf)) _ _ c.args.told c.push.result
+returns-clause-joined g c = queue_joins (held_of c.args.self.now) c.push.new.self c.push.new.parts
+    (IsTrue (g.S.Shelf.tells c.push.new.shelf)) _ _ c.args.told c.push.result
     c.requires.fit.sound.served c.push.ensures.last (λ told. c.push.ensures.content.did told) (λ told xs list. c.push.ensures.list told xs list)
 
 -- so the list is known
@@ -22,6 +24,7 @@ pub returns-clause-does : goal.returns-clause-does
 returns-clause-does g c = queue_does g.S.Shelf.tells g.S.Shelf.world g.S.Shelf.faults _ _ c.args.self.now c.requires.fit c.push.new.parts c.push.ensures.parts
     c.push.ensures.content
     c.push.new.self 48 3 c.push.result c.push.ensures.calls c.push.ensures.spent c.push.ensures.faults
-    (if_err_weaker c.push.result (λ e cause. queue_push_refuses c.args.self.now.ahead.queue c.args.self.now.parts _ _ (record c.args.self.now { ahead = record c.args.self.now.ahead { queue = c.push.new.self }; parts = c.push.new.parts }) e
+    (if_err_weaker c.push.result (λ e cause. queue_push_refuses c.args.self.now.ahead.queue c.args.self.now.parts
+    c.push.new.parts e
     c.requires.fit.sound.served.queue_served c.push.ensures.parts cause) c.push.ensures.cause)
     (none_joined _ _ _ c.args.self.now.ahead.reader (g.S.Shelf.world c.args.shelf.now) c.args.told c.push.result (λ told. (c.requires.fit.at_work (c.push.ensures.content.before told)).listed.queue_listed) (λ told xs list. c.push.ensures.list told xs list))

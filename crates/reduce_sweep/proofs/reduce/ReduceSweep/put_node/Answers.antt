@@ -1,14 +1,15 @@
 use Rattle.std.proofs.Common.{◌-◌, ◌^◌, ◌∙◌, ap, sym, subst, refl, arith, rules, IsTrue}
 use Rattle.rec_words.specs.Words.{node_word}
-use Rattle.reduce_sweep.specs.declared.phase.Numbered.{Numbered}
 use Rattle.block_stream.specs.Writes.{count_of}
 use Rattle.node_file.specs.Writers.{filling_of}
+use Rattle.reduce_lists.proofs.Joining.{served_put, work_put, own_wrote}
+use Rattle.reduce_lists.proofs.Refusing.{write_undamaged}
+use Rattle.reduce_sweep.specs.declared.phase.Numbered.{Numbered}
+use Rattle.reduce_sweep.specs.declared.phase.Phase.TheVariants.{Number}
 use Rattle.reduce_sweep.specs.Sweeps.{IsNumberedAt}
 use Rattle.reduce_sweep.specs.Changes.{numbered_with}
-use Rattle.reduce_sweep.proofs.Joining.{puts_none, puts_node, numbered_next, served_put, work_put}
-use Rattle.reduce_sweep.specs.declared.phase.Phase.TheVariants.{Number}
-use Rattle.reduce_sweep.proofs.Doing.{own_wrote}
-use Rattle.reduce_sweep.proofs.Refusing.{write_refuses, write_undamaged}
+use Rattle.reduce_sweep.proofs.Putting.{puts_none, puts_node, numbered_next}
+use Rattle.reduce_sweep.proofs.Refusing.{write_refuses}
 use Rattle.reduce_sweep.proofs.NumberingKeeps.{phase_numbered}
 use Rattle.reduce_sweep.proofs.reduce.ReduceSweep.put_node.Goals as goal
 
@@ -51,7 +52,7 @@ returns-clause-does g c = record {
     making = λ f e. e ∙ sym c.put.ensures.same.file_is;
     step_is = refl;
     later = omega arith;
-    content = own_wrote g.S.Shelf.tells g.S.Shelf.world g.S.Shelf.faults _ _ _ 1 _ _ c.put.ensures.content;
+    content = own_wrote g.S.Shelf.tells g.S.Shelf.world _ _ _ 1 _ _ c.put.ensures.content;
     calls = λ told. (let few = (c.put.ensures.content.did told).few in omega (arith, few));
     spent = omega arith;
     faults = search rules;
@@ -76,7 +77,7 @@ returns-in_err-put-clause-does g c = record {
     making = λ f e. e ∙ sym c.put.ensures.same.file_is;
     step_is = refl;
     later = omega arith;
-    content = own_wrote g.S.Shelf.tells g.S.Shelf.world g.S.Shelf.faults _ _ _ 1 _ _ c.put.ensures.content;
+    content = own_wrote g.S.Shelf.tells g.S.Shelf.world _ _ _ 1 _ _ c.put.ensures.content;
     calls = λ told. (let few = (c.put.ensures.content.did told).few in omega (arith, few));
     spent = omega arith;
     faults = search rules;

@@ -1,13 +1,15 @@
 use Rattle.std.proofs.Common.{refl, rules, IsTrue}
-use Rattle.reduce_sweep.proofs.Joining.{end_passes, end_damaged}
-use Rattle.reduce_sweep.proofs.Listing.{work_read_end}
-use Rattle.reduce_sweep.proofs.Within.{within_read_end}
+use Rattle.reduce_lists.proofs.Joining.{end_passes, end_damaged}
+use Rattle.reduce_lists.proofs.Listing.{work_read_end}
+use Rattle.reduce_lists.proofs.Within.{within_read_end}
+use Rattle.reduce_sweep.specs.Sweeps.{held_of}
 use Rattle.reduce_sweep.proofs.reduce.ReduceSweep.read_end.Goals as goal
 
 -- the arc before it is the next one
 pub returns-clause-passed : goal.returns-clause-passed
 returns-clause-passed g c = λ told k arc at holds.
-    end_passes c.args.self.now c.next_end.new.self _ c.args.self.now.ahead.end _ _ k arc refl c.requires.there c.requires.fit.sound.served (c.next_end.ensures.content.did told).run
+    end_passes (held_of c.args.self.now) c.next_end.new.self _ c.args.self.now.ahead.end _ _ k arc refl c.requires.there
+    c.requires.fit.sound.served (c.next_end.ensures.content.did told).run
     c.next_end.ensures.inner c.next_end.ensures.file c.in_ok-self.ensures.place
     (c.in_ok-self.ensures.arcs told (c.requires.fit.at_work (c.next_end.ensures.content.before told)).reads_ends) at holds
 

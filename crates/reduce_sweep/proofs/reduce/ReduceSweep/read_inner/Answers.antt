@@ -1,13 +1,15 @@
 use Rattle.std.proofs.Common.{refl, rules, IsTrue}
-use Rattle.reduce_sweep.proofs.Joining.{inner_passes, inner_damaged}
-use Rattle.reduce_sweep.proofs.Listing.{work_read_inner}
-use Rattle.reduce_sweep.proofs.Within.{within_read_inner}
+use Rattle.reduce_lists.proofs.Joining.{inner_passes, inner_damaged}
+use Rattle.reduce_lists.proofs.Listing.{work_read_inner}
+use Rattle.reduce_lists.proofs.Within.{within_read_inner}
+use Rattle.reduce_sweep.specs.Sweeps.{held_of}
 use Rattle.reduce_sweep.proofs.reduce.ReduceSweep.read_inner.Goals as goal
 
 -- the arc before it is the next one
 pub returns-clause-passed : goal.returns-clause-passed
 returns-clause-passed g c = λ told k holds.
-    inner_passes c.args.self.now c.next_inner.new.self _ c.args.self.now.ahead.inner _ _ k refl c.requires.some c.requires.fit.sound.served (c.next_inner.ensures.content.did told).run
+    inner_passes (held_of c.args.self.now) c.next_inner.new.self _ c.args.self.now.ahead.inner _ _ k refl
+    c.requires.some c.requires.fit.sound.served (c.next_inner.ensures.content.did told).run
     c.next_inner.ensures.ends c.next_inner.ensures.file c.in_ok-self.ensures.place
     (c.in_ok-self.ensures.arcs told (c.requires.fit.at_work (c.next_inner.ensures.content.before told)).reads_inner) holds
 

@@ -9,11 +9,12 @@ use Rattle.arc_file.specs.Readers.{inner_of, ends_of, left_over_of}
 use Rattle.arc_diagrams.specs.Laws.{IsDiagramOf}
 use Rattle.arc_diagrams.specs.Reducing.{Remains}
 use Rattle.sweep_core.specs.Accounts.{CanBeTaken}
-use Rattle.reduce_sweep.specs.declared.reduce.Ahead.{Ahead}
-use Rattle.reduce_sweep.specs.Sweeps.{AreWithin}
-use Rattle.reduce_sweep.proofs.StartKeeps.{begins, few_at_start, at_first, held_at_first, work_begins, as_before, emptied, ReadsNothing, inner_damaged, ends_damaged, was_cut, then_looked}
-use Rattle.reduce_sweep.proofs.Undamaged.{begins_undamaged}
-use Rattle.reduce_sweep.proofs.Within.{within_read_inner, within_read_end, within_at_first}
+use Rattle.reduce_lists.specs.declared.held.Ahead.{Ahead}
+use Rattle.reduce_lists.specs.Held.{AreWithin}
+use Rattle.reduce_lists.proofs.Beginning.{at_first, held_at_first, work_begins, as_before, emptied, ReadsNothing, inner_damaged, ends_damaged, was_cut, then_looked}
+use Rattle.reduce_lists.proofs.Undamaged.{begins_undamaged}
+use Rattle.reduce_lists.proofs.Within.{within_read_inner, within_read_end, within_at_first}
+use Rattle.reduce_sweep.proofs.StartKeeps.{begins, few_at_start}
 use Rattle.reduce_sweep.proofs.reduce.ReduceSweep.start.Goals as goal
 
 pub returns-in_err-inner-clause-content : goal.returns-in_err-inner-clause-content

@@ -1,15 +1,18 @@
 use Rattle.std.proofs.Common.{arith, inl}
 use Rattle.std.specs.Prelude.{Ok}
-use Rattle.reduce_sweep.proofs.Doing.{if_err_weaker, does_ok, does_err}
-use Rattle.reduce_sweep.proofs.Joining.{names_left}
-use Rattle.reduce_sweep.proofs.Listing.{took_none, stays_spilled, gives_known, names_fit, names_do}
-use Rattle.reduce_sweep.proofs.Refusing.{none_given, read_refuses}
+use Rattle.reduce_lists.proofs.Refusing.{if_err_weaker, none_given, read_refuses}
+use Rattle.reduce_lists.proofs.Joining.{names_left}
+use Rattle.reduce_lists.proofs.Listing.{took_none, stays_spilled, gives_known}
+use Rattle.reduce_sweep.specs.Sweeps.{held_of}
+use Rattle.reduce_sweep.proofs.Doing.{does_ok, does_err}
+use Rattle.reduce_sweep.proofs.Fitting.{names_fit, names_do}
 use Rattle.reduce_sweep.proofs.reduce.ReduceSweep.take_name.Goals as goal
 
 -- the other names are left, and no file changed
 pub returns-clause-left : goal.returns-clause-left
 returns-clause-left g c = λ told k m rest is holds.
-    names_left c.args.self.now c.next.new.self _ _ k m rest _ c.requires.fit.sound.served (c.next.ensures.content.did told) (c.in_ok-next.ensures.list told k.names holds.names_is) is holds
+    names_left (held_of c.args.self.now) c.next.new.self _ _ k m rest _ c.requires.fit.sound.served
+    (c.next.ensures.content.did told) (c.in_ok-next.ensures.list told k.names holds.names_is) is holds
 
 -- so the list is known
 pub returns-clause-fit : goal.returns-clause-fit
@@ -24,7 +27,7 @@ returns-in_err-next-clause-does g c = does_err g.S.Shelf.tells g.S.Shelf.world g
     (names_do g.S.Shelf.tells g.S.Shelf.world g.S.Shelf.faults _ _ c.args.self.now c.requires.fit c.args.self.now.parts (took_none c.args.self.now.parts)
     (stays_spilled g.S.Shelf.tells g.S.Shelf.world _ _ c.args.self.now.parts c.next.ensures.content)
     c.next.new.self 2 0 c.next.result c.next.ensures.calls (let less = c.next.ensures.spent in omega (arith, less)) c.next.ensures.faults
-    (if_err_weaker c.next.result (λ e cause. read_refuses c.args.self.now.lists.names _ _ (record c.args.self.now { lists = record c.args.self.now.lists { names = c.next.new.self } }) e
+    (if_err_weaker c.next.result (λ e cause. read_refuses c.args.self.now.lists.names c.args.self.now.parts e
     c.requires.fit.sound.served.names_served cause) c.next.ensures.cause)
     (none_given _ _ _ c.args.self.now.ahead.reader (g.S.Shelf.world c.args.shelf.now) c.next.result (λ told. (c.requires.fit.at_work (c.next.ensures.content.before told)).listed.names_listed)
     (λ told xs list. c.next.ensures.list told xs list)))
@@ -34,7 +37,7 @@ returns-clause-does g c = does_ok g.S.Shelf.tells g.S.Shelf.world g.S.Shelf.faul
     (names_do g.S.Shelf.tells g.S.Shelf.world g.S.Shelf.faults _ _ c.args.self.now c.requires.fit c.args.self.now.parts (took_none c.args.self.now.parts)
     (stays_spilled g.S.Shelf.tells g.S.Shelf.world _ _ c.args.self.now.parts c.next.ensures.content)
     c.next.new.self 2 0 c.next.result c.next.ensures.calls (let less = c.next.ensures.spent in omega (arith, less)) c.next.ensures.faults
-    (if_err_weaker c.next.result (λ e cause. read_refuses c.args.self.now.lists.names _ _ (record c.args.self.now { lists = record c.args.self.now.lists { names = c.next.new.self } }) e
+    (if_err_weaker c.next.result (λ e cause. read_refuses c.args.self.now.lists.names c.args.self.now.parts e
     c.requires.fit.sound.served.names_served cause) c.next.ensures.cause)
     (none_given _ _ _ c.args.self.now.ahead.reader (g.S.Shelf.world c.args.shelf.now) c.next.result (λ told. (c.requires.fit.at_work (c.next.ensures.content.before told)).listed.names_listed)
     (λ told xs list. c.next.ensures.list told xs list)))

@@ -10,7 +10,7 @@ use Rattle.arc_file.specs.declared.stream.ArcStream.{ArcStream}
 use Rattle.arc_file.specs.declared.unreduced.Unreduced.{Unreduced}
 use Rattle.arc_file.specs.Streams.{file_of, left_of, given_of, GoesUp}
 use Rattle.arc_file.specs.Readers.{inner_of, ends_of, left_over_of}
-use Rattle.reduce_sweep.specs.Sweeps.{IsWithin, AreWithin}
+use Rattle.reduce_lists.specs.Held.{IsWithin, AreWithin}
 
 -- one arc more was read of a file
 pub within_read : (kind : Kind) (f : FileNo) (count : ℕ) (s t : ArcStream) (next : Option Arc) → file_of t ≡ file_of s

@@ -1,0 +1,9 @@
+pub mod Within
+pub mod Holding
+pub mod Listing
+pub mod Refusing
+pub mod DamageLaws
+pub mod NextArcs
+pub mod Joining
+pub mod Undamaged
+pub mod Beginning
