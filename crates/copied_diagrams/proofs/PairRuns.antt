@@ -1,6 +1,5 @@
 -- A copy after two trailers were read.
 use Rattle.std.proofs.Common.{◌≡◌, ◌∙◌, ℕ, ◌+◌, ◌*◌, ◌≤◌, Bool, IsTrue, List, length, sym, ap, subst, arith}
-use Rattle.std.specs.Prelude.{Result, Ok, Err, IfOk}
 use Rattle.bool_tables.specs.declared.steps.Bin.{Bin}
 use Rattle.shelf_model.specs.declared.file_no.FileNo.{FileNo}
 use Rattle.shelf_model.specs.declared.fault.StreamFault.{StreamFault}
@@ -157,11 +156,10 @@ so_many n table to nodes count most new same made =
     record { form = made.form; file_is = made.file_is; nodes_are = same ∙ made.nodes_are; few = omega (arith, same, few) }
 
 -- what holds of the nodes where a diagram was made
-pub if_made : (r : Result Making StreamFault) (P Q R : ℕ → Type 0) → IfOk r (λ m. IfMade m P) → IfOk r (λ m. IfMade m Q)
-    → ((nodes : ℕ) → P nodes → Q nodes → R nodes) → IfOk r (λ m. IfMade m R)
-if_made (Ok (Made nodes)) P Q R p q both = both nodes p q
-if_made (Ok (NotMade read)) P Q R p q both = tt
-if_made (Err e) P Q R p q both = tt
+pub if_made : (m : Making) (P Q R : ℕ → Type 0) → IfMade m P → IfMade m Q → ((nodes : ℕ) → P nodes → Q nodes → R nodes)
+    → IfMade m R
+if_made (Made nodes) P Q R p q both = both nodes p q
+if_made (NotMade read) P Q R p q both = tt
 
 -- so in each way the operator's table is made
 pub way_made : (n : ℕ) (op : Bin) (t u : List Bool) (left right : Source) (way : Way) (to : FileNo) (old mid late new : World)

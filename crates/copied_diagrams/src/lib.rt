@@ -9,5 +9,5 @@ mod trailers;
 
 pub use copy::copy_file;
 pub use operand::{Choice, Operand};
-pub use pair::{Making, make_without_sweeps};
+pub use pair::{Look, Making, make_without_sweeps};
 pub use source::Source;

@@ -10,7 +10,7 @@ ghost use Rattle.shelf_model.specs.Faults.{OnlyFolder, OnlyShelf};
 ghost use Rattle.block_stream.specs.Reads.{Looked};
 ghost use Rattle.complemented_diagrams.specs.Changes.{Changed};
 ghost use Rattle.copied_diagrams.specs.Operands.{pair_table};
-ghost use Rattle.copied_diagrams.specs.Pairs.{ArePair, IsMade, IsPairDamage, nodes_of_both, IfMade, IfNotMade, made_calls, count_of, room_of, HasVariables, IsApart, HasMade};
+ghost use Rattle.copied_diagrams.specs.Pairs.{ArePair, IsMade, IsPairDamage, IsTrailerOf, nodes_of_both, IfMade, IfNotMade, made_calls, count_of, room_of, HasVariables, IsApart, HasMade};
 
 use crate::copy::copy_file;
 use crate::source::{Source, Way, way_of};
@@ -29,8 +29,17 @@ pub enum Making {
     NotMade(u64),
 }
 
+/// Two operands with their trailers, and what came of a look at them.
+#[derive(Clone, Copy, Debug, PartialEq, Eq)]
+pub struct Look {
+    pub left: Source,
+    pub right: Source,
+    pub making: Making,
+}
+
 /// Makes the node file of an operator on the files of two diagrams of `n` variables, where their trailers show that its
-/// table is a constant, that of one of them or its complement, and answers how many nodes it has.
+/// table is a constant, that of one of them or its complement, and answers how many nodes it has. Both trailers are
+/// answered with it.
 ///
 /// That is so where the other diagram is a constant or the same, or the operator hangs on one operand at most. A diagram
 /// with as many nodes as the room has records, or as a checkpoint's interval has turns, is left to a sweep. So is a
@@ -43,14 +52,14 @@ pub fn make_without_sweeps<S: Shelf>(
     to: FileNo,
     room: &mut [Rec],
     shelf: &mut S,
-) -> Result<Making, StreamFault>
+) -> Result<Look, StreamFault>
     requires variables { n ≤ 65535 }
     requires room { 8 ≤ length room.old }
     requires left { left ≢ to }
     requires right { right ≢ to }
 
     // of canonical files
-    ensures made { IfOk result (λ made. IfMade made (λ nodes. IsTrue (S.tells shelf.new) → (t u : List Bool) →
+    ensures made { IfOk result (λ look. IfMade look.making (λ nodes. IsTrue (S.tells shelf.new) → (t u : List Bool) →
         ArePair n left right t u (S.world shelf.old) →
         IsMade n (pair_table n op t u) to nodes (nodes_of_both n t u) (S.world shelf.new))) }
     ensures sound { IfErr result (λ e. IsTrue (S.tells shelf.new) → (t u : List Bool) →
@@ -59,14 +68,19 @@ pub fn make_without_sweeps<S: Shelf>(
         ArePair n left right t u (S.world shelf.old) →
         (S.world shelf.new).clock ≤ (S.world shelf.old).clock + (2 * nodes_of_both n t u + 8) }
 
-    ensures few_read { IfOk result (λ made. IfNotMade made (λ read. IsTrue (S.tells shelf.new) → (t u : List Bool) →
-        ArePair n left right t u (S.world shelf.old) → read ≤ nodes_of_both n t u)) }
+    ensures few_read { IfOk result (λ look. IfNotMade look.making (λ read. IsTrue (S.tells shelf.new) →
+        (t u : List Bool) → ArePair n left right t u (S.world shelf.old) → read ≤ nodes_of_both n t u)) }
+    ensures trailers { IfOk result (λ look. IsTrue (S.tells shelf.new) → (t u : List Bool) →
+        ArePair n left right t u (S.world shelf.old) →
+        IsTrailerOf n t look.left.trailer × IsTrailerOf n u look.right.trailer) }
 
     // whatever the files hold
-    ensures few { IfOk result (λ made. IfMade made (λ nodes. nodes + 1 < min (length room.entry.now) 65536)) }
-    ensures calls { IfOk result (λ made. IsTrue (S.tells shelf.new) →
-        (S.world shelf.new).clock ≤ (S.world shelf.old).clock + made_calls made) }
-    ensures not_made { IfOk result (λ made. IfNotMade made (λ read. Told S.tells shelf.old shelf.new
+    ensures operands { IfOk result (λ look. (look.left.from ≡ left) × (look.right.from ≡ right)) }
+    ensures few { IfOk result (λ look. IfMade look.making (λ nodes.
+        nodes + 1 < min (length room.entry.now) 65536)) }
+    ensures calls { IfOk result (λ look. IsTrue (S.tells shelf.new) →
+        (S.world shelf.new).clock ≤ (S.world shelf.old).clock + made_calls look.making) }
+    ensures not_made { IfOk result (λ look. IfNotMade look.making (λ read. Told S.tells shelf.old shelf.new
         (Looked (read + 4) (S.world shelf.old) (S.world shelf.new)))) }
     ensures damaged { IfErr result (λ e. IsTrue (S.tells shelf.new) →
         IsPairDamage n left right (S.world shelf.old) e) }
@@ -84,10 +98,19 @@ pub fn make_without_sweeps<S: Shelf>(
         from: right,
         trailer: second,
     };
-    match way_of(op, first, second, room.len() as u64) {
-        Some(way) => make_by(way, n, to, room, shelf),
-        None => Ok(Making::NotMade(0)),
-    }
+    let Some(way) = way_of(op, &first, &second, room.len() as u64) else {
+        return Ok(Look {
+            left: first,
+            right: second,
+            making: Making::NotMade(0),
+        });
+    };
+    let making = make_by(way, n, to, room, shelf)?;
+    Ok(Look {
+        left: first,
+        right: second,
+        making,
+    })
 }
 
 // Makes a diagram in one way, or none where the nodes of the operand aren't in order.

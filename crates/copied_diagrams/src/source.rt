@@ -31,14 +31,14 @@ pub(crate) enum Way {
 
 /// The way to make the diagram of an operator's result, where the trailers of both operands show one, and it has
 /// fewer nodes than a room of so many records allows.
-pub(crate) fn way_of(op: Bin, left: Source, right: Source, room: u64) -> Option<Way>
+pub(crate) fn way_of(op: Bin, left: &Source, right: &Source, room: u64) -> Option<Way>
     requires room { 8 ≤ room }
-    ensures way { IfSome result (IsWay op left right) }
+    ensures way { IfSome result (IsWay op left.now right.now) }
     ensures few { IfSome result (λ way. count_of way + 1 < min room 65536) }
     ensures fits { IfSome result (λ way. room_of way ≤ room) }
 {
-    match choice_between(op, &left, &right) {
-        Some(choice) => way_by(choice, left, right, room),
+    match choice_between(op, left, right) {
+        Some(choice) => way_by(choice, *left, *right, room),
         None => None,
     }
 }

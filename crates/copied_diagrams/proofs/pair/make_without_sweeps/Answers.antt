@@ -27,13 +27,13 @@ returns-in_err-second-clause-damaged g c = on_fault c.from_residual-in_err-secon
     (c.in_ok-first.ensures.content.did (c.in_err-second.ensures.content.before told)) (c.in_err-second.ensures.damaged told)))
 
 -- what is made
-pub returns-in-Some-clause-content : goal.returns-in-Some-clause-content
-returns-in-Some-clause-content g c = told g.S.Shelf.tells _ _ _ _
+pub returns-in_err-making-clause-content : goal.returns-in_err-making-clause-content
+returns-in_err-making-clause-content g c = told g.S.Shelf.tells _ _ _ _
     (then_changed g.S.Shelf.tells g.S.Shelf.world c.args.to _ _ _ _ _ c.read_trailer.ensures.content c.read_trailer-2.ensures.content
     c.make_by.ensures.content) (λ _ changed. changed.run)
 
-pub returns-in-Some-clause-made : goal.returns-in-Some-clause-made
-returns-in-Some-clause-made g c = if_made c.make_by.result _ _ _ c.make_by.ensures.nodes c.make_by.ensures.made (λ nodes same made told t u pair.
+pub returns-clause-made : goal.returns-clause-made
+returns-clause-made g c = if_made c.in_ok-making.making _ _ _ c.in_ok-making.ensures.nodes c.in_ok-making.ensures.made (λ nodes same made told t u pair.
     let late = c.make_by.ensures.content.before told in
     let mid = c.in_ok-second.ensures.content.before late in
     let first = c.in_ok-first.ensures.content.did mid in
