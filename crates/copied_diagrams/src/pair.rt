@@ -41,8 +41,8 @@ pub struct Look {
 /// table is a constant, that of one of them or its complement, and answers how many nodes it has. Both trailers are
 /// answered with it.
 ///
-/// That is so where the other diagram is a constant or the same, or the operator hangs on one operand at most. A diagram
-/// with as many nodes as the room has records, or as a checkpoint's interval has turns, is left to a sweep. So is a
+/// That is so where the other diagram is a constant or the same, or the operator hangs on one operand at most. One with
+/// as many nodes as the room has records, or as a checkpoint's interval has turns, is left to a sweep. So is a
 /// complement where the room hasn't two records for each node and eight more, or the operand's nodes aren't in order.
 pub fn make_without_sweeps<S: Shelf>(
     op: Bin,

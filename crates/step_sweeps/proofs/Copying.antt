@@ -28,7 +28,7 @@ use Rattle.step_sweeps.proofs.Running.{file_stays}
 file_of : (n : ℕ) (t : List Bool) (f : FileNo) (world : World) → IsCanonicalFile n t f world → IsFileOf n t f world
 file_of n t f world is = record { form = is.form; bytes_are = is.bytes_are }
 
-pair_of : (n : ℕ) (op : Bin) (operands : OperandFiles) (world : World) (g : Tables) → AreGiven (Operator op) n operands world g
+pub pair_of : (n : ℕ) (op : Bin) (operands : OperandFiles) (world : World) (g : Tables) → AreGiven (Operator op) n operands world g
     → ArePair n operands.first operands.second g.first g.second world
 pair_of n op operands world g given = record {
   first = file_of n g.first operands.first world given.first;
@@ -53,7 +53,7 @@ copy_is operation op n number operands g nodes m old new is m_is made given =
     })
 
 -- a node file of another step isn't the step's
-apart : (number : ℕ) (f : FileNo) → f.step < number → ¬ (f ≡ node_file number)
+pub apart : (number : ℕ) (f : FileNo) → f.step < number → ¬ (f ≡ node_file number)
 apart number f before same = absurd (let step = ap (λ (x : FileNo). x.step) same in omega (arith, step, before))
 
 -- damage of a file that is as it was

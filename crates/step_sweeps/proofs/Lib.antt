@@ -9,4 +9,5 @@ mod Reducing
 mod Making
 mod Numbers
 mod Copying
+mod RoomOrSweeps
 mod FewArcs

@@ -6,15 +6,16 @@ use Rattle.step_sweeps.specs.declared.operation.StepOperation.{StepOperation}
 use Rattle.step_sweeps.specs.Given.{Tables, tuples_by, nodes_by, arcs_turns, work_by}
 
 module _ (operation : StepOperation) (n : ℕ) (g : Tables) (sources : ℕ) (few : sources ≤ tuples_by operation n g) where
-  -- the turns of both sweeps are within the step's work, and leave one for each node and one more
+  -- the turns of both sweeps are within the step's work, and leave two for each node and one more
   pub both_within : (first second turns : ℕ) → turns ≡ min (first + second) (2 ^ 64 - 1)
       → first ≤ arcs_turns operation n g → second ≤ 10 * sources + 9
-      → turns + nodes_by operation n g < work_by operation n g
+      → turns + 2 * nodes_by operation n g < work_by operation n g
   both_within first second turns is some more = omega (arith, few, is, some, more)
 
   -- and so are their calls
   pub both_calls : (old mid new : ℕ) → mid ≤ old + (224 * arcs_turns operation n g + 8)
-      → new ≤ mid + (224 * (10 * sources + 9) + 3) → new + 224 * (nodes_by operation n g + 1) ≤ old + (224 * work_by operation n g + 11)
+      → new ≤ mid + (224 * (10 * sources + 9) + 3)
+      → new + 224 * (2 * nodes_by operation n g + 1) ≤ old + (224 * work_by operation n g + 11)
   both_calls old mid new some more = omega (arith, few, some, more)
 
   -- no part number is left only after long work

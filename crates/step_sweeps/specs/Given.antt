@@ -2,6 +2,8 @@
 use Rattle.std.specs.Prelude.{◌≡◌, ℕ, ◌+◌, ◌*◌, ◌<◌, Bool, List, [], ◌∷◌}
 use Rattle.bool_tables.specs.Steps.{step_table}
 use Rattle.shelf_model.specs.World.{World}
+use Rattle.copied_diagrams.specs.declared.source.Source.{Source}
+use Rattle.copied_diagrams.specs.Pairs.{IsTrailerOf}
 use Rattle.step_work.specs.Tuples.{tuple_count}
 use Rattle.step_work.specs.Works.{nodes_of, work_for}
 use Rattle.top_down_sweep.specs.declared.beginning.OperandFiles.{OperandFiles}
@@ -37,6 +39,10 @@ pub record AreGiven (operation : StepOperation) (n : ℕ) (operands : OperandFil
   pub second : IsCanonicalFile n g.second operands.second world
   pub third : IsCanonicalFile n g.third operands.third world
   pub repeated : AreRepeated operation g
+
+-- the trailers are those of the first two tables' diagrams
+abbrev pub AreTrailersOf : ℕ → Tables → Source → Source → Type 0
+AreTrailersOf n g left right = IsTrailerOf n g.first left.trailer × IsTrailerOf n g.second right.trailer
 
 -- the table that the operation makes of them
 abbrev pub made_by : StepOperation → ℕ → Tables → List Bool

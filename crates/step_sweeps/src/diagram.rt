@@ -12,6 +12,7 @@ ghost use Rattle.step_sweeps.specs.Damage.{IsArcsFault};
 
 use crate::StepOperation;
 use crate::arcs::FIRST_PART;
+use crate::joining::join_or_sweep;
 use crate::swept::sweep_diagram;
 use copied_diagrams::{Making, make_without_sweeps};
 use rec_words::Rec;
@@ -33,6 +34,11 @@ pub struct MadeDiagram {
 /// An operator whose table is a constant, that of one operand or its complement, as the operands' trailers show, makes
 /// part 0 the constant's file, a copy of the operand's or the file of the complement, where that has fewer nodes than a
 /// checkpoint's interval has turns and the room holds what a complement takes.
+///
+/// Any other operator's diagram is made in the room, with no arcs, where the room holds the nodes of both operands and
+/// the pairs of pointers that are met, and where these are fewer than a checkpoint's interval has turns, and at most
+/// fourteen for each node and as many more. Else the sweeps follow, and the look at the trailers, each node that was
+/// read for a complement, and each node of the operands count as a turn.
 ///
 /// It takes no memory: all lies in the room.
 pub fn make_diagram<S: Shelf>(
@@ -77,13 +83,13 @@ pub fn make_diagram<S: Shelf>(
         step: number,
         part: 0,
     };
-    let made = make_without_sweeps(op, n, operands.first, operands.second, out, room, shelf)?;
-    let read = match made {
+    let look = make_without_sweeps(op, n, operands.first, operands.second, out, room, shelf)?;
+    let read = match look.making {
         Making::Made(nodes) => return Ok(unswept(nodes)),
         Making::NotMade(read) => read,
     };
-    let swept = sweep_diagram(operation, n, operands, number, room, shelf)?;
-    Ok(after_a_look(swept, read))
+    let made = join_or_sweep(op, n, look.left, look.right, operands, number, room, shelf)?;
+    Ok(after_a_look(made, read))
 }
 
 /// What was made without a sweep, whose turns are counted as one for each node and one.
@@ -98,13 +104,12 @@ fn unswept(nodes: u64) -> MadeDiagram
     }
 }
 
-/// What was made by sweeps after a look at the operands' trailers, which is a turn too, and at so many nodes, of which
-/// each is one.
-fn after_a_look(swept: MadeDiagram, read: u64) -> MadeDiagram
-    ensures { result ≡ record swept { turns = min (swept.turns + read + 1) (2 ^ 64 - 1) } }
+/// What was made after a look at so many nodes, of which each is a turn.
+fn after_a_look(made: MadeDiagram, read: u64) -> MadeDiagram
+    ensures { result ≡ record made { turns = min (made.turns + read) (2 ^ 64 - 1) } }
 {
     MadeDiagram {
-        turns: swept.turns.saturating_add(read).saturating_add(1),
-        ..swept
+        turns: made.turns.saturating_add(read),
+        ..made
     }
 }

@@ -7,6 +7,7 @@ mod arcs;
 mod diagram;
 mod implication;
 mod in_room;
+mod joining;
 mod laws;
 mod operation;
 mod reduction;

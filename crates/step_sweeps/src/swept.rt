@@ -18,7 +18,8 @@ use shelf_model::{Shelf, SortFault};
 use top_down_sweep::OperandFiles;
 
 /// Makes the node file of an operation: a sweep makes the arcs of a diagram in parts 3 and 4 of the step, and a
-/// reduction makes part 0 of them. Of the step's work at least a turn for each node of the operands is left, and one.
+/// reduction makes part 0 of them. Of the step's work at least two turns for each node of the operands are left, and
+/// one.
 pub(crate) fn sweep_diagram<S: Shelf>(
     operation: StepOperation,
     n: u32,
@@ -36,14 +37,14 @@ pub(crate) fn sweep_diagram<S: Shelf>(
     ensures made { IfOk result (λ m. IsTrue (S.tells shelf.new) → (g : Tables) →
         AreGiven operation n operands (S.world shelf.old) g →
         IsReduced n number (made_by operation n g) m (S.world shelf.new)
-        × (m.turns + nodes_by operation n g < work_by operation n g)) }
+        × (m.turns + 2 * nodes_by operation n g < work_by operation n g)) }
     ensures undamaged { IfErr result (λ e. IsTrue (S.tells shelf.new) → (g : Tables) →
         AreGiven operation n operands (S.world shelf.old) g → IsNoDamage e) }
     ensures spent { IsErrOf result SortFault.RunsSpent → IsTrue (S.tells shelf.new) → (g : Tables) →
         AreGiven operation n operands (S.world shelf.old) g → 2 ^ 35 ≤ work_by operation n g }
     ensures few_calls { IsTrue (S.tells shelf.new) → (g : Tables) →
         AreGiven operation n operands (S.world shelf.old) g →
-        (S.world shelf.new).clock + 224 * (nodes_by operation n g + 1)
+        (S.world shelf.new).clock + 224 * (2 * nodes_by operation n g + 1)
         ≤ (S.world shelf.old).clock + (224 * work_by operation n g + 11) }
 
     // whatever the files hold
