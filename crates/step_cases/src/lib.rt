@@ -14,6 +14,8 @@ mod failing;
 #[cfg(test)]
 mod foreign;
 #[cfg(test)]
+mod products;
+#[cfg(test)]
 mod random;
 #[cfg(test)]
 mod reductions;

@@ -1,17 +1,14 @@
 //! Diagrams whose arcs are reduced in the room, where it holds what that takes.
 use crate::random::Random;
-use crate::steps::{EMPTY, LARGE_ROOM, LEAST_ROOM, NUMBER, TWO, bench_of, is_made};
-use crate::tables::{operator, product_of};
+use crate::steps::{EMPTY, LARGE_ROOM, LEAST_ROOM, NUMBER, THREE, bench_of, is_made};
+use crate::tables::choice_of;
 use shelf_memory::Bench;
 use shelf_model::FileNo;
 use std::test::Fail;
 use step_sweeps::{StepOperation, make_diagram};
 
 /// So many variables that the least room doesn't hold two records for each source.
-const MANY: u32 = 16;
-
-/// The exclusive or.
-const DIFFER: u32 = 0b0110;
+const MANY: u32 = 15;
 
 const INNER: FileNo = FileNo {
     step: NUMBER,
@@ -35,16 +32,16 @@ fn source_count(bench: &Bench) -> u64 {
 fn reduces_with_more_room(rt: HostRuntime) -> Result<bool, Fail> {
     let alloc = rt.alloc();
     let (first, second, third) = Random::triple(alloc, MANY, 0)?;
-    let wanted = product_of(alloc, DIFFER, first.as_slice(), second.as_slice())?;
+    let wanted = choice_of(alloc, first.as_slice(), second.as_slice(), third.as_slice())?;
     let wanted = wanted.as_slice();
     let tables = [first.as_slice(), second.as_slice(), third.as_slice()];
     let mut bench = bench_of(alloc, MANY, tables)?;
     let mut least = vec![in alloc; EMPTY; LEAST_ROOM]?;
-    let operation = StepOperation::Operator(operator(DIFFER));
+    let operation = StepOperation::Choice;
     let Ok(swept) = make_diagram(
         operation,
         MANY,
-        TWO,
+        THREE,
         NUMBER,
         least.as_mut_slice(),
         &mut bench,
@@ -58,7 +55,7 @@ fn reduces_with_more_room(rt: HostRuntime) -> Result<bool, Fail> {
     let Ok(made) = make_diagram(
         operation,
         MANY,
-        TWO,
+        THREE,
         NUMBER,
         large.as_mut_slice(),
         &mut bench,
