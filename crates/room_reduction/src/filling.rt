@@ -28,7 +28,7 @@ pub(crate) fn read_sources<S: Shelf>(
     window: &mut [Rec],
     shelf: &mut S,
 ) -> Result<Option<usize>, StreamFault>
-    requires few { made.now.inner_count + made.now.ends_count ≤ 2 ^ 17 }
+    requires few { made.now.inner_count + made.now.ends_count ≤ 2 ^ 18 }
     requires window { 8 ≤ length window.old }
     ensures sources_len { length sources.new ≡ length sources.old }
     ensures firsts_len { length firsts.new ≡ length firsts.old }
@@ -83,7 +83,7 @@ fn read_arcs<S: Shelf>(
     window: &mut [Rec],
     shelf: &mut S,
 ) -> Result<Option<usize>, StreamFault>
-    requires few { count ≤ 2 ^ 17 }
+    requires few { count ≤ 2 ^ 18 }
     requires window { 8 ≤ length window.old }
     requires within { before ≤ length sources.old }
     ensures sources_len { length sources.new ≡ length sources.old }

@@ -31,7 +31,7 @@ pub fn reduce_in_room<S: Shelf>(
     shelf: &mut S,
 ) -> Result<Option<u64>, StreamFault>
     requires variables { n ≤ 65535 }
-    requires few { made.now.inner_count + made.now.ends_count ≤ 2 ^ 17 }
+    requires few { made.now.inner_count + made.now.ends_count ≤ 2 ^ 18 }
     requires room { 16384 ≤ length room.old }
     requires apart_inner { out ≢ made.now.inner }
     requires apart_ends { out ≢ made.now.ends }

@@ -27,8 +27,9 @@ fn source_count(bench: &Bench) -> u64 {
     inner.wrapping_add(ends) / 2
 }
 
-// At the least room a sweep reduces the arcs, which are two for each source, with more than a turn for each. More room
-// reduces them with a turn for each source and one. Both make the right file, and the arcs take the same turns.
+// At the least room a sweep reduces the arcs, which are two for each source, with more than two turns for each source.
+// More room reduces them with a turn for each two sources and one. Both make the right file, and the arcs take the same
+// turns.
 fn reduces_with_more_room(rt: HostRuntime) -> Result<bool, Fail> {
     let alloc = rt.alloc();
     let (first, second, third) = Random::triple(alloc, MANY, 0)?;

@@ -14,8 +14,8 @@ use rec_words::Rec;
 use room_reduction::reduce_in_room;
 use shelf_model::{FileNo, Shelf, StreamFault};
 
-/// Reduces the arcs of a diagram of `n` variables to the step's node file in the room, with a turn for each source and
-/// one, or leaves them to a sweep.
+/// Reduces the arcs of a diagram of `n` variables to the step's node file in the room, with a turn for each two sources
+/// and one, or leaves them to a sweep.
 pub(crate) fn reduce_few<S: Shelf>(
     n: u32,
     made: &MadeArcs,
@@ -26,8 +26,8 @@ pub(crate) fn reduce_few<S: Shelf>(
     requires variables { n ≤ 65535 }
     requires room { 16384 ≤ length room.old }
     requires files { HasArcFiles number made.now.arcs }
-    requires few { arc_count made.now.arcs < 2 ^ 17 }
-    ensures counted { IfOk result (λ done. IfSome done (λ m. (m.turns ≡ arc_count made.now.arcs / 2 + 1)
+    requires few { arc_count made.now.arcs < 2 ^ 18 }
+    ensures counted { IfOk result (λ done. IfSome done (λ m. (m.turns ≡ arc_count made.now.arcs / 4 + 1)
         × (m.next ≡ min made.now.parts.next (2 ^ 32)))) }
     ensures reduced { IfOk result (λ done. IfSome done (λ m. IsTrue (S.tells shelf.new) → (table : List Bool) →
         AreArcFiles n table made.now.arcs (S.world shelf.old) → IsReduced n number table m (S.world shelf.new))) }
@@ -47,7 +47,7 @@ pub(crate) fn reduce_few<S: Shelf>(
     };
     Ok(Some(MadeDiagram {
         nodes,
-        turns: (made.arcs.inner_count + made.arcs.ends_count) / 2 + 1,
+        turns: (made.arcs.inner_count + made.arcs.ends_count) / 4 + 1,
         next: made.parts.next.min(PARTS),
     }))
 }
@@ -55,7 +55,7 @@ pub(crate) fn reduce_few<S: Shelf>(
 /// What a sweep made of so many arcs after an attempt in the room, whose calls a turn for each 64 of them pays, and
 /// one.
 pub(crate) fn after_an_attempt(swept: MadeDiagram, arcs: u64) -> MadeDiagram
-    requires few { arcs < 2 ^ 17 }
+    requires few { arcs < 2 ^ 18 }
     ensures { result ≡ record swept { turns = min (swept.turns + (1 + arcs / 64)) (2 ^ 64 - 1) } }
 {
     MadeDiagram {

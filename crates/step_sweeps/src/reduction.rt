@@ -21,9 +21,9 @@ use sweep_core::run_to_end;
 /// How many part numbers a step has.
 pub(crate) const PARTS: u64 = 1 << 32;
 
-/// The most arcs that are reduced in the room. Their sources are half as many, which is fewer than the turns of a
-/// checkpoint's interval.
-const FEW_ARCS: u64 = (1 << 17) - 2;
+/// The most arcs that are reduced in the room. Their sources are half as many, and two of them take no longer than a
+/// turn of a sweep, so that these turns are fewer than a checkpoint's interval has.
+const FEW_ARCS: u64 = (1 << 18) - 8;
 
 /// Reduces the arcs of a diagram of `n` variables to the step's node file: in the room where they are few and it holds
 /// what that takes, and else by a sweep. The turns that are answered are those of the reduction alone, with those of
