@@ -7,8 +7,8 @@ ghost use Rattle.canon_file.specs.Laws.{HasForm};
 ghost use Rattle.complement_laws.specs.Complements.{complement, HasComplement};
 
 /// The diagram of the complement of a table has as many nodes as the table's. The rows of each level are the table's
-/// with their words exchanged for those of the complements, in ascending order anew, and a node's new number is the place
-/// of its new row.
+/// with their words exchanged for those of the complements, in ascending order anew, and a node's new number is the
+/// place of its new row.
 pub fn complements_are_made_level_by_level()
     ensures { (n : ℕ) (t : List Bool) → HasForm n t → HasComplement n t }
 {}

@@ -12,8 +12,8 @@ ghost use Rattle.complemented_diagrams.specs.Levels.{AreNamed};
 use crate::rows::{are_ascending, exchange_rows, number_rows};
 use rec_words::Rec;
 
-/// Makes of the nodes of a level those of the complement's, and of each the entry of what its word became. It ends where
-/// the diagram isn't in order.
+/// Makes of the nodes of a level those of the complement's, and of each the entry of what its word became. It ends
+/// where the diagram isn't in order.
 pub(crate) fn complement_level(
     nodes: &mut [Rec],
     entries: &[Rec],

@@ -12,7 +12,8 @@ use crate::level::complement_level;
 use rec_words::{LEVEL_NUMBERS, Rec};
 
 /// Makes of the nodes of a diagram of n variables those of the complement's, and answers the word of its root. The
-/// entries are used for it. None is answered where the diagram isn't in order: what stands in the room then says nothing.
+/// entries are used for it. None is answered where the diagram isn't in order: what stands in the room then says
+/// nothing.
 pub(crate) fn complement_nodes(
     n: u32,
     nodes: &mut [Rec],

@@ -20,8 +20,8 @@ const PLACES: usize = 8_192;
 /// How many levels stand above the words.
 const FRONT: u64 = 3;
 
-/// How many nodes each of the two diagrams has: one on each level of the front, and those of "the words are equal", which
-/// are 1, 2, 4, 8 and 16 for the bits of the first word, and 32, 16, 8, 4 and 2 for those of the second one.
+/// How many nodes each of the two diagrams has: one on each level of the front, and those of "the words are equal",
+/// which are 1, 2, 4, 8 and 16 for the bits of the first word, and 32, 16, 8, 4 and 2 for those of the second one.
 const NODES: u64 = FRONT + 31 + 62;
 
 /// The table that has one value where all variables of the front are 1, and else tells whether the words are equal.

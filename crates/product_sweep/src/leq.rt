@@ -6,8 +6,8 @@ use run_merge::Parts;
 use shelf_model::{FileNo, Shelf, SortFault};
 use sweep_core::{Sweep, Turn};
 
-/// Whether the left function implies the right one everywhere: the arcs of "left and not right" are made, until one leads
-/// to 1 or there are no more.
+/// Whether the left function implies the right one everywhere: the arcs of "left and not right" are made, until one
+/// leads to 1 or there are no more.
 ///
 /// After a refusal it isn't used again.
 #[derive(Drop)]

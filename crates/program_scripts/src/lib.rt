@@ -1,6 +1,6 @@
 //! Scripts that look random, run by the program over a station in memory, beside the tables of their steps, and a
-//! script whose diagrams outgrow the least room; scripts and netlists that are refused, stopped at each call; and lists of
-//! words.
+//! script whose diagrams outgrow the least room; scripts and netlists that are refused, stopped at each call; and lists
+//! of words.
 #![tactic(auto)]
 
 #[cfg(test)]

@@ -1,5 +1,5 @@
-//! The reduction of a diagram whose sources all stand in the room: no list is sorted but the rows of a level, and no run
-//! is written.
+//! The reduction of a diagram whose sources all stand in the room: no list is sorted but the rows of a level, and no
+//! run is written.
 #![tactic(auto)]
 
 mod filling;

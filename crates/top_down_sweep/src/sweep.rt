@@ -56,8 +56,8 @@ impl<'r, O: Operation> TopDownSweep<'r, O> {
     ghost use Rattle.top_down_sweep.specs.Meaning.{Task, Remains, IsMadeWhere, table_of};
     ghost use Rattle.top_down_sweep.specs.Turns.{Work, left_of};
 
-    /// Whether the truth value 1 was met: an arc that was put leads to it or, once all is made, it is the root. The table
-    /// that is made has a 1 then, and once all is made only then.
+    /// Whether the truth value 1 was met: an arc that was put leads to it or, once all is made, it is the root. The
+    /// table that is made has a 1 then, and once all is made only then.
     pub fn meets_one(&self) -> bool
         ensures is { result ≡ meets_one self.now }
         ensures value { result ≡ true → (world : World) → (t : Task) →
@@ -72,7 +72,8 @@ impl<'r, O: Operation> TopDownSweep<'r, O> {
             }
     }
 
-    /// Ends, whether all is made or not. Where it wasn't, the arcs that were put stand in their files, and are no diagram.
+    /// Ends, whether all is made or not. Where it wasn't, the arcs that were put stand in their files, and are no
+    /// diagram.
     pub fn end_early<S: Shelf>(&mut self, shelf: &mut S) -> Result<(), SortFault>
         requires ready { IsSound self.old }
         requires in_step { IsTrue (S.tells shelf.old) → IsInStep self.old (S.world shelf.old) }
