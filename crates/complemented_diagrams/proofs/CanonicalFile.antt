@@ -21,14 +21,14 @@ use Rattle.complement_laws.proofs.ComplementLaws.{has_complement}
 use Rattle.complemented_diagrams.specs.Records.{node_records}
 
 -- the bytes of the records of nodes are those of the nodes
-bytes_of_nodes : (xs : List Node) → records_bytes 3 (node_records xs) ≡ node_bytes xs
+pub bytes_of_nodes : (xs : List Node) → records_bytes 3 (node_records xs) ≡ node_bytes xs
 bytes_of_nodes [] = refl
 bytes_of_nodes (x ∷ xs) =
     ap (λ bytes. to_be_bytes w64 x.uid ++ (to_be_bytes w64 x.low ++ (to_be_bytes w64 x.high ++ bytes)))
     (bytes_of_nodes xs)
 
 -- so the records are read back
-nodes_back : (xs : List Node) (rest : List ℕ) → ((x : Node) → Has x xs → IsNode x)
+pub nodes_back : (xs : List Node) (rest : List ℕ) → ((x : Node) → Has x xs → IsNode x)
     → records_of 3 (length xs) (records_bytes 3 (node_records xs) ++ rest) ≡ node_records xs
 nodes_back [] rest nodes = refl
 nodes_back (x ∷ xs) rest nodes =

@@ -5,4 +5,4 @@ pub mod LevelRows
 pub mod LevelSteps
 pub mod FileChanges
 mod WrittenBytes
-mod CanonicalFile
+pub mod CanonicalFile

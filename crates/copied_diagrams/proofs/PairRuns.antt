@@ -7,10 +7,9 @@ use Rattle.shelf_model.specs.declared.fault.StreamFault.TheVariants.{Shelf, Dama
 use Rattle.shelf_model.specs.Calls.{Told}
 use Rattle.shelf_model.specs.File.{File, firm_file}
 use Rattle.shelf_model.specs.Folder.{Folder, file_in}
-use Rattle.shelf_model.specs.Moments.{Stays, OnlyChanged}
+use Rattle.shelf_model.specs.Moments.{Stays}
 use Rattle.shelf_model.specs.World.{World, now, file}
-use Rattle.shelf_model.proofs.Changing.{changed_then}
-use Rattle.shelf_model.proofs.Runs.{told, told_then, ran_end, ran_weakens}
+use Rattle.shelf_model.proofs.Runs.{told, told_then, ran_end}
 use Rattle.block_stream.specs.Reads.{Looked}
 use Rattle.block_stream.proofs.WriteRuns.{looked_on}
 use Rattle.canon_file.specs.Canon.{canon_nodes, canon_root, canon_bytes, trailer_bytes}
@@ -28,6 +27,7 @@ use Rattle.copied_diagrams.specs.declared.source.Source.{Source}
 use Rattle.copied_diagrams.specs.declared.source.Way.{Way}
 use Rattle.copied_diagrams.specs.declared.source.Way.TheVariants.{Constant, Copy, Complement}
 use Rattle.complemented_diagrams.specs.Changes.{Changed}
+use Rattle.complemented_diagrams.proofs.FileChanges.{looked_changes, changed_after}
 use Rattle.copied_diagrams.specs.Operands.{pair_table, IsResult}
 use Rattle.copied_diagrams.specs.Pairs.{IsFileOf, ArePair, IsTrailerOf, IfMade, IsWay, IsWayOf, HasMade, IsOperandDamage, IsMade, of_operand, nodes_of_both, count_of}
 use Rattle.complement_laws.specs.Complements.{complement}
@@ -35,29 +35,14 @@ use Rattle.complement_laws.proofs.ComplementLaws.{has_complement}
 use Rattle.copied_diagrams.proofs.PairTables.{copy_is, complement_is, constant_is, constant_form}
 use Rattle.copied_diagrams.proofs.TrailerFacts.{long_canonical}
 
--- a look changes no file
-looked_changes : (n : ℕ) (f : FileNo) (old new : World) → Looked n old new → Changed n f old new
-looked_changes n f old new looked = record {
-  run = ran_weakens old new (Stays (now old)) (OnlyChanged (λ q. q ≡ f) (now old))
-      (λ m same q apart. ap (λ (folder : Folder). file_in folder q) same) looked.run;
-  few = looked.few;
-}
-
 -- a file is as it was after a look
 pub looked_same : (n : ℕ) (f : FileNo) (old new : World) → Looked n old new → file new f ≡ file old f
 looked_same n f old new looked = ap (λ (folder : Folder). file_in folder f) (ran_end old new (Stays (now old)) looked.run)
 
--- one change after another
-changed_after : (m n : ℕ) (f : FileNo) (old mid new : World) → Changed m f old mid → Changed n f mid new → Changed (m + n) f old new
-changed_after m n f old mid new first second = record {
-  run = changed_then (λ q. q ≡ f) (λ q. q ≡ f) old mid new (λ q is. is) first.run second.run;
-  few = let one = first.few in let two = second.few in omega (arith, one, two);
-}
-
 module _ {S : Type 0} (tells : S → Bool) (world : S → World) (f : FileNo) where
   -- one look
   pub told_looked : (n : ℕ) (old new : S) → Told tells old new (Looked n (world old) (world new)) → Told tells old new (Changed n f (world old) (world new))
-  told_looked n old new did = told tells old new _ _ did (λ _ looked. looked_changes n f (world old) (world new) looked)
+  told_looked n old new did = told tells old new _ _ did (λ _ looked. looked_changes n n f (world old) (world new) (omega arith) looked)
 
   -- two
   pub two_looks : (old mid new : S) → Told tells old mid (Looked 2 (world old) (world mid)) → Told tells mid new (Looked 2 (world mid) (world new))
@@ -69,7 +54,7 @@ module _ {S : Type 0} (tells : S → Bool) (world : S → World) (f : FileNo) wh
       → Told tells late new (Changed n f (world late) (world new)) → Told tells old new (Changed (4 + n) f (world old) (world new))
   then_changed n old mid late new first second copied =
       told_then tells old late new _ _ _ (two_looks old mid late first second) copied
-      (λ _ a b. changed_after 4 n f (world old) (world late) (world new) a b)
+      (λ _ a b. changed_after 4 n (4 + n) f (world old) (world late) (world new) (omega arith) a b)
 
 -- an operand that isn't damaged, or is, after a look
 pub damaged_before : (n k : ℕ) (f : FileNo) (old new : World) (e : StreamFault) → Looked k old new → IsOperandDamage n f new e → IsOperandDamage n f old e

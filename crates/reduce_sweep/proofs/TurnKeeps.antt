@@ -84,15 +84,6 @@ turn_firm told t new (Ok turn.More) counts step = tt
 turn_firm told t new (Ok turn.Ended) counts step = λ tell. firm_in t.place.phase t new counts (step tell)
 turn_firm told t new (Err e) counts step = tt
 
--- what follows where the call was Ok
-pub on_ok_weaker : {T E P Q : Type 0} (result : Result T E) → (P → Q) → OnOk result P → OnOk result Q
-on_ok_weaker (Ok x) weaker p = weaker p
-on_ok_weaker (Err e) weaker p = tt
-
-pub on_ok_both : {T E P Q R : Type 0} (result : Result T E) → (P → Q → R) → OnOk result P → OnOk result Q → OnOk result R
-on_ok_both (Ok x) both p q = both p q
-on_ok_both (Err e) both p q = tt
-
 -- where the phase is over, the next one handles an item or is over too
 pub handles_then : (middle after : Phase) (s t u : ReduceSweep) (result : Result Bool SortFault) → Handles middle s t false → IfOk result (Handles after t u) → IfOk result (Handles after s u)
 handles_then middle after s t u (Ok true) first next = let one : turns_left t ≤ turns_left s = first.1 in let two : turns_left u < turns_left t = next.1 in (next.0, omega (arith, one, two))

@@ -4,34 +4,16 @@ use Rattle.std.specs.Prelude.{Result, Ok, Err, IfOk}
 use Rattle.shelf_model.specs.declared.file_no.FileNo.{FileNo}
 use Rattle.shelf_model.specs.declared.fault.StreamFault.{StreamFault}
 use Rattle.shelf_model.specs.Calls.{Told}
-use Rattle.shelf_model.specs.Folder.{Folder, file_in}
-use Rattle.shelf_model.specs.Moments.{Stays, OnlyChanged}
-use Rattle.shelf_model.specs.World.{World, now}
-use Rattle.shelf_model.proofs.Changing.{changed_then}
-use Rattle.shelf_model.proofs.Runs.{told, told_then, ran_weakens}
+use Rattle.shelf_model.specs.World.{World}
+use Rattle.shelf_model.proofs.Runs.{told, told_then}
 use Rattle.block_stream.specs.Reads.{Looked}
 use Rattle.complemented_diagrams.specs.Changes.{Changed}
+use Rattle.complemented_diagrams.proofs.FileChanges.{looked_changes, changed_after}
 
 -- what follows from an answer
 pub if_ok : {T : Type 0} (r : Result T StreamFault) (P Q : T → Type 0) → ((x : T) → P x → Q x) → IfOk r P → IfOk r Q
 if_ok (Err e) P Q follows holds = tt
 if_ok (Ok x) P Q follows holds = follows x holds
-
--- a look changes no file
-looked_changes : (m n : ℕ) (f : FileNo) (old new : World) → m ≤ n → Looked m old new → Changed n f old new
-looked_changes m n f old new within looked = record {
-  run = ran_weakens old new (Stays (now old)) (OnlyChanged (λ q. q ≡ f) (now old))
-      (λ moment same q apart. ap (λ (folder : Folder). file_in folder q) same) looked.run;
-  few = let few = looked.few in omega (arith, few, within);
-}
-
--- one change after another
-changed_after : (m n k : ℕ) (f : FileNo) (old mid new : World) → m + n ≤ k → Changed m f old mid → Changed n f mid new
-    → Changed k f old new
-changed_after m n k f old mid new within first second = record {
-  run = changed_then (λ q. q ≡ f) (λ q. q ≡ f) old mid new (λ q is. is) first.run second.run;
-  few = let one = first.few in let two = second.few in omega (arith, one, two, within);
-}
 
 module _ {S : Type 0} (tells : S → Bool) (world : S → World) (f : FileNo) where
   -- the same of stations that tell

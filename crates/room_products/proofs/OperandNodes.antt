@@ -2,9 +2,7 @@
 use Rattle.std.proofs.Common.{◌≡◌, ◌∙◌, ℕ, ◌<◌, Bool, true, false, List, [], ◌∷◌, ◌++◌, length, refl, sym, ap, subst, inl, inr, arith}
 use Rattle.std.specs.Prelude.{◌==◌}
 use Rattle.std.proofs.lemmas.Bool.Decides.{nat_tests}
-use Rattle.std.specs.Int.{w64, to_be_bytes}
-use Rattle.rec_words.specs.Records.{node_words, IsNode}
-use Rattle.rec_words.specs.RecordLaws.{node_fits}
+use Rattle.rec_words.specs.Records.{node_words}
 use Rattle.rec_words.specs.declared.rec.Rec.{Rec}
 use Rattle.rec_words.specs.declared.node.Node.{Node}
 use Rattle.list_laws.specs.Members.{Has}
@@ -13,36 +11,19 @@ use Rattle.shelf_model.specs.declared.file_no.FileNo.{FileNo}
 use Rattle.shelf_model.specs.World.{World, file}
 use Rattle.block_stream.specs.Items.{item_record}
 use Rattle.block_stream.specs.Records.{records_of, records_bytes}
-use Rattle.block_stream.proofs.ItemLaws.{record_back}
 use Rattle.canon_file.specs.declared.row.Row.{Row}
-use Rattle.canon_file.specs.Canon.{canon_nodes, canon_root, node_bytes, trailer_bytes}
+use Rattle.canon_file.specs.Canon.{canon_nodes, canon_root, trailer_bytes}
 use Rattle.canon_file.specs.NodeFiles.{IsDescending, IsNodeFile}
 use Rattle.canon_file.specs.Laws.{HasForm}
 use Rattle.canon_file.specs.Walks.{row_at}
 use Rattle.canon_file.proofs.CanonLaws.{canon_bytes-is}
 use Rattle.canon_file.proofs.FileLaws.{is_node_file}
 use Rattle.complemented_diagrams.specs.Records.{node_records}
+use Rattle.complemented_diagrams.proofs.CanonicalFile.{bytes_of_nodes, nodes_back}
 use Rattle.copied_diagrams.specs.Pairs.{IsFileOf}
 use Rattle.top_down.specs.Tuples.{canon_targets}
 use Rattle.room_reduction.specs.Sources.{word}
 use Rattle.room_products.specs.Goals.{GivesRows}
-
--- the bytes of the records of nodes are those of the nodes
-bytes_of_nodes : (xs : List Node) → records_bytes 3 (node_records xs) ≡ node_bytes xs
-bytes_of_nodes [] = refl
-bytes_of_nodes (x ∷ xs) =
-    ap (λ bytes. to_be_bytes w64 x.uid ++ (to_be_bytes w64 x.low ++ (to_be_bytes w64 x.high ++ bytes)))
-    (bytes_of_nodes xs)
-
--- so the records are read back
-nodes_back : (xs : List Node) (rest : List ℕ) → ((x : Node) → Has x xs → IsNode x)
-    → records_of 3 (length xs) (records_bytes 3 (node_records xs) ++ rest) ≡ node_records xs
-nodes_back [] rest nodes = refl
-nodes_back (x ∷ xs) rest nodes =
-    let first = record_back 3 (node_words x) (records_bytes 3 (node_records xs) ++ rest) (omega arith)
-    (node_fits x (nodes x (inl refl))) refl in
-    let later = nodes_back xs rest (λ y has. nodes y (inr has)) in
-    λ i. first i ∷ later i
 
 -- a node's pointers are found by its identifier
 row_at-node : (nodes : List Node) → IsDescending nodes → (x : Node) → Has x nodes

@@ -13,15 +13,10 @@ use Rattle.arc_diagrams.proofs.CanonArcs.{arc_to, has_arc_to}
 use Rattle.top_down.specs.Tuples.{Targets}
 use Rattle.top_down.specs.Rules.{Rule, below_on}
 use Rattle.room_reduction.specs.Sources.{word}
+use Rattle.room_reduction.proofs.LevelSources.{member_place}
 use Rattle.room_products.specs.Slots.{pair_at, id_at}
 use Rattle.room_products.specs.Joining.{IsAnswer, IsSourceOf, AreSourcesOf, AreDone}
 use Rattle.room_products.specs.Joined.{node_of, arcs_in}
-
--- a member of a list stands at a place
-member_place : (r : Rec) (rs : List Rec) → Has r rs → (k : ℕ) × (k < length rs) × (record_at rs k ≡ r)
-member_place r [] m = absurd m
-member_place r (q ∷ rs) (inl e) = (0, omega arith, e)
-member_place r (q ∷ rs) (inr m) = let (k, below, at) = member_place r rs m in (suc k, omega (arith, below), at)
 
 -- the arc of a source on a side
 abbrev pub arc_from : Rec → Bool → Arc

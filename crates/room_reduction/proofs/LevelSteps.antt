@@ -15,6 +15,7 @@ use Rattle.arc_file.specs.declared.arc.Arc.{Arc}
 use Rattle.arc_diagrams.specs.Arcs.{targets_of, IsMet, IsComplete}
 use Rattle.arc_diagrams.specs.Reduction.{final_pointer, final_rows, final_nodes}
 use Rattle.arc_diagrams.specs.Reducing.{nodes_from}
+use Rattle.arc_diagrams.proofs.Remaining.{nodes_from-level}
 use Rattle.complemented_diagrams.specs.Records.{node_records}
 use Rattle.room_reduction.specs.Sources.{word, AreSources}
 use Rattle.room_reduction.specs.Levels.{KeepsSources, AreKnown, IsLevel, IsDone}
@@ -88,13 +89,6 @@ is_level n root arcs level from end count sources rows few complete within order
   behind = λ k later below. let deep = done.behind k later below in omega (arith, deep);
 }
 
--- its nodes come behind those of the deeper ones
-nodes_more : (n : ℕ) (arcs : List Arc) (level : ℕ) → level < n
-    → nodes_from n arcs level ≡ nodes_from n arcs (suc level) ++ numbered level 0 (final_rows n arcs level)
-nodes_more n arcs level below =
-    let more : n - level ≡ suc (n - suc level) = omega (arith, below) in
-    ap (λ h. final_nodes n arcs h level) more
-
 -- the first of two lists that stand behind one another, and some of the second
 taken_both : (xs ys zs : List Rec) (a b : ℕ) → length xs ≡ a → b ≤ length ys
     → take (a + b) (xs ++ (ys ++ zs)) ≡ xs ++ take b ys
@@ -130,7 +124,7 @@ level_done n root arcs level from end count more sources new rows nodes own back
           ];
       nodes_are = taken_both nodes own back count more long within
           ∙ (λ j. (nodes_is ∙ done.nodes_are) j ++ made j)
-          ∙ sym (ap node_records (nodes_more n arcs level below)
+          ∙ sym (ap node_records (nodes_from-level n arcs level below)
           ∙ map-append (item_record node_words) (nodes_from n arcs (suc level))
           (numbered level 0 (final_rows n arcs level)));
     }

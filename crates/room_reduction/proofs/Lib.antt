@@ -3,6 +3,6 @@ pub mod FilledLaws
 mod RowOrder
 mod Numbering
 mod Naming
-mod LevelSources
+pub mod LevelSources
 mod LevelSteps
 mod RoomFile

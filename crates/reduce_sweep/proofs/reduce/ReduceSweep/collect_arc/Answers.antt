@@ -3,7 +3,7 @@ use Rattle.reduce_sweep.specs.declared.reduce.ReduceSweep.{ReduceSweep}
 use Rattle.reduce_sweep.specs.declared.phase.Phase.{Phase}
 use Rattle.reduce_sweep.proofs.Doing.{does_then}
 use Rattle.reduce_sweep.proofs.CollectingKeeps.{arc_collected, at_closed}
-use Rattle.reduce_sweep.proofs.TurnKeeps.{on_ok_weaker}
+use Rattle.std.proofs.lemmas.Result.{on_ok_weaker}
 use Rattle.reduce_sweep.proofs.reduce.ReduceSweep.collect_arc.Goals as goal
 
 -- the arc was noted, and passed over

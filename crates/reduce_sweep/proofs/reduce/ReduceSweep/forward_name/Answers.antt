@@ -7,7 +7,8 @@ use Rattle.std.proofs.lemmas.Bool.Decides.{nat_tests}
 use Rattle.reduce_lists.proofs.NextArcs.{none_from}
 use Rattle.reduce_sweep.specs.declared.reduce.ReduceSweep.{ReduceSweep}
 use Rattle.reduce_sweep.specs.Changes.{ForwardsAlong}
-use Rattle.reduce_sweep.proofs.TurnKeeps.{on_ok_weaker, on_ok_both}
+use Rattle.list_laws.proofs.AnswerLaws.{on_ok_both}
+use Rattle.std.proofs.lemmas.Result.{on_ok_weaker}
 use Rattle.reduce_sweep.proofs.ForwardingKeeps.{name_given_up, none_left, none_as_far, leads_within, arc_leads, comes_after, arc_forwarded}
 use Rattle.reduce_sweep.proofs.reduce.ReduceSweep.forward_name.Goals as goal
 

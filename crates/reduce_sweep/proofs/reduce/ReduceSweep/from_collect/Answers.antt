@@ -2,7 +2,8 @@ use Rattle.std.proofs.Common.{subst}
 use Rattle.reduce_sweep.specs.declared.phase.Phase.TheVariants.{Between, Number}
 use Rattle.reduce_sweep.specs.Sweeps.{Handles, none_numbered}
 use Rattle.reduce_sweep.proofs.Doing.{does_then}
-use Rattle.reduce_sweep.proofs.TurnKeeps.{handles_then, on_ok_weaker}
+use Rattle.std.proofs.lemmas.Result.{on_ok_weaker}
+use Rattle.reduce_sweep.proofs.TurnKeeps.{handles_then}
 use Rattle.reduce_sweep.proofs.reduce.ReduceSweep.from_collect.Goals as goal
 
 -- the phase is over, and the next one begins

@@ -2,7 +2,8 @@ use Rattle.std.proofs.Common.{subst, arith}
 use Rattle.reduce_sweep.specs.declared.phase.Phase.TheVariants.{Between}
 use Rattle.reduce_sweep.specs.Sweeps.{Handles}
 use Rattle.reduce_sweep.proofs.Doing.{does_then, does_more}
-use Rattle.reduce_sweep.proofs.TurnKeeps.{falls_then, on_ok_weaker, left_step, left_remains, left_counts}
+use Rattle.std.proofs.lemmas.Result.{on_ok_weaker}
+use Rattle.reduce_sweep.proofs.TurnKeeps.{falls_then, left_step, left_remains, left_counts}
 use Rattle.reduce_sweep.proofs.reduce.ReduceSweep.handle.Goals as goal
 
 -- an item of the level was handled

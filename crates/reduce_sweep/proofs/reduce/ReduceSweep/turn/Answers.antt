@@ -2,7 +2,8 @@ use Rattle.std.proofs.Common.{◌<◌, ◌+◌, arith, IsTrue}
 use Rattle.reduce_sweep.specs.Sweeps.{turns_left, arcs_weight, lists_weight}
 use Rattle.reduce_sweep.proofs.Doing.{task_same, damage_after}
 use Rattle.reduce_sweep.proofs.Undamaged.{turns_undamaged}
-use Rattle.reduce_sweep.proofs.TurnKeeps.{going_left, going_works, turn_reduces, turn_firm, on_ok_weaker}
+use Rattle.std.proofs.lemmas.Result.{on_ok_weaker}
+use Rattle.reduce_sweep.proofs.TurnKeeps.{going_left, going_works, turn_reduces, turn_firm}
 use Rattle.reduce_sweep.proofs.reduce.ReduceSweep.turn.Goals as goal
 
 -- an item was handled, or the reduction ended
