@@ -26,6 +26,12 @@ const WINDOW: usize = 128;
 /// How many turns a sweep makes from one checkpoint to the next at most.
 const INTERVAL: usize = 65_536;
 
+/// Up to so many variables, and for each node of the operands so many more, the room is used: a level takes time there
+/// whether it has pairs or not, and none in a sweep.
+const VARIABLES: usize = 1_024;
+
+const VARIABLES_A_NODE: usize = 32;
+
 /// What was made: how many nodes the diagram has, and the turns that it took: one for each pair of pointers, one for
 /// each eight nodes of the operands, and one more.
 #[derive(Clone, Copy, Debug, PartialEq, Eq)]
@@ -45,7 +51,8 @@ struct Made {
 /// None is answered, and no file is changed, where the room doesn't hold what that takes: all nodes of both, two
 /// records for each pair of pointers that is met and a quarter of one more, one for each variable, and a window; where
 /// there are more than fourteen pairs for each node and as many more, or more than a checkpoint's interval has turns;
-/// where the operator's value hangs on no node; and where the nodes aren't those of diagrams.
+/// where the variables are far more than the nodes; where the operator's value hangs on no node; and where the nodes
+/// aren't those of diagrams.
 pub fn join_in_room<S: Shelf>(
     op: Bin,
     n: u32,
@@ -289,7 +296,7 @@ fn reduce_joined<S: Shelf>(
 }
 
 // How many pairs of pointers are answered at most, where both operands have so many nodes and the room so many records.
-// None is given where there is no room for one, or neither has a node.
+// None is given where there is no room for one, where neither has a node, and where the variables are far more.
 fn most_pairs(n: u32, left: u64, right: u64, room: usize) -> Option<usize>
     ensures some { IfSome result (λ most. 0 < left + right) }
     ensures left { IfSome result (λ most. left < 65536) }
@@ -303,7 +310,7 @@ fn most_pairs(n: u32, left: u64, right: u64, room: usize) -> Option<usize>
     }
     let nodes = (left + right) as usize;
     let taken = n as usize + nodes + WINDOW + 1;
-    if taken >= room {
+    if taken >= room || n as usize > VARIABLES + VARIABLES_A_NODE * nodes {
         return None;
     }
     let fits = (room - taken) / 9 * 4;

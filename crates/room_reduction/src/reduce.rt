@@ -20,9 +20,15 @@ use shelf_model::{FileNo, Shelf, StreamFault};
 /// The records through which files are read and written: as many as a piece has arcs.
 const WINDOW: usize = 128;
 
+/// Up to so many variables, and for each source so many more, the room is used: a level takes time there whether it has
+/// sources or not, and none in a sweep.
+const VARIABLES: usize = 1_024;
+
+const VARIABLES_A_SOURCE: usize = 32;
+
 /// Makes the node file of the canonical form of a diagram that isn't reduced, and answers how many nodes it has. None
-/// is answered where the room has fewer records than that takes, and where the two files aren't those of a diagram's
-/// arcs; what the node file holds then isn't said.
+/// is answered where the room has fewer records than that takes, where the variables are far more than the arcs, and
+/// where the two files aren't those of a diagram's arcs; what the node file holds then isn't said.
 pub fn reduce_in_room<S: Shelf>(
     n: u32,
     made: &Unreduced,
@@ -46,7 +52,9 @@ pub fn reduce_in_room<S: Shelf>(
     ensures faults { OnlyShelf (S.faults shelf.old) (S.faults shelf.new) result }
 {
     let most = ((made.inner_count + made.ends_count) / 2) as usize;
-    if n as usize + 2 * most + WINDOW > room.len() {
+    if n as usize > VARIABLES + VARIABLES_A_SOURCE * most
+        || n as usize + 2 * most + WINDOW > room.len()
+    {
         return Ok(None);
     }
     let (firsts, rest) = room.split_at_mut(n as usize);
