@@ -32,15 +32,15 @@ fn turned_table(alloc: Global) -> Result<Vec<bool>, AllocError>
 // level 11 has 2,048. Of the 8,192 parts of level 13 those whose halves of four places are equal are passed over, 16 of
 // each 256. So it has 7,680 nodes.
 //
-// The least room of 16,384 records leaves 3,018 each for the newest rows and names, and 6,004 for the newest arcs of
+// The least room of 16,384 records leaves 2,002 each for the newest rows and names, and 8,612 for the newest arcs of
 // the queue. A push into a full one makes a run of it, in a part.
 //
-// - Rows: all of a level are there before the first is taken, 7,680, 4,096 and 2,048. These make 2 runs, 1 and none.
+// - Rows: all of a level are there before the first is taken, 7,680, 4,096 and 2,048. These make 3 runs, 2 and 1.
 // - Names: as many, and as many runs.
 // - Queue: each node of level 13 has two arcs to parts of four places, of which two in 16 are truth values. So
 //   7,680 * 2 * 7 / 8 = 13,440 arcs wait before that level is begun, and at most 512 that pass over it: more than
-//   2 * 6,004, and less than 3 * 6,004. Later the 7,680 arcs to the level join at most 512. These make 2 runs and 1.
-const PARTS_TAKEN: u64 = 3 + 3 + 3;
+//   8,612, and less than 2 * 8,612. Later the 7,680 arcs to the level join at most 512. These make one run and none.
+const PARTS_TAKEN: u64 = 6 + 6 + 1;
 
 fn takes_parts(rt: HostRuntime) -> Result<bool, Fail> {
     let table = turned_table(rt.alloc())?;

@@ -39,8 +39,8 @@ impl<'r> ReduceSweep<'r> {
 
     /// Begins the reduction of a diagram of `n` variables into a file, with the part numbers that its lists may take.
     ///
-    /// Half of the room is the queue's, and a quarter each that of the rows and of the names, but for 344 records
-    /// with which files are read and written.
+    /// Two thirds of the room are the queue's, and a sixth each that of the rows and of the names, but for 344 records
+    /// with which files are read and written: most that waits are arcs, and the rows and names are those of one level.
     pub fn start<S: Shelf>(
         n: u32,
         made: Unreduced,
@@ -94,10 +94,10 @@ impl<'r> ReduceSweep<'r> {
     {
         let (reading, rest) = room.split_at_mut(READING);
         let (writing, lists) = rest.split_at_mut(WRITING);
-        let half = lists.len() / 2;
-        let (queue, sorters) = lists.split_at_mut(half);
-        let quarter = sorters.len() / 2;
-        let (rows, names) = sorters.split_at_mut(quarter);
+        let most = lists.len() / 3 * 2;
+        let (queue, sorters) = lists.split_at_mut(most);
+        let half = sorters.len() / 2;
+        let (rows, names) = sorters.split_at_mut(half);
         let writer = NodeWriter::start(out, n, writing, shelf)?;
         let mut reader = ArcReader::start(made, reading);
         let arcs = reader.left_over();
