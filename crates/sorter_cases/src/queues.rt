@@ -13,7 +13,7 @@ use std::alloc::Global;
 use std::test::Fail;
 
 /// How many calls a queue is compared over before it is drained.
-const TURNS: u64 = 6000;
+const TURNS: u64 = 12_000;
 
 // Whether an item may be pushed.
 fn is_no_less(item: &Rec, last: Option<Rec>) -> bool
