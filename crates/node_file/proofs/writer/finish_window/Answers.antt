@@ -1,4 +1,5 @@
-use Rattle.std.proofs.Common.{◌≡◌, ◌++◌, ap, subst, ◌∙◌}
+use Rattle.std.proofs.Common.{◌≡◌, ◌++◌, ap, subst, ◌∙◌, arith}
+use Rattle.std.proofs.lemmas.Grind.{common_steps}
 use Rattle.shelf_model.specs.File.{firm_file}
 use Rattle.shelf_model.specs.World.{file}
 use Rattle.canon_file.specs.Canon.{trailer_bytes}
@@ -10,6 +11,9 @@ use Rattle.node_file.proofs.writer.finish_window.Goals as goal
 pub returns-in_err-settle_records-clause-content : goal.returns-in_err-settle_records-clause-content
 returns-in_err-settle_records-clause-content g c =
     wrote_on g.S.Shelf.tells g.S.Shelf.world 1 2 _ _ _ _ _ c.in_ok-put_record.ensures.same.file_is c.in_ok-put_record.ensures.content c.settle_records.ensures.content
+
+pub returns-in_err-settle_records-clause-faults : goal.returns-in_err-settle_records-clause-faults
+returns-in_err-settle_records-clause-faults g c = grind (arith, common_steps)
 
 pub returns-clause-content : goal.returns-clause-content
 returns-clause-content g c =

@@ -1,4 +1,5 @@
-use Rattle.std.proofs.Common.{◌≡◌, ◌+◌, List, ℕ, get_or, drop, sym, ap, ◌∙◌}
+use Rattle.std.proofs.Common.{◌≡◌, ◌+◌, List, ℕ, get_or, drop, sym, ap, ◌∙◌, arith}
+use Rattle.std.proofs.lemmas.Grind.{common_steps}
 use Rattle.std.specs.Prelude.{Some, None}
 use Rattle.blif_reader.specs.Index as index
 use Rattle.blif_reader.specs.Answers.{net_of}
@@ -28,3 +29,6 @@ loop-name-preserved c =
     ap (λ (so_far : List ℕ). found_behind kind.UnknownName find so_far (drop (i + 1) (texts names))) c.in_ok-push.ensures.items
     ∙ sym (found_more kind.UnknownName find c.loop-name.signals.items name (drop (i + 1) (texts names)) c.in-Some.signal (ap (or_fault kind.UnknownName) some))
     ∙ sym (ap (found_behind kind.UnknownName find c.loop-name.signals.items) (texts_left names i no_slice c.loop-name-test.true)) ∙ c.loop-name.invariant
+
+pub returns : goal.returns
+returns c = grind (arith, common_steps)

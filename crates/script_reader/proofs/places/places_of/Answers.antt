@@ -1,4 +1,5 @@
 use Rattle.std.proofs.Common.{◌≡◌, ◌+◌, ◌<◌, false, Option, Some, None, List, ℕ, [], length, get_or, take, drop, refl, sym, ap, subst, ◌∙◌, arith, inl, inr}
+use Rattle.std.proofs.lemmas.Grind.{common_steps}
 use Rattle.std.specs.Prelude.{is_some}
 use Rattle.std.specs.List.{IsDistinct}
 use Rattle.std.specs.Str.{bytes_eq}
@@ -54,6 +55,9 @@ loop-place-preserved c =
           (rw place (btree_map_updates_str name c.loop-place.places c.insert.new.self _ c.in_ok-insert.ensures.updates)));
       differ = rw (texts_more names i no_slice lt) (differ_more (take i (texts names)) name c.loop-place.invariant.differ (sym (c.loop-place.invariant.places name) ∙ old));
     }
+
+pub returns-clause-places : goal.returns-clause-places
+returns-clause-places c = grind (arith, common_steps)
 
 pub returns-clause-differ : goal.returns-clause-differ
 returns-clause-differ c =

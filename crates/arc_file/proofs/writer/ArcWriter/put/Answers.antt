@@ -1,8 +1,12 @@
 use Rattle.std.proofs.Common.{sym, refl, arith}
+use Rattle.std.proofs.lemmas.Grind.{common_steps}
 use Rattle.arc_file.proofs.PairLaws.{wrote_leaves}
 use Rattle.list_laws.proofs.AnswerLaws.{on_ok_both}
 use Rattle.arc_file.proofs.WriterLaws.{files_apart, put_inner, put_end}
 use Rattle.arc_file.proofs.writer.ArcWriter.put.Goals as goal
+
+pub returns-in-Some-clause-in_step : goal.returns-in-Some-clause-in_step
+returns-in-Some-clause-in_step g c = grind (arith, common_steps)
 
 pub returns-in-Some-clause-arcs : goal.returns-in-Some-clause-arcs
 returns-in-Some-clause-arcs g c =
@@ -11,6 +15,12 @@ returns-in-Some-clause-arcs g c =
     let stays = wrote_leaves _ _ w.ends.filling.file _ _ (λ same. files_apart w (sym same)) (c.put.ensures.content.did t) in
     put_inner w _ _ _ xs ys c.args.arc c.in-Some.ensures.level.0 refl stays (items t w.inner_width xs held.inner_are) count held)
     c.put.ensures.count c.put.ensures.items
+
+pub returns-in-Some-clause-content : goal.returns-in-Some-clause-content
+returns-in-Some-clause-content g c = grind (arith, common_steps)
+
+pub returns-in-None-clause-in_step : goal.returns-in-None-clause-in_step
+returns-in-None-clause-in_step g c = grind (arith, common_steps)
 
 pub returns-in-None-clause-arcs : goal.returns-in-None-clause-arcs
 returns-in-None-clause-arcs g c =
@@ -25,3 +35,6 @@ returns-in-Some-clause-calls g c t space = c.put.ensures.calls t (space.inner c.
 
 pub returns-in-None-clause-calls : goal.returns-in-None-clause-calls
 returns-in-None-clause-calls g c t space = c.put-in-None.ensures.calls t (space.ends (omega (arith, c.in-None.ensures.level)))
+
+pub returns-in-None-clause-content : goal.returns-in-None-clause-content
+returns-in-None-clause-content g c = grind (arith, common_steps)

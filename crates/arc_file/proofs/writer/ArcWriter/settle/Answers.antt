@@ -1,4 +1,5 @@
-use Rattle.std.proofs.Common.{◌≡◌, sym, subst, ◌∙◌}
+use Rattle.std.proofs.Common.{◌≡◌, sym, subst, ◌∙◌, arith}
+use Rattle.std.proofs.lemmas.Grind.{common_steps}
 use Rattle.shelf_model.specs.World.{file}
 use Rattle.block_stream.specs.Appenders.{filling_of, HoldsItems}
 use Rattle.arc_file.specs.Arcs.{arc_words, IsArc}
@@ -7,9 +8,15 @@ use Rattle.arc_file.proofs.PairLaws.{wrote_leaves, both_written_on}
 use Rattle.arc_file.proofs.WriterLaws.{files_apart, held_on, settled_items, settled_file}
 use Rattle.arc_file.proofs.writer.ArcWriter.settle.Goals as goal
 
+pub returns-in_err-settle-clause-content : goal.returns-in_err-settle-clause-content
+returns-in_err-settle-clause-content g c = grind (arith, common_steps)
+
 pub returns-in_err-settle-2-clause-content : goal.returns-in_err-settle-2-clause-content
 returns-in_err-settle-2-clause-content g c =
     both_written_on g.S.Shelf.tells g.S.Shelf.world 2 2 _ _ _ _ _ (files_apart c.args.self.now) c.settle.ensures.content c.settle-2.ensures.content
+
+pub returns-clause-settled : goal.returns-clause-settled
+returns-clause-settled g c = grind (arith, common_steps)
 
 pub returns-clause-content : goal.returns-clause-content
 returns-clause-content g c =

@@ -1,9 +1,12 @@
-use Rattle.std.proofs.Common.{◌≡◌, ◌-◌, take, ap, sym, subst, ◌∙◌}
+use Rattle.std.proofs.Common.{◌≡◌, ◌-◌, take, ap, sym, subst, ◌∙◌, arith}
 use Rattle.shelf_model.specs.World.{file}
 use Rattle.node_file.specs.declared.trailer.Trailer.{Trailer}
 use Rattle.node_file.specs.Readers.{file_of, Reads, AreLeft}
 use Rattle.node_file.proofs.SkipLaws.{same_bytes, looked_told}
 use Rattle.node_file.proofs.reader.NodeReader.resume.Goals as goal
+
+pub returns-in_err-skip_to-clause-sound : goal.returns-in_err-skip_to-clause-sound
+returns-in_err-skip_to-clause-sound g c = grind arith
 
 pub returns-in_err-skip_to-clause-content : goal.returns-in_err-skip_to-clause-content
 returns-in_err-skip_to-clause-content g c =

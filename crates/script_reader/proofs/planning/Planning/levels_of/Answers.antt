@@ -1,4 +1,5 @@
 use Rattle.std.proofs.Common.{◌≡◌, ◌+◌, ◌<◌, ◌∷◌, [], List, ℕ, length, get_or, drop, sym, ap, ◌∙◌, arith}
+use Rattle.std.proofs.lemmas.Grind.{common_steps}
 use Rattle.std.specs.Prelude.{Ok}
 use Rattle.std.proofs.lemmas.List.{drop_more, get_or-take}
 use Rattle.blif_reader.specs.Answers.{net_of}
@@ -9,6 +10,9 @@ use Rattle.script_reader.specs.declared.fault.ScriptKind.TheVariants as kind
 use Rattle.script_reader.proofs.Finding.{found_behind, found_more, level_fault}
 use Rattle.script_reader.proofs.NetLines.{inputs_length}
 use Rattle.script_reader.proofs.planning.Planning.levels_of.Goals as goal
+
+pub returns-in_err-level_named : goal.returns-in_err-level_named
+returns-in_err-level_named c = grind (arith, common_steps)
 
 pub loop-signal-preserved : goal.loop-signal-preserved
 loop-signal-preserved c =
@@ -23,3 +27,6 @@ loop-signal-preserved c =
     ap (λ (so_far : List ℕ). found_behind kind.Variable level so_far (drop (i + 1) (inputs_of net))) c.in_ok-push.ensures.items
     ∙ sym (found_more kind.Variable level c.loop-signal.levels.items name (drop (i + 1) (inputs_of net)) c.in_ok-level_named.field-0 is)
     ∙ sym (ap (found_behind kind.Variable level c.loop-signal.levels.items) left) ∙ c.loop-signal.invariant
+
+pub returns : goal.returns
+returns c = grind (arith, common_steps)

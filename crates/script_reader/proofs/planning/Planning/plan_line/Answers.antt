@@ -1,4 +1,5 @@
 use Rattle.std.proofs.Common.{◌≡◌, ◌≤◌, length, arith, ap, sym, subst, ◌∙◌}
+use Rattle.std.proofs.lemmas.Grind.{common_steps}
 use Rattle.std.specs.Prelude.{Result, Ok}
 use Rattle.std.proofs.lemmas.List.{length-map}
 use Rattle.text_words.specs.Left.{word_of}
@@ -13,6 +14,9 @@ use Rattle.script_reader.specs.Views.{texts, words_of, state_of, given, Leads}
 use Rattle.script_reader.proofs.Formed.{wants_two, is_one_step, has_wanted}
 use Rattle.script_reader.proofs.Levels.{kept_begun, kept_step}
 use Rattle.script_reader.proofs.planning.Planning.plan_line.Goals as goal
+
+pub plan_net-requires-clause-some : goal.plan_net-requires-clause-some
+plan_net-requires-clause-some c = grind (arith, common_steps)
 
 pub plan_net-requires-clause-kept : goal.plan_net-requires-clause-kept
 plan_net-requires-clause-kept c =

@@ -1,4 +1,5 @@
-use Rattle.std.proofs.Common.{ap, ◌∙◌}
+use Rattle.std.proofs.Common.{ap, ◌∙◌, arith}
+use Rattle.std.proofs.lemmas.Grind.{common_steps}
 use Rattle.std.specs.Map.Iter.{deref_pair}
 use Rattle.std.proofs.lemmas.Map.Iter.{btree_map_turn, rest_more}
 use Rattle.shelf_model.specs.File.{firm_file}
@@ -6,6 +7,9 @@ use Rattle.shelf_model.proofs.Numbers.{file_cmp_total}
 use Rattle.shelf_memory.specs.Benches.{file_at}
 use Rattle.shelf_memory.proofs.Stops.{fresh_put, file_taken}
 use Rattle.shelf_memory.proofs.bench.Bench.take_files.Goals as goal
+
+pub put_file-requires : goal.put_file-requires
+put_file-requires c = grind (arith, common_steps)
 
 pub loop-f-preserved : goal.loop-f-preserved
 loop-f-preserved c =
