@@ -8,7 +8,8 @@ use catalogue::JOB_GATE;
 use shelf_model::{FileNo, LONGEST};
 use std::alloc::Global;
 use std::fs::{Metadata, OpenFile, OpenOptions};
-use std::io::{ErrorKind, Read, Seek, Write};
+use std::io::ErrorKind;
+use std::os::unix::fs::FileExt;
 use std::rt::Files;
 use std::{fs, io};
 
@@ -41,7 +42,7 @@ pub(crate) struct Folder<F> {
     unsure_folder: bool,
 }
 
-impl<F: Read + Write + Seek + OpenFile + Drop> Folder<F> {
+impl<F: FileExt + OpenFile + Drop> Folder<F> {
     pub(crate) fn new(alloc: Global) -> Folder<F> {
         Folder {
             alloc,
@@ -137,7 +138,7 @@ impl<F: Read + Write + Seek + OpenFile + Drop> Folder<F> {
         synced
     }
 
-    /// Lets go of a file's handle, which doesn't tell where it stands after a call that failed.
+    /// Lets go of a file's handle, which may not have the file's length after a call that failed.
     pub(crate) fn forget(&mut self, f: FileNo) {
         self.handles.forget(f);
     }

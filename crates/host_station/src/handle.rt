@@ -1,19 +1,18 @@
 //! An open file of a folder.
 ghost use Rattle.std.specs.Prelude.{◌≤◌, IfOk, length};
 
-use crate::bytes::{read_full, write_full};
 use shelf_model::{FileNo, PIECE};
 use std::fs::{Metadata, OpenFile};
 use std::io;
-use std::io::{ErrorKind, Read, Seek, SeekFrom, Write};
-use std::os::unix::fs::MetadataExt;
+use std::io::ErrorKind;
+use std::os::unix::fs::{FileExt, MetadataExt};
 
-/// An open file of a folder: where it stands, its length, and what of it isn't synced.
+/// An open file of a folder: its length, and what of it isn't synced. It is read and written at places, so that
+/// none has to be gone to first.
 #[derive(Drop)]
 pub(crate) struct Handle<F> {
     pub(crate) number: FileNo,
     file: F,
-    at: u64,
     pub(crate) len: u64,
     /// How many of the bytes still stand that stood when it was opened. 0 once it was synced.
     older: u64,
@@ -23,13 +22,12 @@ pub(crate) struct Handle<F> {
     pub(crate) used: u64,
 }
 
-impl<F: Read + Write + Seek + OpenFile + Drop> Handle<F> {
+impl<F: FileExt + OpenFile + Drop> Handle<F> {
     /// A handle of a regular file of that length that was just opened.
     pub(crate) fn of(number: FileNo, file: F, len: u64) -> Handle<F> {
         Handle {
             number,
             file,
-            at: 0,
             len,
             older: len,
             is_changed: false,
@@ -38,7 +36,7 @@ impl<F: Read + Write + Seek + OpenFile + Drop> Handle<F> {
     }
 
     /// Reads from a byte on. Behind the file's end there is nothing to read.
-    pub(crate) fn read_at(&mut self, at: u64, buf: &mut [u8]) -> io::Result<usize>
+    pub(crate) fn read_at(&self, at: u64, buf: &mut [u8]) -> io::Result<usize>
         ensures { IfOk result (λ count. count ≤ length buf.old) }
     {
         if self.len <= at {
@@ -46,10 +44,9 @@ impl<F: Read + Write + Seek + OpenFile + Drop> Handle<F> {
         }
         // No more is asked for than there is: a read that meets the end would be followed by another one.
         let most = (self.len - at).min(buf.len() as u64) as usize;
-        self.stand_at(at)?;
-        let count = read_full(&mut self.file, &mut buf[..most])?;
-        self.at = at.saturating_add(count as u64);
-        Ok(count)
+        let wanted = &mut buf[..most];
+        self.file.read_exact_at(wanted, at)?;
+        Ok(most)
     }
 
     /// Writes behind the last byte, which has to be the one before that place.
@@ -57,11 +54,9 @@ impl<F: Read + Write + Seek + OpenFile + Drop> Handle<F> {
         if at != self.len {
             return Err(io::Error::from(ErrorKind::InvalidInput));
         }
-        self.stand_at(at)?;
         self.is_changed = true;
-        write_full(&mut self.file, bytes)?;
+        self.file.write_all_at(bytes, at)?;
         self.len = at.saturating_add(bytes.len() as u64);
-        self.at = self.len;
         Ok(())
     }
 
@@ -91,26 +86,12 @@ impl<F: Read + Write + Seek + OpenFile + Drop> Handle<F> {
 
     // Writes the end again of what stood in the file when it was opened. Where a sync of an earlier
     // process failed, the system may have dropped that end and take it for written.
-    fn write_again(&mut self) -> io::Result<()> {
+    fn write_again(&self) -> io::Result<()> {
         let mut piece = [0u8; PIECE];
         let len = self.older.min(PIECE as u64) as usize;
         let from = self.older - len as u64;
-        self.stand_at(from)?;
-        if read_full(&mut self.file, &mut piece[..len])? < len {
-            return Err(io::Error::from(ErrorKind::UnexpectedEof));
-        }
-        self.file.seek(SeekFrom::Start(from))?;
-        write_full(&mut self.file, &piece[..len])?;
-        self.at = self.older;
-        Ok(())
-    }
-
-    fn stand_at(&mut self, at: u64) -> io::Result<()> {
-        if self.at != at {
-            self.file.seek(SeekFrom::Start(at))?;
-            self.at = at;
-        }
-        Ok(())
+        self.file.read_exact_at(&mut piece[..len], from)?;
+        self.file.write_all_at(&piece[..len], from)
     }
 }
 

@@ -6,7 +6,7 @@ use shelf_model::FileNo;
 use std::alloc::Global;
 use std::fs::OpenFile;
 use std::io;
-use std::io::{Read, Seek, Write};
+use std::os::unix::fs::FileExt;
 
 /// How many files are held open, where the process may have so many.
 const MOST_OPEN: usize = 4000;
@@ -31,7 +31,7 @@ pub(crate) struct Handles<F> {
     pub(crate) is_lost: bool,
 }
 
-impl<F: Read + Write + Seek + OpenFile + Drop> Handles<F> {
+impl<F: FileExt + OpenFile + Drop> Handles<F> {
     pub(crate) fn new(alloc: Global) -> Handles<F> {
         Handles {
             all: Vec::new(alloc),

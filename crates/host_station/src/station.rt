@@ -5,6 +5,7 @@ use crate::text::OpenText;
 use shelf_model::{Failed, FileNo, LONGEST, Shelf, Station};
 use std::alloc::Global;
 use std::io;
+use std::os::unix::fs::FileExt;
 use std::rt::Files;
 
 /// The real folder, texts and standard output. It tells nothing of their content: this is the edge
@@ -22,7 +23,10 @@ pub struct HostStation<R: Files> {
     say_faults: u64,
 }
 
-impl<R: Files + Print + Clone + Drop> HostStation<R> {
+impl<R: Files + Print + Clone + Drop> HostStation<R>
+where
+    R::File: FileExt,
+{
     /// A station that hasn't entered a folder. It takes no memory.
     pub fn new(rt: R, alloc: Global) -> HostStation<R> {
         HostStation {
@@ -36,7 +40,10 @@ impl<R: Files + Print + Clone + Drop> HostStation<R> {
     }
 }
 
-impl<R: Files + Print + Clone + Drop> Shelf for HostStation<R> {
+impl<R: Files + Print + Clone + Drop> Shelf for HostStation<R>
+where
+    R::File: FileExt,
+{
     ghost use Rattle.std.specs.Prelude.{false};
     ghost use Rattle.std.proofs.lemmas.Bool.{false≢true};
     ghost use Rattle.host_station.specs.Untold.{nothing};
@@ -88,7 +95,10 @@ impl<R: Files + Print + Clone + Drop> Shelf for HostStation<R> {
     }
 }
 
-impl<R: Files + Print + Clone + Drop> Station for HostStation<R> {
+impl<R: Files + Print + Clone + Drop> Station for HostStation<R>
+where
+    R::File: FileExt,
+{
     fn enter(&mut self, path: &str) -> Result<(), Failed> {
         match self.folder.enter(&self.rt, path) {
             Ok(()) => Ok(()),
@@ -120,11 +130,14 @@ impl<R: Files + Print + Clone + Drop> Station for HostStation<R> {
     }
 }
 
-impl<R: Files + Print + Clone + Drop> HostStation<R> {
+impl<R: Files + Print + Clone + Drop> HostStation<R>
+where
+    R::File: FileExt,
+{
     ghost use Rattle.std.specs.Prelude.{◌≡◌, ◌≤◌, min, ◌+◌, ◌-◌, ◌^◌};
 
-    /// Counts a fault of the folder, and lets go of the file, whose handle doesn't tell where it
-    /// stands.
+    /// Counts a fault of the folder, and lets go of the file, which may be longer or shorter than its handle
+    /// has it.
     fn folder_failed(&mut self, f: FileNo) -> Failed
         ensures later { self.old.folder_faults ≤ self.new.folder_faults }
         ensures folder { min (self.old.folder_faults + 1) (2 ^ 64 - 1) ≤ self.new.folder_faults }

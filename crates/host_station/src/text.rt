@@ -6,7 +6,8 @@ use crate::folder::Folder;
 use std::alloc::Global;
 use std::fs::{OpenFile, OpenOptions};
 use std::io;
-use std::io::{ErrorKind, Read, Seek, SeekFrom, Write};
+use std::io::{ErrorKind, Read, Seek, SeekFrom};
+use std::os::unix::fs::FileExt;
 use std::rt::Files;
 
 /// The text that was fetched last, held open, and where its handle stands.
@@ -18,7 +19,7 @@ pub(crate) struct OpenText<F> {
     at: u64,
 }
 
-impl<F: Read + Write + Seek + OpenFile + Drop> OpenText<F> {
+impl<F: Read + Seek + FileExt + OpenFile + Drop> OpenText<F> {
     pub(crate) fn new(alloc: Global) -> OpenText<F> {
         OpenText {
             alloc,
