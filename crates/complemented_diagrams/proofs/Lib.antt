@@ -4,5 +4,5 @@ pub mod FirstRecords
 pub mod LevelRows
 pub mod LevelSteps
 pub mod FileChanges
-mod WrittenBytes
+pub mod WrittenBytes
 pub mod CanonicalFile

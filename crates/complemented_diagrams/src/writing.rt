@@ -62,8 +62,8 @@ fn put_nodes<S: Shelf>(
     Ok(())
 }
 
-// The record of a trailer.
-fn trailer_with(root: u64, count: u64, n: u32) -> Rec
+/// The record of a trailer.
+pub fn trailer_with(root: u64, count: u64, n: u32) -> Rec
     ensures { record_bytes 3 result ≡ trailer_bytes root count n }
 {
     Rec {

@@ -1,8 +1,6 @@
 -- The calls that join two diagrams: looks, and the making of one file.
-use Rattle.std.proofs.Common.{◌≡◌, ℕ, ◌+◌, ◌≤◌, Bool, ap, arith}
-use Rattle.std.specs.Prelude.{Result, Ok, Err, IfOk}
+use Rattle.std.proofs.Common.{ℕ, ◌+◌, ◌≤◌, Bool, arith}
 use Rattle.shelf_model.specs.declared.file_no.FileNo.{FileNo}
-use Rattle.shelf_model.specs.declared.fault.StreamFault.{StreamFault}
 use Rattle.shelf_model.specs.Calls.{Told}
 use Rattle.shelf_model.specs.World.{World}
 use Rattle.shelf_model.proofs.Runs.{told, told_then}
@@ -10,13 +8,8 @@ use Rattle.block_stream.specs.Reads.{Looked}
 use Rattle.complemented_diagrams.specs.Changes.{Changed}
 use Rattle.complemented_diagrams.proofs.FileChanges.{looked_changes, changed_after}
 
--- what follows from an answer
-pub if_ok : {T : Type 0} (r : Result T StreamFault) (P Q : T → Type 0) → ((x : T) → P x → Q x) → IfOk r P → IfOk r Q
-if_ok (Err e) P Q follows holds = tt
-if_ok (Ok x) P Q follows holds = follows x holds
-
 module _ {S : Type 0} (tells : S → Bool) (world : S → World) (f : FileNo) where
-  -- the same of stations that tell
+  -- looks are no more changes
   pub told_looked : (m n : ℕ) (old new : S) → m ≤ n → Told tells old new (Looked m (world old) (world new))
       → Told tells old new (Changed n f (world old) (world new))
   told_looked m n old new within did =

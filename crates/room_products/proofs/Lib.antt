@@ -3,10 +3,13 @@ pub mod AnsweredPairs
 pub mod SourceRows
 pub mod DiagramLaws
 pub mod FirstSlot
+mod AddedSlots
+mod PackedNodes
 mod CheckLaws
 mod SideLaws
 mod SlotJoining
 mod MarkedLevels
 mod OperandNodes
 mod JoinedFile
+mod FrontSources
 mod JoinRuns

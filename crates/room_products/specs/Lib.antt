@@ -1,4 +1,5 @@
 pub mod Goals
+pub mod Operands
 pub mod Slots
 pub mod Joining
 pub mod Joined

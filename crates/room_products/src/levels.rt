@@ -1,14 +1,18 @@
 //! All pairs, level by level.
-ghost use Rattle.std.specs.Prelude.{◌≡◌, ℕ, ◌+◌, ◌<◌, ◌≤◌, IfSome, [], length};
+ghost use Rattle.std.specs.Prelude.{◌≡◌, ℕ, ◌+◌, ◌*◌, ◌<◌, ◌≤◌, IfSome, [], length};
 ghost use Rattle.top_down.specs.declared.tuple.Tuple.{Tuple};
 ghost use Rattle.top_down.specs.Operations.{product_rule};
 ghost use Rattle.top_down.specs.Tuples.{Targets};
 ghost use Rattle.top_down.specs.Rules.{IsRule};
+ghost use Rattle.packed_records.specs.Packed.{packed};
 ghost use Rattle.room_products.specs.Goals.{GiveRows};
+ghost use Rattle.room_products.specs.Operands.{nodes_of};
 ghost use Rattle.room_products.specs.Joining.{IsJoining};
 
+use crate::operands::Nodes;
 use crate::sources::join_slot;
 use bool_tables::Bin;
+use packed_records::number_at;
 use rec_words::Rec;
 
 /// How many slots are used, and how many sources are done.
@@ -21,25 +25,27 @@ pub(crate) struct Progress {
 /// Answers the pairs of the slots, from the first level down, each with its source.
 pub(crate) fn join_levels(
     op: Bin,
-    left: &[Rec],
-    right: &[Rec],
+    left: Nodes,
+    right: Nodes,
     firsts: &mut [Rec],
     buckets: &mut [Rec],
     slots: &mut [Rec],
     sources: &mut [Rec],
     begun: Progress,
 ) -> Option<Progress>
-    requires within { begun.count ≤ length slots.old }
-    requires done { begun.done ≤ length sources.old }
+    requires within { begun.count ≤ 4 * length slots.old }
+    requires done { begun.done ≤ 4 * length sources.old }
     ensures slots_len { length slots.new ≡ length slots.old }
     ensures firsts_len { length firsts.new ≡ length firsts.old }
     ensures sources_len { length sources.new ≡ length sources.old }
-    ensures within { IfSome result (λ p. p.count ≤ length slots.new) }
-    ensures done { IfSome result (λ p. p.done ≤ length sources.new) }
+    ensures within { IfSome result (λ p. p.count ≤ 4 * length slots.new) }
+    ensures done { IfSome result (λ p. p.done ≤ 4 * length sources.new) }
     ensures joined { IfSome result (λ p. (n root : ℕ) (roots : Tuple) (targets : Targets) → n ≤ 65535 →
-        IsRule n (product_rule op) targets → GiveRows targets left.now right.now →
-        IsJoining n root roots (product_rule op) targets [] slots.old firsts.old begun.count sources.old begun.done →
-        IsJoining n root roots (product_rule op) targets [] slots.new firsts.new p.count sources.new p.done) }
+        IsRule n (product_rule op) targets → GiveRows targets (nodes_of left.entry) (nodes_of right.entry) →
+        IsJoining n root roots (product_rule op) targets [] (packed slots.old) firsts.old begun.count
+        (packed sources.old) begun.done →
+        IsJoining n root roots (product_rule op) targets [] (packed slots.new) firsts.new p.count (packed sources.new)
+        p.done) }
 {
     let mut now = begun;
     for level in 0..firsts.len() {
@@ -52,8 +58,8 @@ pub(crate) fn join_levels(
 fn join_level(
     op: Bin,
     level: usize,
-    left: &[Rec],
-    right: &[Rec],
+    left: Nodes,
+    right: Nodes,
     firsts: &mut [Rec],
     buckets: &mut [Rec],
     slots: &mut [Rec],
@@ -61,23 +67,25 @@ fn join_level(
     begun: Progress,
 ) -> Option<Progress>
     requires level { level < length firsts.old }
-    requires within { begun.count ≤ length slots.old }
-    requires done { begun.done ≤ length sources.old }
+    requires within { begun.count ≤ 4 * length slots.old }
+    requires done { begun.done ≤ 4 * length sources.old }
     ensures slots_len { length slots.new ≡ length slots.old }
     ensures firsts_len { length firsts.new ≡ length firsts.old }
     ensures buckets_len { length buckets.new ≡ length buckets.old }
     ensures sources_len { length sources.new ≡ length sources.old }
-    ensures within { IfSome result (λ p. p.count ≤ length slots.new) }
-    ensures done { IfSome result (λ p. p.done ≤ length sources.new) }
+    ensures within { IfSome result (λ p. p.count ≤ 4 * length slots.new) }
+    ensures done { IfSome result (λ p. p.done ≤ 4 * length sources.new) }
     ensures joined { IfSome result (λ p. (n root : ℕ) (roots : Tuple) (targets : Targets) → n ≤ 65535 →
-        IsRule n (product_rule op) targets → GiveRows targets left.now right.now →
-        IsJoining n root roots (product_rule op) targets [] slots.old firsts.old begun.count sources.old begun.done →
-        IsJoining n root roots (product_rule op) targets [] slots.new firsts.new p.count sources.new p.done) }
+        IsRule n (product_rule op) targets → GiveRows targets (nodes_of left.entry) (nodes_of right.entry) →
+        IsJoining n root roots (product_rule op) targets [] (packed slots.old) firsts.old begun.count
+        (packed sources.old) begun.done →
+        IsJoining n root roots (product_rule op) targets [] (packed slots.new) firsts.new p.count (packed sources.new)
+        p.done) }
 {
     let mut now = begun;
     let mut next = firsts[level].w[1];
     firsts[level].w[0] = begun.done as u64;
-    for _source in begun.done..sources.len() {
+    for _source in begun.done..4 * sources.len() {
         if next == 0 {
             return Some(now);
         }
@@ -93,7 +101,7 @@ fn join_level(
             count,
             done: now.done + 1,
         };
-        next = slots[place].w[3];
+        next = u64::from(number_at(slots, place, 3));
     }
     if next == 0 { Some(now) } else { None }
 }

@@ -8,6 +8,7 @@ mod goals;
 mod join;
 mod levels;
 mod operands;
+mod reading;
 mod slots;
 mod sources;
 mod tables;

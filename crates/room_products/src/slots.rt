@@ -1,12 +1,12 @@
 //! The slots of the room: pairs of pointers that are to be answered.
-ghost use Rattle.std.specs.Prelude.{◌≡◌, ◌≢◌, ℕ, ◌+◌, ◌*◌, ◌<◌, ◌≤◌, ◌^◌, IfSome, length};
-ghost use Rattle.rec_words.specs.Words.{level_of, node_word};
-ghost use Rattle.run_files.specs.Items.{record_at};
+ghost use Rattle.std.specs.Prelude.{◌≡◌, ◌≢◌, ℕ, ◌+◌, ◌-◌, ◌*◌, ◌<◌, ◌^◌, IfSome, length};
 ghost use Rattle.top_down.specs.Operations.{two};
 ghost use Rattle.top_down.specs.Tuples.{level_of_tuple};
 ghost use Rattle.top_down.specs.Rules.{Rule, IsAsked};
+ghost use Rattle.packed_records.specs.Packed.{packed};
 ghost use Rattle.room_products.specs.Slots.{pair_at, id_at, used_at, AreSlots, KeepsSlots};
 
+use packed_records::{number_at, put_number, put_record, word_at};
 use rec_words::{LEVEL_NUMBERS, Rec};
 
 /// How many buckets are looked at for a pair, one behind the other.
@@ -14,6 +14,9 @@ const PROBES: usize = 16;
 
 /// How many identifiers of a level are used at most.
 const MOST: u64 = 1 << 17;
+
+/// How many slots are used at most: the place behind one is a number of 32 bits.
+const MOST_SLOTS: usize = 4_294_967_295;
 
 /// Where a pair is looked for: the place of its slot, where it has one, and the bucket that a new one gets.
 #[derive(Clone, Copy)]
@@ -30,9 +33,9 @@ pub(crate) fn look_up(
     count: usize,
     buckets: &[Rec],
 ) -> Looked
-    ensures { IfSome result.slot (λ k. (k < count) × (pair_at slots.now k ≡ two first second)) }
+    ensures { IfSome result.slot (λ k. (k < count) × (pair_at (packed slots.now) k ≡ two first second)) }
 {
-    let many = 8 * buckets.len();
+    let many = 16 * buckets.len();
     let home = home_of(first, second, many as u64) as usize;
     for probe in 0..PROBES {
         let next = home.saturating_add(probe);
@@ -40,7 +43,7 @@ pub(crate) fn look_up(
         let Some(place) = held_in(bucket, slots, count, buckets) else {
             return Looked { slot: None, bucket };
         };
-        if slots[place].w[0] == first && slots[place].w[1] == second {
+        if word_at(slots, place, 0) == first && word_at(slots, place, 1) == second {
             return Looked {
                 slot: Some(place),
                 bucket,
@@ -62,19 +65,15 @@ fn home_of(first: u64, second: u64, many: u64) -> u64 {
     (folded * (many & 0xFFFF_FFFF)) >> 32
 }
 
-// The place of the slot that a bucket holds: one that is used, and says itself that it is there.
+// The place of the slot that a bucket holds: one that is used.
 fn held_in(bucket: usize, slots: &[Rec], count: usize, buckets: &[Rec]) -> Option<usize>
-    ensures { IfSome result (λ k. (k < count) × (k < length slots.now)) }
+    ensures { IfSome result (λ k. (k < count) × (k < 4 * length slots.now)) }
 {
-    if bucket / 8 >= buckets.len() {
+    if bucket / 16 >= buckets.len() {
         return None;
     }
-    let place = buckets[bucket / 8].w[bucket % 8];
-    if place >= count as u64 || place >= slots.len() as u64 {
-        return None;
-    }
-    let place = place as usize;
-    if slots[place].w[4] != bucket as u64 {
+    let place = number_at(buckets, bucket / 4, bucket % 4) as usize;
+    if place >= count || place >= 4 * slots.len() {
         return None;
     }
     Some(place)
@@ -93,16 +92,20 @@ pub(crate) fn add_slot(
     ensures slots_len { length slots.new ≡ length slots.old }
     ensures firsts_len { length firsts.new ≡ length firsts.old }
     ensures buckets_len { length buckets.new ≡ length buckets.old }
-    ensures within { IfSome result (λ id. count < length slots.new) }
-    ensures kept { IfSome result (λ id. KeepsSlots count (count + 1) slots.old slots.new) }
-    ensures pair { IfSome result (λ id. pair_at slots.new count ≡ two first second) }
-    ensures id { IfSome result (λ id. id_at slots.new count ≡ id) }
+    ensures within { IfSome result (λ id. count < 4 * length slots.new) }
+    ensures kept { IfSome result (λ id. KeepsSlots count (count + 1) (packed slots.old) (packed slots.new)) }
+    ensures pair { IfSome result (λ id. pair_at (packed slots.new) count ≡ two first second) }
+    ensures id { IfSome result (λ id. id_at (packed slots.new) count ≡ id) }
     ensures added { IfSome result (λ id. (n : ℕ) (rule : Rule) →
         IsAsked n rule (level_of_tuple (two first second)) (two first second) → level_of_tuple (two first second) < n →
-        AreSlots n rule slots.old firsts.old count → AreSlots n rule slots.new firsts.new (count + 1)) }
+        AreSlots n rule (packed slots.old) firsts.old count →
+        AreSlots n rule (packed slots.new) firsts.new (count + 1)) }
 {
     let level = first.min(second) / LEVEL_NUMBERS;
-    if count >= slots.len() || level >= firsts.len() as u64 || level > 65_534 {
+    if count >= (4 * slots.len()).min(MOST_SLOTS)
+        || level >= firsts.len() as u64
+        || level > 65_534
+    {
         return None;
     }
     let level = level as usize;
@@ -111,33 +114,42 @@ pub(crate) fn add_slot(
         return None;
     }
     let id = level as u64 * LEVEL_NUMBERS + used;
-    slots[count] = Rec {
-        w: [first, second, id, 0, bucket as u64, 0, 0, 0],
-    };
-    link_slot(level, count, slots, firsts);
-    if bucket / 8 < buckets.len() {
-        buckets[bucket / 8].w[bucket % 8] = count as u64;
+    if !put_record(slots, count, [first, second, id, 0]) {
+        return None;
     }
+    link_slot(level, count, slots, firsts);
+    fill_bucket(bucket, count, buckets);
     Some(id)
 }
 
+// Puts the place of a slot into a bucket, where there is that one.
+fn fill_bucket(bucket: usize, place: usize, buckets: &mut [Rec])
+    requires place { place < 2 ^ 32 }
+    ensures { length buckets.new ≡ length buckets.old }
+{
+    if bucket / 16 < buckets.len() {
+        put_number(buckets, bucket / 4, bucket % 4, place as u32);
+    }
+}
+
 // Puts the slot at a place behind those that wait on a level: word 1 of the level's record has the place behind the
-// first of them, word 2 that behind the last, and word 3 of a slot that behind the next one.
+// first of them, word 2 that behind the last, and the last number of a slot that behind the next one.
 fn link_slot(level: usize, place: usize, slots: &mut [Rec], firsts: &mut [Rec])
     requires level { level < length firsts.old }
+    requires place { place < 2 ^ 32 - 1 }
     requires few { used_at firsts.old level < 2 ^ 17 }
     ensures slots_len { length slots.new ≡ length slots.old }
     ensures firsts_len { length firsts.new ≡ length firsts.old }
-    ensures pairs { (k : ℕ) → pair_at slots.new k ≡ pair_at slots.old k }
-    ensures ids { (k : ℕ) → id_at slots.new k ≡ id_at slots.old k }
+    ensures pairs { (k : ℕ) → pair_at (packed slots.new) k ≡ pair_at (packed slots.old) k }
+    ensures ids { (k : ℕ) → id_at (packed slots.new) k ≡ id_at (packed slots.old) k }
     ensures used { used_at firsts.new level ≡ used_at firsts.old level + 1 }
     ensures others { (i : ℕ) → i ≢ level → used_at firsts.new i ≡ used_at firsts.old i }
 {
-    let behind = (place as u64).saturating_add(1);
+    let behind = place as u64 + 1;
     let begin = firsts[level];
     let last = begin.w[2];
-    if last > 0 && last <= slots.len() as u64 {
-        slots[last as usize - 1].w[3] = behind;
+    if last > 0 && last <= 4 * slots.len() as u64 {
+        put_number(slots, last as usize - 1, 3, behind as u32);
     }
     let first = if last > 0 { begin.w[1] } else { behind };
     firsts[level] = Rec {

@@ -1,25 +1,28 @@
 //! The source of a slot's pair.
-ghost use Rattle.std.specs.Prelude.{◌≡◌, ℕ, ◌+◌, ◌-◌, ◌<◌, ◌≤◌, IsTrue, IfSome, [], length};
+ghost use Rattle.std.specs.Prelude.{◌≡◌, ℕ, ◌+◌, ◌-◌, ◌*◌, ◌<◌, ◌≤◌, IsTrue, IfSome, [], length};
 ghost use Rattle.run_files.specs.Items.{record_at};
 ghost use Rattle.top_down.specs.declared.tuple.Tuple.{Tuple};
 ghost use Rattle.top_down.specs.Operations.{product_rule};
 ghost use Rattle.top_down.specs.Tuples.{Targets};
 ghost use Rattle.top_down.specs.Rules.{IsRule};
+ghost use Rattle.packed_records.specs.Packed.{packed};
 ghost use Rattle.room_reduction.specs.Sources.{word};
 ghost use Rattle.room_products.specs.Goals.{GiveRows};
+ghost use Rattle.room_products.specs.Operands.{nodes_of};
 ghost use Rattle.room_products.specs.Joining.{IsJoining};
 
 use crate::answers::answer_pair;
-use crate::operands::sides_of;
+use crate::operands::{Nodes, sides_of};
 use bool_tables::Bin;
+use packed_records::{put_record, word_at};
 use rec_words::{LEVEL_NUMBERS, Rec};
 
 /// Puts the source of the pair at a place behind those that are done, and answers how many slots are used then.
 pub(crate) fn join_slot(
     op: Bin,
     place: usize,
-    left: &[Rec],
-    right: &[Rec],
+    left: Nodes,
+    right: Nodes,
     firsts: &mut [Rec],
     buckets: &mut [Rec],
     slots: &mut [Rec],
@@ -27,30 +30,33 @@ pub(crate) fn join_slot(
     sources: &mut [Rec],
     done: usize,
 ) -> Option<usize>
-    requires within { count ≤ length slots.old }
+    requires within { count ≤ 4 * length slots.old }
     ensures slots_len { length slots.new ≡ length slots.old }
     ensures firsts_len { length firsts.new ≡ length firsts.old }
     ensures buckets_len { length buckets.new ≡ length buckets.old }
     ensures sources_len { length sources.new ≡ length sources.old }
-    ensures within { IfSome result (λ more. more ≤ length slots.new) }
-    ensures done { IfSome result (λ more. done < length sources.new) }
+    ensures within { IfSome result (λ more. more ≤ 4 * length slots.new) }
+    ensures done { IfSome result (λ more. done < 4 * length sources.new) }
     ensures joined { IfSome result (λ more. (n root : ℕ) (roots : Tuple) (targets : Targets) → n ≤ 65535 →
-        IsRule n (product_rule op) targets → GiveRows targets left.now right.now →
-        IsJoining n root roots (product_rule op) targets [] slots.old firsts.old count sources.old done →
-        IsJoining n root roots (product_rule op) targets [] slots.new firsts.new more sources.new (done + 1)) }
+        IsRule n (product_rule op) targets → GiveRows targets (nodes_of left.entry) (nodes_of right.entry) →
+        IsJoining n root roots (product_rule op) targets [] (packed slots.old) firsts.old count (packed sources.old)
+        done →
+        IsJoining n root roots (product_rule op) targets [] (packed slots.new) firsts.new more (packed sources.new)
+        (done + 1)) }
 {
     if place >= count {
         return None;
     }
-    let slot = slots[place];
-    let source = slot.w[2];
+    let source = word_at(slots, place, 2);
     let level = source / LEVEL_NUMBERS;
     if level >= firsts.len() as u64 || level > 65_534 {
         return None;
     }
     let begin = firsts[level as usize];
-    let lefts = sides_of(left, begin.w[4], level as u16, slot.w[0])?;
-    let rights = sides_of(right, begin.w[5], level as u16, slot.w[1])?;
+    let level = level as u16;
+    let (first, second) = (word_at(slots, place, 0), word_at(slots, place, 1));
+    let lefts = sides_of(left, begin.w[4], level, first)?;
+    let rights = sides_of(right, begin.w[5], level, second)?;
     let low = answer_pair(op, lefts.0, rights.0, slots, count, firsts, buckets)?;
     let high = answer_pair(op, lefts.1, rights.1, slots, low.count, firsts, buckets)?;
     if !put_source(source, low.word, high.word, sources, done) {
@@ -62,21 +68,19 @@ pub(crate) fn join_slot(
 // Puts a source behind those that are done, where it is greater than the last of them and there is room.
 fn put_source(source: u64, low: u64, high: u64, sources: &mut [Rec], done: usize) -> bool
     ensures sources_len { length sources.new ≡ length sources.old }
-    ensures within { IsTrue result → done < length sources.new }
-    ensures source { IsTrue result → word 0 (record_at sources.new done) ≡ source }
-    ensures low { IsTrue result → word 1 (record_at sources.new done) ≡ low }
-    ensures high { IsTrue result → word 2 (record_at sources.new done) ≡ high }
-    ensures others { IsTrue result → (k : ℕ) → k < done → record_at sources.new k ≡ record_at sources.old k }
-    ensures greater { IsTrue result → 0 < done → word 0 (record_at sources.old (done - 1)) < source }
+    ensures within { IsTrue result → done < 4 * length sources.new }
+    ensures source { IsTrue result → word 0 (record_at (packed sources.new) done) ≡ source }
+    ensures low { IsTrue result → word 1 (record_at (packed sources.new) done) ≡ low }
+    ensures high { IsTrue result → word 2 (record_at (packed sources.new) done) ≡ high }
+    ensures others { IsTrue result → (k : ℕ) → k < done →
+        record_at (packed sources.new) k ≡ record_at (packed sources.old) k }
+    ensures greater { IsTrue result → 0 < done → word 0 (record_at (packed sources.old) (done - 1)) < source }
 {
-    if done >= sources.len() {
+    if done >= 4 * sources.len() {
         return false;
     }
-    if done > 0 && sources[done - 1].w[0] >= source {
+    if done > 0 && word_at(sources, done - 1, 0) >= source {
         return false;
     }
-    sources[done] = Rec {
-        w: [source, low, high, 0, 0, 0, 0, 0],
-    };
-    true
+    put_record(sources, done, [source, low, high, 0])
 }

@@ -1,18 +1,23 @@
 //! The sources of the operator's diagram, of the nodes of both operands.
-ghost use Rattle.std.specs.Prelude.{◌≡◌, ℕ, ◌<◌, ◌≤◌, IfSome, length, take};
+ghost use Rattle.std.specs.Prelude.{◌≡◌, ℕ, ◌*◌, ◌<◌, ◌≤◌, IfSome, length};
 ghost use Rattle.top_down.specs.Operations.{product_rule, two};
 ghost use Rattle.top_down.specs.Rules.{IsRule, IsAsked, table_for};
 ghost use Rattle.top_down.specs.Tuples.{Targets};
+ghost use Rattle.room_reduction.specs.Sources.{sources_in};
 ghost use Rattle.room_products.specs.Goals.{GiveRows};
+ghost use Rattle.room_products.specs.Operands.{nodes_of};
 ghost use Rattle.room_products.specs.Joined.{AreOfTable};
 
 use crate::checks::are_done;
 use crate::goals::end_of;
 use crate::levels::{Progress, join_levels};
-use crate::operands::index_nodes;
+use crate::operands::{Nodes, index_nodes};
 use crate::slots::add_slot;
 use bool_tables::Bin;
 use rec_words::Rec;
+
+/// A record of buckets that hold no slot.
+const NO_SLOTS: Rec = Rec { w: [u64::MAX; 8] };
 
 /// The sources of a diagram: the identifier of its root, and how many there are.
 #[derive(Clone, Copy)]
@@ -28,8 +33,8 @@ pub(crate) fn join_nodes(
     op: Bin,
     first: u64,
     second: u64,
-    left: &[Rec],
-    right: &[Rec],
+    left: Nodes,
+    right: Nodes,
     firsts: &mut [Rec],
     buckets: &mut [Rec],
     slots: &mut [Rec],
@@ -38,12 +43,13 @@ pub(crate) fn join_nodes(
     ensures slots_len { length slots.new ≡ length slots.old }
     ensures firsts_len { length firsts.new ≡ length firsts.old }
     ensures sources_len { length sources.new ≡ length sources.old }
-    ensures within { IfSome result (λ t. t.count ≤ length slots.new) }
-    ensures few { IfSome result (λ t. t.count ≤ length sources.new) }
+    ensures within { IfSome result (λ t. t.count ≤ 4 * length slots.new) }
+    ensures few { IfSome result (λ t. t.count ≤ 4 * length sources.new) }
     ensures joined { IfSome result (λ t. (n : ℕ) (targets : Targets) → n ≤ 65535 →
-        IsRule n (product_rule op) targets → GiveRows targets left.now right.now →
+        IsRule n (product_rule op) targets → GiveRows targets (nodes_of left.entry) (nodes_of right.entry) →
         IsAsked n (product_rule op) 0 (two first second) →
-        AreOfTable n t.root (table_for (product_rule op) targets n 0 (two first second)) (take t.count sources.new)) }
+        AreOfTable n t.root (table_for (product_rule op) targets n 0 (two first second))
+        (sources_in t.count sources.new)) }
 {
     if end_of(op, first, second).is_some() {
         return None;
@@ -51,6 +57,7 @@ pub(crate) fn join_nodes(
     if !index_nodes(left, right, firsts) {
         return None;
     }
+    buckets.fill(NO_SLOTS);
     let root = add_slot(first, second, 0, slots, 0, firsts, buckets)?;
     let begun = Progress { count: 1, done: 0 };
     let ended = join_levels(op, left, right, firsts, buckets, slots, sources, begun)?;
@@ -58,7 +65,7 @@ pub(crate) fn join_nodes(
     if ended.done != count {
         return None;
     }
-    if !are_done(&slots[..count], &sources[..count], firsts) {
+    if !are_done(slots, sources, count, firsts) {
         return None;
     }
     Some(Tabled { root, count })

@@ -1,5 +1,5 @@
 -- How the room fills with the sources of a diagram.
-use Rattle.std.proofs.Common.{◌≡◌, ◌≢◌, ◌⊎◌, ℕ, ◌+◌, ◌-◌, ◌<◌, Bool, true, false, not, List, [], ◌∷◌, length, set, refl, sym, ap, subst, ◌∙◌, inl, inr, arith, get_or-set_other, get_or-set_same}
+use Rattle.std.proofs.Common.{◌≡◌, ◌≢◌, ◌⊎◌, ℕ, ◌+◌, ◌-◌, ◌<◌, Bool, true, false, not, List, ◌∷◌, refl, sym, ap, subst, ◌∙◌, inl, inr, arith}
 use Rattle.std.proofs.lemmas.Bool.{cases_lt}
 use Rattle.std.proofs.lemmas.Bool.Decides.{eqb_tells}
 use Rattle.rec_words.specs.declared.rec.Rec.{Rec}
@@ -11,9 +11,6 @@ use Rattle.arc_diagrams.specs.Arcs.{IsMet}
 use Rattle.room_reduction.specs.Sources.{word}
 use Rattle.room_reduction.specs.Filling.{word_on, IsPut, AreMet}
 
-none : Rec
-none = record { w = [] }
-
 -- two places are the same or not
 cases_place : (k p : ℕ) → (k ≡ p) ⊎ (k ≢ p)
 cases_place k p = elim (eqb_tells k p) [ inl same ↦ inl same.1 | inr other ↦ inr other.1 ]
@@ -24,13 +21,6 @@ cases_side true true = inl refl
 cases_side true false = inr refl
 cases_side false true = inr refl
 cases_side false false = inl refl
-
--- a record that is put at a place, and those at other places
-record_put : (xs : List Rec) (p : ℕ) (x : Rec) → p < length xs → record_at (set xs p x) p ≡ x
-record_put xs p x below = get_or-set_same xs p x (record { w = [] }) below
-
-record_other : (xs : List Rec) (p k : ℕ) (x : Rec) → k ≢ p → record_at (set xs p x) k ≡ record_at xs k
-record_other xs p k x other = get_or-set_other xs p k x (record { w = [] }) other
 
 -- a source is greater than all before it, where it is greater than the last of them
 above_all : (n root : ℕ) (all left : List Arc) (xs : List Rec) (count source j : ℕ) → AreMet n root all left xs count
@@ -48,15 +38,13 @@ above_all n root all left xs count source j met above below =
     ]
 
 -- a source more stands behind those that were met
-module _ (n root : ℕ) (all left : List Arc) (xs : List Rec) (x : Rec) (count source : ℕ)
-    (within : count < length xs) (is : word 0 x ≡ source) where
-  at_last : word 0 (record_at (set xs count x) count) ≡ source
-  at_last = ap (word 0) (record_put xs count x within) ∙ is
+module _ (n root : ℕ) (all left : List Arc) (xs ys : List Rec) (count source : ℕ)
+    (at_last : word 0 (record_at ys count) ≡ source)
+    (others : (k : ℕ) → k ≢ count → record_at ys k ≡ record_at xs k) where
+  before_last : (k : ℕ) → k < count → record_at ys k ≡ record_at xs k
+  before_last k below = others k (omega (arith, below))
 
-  before_last : (k : ℕ) → k < count → record_at (set xs count x) k ≡ record_at xs k
-  before_last k below = record_other xs count k x (omega (arith, below))
-
-  still_put : (a : Arc) → IsPut all xs count a → IsPut all (set xs count x) (count + 1) a
+  still_put : (a : Arc) → IsPut all xs count a → IsPut all ys (count + 1) a
   still_put a put =
       let same = before_last put.place put.within in
       record {
@@ -72,23 +60,23 @@ module _ (n root : ℕ) (all left : List Arc) (xs : List Rec) (x : Rec) (count s
 
   pub one_more : level_of source < n → IsMet root all source
       → (0 < count → word 0 (record_at xs (count - 1)) < source)
-      → AreMet n root all left xs count → AreMet n root all left (set xs count x) (count + 1)
+      → AreMet n root all left xs count → AreMet n root all left ys (count + 1)
   one_more level met above old = record {
     ascend = λ j k before below. elim (cases_lt k count) [
       | inl earlier ↦
-          let first : word 0 (record_at (set xs count x) j) ≡ word 0 (record_at xs j) =
+          let first : word 0 (record_at ys j) ≡ word 0 (record_at xs j) =
           ap (word 0) (before_last j (omega (arith, before, earlier))) in
-          let second : word 0 (record_at (set xs count x) k) ≡ word 0 (record_at xs k) =
+          let second : word 0 (record_at ys k) ≡ word 0 (record_at xs k) =
           ap (word 0) (before_last k earlier) in
           let less = old.ascend j k before earlier in
           omega (arith, first, second, less)
       | inr last ↦
           let same : k ≡ count = omega (arith, below, last) in
           let early : j < count = omega (arith, before, same) in
-          let first : word 0 (record_at (set xs count x) j) ≡ word 0 (record_at xs j) =
+          let first : word 0 (record_at ys j) ≡ word 0 (record_at xs j) =
           ap (word 0) (before_last j early) in
-          let second : word 0 (record_at (set xs count x) k) ≡ source =
-          ap (λ p. word 0 (record_at (set xs count x) p)) same ∙ at_last in
+          let second : word 0 (record_at ys k) ≡ source =
+          ap (λ p. word 0 (record_at ys p)) same ∙ at_last in
           let less = above_all n root all left xs count source j old above early in
           omega (arith, first, second, less)
     ];
@@ -96,14 +84,14 @@ module _ (n root : ℕ) (all left : List Arc) (xs : List Rec) (x : Rec) (count s
       | inl earlier ↦ subst (IsMet root all) (sym (ap (word 0) (before_last k earlier))) (old.met k earlier)
       | inr last ↦
           let same : k ≡ count = omega (arith, below, last) in
-          subst (IsMet root all) (sym (ap (λ p. word 0 (record_at (set xs count x) p)) same ∙ at_last)) met
+          subst (IsMet root all) (sym (ap (λ p. word 0 (record_at ys p)) same ∙ at_last)) met
     ];
     levels = λ k below. elim (cases_lt k count) [
       | inl earlier ↦
           subst (λ w. level_of w < n) (sym (ap (word 0) (before_last k earlier))) (old.levels k earlier)
       | inr last ↦
           let same : k ≡ count = omega (arith, below, last) in
-          subst (λ w. level_of w < n) (sym (ap (λ p. word 0 (record_at (set xs count x) p)) same ∙ at_last)) level
+          subst (λ w. level_of w < n) (sym (ap (λ p. word 0 (record_at ys p)) same ∙ at_last)) level
     ];
     known = old.known;
     each = λ a has. elim (old.each a has) [
@@ -113,21 +101,22 @@ module _ (n root : ℕ) (all left : List Arc) (xs : List Rec) (x : Rec) (count s
   }
 
 -- the target of an arc is put into the record of its source
-module _ (all : List Arc) (xs : List Rec) (x : Rec) (count p : ℕ) (arc : Arc)
-    (within : p < length xs) (below : p < count) (found : word 0 (record_at xs p) ≡ arc.source)
-    (same_source : word 0 x ≡ word 0 (record_at xs p)) (target : word_on arc.high x ≡ arc.target)
-    (other : word_on (not arc.high) x ≡ word_on (not arc.high) (record_at xs p)) where
+module _ (all : List Arc) (xs ys : List Rec) (count p : ℕ) (arc : Arc)
+    (below : p < count) (found : word 0 (record_at xs p) ≡ arc.source)
+    (same_source : word 0 (record_at ys p) ≡ word 0 (record_at xs p))
+    (target : word_on arc.high (record_at ys p) ≡ arc.target)
+    (other : word_on (not arc.high) (record_at ys p) ≡ word_on (not arc.high) (record_at xs p))
+    (others : (k : ℕ) → k ≢ p → record_at ys k ≡ record_at xs k) where
   -- the sources are what they were
-  source_stays : (k : ℕ) → word 0 (record_at (set xs p x) k) ≡ word 0 (record_at xs k)
+  source_stays : (k : ℕ) → word 0 (record_at ys k) ≡ word 0 (record_at xs k)
   source_stays k = elim (cases_place k p) [
     | inl same ↦
-        ap (λ q. word 0 (record_at (set xs p x) q)) same ∙ ap (word 0) (record_put xs p x within) ∙ same_source
-        ∙ ap (λ q. word 0 (record_at xs q)) (sym same)
-    | inr differs ↦ ap (word 0) (record_other xs p k x differs)
+        ap (λ q. word 0 (record_at ys q)) same ∙ same_source ∙ ap (λ q. word 0 (record_at xs q)) (sym same)
+    | inr differs ↦ ap (word 0) (others k differs)
   ]
 
   -- this arc was put
-  this_put : Has arc all → IsPut all (set xs p x) count arc
+  this_put : Has arc all → IsPut all ys count arc
   this_put has = record {
     place = p;
     within = below;
@@ -136,11 +125,11 @@ module _ (all : List Arc) (xs : List Rec) (x : Rec) (count p : ℕ) (arc : Arc)
     has = has;
     same_source = refl;
     same_side = refl;
-    target_is = ap (word_on arc.high) (record_put xs p x within) ∙ target;
+    target_is = target;
   }
 
   -- an arc that was put is put still: another target is that of an arc on its side too
-  others_put : Has arc all → (a : Arc) → IsPut all xs count a → IsPut all (set xs p x) count a
+  others_put : Has arc all → (a : Arc) → IsPut all xs count a → IsPut all ys count a
   others_put has a put = elim (cases_place put.place p) [
     | inr differs ↦ record {
       place = put.place;
@@ -150,7 +139,7 @@ module _ (all : List Arc) (xs : List Rec) (x : Rec) (count p : ℕ) (arc : Arc)
       has = put.has;
       same_source = put.same_source;
       same_side = put.same_side;
-      target_is = ap (word_on a.high) (record_other xs p put.place x differs) ∙ put.target_is;
+      target_is = ap (word_on a.high) (others put.place differs) ∙ put.target_is;
     }
     | inl same ↦ elim (cases_side a.high arc.high) [
       | inl side ↦ record {
@@ -162,8 +151,7 @@ module _ (all : List Arc) (xs : List Rec) (x : Rec) (count p : ℕ) (arc : Arc)
         same_source = sym found ∙ ap (λ q. word 0 (record_at xs q)) (sym same) ∙ put.source_is;
         same_side = sym side;
         target_is =
-            ap (λ q. word_on a.high (record_at (set xs p x) q)) same
-            ∙ ap (word_on a.high) (record_put xs p x within) ∙ ap (λ b. word_on b x) side ∙ target;
+            ap (λ q. word_on a.high (record_at ys q)) same ∙ ap (λ b. word_on b (record_at ys p)) side ∙ target;
       }
       | inr side ↦ record {
         place = put.place;
@@ -174,8 +162,7 @@ module _ (all : List Arc) (xs : List Rec) (x : Rec) (count p : ℕ) (arc : Arc)
         same_source = put.same_source;
         same_side = put.same_side;
         target_is =
-            ap (λ q. word_on a.high (record_at (set xs p x) q)) same
-            ∙ ap (word_on a.high) (record_put xs p x within) ∙ ap (λ b. word_on b x) side ∙ other
+            ap (λ q. word_on a.high (record_at ys q)) same ∙ ap (λ b. word_on b (record_at ys p)) side ∙ other
             ∙ ap (λ b. word_on b (record_at xs p)) (sym side)
             ∙ ap (λ q. word_on a.high (record_at xs q)) (sym same) ∙ put.target_is;
       }
@@ -183,7 +170,7 @@ module _ (all : List Arc) (xs : List Rec) (x : Rec) (count p : ℕ) (arc : Arc)
   ]
 
   pub arc_put : (n root : ℕ) (left : List Arc) → AreMet n root all (arc ∷ left) xs count
-      → AreMet n root all left (set xs p x) count
+      → AreMet n root all left ys count
   arc_put n root left old =
       let has : Has arc all = old.known arc (inl refl) in
       record {
@@ -195,7 +182,7 @@ module _ (all : List Arc) (xs : List Rec) (x : Rec) (count p : ℕ) (arc : Arc)
         known = λ a waits. old.known a (inr waits);
         each = λ a there. elim (old.each a there) [
           | inl waits ↦ elim waits [
-            | inl same ↦ inr (subst (IsPut all (set xs p x) count) same (this_put has))
+            | inl same ↦ inr (subst (IsPut all ys count) same (this_put has))
             | inr behind ↦ inl behind
           ]
           | inr put ↦ inr (others_put has a put)

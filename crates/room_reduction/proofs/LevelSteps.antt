@@ -1,8 +1,8 @@
 -- The step from the deeper levels of a diagram to the next one above them.
-use Rattle.std.specs.Prelude.{◌≡◌, ◌≢◌, ℕ, suc, ◌+◌, ◌-◌, ◌<◌, ◌≤◌, List, [], ◌++◌, length, take, drop}
+use Rattle.std.specs.Prelude.{◌≡◌, ◌≢◌, ℕ, suc, ◌+◌, ◌-◌, ◌<◌, ◌≤◌, List, [], ◌++◌, length, take}
 use Rattle.std.proofs.Common.{◌∙◌, sym, ap, subst, inl, inr, arith}
 use Rattle.std.proofs.lemmas.Bool.{cases_lt}
-use Rattle.std.proofs.lemmas.List.{append_assoc, length-append, length-take-le, map-append, take-append-drop, take_at}
+use Rattle.std.proofs.lemmas.List.{map-append}
 use Rattle.rec_words.specs.Words.{level_of}
 use Rattle.rec_words.specs.Records.{node_words}
 use Rattle.rec_words.specs.declared.rec.Rec.{Rec}
@@ -89,45 +89,33 @@ is_level n root arcs level from end count sources rows few complete within order
   behind = λ k later below. let deep = done.behind k later below in omega (arith, deep);
 }
 
--- the first of two lists that stand behind one another, and some of the second
-taken_both : (xs ys zs : List Rec) (a b : ℕ) → length xs ≡ a → b ≤ length ys
-    → take (a + b) (xs ++ (ys ++ zs)) ≡ xs ++ take b ys
-taken_both xs ys zs a b long within =
-    let front : List Rec = xs ++ take b ys in
-    let rest : List Rec = drop b ys ++ zs in
-    let whole : xs ++ (ys ++ zs) ≡ front ++ rest =
-    ap (λ us. xs ++ (us ++ zs)) (sym (take-append-drop b ys))
-    ∙ ap (λ us. xs ++ us) (append_assoc (take b ys) (drop b ys) zs) ∙ sym (append_assoc xs (take b ys) rest) in
-    ap (take (a + b)) whole
-    ∙ take_at front rest (a + b) (omega (arith, length-append xs (take b ys), long, length-take-le b ys within))
-
 -- so the level is done after the deeper ones
 pub level_done : (n root : ℕ) (arcs : List Arc) (level from end count more : ℕ)
-    (sources new rows nodes own back : List Rec) → level < n → IsLevel n root arcs level from end sources
-    → IsDone n root arcs (suc level) end count sources rows
-    → KeepsSources sources new → nodes ≡ take count rows → length nodes ≡ count → more ≤ length own
-    → take more own ≡ node_records (numbered level 0 (final_rows n arcs level))
+    (sources new nodes later_nodes : List Rec) → level < n → IsLevel n root arcs level from end sources
+    → IsDone n root arcs (suc level) end count sources nodes
+    → KeepsSources sources new
+    → take (count + more) later_nodes
+    ≡ take count nodes ++ node_records (numbered level 0 (final_rows n arcs level))
     → AreKnown (final_pointer n arcs) from new
-    → IsDone n root arcs level from (count + more) new (nodes ++ (own ++ back))
-level_done n root arcs level from end count more sources new rows nodes own back below is done same nodes_is long within
-    made known = record {
-      sources_are = are_kept n root arcs sources new same is.sources_are;
-      known = known;
-      before = λ k early. subst (λ w. level_of w < level) (sym (same.source k)) (is.before k early);
-      behind = λ k later below.
-          elim (cases_lt k end) [
-            | inl before ↦
-                let here = ap level_of (same.source k) ∙ is.own k later before in omega (arith, here)
-            | inr past ↦
-                let deep = is.behind k past (omega (arith, below, same.many)) in
-                let here = ap level_of (same.source k) in omega (arith, here, deep)
-          ];
-      nodes_are = taken_both nodes own back count more long within
-          ∙ (λ j. (nodes_is ∙ done.nodes_are) j ++ made j)
-          ∙ sym (ap node_records (nodes_from-level n arcs level below)
-          ∙ map-append (item_record node_words) (nodes_from n arcs (suc level))
-          (numbered level 0 (final_rows n arcs level)));
-    }
+    → IsDone n root arcs level from (count + more) new later_nodes
+level_done n root arcs level from end count more sources new nodes later_nodes below is done same made known = record {
+  sources_are = are_kept n root arcs sources new same is.sources_are;
+  known = known;
+  before = λ k early. subst (λ w. level_of w < level) (sym (same.source k)) (is.before k early);
+  behind = λ k later below.
+      elim (cases_lt k end) [
+        | inl before ↦
+            let here = ap level_of (same.source k) ∙ is.own k later before in omega (arith, here)
+        | inr past ↦
+            let deep = is.behind k past (omega (arith, below, same.many)) in
+            let here = ap level_of (same.source k) in omega (arith, here, deep)
+      ];
+  nodes_are = made
+      ∙ ap (λ front. front ++ node_records (numbered level 0 (final_rows n arcs level))) done.nodes_are
+      ∙ sym (ap node_records (nodes_from-level n arcs level below)
+      ∙ map-append (item_record node_words) (nodes_from n arcs (suc level))
+      (numbered level 0 (final_rows n arcs level)));
+}
 
 -- at first no level is done
 pub none_done : (n root : ℕ) (arcs : List Arc) (i from : ℕ) (sources rows : List Rec) → i ≡ n → from ≡ length sources

@@ -3,6 +3,8 @@ pub mod FilledLaws
 mod RowOrder
 mod Numbering
 mod Naming
+pub mod PackedSources
 pub mod LevelSources
 mod LevelSteps
+mod PackedNodes
 mod RoomFile

@@ -32,6 +32,23 @@ sources_on old mid new one two = record {
   high = λ k. two.high k ∙ one.high k;
 }
 
+-- the last column of one record changes alone
+pub other_column : (place : ℕ) (old new : List Rec) → length new ≡ length old
+    → ((c : ℕ) → c ≢ 3 → word c (record_at new place) ≡ word c (record_at old place))
+    → ((k : ℕ) → k ≢ place → record_at new k ≡ record_at old k) → KeepsSources old new
+other_column place old new many columns others = record {
+  many = many;
+  source = same 0 (λ e. absurd (omega (arith, e)));
+  low = same 1 (λ e. absurd (omega (arith, e)));
+  high = same 2 (λ e. absurd (omega (arith, e)));
+}
+  where
+    same : (c : ℕ) → c ≢ 3 → (k : ℕ) → word c (record_at new k) ≡ word c (record_at old k)
+    same c other k = elim (cases_eq k place) [
+      | inl e ↦ subst (λ p. word c (record_at new p) ≡ word c (record_at old p)) (sym e) (columns c other)
+      | inr e ↦ ap (word c) (others k e)
+    ]
+
 -- one more is named
 pub one_named : (f : ℕ → ℕ) (first : List Rec) (place name : ℕ) (r : Rec) (old mid new : List Rec)
     → place < length first → r ≡ record_at first place → KeepsSources old mid → KeepsSources mid new

@@ -37,9 +37,6 @@ none_numbered level first last = record {
 }
 
 -- some row was numbered
-and_true : (m : ℕ) (b : Bool) → nat_lt 0 (suc m) && b ≡ true → b ≡ true
-and_true m b e = grind (arith, nat_tests)
-
 and_false : (m : ℕ) (b : Bool) → nat_lt 0 (suc m) && b ≡ false → b ≡ false
 and_false m b e = grind (arith, nat_tests)
 
@@ -51,9 +48,6 @@ module _ (level : ℕ) (first : List Rec) (place : ℕ) (r : Rec) (below : place
   later-is =
       ap (λ xs. filter differs (map row_in xs)) (drop_more first place (record { w = [] }) below)
       ∙ ap (λ x. cond (differs (row_in x)) (row_in x ∷ later first (place + 1)) (later first (place + 1))) (sym is)
-
-  later-plain : differs (row_in r) ≡ false → later first place ≡ later first (place + 1)
-  later-plain plain = later-is ∙ ap (λ b. cond b (row_in r ∷ later first (place + 1)) (later first (place + 1))) plain
 
   later-one : differs (row_in r) ≡ true → later first place ≡ row_in r ∷ later first (place + 1)
   later-one differ = later-is ∙ ap (λ b. cond b (row_in r ∷ later first (place + 1)) (later first (place + 1))) differ

@@ -1,5 +1,5 @@
 //! The filling of the room with the sources of a diagram, from its two files of arcs.
-ghost use Rattle.std.specs.Prelude.{◌≡◌, ℕ, ◌+◌, ◌^◌, ◌<◌, ◌≤◌, Bool, not, List, ◌∷◌, ◌++◌, length, take, IsTrue, IfOk, IfErr, IfSome};
+ghost use Rattle.std.specs.Prelude.{◌≡◌, ◌≢◌, ℕ, ◌+◌, ◌*◌, ◌^◌, ◌<◌, ◌≤◌, not, List, ◌∷◌, ◌++◌, length, IsTrue, IfOk, IfErr, IfSome};
 ghost use Rattle.shelf_model.specs.World.{file};
 ghost use Rattle.shelf_model.specs.Calls.{Told};
 ghost use Rattle.shelf_model.specs.Faults.{OnlyShelf};
@@ -9,12 +9,15 @@ ghost use Rattle.arc_file.specs.declared.arc.Arc.{Arc};
 ghost use Rattle.arc_file.specs.declared.kind.Kind.TheVariants.{Inner, End};
 ghost use Rattle.arc_file.specs.Files.{HasArcs, BeginWith};
 ghost use Rattle.arc_diagrams.specs.Arcs.{IsComplete, IsMet};
-ghost use Rattle.room_reduction.specs.Sources.{word, AreSources};
+ghost use Rattle.packed_records.specs.Packed.{packed};
+ghost use Rattle.run_files.specs.Items.{record_at};
+ghost use Rattle.room_reduction.specs.Sources.{word, sources_in, AreSources};
 ghost use Rattle.room_reduction.specs.Filling.{word_on, AreMet, StillGives, GivesNext};
 
 use crate::sources::find;
 use arc_file::{Arc, Unreduced};
 use block_stream::Forward;
+use packed_records::{put_record, put_word, word_at};
 use rec_words::{LEVEL_NUMBERS, Ptr, Rec};
 use shelf_model::{FileNo, Shelf, StreamFault};
 
@@ -32,12 +35,12 @@ pub(crate) fn read_sources<S: Shelf>(
     requires window { 8 ≤ length window.old }
     ensures sources_len { length sources.new ≡ length sources.old }
     ensures firsts_len { length firsts.new ≡ length firsts.old }
-    ensures within { IfOk result (λ found. IfSome found (λ count. count ≤ length sources.new)) }
+    ensures within { IfOk result (λ found. IfSome found (λ count. count ≤ 4 * length sources.new)) }
     ensures read { IfOk result (λ found. IsTrue (S.tells shelf.new) → (inner ends : List Arc) →
         HasArcs Inner inner made.now.inner_count (file (S.world shelf.old) made.now.inner).bytes →
         HasArcs End ends made.now.ends_count (file (S.world shelf.old) made.now.ends).bytes →
         IsComplete n made.now.root (inner ++ ends) → IfSome found (λ count.
-        AreSources n made.now.root (inner ++ ends) (take count sources.new))) }
+        AreSources n made.now.root (inner ++ ends) (sources_in count sources.new))) }
     ensures cause { IfErr result (λ e. e ≡ StreamFault.Shelf) }
     ensures content { Told S.tells shelf.old shelf.new
         (Looked (made.now.inner_count + made.now.ends_count + 2) (S.world shelf.old) (S.world shelf.new)) }
@@ -85,15 +88,15 @@ fn read_arcs<S: Shelf>(
 ) -> Result<Option<usize>, StreamFault>
     requires few { count ≤ 2 ^ 18 }
     requires window { 8 ≤ length window.old }
-    requires within { before ≤ length sources.old }
+    requires within { before ≤ 4 * length sources.old }
     ensures sources_len { length sources.new ≡ length sources.old }
     ensures firsts_len { length firsts.new ≡ length firsts.old }
     ensures window_len { length window.new ≡ length window.old }
-    ensures within { IfOk result (λ found. IfSome found (λ k. k ≤ length sources.new)) }
+    ensures within { IfOk result (λ found. IfSome found (λ k. k ≤ 4 * length sources.new)) }
     ensures read { IfOk result (λ found. IsTrue (S.tells shelf.new) → (root : ℕ) (all these left : List Arc) →
         BeginWith these count (file (S.world shelf.old) f).bytes →
-        AreMet n root all (these ++ left) sources.old before →
-        IfSome found (AreMet n root all left sources.new)) }
+        AreMet n root all (these ++ left) (packed sources.old) before →
+        IfSome found (AreMet n root all left (packed sources.new))) }
     ensures cause { IfErr result (λ e. e ≡ StreamFault.Shelf) }
     ensures content { Told S.tells shelf.old shelf.new (Looked count (S.world shelf.old) (S.world shelf.new)) }
     ensures faults { OnlyShelf (S.faults shelf.old) (S.faults shelf.new) result }
@@ -137,12 +140,12 @@ fn take_arc(
     found: usize,
     firsts: &mut [Rec],
 ) -> Option<usize>
-    requires within { found ≤ length sources.old }
+    requires within { found ≤ 4 * length sources.old }
     ensures sources_len { length sources.new ≡ length sources.old }
     ensures firsts_len { length firsts.new ≡ length firsts.old }
-    ensures within { IfSome result (λ k. k ≤ length sources.new) }
+    ensures within { IfSome result (λ k. k ≤ 4 * length sources.new) }
     ensures taken { IfSome result (λ k. (root : ℕ) (all left : List Arc) →
-        AreMet n root all (arc ∷ left) sources.old found → AreMet n root all left sources.new k) }
+        AreMet n root all (arc ∷ left) (packed sources.old) found → AreMet n root all left (packed sources.new) k) }
 {
     let now = meet(n, arc.target, sources, found, firsts)?;
     if !put_target(arc, sources, now, firsts) {
@@ -159,18 +162,18 @@ fn meet(
     found: usize,
     firsts: &mut [Rec],
 ) -> Option<usize>
-    requires within { found ≤ length sources.old }
+    requires within { found ≤ 4 * length sources.old }
     ensures sources_len { length sources.new ≡ length sources.old }
     ensures firsts_len { length firsts.new ≡ length firsts.old }
-    ensures within { IfSome result (λ k. k ≤ length sources.new) }
+    ensures within { IfSome result (λ k. k ≤ 4 * length sources.new) }
     ensures met { IfSome result (λ k. (root : ℕ) (all left : List Arc) → IsMet root all pointer →
-        AreMet n root all left sources.old found → AreMet n root all left sources.new k) }
+        AreMet n root all left (packed sources.old) found → AreMet n root all left (packed sources.new) k) }
 {
     if pointer.level().is_none() {
         return Some(found);
     }
     let source = pointer.word();
-    if found > 0 && sources[found - 1].w[0] == source {
+    if found > 0 && word_at(sources, found - 1, 0) == source {
         return Some(found);
     }
     if add_source(n, source, sources, found, firsts) {
@@ -182,65 +185,51 @@ fn meet(
 
 // Puts a source behind those that were found, where it is greater and there is room.
 fn add_source(n: u32, source: u64, sources: &mut [Rec], found: usize, firsts: &mut [Rec]) -> bool
-    requires within { found ≤ length sources.old }
+    requires within { found ≤ 4 * length sources.old }
     ensures sources_len { length sources.new ≡ length sources.old }
     ensures firsts_len { length firsts.new ≡ length firsts.old }
-    ensures within { IsTrue result → found < length sources.new }
+    ensures within { IsTrue result → found < 4 * length sources.new }
     ensures added { IsTrue result → (root : ℕ) (all left : List Arc) → IsMet root all source →
-        AreMet n root all left sources.old found → AreMet n root all left sources.new (found + 1) }
+        AreMet n root all left (packed sources.old) found → AreMet n root all left (packed sources.new) (found + 1) }
 {
     let level = source / LEVEL_NUMBERS;
-    if found >= sources.len() || level >= u64::from(n) || level >= firsts.len() as u64 {
+    if found >= 4 * sources.len() || level >= u64::from(n) || level >= firsts.len() as u64 {
         return false;
     }
-    if found > 0 && sources[found - 1].w[0] >= source {
+    if found > 0 && word_at(sources, found - 1, 0) >= source {
         return false;
     }
-    if found == 0 || sources[found - 1].w[0] / LEVEL_NUMBERS != level {
+    if found == 0 || word_at(sources, found - 1, 0) / LEVEL_NUMBERS != level {
         firsts[level as usize].w[0] = found as u64;
     }
-    sources[found] = new_source(source);
-    true
-}
-
-// The record of a source whose targets aren't known.
-fn new_source(source: u64) -> Rec
-    ensures { word 0 result ≡ source }
-{
     let none = Ptr::terminal(false).word();
-    Rec {
-        w: [source, none, none, 0, 0, 0, 0, 0],
-    }
+    put_record(sources, found, [source, none, none, 0])
 }
 
 // Puts the target of an arc into the record of its source, where that is found.
 fn put_target(arc: Arc, sources: &mut [Rec], found: usize, firsts: &[Rec]) -> bool
+    requires within { found ≤ 4 * length sources.old }
     ensures sources_len { length sources.new ≡ length sources.old }
     ensures put { IsTrue result → (n root : ℕ) (all left : List Arc) →
-        AreMet n root all (arc ∷ left) sources.old found → AreMet n root all left sources.new found }
+        AreMet n root all (arc ∷ left) (packed sources.old) found → AreMet n root all left (packed sources.new) found }
 {
-    let Some(place) = find(sources, firsts, arc.source.ptr().word()) else {
+    let Some(place) = find(sources, found, firsts, arc.source.ptr().word()) else {
         return false;
     };
-    if place >= found {
-        return false;
-    }
-    sources[place] = with_target(&sources[place], arc.high, arc.target.word());
-    true
+    put_target_on(arc.high, arc.target.word(), sources, place)
 }
 
-// The record of a source, with another target on one side.
-fn with_target(source: &Rec, high: bool, target: u64) -> Rec
-    ensures source { word 0 result ≡ word 0 source.now }
-    ensures target { word_on high result ≡ target }
-    ensures other { word_on (not high) result ≡ word_on (not high) source.now }
+// Puts a target on one side into the record of a source.
+fn put_target_on(high: bool, target: u64, sources: &mut [Rec], place: usize) -> bool
+    requires place { place < 4 * length sources.old }
+    ensures sources_len { length sources.new ≡ length sources.old }
+    ensures source { word 0 (record_at (packed sources.new) place) ≡ word 0 (record_at (packed sources.old) place) }
+    ensures target { IsTrue result → word_on high (record_at (packed sources.new) place) ≡ target }
+    ensures other { word_on (not high) (record_at (packed sources.new) place)
+        ≡ word_on (not high) (record_at (packed sources.old) place) }
+    ensures others { (k : ℕ) → k ≢ place →
+        record_at (packed sources.new) k ≡ record_at (packed sources.old) k }
 {
-    let (low_target, high_target) = if high {
-        (source.w[1], target)
-    } else {
-        (target, source.w[2])
-    };
-    Rec {
-        w: [source.w[0], low_target, high_target, 0, 0, 0, 0, 0],
-    }
+    let column = if high { 2 } else { 1 };
+    put_word(sources, place, column, target)
 }

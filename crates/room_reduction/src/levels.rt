@@ -9,68 +9,91 @@ ghost use Rattle.arc_file.specs.declared.arc.Arc.{Arc};
 ghost use Rattle.arc_diagrams.specs.Arcs.{IsComplete};
 ghost use Rattle.arc_diagrams.specs.Laws.{IsDiagramOf};
 ghost use Rattle.complemented_diagrams.specs.Changes.{Changed};
-ghost use Rattle.room_reduction.specs.Sources.{AreSources};
+ghost use Rattle.packed_records.specs.Packed.{packed};
+ghost use Rattle.room_reduction.specs.Sources.{AreSources, sources_in};
 ghost use Rattle.room_reduction.specs.Levels.{IsDone};
 
 use crate::level::{Done, reduce_level};
+use crate::nodes::write_packed;
 use crate::rows::became;
-use complemented_diagrams::write_nodes;
 use rec_words::{Ptr, Rec};
 use shelf_model::{FileNo, Shelf, StreamFault};
 
-/// Makes the node file of the diagram whose sources stand in the room, and answers how many nodes it has. None is
-/// answered, and no file is changed, where they aren't those of a diagram. Of each level the first record's word 0 says
-/// where its sources begin.
+/// Makes the node file of the diagram whose sources stand in the room, so many, and answers how many nodes it has. None
+/// is answered, and no file is changed, where they aren't those of a diagram, where there is no room for the nodes,
+/// four to a record, and where a level has more sources than there is room for rows. Of each level the first record's
+/// word 0 says where its sources begin.
 pub fn reduce_sources<S: Shelf>(
     n: u32,
     root: Ptr,
     sources: &mut [Rec],
+    total: usize,
     firsts: &[Rec],
+    nodes: &mut [Rec],
     rows: &mut [Rec],
     window: &mut [Rec],
     out: FileNo,
     shelf: &mut S,
 ) -> Result<Option<u64>, StreamFault>
     requires variables { n ≤ 65535 }
-    requires as_many { length rows.old ≡ length sources.old }
-    requires few { length sources.old ≤ 2 ^ 17 }
+    requires many { total ≤ 4 * length sources.old }
+    requires few { total ≤ 2 ^ 17 }
     requires window { 8 ≤ length window.old }
     ensures made { IfOk result (λ done. IsTrue (S.tells shelf.new) → (arcs : List Arc) → (t : List Bool) →
-        length arcs ≤ 2 ^ 47 → IsDiagramOf n root arcs t → AreSources n root arcs sources.old → IfSome done (λ count.
+        length arcs ≤ 2 ^ 47 → IsDiagramOf n root arcs t → AreSources n root arcs (sources_in total sources.old) →
+        IfSome done (λ count.
         (file (S.world shelf.new) out ≡ firm_file (canon_bytes n t)) × (count ≡ length (canon_nodes n t)))) }
     ensures not_made { IfOk result (λ done. IfNone done (shelf.new ≡ shelf.old)) }
     ensures cause { IfErr result (λ e. e ≡ StreamFault.Shelf) }
     ensures content { Told S.tells shelf.old shelf.new
-        (Changed (length sources.old + 6) out (S.world shelf.old) (S.world shelf.new)) }
+        (Changed (total + 6) out (S.world shelf.old) (S.world shelf.new)) }
     ensures faults { OnlyShelf (S.faults shelf.old) (S.faults shelf.new) result }
 {
-    let Some(count) = reduce_levels(n, sources, firsts, rows) else {
+    let Some(count) = reduce_levels(n, sources, total, firsts, nodes, rows) else {
         return Ok(None);
     };
-    let Some(word) = became(sources, firsts, 0, root.word()) else {
+    let Some(word) = became(sources, total, firsts, 0, root.word()) else {
         return Ok(None);
     };
-    write_nodes(out, n, &rows[..count], word, window, shelf)?;
+    write_packed(out, n, nodes, count, word, window, shelf)?;
     Ok(Some(count as u64))
 }
 
 // Makes the nodes of all levels, the deepest first, and answers how many there are. Each source says then what it
 // became.
-fn reduce_levels(n: u32, sources: &mut [Rec], firsts: &[Rec], rows: &mut [Rec]) -> Option<usize>
+fn reduce_levels(
+    n: u32,
+    sources: &mut [Rec],
+    total: usize,
+    firsts: &[Rec],
+    nodes: &mut [Rec],
+    rows: &mut [Rec],
+) -> Option<usize>
     requires variables { n ≤ 65535 }
-    requires as_many { length rows.old ≡ length sources.old }
-    requires few { length sources.old ≤ 2 ^ 17 }
-    ensures rows_len { length rows.new ≡ length rows.old }
-    ensures within { IfSome result (λ count. count ≤ length rows.new) }
+    requires many { total ≤ 4 * length sources.old }
+    requires few { total ≤ 2 ^ 17 }
+    ensures sources_len { length sources.new ≡ length sources.old }
+    ensures nodes_len { length nodes.new ≡ length nodes.old }
+    ensures within { IfSome result (λ count. count ≤ total) }
+    ensures room { IfSome result (λ count. count ≤ 4 * length nodes.new) }
     ensures done { IfSome result (λ count. (root : ℕ) (arcs : List Arc) → IsComplete n root arcs →
-        AreSources n root arcs sources.old → IsDone n root arcs 0 0 count sources.new rows.new) }
+        AreSources n root arcs (sources_in total sources.old) →
+        IsDone n root arcs 0 0 count (sources_in total sources.new) (packed nodes.new)) }
 {
     let mut done = Done {
-        from: sources.len(),
+        from: total,
         count: 0,
     };
     for deeper in 0..n {
-        done = reduce_level((n - 1 - deeper) as u16, sources, firsts, rows, done)?;
+        done = reduce_level(
+            (n - 1 - deeper) as u16,
+            sources,
+            total,
+            firsts,
+            nodes,
+            rows,
+            done,
+        )?;
     }
     if done.from > 0 {
         return None;

@@ -5,6 +5,7 @@
 mod filling;
 mod level;
 mod levels;
+mod nodes;
 mod numbers;
 mod reduce;
 mod rows;
@@ -12,4 +13,4 @@ mod sources;
 
 pub use levels::reduce_sources;
 pub use reduce::reduce_in_room;
-pub use sources::find;
+pub use sources::{find, source_word};

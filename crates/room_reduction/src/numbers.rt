@@ -1,18 +1,18 @@
 //! The numbers of a level's rows.
-ghost use Rattle.std.specs.Prelude.{◌≡◌, ◌≢◌, ℕ, ◌+◌, ◌-◌, ◌<◌, ◌≤◌, ◌^◌, ◌==◌, ◌&&◌, nat_lt, cond, Bool, true, IsTrue, IfSome, length, map, take, drop, List};
+ghost use Rattle.std.specs.Prelude.{◌≡◌, ◌≢◌, ℕ, ◌+◌, ◌-◌, ◌*◌, ◌<◌, ◌≤◌, ◌^◌, ◌==◌, ◌&&◌, nat_lt, cond, true, IsTrue, IfSome, length, map, take, drop, List};
 ghost use Rattle.rec_words.specs.Words.{deepest_level, level_numbers};
 ghost use Rattle.rec_words.specs.declared.rec.Rec.{Rec};
 ghost use Rattle.list_laws.specs.Members.{Has};
 ghost use Rattle.run_files.specs.Items.{record_at};
-ghost use Rattle.canon_file.specs.declared.row.Row.{Row};
 ghost use Rattle.canon_file.specs.Rows.{row_word};
 ghost use Rattle.canon_file.specs.Pairs.{differs, word_in};
 ghost use Rattle.canon_file.specs.Canon.{numbered};
 ghost use Rattle.arc_diagrams.specs.Reducing.{IsRising};
 ghost use Rattle.complemented_diagrams.specs.Records.{node_records, node_record, row_in};
-ghost use Rattle.room_reduction.specs.Sources.{word};
-ghost use Rattle.room_reduction.specs.Levels.{KeepsSources, Names, IsKnown, IsNumbering, distinct_rows};
+ghost use Rattle.room_reduction.specs.Sources.{word, sources_in};
+ghost use Rattle.room_reduction.specs.Levels.{KeepsSources, Names, IsNumbering, distinct_rows};
 
+use crate::sources::put_source_word;
 use rec_words::{Ptr, Rec};
 
 /// How many rows of a level have a number, and the last of them.
@@ -25,17 +25,25 @@ struct Numbered {
 
 /// Puts the nodes of a level's rows in front of these, says to the source of each row what it became, and answers how
 /// many nodes there are.
-pub(crate) fn number_rows(level: u16, rows: &mut [Rec], sources: &mut [Rec]) -> Option<usize>
+pub(crate) fn number_rows(
+    level: u16,
+    rows: &mut [Rec],
+    sources: &mut [Rec],
+    total: usize,
+) -> Option<usize>
     requires level { level ≤ deepest_level }
+    requires many { total ≤ 4 * length sources.old }
     requires few { length rows.old ≤ 2 ^ 17 }
     ensures len { length rows.new ≡ length rows.old }
     ensures within { IfSome result (λ count. count ≤ length rows.old) }
-    ensures same { KeepsSources sources.old sources.new }
+    ensures sources_len { length sources.new ≡ length sources.old }
+    ensures same { KeepsSources (sources_in total sources.old) (sources_in total sources.new) }
     ensures nodes { IfSome result (λ count.
         take count rows.new ≡ node_records (numbered level 0 (distinct_rows rows.old))) }
     ensures names { IfSome result (λ count. IsRising (map row_in rows.old) → (f : ℕ → ℕ) →
         ((r : Rec) → Has r rows.old → word_in level (distinct_rows rows.old) (row_in r)
-        ≡ f (word 0 (record_at sources.old (word 2 r)))) → Names f rows.old sources.old sources.new) }
+        ≡ f (word 0 (record_at (sources_in total sources.old) (word 2 r)))) →
+        Names f rows.old (sources_in total sources.old) (sources_in total sources.new)) }
 {
     let mut done = Numbered {
         count: 0,
@@ -45,7 +53,7 @@ pub(crate) fn number_rows(level: u16, rows: &mut [Rec], sources: &mut [Rec]) -> 
     for place in 0..rows.len() {
         let row = rows[place];
         done = number_row(level, &row, rows, done);
-        if !name_source(row.w[2], name_of(level, &row, done), sources) {
+        if !name_source(row.w[2], name_of(level, &row, done), sources, total) {
             return None;
         }
     }
@@ -111,28 +119,16 @@ fn name_of(level: u16, row: &Rec, done: Numbered) -> u64
 }
 
 // Says to the source at a place what it became.
-fn name_source(place: u64, name: u64, sources: &mut [Rec]) -> bool
-    ensures same { KeepsSources sources.old sources.new }
-    ensures name { IsTrue result → word 3 (record_at sources.new place) ≡ name }
+fn name_source(place: u64, name: u64, sources: &mut [Rec], total: usize) -> bool
+    requires many { total ≤ 4 * length sources.old }
+    ensures len { length sources.new ≡ length sources.old }
+    ensures same { KeepsSources (sources_in total sources.old) (sources_in total sources.new) }
+    ensures name { IsTrue result → word 3 (record_at (sources_in total sources.new) place) ≡ name }
     ensures others { (k : ℕ) → k ≢ place →
-        word 3 (record_at sources.new k) ≡ word 3 (record_at sources.old k) }
+        word 3 (record_at (sources_in total sources.new) k) ≡ word 3 (record_at (sources_in total sources.old) k) }
 {
-    if place >= sources.len() as u64 {
+    if place >= total as u64 {
         return false;
     }
-    let place = place as usize;
-    sources[place] = source_saying(&sources[place], name);
-    true
-}
-
-// The record of a source with its targets, which says what it became.
-fn source_saying(source: &Rec, name: u64) -> Rec
-    ensures source { word 0 result ≡ word 0 source.now }
-    ensures low { word 1 result ≡ word 1 source.now }
-    ensures high { word 2 result ≡ word 2 source.now }
-    ensures name { word 3 result ≡ name }
-{
-    Rec {
-        w: [source.w[0], source.w[1], source.w[2], name, 0, 0, 0, 0],
-    }
+    put_source_word(sources, total, place as usize, 3, name)
 }

@@ -26,9 +26,14 @@ const VARIABLES: usize = 1_024;
 
 const VARIABLES_A_SOURCE: usize = 32;
 
+/// The widest level of a large diagram has mostly more than one of so many sources. Where its rows would hardly fit no
+/// arc is read.
+const WIDEST: usize = 4;
+
 /// Makes the node file of the canonical form of a diagram that isn't reduced, and answers how many nodes it has. None
-/// is answered where the room has fewer records than that takes, where the variables are far more than the arcs, and
-/// where the two files aren't those of a diagram's arcs; what the node file holds then isn't said.
+/// is answered where the room has fewer records than that takes: one for each variable, half of one for each source,
+/// one for each source of the widest level, and a window; where the variables are far more than the arcs, and where the
+/// two files aren't those of a diagram's arcs; what the node file holds then isn't said.
 pub fn reduce_in_room<S: Shelf>(
     n: u32,
     made: &Unreduced,
@@ -52,25 +57,23 @@ pub fn reduce_in_room<S: Shelf>(
     ensures faults { OnlyShelf (S.faults shelf.old) (S.faults shelf.new) result }
 {
     let most = ((made.inner_count + made.ends_count) / 2) as usize;
+    let packed = most / 4 + 1;
     if n as usize > VARIABLES + VARIABLES_A_SOURCE * most
-        || n as usize + 2 * most + WINDOW > room.len()
+        || n as usize + 2 * packed + WINDOW + most / WIDEST > room.len()
     {
         return Ok(None);
     }
     let (firsts, rest) = room.split_at_mut(n as usize);
-    let (sources, rest) = rest.split_at_mut(most);
-    let (rows, window) = rest.split_at_mut(most);
+    let (sources, rest) = rest.split_at_mut(packed);
+    let (nodes, rest) = rest.split_at_mut(packed);
+    let (window, rows) = rest.split_at_mut(WINDOW);
     let Some(count) = read_sources(n, made, sources, firsts, window, shelf)? else {
         return Ok(None);
     };
+    if count > most {
+        return Ok(None);
+    }
     reduce_sources(
-        n,
-        made.root,
-        &mut sources[..count],
-        firsts,
-        &mut rows[..count],
-        window,
-        out,
-        shelf,
+        n, made.root, sources, count, firsts, nodes, rows, window, out, shelf,
     )
 }

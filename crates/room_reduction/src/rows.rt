@@ -1,51 +1,69 @@
 //! The rows of a level's sources.
-ghost use Rattle.std.specs.Prelude.{◌≡◌, ℕ, ◌+◌, ◌<◌, ◌≤◌, IsTrue, IfSome, length, map};
+ghost use Rattle.std.specs.Prelude.{◌≡◌, ℕ, ◌+◌, ◌*◌, ◌<◌, ◌≤◌, IsTrue, IfSome, length, map};
 ghost use Rattle.canon_file.specs.Rows.{row_before};
 ghost use Rattle.arc_diagrams.specs.Reducing.{IsRising};
 ghost use Rattle.complemented_diagrams.specs.Records.{row_in};
+ghost use Rattle.room_reduction.specs.Sources.{sources_in};
 ghost use Rattle.room_reduction.specs.Levels.{KeepsEnds, AreKnown, IsRowOf, AreRowsOf};
 
-use crate::sources::find;
+use crate::sources::{find, source_word};
 use rec_words::{Ptr, Rec};
 
 /// What a pointer became: a truth value stays, and the record of a source says it, where that stands at a place or
 /// behind it.
-pub(crate) fn became(sources: &[Rec], firsts: &[Rec], from: usize, word: u64) -> Option<u64>
-    ensures { IfSome result (λ w. (f : ℕ → ℕ) → KeepsEnds f → AreKnown f from sources.now → w ≡ f word) }
+pub(crate) fn became(
+    sources: &[Rec],
+    count: usize,
+    firsts: &[Rec],
+    from: usize,
+    word: u64,
+) -> Option<u64>
+    requires many { count ≤ 4 * length sources.now }
+    ensures { IfSome result (λ w. (f : ℕ → ℕ) → KeepsEnds f → AreKnown f from (sources_in count sources.now) →
+        w ≡ f word) }
 {
     match Ptr::from_word(word)?.value() {
         Some(_value) => Some(word),
-        None => pointer_of(sources, firsts, from, word),
+        None => pointer_of(sources, count, firsts, from, word),
     }
 }
 
 // What the record of a source says.
-fn pointer_of(sources: &[Rec], firsts: &[Rec], from: usize, source: u64) -> Option<u64>
-    ensures { IfSome result (λ w. (f : ℕ → ℕ) → AreKnown f from sources.now → w ≡ f source) }
+fn pointer_of(
+    sources: &[Rec],
+    count: usize,
+    firsts: &[Rec],
+    from: usize,
+    source: u64,
+) -> Option<u64>
+    requires many { count ≤ 4 * length sources.now }
+    ensures { IfSome result (λ w. (f : ℕ → ℕ) → AreKnown f from (sources_in count sources.now) → w ≡ f source) }
 {
-    let place = find(sources, firsts, source)?;
+    let place = find(sources, count, firsts, source)?;
     if place < from {
         return None;
     }
-    Some(sources[place].w[3])
+    Some(source_word(sources, count, place, 3))
 }
 
 /// Puts the row of each source between two places into the rows, where those behind them say what they became.
 pub(crate) fn collect_rows(
     sources: &[Rec],
+    count: usize,
     firsts: &[Rec],
     from: usize,
     end: usize,
     rows: &mut [Rec],
 ) -> bool
     requires as_many { from + length rows.old ≡ end }
-    requires within { end ≤ length sources.now }
+    requires many { count ≤ 4 * length sources.now }
+    requires within { end ≤ count }
     ensures len { length rows.new ≡ length rows.old }
-    ensures rows { IsTrue result → (f : ℕ → ℕ) → KeepsEnds f → AreKnown f end sources.now →
-        AreRowsOf f from sources.now rows.new }
+    ensures rows { IsTrue result → (f : ℕ → ℕ) → KeepsEnds f → AreKnown f end (sources_in count sources.now) →
+        AreRowsOf f from (sources_in count sources.now) rows.new }
 {
     for place in 0..rows.len() {
-        let Some(row) = row_at(sources, firsts, from + place, end) else {
+        let Some(row) = row_at(sources, count, firsts, from + place, end) else {
             return false;
         };
         rows[place] = row;
@@ -54,13 +72,16 @@ pub(crate) fn collect_rows(
 }
 
 // The row of the source at a place.
-fn row_at(sources: &[Rec], firsts: &[Rec], place: usize, end: usize) -> Option<Rec>
-    requires within { place < length sources.now }
-    ensures { IfSome result (λ r. (f : ℕ → ℕ) → KeepsEnds f → AreKnown f end sources.now →
-        IsRowOf f place sources.now r) }
+fn row_at(sources: &[Rec], count: usize, firsts: &[Rec], place: usize, end: usize) -> Option<Rec>
+    requires many { count ≤ 4 * length sources.now }
+    requires within { place < count }
+    ensures { IfSome result (λ r. (f : ℕ → ℕ) → KeepsEnds f → AreKnown f end (sources_in count sources.now) →
+        IsRowOf f place (sources_in count sources.now) r) }
 {
-    let low = became(sources, firsts, end, sources[place].w[1])?;
-    let high = became(sources, firsts, end, sources[place].w[2])?;
+    let low_source = source_word(sources, count, place, 1);
+    let high_source = source_word(sources, count, place, 2);
+    let low = became(sources, count, firsts, end, low_source)?;
+    let high = became(sources, count, firsts, end, high_source)?;
     Some(Rec {
         w: [low, high, place as u64, 0, 0, 0, 0, 0],
     })

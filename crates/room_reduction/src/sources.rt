@@ -1,25 +1,60 @@
-//! The sources of a diagram, as records in the room.
-ghost use Rattle.std.specs.Prelude.{◌≡◌, ℕ, ◌<◌, length, IfSome};
+//! The sources of a diagram, as packed records in the room.
+ghost use Rattle.std.specs.Prelude.{◌≡◌, ◌≢◌, ℕ, ◌*◌, ◌<◌, ◌≤◌, IsTrue, IfSome, length};
 ghost use Rattle.run_files.specs.Items.{record_at};
-ghost use Rattle.room_reduction.specs.Sources.{word};
+ghost use Rattle.room_reduction.specs.Sources.{word, sources_in};
 
+use packed_records::{put_word, word_at};
 use rec_words::{LEVEL_NUMBERS, Rec};
 
-/// The place of the record of a source, where it is found: its level begins at a place that is kept, if that is right,
+/// The word of a column in the source at a place, of so many.
+pub fn source_word(sources: &[Rec], count: usize, place: usize, column: usize) -> u64
+    requires many { count ≤ 4 * length sources.now }
+    requires place { place < count }
+    requires column { column < 4 }
+    ensures { result ≡ word column (record_at (sources_in count sources.now) place) }
+{
+    let _many = count;
+    word_at(sources, place, column)
+}
+
+/// Puts a word into a column of the source at a place, of so many, where a number stands for the word.
+pub(crate) fn put_source_word(
+    sources: &mut [Rec],
+    count: usize,
+    place: usize,
+    column: usize,
+    to: u64,
+) -> bool
+    requires many { count ≤ 4 * length sources.old }
+    requires place { place < count }
+    requires column { column < 4 }
+    ensures len { length sources.new ≡ length sources.old }
+    ensures own { IsTrue result → word column (record_at (sources_in count sources.new) place) ≡ to }
+    ensures columns { (c : ℕ) → c ≢ column → word c (record_at (sources_in count sources.new) place)
+        ≡ word c (record_at (sources_in count sources.old) place) }
+    ensures others { (k : ℕ) → k ≢ place →
+        record_at (sources_in count sources.new) k ≡ record_at (sources_in count sources.old) k }
+{
+    let _many = count;
+    put_word(sources, place, column, to)
+}
+
+/// The place of a source among so many, where it is found: its level begins at a place that is kept, if that is right,
 /// and it has its number among those of the level.
-pub fn find(sources: &[Rec], firsts: &[Rec], source: u64) -> Option<usize>
-    ensures { IfSome result (λ k. (k < length sources.now) × (word 0 (record_at sources.now k) ≡ source)) }
+pub fn find(sources: &[Rec], count: usize, firsts: &[Rec], source: u64) -> Option<usize>
+    requires many { count ≤ 4 * length sources.now }
+    ensures { IfSome result (λ k. (k < count) × (word 0 (record_at (sources_in count sources.now) k) ≡ source)) }
 {
     let level = (source / LEVEL_NUMBERS) as usize;
     if level >= firsts.len() {
         return None;
     }
     let place = firsts[level].w[0].saturating_add(source % LEVEL_NUMBERS);
-    if place >= sources.len() as u64 {
+    if place >= count as u64 {
         return None;
     }
     let place = place as usize;
-    if sources[place].w[0] != source {
+    if source_word(sources, count, place, 0) != source {
         return None;
     }
     Some(place)

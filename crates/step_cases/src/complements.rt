@@ -1,5 +1,5 @@
-//! Complements of diagrams that have too many nodes for the room, or whose files no program wrote: sweeps make them, or
-//! tell where the file is damaged.
+//! Complements of diagrams that have too many nodes for the room, or whose files no program wrote: products make them,
+//! or tell where the file is damaged.
 ghost use Rattle.std.specs.Prelude.{◌<◌, ◌≤◌, length};
 ghost use Rattle.step_cases.specs.declared.steps.TheConstants.{LARGE_ROOM, LEAST_ROOM};
 
@@ -32,7 +32,7 @@ fn complement(n: u32, room: &mut [Rec], bench: &mut Bench) -> Result<MadeDiagram
     make_diagram(operation, n, ONE, NUMBER, room, bench)
 }
 
-// The least room doesn't hold two records for each node, so sweeps make the right file. More room does.
+// The least room doesn't hold two records for each node, so it is made as any product is. More room does.
 fn makes_with_more_room(rt: HostRuntime) -> Result<bool, Fail> {
     let alloc = rt.alloc();
     let f = Random::new(3).table(alloc, MANY, ALL)?;
@@ -44,8 +44,8 @@ fn makes_with_more_room(rt: HostRuntime) -> Result<bool, Fail> {
     let Ok(made) = complement(MANY, least.as_mut_slice(), &mut bench) else {
         return Ok(false);
     };
-    let swept = made.turns > made.nodes.wrapping_add(1);
-    if !swept || !is_made(alloc, MANY, made, wanted, &bench)? {
+    let is_product = made.turns != made.nodes.wrapping_add(1);
+    if !is_product || !is_made(alloc, MANY, made, wanted, &bench)? {
         return Ok(false);
     }
     let mut large = vec![in alloc; EMPTY; LARGE_ROOM]?;
@@ -64,7 +64,9 @@ fn makes_with_more_room(rt: HostRuntime) -> Result<bool, Fail> {
 }
 
 #[test]
-fn a_complement_that_the_room_does_not_hold_is_swept(rt: HostRuntime) -> Result<(), Fail> {
+fn a_complement_that_the_room_does_not_hold_is_made_as_a_product(
+    rt: HostRuntime,
+) -> Result<(), Fail> {
     let makes = makes_with_more_room(rt)?;
     assert!(rt; makes);
     Ok(())
@@ -202,8 +204,8 @@ fn with_a_stray_node(alloc: Global, n: u32, words: &[u64]) -> Result<Vec<u64>, A
     Ok(more)
 }
 
-// A node that nobody asks for keeps the complement from being made in the room: sweeps make the right file, and a turn
-// is counted for each node that was read before.
+// A node that nobody asks for keeps the complement from being made of the nodes alone: it is made as any product is,
+// and a turn is counted for each node that was read before.
 fn stray_nodes_are_passed(rt: HostRuntime) -> Result<bool, Fail> {
     let alloc = rt.alloc();
     let mut room = vec![in alloc; EMPTY; LEAST_ROOM]?;
@@ -221,9 +223,7 @@ fn stray_nodes_are_passed(rt: HostRuntime) -> Result<bool, Fail> {
             return Ok(false);
         };
         let read = (words.len() as u64 / 3).wrapping_add(1);
-        if made.turns <= read.wrapping_add(made.nodes)
-            || !is_made(alloc, n, made, wanted.as_slice(), &bench)?
-        {
+        if made.turns <= read || !is_made(alloc, n, made, wanted.as_slice(), &bench)? {
             return Ok(false);
         }
     }
@@ -231,7 +231,7 @@ fn stray_nodes_are_passed(rt: HostRuntime) -> Result<bool, Fail> {
 }
 
 #[test]
-fn a_stray_node_leaves_the_complement_to_sweeps(rt: HostRuntime) -> Result<(), Fail> {
+fn a_stray_node_leaves_the_complement_to_a_product(rt: HostRuntime) -> Result<(), Fail> {
     let passed = stray_nodes_are_passed(rt)?;
     assert!(rt; passed);
     Ok(())

@@ -185,7 +185,7 @@ fn restrictions_make_the_canonical_files(rt: HostRuntime) -> Result<(), Fail> {
 }
 
 /// So many variables that more waits than the least room has records for.
-const MANY: u32 = 16;
+const MANY: u32 = 17;
 
 /// The exclusive or.
 const DIFFER: u32 = 0b0110;

@@ -14,8 +14,8 @@ use std::alloc::Global;
 use std::test::Fail;
 use step_sweeps::{StepOperation, make_diagram};
 
-/// So many variables that the least room doesn't hold the nodes of two random tables.
-const MANY: u32 = 15;
+/// So many variables that the least room doesn't hold the pairs of two random tables.
+const MANY: u32 = 17;
 
 /// So many variables that a table has few nodes.
 const FEW: u32 = 5;

@@ -7,8 +7,8 @@ use shelf_model::FileNo;
 use std::test::Fail;
 use step_sweeps::{StepOperation, make_diagram};
 
-/// So many variables that the least room doesn't hold two records for each source.
-const MANY: u32 = 15;
+/// So many variables that the least room doesn't hold the sources, and a record for each of the widest level.
+const MANY: u32 = 16;
 
 const INNER: FileNo = FileNo {
     step: NUMBER,

@@ -1,10 +1,10 @@
-use Rattle.std.proofs.Common.{◌≡◌, ℕ, ◌<◌, length}
+use Rattle.std.proofs.Common.{◌≡◌, ℕ, ◌<◌}
 use Rattle.run_files.specs.Items.{record_at}
-use Rattle.room_reduction.specs.Sources.{word}
+use Rattle.room_reduction.specs.Sources.{word, sources_in}
 use Rattle.room_products.specs.Slots.{id_at}
 use Rattle.room_products.proofs.checks.are_done.Given as goal
 
 -- each slot so far has its source
-abbrev pub invariant-loop-slot : goal.invariant-loop-slot
-invariant-loop-slot l = (k : ℕ) → k < l.slot-index
-    → (j : ℕ) × (j < length l.sources) × (word 0 (record_at l.sources j) ≡ id_at l.slots k)
+abbrev pub invariant-loop-place : goal.invariant-loop-place
+invariant-loop-place l = (k : ℕ) → k < l.place → (j : ℕ) × (j < l.count)
+    × (word 0 (record_at (sources_in l.count l.sources) j) ≡ id_at (sources_in l.count l.slots) k)

@@ -1,28 +1,45 @@
-use Rattle.std.proofs.Common.{◌∙◌, ◌+◌, arith}
-use Rattle.room_products.proofs.JoinRuns.{if_ok, told_looked, told_after}
+use Rattle.std.proofs.Common.{◌∙◌, sym, subst, arith}
+use Rattle.packed_records.specs.Packed.{packed}
+use Rattle.packed_records.proofs.PackedLaws.{length-packed}
+use Rattle.copied_diagrams.specs.Operands.{pair_table}
+use Rattle.copied_diagrams.proofs.PairRuns.{file_before}
+use Rattle.top_down.specs.Laws.{targets_of_two}
+use Rattle.room_reduction.specs.Sources.{sources_in}
+use Rattle.room_reduction.proofs.FilledLaws.{some_both}
+use Rattle.room_products.specs.Joined.{AreOfTable}
+use Rattle.room_products.proofs.JoinedFile.{product_rules, product_asked, product_table}
+use Rattle.room_products.proofs.FrontSources.{front_sources}
+use Rattle.room_products.proofs.OperandNodes.{read_gives}
 use Rattle.room_products.proofs.join.join_operands.Goals as goal
 
--- both operands are read, and so their nodes and roots are those of the tables
-pub returns-clause-made : goal.returns-clause-made
-returns-clause-made g c = if_ok c.join_read.result _ _ (λ done made told t u left right.
-    let mid = c.join_read.ensures.content.before told in
-    let rows = c.in_ok-read_operands.ensures.rows c.if-not-branch.false mid c.args.n t u left.file_of right.file_of
-    (c.requires.left_len ∙ left.trailer_of.count_is)
-    (c.requires.right_len ∙ right.trailer_of.count_is) in
-    made told t u left.file_of.form right.file_of.form (c.word-first.ensures.value ∙ left.trailer_of.root_is)
-    (c.word-second.ensures.value ∙ right.trailer_of.root_is) rows) c.join_read.ensures.made
-
--- the operands are read, and then one file is made
-pub returns-clause-content : goal.returns-clause-content
-returns-clause-content g c =
-    let one = c.requires.left_len in
-    let two = c.requires.right_len in
-    told_after g.S.Shelf.tells g.S.Shelf.world c.args.out _ (c.args.most + 6) _ _ _ _ (omega (arith, one, two))
-    c.in_ok-read_operands.ensures.content c.join_read.ensures.content
-
-pub returns-in_err-read_operands-clause-content : goal.returns-in_err-read_operands-clause-content
-returns-in_err-read_operands-clause-content g c =
-    let one = c.requires.left_len in
-    let two = c.requires.right_len in
-    told_looked g.S.Shelf.tells g.S.Shelf.world c.args.out _ _ _ _ (omega (arith, one, two))
-    c.in_err-read_operands.ensures.content
+-- the second file is as it was once the first is read, and so the nodes and the roots are those of the tables
+pub returns-clause-joined : goal.returns-clause-joined
+returns-clause-joined g c told n t u few left right =
+    let op = c.args.op in
+    let mid = c.read_operand-2.ensures.content.before told in
+    let looked = c.read_operand.ensures.content.did mid in
+    let form_t = left.file_of.form in
+    let form_u = right.file_of.form in
+    let first_is = c.word-first.ensures.value ∙ left.trailer_of.root_is in
+    let second_is = c.word-second.ensures.value ∙ right.trailer_of.root_is in
+    let lefts = c.split_at_mut-lefts.ensures.front_len in
+    let rights = c.split_at_mut-rights.ensures.front_len in
+    let lefts_long = c.in_ok-read_operand.ensures.len in
+    let rights_long = c.in_ok-read_operand-2.ensures.len in
+    some_both _ _ _ c.join_nodes.result (λ tabled within made.
+    subst (AreOfTable n tabled.root (pair_table n op t u))
+    (sym (front_sources tabled.count c.join_nodes.new.sources _ within))
+    (subst (λ table. AreOfTable n tabled.root table (sources_in tabled.count c.join_nodes.new.sources))
+    (product_table n op t u form_t form_u _ _ first_is second_is)
+    (made n (targets_of_two n t u) few (product_rules n op t u form_t form_u _ _ first_is second_is)
+    (record {
+      first = read_gives n t c.args.left.from _ c.args.left.trailer.count (packed c.read_operand.new.nodes) left.file_of
+          left.trailer_of.count_is (omega (arith, lefts, lefts_long, length-packed c.read_operand.new.nodes))
+          (c.in_ok-read_operand.ensures.read c.if-not-branch.false mid);
+      second = read_gives n u c.args.right.from _ c.args.right.trailer.count (packed c.read_operand-2.new.nodes)
+          (file_before n _ u c.args.right.from _ _ looked right.file_of) right.trailer_of.count_is
+          (omega (arith, rights, rights_long, length-packed c.read_operand-2.new.nodes))
+          (c.in_ok-read_operand-2.ensures.read c.if-not-branch-2.false told);
+    })
+    (product_asked n op t u form_t form_u _ _ first_is second_is))))
+    c.join_nodes.ensures.few c.join_nodes.ensures.joined

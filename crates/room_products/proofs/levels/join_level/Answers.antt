@@ -1,5 +1,6 @@
 use Rattle.std.proofs.Common.{rules, arith, refl, ◌∙◌, []}
 use Rattle.top_down.specs.Operations.{product_rule}
+use Rattle.packed_records.specs.Packed.{packed}
 use Rattle.room_products.proofs.MarkedLevels.{joining_marked}
 use Rattle.room_products.proofs.levels.join_level.Goals as goal
 
@@ -13,8 +14,8 @@ loop-source-init c = record {
   done_within = c.requires.done;
   joined = λ n root roots targets top rule rows joining.
       joining_marked c.args.firsts.now c.args.level c.args.begun.done c.requires.level n root roots
-      (product_rule c.args.op) targets [] c.args.slots.now c.args.begun.count c.args.sources.now c.args.begun.done
-      joining;
+      (product_rule c.args.op) targets [] (packed c.args.slots.now) c.args.begun.count (packed c.args.sources.now)
+      c.args.begun.done joining;
 }
 
 pub loop-source-preserved : goal.loop-source-preserved

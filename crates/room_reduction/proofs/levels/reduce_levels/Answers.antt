@@ -1,15 +1,19 @@
-use Rattle.std.proofs.Common.{◌≡◌, ◌-◌, refl, subst, arith}
+use Rattle.std.proofs.Common.{◌≡◌, ◌-◌, refl, sym, subst, arith}
+use Rattle.packed_records.specs.Packed.{packed}
+use Rattle.room_reduction.specs.Sources.{sources_in}
 use Rattle.room_reduction.specs.Levels.{IsDone}
+use Rattle.room_reduction.proofs.PackedSources.{sources_many}
 use Rattle.room_reduction.proofs.LevelSteps.{none_done}
 use Rattle.room_reduction.proofs.levels.reduce_levels.Goals as goal
 
 pub loop-deeper-init : goal.loop-deeper-init
 loop-deeper-init c = record {
-  rows_long = refl;
+  nodes_long = refl;
   sources_long = refl;
-  within = let many = c.requires.as_many in omega (arith, many);
+  within = omega arith;
+  room = omega arith;
   done_is = λ root arcs complete are.
-      none_done c.args.n root arcs (c.args.n - 0) _ c.args.sources.now c.args.rows.now (omega arith) refl are;
+      none_done c.args.n root arcs (c.args.n - 0) _ _ _ (omega arith) (sym (sources_many _ _ c.requires.many)) are;
 }
 
 pub returns-clause-done : goal.returns-clause-done
@@ -20,6 +24,8 @@ returns-clause-done c root arcs complete are =
     let last = c.if-done-gt0.false in
     let top : n - c.loop-deeper.deeper ≡ 0 = omega (arith, all) in
     let first : done.from ≡ 0 = omega (arith, last) in
-    subst (λ i. IsDone n root arcs i 0 done.count c.loop-deeper.sources c.loop-deeper.rows) top
-    (subst (λ from. IsDone n root arcs (n - c.loop-deeper.deeper) from done.count c.loop-deeper.sources
-    c.loop-deeper.rows) first (c.loop-deeper.invariant.done_is root arcs complete are))
+    let sources = sources_in c.args.total c.loop-deeper.sources in
+    let nodes = packed c.loop-deeper.nodes in
+    subst (λ i. IsDone n root arcs i 0 done.count sources nodes) top
+    (subst (λ from. IsDone n root arcs (n - c.loop-deeper.deeper) from done.count sources nodes) first
+    (c.loop-deeper.invariant.done_is root arcs complete are))

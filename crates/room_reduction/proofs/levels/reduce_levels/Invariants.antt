@@ -1,16 +1,20 @@
-use Rattle.std.proofs.Common.{◌≡◌, ℕ, ◌+◌, ◌-◌, ◌≤◌, List, length}
+use Rattle.std.proofs.Common.{◌≡◌, ℕ, ◌+◌, ◌-◌, ◌*◌, ◌≤◌, List, length}
+use Rattle.packed_records.specs.Packed.{packed}
 use Rattle.arc_file.specs.declared.arc.Arc.{Arc}
 use Rattle.arc_diagrams.specs.Arcs.{IsComplete}
-use Rattle.room_reduction.specs.Sources.{AreSources}
+use Rattle.room_reduction.specs.Sources.{AreSources, sources_in}
 use Rattle.room_reduction.specs.Levels.{IsDone}
 use Rattle.room_reduction.proofs.levels.reduce_levels.Given as goal
 
 -- the deeper levels are done
 abbrev pub invariant-loop-deeper : goal.invariant-loop-deeper
 invariant-loop-deeper l = record {
-  rows_long : length l.rows ≡ length l.fn.rows;
+  nodes_long : length l.nodes ≡ length l.fn.nodes;
   sources_long : length l.sources ≡ length l.fn.sources;
-  within : l.done.from + l.done.count ≤ length l.rows;
-  done_is : (root : ℕ) (arcs : List Arc) → IsComplete l.n root arcs → AreSources l.n root arcs l.fn.sources
-      → IsDone l.n root arcs (l.n - l.deeper) l.done.from l.done.count l.sources l.rows;
+  within : l.done.from + l.done.count ≤ l.total;
+  room : l.done.count ≤ 4 * length l.nodes;
+  done_is : (root : ℕ) (arcs : List Arc) → IsComplete l.n root arcs
+      → AreSources l.n root arcs (sources_in l.total l.fn.sources)
+      → IsDone l.n root arcs (l.n - l.deeper) l.done.from l.done.count (sources_in l.total l.sources)
+      (packed l.nodes);
 }

@@ -1,7 +1,12 @@
-use Rattle.std.proofs.Common.{◌∙◌, sym, ap}
+use Rattle.std.proofs.Common.{◌≡◌, ◌∙◌, ◌++◌, length, take, sym, ap, arith}
 use Rattle.std.proofs.lemmas.List.{length-take-le}
 use Rattle.shelf_model.specs.File.{firm_file}
+use Rattle.canon_file.specs.Canon.{trailer_bytes}
+use Rattle.block_stream.specs.Records.{records_bytes}
 use Rattle.arc_diagrams.specs.Reduction.{final_pointer}
+use Rattle.packed_records.specs.Packed.{packed}
+use Rattle.packed_records.proofs.PackedLaws.{length-packed}
+use Rattle.room_reduction.specs.Sources.{sources_in}
 use Rattle.room_reduction.proofs.LevelSources.{final_keeps_ends}
 use Rattle.room_reduction.proofs.RoomFile.{nodes_many, bytes_canonical}
 use Rattle.room_reduction.proofs.levels.reduce_sources.Goals as goal
@@ -12,14 +17,18 @@ returns-clause-made g c tells arcs t few stands are =
     let n = c.args.n in
     let root = c.args.root in
     let count = c.in-Some.count in
-    let sources = c.reduce_levels.new.sources in
-    let rows = c.reduce_levels.new.rows in
+    let variables = c.requires.variables in
+    let sources = sources_in c.args.total c.reduce_levels.new.sources in
+    let nodes = packed c.reduce_levels.new.nodes in
+    let room = c.in-Some.ensures.room in
+    let many = length-packed c.reduce_levels.new.nodes in
+    let long : length (take count nodes) ≡ count = length-take-le count nodes (omega (arith, room, many)) in
     let done = c.in-Some.ensures.done root arcs stands.complete are in
-    let ends = final_keeps_ends n root arcs c.requires.variables stands.complete in
+    let ends = final_keeps_ends n root arcs variables stands.complete in
     let word = c.in-Some-became.ensures (final_pointer n arcs) ends done.known
     ∙ ap (final_pointer n arcs) c.word.ensures.value in (
-      c.in_ok-write_nodes.ensures.made tells
-          ∙ ap firm_file (bytes_canonical n root arcs t count sources rows c.requires.variables few stands done _ word),
-      sym (length-take-le count rows c.in-Some.ensures.within)
-          ∙ nodes_many n root arcs t count sources rows c.requires.variables few stands done,
+      c.in_ok-write_packed.ensures.made tells
+          ∙ ap firm_file (ap (λ k. records_bytes 3 (take count nodes) ++ trailer_bytes c.in-Some-became.word k n)
+          (sym long) ∙ bytes_canonical n root arcs t count sources nodes variables few stands done _ word),
+      sym long ∙ nodes_many n root arcs t count sources nodes variables few stands done,
     )

@@ -6,26 +6,28 @@ use Rattle.run_files.specs.Items.{record_at}
 use Rattle.canon_file.specs.Pairs.{word_in}
 use Rattle.complemented_diagrams.specs.Records.{row_in}
 use Rattle.complemented_diagrams.proofs.FirstPlaces.{same_there}
-use Rattle.room_reduction.specs.Sources.{word}
+use Rattle.room_reduction.specs.Sources.{word, sources_in}
 use Rattle.room_reduction.specs.Levels.{Names, distinct_rows}
 use Rattle.room_reduction.proofs.Numbering.{none_numbered, row_named}
 use Rattle.room_reduction.proofs.Naming.{same_later, none_named, sources_same, sources_on, one_named}
 use Rattle.room_reduction.proofs.numbers.number_rows.Goals as goal
 
 pub loop-place-init : goal.loop-place-init
-loop-place-init c = record {
+loop-place-init c = let sources = sources_in c.args.total c.args.sources.now in record {
   long = refl;
   within = omega arith;
   rest = refl;
-  same = sources_same c.args.sources.now;
+  sources_long = refl;
+  same = sources_same sources;
   numbering = none_numbered c.args.level c.args.rows.now (record { low = 0; high = 0 });
-  names = λ rising f says. none_named f c.args.sources.now;
+  names = λ rising f says. none_named f sources;
 }
 
 pub loop-place-preserved : goal.loop-place-preserved
 loop-place-preserved c =
     let none : Rec = record { w = [] } in
     let first = c.args.rows.now in
+    let sources = sources_in c.args.total c.args.sources.now in
     let rows = c.loop-place.rows in
     let place = c.loop-place.place in
     let known = c.loop-place.invariant in
@@ -41,6 +43,7 @@ loop-place-preserved c =
       long = did.len ∙ known.long;
       within = omega (arith, within, one_more);
       rest = same_later _ _ _ _ order did.rest ∙ same_later _ _ place (place + 1) (omega arith) known.rest;
+      sources_long = c.name_source.ensures.len ∙ known.sources_long;
       same = sources_on _ _ _ known.same c.name_source.ensures.same;
       numbering = numbering;
       names = λ rising f says.
@@ -51,13 +54,14 @@ loop-place-preserved c =
           (c.name_source.ensures.name c.if-not-name_source.false) c.name_source.ensures.others
           (c.name_of.ensures ∙ named
           ∙ subst (λ x. word_in c.args.level (distinct_rows first) (row_in x)
-          ≡ f (word 0 (record_at c.args.sources.now (word 2 x)))) (sym is) right)
+          ≡ f (word 0 (record_at sources (word 2 x)))) (sym is) right)
           (known.names rising f says);
     }
 
 pub returns-clause-names : goal.returns-clause-names
 returns-clause-names c rising f says =
     let past = c.loop-place-test.false in
-    subst (λ xs. Names f xs c.args.sources.now c.loop-place.sources)
+    let total = c.args.total in
+    subst (λ xs. Names f xs (sources_in total c.args.sources.now) (sources_in total c.loop-place.sources))
     (take_all c.loop-place.place c.args.rows.now (omega (arith, past)))
     (c.loop-place.invariant.names rising f says)

@@ -5,7 +5,7 @@ use Rattle.run_files.specs.Items.{record_at}
 use Rattle.canon_file.specs.Pairs.{word_in}
 use Rattle.arc_diagrams.specs.Reducing.{IsRising}
 use Rattle.complemented_diagrams.specs.Records.{row_in}
-use Rattle.room_reduction.specs.Sources.{word}
+use Rattle.room_reduction.specs.Sources.{word, sources_in}
 use Rattle.room_reduction.specs.Levels.{KeepsSources, Names, IsNumbering, distinct_rows}
 use Rattle.room_reduction.proofs.numbers.number_rows.Given as goal
 
@@ -15,11 +15,12 @@ invariant-loop-place l = record {
   long : length l.rows ≡ length l.fn.rows;
   within : l.done.count ≤ l.place;
   rest : drop l.place l.rows ≡ drop l.place l.fn.rows;
-  same : KeepsSources l.fn.sources l.sources;
+  sources_long : length l.sources ≡ length l.fn.sources;
+  same : KeepsSources (sources_in l.total l.fn.sources) (sources_in l.total l.sources);
   numbering : IsNumbering l.level l.fn.rows l.place l.done.count (record { low = l.done.low; high = l.done.high })
       l.rows;
   names : IsRising (map row_in l.fn.rows) → (f : ℕ → ℕ)
       → ((r : Rec) → Has r l.fn.rows → word_in l.level (distinct_rows l.fn.rows) (row_in r)
-      ≡ f (word 0 (record_at l.fn.sources (word 2 r))))
-      → Names f (take l.place l.fn.rows) l.fn.sources l.sources;
+      ≡ f (word 0 (record_at (sources_in l.total l.fn.sources) (word 2 r))))
+      → Names f (take l.place l.fn.rows) (sources_in l.total l.fn.sources) (sources_in l.total l.sources);
 }

@@ -1,8 +1,8 @@
-use Rattle.std.proofs.Common.{◌≤◌, ◌^◌, ◌++◌, List, length, take, subst, arith}
+use Rattle.std.proofs.Common.{◌≤◌, ◌^◌, ◌++◌, List, length, subst, arith}
 use Rattle.std.specs.Prelude.{IfSome}
 use Rattle.std.proofs.lemmas.List.{length-append}
 use Rattle.arc_file.specs.declared.arc.Arc.{Arc}
-use Rattle.room_reduction.specs.Sources.{AreSources}
+use Rattle.room_reduction.specs.Sources.{AreSources, sources_in}
 use Rattle.room_reduction.proofs.FilledLaws.{ok_weaker}
 use Rattle.room_reduction.proofs.reduce.reduce_in_room.Goals as goal
 
@@ -19,6 +19,6 @@ returns-clause-made g c =
     let mid = c.reduce_sources.ensures.content.before tells in
     let read = c.in_ok-count.ensures.read mid inner ends has_inner has_ends diagram.complete in
     reduced tells all t few diagram
-    (subst (λ o. IfSome o (λ k. AreSources c.args.n made.root all (take k c.read_sources.new.sources))) c.in-Some.is
-    read))
+    (subst (λ o. IfSome o (λ k. AreSources c.args.n made.root all (sources_in k c.read_sources.new.sources)))
+    c.in-Some.is read))
     c.reduce_sources.ensures.made

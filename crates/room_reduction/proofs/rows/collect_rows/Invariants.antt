@@ -1,5 +1,6 @@
 use Rattle.std.proofs.Common.{◌≡◌, ℕ, ◌+◌, ◌<◌, length}
 use Rattle.run_files.specs.Items.{record_at}
+use Rattle.room_reduction.specs.Sources.{sources_in}
 use Rattle.room_reduction.specs.Levels.{KeepsEnds, AreKnown, IsRowOf}
 use Rattle.room_reduction.proofs.rows.collect_rows.Given as goal
 
@@ -7,6 +8,6 @@ use Rattle.room_reduction.proofs.rows.collect_rows.Given as goal
 abbrev pub invariant-loop-place : goal.invariant-loop-place
 invariant-loop-place l = record {
   long : length l.rows ≡ length l.fn.rows;
-  rows_are : (f : ℕ → ℕ) → KeepsEnds f → AreKnown f l.end l.sources → (k : ℕ) → k < l.place
-      → IsRowOf f (l.from + k) l.sources (record_at l.rows k);
+  rows_are : (f : ℕ → ℕ) → KeepsEnds f → AreKnown f l.end (sources_in l.count l.sources) → (k : ℕ) → k < l.place
+      → IsRowOf f (l.from + k) (sources_in l.count l.sources) (record_at l.rows k);
 }

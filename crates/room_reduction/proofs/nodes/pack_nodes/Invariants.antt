@@ -1,0 +1,13 @@
+use Rattle.std.proofs.Common.{◌≡◌, ◌+◌, ◌++◌, List, length, take}
+use Rattle.rec_words.specs.declared.node.Node.{Node}
+use Rattle.complemented_diagrams.specs.Records.{node_records}
+use Rattle.packed_records.specs.Packed.{packed}
+use Rattle.room_reduction.proofs.nodes.pack_nodes.Given as goal
+
+-- the nodes so far stand behind those that stood there
+abbrev pub invariant-loop-place : goal.invariant-loop-place
+invariant-loop-place l = record {
+  len : length l.nodes ≡ length l.fn.nodes;
+  behind : (xs : List Node) → l.records ≡ node_records xs
+      → take (l.count + l.place) (packed l.nodes) ≡ take l.count (packed l.fn.nodes) ++ take l.place l.records;
+}
