@@ -11,4 +11,4 @@ mod writing;
 
 pub use file::complement_file;
 pub use reading::read_nodes;
-pub use writing::{trailer_with, write_nodes};
+pub use writing::{put_nodes, trailer_with, write_nodes};

@@ -37,8 +37,8 @@ pub fn write_nodes<S: Shelf>(
     settle_records(window, &mut filling, shelf)
 }
 
-// Puts nodes behind one another.
-fn put_nodes<S: Shelf>(
+/// Puts nodes behind one another.
+pub fn put_nodes<S: Shelf>(
     nodes: &[Rec],
     window: &mut [Rec],
     filling: &mut Filling,

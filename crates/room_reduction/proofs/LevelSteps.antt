@@ -1,5 +1,5 @@
 -- The step from the deeper levels of a diagram to the next one above them.
-use Rattle.std.specs.Prelude.{◌≡◌, ◌≢◌, ℕ, suc, ◌+◌, ◌-◌, ◌<◌, ◌≤◌, List, [], ◌++◌, length, take}
+use Rattle.std.specs.Prelude.{◌≡◌, ◌≢◌, ℕ, suc, ◌-◌, ◌<◌, ◌≤◌, List, [], ◌++◌, length}
 use Rattle.std.proofs.Common.{◌∙◌, sym, ap, subst, inl, inr, arith}
 use Rattle.std.proofs.lemmas.Bool.{cases_lt}
 use Rattle.std.proofs.lemmas.List.{map-append}
@@ -18,7 +18,7 @@ use Rattle.arc_diagrams.specs.Reducing.{nodes_from}
 use Rattle.arc_diagrams.proofs.Remaining.{nodes_from-level}
 use Rattle.complemented_diagrams.specs.Records.{node_records}
 use Rattle.room_reduction.specs.Sources.{word, AreSources}
-use Rattle.room_reduction.specs.Levels.{KeepsSources, AreKnown, IsLevel, IsDone}
+use Rattle.room_reduction.specs.Levels.{KeepsSources, AreKnown, IsLevel, IsDone, nodes_down_to}
 use Rattle.room_reduction.proofs.LevelSources.{member_place}
 
 -- sources whose identifiers and targets are kept are still those of the arcs
@@ -69,12 +69,12 @@ levels_rise n root arcs sources j k are order below =
     ]
 
 -- a level is that of the sources which end where the deeper ones begin
-pub is_level : (n root : ℕ) (arcs : List Arc) (level from end count : ℕ) (sources rows : List Rec) → n ≤ 65535
+pub is_level : (n root : ℕ) (arcs : List Arc) (level from end : ℕ) (sources : List Rec) → n ≤ 65535
     → IsComplete n root arcs → end ≤ length sources → from ≤ end
     → ((k : ℕ) → from ≤ k → k < end → level_of (word 0 (record_at sources k)) ≡ level)
     → (0 < from → level_of (word 0 (record_at sources (from - 1))) ≢ level)
-    → IsDone n root arcs (suc level) end count sources rows → IsLevel n root arcs level from end sources
-is_level n root arcs level from end count sources rows few complete within order own other done = record {
+    → IsDone n root arcs (suc level) end sources → IsLevel n root arcs level from end sources
+is_level n root arcs level from end sources few complete within order own other done = record {
   few = few;
   complete = complete;
   sources_are = done.sources_are;
@@ -90,15 +90,10 @@ is_level n root arcs level from end count sources rows few complete within order
 }
 
 -- so the level is done after the deeper ones
-pub level_done : (n root : ℕ) (arcs : List Arc) (level from end count more : ℕ)
-    (sources new nodes later_nodes : List Rec) → level < n → IsLevel n root arcs level from end sources
-    → IsDone n root arcs (suc level) end count sources nodes
-    → KeepsSources sources new
-    → take (count + more) later_nodes
-    ≡ take count nodes ++ node_records (numbered level 0 (final_rows n arcs level))
-    → AreKnown (final_pointer n arcs) from new
-    → IsDone n root arcs level from (count + more) new later_nodes
-level_done n root arcs level from end count more sources new nodes later_nodes below is done same made known = record {
+pub level_done : (n root : ℕ) (arcs : List Arc) (level from end : ℕ) (sources new : List Rec)
+    → IsLevel n root arcs level from end sources → KeepsSources sources new
+    → AreKnown (final_pointer n arcs) from new → IsDone n root arcs level from new
+level_done n root arcs level from end sources new is same known = record {
   sources_are = are_kept n root arcs sources new same is.sources_are;
   known = known;
   before = λ k early. subst (λ w. level_of w < level) (sym (same.source k)) (is.before k early);
@@ -110,17 +105,20 @@ level_done n root arcs level from end count more sources new nodes later_nodes b
             let deep = is.behind k past (omega (arith, below, same.many)) in
             let here = ap level_of (same.source k) in omega (arith, here, deep)
       ];
-  nodes_are = made
-      ∙ ap (λ front. front ++ node_records (numbered level 0 (final_rows n arcs level))) done.nodes_are
-      ∙ sym (ap node_records (nodes_from-level n arcs level below)
-      ∙ map-append (item_record node_words) (nodes_from n arcs (suc level))
-      (numbered level 0 (final_rows n arcs level)));
 }
 
--- at first no level is done
-pub none_done : (n root : ℕ) (arcs : List Arc) (i from : ℕ) (sources rows : List Rec) → i ≡ n → from ≡ length sources
-    → AreSources n root arcs sources → IsDone n root arcs i from 0 sources rows
-none_done n root arcs i from sources rows top all are = record {
+-- its nodes stand behind theirs
+pub nodes_onward : (n : ℕ) (arcs : List Arc) (level : ℕ) → level < n
+    → nodes_down_to (suc level) n arcs ++ node_records (numbered level 0 (final_rows n arcs level))
+    ≡ nodes_down_to level n arcs
+nodes_onward n arcs level below =
+    sym (ap node_records (nodes_from-level n arcs level below)
+    ∙ map-append (item_record node_words) (nodes_from n arcs (suc level)) (numbered level 0 (final_rows n arcs level)))
+
+-- at first no level is done, and there is no node
+pub none_done : (n root : ℕ) (arcs : List Arc) (i from : ℕ) (sources : List Rec) → i ≡ n → from ≡ length sources
+    → AreSources n root arcs sources → IsDone n root arcs i from sources
+none_done n root arcs i from sources top all are = record {
   sources_are = are;
   known = λ k later below. absurd (omega (arith, all, later, below));
   before = λ k early.
@@ -128,7 +126,8 @@ none_done n root arcs i from sources rows top all are = record {
       let shallow = are.within (record_at sources k) member in
       omega (arith, top, shallow);
   behind = λ k later below. absurd (omega (arith, all, later, below));
-  nodes_are =
-      let none : n - i ≡ 0 = omega (arith, top) in
-      sym (ap (λ h. node_records (final_nodes n arcs h i)) none);
 }
+
+pub none_made : (n : ℕ) (arcs : List Arc) (i : ℕ) → i ≡ n → [] ≡ nodes_down_to i n arcs
+none_made n arcs i top =
+    let none : n - i ≡ 0 = omega (arith, top) in sym (ap (λ h. node_records (final_nodes n arcs h i)) none)

@@ -1,10 +1,9 @@
 -- The file that is made when all levels are done.
-use Rattle.std.specs.Prelude.{◌≡◌, ℕ, ◌-◌, ◌^◌, ◌≤◌, Bool, List, [], ◌∷◌, ◌++◌, length, take}
+use Rattle.std.specs.Prelude.{◌≡◌, ℕ, ◌-◌, ◌^◌, ◌≤◌, Bool, List, [], ◌∷◌, ◌++◌, length}
 use Rattle.std.proofs.Common.{◌∙◌, refl, sym, ap, arith}
 use Rattle.std.specs.Int.{w64, to_be_bytes}
 use Rattle.std.proofs.lemmas.List.{length-map}
 use Rattle.rec_words.specs.Records.{node_words}
-use Rattle.rec_words.specs.declared.rec.Rec.{Rec}
 use Rattle.rec_words.specs.declared.node.Node.{Node}
 use Rattle.block_stream.specs.Items.{item_record}
 use Rattle.block_stream.specs.Records.{records_bytes}
@@ -15,7 +14,7 @@ use Rattle.arc_diagrams.specs.Laws.{IsDiagramOf}
 use Rattle.arc_diagrams.specs.Reduction.{final_pointer, final_nodes}
 use Rattle.arc_diagrams.proofs.ReduceLaws.{reduces}
 use Rattle.complemented_diagrams.specs.Records.{node_records}
-use Rattle.room_reduction.specs.Levels.{IsDone}
+use Rattle.room_reduction.specs.Levels.{nodes_down_to}
 
 -- the bytes of the records of nodes are those of the nodes
 bytes_of_nodes : (xs : List Node) → records_bytes 3 (node_records xs) ≡ node_bytes xs
@@ -24,24 +23,24 @@ bytes_of_nodes (x ∷ xs) =
     ap (λ bytes. to_be_bytes w64 x.uid ++ (to_be_bytes w64 x.low ++ (to_be_bytes w64 x.high ++ bytes)))
     (bytes_of_nodes xs)
 
-module _ (n root : ℕ) (arcs : List Arc) (t : List Bool) (count : ℕ) (sources rows : List Rec) (variables : n ≤ 65535)
-    (few : length arcs ≤ 2 ^ 47) (stands : IsDiagramOf n root arcs t)
-    (done : IsDone n root arcs 0 0 count sources rows) where
+module _ (n root : ℕ) (arcs : List Arc) (t : List Bool) (variables : n ≤ 65535) (few : length arcs ≤ 2 ^ 47)
+    (stands : IsDiagramOf n root arcs t) where
   -- the nodes are the canonical ones
-  nodes_canonical : take count rows ≡ node_records (canon_nodes n t)
+  nodes_canonical : nodes_down_to 0 n arcs ≡ node_records (canon_nodes n t)
   nodes_canonical =
       let all : n - 0 ≡ n = omega arith in
-      done.nodes_are ∙ ap (λ h. node_records (final_nodes n arcs h 0)) all
+      ap (λ h. node_records (final_nodes n arcs h 0)) all
       ∙ ap node_records (reduces n root arcs t variables few stands).nodes
 
-  pub nodes_many : length (take count rows) ≡ length (canon_nodes n t)
+  pub nodes_many : length (nodes_down_to 0 n arcs) ≡ length (canon_nodes n t)
   nodes_many = ap length nodes_canonical ∙ length-map (canon_nodes n t) (item_record node_words)
 
   -- so their bytes, with the trailer of the root's final pointer, are the canonical ones
-  pub bytes_canonical : (word : ℕ) → word ≡ final_pointer n arcs root
-      → records_bytes 3 (take count rows) ++ trailer_bytes word (length (take count rows)) n ≡ canon_bytes n t
-  bytes_canonical word is =
-      let front : records_bytes 3 (take count rows) ≡ node_bytes (canon_nodes n t) =
+  pub bytes_canonical : (word count : ℕ) → word ≡ final_pointer n arcs root → count ≡ length (nodes_down_to 0 n arcs)
+      → records_bytes 3 (nodes_down_to 0 n arcs) ++ trailer_bytes word count n ≡ canon_bytes n t
+  bytes_canonical word count is many =
+      let front : records_bytes 3 (nodes_down_to 0 n arcs) ≡ node_bytes (canon_nodes n t) =
       ap (records_bytes 3) nodes_canonical ∙ bytes_of_nodes (canon_nodes n t) in
       let last : word ≡ canon_root n t = is ∙ (reduces n root arcs t variables few stands).begins in
-      (λ j. front j ++ trailer_bytes (last j) (nodes_many j) n) ∙ sym (canon_bytes-is n t)
+      let all = many ∙ nodes_many in
+      (λ j. front j ++ trailer_bytes (last j) (all j) n) ∙ sym (canon_bytes-is n t)

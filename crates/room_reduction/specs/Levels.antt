@@ -76,11 +76,23 @@ pub record IsLevel (n root : ℕ) (arcs : List Arc) (level from end : ℕ) (sour
   pub before : (k : ℕ) → k < from → level_of (word 0 (record_at sources k)) < level
   pub behind : (k : ℕ) → end ≤ k → k < length sources → level < level_of (word 0 (record_at sources k))
 
--- level i and each deeper one are done: their sources are those from a place on and say their final pointers, and the
--- first so many records are their nodes
-pub record IsDone (n root : ℕ) (arcs : List Arc) (i from count : ℕ) (sources nodes : List Rec) : Type 0 where
+-- level i and each deeper one are done: their sources are those from a place on and say their final pointers
+pub record IsDone (n root : ℕ) (arcs : List Arc) (i from : ℕ) (sources : List Rec) : Type 0 where
   pub sources_are : AreSources n root arcs sources
   pub known : AreKnown (final_pointer n arcs) from sources
   pub before : (k : ℕ) → k < from → level_of (word 0 (record_at sources k)) < i
   pub behind : (k : ℕ) → from ≤ k → k < length sources → i ≤ level_of (word 0 (record_at sources k))
-  pub nodes_are : take count nodes ≡ node_records (nodes_from n arcs i)
+
+-- the records of the nodes of level i and of each deeper one
+abbrev pub nodes_down_to : ℕ → ℕ → List Arc → List Rec
+nodes_down_to i n arcs = node_records (nodes_from n arcs i)
+
+-- they are done, and the first so many records are their nodes
+pub record IsPacked (n root : ℕ) (arcs : List Arc) (i from count : ℕ) (sources nodes : List Rec) : Type 0 where
+  pub done : IsDone n root arcs i from sources
+  pub nodes_are : take count nodes ≡ nodes_down_to i n arcs
+
+-- they are done, and have so many nodes
+pub record IsCounted (n root : ℕ) (arcs : List Arc) (i from count : ℕ) (sources : List Rec) : Type 0 where
+  pub done : IsDone n root arcs i from sources
+  pub count_is : count ≡ length (nodes_down_to i n arcs)

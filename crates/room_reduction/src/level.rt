@@ -9,7 +9,7 @@ ghost use Rattle.arc_diagrams.specs.Reduction.{final_pointer, final_rows};
 ghost use Rattle.complemented_diagrams.specs.Records.{node_records};
 ghost use Rattle.packed_records.specs.Packed.{packed};
 ghost use Rattle.room_reduction.specs.Sources.{word, sources_in};
-ghost use Rattle.room_reduction.specs.Levels.{KeepsSources, AreKnown, IsLevel, IsDone};
+ghost use Rattle.room_reduction.specs.Levels.{KeepsSources, AreKnown, IsLevel, IsDone, IsPacked};
 
 use crate::nodes::pack_nodes;
 use crate::numbers::number_rows;
@@ -20,6 +20,13 @@ use rec_words::{LEVEL_NUMBERS, Rec};
 /// Where the sources that are done begin, and how many nodes they have.
 #[derive(Clone, Copy)]
 pub(crate) struct Done {
+    pub(crate) from: usize,
+    pub(crate) count: usize,
+}
+
+/// Where the sources of a level begin, and how many nodes it has.
+#[derive(Clone, Copy)]
+pub(crate) struct Made {
     pub(crate) from: usize,
     pub(crate) count: usize,
 }
@@ -46,23 +53,53 @@ pub(crate) fn reduce_level(
     ensures room { IfSome result (λ next. next.count ≤ 4 * length nodes.new) }
     ensures done { IfSome result (λ next. (n root : ℕ) (arcs : List Arc) → n ≤ 65535 → level < n →
         IsComplete n root arcs →
-        IsDone n root arcs (suc level) done.from done.count (sources_in total sources.old) (packed nodes.old) →
-        IsDone n root arcs level next.from next.count (sources_in total sources.new) (packed nodes.new)) }
+        IsPacked n root arcs (suc level) done.from done.count (sources_in total sources.old) (packed nodes.old) →
+        IsPacked n root arcs level next.from next.count (sources_in total sources.new) (packed nodes.new)) }
 {
-    let end = done.from;
+    let made = nodes_of_level(level, sources, total, firsts, rows, done.from)?;
+    if !pack_nodes(&rows[..made.count], nodes, done.count) {
+        return None;
+    }
+    Some(Done {
+        from: made.from,
+        count: done.count + made.count,
+    })
+}
+
+/// Makes the nodes of a level, whose sources end where those of the deeper ones begin, in front of the rows, which are
+/// room for those of the level. Each source says then what it became.
+pub(crate) fn nodes_of_level(
+    level: u16,
+    sources: &mut [Rec],
+    total: usize,
+    firsts: &[Rec],
+    rows: &mut [Rec],
+    end: usize,
+) -> Option<Made>
+    requires level { level ≤ deepest_level }
+    requires few { total ≤ 2 ^ 17 }
+    requires many { total ≤ 4 * length sources.old }
+    requires within { end ≤ total }
+    ensures rows_len { length rows.new ≡ length rows.old }
+    ensures sources_len { length sources.new ≡ length sources.old }
+    ensures within { IfSome result (λ made. made.from + made.count ≤ end) }
+    ensures room { IfSome result (λ made. made.count ≤ length rows.new) }
+    ensures done { IfSome result (λ made. (n root : ℕ) (arcs : List Arc) → n ≤ 65535 → level < n →
+        IsComplete n root arcs →
+        IsDone n root arcs (suc level) end (sources_in total sources.old) →
+        IsDone n root arcs level made.from (sources_in total sources.new)) }
+    ensures nodes { IfSome result (λ made. (n root : ℕ) (arcs : List Arc) → n ≤ 65535 → level < n →
+        IsComplete n root arcs →
+        IsDone n root arcs (suc level) end (sources_in total sources.old) →
+        take made.count rows.new ≡ node_records (numbered level 0 (final_rows n arcs level))) }
+{
     let from = level_start(sources, total, end, u64::from(level));
     if end - from > rows.len() {
         return None;
     }
     let own = &mut rows[..end - from];
     let count = reduce_sources_of(level, sources, total, firsts, from, own)?;
-    if !pack_nodes(&own[..count], nodes, done.count) {
-        return None;
-    }
-    Some(Done {
-        from,
-        count: done.count + count,
-    })
+    Some(Made { from, count })
 }
 
 // Where the sources of a level begin that end at a place.

@@ -11,7 +11,7 @@ ghost use Rattle.arc_diagrams.specs.Laws.{IsDiagramOf};
 ghost use Rattle.complemented_diagrams.specs.Changes.{Changed};
 ghost use Rattle.packed_records.specs.Packed.{packed};
 ghost use Rattle.room_reduction.specs.Sources.{AreSources, sources_in};
-ghost use Rattle.room_reduction.specs.Levels.{IsDone};
+ghost use Rattle.room_reduction.specs.Levels.{IsPacked};
 
 use crate::level::{Done, reduce_level};
 use crate::nodes::write_packed;
@@ -78,7 +78,7 @@ fn reduce_levels(
     ensures room { IfSome result (λ count. count ≤ 4 * length nodes.new) }
     ensures done { IfSome result (λ count. (root : ℕ) (arcs : List Arc) → IsComplete n root arcs →
         AreSources n root arcs (sources_in total sources.old) →
-        IsDone n root arcs 0 0 count (sources_in total sources.new) (packed nodes.new)) }
+        IsPacked n root arcs 0 0 count (sources_in total sources.new) (packed nodes.new)) }
 {
     let mut done = Done {
         from: total,

@@ -10,6 +10,7 @@ mod numbers;
 mod reduce;
 mod rows;
 mod sources;
+mod writing;
 
 pub use levels::reduce_sources;
 pub use reduce::reduce_in_room;

@@ -12,7 +12,7 @@ ghost use Rattle.arc_diagrams.specs.Laws.{IsDiagramOf};
 ghost use Rattle.complemented_diagrams.specs.Changes.{Changed};
 
 use crate::filling::read_sources;
-use crate::levels::reduce_sources;
+use crate::writing::write_sources;
 use arc_file::Unreduced;
 use rec_words::Rec;
 use shelf_model::{FileNo, Shelf, StreamFault};
@@ -31,8 +31,8 @@ const VARIABLES_A_SOURCE: usize = 32;
 const WIDEST: usize = 4;
 
 /// Makes the node file of the canonical form of a diagram that isn't reduced, and answers how many nodes it has. None
-/// is answered where the room has fewer records than that takes: one for each variable, half of one for each source,
-/// one for each source of the widest level, and a window; where the variables are far more than the arcs, and where the
+/// is answered where the room has fewer records than that takes: one for each variable, a quarter of one for each
+/// source, one for each source of the widest level, and a window; where the variables are far more than the arcs, and where the
 /// two files aren't those of a diagram's arcs; what the node file holds then isn't said.
 pub fn reduce_in_room<S: Shelf>(
     n: u32,
@@ -59,13 +59,12 @@ pub fn reduce_in_room<S: Shelf>(
     let most = ((made.inner_count + made.ends_count) / 2) as usize;
     let packed = most / 4 + 1;
     if n as usize > VARIABLES + VARIABLES_A_SOURCE * most
-        || n as usize + 2 * packed + WINDOW + most / WIDEST > room.len()
+        || n as usize + packed + WINDOW + most / WIDEST > room.len()
     {
         return Ok(None);
     }
     let (firsts, rest) = room.split_at_mut(n as usize);
     let (sources, rest) = rest.split_at_mut(packed);
-    let (nodes, rest) = rest.split_at_mut(packed);
     let (window, rows) = rest.split_at_mut(WINDOW);
     let Some(count) = read_sources(n, made, sources, firsts, window, shelf)? else {
         return Ok(None);
@@ -73,7 +72,7 @@ pub fn reduce_in_room<S: Shelf>(
     if count > most {
         return Ok(None);
     }
-    reduce_sources(
-        n, made.root, sources, count, firsts, nodes, rows, window, out, shelf,
+    write_sources(
+        n, made.root, sources, count, firsts, rows, window, out, shelf,
     )
 }

@@ -8,7 +8,7 @@ use std::test::Fail;
 use step_sweeps::{StepOperation, make_diagram};
 
 /// So many variables that the least room doesn't hold the sources, and a record for each of the widest level.
-const MANY: u32 = 16;
+const MANY: u32 = 17;
 
 const INNER: FileNo = FileNo {
     step: NUMBER,

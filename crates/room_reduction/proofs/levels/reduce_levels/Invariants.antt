@@ -3,7 +3,7 @@ use Rattle.packed_records.specs.Packed.{packed}
 use Rattle.arc_file.specs.declared.arc.Arc.{Arc}
 use Rattle.arc_diagrams.specs.Arcs.{IsComplete}
 use Rattle.room_reduction.specs.Sources.{AreSources, sources_in}
-use Rattle.room_reduction.specs.Levels.{IsDone}
+use Rattle.room_reduction.specs.Levels.{IsPacked}
 use Rattle.room_reduction.proofs.levels.reduce_levels.Given as goal
 
 -- the deeper levels are done
@@ -15,6 +15,6 @@ invariant-loop-deeper l = record {
   room : l.done.count ≤ 4 * length l.nodes;
   done_is : (root : ℕ) (arcs : List Arc) → IsComplete l.n root arcs
       → AreSources l.n root arcs (sources_in l.total l.fn.sources)
-      → IsDone l.n root arcs (l.n - l.deeper) l.done.from l.done.count (sources_in l.total l.sources)
+      → IsPacked l.n root arcs (l.n - l.deeper) l.done.from l.done.count (sources_in l.total l.sources)
       (packed l.nodes);
 }

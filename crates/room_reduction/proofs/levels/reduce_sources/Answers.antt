@@ -6,7 +6,6 @@ use Rattle.block_stream.specs.Records.{records_bytes}
 use Rattle.arc_diagrams.specs.Reduction.{final_pointer}
 use Rattle.packed_records.specs.Packed.{packed}
 use Rattle.packed_records.proofs.PackedLaws.{length-packed}
-use Rattle.room_reduction.specs.Sources.{sources_in}
 use Rattle.room_reduction.proofs.LevelSources.{final_keeps_ends}
 use Rattle.room_reduction.proofs.RoomFile.{nodes_many, bytes_canonical}
 use Rattle.room_reduction.proofs.levels.reduce_sources.Goals as goal
@@ -18,17 +17,17 @@ returns-clause-made g c tells arcs t few stands are =
     let root = c.args.root in
     let count = c.in-Some.count in
     let variables = c.requires.variables in
-    let sources = sources_in c.args.total c.reduce_levels.new.sources in
     let nodes = packed c.reduce_levels.new.nodes in
     let room = c.in-Some.ensures.room in
     let many = length-packed c.reduce_levels.new.nodes in
     let long : length (take count nodes) ≡ count = length-take-le count nodes (omega (arith, room, many)) in
     let done = c.in-Some.ensures.done root arcs stands.complete are in
+    let count_is = sym long ∙ ap length done.nodes_are in
     let ends = final_keeps_ends n root arcs variables stands.complete in
-    let word = c.in-Some-became.ensures (final_pointer n arcs) ends done.known
+    let word = c.in-Some-became.ensures (final_pointer n arcs) ends done.done.known
     ∙ ap (final_pointer n arcs) c.word.ensures.value in (
       c.in_ok-write_packed.ensures.made tells
-          ∙ ap firm_file (ap (λ k. records_bytes 3 (take count nodes) ++ trailer_bytes c.in-Some-became.word k n)
-          (sym long) ∙ bytes_canonical n root arcs t count sources nodes variables few stands done _ word),
-      sym long ∙ nodes_many n root arcs t count sources nodes variables few stands done,
+          ∙ ap firm_file (ap (λ xs. records_bytes 3 xs ++ trailer_bytes c.in-Some-became.word count n) done.nodes_are
+          ∙ bytes_canonical n root arcs t variables few stands _ _ word count_is),
+      count_is ∙ nodes_many n root arcs t variables few stands,
     )

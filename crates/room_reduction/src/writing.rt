@@ -1,0 +1,172 @@
+//! All levels of a diagram, each of which is written once it is made.
+ghost use Rattle.std.specs.Prelude.{◌≡◌, ℕ, suc, ◌+◌, ◌-◌, ◌*◌, ◌^◌, ◌<◌, ◌≤◌, ◌++◌, Bool, List, length, IsTrue, OnOk, IfOk, IfErr, IfSome};
+ghost use Rattle.rec_words.specs.Words.{deepest_level};
+ghost use Rattle.shelf_model.specs.World.{file};
+ghost use Rattle.shelf_model.specs.File.{firm_file};
+ghost use Rattle.shelf_model.specs.Calls.{Told};
+ghost use Rattle.shelf_model.specs.Faults.{OnlyShelf};
+ghost use Rattle.block_stream.specs.Records.{records_bytes};
+ghost use Rattle.block_stream.specs.Writes.{Wrote, IsFilling, InStep, IsWriting, SameFile, written};
+ghost use Rattle.canon_file.specs.Canon.{numbered, canon_nodes, canon_bytes};
+ghost use Rattle.arc_file.specs.declared.arc.Arc.{Arc};
+ghost use Rattle.arc_diagrams.specs.Arcs.{IsComplete};
+ghost use Rattle.arc_diagrams.specs.Laws.{IsDiagramOf};
+ghost use Rattle.arc_diagrams.specs.Reduction.{final_rows};
+ghost use Rattle.complemented_diagrams.specs.Changes.{Changed};
+ghost use Rattle.complemented_diagrams.specs.Records.{node_records};
+ghost use Rattle.room_reduction.specs.Sources.{AreSources, sources_in};
+ghost use Rattle.room_reduction.specs.Levels.{IsDone, IsCounted, nodes_down_to};
+
+use crate::level::{Done, nodes_of_level};
+use crate::rows::became;
+use block_stream::{Filling, put_record, settle_records};
+use complemented_diagrams::{put_nodes, trailer_with};
+use rec_words::{Ptr, Rec};
+use shelf_model::{FileNo, Shelf, StreamFault};
+
+/// Makes the node file of the diagram whose sources stand in the room, so many, and answers how many nodes it has. None
+/// is answered where they aren't those of a diagram, and where a level has more sources than there is room for rows;
+/// what the file holds then isn't said. Of each level the first record's word 0 says where its sources begin.
+pub(crate) fn write_sources<S: Shelf>(
+    n: u32,
+    root: Ptr,
+    sources: &mut [Rec],
+    total: usize,
+    firsts: &[Rec],
+    rows: &mut [Rec],
+    window: &mut [Rec],
+    out: FileNo,
+    shelf: &mut S,
+) -> Result<Option<u64>, StreamFault>
+    requires variables { n ≤ 65535 }
+    requires many { total ≤ 4 * length sources.old }
+    requires few { total ≤ 2 ^ 17 }
+    requires window { 8 ≤ length window.old }
+    ensures made { IfOk result (λ done. IsTrue (S.tells shelf.new) → (arcs : List Arc) → (t : List Bool) →
+        length arcs ≤ 2 ^ 47 → IsDiagramOf n root arcs t → AreSources n root arcs (sources_in total sources.old) →
+        IfSome done (λ count.
+        (file (S.world shelf.new) out ≡ firm_file (canon_bytes n t)) × (count ≡ length (canon_nodes n t)))) }
+    ensures cause { IfErr result (λ e. e ≡ StreamFault.Shelf) }
+    ensures content { Told S.tells shelf.old shelf.new
+        (Changed (total + 6) out (S.world shelf.old) (S.world shelf.new)) }
+    ensures faults { OnlyShelf (S.faults shelf.old) (S.faults shelf.new) result }
+{
+    let mut filling = Filling::start(out, 3, shelf)?;
+    let made = write_levels(n, sources, total, firsts, rows, window, &mut filling, shelf)?;
+    let Some(count) = made else {
+        return Ok(None);
+    };
+    let Some(word) = became(sources, total, firsts, 0, root.word()) else {
+        return Ok(None);
+    };
+    let trailer = trailer_with(word, count as u64, n);
+    put_record(window, &mut filling, trailer, shelf)?;
+    settle_records(window, &mut filling, shelf)?;
+    Ok(Some(count as u64))
+}
+
+// Makes and writes the nodes of all levels, the deepest first, and answers how many there are. Each source says then
+// what it became.
+fn write_levels<S: Shelf>(
+    n: u32,
+    sources: &mut [Rec],
+    total: usize,
+    firsts: &[Rec],
+    rows: &mut [Rec],
+    window: &mut [Rec],
+    filling: &mut Filling,
+    shelf: &mut S,
+) -> Result<Option<usize>, StreamFault>
+    requires variables { n ≤ 65535 }
+    requires many { total ≤ 4 * length sources.old }
+    requires few { total ≤ 2 ^ 17 }
+    requires fills { IsFilling filling.old (length window.old) }
+    requires words { filling.old.words ≡ 3 }
+    requires in_step { IsTrue (S.tells shelf.old) → InStep filling.old (S.world shelf.old) }
+    ensures sources_len { length sources.new ≡ length sources.old }
+    ensures within { IfOk result (λ found. IfSome found (λ count. count ≤ total)) }
+    ensures fills { IsFilling filling.new (length window.new) }
+    ensures same { SameFile filling.old filling.new }
+    ensures in_step { OnOk result (IsTrue (S.tells shelf.new) → InStep filling.new (S.world shelf.new)) }
+    ensures done { IfOk result (λ found. IfSome found (λ count. (root : ℕ) (arcs : List Arc) → IsComplete n root arcs →
+        AreSources n root arcs (sources_in total sources.old) →
+        IsCounted n root arcs 0 0 count (sources_in total sources.new))) }
+    ensures bytes { IfOk result (λ found. IfSome found (λ count. IsTrue (S.tells shelf.new) →
+        (root : ℕ) (arcs : List Arc) → IsComplete n root arcs →
+        AreSources n root arcs (sources_in total sources.old) → IsWriting filling.new window.new (S.world shelf.new)
+        (written filling.old window.old (S.world shelf.old) ++ records_bytes 3 (nodes_down_to 0 n arcs)))) }
+    ensures cause { IfErr result (λ e. e ≡ StreamFault.Shelf) }
+    ensures content { Told S.tells shelf.old shelf.new
+        (Wrote total filling.old.file (S.world shelf.old) (S.world shelf.new)) }
+    ensures faults { OnlyShelf (S.faults shelf.old) (S.faults shelf.new) result }
+{
+    let mut done = Done {
+        from: total,
+        count: 0,
+    };
+    for deeper in 0..n {
+        let level = (n - 1 - deeper) as u16;
+        let next = write_level(
+            level, sources, total, firsts, rows, done, window, filling, shelf,
+        )?;
+        let Some(next) = next else {
+            return Ok(None);
+        };
+        done = next;
+    }
+    if done.from > 0 {
+        return Ok(None);
+    }
+    Ok(Some(done.count))
+}
+
+// Makes and writes the nodes of a level, where the deeper ones are done.
+fn write_level<S: Shelf>(
+    level: u16,
+    sources: &mut [Rec],
+    total: usize,
+    firsts: &[Rec],
+    rows: &mut [Rec],
+    done: Done,
+    window: &mut [Rec],
+    filling: &mut Filling,
+    shelf: &mut S,
+) -> Result<Option<Done>, StreamFault>
+    requires level { level ≤ deepest_level }
+    requires few { total ≤ 2 ^ 17 }
+    requires many { total ≤ 4 * length sources.old }
+    requires within { done.from + done.count ≤ total }
+    requires fills { IsFilling filling.old (length window.old) }
+    requires words { filling.old.words ≡ 3 }
+    requires in_step { IsTrue (S.tells shelf.old) → InStep filling.old (S.world shelf.old) }
+    ensures rows_len { length rows.new ≡ length rows.old }
+    ensures sources_len { length sources.new ≡ length sources.old }
+    ensures within { IfOk result (λ found. IfSome found (λ next. (done.count ≤ next.count) ×
+        (next.from + next.count ≤ total))) }
+    ensures fills { IsFilling filling.new (length window.new) }
+    ensures same { SameFile filling.old filling.new }
+    ensures in_step { OnOk result (IsTrue (S.tells shelf.new) → InStep filling.new (S.world shelf.new)) }
+    ensures done { IfOk result (λ found. IfSome found (λ next. (n root : ℕ) (arcs : List Arc) → n ≤ 65535 → level < n →
+        IsComplete n root arcs → IsCounted n root arcs (suc level) done.from done.count (sources_in total sources.old) →
+        IsCounted n root arcs level next.from next.count (sources_in total sources.new))) }
+    ensures bytes { IfOk result (λ found. IfSome found (λ next. IsTrue (S.tells shelf.new) →
+        (n root : ℕ) (arcs : List Arc) → n ≤ 65535 → level < n → IsComplete n root arcs →
+        IsDone n root arcs (suc level) done.from (sources_in total sources.old) →
+        IsWriting filling.new window.new (S.world shelf.new) (written filling.old window.old (S.world shelf.old)
+        ++ records_bytes 3 (node_records (numbered level 0 (final_rows n arcs level)))))) }
+    ensures cause { IfErr result (λ e. e ≡ StreamFault.Shelf) }
+    ensures content { Told S.tells shelf.old shelf.new
+        (Wrote done.from filling.old.file (S.world shelf.old) (S.world shelf.new)) }
+    ensures paid { IfOk result (λ found. IfSome found (λ next. Told S.tells shelf.old shelf.new
+        (Wrote (next.count - done.count) filling.old.file (S.world shelf.old) (S.world shelf.new)))) }
+    ensures faults { OnlyShelf (S.faults shelf.old) (S.faults shelf.new) result }
+{
+    let Some(made) = nodes_of_level(level, sources, total, firsts, rows, done.from) else {
+        return Ok(None);
+    };
+    put_nodes(&rows[..made.count], window, filling, shelf)?;
+    Ok(Some(Done {
+        from: made.from,
+        count: done.count + made.count,
+    }))
+}
