@@ -1,9 +1,6 @@
 //! The program `adiar`: its words, and the real outside.
 #![tactic(auto)]
 
-#[cfg(test)]
-mod tests;
-
 use host_station::HostStation;
 use script_runner::adiar;
 use std::fs::File;

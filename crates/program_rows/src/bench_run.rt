@@ -1,6 +1,7 @@
-// A run of the program over a station in memory, with a text at the path that its words name.
+// A run of the program over a station, and one in memory with a text at the path that its words name.
 use script_runner::adiar;
 use shelf_memory::Bench;
+use shelf_model::Station;
 use std::alloc::{AllocError, Global};
 
 /// The words of a run in the station's own folder.
@@ -58,9 +59,9 @@ fn owned(alloc: Global, words: &[&str]) -> Result<Vec<String>, AllocError> {
 }
 
 /// Runs the program, and answers its status, or 9, as where it finds no memory, where there is none for the words.
-pub(crate) fn run(alloc: Global, words: &[&str], bench: &mut Bench) -> u8 {
+pub(crate) fn run<W: Station>(alloc: Global, words: &[&str], station: &mut W) -> u8 {
     match owned(alloc, words) {
-        Ok(owned) => adiar(alloc, owned.as_slice(), bench),
+        Ok(owned) => adiar(alloc, owned.as_slice(), station),
         Err(_) => 9,
     }
 }

@@ -1,5 +1,5 @@
 //! The program on worked examples, over a station in memory: what it says, what it leaves in files, and
-//! its status where a call fails.
+//! its status where a call fails; and once over a real folder.
 #![tactic(auto)]
 
 #[cfg(test)]
@@ -16,6 +16,8 @@ mod listing;
 mod node_files;
 #[cfg(test)]
 mod parts_said;
+#[cfg(test)]
+mod real_folder;
 #[cfg(test)]
 mod refusals;
 #[cfg(test)]

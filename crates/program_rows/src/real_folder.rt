@@ -1,12 +1,8 @@
 // The program over a real folder: entries are read back, a file is cut, and a second run finds all.
+use crate::bench_run::{DROPPING, RUN, run};
 use host_station::HostStation;
-use script_runner::adiar;
 use std::fs;
 use std::test::Fail;
-
-const SCRIPT: &[u8] = b"vars a b\nconst z 0\nvar f b\nsize f\ndrop z\n";
-
-const WORDS: [&str; 5] = ["adiar", "run", "FOLDER", "--script", "script"];
 
 /// The files of the folder, and their lengths once all is done: the job, 20 bytes before its script
 /// of 41, its gate, the entries of four steps of 128 bytes each, the gate with a byte for each step,
@@ -20,16 +16,12 @@ const FILES: [(&str, u64); 6] = [
     ("FOLDER/s1p0", 48),
 ];
 
-fn run(rt: &HostRuntime) -> Result<u8, Fail> {
-    let mut words = Vec::new(rt.alloc());
-    for word in &WORDS {
-        words.push(String::from_str(rt.alloc(), word)?)?;
-    }
+// Whether a run in the folder ends well, and leaves all files.
+fn runs_well(rt: &HostRuntime) -> Result<bool, Fail> {
     let mut station = HostStation::new(rt, rt.alloc());
-    Ok(adiar(rt.alloc(), words.as_slice(), &mut station))
-}
-
-fn has_all_files(rt: &HostRuntime) -> Result<bool, Fail> {
+    if run(rt.alloc(), &RUN, &mut station) != 0 {
+        return Ok(false);
+    }
     for (path, len) in FILES {
         if fs::metadata(rt, path)?.len() != len {
             return Ok(false);
@@ -39,9 +31,8 @@ fn has_all_files(rt: &HostRuntime) -> Result<bool, Fail> {
 }
 
 fn runs_twice(rt: &HostRuntime) -> Result<bool, Fail> {
-    fs::write(rt, "script", SCRIPT)?;
-    let first = run(rt)? == 0 && has_all_files(rt)?;
-    Ok(first && run(rt)? == 0 && has_all_files(rt)?)
+    fs::write(rt, "script", DROPPING)?;
+    Ok(runs_well(rt)? && runs_well(rt)?)
 }
 
 #[test]
