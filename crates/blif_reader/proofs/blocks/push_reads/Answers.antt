@@ -1,9 +1,10 @@
-use Rattle.std.proofs.Common.{List, ℕ, ◌++◌, ◌∷◌, [], ◌∙◌, sym, ap, map}
+use Rattle.std.proofs.Common.{List, ℕ, ◌++◌, ◌∷◌, [], ◌∙◌, sym, ap, map, arith}
 use Rattle.std.proofs.lemmas.List.{map_push}
 use Rattle.blif_reader.specs.Parts.{Use}
 use Rattle.blif_reader.specs.Views.{lists_of, number_in}
 use Rattle.blif_reader.proofs.BlockReads.{reads_one}
 use Rattle.blif_reader.proofs.blocks.push_reads.Goals as goal
+use Rattle.std.proofs.lemmas.Grind.{common_steps}
 
 pub returns-in_ok-push : goal.returns-in_ok-push
 returns-in_ok-push c =
@@ -12,3 +13,6 @@ returns-in_ok-push c =
     ∙ ap (λ ns. lists_of c.args.edges.now.items ++ ns ∷ []) (c.in_ok-numbers.ensures ∙ ap (λ us. map number (map (λ (u : Use). u.word) us)) c.of.ensures)
     ∙ ap (λ rs. lists_of c.args.edges.now.items ++ map (λ words. map number words) rs)
     (sym (reads_one c.args.line.now c.index-line-0.result c.requires (sym c.names_block.ensures ∙ c.if-names_block.true)))
+
+pub returns-else-names_block : goal.returns-else-names_block
+returns-else-names_block c = grind (arith, common_steps)

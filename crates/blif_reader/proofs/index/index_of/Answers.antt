@@ -5,6 +5,7 @@ use Rattle.blif_reader.specs.Index.{Puts, found_in}
 use Rattle.blif_reader.specs.Views.{names_in}
 use Rattle.blif_reader.proofs.Indexing.{places_before}
 use Rattle.blif_reader.proofs.index.index_of.Goals as goal
+use Rattle.std.proofs.lemmas.Grind.{common_steps}
 
 pub names-preserved : goal.names-preserved
 names-preserved c =
@@ -17,3 +18,6 @@ names-preserved c =
       has = places_before c.names.index c.put.new.index names place (omega (arith, next, c.names.invariant.within)) puts so_far;
       within = omega (arith, c.names.invariant.within);
     }
+
+pub names-init : goal.names-init
+names-init c = grind (arith, common_steps)

@@ -3,6 +3,7 @@ use Rattle.shelf_model.proofs.Runs.{told}
 use Rattle.catalogue.specs.Writes.{pieces}
 use Rattle.catalogue.proofs.Written.{grow_on}
 use Rattle.catalogue.proofs.writes.append_all.Goals as goal
+use Rattle.std.proofs.lemmas.Grind.{common_steps}
 
 pub returns-in_err-append-clause-content : goal.returns-in_err-append-clause-content
 returns-in_err-append-clause-content g c =
@@ -20,3 +21,9 @@ loop-done-preserved g c = record {
       omega arith;
   faults = search rules;
 }
+
+pub append-requires-clause-at_end : goal.append-requires-clause-at_end
+append-requires-clause-at_end g c = grind (arith, common_steps)
+
+pub returns-clause-ok : goal.returns-clause-ok
+returns-clause-ok g c = grind (arith, common_steps)

@@ -36,3 +36,15 @@ returns-clause-no c = λ no way.
     let size : length reached ≡ length g = c.search.invariant.size in
     let read : c.index.result.now ≡ true = c.index.ensures ∙ get_or_default reached c.args.node _ _ (omega arith) ∙ yes in
     absurd (cc)
+
+pub reach_all-requires : goal.reach_all-requires
+reach_all-requires c = grind (arith, common_steps)
+
+pub reach_all-requires-in-Some : goal.reach_all-requires-in-Some
+reach_all-requires-in-Some c = grind (arith, common_steps)
+
+pub index-requires : goal.index-requires
+index-requires c = grind (arith, common_steps)
+
+pub returns-clause-yes : goal.returns-clause-yes
+returns-clause-yes c = grind (arith, common_steps)

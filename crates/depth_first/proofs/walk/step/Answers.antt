@@ -3,6 +3,7 @@ use Rattle.depth_first.specs.Graph.{edges_of}
 use Rattle.depth_first.specs.Views.{graph_of}
 use Rattle.depth_first.proofs.Steps.{edges_read, length_graph, frame_inside, target_within, Looks, steps_leaves, steps_follows, steps_enters, steps_closes, target_inside}
 use Rattle.depth_first.proofs.walk.step.Goals as goal
+use Rattle.std.proofs.lemmas.Grind.{common_steps}
 
 pub returns-then-frame-targets-clause-walked : goal.returns-then-frame-targets-clause-walked
 returns-then-frame-targets-clause-walked c =
@@ -77,3 +78,6 @@ returns-clause-walked c =
     let l : Looks g place c.args.frame targets t c.index-place.result.now = record { edges = e; more = c.if-frame-targets.false; target = refl; read = c.index-place.ensures } in
     let inside_t : t < length g = target_inside g place order stack c.args.frame targets t c.index-place.result.now c.requires.graph c.requires.before l in
     (subst (λ n. t < n) (length_graph c.args.edges.now) inside_t, steps_closes g place order stack c.args.frame targets t c.index-place.result.now c.requires.graph c.requires.before l c.if-place.false c.if-place-2.false (omega arith))
+
+pub enter-requires-clause-few : goal.enter-requires-clause-few
+enter-requires-clause-few c = grind (arith, common_steps)

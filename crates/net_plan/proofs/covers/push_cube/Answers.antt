@@ -1,9 +1,10 @@
-use Rattle.std.proofs.Common.{◌≡◌, ℕ, true, ap, get_or, drop}
+use Rattle.std.proofs.Common.{◌≡◌, ℕ, true, ap, get_or, drop, arith}
 use Rattle.std.proofs.lemmas.List.{drop_more, drop_all}
 use Rattle.bool_tables.specs.declared.steps.Step.TheVariants.{Const}
 use Rattle.net_plan.specs.Covers.{Draft, put, column, cube}
 use Rattle.net_plan.proofs.Growth.{passes_on, cube_begins, columns_below, columns_stop}
 use Rattle.net_plan.proofs.covers.push_cube.Goals as goal
+use Rattle.std.proofs.lemmas.Grind.{common_steps}
 
 pub returns-in_err-at : goal.returns-in_err-at
 returns-in_err-at c =
@@ -26,3 +27,9 @@ returns-in_err-at-2 c =
     passes_on c.args.first c.loop-place.steps.items c.push_column.new.steps.items _ (column c.args.first d (get_or c.args.cells.now place 0) (get_or c.args.signals.now place 0)) (cube c.args.first c.args.steps.now.items c.args.cells.now c.args.signals.now)
     c.from_residual-in_err-at-2.result c.in_err-at-2.field-0.0 c.from_residual-in_err-at-2.ensures.1 c.in_err-at-2.ensures
     (columns_below c.args.first _ _ d _ _ _ _ _ cells signals c.loop-place.invariant.same)
+
+pub loop-place-preserved : goal.loop-place-preserved
+loop-place-preserved c = grind (arith, common_steps)
+
+pub returns : goal.returns
+returns c = grind (arith, common_steps)

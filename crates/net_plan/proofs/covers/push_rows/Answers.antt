@@ -6,6 +6,7 @@ use Rattle.blif_reader.specs.Answers.{net_of}
 use Rattle.net_plan.specs.Covers.{Draft, put, row, rows}
 use Rattle.net_plan.proofs.Growth.{passes_on, rows_begin, rows_below}
 use Rattle.net_plan.proofs.covers.push_rows.Goals as goal
+use Rattle.std.proofs.lemmas.Grind.{common_steps}
 
 pub returns-in_err-sum : goal.returns-in_err-sum
 returns-in_err-sum c =
@@ -23,3 +24,9 @@ returns-in_err-sum-2 c =
     passes_on c.args.first c.loop-place.steps.items c.push_row.new.steps.items _ (row c.args.first d c.row.result.now c.args.signals.now) (rows c.args.first start rs c.args.signals.now)
     c.from_residual-in_err-sum-2.result c.in_err-sum-2.field-0.0 c.from_residual-in_err-sum-2.ensures.1 c.in_err-sum-2.ensures
     (rows_below c.args.first c.row.result.now d _ _ _ c.args.signals.now split c.loop-place.invariant.same)
+
+pub loop-place-preserved : goal.loop-place-preserved
+loop-place-preserved c = grind (arith, common_steps)
+
+pub returns : goal.returns
+returns c = grind (arith, common_steps)

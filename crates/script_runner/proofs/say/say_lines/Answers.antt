@@ -4,6 +4,7 @@ use Rattle.script_runner.specs.Said.{no_line}
 use Rattle.script_runner.specs.StepRuns.{SaysLines}
 use Rattle.script_runner.proofs.SayingLines.{none_said, line_more, lines_stopped, stands_after, err_is}
 use Rattle.script_runner.proofs.say.say_lines.Goals as goal
+use Rattle.std.proofs.lemmas.Grind.{common_steps}
 
 pub loop-line-init : goal.loop-line-init
 loop-line-init g c = record {
@@ -42,3 +43,12 @@ loop-line-preserved g c =
         say_fault = tt;
       };
     }
+
+pub say_line-requires-clause-within : goal.say_line-requires-clause-within
+say_line-requires-clause-within g c = grind (arith, common_steps)
+
+pub say_line-requires-clause-shown : goal.say_line-requires-clause-shown
+say_line-requires-clause-shown g c = grind (arith, common_steps)
+
+pub returns-clause-content : goal.returns-clause-content
+returns-clause-content g c = grind (arith, common_steps)

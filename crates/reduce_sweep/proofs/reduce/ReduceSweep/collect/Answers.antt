@@ -14,6 +14,7 @@ use Rattle.reduce_sweep.proofs.Doing.{refused_second, then_ok, does_placed}
 use Rattle.reduce_sweep.proofs.CollectingKeeps.{next_within, arc_below, none_below, level_collected}
 use Rattle.reduce_sweep.proofs.reduce.ReduceSweep.collect.Goals as goal
 use Rattle.reduce_sweep.proofs.reduce.ReduceSweep.collect.Goals.{in-Some+else-level-self+else-level-self-2, in_default}
+use Rattle.std.proofs.lemmas.Grind.{common_steps}
 
 pub returns-in_err-collect_arc-clause-does : goal.returns-in_err-collect_arc-clause-does
 returns-in_err-collect_arc-clause-does g c = refused_second g.S.Shelf.tells g.S.Shelf.world g.S.Shelf.faults 8 24 0 1 32 1 _ _ _ c.args.self.now c.next_arc.new.self c.collect_arc.new.self c.next_arc.result c.collect_arc.result c.from_residual-in_err-collect_arc.result c.in_err-collect_arc.field-0.0
@@ -79,3 +80,6 @@ returns-clause-keeps g c = λ told d working.
     level_collected s.place c.args.source _ _ d k c.requires.phase
     (λ j. record ((ap (λ (r : ReduceSweep). r.place) c.close.ensures.rest ∙ ap (λ (r : ReduceSweep). r.place) c.next_arc.ensures.rest) j) { phase = Number none_numbered })
     working.left low (c.in_ok-close.ensures.closed told k (c.in_ok-arc.ensures.shown shown k working.holds))
+
+pub returns-then-level-self-clause-keeps : goal.returns-then-level-self-clause-keeps
+returns-then-level-self-clause-keeps g c = grind (arith, common_steps)

@@ -8,6 +8,7 @@ use Rattle.reduce_sweep.specs.declared.phase.Phase.TheVariants.{Collect}
 use Rattle.reduce_sweep.proofs.Doing.{refused_second, then_ok, does_placed}
 use Rattle.reduce_sweep.proofs.CollectingKeeps.{is_shallower, level_opened, at_member}
 use Rattle.reduce_sweep.proofs.reduce.ReduceSweep.open_level.Goals as goal
+use Rattle.std.proofs.lemmas.Grind.{common_steps}
 
 pub returns-in_err-end_file-clause-does : goal.returns-in_err-end_file-clause-does
 returns-in_err-end_file-clause-does g c = refused_second g.S.Shelf.tells g.S.Shelf.world g.S.Shelf.faults 8 3 0 0 16 0 _ _ _ c.args.self.now c.next_arc.new.self c.end_file.new.self c.next_arc.result c.end_file.result c.from_residual-in_err-end_file.result c.in_err-end_file.field-0.0
@@ -58,3 +59,6 @@ returns-else-level-self-clause-keeps g c = λ told d working.
     let level : c.level_at-level.result ≡ level_of c.in-Some.arc.source = c.level_at-level.ensures.level in
     let over : c.pass.new.self.place.level ≤ c.level_at-level.result = c.if-level-self.false in
     absurd (omega (arith, below, same, level, over))
+
+pub returns-in_default-clause-keeps : goal.returns-in_default-clause-keeps
+returns-in_default-clause-keeps g c = grind (arith, common_steps)

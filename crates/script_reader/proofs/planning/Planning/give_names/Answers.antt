@@ -9,6 +9,7 @@ use Rattle.script_reader.specs.Views.{state_of, words_of}
 use Rattle.script_reader.proofs.Finding.{words_left, word_passes, no_word}
 use Rattle.script_reader.proofs.Pairs.{none_made, one_given}
 use Rattle.script_reader.proofs.planning.Planning.give_names.Goals as goal
+use Rattle.std.proofs.lemmas.Grind.{common_steps}
 
 pub returns-then-place-made : goal.returns-then-place-made
 returns-then-place-made c =
@@ -30,3 +31,6 @@ loop-place-preserved c =
     ap (λ (t : State). give_names t c.args.line c.args.last (drop (i + 1) (words_of names)) (drop (i + 1) made)) c.in_ok-give_name.ensures
     ∙ one_given s c.args.line c.args.last (drop i (words_of names)) (drop i made) (word_of (get_or names i no_word)) (drop (i + 1) (words_of names)) _ (drop (i + 1) made)
     (words_left names i no_word c.loop-place-test.true) (drop_more made i 0 c.if-place-made.false) ∙ c.loop-place.invariant
+
+pub returns : goal.returns
+returns c = grind (arith, common_steps)

@@ -3,6 +3,7 @@ use Rattle.std.proofs.lemmas.List.{length-append, length-map}
 use Rattle.script_reader.specs.Names.{State}
 use Rattle.script_reader.specs.Nets.{nameless}
 use Rattle.script_reader.proofs.planning.Planning.put_plan.Goals as goal
+use Rattle.std.proofs.lemmas.Grind.{common_steps}
 
 pub overflow_cast-len : goal.overflow_cast-len
 overflow_cast-len c =
@@ -14,3 +15,6 @@ overflow_cast-len c =
 
 pub give_names-requires : goal.give_names-requires
 give_names-requires c = c.requires.short
+
+pub returns : goal.returns
+returns c = grind (arith, common_steps)
