@@ -22,7 +22,7 @@ use Rattle.node_file.specs.Nodes.{IsTrailerDamage}
 use Rattle.copied_diagrams.specs.declared.operand.Operand.{Operand}
 use Rattle.copied_diagrams.specs.declared.operand.Operand.TheVariants.{Left, Right}
 use Rattle.copied_diagrams.specs.declared.pair.Making.{Making}
-use Rattle.copied_diagrams.specs.declared.pair.Making.TheVariants.{Made, NotMade}
+use Rattle.copied_diagrams.specs.declared.pair.Making.TheVariants.{Made, Copied, NotMade}
 use Rattle.copied_diagrams.specs.declared.source.Source.{Source}
 use Rattle.copied_diagrams.specs.declared.source.Way.{Way}
 use Rattle.copied_diagrams.specs.declared.source.Way.TheVariants.{Constant, Copy, Complement}
@@ -144,6 +144,7 @@ so_many n table to nodes count most new same made =
 pub if_made : (m : Making) (P Q R : ℕ → Type 0) → IfMade m P → IfMade m Q → ((nodes : ℕ) → P nodes → Q nodes → R nodes)
     → IfMade m R
 if_made (Made nodes) P Q R p q both = both nodes p q
+if_made (Copied nodes) P Q R p q both = both nodes p q
 if_made (NotMade read) P Q R p q both = tt
 
 -- so in each way the operator's table is made

@@ -24,6 +24,9 @@ const CONSTANT_CALLS: u64 = 7;
 /// The places of a table that depends on each variable.
 const ALL: usize = usize::MAX;
 
+/// So many variables that the diagram of a random table has more nodes than the least room has records.
+const MANY: u32 = 18;
+
 /// What stands beside a table, and on which side.
 #[derive(Clone, Copy, Debug, PartialEq, Eq)]
 enum Beside {
@@ -239,5 +242,27 @@ fn copies_make_fewer_calls(rt: HostRuntime) -> Result<bool, Fail> {
 fn a_copy_makes_fewer_calls_than_sweeps(rt: HostRuntime) -> Result<(), Fail> {
     let fewer = copies_make_fewer_calls(rt)?;
     assert!(rt; fewer);
+    Ok(())
+}
+
+// A copy of more nodes than a checkpoint's interval has turns in the least room takes no other turns and calls than a
+// small one.
+fn copies_many_nodes(rt: HostRuntime) -> Result<bool, Fail> {
+    let alloc = rt.alloc();
+    let mut room = vec![in alloc; EMPTY; LEAST_ROOM]?;
+    let f = Random::new(7).table(alloc, MANY, ALL)?;
+    let f = f.as_slice();
+    let mut bench = bench_of(alloc, MANY, [f, &[], &[]])?;
+    let calls = copy_calls(&bench);
+    let both = StepOperation::Operator(operator(0b1000));
+    let are_many = bench.file(FIRST).len() / 24 > LEAST_ROOM;
+    let room = room.as_mut_slice();
+    Ok(are_many && is_unswept(alloc, both, MANY, ONE, f, calls, room, &mut bench)?)
+}
+
+#[test]
+fn a_copy_of_many_nodes_needs_no_sweep(rt: HostRuntime) -> Result<(), Fail> {
+    let copies = copies_many_nodes(rt)?;
+    assert!(rt; copies);
     Ok(())
 }
