@@ -99,8 +99,8 @@ count_of (Constant value) = 0
 count_of (Copy source) = source.trailer.count
 count_of (Complement source) = source.trailer.count
 
--- the nodes and one are fewer than a room of so many records allows, and than a checkpoint's interval has turns; those of
--- a copy may be more
+-- the nodes and one are fewer than a room of so many records allows, and than a checkpoint's interval has turns; those
+-- of a copy may be more
 abbrev pub IsFew : ℕ → Way → Type 0
 IsFew room (Constant value) = 1 < min room 65536
 IsFew room (Copy source) = source.trailer.count < 2 ^ 40

@@ -21,8 +21,8 @@ use node_file::NodeWriter;
 use rec_words::{NODE_SIZE, Ptr, Rec};
 use shelf_model::{Failed, FileNo, PIECE, Shelf, StreamFault};
 
-/// What came of a look at two operands: a node file of so many nodes was made, one of more nodes was copied, or none was
-/// made, after so many nodes of an operand were read.
+/// What came of a look at two operands: a node file of so many nodes was made, one of more nodes was copied, or none
+/// was made, after so many nodes of an operand were read.
 #[derive(Clone, Copy, Debug, PartialEq, Eq)]
 pub enum Making {
     Made(u64),

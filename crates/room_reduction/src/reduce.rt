@@ -32,8 +32,8 @@ const WIDEST: usize = 4;
 
 /// Makes the node file of the canonical form of a diagram that isn't reduced, and answers how many nodes it has. None
 /// is answered where the room has fewer records than that takes: one for each variable, a quarter of one for each
-/// source, one for each source of the widest level, and a window; where the variables are far more than the arcs, and where the
-/// two files aren't those of a diagram's arcs; what the node file holds then isn't said.
+/// source, one for each source of the widest level, and a window; where the variables are far more than the arcs, and
+/// where the two files aren't those of a diagram's arcs; what the node file holds then isn't said.
 pub fn reduce_in_room<S: Shelf>(
     n: u32,
     made: &Unreduced,
