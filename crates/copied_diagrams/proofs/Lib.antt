@@ -1,3 +1,4 @@
 pub mod PairTables
 pub mod TrailerFacts
 pub mod PairRuns
+mod PieceRuns

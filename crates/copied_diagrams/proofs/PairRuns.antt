@@ -1,5 +1,5 @@
 -- A copy after two trailers were read.
-use Rattle.std.proofs.Common.{◌≡◌, ◌∙◌, ℕ, ◌+◌, ◌*◌, ◌≤◌, Bool, IsTrue, List, length, sym, ap, subst, arith}
+use Rattle.std.proofs.Common.{◌≡◌, ◌⊎◌, ◌∙◌, ℕ, ◌+◌, ◌*◌, ◌≤◌, Bool, IsTrue, List, length, sym, ap, subst, inl, inr, arith}
 use Rattle.bool_tables.specs.declared.steps.Bin.{Bin}
 use Rattle.shelf_model.specs.declared.file_no.FileNo.{FileNo}
 use Rattle.shelf_model.specs.declared.fault.StreamFault.{StreamFault}
@@ -21,15 +21,16 @@ use Rattle.canon_file.proofs.ByteLaws.{bytes_unique}
 use Rattle.node_file.specs.Nodes.{IsTrailerDamage}
 use Rattle.copied_diagrams.specs.declared.operand.Operand.{Operand}
 use Rattle.copied_diagrams.specs.declared.operand.Operand.TheVariants.{Left, Right}
+use Rattle.copied_diagrams.specs.declared.operand.Choice.TheVariants as choices
 use Rattle.copied_diagrams.specs.declared.pair.Making.{Making}
-use Rattle.copied_diagrams.specs.declared.pair.Making.TheVariants.{Made, Copied, NotMade}
+use Rattle.copied_diagrams.specs.declared.pair.Making.TheVariants.{Made, NotMade}
 use Rattle.copied_diagrams.specs.declared.source.Source.{Source}
 use Rattle.copied_diagrams.specs.declared.source.Way.{Way}
 use Rattle.copied_diagrams.specs.declared.source.Way.TheVariants.{Constant, Copy, Complement}
 use Rattle.complemented_diagrams.specs.Changes.{Changed}
 use Rattle.complemented_diagrams.proofs.FileChanges.{looked_changes, changed_after}
 use Rattle.copied_diagrams.specs.Operands.{pair_table, IsResult}
-use Rattle.copied_diagrams.specs.Pairs.{IsFileOf, ArePair, IsTrailerOf, IfMade, IsWay, IsWayOf, HasMade, IsOperandDamage, IsMade, of_operand, nodes_of_both, count_of}
+use Rattle.copied_diagrams.specs.Pairs.{IsFileOf, ArePair, IsTrailerOf, IsSourceOf, IsCopied, IfMade, IsWay, IsWayOf, HasMade, IsOperandDamage, IsMade, of_operand, nodes_of_both, count_of}
 use Rattle.complement_laws.specs.Complements.{complement}
 use Rattle.complement_laws.proofs.ComplementLaws.{has_complement}
 use Rattle.copied_diagrams.proofs.PairTables.{copy_is, complement_is, constant_is, constant_form}
@@ -73,12 +74,6 @@ one_table : (n : ℕ) (left right : FileNo) (t u : List Bool) (world : World) �
 one_table n left right t u world pair same =
     bytes_unique n t u pair.first.form.few pair.first.form.whole pair.second.form.whole pair.first.form.fits pair.second.form.fits
     (sym pair.first.bytes_are ∙ ap (λ f. (file world f).bytes) same ∙ pair.second.bytes_are)
-
--- what is known of a source among the files of two tables: whose table it has, and that its trailer is that table's
-pub record IsSourceOf (n : ℕ) (table : List Bool) (most : ℕ) (s : Source) (world : World) : Type 0 where
-  pub of : IsFileOf n table s.from world
-  pub trailer : IsTrailerOf n table s.trailer
-  pub few : s.trailer.count ≤ most
 
 source_has : (n : ℕ) (o : Operand) (left right : Source) (t u : List Bool) (s : Source) (world : World)
     → ArePair n left.from right.from t u world → IsTrailerOf n t left.trailer → IsTrailerOf n u right.trailer → s ≡ of_operand o left right
@@ -144,7 +139,6 @@ so_many n table to nodes count most new same made =
 pub if_made : (m : Making) (P Q R : ℕ → Type 0) → IfMade m P → IfMade m Q → ((nodes : ℕ) → P nodes → Q nodes → R nodes)
     → IfMade m R
 if_made (Made nodes) P Q R p q both = both nodes p q
-if_made (Copied nodes) P Q R p q both = both nodes p q
 if_made (NotMade read) P Q R p q both = tt
 
 -- so in each way the operator's table is made
@@ -174,3 +168,18 @@ way_made n op t u left right way to old mid late new first second pair one two i
         (complement_is n op is.same t u operand pair.first.form pair.second.form equal
         (subst (IsResult op is.same (canon_root n t) (canon_root n u)) chosen result))
         (source_has n operand left right t u source old pair one two source_is) done
+
+-- an operand that gives the operator's values is the file of its table
+pub copied_is : (op : Bin) (same : Bool) (left right source : Source) (o : Operand) → (IsTrue same → left.from ≡ right.from)
+    → IsResult op same left.trailer.root right.trailer.root (choices.Copy o) → source ≡ of_operand o left right → IsCopied op left right source
+copied_is op same left right source o same_is is source_is n t u world pair one two =
+    subst (λ x. IsSourceOf n x (nodes_of_both n t u) source world)
+    (sym (copy_is n op same t u o pair.first.form pair.second.form
+    (λ equal. one_table n left.from right.from t u world pair (same_is equal))
+    (subst (λ v. v) (λ i. IsResult op same (one.root_is i) (two.root_is i) (choices.Copy o)) is)))
+    (source_has n o left right t u source world pair one two source_is)
+
+-- and one of the two
+pub one_of : (o : Operand) (left right source : Source) → source ≡ of_operand o left right → (source ≡ left) ⊎ (source ≡ right)
+one_of Left left right source is = inl is
+one_of Right left right source is = inr is

@@ -1,5 +1,5 @@
 -- What an operator is given, and what is made of it.
-use Rattle.std.specs.Prelude.{◌≡◌, ◌≢◌, ◌⊎◌, ℕ, ◌+◌, ◌*◌, ◌^◌, ◌<◌, ◌≤◌, min, Bool, IsTrue, List, length}
+use Rattle.std.specs.Prelude.{◌≡◌, ◌≢◌, ◌⊎◌, ℕ, ◌+◌, ◌*◌, ◌≤◌, Bool, IsTrue, List, length}
 use Rattle.bool_tables.specs.declared.steps.Bin.{Bin}
 use Rattle.rec_words.specs.Words.{node_size, terminal}
 use Rattle.shelf_model.specs.declared.file_no.FileNo.{FileNo}
@@ -17,11 +17,11 @@ use Rattle.copied_diagrams.specs.declared.operand.Operand.TheVariants.{Left, Rig
 use Rattle.copied_diagrams.specs.declared.operand.Choice.{Choice}
 use Rattle.copied_diagrams.specs.declared.operand.Choice.TheVariants as choices
 use Rattle.copied_diagrams.specs.declared.pair.Making.{Making}
-use Rattle.copied_diagrams.specs.declared.pair.Making.TheVariants.{Made, Copied, NotMade}
+use Rattle.copied_diagrams.specs.declared.pair.Making.TheVariants.{Made, NotMade}
 use Rattle.copied_diagrams.specs.declared.source.Source.{Source}
 use Rattle.copied_diagrams.specs.declared.source.Way.{Way}
 use Rattle.copied_diagrams.specs.declared.source.Way.TheVariants.{Constant, Copy, Complement}
-use Rattle.copied_diagrams.specs.Operands.{IsResult}
+use Rattle.copied_diagrams.specs.Operands.{pair_table, IsResult}
 
 -- the file is the canonical one of the table, which has a form
 pub record IsFileOf (n : ℕ) (t : List Bool) (f : FileNo) (world : World) : Type 0 where
@@ -45,33 +45,19 @@ pub record IsMade (n : ℕ) (t : List Bool) (f : FileNo) (nodes most : ℕ) (wor
   pub nodes_are : nodes ≡ length (canon_nodes n t)
   pub few : nodes ≤ most
 
--- what holds of the number of nodes where a diagram was made, few or many, and of the number of those that were read
--- where none was
+-- what holds of the number of nodes where a diagram was made, and of the number of those that were read where none was
 abbrev pub IfMade : Making → (ℕ → Type 0) → Type 0
 IfMade (Made nodes) P = P nodes
-IfMade (Copied nodes) P = P nodes
 IfMade (NotMade read) P = Unit
-
-abbrev pub IfFew : Making → (ℕ → Type 0) → Type 0
-IfFew (Made nodes) P = P nodes
-IfFew (Copied nodes) P = Unit
-IfFew (NotMade read) P = Unit
-
-abbrev pub IfMany : Making → (ℕ → Type 0) → Type 0
-IfMany (Made nodes) P = Unit
-IfMany (Copied nodes) P = P nodes
-IfMany (NotMade read) P = Unit
 
 abbrev pub IfNotMade : Making → (ℕ → Type 0) → Type 0
 IfNotMade (Made nodes) P = Unit
-IfNotMade (Copied nodes) P = Unit
 IfNotMade (NotMade read) P = P read
 
 -- the calls of the folder: four for two trailers, and where a diagram was made two for each of its nodes and four more,
 -- else one for each node that was read
 abbrev pub made_calls : Making → ℕ
 made_calls (Made nodes) = 2 * nodes + 8
-made_calls (Copied nodes) = 2 * nodes + 8
 made_calls (NotMade read) = read + 4
 
 -- the file has no trailer for n variables where one had to stand
@@ -88,6 +74,18 @@ pub record IsTrailerOf (n : ℕ) (t : List Bool) (trailer : Trailer) : Type 0 wh
   pub root_is : trailer.root ≡ canon_root n t
   pub count_is : trailer.count ≡ length (canon_nodes n t)
 
+-- the source is the canonical file of the table, with its trailer, of no more nodes than so many
+pub record IsSourceOf (n : ℕ) (table : List Bool) (most : ℕ) (source : Source) (world : World) : Type 0 where
+  pub of : IsFileOf n table source.from world
+  pub trailer : IsTrailerOf n table source.trailer
+  pub few : source.trailer.count ≤ most
+
+-- of canonical files of any two tables, with their trailers, it is that of the operator's table
+abbrev pub IsCopied : Bin → Source → Source → Source → Type 0
+IsCopied op left right source = (n : ℕ) → (t u : List Bool) → (world : World)
+    → ArePair n left.from right.from t u world → IsTrailerOf n t left.trailer → IsTrailerOf n u right.trailer
+    → IsSourceOf n (pair_table n op t u) (nodes_of_both n t u) source world
+
 -- what that operand has, of two
 abbrev pub of_operand : {X : Type 0} → Operand → X → X → X
 of_operand Left x y = x
@@ -98,13 +96,6 @@ abbrev pub count_of : Way → ℕ
 count_of (Constant value) = 0
 count_of (Copy source) = source.trailer.count
 count_of (Complement source) = source.trailer.count
-
--- the nodes and one are fewer than a room of so many records allows, and than a checkpoint's interval has turns; those
--- of a copy may be more
-abbrev pub IsFew : ℕ → Way → Type 0
-IsFew room (Constant value) = 1 < min room 65536
-IsFew room (Copy source) = source.trailer.count < 2 ^ 40
-IsFew room (Complement source) = source.trailer.count + 1 < min room 65536
 
 -- how many records that takes: for a complement two for each node, and a window
 abbrev pub room_of : Way → ℕ

@@ -7,7 +7,7 @@ mod pair;
 mod source;
 mod trailers;
 
-pub use copy::copy_file;
+pub use copy::{copy_file, copy_piece, node_pieces};
 pub use operand::{Choice, Operand};
 pub use pair::{Look, Making, make_without_sweeps};
-pub use source::Source;
+pub use source::{Source, copied_operand};

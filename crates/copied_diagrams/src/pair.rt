@@ -1,5 +1,5 @@
 //! The diagram of an operator on two diagrams, where it needs no sweep.
-ghost use Rattle.std.specs.Prelude.{◌≡◌, ◌≢◌, ◌+◌, ◌*◌, ◌^◌, ◌<◌, ◌≤◌, min, Bool, List, IsTrue, OnOk, IfOk, IfErr, length};
+ghost use Rattle.std.specs.Prelude.{◌≡◌, ◌≢◌, ◌+◌, ◌*◌, ◌<◌, ◌≤◌, min, Bool, List, IsTrue, OnOk, IfOk, IfErr, length};
 ghost use Rattle.rec_words.specs.Words.{node_size, terminal};
 ghost use Rattle.canon_file.specs.Canon.{trailer_bytes};
 ghost use Rattle.shelf_model.specs.File.{firm_file};
@@ -10,23 +10,22 @@ ghost use Rattle.shelf_model.specs.Faults.{OnlyFolder, OnlyShelf};
 ghost use Rattle.block_stream.specs.Reads.{Looked};
 ghost use Rattle.complemented_diagrams.specs.Changes.{Changed};
 ghost use Rattle.copied_diagrams.specs.Operands.{pair_table};
-ghost use Rattle.copied_diagrams.specs.Pairs.{ArePair, IsMade, IsPairDamage, IsTrailerOf, nodes_of_both, IfMade, IfFew, IfMany, IfNotMade, made_calls, count_of, IsFew, room_of, HasVariables, IsApart, HasMade};
+ghost use Rattle.copied_diagrams.specs.Pairs.{ArePair, IsMade, IsPairDamage, IsTrailerOf, nodes_of_both, IfMade, IfNotMade, made_calls, count_of, room_of, HasVariables, IsApart, HasMade};
 
-use crate::copy::copy_file;
-use crate::source::{Source, Way, is_small, way_of};
+use crate::copy::{copy_file, node_pieces};
+use crate::source::{Source, Way, way_of};
 use crate::trailers::read_trailer;
 use bool_tables::Bin;
 use complemented_diagrams::complement_file;
 use node_file::NodeWriter;
-use rec_words::{NODE_SIZE, Ptr, Rec};
-use shelf_model::{Failed, FileNo, PIECE, Shelf, StreamFault};
+use rec_words::{Ptr, Rec};
+use shelf_model::{Failed, FileNo, Shelf, StreamFault};
 
-/// What came of a look at two operands: a node file of so many nodes was made, one of more nodes was copied, or none
-/// was made, after so many nodes of an operand were read.
+/// What came of a look at two operands: a node file of so many nodes was made, or none was made, after so many nodes of
+/// an operand were read.
 #[derive(Clone, Copy, Debug, PartialEq, Eq)]
 pub enum Making {
     Made(u64),
-    Copied(u64),
     NotMade(u64),
 }
 
@@ -42,10 +41,9 @@ pub struct Look {
 /// table is a constant, that of one of them or its complement, and answers how many nodes it has. Both trailers are
 /// answered with it.
 ///
-/// That is so where the other diagram is a constant or the same, or the operator hangs on one operand at most. Where it
-/// has as many nodes as the room has records, or as a checkpoint's interval has turns, a copy is told apart, and a
-/// complement is left to a sweep. So is a complement where the room hasn't two records for each node and eight more, or
-/// the operand's nodes aren't in order.
+/// That is so where the other diagram is a constant or the same, or the operator hangs on one operand at most. One with
+/// as many nodes as the room has records, or as a checkpoint's interval has turns, is left to a sweep. So is a
+/// complement where the room hasn't two records for each node and eight more, or the operand's nodes aren't in order.
 pub fn make_without_sweeps<S: Shelf>(
     op: Bin,
     n: u32,
@@ -78,9 +76,8 @@ pub fn make_without_sweeps<S: Shelf>(
 
     // whatever the files hold
     ensures operands { IfOk result (λ look. (look.left.from ≡ left) × (look.right.from ≡ right)) }
-    ensures few { IfOk result (λ look. IfFew look.making (λ nodes.
+    ensures few { IfOk result (λ look. IfMade look.making (λ nodes.
         nodes + 1 < min (length room.entry.now) 65536)) }
-    ensures many { IfOk result (λ look. IfMany look.making (λ nodes. nodes < 2 ^ 40)) }
     ensures calls { IfOk result (λ look. IsTrue (S.tells shelf.new) →
         (S.world shelf.new).clock ≤ (S.world shelf.old).clock + made_calls look.making) }
     ensures not_made { IfOk result (λ look. IfNotMade look.making (λ read. Told S.tells shelf.old shelf.new
@@ -126,13 +123,10 @@ fn make_by<S: Shelf>(
 ) -> Result<Making, StreamFault>
     requires variables { n ≤ 65535 }
     requires room { room_of way ≤ length room.old }
-    requires few { IsFew (length room.old) way }
+    requires few { count_of way < 65536 }
     requires of { HasVariables n way }
     requires apart { IsApart to way }
     ensures nodes { IfOk result (λ making. IfMade making (λ nodes. nodes ≡ count_of way)) }
-    ensures few { IfOk result (λ making. IfFew making (λ nodes.
-        nodes + 1 < min (length room.entry.now) 65536)) }
-    ensures many { IfOk result (λ making. IfMany making (λ nodes. nodes < 2 ^ 40)) }
     ensures made { IfOk result (λ making. IfMade making (λ nodes. IsTrue (S.tells shelf.new) →
         HasMade n way to (S.world shelf.old) (S.world shelf.new))) }
     ensures read { IfOk result (λ making. IfNotMade making (λ read. read ≡ count_of way)) }
@@ -150,7 +144,7 @@ fn make_by<S: Shelf>(
         }
         Way::Copy(source) => {
             copy_nodes(source.from, to, source.trailer.count, shelf)?;
-            Ok(copied(source.trailer.count, room.len() as u64))
+            Ok(Making::Made(source.trailer.count))
         }
         Way::Complement(source) => {
             if complement_file(source.from, to, source.trailer, room, shelf)? {
@@ -159,21 +153,6 @@ fn make_by<S: Shelf>(
                 Ok(Making::NotMade(source.trailer.count))
             }
         }
-    }
-}
-
-// That so many nodes were copied, beside a room of so many records.
-fn copied(count: u64, room: u64) -> Making
-    requires many { count < 2 ^ 40 }
-    ensures nodes { IfMade result (λ nodes. nodes ≡ count) }
-    ensures few { IfFew result (λ nodes. nodes + 1 < min room 65536) }
-    ensures many { IfMany result (λ nodes. nodes < 2 ^ 40) }
-    ensures not_made { IfNotMade result (λ read. ⊥) }
-{
-    if is_small(count, room) {
-        Making::Made(count)
-    } else {
-        Making::Copied(count)
     }
 }
 
@@ -198,10 +177,10 @@ fn make_constant<S: Shelf>(
     writer.finish(Ptr::terminal(value), shelf)
 }
 
-// Copies the file of a diagram of so many nodes, piece by piece: its place is the number of pieces that stand.
+// Copies the file of a diagram of so many nodes.
 fn copy_nodes<S: Shelf>(from: FileNo, to: FileNo, count: u64, shelf: &mut S) -> Result<(), Failed>
     requires apart { from ≢ to }
-    requires few { count < 2 ^ 40 }
+    requires few { count < 65536 }
     ensures made { OnOk result (IsTrue (S.tells shelf.new) →
         length (file (S.world shelf.old) from).bytes ≡ (count + 1) * node_size →
         file (S.world shelf.new) to ≡ firm_file (file (S.world shelf.old) from).bytes) }
@@ -209,7 +188,5 @@ fn copy_nodes<S: Shelf>(from: FileNo, to: FileNo, count: u64, shelf: &mut S) -> 
         (Changed (2 * count + 4) to (S.world shelf.old) (S.world shelf.new)) }
     ensures faults { OnlyFolder (S.faults shelf.old) (S.faults shelf.new) result }
 {
-    let piece = PIECE as u64;
-    let pieces = ((count + 1) * NODE_SIZE + piece - 1) / piece;
-    copy_file(from, to, pieces, shelf)
+    copy_file(from, to, node_pieces(count), shelf)
 }

@@ -1,7 +1,7 @@
 //! How a diagram is made without a sweep.
-ghost use Rattle.std.specs.Prelude.{◌≡◌, ◌+◌, ◌*◌, ◌^◌, ◌<◌, ◌≤◌, min, Bool, IsTrue, IfSome};
+ghost use Rattle.std.specs.Prelude.{◌≡◌, ◌⊎◌, ◌+◌, ◌*◌, ◌^◌, ◌<◌, ◌≤◌, min, Bool, IsTrue, IfSome};
 ghost use Rattle.copied_diagrams.specs.Operands.{IsResult};
-ghost use Rattle.copied_diagrams.specs.Pairs.{IsWay, IsWayOf, IsFew, room_of, of_operand};
+ghost use Rattle.copied_diagrams.specs.Pairs.{IsCopied, IsWay, IsWayOf, count_of, room_of, of_operand};
 
 use crate::operand::{Choice, Known, Operand, choice_of};
 use bool_tables::Bin;
@@ -32,17 +32,42 @@ pub(crate) enum Way {
     Complement(Source),
 }
 
-/// The way to make the diagram of an operator's result, where the trailers of both operands show one, and it is a copy
-/// or has fewer nodes than a room of so many records allows.
+/// The way to make the diagram of an operator's result, where the trailers of both operands show one, and it has
+/// fewer nodes than a room of so many records allows.
 pub(crate) fn way_of(op: Bin, left: &Source, right: &Source, room: u64) -> Option<Way>
     requires room { 8 ≤ room }
     ensures way { IfSome result (IsWay op left.now right.now) }
-    ensures few { IfSome result (IsFew room) }
+    ensures few { IfSome result (λ way. count_of way + 1 < min room 65536) }
     ensures fits { IfSome result (λ way. room_of way ≤ room) }
 {
     match choice_between(op, left, right) {
         Some(choice) => way_by(choice, *left, *right, room),
         None => None,
+    }
+}
+
+/// The operand whose table is that of an operator's result, where the trailers of both operands show it, and its file
+/// is within the longest.
+pub fn copied_operand(op: Bin, left: &Source, right: &Source) -> Option<Source>
+    ensures copied { IfSome result (IsCopied op left.now right.now) }
+    ensures operand { IfSome result (λ source. (source ≡ left.now) ⊎ (source ≡ right.now)) }
+    ensures few { IfSome result (λ source. source.trailer.count < 2 ^ 40) }
+{
+    match choice_between(op, left, right) {
+        Some(Choice::Copy(operand)) => within_most(source_of(operand, *left, *right)),
+        _ => None,
+    }
+}
+
+// A file, where it is within the longest.
+fn within_most(source: Source) -> Option<Source>
+    ensures same { IfSome result (λ within. within ≡ source) }
+    ensures few { IfSome result (λ within. within.trailer.count < 2 ^ 40) }
+{
+    if source.trailer.count < MOST {
+        Some(source)
+    } else {
+        None
     }
 }
 
@@ -75,12 +100,12 @@ fn known_of(left: &Source, right: &Source) -> Known
 fn way_by(choice: Choice, left: Source, right: Source, room: u64) -> Option<Way>
     requires room { 8 ≤ room }
     ensures way { IfSome result (IsWayOf choice left right) }
-    ensures few { IfSome result (IsFew room) }
+    ensures few { IfSome result (λ way. count_of way + 1 < min room 65536) }
     ensures fits { IfSome result (λ way. room_of way ≤ room) }
 {
     match choice {
         Choice::Constant(value) => Some(Way::Constant(value)),
-        Choice::Copy(operand) => copy_of(source_of(operand, left, right)),
+        Choice::Copy(operand) => copy_of(source_of(operand, left, right), room),
         Choice::Complement(operand) => complement_of(source_of(operand, left, right), room),
     }
 }
@@ -95,12 +120,12 @@ fn source_of(operand: Operand, left: Source, right: Source) -> Source
     }
 }
 
-// A copy, where its file is within the longest.
-fn copy_of(source: Source) -> Option<Way>
+// A copy, where there are few nodes.
+fn copy_of(source: Source, room: u64) -> Option<Way>
     ensures copy { IfSome result (λ way. way ≡ Way.Copy source) }
-    ensures few { IfSome result (λ way. source.trailer.count < 2 ^ 40) }
+    ensures few { IfSome result (λ way. source.trailer.count + 1 < min room 65536) }
 {
-    if source.trailer.count < MOST {
+    if is_small(source.trailer.count, room) {
         Some(Way::Copy(source))
     } else {
         None
@@ -122,7 +147,7 @@ fn complement_of(source: Source, room: u64) -> Option<Way>
 }
 
 // Whether a turn for each of so many nodes and one more are below a checkpoint's interval and the records of the room.
-pub(crate) fn is_small(count: u64, room: u64) -> bool
+fn is_small(count: u64, room: u64) -> bool
     ensures { IsTrue result → count + 1 < min room 65536 }
 {
     count < INTERVAL.min(room).saturating_sub(1)

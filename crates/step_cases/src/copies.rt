@@ -245,23 +245,32 @@ fn a_copy_makes_fewer_calls_than_sweeps(rt: HostRuntime) -> Result<(), Fail> {
     Ok(())
 }
 
-// A copy of more nodes than a checkpoint's interval has turns in the least room takes no other turns and calls than a
-// small one.
+// A copy of more nodes than a checkpoint's interval has turns in the least room takes a turn for each piece and one
+// more, no part, and as many calls as a small one.
 fn copies_many_nodes(rt: HostRuntime) -> Result<bool, Fail> {
     let alloc = rt.alloc();
     let mut room = vec![in alloc; EMPTY; LEAST_ROOM]?;
     let f = Random::new(7).table(alloc, MANY, ALL)?;
     let f = f.as_slice();
     let mut bench = bench_of(alloc, MANY, [f, &[], &[]])?;
-    let calls = copy_calls(&bench);
-    let both = StepOperation::Operator(operator(0b1000));
     let are_many = bench.file(FIRST).len() / 24 > LEAST_ROOM;
-    let room = room.as_mut_slice();
-    Ok(are_many && is_unswept(alloc, both, MANY, ONE, f, calls, room, &mut bench)?)
+    let pieces = (bench.file(FIRST).len() as u64).div_ceil(2048);
+    let calls = copy_calls(&bench);
+    let before = bench.clock();
+    let both = StepOperation::Operator(operator(0b1000));
+    let made = make_diagram(both, MANY, ONE, NUMBER, room.as_mut_slice(), &mut bench);
+    let made = made.ok().ok_or("copy")?;
+    Ok(
+        are_many
+            && made.turns == pieces.wrapping_add(1)
+            && made.next == 3
+            && bench.clock().wrapping_sub(before) == calls
+            && is_made(alloc, MANY, made, f, &bench)?,
+    )
 }
 
 #[test]
-fn a_copy_of_many_nodes_needs_no_sweep(rt: HostRuntime) -> Result<(), Fail> {
+fn a_copy_of_many_nodes_takes_a_turn_for_each_piece(rt: HostRuntime) -> Result<(), Fail> {
     let copies = copies_many_nodes(rt)?;
     assert!(rt; copies);
     Ok(())

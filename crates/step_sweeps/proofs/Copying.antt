@@ -11,7 +11,7 @@ use Rattle.shelf_model.specs.World.{World, now, file}
 use Rattle.node_file.specs.Nodes.{HasTrailer}
 use Rattle.node_reading.specs.Reading.{IsDamagedNode}
 use Rattle.copied_diagrams.specs.declared.pair.Making.{Making}
-use Rattle.copied_diagrams.specs.declared.pair.Making.TheVariants.{Made, Copied}
+use Rattle.copied_diagrams.specs.declared.pair.Making.TheVariants.{Made}
 use Rattle.copied_diagrams.specs.Pairs.{ArePair, IsFileOf, IsMade, IfMade, nodes_of_both}
 use Rattle.top_down_sweep.specs.declared.beginning.OperandFiles.{OperandFiles}
 use Rattle.top_down_sweep.specs.Damage.{IsAbsent}
@@ -85,6 +85,3 @@ fault_before n operands number old mid RunsSpent earlier ran is = tt
 -- what holds of the nodes of a diagram that was made
 pub of_made : (m : Making) (nodes : ℕ) (P : ℕ → Type 0) → m ≡ Made nodes → IfMade m P → P nodes
 of_made m nodes P is held = subst (λ q. IfMade q P) is held
-
-pub of_copied : (m : Making) (nodes : ℕ) (P : ℕ → Type 0) → m ≡ Copied nodes → IfMade m P → P nodes
-of_copied m nodes P is held = subst (λ q. IfMade q P) is held

@@ -11,3 +11,4 @@ mod Numbers
 mod Copying
 mod RoomOrSweeps
 mod FewArcs
+mod Copies

@@ -32,8 +32,9 @@ pub struct MadeDiagram {
 /// in parts 3 and 4 of the step, and a reduction makes part 0 of them. It begins anew, whatever these files hold.
 ///
 /// An operator whose table is a constant, that of one operand or its complement, as the operands' trailers show, makes
-/// part 0 the constant's file, a copy of the operand's, or the file of the complement where that has fewer nodes than a
-/// checkpoint's interval has turns and the room holds what a complement takes.
+/// part 0 the constant's file, a copy of the operand's or the file of the complement, where that has fewer nodes than a
+/// checkpoint's interval has turns and the room holds what a complement takes. A larger copy is made in turns, of which
+/// each copies a piece.
 ///
 /// Any other operator's diagram is made in the room, with no arcs, where the room holds the nodes of both operands and
 /// the pairs of pointers that are met, and where these are fewer than a checkpoint's interval has turns, and at most
@@ -86,7 +87,6 @@ pub fn make_diagram<S: Shelf>(
     let look = make_without_sweeps(op, n, operands.first, operands.second, out, room, shelf)?;
     let read = match look.making {
         Making::Made(nodes) => return Ok(unswept(nodes)),
-        Making::Copied(nodes) => return Ok(unswept(nodes)),
         Making::NotMade(read) => read,
     };
     let made = join_or_sweep(op, n, look.left, look.right, operands, number, room, shelf)?;
@@ -95,7 +95,7 @@ pub fn make_diagram<S: Shelf>(
 
 /// What was made without a sweep, whose turns are counted as one for each node and one.
 fn unswept(nodes: u64) -> MadeDiagram
-    requires few { nodes < 2 ^ 40 }
+    requires few { nodes < 65536 }
     ensures { result ≡ record { nodes = nodes; turns = nodes + 1; next = 3 } }
 {
     MadeDiagram {

@@ -1,4 +1,5 @@
-//! An operator's diagram, made in the room where it fits there, and else by sweeps.
+//! An operator's diagram: a copy of an operand's where its table is that operand's, else made in the room where it
+//! fits there, and else by sweeps.
 ghost use Rattle.std.specs.Prelude.{◌≡◌, min, ◌+◌, ◌-◌, ◌*◌, ◌^◌, ◌<◌, ◌≤◌, IsTrue, IsErrOf, IfOk, IfErr, length};
 ghost use Rattle.shelf_model.specs.World.{now};
 ghost use Rattle.shelf_model.specs.Calls.{Told};
@@ -10,18 +11,20 @@ ghost use Rattle.step_sweeps.specs.Made.{OnlyStepFiles, IsReduced, IsCounted};
 ghost use Rattle.step_sweeps.specs.Damage.{IsArcsFault};
 
 use crate::arcs::FIRST_PART;
+use crate::copy::copy_diagram;
 use crate::swept::sweep_diagram;
 use crate::{MadeDiagram, StepOperation};
 use bool_tables::Bin;
-use copied_diagrams::Source;
+use copied_diagrams::{Source, copied_operand};
 use rec_words::Rec;
 use room_products::join_in_room;
 use shelf_model::{FileNo, Shelf, SortFault};
 use top_down_sweep::OperandFiles;
 
-/// Makes the node file of an operator on the first two operands, which have these trailers: in the room, where it
-/// holds what that takes, and else by sweeps. Then the look at the trailers and each node of both, which may have been
-/// read in vain, is a turn. Of the step's work at least a turn for each node of the operands is left.
+/// Makes the node file of an operator on the first two operands, which have these trailers: a copy, piece by piece,
+/// where these show that its table is that of one of them; else in the room, where it holds what that takes; and else
+/// by sweeps. Then the look at the trailers and each node of both, which may have been read in vain, is a turn. Of the
+/// step's work at least a turn for each node of the operands is left.
 pub(crate) fn join_or_sweep<S: Shelf>(
     op: Bin,
     n: u32,
@@ -63,6 +66,9 @@ pub(crate) fn join_or_sweep<S: Shelf>(
         (S.world shelf.new).clock ≤ (S.world shelf.old).clock + (224 * m.turns + 7)) }
     ensures faults { OnlySortShelf (S.faults shelf.old) (S.faults shelf.new) result }
 {
+    if let Some(source) = copied_operand(op, &left, &right) {
+        return copy_diagram(source, number, shelf);
+    }
     let out = FileNo {
         step: number,
         part: 0,

@@ -4,6 +4,7 @@
 
 mod answers;
 mod arcs;
+mod copy;
 mod diagram;
 mod implication;
 mod in_room;

@@ -1,7 +1,7 @@
 use Rattle.std.proofs.Common.{subst}
 use Rattle.run_tiers.proofs.FaultLaws.{on_fault}
 use Rattle.step_sweeps.specs.Given.{AreGiven}
-use Rattle.step_sweeps.proofs.Copying.{copy_is, pair_of, of_made, of_copied, fault_before}
+use Rattle.step_sweeps.proofs.Copying.{copy_is, pair_of, of_made, fault_before}
 use Rattle.step_sweeps.proofs.RoomOrSweeps.{of_not_made, still_given, looked_is}
 use Rattle.step_sweeps.proofs.diagram.make_diagram.Goals as goal
 
@@ -10,12 +10,6 @@ pub returns-in-Made-clause-made : goal.returns-in-Made-clause-made
 returns-in-Made-clause-made g c told tables given =
     copy_is c.args.operation c.in-Operator.op c.args.n c.args.number c.args.operands tables c.in-Made.nodes c.unswept.result _ _
     c.in-Operator.is c.unswept.ensures (of_made _ c.in-Made.nodes _ c.in-Made.is c.in_ok-look.ensures.made told) given
-
-pub returns-in-Copied-clause-made : goal.returns-in-Copied-clause-made
-returns-in-Copied-clause-made g c told tables given =
-    copy_is c.args.operation c.in-Operator.op c.args.n c.args.number c.args.operands tables c.in-Copied.nodes
-    c.unswept-in-Copied.result _ _ c.in-Operator.is c.unswept-in-Copied.ensures
-    (of_copied _ c.in-Copied.nodes _ c.in-Copied.is c.in_ok-look.ensures.made told) given
 
 -- damage that was found after the look
 pub returns-in_err-made-clause-damaged : goal.returns-in_err-made-clause-damaged

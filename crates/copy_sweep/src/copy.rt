@@ -1,0 +1,109 @@
+use copied_diagrams::copy_piece;
+use shelf_model::{FileNo, PIECE, Shelf, SortFault};
+use sweep_core::{Sweep, Turn};
+
+/// The copy of a file: which file is read, which one is made, and how many pieces of 2,048 bytes are copied. Where the
+/// file that is read has no more, all of it is.
+#[derive(Clone, Copy, Debug, PartialEq, Eq)]
+pub struct CopyTask {
+    pub from: FileNo,
+    pub to: FileNo,
+    pub pieces: u64,
+}
+
+/// A copy under way. Its place is how many turns were made: one for each piece that stands, and one more once all of
+/// them are synced.
+///
+/// After a refusal the sweep isn't used again.
+#[derive(Clone, Copy, Debug, PartialEq, Eq)]
+pub struct CopySweep {
+    pub(crate) task: CopyTask,
+    pub(crate) turns: u64,
+}
+
+impl CopySweep {
+    ghost use Rattle.std.specs.Prelude.{◌≡◌, ◌≢◌, ◌*◌, ◌<◌, ◌≤◌, IsTrue, IfOk, IfErr};
+    ghost use Rattle.shelf_model.specs.Calls.{Told, longest, most_piece};
+    ghost use Rattle.block_stream.specs.Writes.{Cut};
+    ghost use Rattle.run_tiers.specs.Faults.{OnlySortShelf};
+    ghost use Rattle.sweep_core.specs.Sweeps.{StaysEnded};
+    ghost use Rattle.copy_sweep.specs.Copies.{IsReady, IsInStep, IsFailure, fuel_of, Turned};
+
+    /// Begins a copy: the file that is made is cut to nothing.
+    pub fn start<S: Shelf>(task: CopyTask, shelf: &mut S) -> Result<CopySweep, SortFault>
+        requires apart { task.from ≢ task.to }
+        requires few { task.pieces * most_piece ≤ longest }
+        ensures begun { IfOk result (λ sweep. sweep ≡ record { task = task; turns = 0 }) }
+        ensures ready { IfOk result IsReady }
+        ensures in_step { IfOk result (λ sweep. IsTrue (S.tells shelf.new) → IsInStep sweep (S.world shelf.new)) }
+        ensures cause { IfErr result IsFailure }
+        ensures content { Told S.tells shelf.old shelf.new (Cut 1 task.to 0 (S.world shelf.old) (S.world shelf.new)) }
+        ensures faults { OnlySortShelf (S.faults shelf.old) (S.faults shelf.new) result }
+    {
+        shelf.cut(task.to, 0)?;
+        Ok(CopySweep { task, turns: 0 })
+    }
+
+    // Copies the next piece.
+    fn copy_one<S: Shelf>(&mut self, shelf: &mut S) -> Result<Turn, SortFault>
+        requires ready { IsReady self.old }
+        requires in_step { IsTrue (S.tells shelf.old) → IsInStep self.old (S.world shelf.old) }
+        requires more { self.old.turns < self.old.task.pieces }
+        ensures { Turned S.tells S.world S.faults shelf.old shelf.new self.old self.new result }
+    {
+        let at = self.turns * PIECE as u64;
+        copy_piece(self.task.from, self.task.to, at, shelf)?;
+        self.turns += 1;
+        Ok(Turn::More)
+    }
+
+    // Syncs what was copied, if that isn't done.
+    fn finish<S: Shelf>(&mut self, shelf: &mut S) -> Result<Turn, SortFault>
+        requires ready { IsReady self.old }
+        requires in_step { IsTrue (S.tells shelf.old) → IsInStep self.old (S.world shelf.old) }
+        requires copied { self.old.task.pieces ≤ self.old.turns }
+        ensures turned { Turned S.tells S.world S.faults shelf.old shelf.new self.old self.new result }
+        ensures ended { fuel_of self.old ≡ 0 → StaysEnded shelf.old shelf.new self.old self.new result }
+    {
+        if self.turns > self.task.pieces {
+            return Ok(Turn::Ended);
+        }
+        shelf.sync(self.task.to)?;
+        self.turns += 1;
+        Ok(Turn::Ended)
+    }
+}
+
+impl<'r> Sweep<'r> for CopySweep {
+    ghost use Rattle.std.specs.Prelude.{ℕ, List};
+    ghost use Rattle.copy_sweep.specs.declared.copy.CopyTask.{CopyTask};
+    ghost use Rattle.copy_sweep.specs.Copies.{accounts, fuel_of, left_of, Copies, IsReady, IsInStep, IsFailure};
+
+    ghost Job = { List ℕ };
+
+    ghost remains = { Copies };
+
+    ghost fuel = { fuel_of };
+
+    ghost left = { λ sweep world bytes. left_of sweep };
+
+    ghost accounts = { accounts };
+
+    ghost damaged = { λ sweep world e. IsFailure e };
+
+    ghost Task = { CopyTask };
+
+    ghost task = { λ sweep. sweep.task };
+
+    ghost ready = { IsReady };
+
+    ghost in_step = { IsInStep };
+
+    fn turn<S: Shelf>(&mut self, shelf: &mut S) -> Result<Turn, SortFault> {
+        if self.turns < self.task.pieces {
+            self.copy_one(shelf)
+        } else {
+            self.finish(shelf)
+        }
+    }
+}

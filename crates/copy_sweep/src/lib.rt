@@ -1,0 +1,6 @@
+//! The copy of a file as a sweep, of which each turn puts one piece behind those that stand.
+#![tactic(auto)]
+
+mod copy;
+
+pub use copy::{CopySweep, CopyTask};
