@@ -1,10 +1,8 @@
 -- The file that is made when all levels are done.
-use Rattle.std.specs.Prelude.{◌≡◌, ℕ, ◌-◌, ◌^◌, ◌≤◌, Bool, List, [], ◌∷◌, ◌++◌, length}
-use Rattle.std.proofs.Common.{◌∙◌, refl, sym, ap, arith}
-use Rattle.std.specs.Int.{w64, to_be_bytes}
+use Rattle.std.specs.Prelude.{◌≡◌, ℕ, ◌-◌, ◌^◌, ◌≤◌, Bool, List, ◌++◌, length}
+use Rattle.std.proofs.Common.{◌∙◌, sym, ap, arith}
 use Rattle.std.proofs.lemmas.List.{length-map}
 use Rattle.rec_words.specs.Records.{node_words}
-use Rattle.rec_words.specs.declared.node.Node.{Node}
 use Rattle.block_stream.specs.Items.{item_record}
 use Rattle.block_stream.specs.Records.{records_bytes}
 use Rattle.canon_file.specs.Canon.{canon_nodes, canon_root, canon_bytes, node_bytes, trailer_bytes}
@@ -14,14 +12,8 @@ use Rattle.arc_diagrams.specs.Laws.{IsDiagramOf}
 use Rattle.arc_diagrams.specs.Reduction.{final_pointer, final_nodes}
 use Rattle.arc_diagrams.proofs.ReduceLaws.{reduces}
 use Rattle.complemented_diagrams.specs.Records.{node_records}
+use Rattle.complemented_diagrams.proofs.CanonicalFile.{bytes_of_nodes}
 use Rattle.room_reduction.specs.Levels.{nodes_down_to}
-
--- the bytes of the records of nodes are those of the nodes
-bytes_of_nodes : (xs : List Node) → records_bytes 3 (node_records xs) ≡ node_bytes xs
-bytes_of_nodes [] = refl
-bytes_of_nodes (x ∷ xs) =
-    ap (λ bytes. to_be_bytes w64 x.uid ++ (to_be_bytes w64 x.low ++ (to_be_bytes w64 x.high ++ bytes)))
-    (bytes_of_nodes xs)
 
 module _ (n root : ℕ) (arcs : List Arc) (t : List Bool) (variables : n ≤ 65535) (few : length arcs ≤ 2 ^ 47)
     (stands : IsDiagramOf n root arcs t) where
