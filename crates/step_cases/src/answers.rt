@@ -2,9 +2,9 @@
 ghost use Rattle.std.specs.Prelude.{◌+◌, ◌<◌, ◌≤◌, length};
 ghost use Rattle.step_cases.specs.declared.steps.TheConstants.{LEAST_ROOM};
 
-use crate::random::Random;
-use crate::steps::{EMPTY, FIRST, LARGE_ROOM, LEAST_ROOM, NUMBER, bench_of, file};
-use crate::tables::product_of;
+use crate::steps::{EMPTY, LARGE_ROOM, LEAST_ROOM, NUMBER, file};
+use crate::triples::triple;
+use case_tables::{FIRST, bench_of, product_of};
 use rec_words::Rec;
 use shelf_memory::Bench;
 use std::alloc::Global;
@@ -42,7 +42,7 @@ fn compares_tables_of(alloc: Global, seed: u64, room: &mut [Rec]) -> Result<bool
     requires enough { LEAST_ROOM ≤ length room.old }
 {
     let n = (seed % 9) as u32;
-    let (first, second, third) = Random::triple(alloc, n, seed)?;
+    let (first, second, third) = triple(alloc, n, seed)?;
     let tables = [first.as_slice(), second.as_slice(), third.as_slice()];
     let mut bench = bench_of(alloc, n, tables)?;
     Ok(compares(n, tables, room, &mut bench))
@@ -107,7 +107,7 @@ fn implies_tables_of(alloc: Global, seed: u64, room: &mut [Rec]) -> Result<bool,
     requires enough { LEAST_ROOM ≤ length room.old }
 {
     let n = (seed % 9) as u32;
-    let (first, second, third) = Random::triple(alloc, n, seed)?;
+    let (first, second, third) = triple(alloc, n, seed)?;
     let both = product_of(alloc, 0b1000, first.as_slice(), second.as_slice())?;
     let either = product_of(alloc, 0b1110, first.as_slice(), second.as_slice())?;
     let apart = [first.as_slice(), second.as_slice(), third.as_slice()];
@@ -181,7 +181,7 @@ fn evaluates_table_of(alloc: Global, seed: u64, room: &mut [Rec]) -> Result<bool
     requires enough { LEAST_ROOM ≤ length room.old }
 {
     let n = (seed % 9) as u32;
-    let (first, second, third) = Random::triple(alloc, n, seed)?;
+    let (first, second, third) = triple(alloc, n, seed)?;
     let tables = [first.as_slice(), second.as_slice(), third.as_slice()];
     let mut bench = bench_of(alloc, n, tables)?;
     Ok(evaluates(n, tables[0], room, &mut bench))

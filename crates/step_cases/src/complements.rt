@@ -5,11 +5,8 @@ ghost use Rattle.step_cases.specs.declared.steps.TheConstants.{LARGE_ROOM, LEAST
 
 use crate::copies::{complement_calls, is_unswept};
 use crate::failing::NEITHER;
-use crate::random::Random;
-use crate::steps::{
-    EMPTY, FIRST, LARGE_ROOM, LEAST_ROOM, NUMBER, ONE, bench_of, is_made, put_bytes,
-};
-use crate::tables::{operator, product_of};
+use crate::steps::{EMPTY, LARGE_ROOM, LEAST_ROOM, NUMBER, ONE, is_made};
+use case_tables::{FIRST, Random, bench_of, operator, product_of, put_bytes};
 use rec_words::{Ptr, Rec};
 use shelf_memory::Bench;
 use shelf_model::SortFault;

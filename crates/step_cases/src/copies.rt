@@ -5,9 +5,8 @@ ghost use Rattle.step_sweeps.specs.Given.{AreEarlier};
 ghost use Rattle.step_sweeps.specs.Operations.{IsWithin};
 ghost use Rattle.step_cases.specs.declared.steps.TheConstants.{NUMBER, LEAST_ROOM};
 
-use crate::random::Random;
-use crate::steps::{EMPTY, FIRST, LEAST_ROOM, NUMBER, ONE, SECOND, TWO, bench_of, is_made};
-use crate::tables::{operator, product_of};
+use crate::steps::{EMPTY, LEAST_ROOM, NUMBER, ONE, TWO, is_made};
+use case_tables::{FIRST, Random, SECOND, bench_of, operator, product_of};
 use rec_words::Rec;
 use shelf_memory::Bench;
 use std::alloc::{AllocError, Global};

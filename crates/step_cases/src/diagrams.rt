@@ -2,12 +2,10 @@
 ghost use Rattle.std.specs.Prelude.{◌≤◌, length};
 ghost use Rattle.step_cases.specs.declared.steps.TheConstants.{LEAST_ROOM};
 
-use crate::random::Random;
-use crate::steps::{
-    EMPTY, LARGE_ROOM, LEAST_ROOM, NUMBER, ONE, THREE, TWO, bench_of, is_made, makes,
-};
-use crate::tables::{choice_of, operator, product_of, quantified_of, restricted_of};
+use crate::steps::{EMPTY, LARGE_ROOM, LEAST_ROOM, NUMBER, ONE, THREE, TWO, is_made, makes};
+use crate::triples::triple;
 use bool_tables::Quant;
+use case_tables::{bench_of, choice_of, operator, product_of, quantified_of, restricted_of};
 use rec_words::Rec;
 use shelf_memory::Bench;
 use std::alloc::Global;
@@ -129,7 +127,7 @@ fn make_files_of(alloc: Global, tried: Tried, seed: u64, room: &mut [Rec]) -> Re
     requires enough { LEAST_ROOM ≤ length room.old }
 {
     let n = (seed % 9) as u32;
-    let (first, second, third) = Random::triple(alloc, n, seed)?;
+    let (first, second, third) = triple(alloc, n, seed)?;
     let tables = [first.as_slice(), second.as_slice(), third.as_slice()];
     let mut bench = bench_of(alloc, n, tables)?;
     match tried {
@@ -193,7 +191,7 @@ const DIFFER: u32 = 0b0110;
 // With the least room the exclusive or of two random functions takes parts for runs, and makes the canonical file.
 fn makes_with_runs(rt: HostRuntime) -> Result<bool, Fail> {
     let alloc = rt.alloc();
-    let (first, second, third) = Random::triple(alloc, MANY, 0)?;
+    let (first, second, third) = triple(alloc, MANY, 0)?;
     let wanted = product_of(alloc, DIFFER, first.as_slice(), second.as_slice())?;
     let tables = [first.as_slice(), second.as_slice(), third.as_slice()];
     let mut bench = bench_of(alloc, MANY, tables)?;

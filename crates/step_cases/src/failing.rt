@@ -5,12 +5,12 @@ ghost use Rattle.step_sweeps.specs.Operations.{IsWithin};
 ghost use Rattle.step_cases.specs.declared.failing.TheConstants.{FEWEST, MOST};
 ghost use Rattle.step_cases.specs.declared.steps.TheConstants.{NUMBER, LEAST_ROOM};
 
-use crate::random::Random;
-use crate::steps::{
-    EMPTY, FIRST, LEAST_ROOM, NUMBER, ONE, SECOND, THREE, TWO, bench_of, is_made, makes,
-};
-use crate::tables::{choice_of, operator, product_of, quantified_of, restricted_of};
+use crate::steps::{EMPTY, LEAST_ROOM, NUMBER, ONE, THREE, TWO, is_made, makes};
+use crate::triples::triple;
 use bool_tables::Quant;
+use case_tables::{
+    FIRST, SECOND, bench_of, choice_of, operator, product_of, quantified_of, restricted_of,
+};
 use rec_words::Rec;
 use shelf_memory::Bench;
 use shelf_model::SortFault;
@@ -118,7 +118,7 @@ fn makes_again(alloc: Global, case: u32, n: u32, room: &mut [Rec]) -> Result<boo
     requires few { n ≤ MOST }
     requires enough { LEAST_ROOM ≤ length room.old }
 {
-    let (first, second, third) = Random::triple(alloc, n, 1)?;
+    let (first, second, third) = triple(alloc, n, 1)?;
     let tables = [first.as_slice(), second.as_slice(), third.as_slice()];
     for call in 0..MOST_CALLS {
         if let Some(right) = makes_at(alloc, case, n, call, tables, room)? {
@@ -206,7 +206,7 @@ fn answers_again(alloc: Global, asked: Asked, n: u32, room: &mut [Rec]) -> Resul
     requires few { n ≤ MOST }
     requires enough { LEAST_ROOM ≤ length room.old }
 {
-    let (table, _, _) = Random::triple(alloc, n, 1)?;
+    let (table, _, _) = triple(alloc, n, 1)?;
     for call in 0..MOST_CALLS {
         if let Some(right) = answers_at(alloc, asked, n, call, table.as_slice(), room)? {
             return Ok(right);

@@ -3,8 +3,9 @@ ghost use Rattle.std.specs.Prelude.{◌≤◌, length};
 ghost use Rattle.step_cases.specs.declared.steps.TheConstants.{LEAST_ROOM};
 
 use crate::failing::{Asked, CASES, FEWEST, answer_of, operands_of, operation_of};
-use crate::random::Random;
-use crate::steps::{EMPTY, FIRST, LEAST_ROOM, NUMBER, bench_of, put_bytes};
+use crate::steps::{EMPTY, LEAST_ROOM, NUMBER};
+use crate::triples::triple;
+use case_tables::{FIRST, bench_of, put_bytes};
 use rec_words::Rec;
 use shelf_memory::Bench;
 use shelf_model::SortFault;
@@ -46,7 +47,7 @@ fn ends_with_changed_bytes(rt: HostRuntime, case: u32) -> Result<bool, Fail> {
     let alloc = rt.alloc();
     let mut room = vec![in alloc; EMPTY; LEAST_ROOM]?;
     let room = room.as_mut_slice();
-    let (first, second, third) = Random::triple(alloc, FEWEST, 1)?;
+    let (first, second, third) = triple(alloc, FEWEST, 1)?;
     let tables = [first.as_slice(), second.as_slice(), third.as_slice()];
     let mut bench = bench_of(alloc, FEWEST, tables)?;
     let mut bytes = Vec::new(alloc);

@@ -16,10 +16,8 @@ mod foreign;
 #[cfg(test)]
 mod products;
 #[cfg(test)]
-mod random;
-#[cfg(test)]
 mod reductions;
 #[cfg(test)]
 mod steps;
 #[cfg(test)]
-mod tables;
+mod triples;

@@ -2,11 +2,9 @@
 ghost use Rattle.std.specs.Prelude.{◌≤◌, length};
 ghost use Rattle.step_cases.specs.declared.steps.TheConstants.{LEAST_ROOM};
 
-use crate::random::Random;
-use crate::steps::{
-    EMPTY, FIRST, LARGE_ROOM, LEAST_ROOM, NUMBER, TWO, bench_of, is_made, makes, put_bytes,
-};
-use crate::tables::{operator, product_of};
+use crate::steps::{EMPTY, LARGE_ROOM, LEAST_ROOM, NUMBER, TWO, is_made, makes};
+use crate::triples::triple;
+use case_tables::{FIRST, bench_of, operator, product_of, put_bytes};
 use rec_words::Rec;
 use shelf_memory::Bench;
 use shelf_model::{FileNo, SortFault};
@@ -88,7 +86,7 @@ fn random_products_leave_no_arcs(alloc: Global, n: u32, room: &mut [Rec]) -> Res
     requires few { n ≤ 20 }
     requires enough { LEAST_ROOM ≤ length room.old }
 {
-    let (first, second, third) = Random::triple(alloc, n, 0)?;
+    let (first, second, third) = triple(alloc, n, 0)?;
     let tables = [first.as_slice(), second.as_slice(), third.as_slice()];
     operators_leave_no_arcs(alloc, n, tables, room)
 }
@@ -116,7 +114,7 @@ fn small_products_need_no_sweep(rt: HostRuntime) -> Result<(), Fail> {
 // them, in fewer turns.
 fn joins_with_more_room(rt: HostRuntime) -> Result<bool, Fail> {
     let alloc = rt.alloc();
-    let (first, second, third) = Random::triple(alloc, MANY, 0)?;
+    let (first, second, third) = triple(alloc, MANY, 0)?;
     let tables = [first.as_slice(), second.as_slice(), third.as_slice()];
     let wanted = product_of(alloc, DIFFER, tables[0], tables[1])?;
     let wanted = wanted.as_slice();
@@ -171,7 +169,7 @@ fn wrong_pointers_are_found(rt: HostRuntime) -> Result<bool, Fail> {
     let alloc = rt.alloc();
     let mut room = vec![in alloc; EMPTY; LEAST_ROOM]?;
     let room = room.as_mut_slice();
-    let (first, second, third) = Random::triple(alloc, FEW, 2)?;
+    let (first, second, third) = triple(alloc, FEW, 2)?;
     let tables = [first.as_slice(), second.as_slice(), third.as_slice()];
     let mut bench = bench_of(alloc, FEW, tables)?;
     let mut bytes = Vec::new(alloc);

@@ -1,7 +1,7 @@
 //! Diagrams whose arcs are reduced in the room, where it holds what that takes.
-use crate::random::Random;
-use crate::steps::{EMPTY, LARGE_ROOM, LEAST_ROOM, NUMBER, THREE, bench_of, is_made};
-use crate::tables::choice_of;
+use crate::steps::{EMPTY, LARGE_ROOM, LEAST_ROOM, NUMBER, THREE, is_made};
+use crate::triples::triple;
+use case_tables::{bench_of, choice_of};
 use shelf_memory::Bench;
 use shelf_model::FileNo;
 use std::test::Fail;
@@ -32,7 +32,7 @@ fn source_count(bench: &Bench) -> u64 {
 // turns.
 fn reduces_with_more_room(rt: HostRuntime) -> Result<bool, Fail> {
     let alloc = rt.alloc();
-    let (first, second, third) = Random::triple(alloc, MANY, 0)?;
+    let (first, second, third) = triple(alloc, MANY, 0)?;
     let wanted = choice_of(alloc, first.as_slice(), second.as_slice(), third.as_slice())?;
     let wanted = wanted.as_slice();
     let tables = [first.as_slice(), second.as_slice(), third.as_slice()];

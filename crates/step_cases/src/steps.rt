@@ -4,7 +4,7 @@ ghost use Rattle.step_sweeps.specs.Given.{AreEarlier};
 ghost use Rattle.step_sweeps.specs.Operations.{IsWithin};
 ghost use Rattle.step_cases.specs.declared.steps.TheConstants.{NUMBER, LEAST_ROOM};
 
-use canon_file::plain_canon;
+use case_tables::{FIRST, SECOND, THIRD, canon_of};
 use rec_words::Rec;
 use shelf_memory::Bench;
 use shelf_model::FileNo;
@@ -12,12 +12,6 @@ use std::alloc::Global;
 use std::test::Fail;
 use step_sweeps::{MadeDiagram, StepOperation, make_diagram};
 use top_down_sweep::OperandFiles;
-
-pub(crate) const FIRST: FileNo = FileNo { step: 0, part: 0 };
-
-pub(crate) const SECOND: FileNo = FileNo { step: 1, part: 0 };
-
-pub(crate) const THIRD: FileNo = FileNo { step: 2, part: 0 };
 
 /// The step that is done.
 pub(crate) const NUMBER: u32 = 3;
@@ -64,36 +58,6 @@ pub(crate) const ONE: OperandFiles = OperandFiles {
     second: FIRST,
     third: FIRST,
 };
-
-/// A bench whose files are the canonical ones of three tables.
-pub(crate) fn bench_of(alloc: Global, n: u32, tables: [&[bool]; 3]) -> Result<Bench, Fail>
-    requires { n ≤ 20 }
-{
-    let mut bench = Bench::empty(alloc);
-    for (file, table) in [(FIRST, tables[0]), (SECOND, tables[1]), (THIRD, tables[2])] {
-        let bytes = canon_of(alloc, n, table)?;
-        put_bytes(&mut bench, file, bytes.as_slice())?;
-    }
-    Ok(bench)
-}
-
-/// Puts a file of these bytes, unless they are too many for one.
-pub(crate) fn put_bytes(bench: &mut Bench, file: FileNo, bytes: &[u8]) -> Result<(), Fail> {
-    if bytes.len() <= 1 << 40 {
-        bench.put_file(file, bytes)?;
-    }
-    Ok(())
-}
-
-/// The canonical file of a table, or no bytes where it isn't one of n variables.
-fn canon_of(alloc: Global, n: u32, table: &[bool]) -> Result<Vec<u8>, Fail>
-    requires { n ≤ 20 }
-{
-    if table.len() != 1usize << n {
-        return Ok(Vec::new(alloc));
-    }
-    Ok(plain_canon(alloc, n, table)?)
-}
 
 /// Whether an operation leaves the canonical file of a table, with the count of its nodes.
 pub(crate) fn makes(

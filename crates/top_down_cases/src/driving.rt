@@ -2,7 +2,8 @@
 ghost use Rattle.std.specs.Prelude.{◌≡◌, ◌≤◌, length};
 ghost use Rattle.top_down_cases.specs.declared.sweeping.TheConstants.{INNER, ENDS, LEAST_ROOM};
 
-use crate::sweeping::{EMPTY, LEAST_ROOM, THREE, bench_of, operator};
+use crate::sweeping::{EMPTY, LEAST_ROOM, THREE};
+use case_tables::{bench_of, operator};
 use rec_words::Rec;
 use run_merge::Parts;
 use shelf_model::{Shelf, SortFault};

@@ -4,8 +4,6 @@
 #[cfg(test)]
 mod driving;
 #[cfg(test)]
-mod random;
-#[cfg(test)]
 mod refusals;
 #[cfg(test)]
 mod runs;

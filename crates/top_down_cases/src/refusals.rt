@@ -2,11 +2,9 @@
 ghost use Rattle.std.specs.Prelude.{◌≤◌, length};
 ghost use Rattle.top_down_cases.specs.declared.sweeping.TheConstants.{LEAST_ROOM};
 
-use crate::random::Random;
-use crate::sweeping::{
-    EMPTY, FIRST, LEAST_ROOM, ONE, SECOND, THREE, bench_of, operator, put_bytes, reduced,
-};
+use crate::sweeping::{EMPTY, LEAST_ROOM, ONE, THREE, reduced};
 use bool_tables::Quant;
+use case_tables::{FIRST, Random, SECOND, bench_of, operator, put_bytes};
 use rec_words::Rec;
 use shelf_memory::Bench;
 use shelf_model::SortFault;

@@ -1,8 +1,6 @@
 //! A sweep of which more asks wait than its room has records for.
-use crate::random::Random;
-use crate::sweeping::{
-    EMPTY, LEAST_ROOM, PARTS, THREE, bench_of, has_canon_of, operator, product_of, reduce, swept,
-};
+use crate::sweeping::{EMPTY, LEAST_ROOM, PARTS, THREE, has_canon_of, reduce, swept};
+use case_tables::{Random, bench_of, operator, product_of};
 use std::test::Fail;
 use top_down_sweep::Product;
 

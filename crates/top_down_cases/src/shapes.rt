@@ -2,10 +2,8 @@
 ghost use Rattle.std.specs.Prelude.{◌≡◌};
 ghost use Rattle.top_down_cases.specs.declared.sweeping.TheConstants.{INNER, ENDS};
 
-use crate::random::Random;
-use crate::sweeping::{
-    EMPTY, LEAST_ROOM, ONE, THREE, bench_of, choice_of, leaves, operator, product_of,
-};
+use crate::sweeping::{EMPTY, LEAST_ROOM, ONE, THREE, leaves};
+use case_tables::{Random, bench_of, choice_of, operator, product_of};
 use std::test::Fail;
 use top_down_sweep::{Choice, Files, Product};
 

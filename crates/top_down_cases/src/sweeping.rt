@@ -5,8 +5,7 @@ ghost use Rattle.top_down_sweep.specs.Sweeps.{HasMade};
 ghost use Rattle.top_down_cases.specs.declared.sweeping.TheConstants.{INNER, ENDS, LEAST_ROOM, PARTS};
 
 use arc_file::Unreduced;
-use bool_tables::{Bin, Quant};
-use canon_file::plain_canon;
+use case_tables::{FIRST, SECOND, THIRD, canon_of};
 use rec_words::Rec;
 use reduce_sweep::ReduceSweep;
 use run_merge::Parts;
@@ -16,12 +15,6 @@ use std::alloc::Global;
 use std::test::Fail;
 use sweep_core::{Turn, drive};
 use top_down_sweep::{Files, Operation, TopDownSweep};
-
-pub(crate) const FIRST: FileNo = FileNo { step: 0, part: 0 };
-
-pub(crate) const SECOND: FileNo = FileNo { step: 1, part: 0 };
-
-pub(crate) const THIRD: FileNo = FileNo { step: 2, part: 0 };
 
 const INNER: FileNo = FileNo { step: 3, part: 3 };
 
@@ -129,36 +122,6 @@ pub(crate) fn reduce<S: Shelf>(
     }
 }
 
-/// A bench whose files are the canonical ones of three tables.
-pub(crate) fn bench_of(alloc: Global, n: u32, tables: [&[bool]; 3]) -> Result<Bench, Fail>
-    requires { n ≤ 20 }
-{
-    let mut bench = Bench::empty(alloc);
-    for (file, table) in [(FIRST, tables[0]), (SECOND, tables[1]), (THIRD, tables[2])] {
-        let bytes = canon_of(alloc, n, table)?;
-        put_bytes(&mut bench, file, bytes.as_slice())?;
-    }
-    Ok(bench)
-}
-
-/// Puts a file of these bytes, unless they are too many for one.
-pub(crate) fn put_bytes(bench: &mut Bench, file: FileNo, bytes: &[u8]) -> Result<(), Fail> {
-    if bytes.len() <= 1 << 40 {
-        bench.put_file(file, bytes)?;
-    }
-    Ok(())
-}
-
-/// The canonical file of a table, or no bytes where it isn't one of n variables.
-fn canon_of(alloc: Global, n: u32, table: &[bool]) -> Result<Vec<u8>, Fail>
-    requires { n ≤ 20 }
-{
-    if table.len() != 1usize << n {
-        return Ok(Vec::new(alloc));
-    }
-    Ok(plain_canon(alloc, n, table)?)
-}
-
 /// Whether an operation leaves the canonical file of a table, with the count of its nodes.
 pub(crate) fn leaves<O: Operation>(
     alloc: Global,
@@ -192,92 +155,4 @@ pub(crate) fn has_canon_of(
         bench.file(OUT) == bytes.as_slice()
             && count == Some((bytes.len() as u64 / 24).saturating_sub(1)),
     )
-}
-
-/// The operator whose four values are the binary digits of a number.
-pub(crate) fn operator(digits: u32) -> Bin {
-    Bin {
-        v00: digits & 1 != 0,
-        v01: digits & 2 != 0,
-        v10: digits & 4 != 0,
-        v11: digits & 8 != 0,
-    }
-}
-
-fn value_at(table: &[bool], place: usize) -> bool {
-    table.get(place).copied() == Some(true)
-}
-
-/// The table of an operator on two.
-pub(crate) fn product_of(
-    alloc: Global,
-    digits: u32,
-    left: &[bool],
-    right: &[bool],
-) -> Result<Vec<bool>, Fail> {
-    let op = operator(digits);
-    let mut made = Vec::new(alloc);
-    for place in 0..left.len() {
-        made.push(match (value_at(left, place), value_at(right, place)) {
-            (false, false) => op.v00,
-            (false, true) => op.v01,
-            (true, false) => op.v10,
-            (true, true) => op.v11,
-        })?;
-    }
-    Ok(made)
-}
-
-/// The table of the choice between two by a third.
-pub(crate) fn choice_of(
-    alloc: Global,
-    test: &[bool],
-    yes: &[bool],
-    no: &[bool],
-) -> Result<Vec<bool>, Fail> {
-    let mut made = Vec::new(alloc);
-    for place in 0..test.len() {
-        let chosen = if value_at(test, place) { yes } else { no };
-        made.push(value_at(chosen, place))?;
-    }
-    Ok(made)
-}
-
-/// The bit of a level in the places of a table.
-fn bit(n: u32, level: u32) -> usize {
-    1usize << n.saturating_sub(1).saturating_sub(level).min(20)
-}
-
-/// The table in which a variable has a value.
-pub(crate) fn restricted_of(
-    alloc: Global,
-    n: u32,
-    level: u32,
-    value: bool,
-    table: &[bool],
-) -> Result<Vec<bool>, Fail> {
-    let mut made = Vec::new(alloc);
-    let bit = bit(n, level);
-    for place in 0..table.len() {
-        let there = if value { place | bit } else { place & !bit };
-        made.push(value_at(table, there))?;
-    }
-    Ok(made)
-}
-
-/// The table of a quantifier over a variable.
-pub(crate) fn quantified_of(
-    alloc: Global,
-    n: u32,
-    kind: Quant,
-    level: u32,
-    table: &[bool],
-) -> Result<Vec<bool>, Fail> {
-    let low = restricted_of(alloc, n, level, false, table)?;
-    let high = restricted_of(alloc, n, level, true, table)?;
-    let digits = match kind {
-        Quant::Exists => 0b1110,
-        Quant::Forall => 0b1000,
-    };
-    product_of(alloc, digits, low.as_slice(), high.as_slice())
 }

@@ -1,12 +1,11 @@
 //! Operations on random tables, beside the canonical files of the tables that they make.
 ghost use Rattle.std.specs.Prelude.{◌≤◌};
 
-use crate::random::Random;
-use crate::sweeping::{
-    EMPTY, LEAST_ROOM, ONE, THREE, bench_of, choice_of, leaves, operator, product_of,
-    quantified_of, restricted_of,
-};
+use crate::sweeping::{EMPTY, LEAST_ROOM, ONE, THREE, leaves};
 use bool_tables::Quant;
+use case_tables::{
+    Random, bench_of, choice_of, operator, product_of, quantified_of, restricted_of,
+};
 use std::test::Fail;
 use top_down_sweep::{Choice, Product, Quantified, Restricted};
 

@@ -1,5 +1,6 @@
 //! The turns of a conjunction of a large diagram with a small one.
-use crate::sweeping::{EMPTY, FIRST, LEAST_ROOM, SECOND, THREE, operator, put_bytes, swept};
+use crate::sweeping::{EMPTY, LEAST_ROOM, THREE, swept};
+use case_tables::{FIRST, SECOND, operator, put_bytes};
 use rec_words::Ptr;
 use shelf_memory::Bench;
 use shelf_model::FileNo;

@@ -3,7 +3,7 @@ use bool_tables::{Bin, Quant};
 use std::alloc::{AllocError, Global};
 
 /// The operator whose four values are the binary digits of a number.
-pub(crate) fn operator(digits: u32) -> Bin {
+pub fn operator(digits: u32) -> Bin {
     Bin {
         v00: digits & 1 != 0,
         v01: digits & 2 != 0,
@@ -17,7 +17,7 @@ fn value_at(table: &[bool], place: usize) -> bool {
 }
 
 /// The table of an operator on two.
-pub(crate) fn product_of(
+pub fn product_of(
     alloc: Global,
     digits: u32,
     left: &[bool],
@@ -37,7 +37,7 @@ pub(crate) fn product_of(
 }
 
 /// The table of the choice between two by a third.
-pub(crate) fn choice_of(
+pub fn choice_of(
     alloc: Global,
     test: &[bool],
     yes: &[bool],
@@ -57,7 +57,7 @@ fn bit(n: u32, level: u32) -> usize {
 }
 
 /// The table in which a variable has a value.
-pub(crate) fn restricted_of(
+pub fn restricted_of(
     alloc: Global,
     n: u32,
     level: u32,
@@ -74,7 +74,7 @@ pub(crate) fn restricted_of(
 }
 
 /// The table of a quantifier over a variable.
-pub(crate) fn quantified_of(
+pub fn quantified_of(
     alloc: Global,
     n: u32,
     kind: Quant,

@@ -1,22 +1,24 @@
 //! Numbers and tables that look random, and are the same in each run.
-ghost use Rattle.std.specs.Prelude.{◌≤◌};
+ghost use Rattle.std.specs.Prelude.{◌≡◌, ◌≤◌, ◌^◌, IfOk, length};
 
 use std::alloc::{AllocError, Global};
 
-/// A generator of numbers by a product and shifts.
+/// A generator of numbers by sums, products and shifts (splitmix64).
 #[derive(Clone, Copy)]
-pub(crate) struct Random {
+pub struct Random {
     state: u64,
 }
 
 impl Random {
-    pub(crate) fn new(seed: u64) -> Random {
+    /// The generator of that seed.
+    pub fn new(seed: u64) -> Random {
         Random {
             state: seed.wrapping_mul(0x9e37_79b9_7f4a_7c15) ^ 0x5851_f42d_4c95_7f2d,
         }
     }
 
-    pub(crate) fn next(&mut self) -> u64 {
+    /// The next number of 64 bits.
+    pub fn next(&mut self) -> u64 {
         self.state = self.state.wrapping_add(0x9e37_79b9_7f4a_7c15);
         let mixed = (self.state ^ (self.state >> 30)).wrapping_mul(0xbf58_476d_1ce4_e5b9);
         let more = (mixed ^ (mixed >> 27)).wrapping_mul(0x94d0_49bb_1331_11eb);
@@ -24,7 +26,7 @@ impl Random {
     }
 
     /// All places of a table, or those of some variables as chance has it.
-    pub(crate) fn variables(&mut self) -> usize {
+    pub fn variables(&mut self) -> usize {
         let some = self.next() as usize;
         if self.next() % 2 == 0 {
             some
@@ -34,13 +36,14 @@ impl Random {
     }
 
     /// A table of n variables that depends on these alone, each a bit of its places.
-    pub(crate) fn table(
+    pub fn table(
         &mut self,
         alloc: Global,
         n: u32,
         variables: usize,
     ) -> Result<Vec<bool>, AllocError>
         requires { n ≤ 20 }
+        ensures { IfOk result (λ table. length table.items ≡ 2 ^ n) }
     {
         let mut table = Vec::new(alloc);
         for place in 0..1usize << n {
