@@ -38,14 +38,20 @@ fn arc(source: u64, high: bool, target: u64) -> Option<Arc> {
 
 // The arcs of an exclusive or: those to nodes in their order, then those to truth values in theirs.
 fn exclusive_or() -> Option<[Arc; 6]> {
-    Some([
-        arc(TOP, false, LEFT)?,
-        arc(TOP, true, RIGHT)?,
-        arc(LEFT, false, ZERO)?,
-        arc(LEFT, true, ONE)?,
-        arc(RIGHT, false, ONE)?,
-        arc(RIGHT, true, ZERO)?,
-    ])
+    let rows = [
+        (TOP, false, LEFT),
+        (TOP, true, RIGHT),
+        (LEFT, false, ZERO),
+        (LEFT, true, ONE),
+        (RIGHT, false, ONE),
+        (RIGHT, true, ZERO),
+    ];
+    let mut arcs = [arc(TOP, false, LEFT)?; 6];
+    for k in 0..6 {
+        let (source, high, target) = rows[k];
+        arcs[k] = arc(source, high, target)?;
+    }
+    Some(arcs)
 }
 
 fn write_arcs<S: Shelf>(
