@@ -17,12 +17,12 @@ use Rattle.canon_file.proofs.MemberLaws.{either_bit}
 use Rattle.canon_file.proofs.PieceLaws.{unsplit, half_has, has_low, has_high}
 use Rattle.canon_file.proofs.RowLaws.{has_row, row_has, pointer-split, pointer-unsplit, are_rows}
 use Rattle.canon_file.proofs.StandLaws.{has_append}
-use Rattle.canon_file.proofs.FileLaws.{is_node_file}
+use Rattle.canon_file.proofs.FileLaws.{is_node_file, terminal_ends}
 use Rattle.canon_file.proofs.WalkLaws.{place_below, nodes_walk}
 use Rattle.arc_file.specs.declared.arc.Arc.{Arc}
 use Rattle.arc_diagrams.specs.Arcs.{targets_of, target_on, IsWithin, IsMet, IsComplete, StandFor, arcs_of}
 use Rattle.arc_diagrams.specs.Laws.{CanonIsDiagram, ConstantIsDiagram}
-use Rattle.arc_diagrams.proofs.WordLaws.{past_from, level-terminal, terminal_is}
+use Rattle.arc_diagrams.proofs.WordLaws.{past_from, level-terminal}
 use Rattle.arc_diagrams.proofs.RowPlaces.{has_left, has_right, numbered_has, numbered_row, place_at}
 
 -- what two arcs of a node say of it, where b tells whether it is the one asked for
@@ -60,7 +60,7 @@ arc_to_has a (x ∷ xs) (inr (inr m)) = let (y, side, k, e) = arc_to_has a xs m 
 
 -- a piece's pointer is a truth value or a node of a level below the number of variables
 pointer_within : (h i : ℕ) (ps : List (List Bool)) (p : List Bool) → IsWithin (i + h) (pointer h i ps p)
-pointer_within zero i ps p = inr (terminal_is (get_or p 0 false))
+pointer_within zero i ps p = inr (terminal_ends (get_or p 0 false))
 pointer_within (suc h) i ps p =
     let same : suc i + h ≡ i + suc h = omega arith in
     elim (either_bit (splits h p)) [
@@ -83,7 +83,7 @@ of_more xs ys w (inr (x, m, e)) = inr (x, has_left x xs ys m, e)
 
 -- so is that of a piece
 pointer_of : (h i : ℕ) (ps : List (List Bool)) (p : List Bool) → Has p ps → IsOf (nodes_of i (levels h i ps)) (pointer h i ps p)
-pointer_of zero i ps p m = inl (terminal_is (get_or p 0 false))
+pointer_of zero i ps p m = inl (terminal_ends (get_or p 0 false))
 pointer_of (suc h) i ps p m =
     let f : List Bool → ℕ = pointer h (suc i) (halves h ps) in
     let deeper : List Node = nodes_of (suc i) (levels h (suc i) (halves h ps)) in
@@ -171,7 +171,8 @@ of_source : (n : ℕ) (xs : List Node) (w : ℕ) (side : Bool) → level_of w < 
 of_source n xs w side below few (inl end) = absurd (omega (arith, level-terminal w end))
 of_source n xs w side below few (inr (x, m, e)) = (arc_to x side, has_arc_to x side xs m, e, refl)
 
-side_of : (P : ℕ → Type 0) (x : Node) (side : Bool) → P x.low → P x.high → P (cond side x.high x.low)
+-- what is said of both sides is said of either
+pub side_of : (P : ℕ → Type 0) (x : Node) (side : Bool) → P x.low → P x.high → P (cond side x.high x.low)
 side_of P x true low high = high
 side_of P x false low high = low
 
@@ -247,7 +248,7 @@ canon_is_diagram n t form = record { complete = canon_complete n t form; stands 
 walk-terminal : (targets : ℕ → Row) (bits : List Bool) (i : ℕ) (b : Bool) → i + length bits ≤ 65536 → walk targets i bits (terminal b) ≡ terminal b
 walk-terminal targets [] i b few = refl
 walk-terminal targets (d ∷ bits) i b few =
-    let deep : level_of (terminal b) ≡ 65536 = level-terminal (terminal b) (terminal_is b) in
+    let deep : level_of (terminal b) ≡ 65536 = level-terminal (terminal b) (terminal_ends b) in
     let past : is_at i (terminal b) ≡ false = past_from i (terminal b) (omega arith) in
     (λ j. walk targets (suc i) bits (cond (past j) (cond d (targets (terminal b)).high (targets (terminal b)).low) (terminal b)))
     ∙ walk-terminal targets bits (suc i) b (omega arith)
@@ -256,11 +257,11 @@ walk-terminal targets (d ∷ bits) i b few =
 pub constant_is_diagram : (n : ℕ) → ConstantIsDiagram n
 constant_is_diagram n b few = record {
   complete = record {
-    begins = inr (terminal_is b);
+    begins = inr (terminal_ends b);
     within = λ a m. absurd m;
     deeper = λ a m. absurd m;
     both = λ w met below side. elim met [
-      | inl e ↦ absurd (omega (arith, level-terminal (terminal b) (terminal_is b), ap level_of e))
+      | inl e ↦ absurd (omega (arith, level-terminal (terminal b) (terminal_ends b), ap level_of e))
       | inr (a, m, e) ↦ absurd m
     ];
     once = λ a c m k source high. absurd m;

@@ -20,7 +20,7 @@ use Rattle.arc_diagrams.specs.declared.source_row.SourceRow.{SourceRow}
 use Rattle.arc_diagrams.specs.declared.name.Name.{Name}
 use Rattle.arc_diagrams.proofs.ReduceLaws.{length-final_rows}
 use Rattle.arc_diagrams.proofs.RowPlaces.{place_at}
-use Rattle.arc_diagrams.proofs.RowLists.{after-same, after-new, distinct_is}
+use Rattle.arc_diagrams.proofs.RowLists.{after-same, distinct_is}
 use Rattle.arc_diagrams.proofs.Collecting.{all_collected}
 
 -- a source of the level is that of an arc
@@ -122,13 +122,9 @@ number_new n i arcs done last r rows names m final is_new is_source is_pointer c
     same_some : (x y : Row) → Some x ≡ Some y → x ≡ y
     same_some x y e = cc
 
--- the first row of a level is new, and so is one that differs from the row before
+-- the first row of a level is new
 pub new-first : (r : Row) (rows : List Row) → distinct_after None (r ∷ rows) ≡ r ∷ distinct_after (Some r) rows
 new-first r rows = refl
-
-pub new-next : (p r : Row) (rows : List Row) → ((p.low == r.low) && (p.high == r.high)) ≡ false
-    → distinct_after (Some p) (r ∷ rows) ≡ r ∷ distinct_after (Some r) rows
-new-next = after-new
 
 -- the next row is the one before: it has the same number
 pub number_same : (n i : ℕ) (arcs : List Arc) (done : List Row) (p : Row) (r : SourceRow) (rows : List SourceRow) (names : List Name) (m : Name)

@@ -4,6 +4,7 @@ use Rattle.std.proofs.Common.{refl, sym, ◌∙◌, ap, inl, inr, arith}
 use Rattle.std.proofs.lemmas.Bool.Decides.{nat_tests}
 use Rattle.rec_words.specs.Words.{terminal, level_of, IsTerminal}
 use Rattle.canon_file.specs.Walks.{is_at}
+pub use Rattle.canon_file.proofs.FileLaws.{terminal_ends as terminal_is}
 use Rattle.arc_diagrams.specs.Arcs.{IsWithin}
 
 -- what the test of a level says
@@ -28,10 +29,6 @@ level-terminal w (inr ones) = omega arith
 pub terminal_from : (n w : ℕ) → IsWithin n w → n ≤ level_of w → IsTerminal w
 terminal_from n w (inl node) deep = absurd (omega arith)
 terminal_from n w (inr end) deep = end
-
-pub terminal_is : (b : Bool) → IsTerminal (terminal b)
-terminal_is true = inr refl
-terminal_is false = inl refl
 
 -- the value of a truth value's word
 pub value-terminal : (b : Bool) → (terminal b == 2 ^ 63 + 1) ≡ b

@@ -1,4 +1,4 @@
 mod OrderLaws
 mod StreamLaws
 mod PairLaws
-mod WriterLaws
+pub mod WriterLaws

@@ -10,7 +10,8 @@ length-numbered : (n at : ℕ) (ps : List (List ℕ)) → length (numbered n at 
 length-numbered n at [] = refl
 length-numbered n at (p ∷ ps) = ap suc (length-numbered (n + 1) (at + length p + 1) ps)
 
-length-placed : (at : ℕ) (ps : List (List ℕ)) → length (placed at ps) ≡ length ps
+-- each piece has its place
+pub length-placed : (at : ℕ) (ps : List (List ℕ)) → length (placed at ps) ≡ length ps
 length-placed at [] = refl
 length-placed at (p ∷ ps) = ap suc (length-placed (at + length p + 1) ps)
 

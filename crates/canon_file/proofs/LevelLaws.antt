@@ -1,6 +1,5 @@
 -- the pointers, rows and nodes of a level, from the pointers of the next one
 use Rattle.std.specs.Prelude.{◌≡◌, ℕ, zero, suc, ◌+◌, ◌-◌, ◌*◌, ◌/◌, ◌^◌, ◌<◌, ◌≤◌, ◌==◌, Bool, true, false, not, cond, List, [], ◌∷◌, ◌++◌, length, get_or, drop, map, filter}
-use Rattle.std.specs.Int.{w64, to_be_bytes}
 use Rattle.std.proofs.Common.{subst, refl, sym, ◌∙◌, ap, inl, inr, true≢false, arith}
 use Rattle.std.proofs.lemmas.Bool.Decides.{nat_tests}
 use Rattle.std.proofs.lemmas.List.Sums.{length-filter, count_by-le-length}
@@ -13,7 +12,7 @@ use Rattle.bool_tables.proofs.Halves.{twice}
 use Rattle.rec_words.specs.declared.node.Node.{Node}
 use Rattle.rec_words.specs.Words.{terminal}
 use Rattle.canon_file.specs.declared.row.Row.{Row}
-use Rattle.list_laws.specs.Members.{Has, put, ascending, IsAscending}
+use Rattle.list_laws.specs.Members.{Has, ascending, IsAscending}
 use Rattle.canon_file.specs.Pieces.{splits, halves, pieces, part_at, parts}
 use Rattle.canon_file.specs.Rows.{row_before, row_word, place_of, row_of, rows_with, pointer, levels, Fits}
 use Rattle.canon_file.specs.Canon.{numbered, nodes_of, node_bytes, trailer_bytes, canon_nodes, canon_root, canon_bytes}
@@ -136,6 +135,16 @@ piece_long (suc i) h t p n m =
     let (q, k, e) = half_has h p (pieces i (suc h) t) m in
     let whole : length q ≡ 2 ^ suc h = piece_long i (suc h) t q longer k in
     elim e [ inl low ↦ ap length (sym low) ∙ length-low h q whole | inr high ↦ ap length (sym high) ∙ length-high h q whole ]
+
+-- there are as many levels as variables
+pub length-levels : (h i : ℕ) (ps : List (List Bool)) → length (levels h i ps) ≡ h
+length-levels zero i ps = refl
+length-levels (suc h) i ps = ap suc (length-levels h (suc i) (halves h ps))
+
+-- and on each as many nodes as rows
+pub length-numbered : (i k : ℕ) (rs : List Row) → length (numbered i k rs) ≡ length rs
+length-numbered i k [] = refl
+length-numbered i k (r ∷ rs) = ap suc (length-numbered i (suc k) rs)
 
 -- single values have their words
 base_words : (t : List Bool) (k m : ℕ) → k + m ≡ length t → map (λ p. terminal (get_or p 0 false)) (parts 0 t k m) ≡ map terminal (drop k t)

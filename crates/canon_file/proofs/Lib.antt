@@ -5,7 +5,7 @@ pub mod ConstDiagram
 pub mod VarDiagram
 pub mod FileLaws
 pub mod CanonLaws
-mod LevelLaws
+pub mod LevelLaws
 mod SearchLaws
 mod PartLaws
 pub mod ByteLaws

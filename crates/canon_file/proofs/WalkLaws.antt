@@ -1,5 +1,5 @@
 -- walks through the canonical nodes
-use Rattle.std.specs.Prelude.{◌≡◌, ℕ, zero, suc, ◌+◌, ◌^◌, ◌<◌, ◌≤◌, Bool, true, false, cond, List, [], ◌∷◌, length, get_or}
+use Rattle.std.specs.Prelude.{◌≡◌, ℕ, zero, suc, ◌+◌, ◌^◌, ◌<◌, ◌≤◌, Bool, true, false, cond, List, [], ◌∷◌, ◌++◌, length, get_or}
 use Rattle.std.proofs.Common.{refl, sym, ◌∙◌, ap, subst, inl, inr, arith}
 use Rattle.std.proofs.lemmas.List.{append-nil, get_or-take, get_or-drop}
 use Rattle.bool_tables.specs.Tables.{low_half, high_half, half_where, value_at, place_of_bits}
@@ -10,7 +10,7 @@ use Rattle.list_laws.specs.Members.{Has}
 use Rattle.canon_file.specs.Pieces.{splits, halves}
 use Rattle.canon_file.specs.Rows.{row_word, place_of, row_of, rows_with, pointer, levels, Fits}
 use Rattle.canon_file.specs.Canon.{canon_nodes, canon_root}
-use Rattle.canon_file.specs.Walks.{is_at, walk, nowhere, row_at, Agrees}
+use Rattle.canon_file.specs.Walks.{is_at, walk, table_of, nowhere, row_at, Agrees}
 use Rattle.std.proofs.lemmas.Bool.{cases_Bool}
 use Rattle.bool_tables.proofs.StepHalves.{length-half}
 use Rattle.canon_file.proofs.PieceLaws.{unsplit, has_low, has_high}
@@ -31,7 +31,8 @@ value-half t bits false =
     let same : place_of_bits bits ≡ 0 + place_of_bits bits = omega arith in
     get_or-take (2 ^ length bits) t (place_of_bits bits) false (place_below bits) ∙ ap (λ k. get_or t k false) same
 
-below-half : (f : List Bool → ℕ) (h : ℕ) (b : Bool) (p : List Bool) → cond b (f (high_half h p)) (f (low_half h p)) ≡ f (half_where h b p)
+-- what a digit chooses of the two halves' is that of the half that it chooses
+pub below-half : (f : List Bool → ℕ) (h : ℕ) (b : Bool) (p : List Bool) → cond b (f (high_half h p)) (f (low_half h p)) ≡ f (half_where h b p)
 below-half f h true p = refl
 below-half f h false p = refl
 
@@ -42,6 +43,12 @@ same_half h false p e = refl
 half_has : (h : ℕ) (b : Bool) (p : List Bool) (ps : List (List Bool)) → Has p ps → Has (half_where h b p) (halves h ps)
 half_has h true p ps m = has_high h p ps m
 half_has h false p ps m = has_low h p ps m
+
+-- the table of a pointer, by whether it is of the level
+abbrev pub parts_by : (ℕ → Row) → ℕ → ℕ → ℕ → Bool → List Bool
+parts_by arcs h i w b = cond b
+    (table_of arcs h (suc i) (arcs w).low ++ table_of arcs h (suc i) (arcs w).high)
+    (table_of arcs h (suc i) w ++ table_of arcs h (suc i) w)
 
 -- where a walk goes from w on level i
 abbrev pub onward : (ℕ → Row) → ℕ → Bool → ℕ → ℕ

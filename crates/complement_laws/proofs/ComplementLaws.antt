@@ -6,8 +6,8 @@ use Rattle.std.proofs.lemmas.List.{take-map, drop-map, length-map, length-append
 use Rattle.bool_tables.specs.Tables.{low_half, high_half, same_bits, value_at, table_with}
 use Rattle.bool_tables.proofs.StepHalves.{table_with-values}
 use Rattle.std.specs.List.{range_with_len}
-use Rattle.list_laws.specs.Members.{Has, put, ascending}
-use Rattle.list_laws.proofs.MemberLaws.{has_map, map_has, has_filter, filter_has}
+use Rattle.list_laws.specs.Members.{Has}
+use Rattle.list_laws.proofs.MemberLaws.{has_map, map_has, has_filter, filter_has, length-ascending}
 use Rattle.canon_file.specs.declared.row.Row.{Row}
 use Rattle.canon_file.specs.Pieces.{splits, halves}
 use Rattle.canon_file.specs.Rows.{row_before, row_word, place_of, row_of, rows_with, pointer, levels, Fits}
@@ -16,6 +16,7 @@ use Rattle.canon_file.specs.Laws.{HasForm}
 use Rattle.canon_file.specs.Walks.{nowhere}
 use Rattle.canon_file.proofs.PieceLaws.{has_low, has_high, length-low, length-high, half_has}
 use Rattle.canon_file.proofs.RowLaws.{ascending_same, has_row, row_has, pointer-split, pointer-unsplit}
+use Rattle.canon_file.proofs.LevelLaws.{length-numbered}
 use Rattle.canon_file.proofs.StandLaws.{at_level, deeper_at, pointer_deep, placed}
 use Rattle.canon_file.proofs.CanonLaws.{canon_nodes-is, canon_root-is}
 use Rattle.complement_laws.specs.Complements.{complement, place_in, other_row, other_rows, other_word, other_levels, AreAsMany, HasComplement}
@@ -160,32 +161,13 @@ levels-other (suc h) i ps low long fits =
     ∙ levels-other h (suc i) (halves h ps) (omega arith) (long_halves h ps long) fits.1 in
     λ j. rows j ∷ deeper j
 
--- ascending rows are no more than before
-length-put : (r : Row) (rs : List Row) → length (put row_before r rs) ≤ suc (length rs)
-length-put r [] = omega arith
-length-put r (s ∷ rs) = by (length-put r rs) (row_before r s) (row_before s r)
-  where
-    by : length (put row_before r rs) ≤ suc (length rs) → (x y : Bool)
-        → length (cond x (r ∷ s ∷ rs) (cond y (s ∷ put row_before r rs) (s ∷ rs))) ≤ suc (suc (length rs))
-    by rest true y = omega arith
-    by rest false true = omega (arith, rest)
-    by rest false false = omega arith
-
-length-ascending : (rs : List Row) → length (ascending row_before rs) ≤ length rs
-length-ascending [] = omega arith
-length-ascending (r ∷ rs) = omega (arith, length-put r (ascending row_before rs), length-ascending rs)
-
 few_rows : (f : ℕ → ℕ) (rs : List Row) → length (other_rows f rs) ≤ length rs
-few_rows f rs = omega (arith, length-ascending (map (other_row f) rs), length-map rs (other_row f))
+few_rows f rs = omega (arith, length-ascending row_before (map (other_row f) rs), length-map rs (other_row f))
 
 fits-other : (i : ℕ) (ls : List (List Row)) → Fits ls → Fits (other_levels i ls)
 fits-other i [] fits = tt
 fits-other i (rs ∷ deeper) fits =
     (let here = fits.0 in omega (arith, few_rows (other_word (suc i) deeper) rs, here), fits-other (suc i) deeper fits.1)
-
-length-numbered : (i k : ℕ) (rs : List Row) → length (numbered i k rs) ≡ length rs
-length-numbered i k [] = refl
-length-numbered i k (r ∷ rs) = ap suc (length-numbered i (suc k) rs)
 
 few_nodes : (i : ℕ) (ls : List (List Row)) → length (nodes_of i (other_levels i ls)) ≤ length (nodes_of i ls)
 few_nodes i [] = omega arith

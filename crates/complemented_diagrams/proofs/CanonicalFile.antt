@@ -1,5 +1,5 @@
 -- The canonical file of a table and that of its complement, as records of nodes.
-use Rattle.std.proofs.Common.{◌≡◌, ◌∙◌, ℕ, zero, suc, Bool, List, [], ◌∷◌, ◌++◌, length, refl, sym, ap, inl, inr, arith}
+use Rattle.std.proofs.Common.{◌≡◌, ◌∙◌, ℕ, Bool, List, [], ◌∷◌, ◌++◌, length, refl, sym, ap, inl, inr, arith}
 use Rattle.std.specs.Int.{w64, to_be_bytes}
 use Rattle.std.proofs.lemmas.List.{length-map}
 use Rattle.rec_words.specs.Records.{node_words, IsNode}
@@ -7,7 +7,6 @@ use Rattle.rec_words.specs.RecordLaws.{node_fits}
 use Rattle.rec_words.specs.declared.rec.Rec.{Rec}
 use Rattle.rec_words.specs.declared.node.Node.{Node}
 use Rattle.list_laws.specs.Members.{Has}
-use Rattle.canon_file.specs.Pieces.{halves}
 use Rattle.canon_file.specs.Rows.{levels}
 use Rattle.canon_file.specs.Canon.{nodes_of, canon_nodes, canon_root, node_bytes, trailer_bytes, canon_bytes}
 use Rattle.canon_file.specs.Laws.{HasForm}
@@ -36,11 +35,6 @@ nodes_back (x ∷ xs) rest nodes =
     (node_fits x (nodes x (inl refl))) refl in
     let later = nodes_back xs rest (λ y has. nodes y (inr has)) in
     λ i. first i ∷ later i
-
--- there are as many levels as variables
-pub levels_many : (h i : ℕ) (ps : List (List Bool)) → length (levels h i ps) ≡ h
-levels_many zero i ps = refl
-levels_many (suc h) i ps = ap suc (levels_many h (suc i) (halves h ps))
 
 -- a canonical file's records are those of the nodes of the levels
 pub records_of_canon : (n : ℕ) (t : List Bool) → HasForm n t

@@ -1,12 +1,12 @@
 -- The step from the deeper levels of a diagram to the next one above them.
-use Rattle.std.proofs.Common.{◌≡◌, ◌∙◌, ℕ, zero, suc, ◌+◌, ◌-◌, ◌*◌, ◌^◌, ◌<◌, ◌≤◌, ◌==◌, Bool, true, false, cond, List, [], ◌∷◌, ◌++◌, length, get_or, take, drop, refl, sym, ap, subst, arith}
+use Rattle.std.proofs.Common.{◌≡◌, ◌∙◌, ℕ, zero, suc, ◌+◌, ◌-◌, ◌*◌, ◌<◌, ◌≤◌, ◌==◌, true, false, cond, List, [], ◌∷◌, ◌++◌, length, get_or, take, drop, refl, sym, ap, subst, arith}
 use Rattle.std.proofs.Math.Seq.{drop-cons}
 use Rattle.std.proofs.lemmas.Bool.Decides.{nat_tests}
 use Rattle.std.proofs.lemmas.List.{append-nil, append_assoc, map-append, length-append, length-map, length-drop, take_at, take_all, drop_at, drop_all, drop-drop}
 use Rattle.std.proofs.lemmas.List.Elements.{All-append, All-weaker}
 use Rattle.std.proofs.lemmas.Slice.{take-put_mid, drop-put_mid}
 use borrow.Rule.Slice.PartMut.{put_mid}
-use Rattle.rec_words.specs.Words.{level_of, level_numbers, terminal}
+use Rattle.rec_words.specs.Words.{level_of, level_numbers}
 use Rattle.rec_words.specs.Records.{node_words}
 use Rattle.rec_words.specs.declared.rec.Rec.{Rec}
 use Rattle.rec_words.specs.declared.node.Node.{Node}
@@ -17,8 +17,9 @@ use Rattle.canon_file.specs.Canon.{numbered, nodes_of}
 use Rattle.canon_file.specs.Walks.{is_at, nowhere}
 use Rattle.canon_file.proofs.StandLaws.{deeper_at}
 use Rattle.complement_laws.specs.Complements.{place_in, other_row, other_rows, other_word, other_levels}
-use Rattle.complemented_diagrams.specs.Records.{word, node_records, GivesOthers, AreEntries}
+use Rattle.complemented_diagrams.specs.Records.{word, node_records, AreEntries}
 use Rattle.complemented_diagrams.specs.Levels.{nodes_above, level_run, AreNamed, AreDone}
+use Rattle.complemented_diagrams.proofs.LevelRows.{length-node_records}
 
 -- a node is of its row's level
 at_own : (i k : ℕ) → (level_of (row_word i k) == i) ≡ true
@@ -46,10 +47,6 @@ run-own i k [] xs none = none
 run-own i k (r ∷ rs) xs none =
     ap (λ b. cond b (suc (level_run i (node_records (numbered i (suc k) rs ++ xs)))) 0) (at_own i k)
     ∙ ap suc (run-own i (suc k) rs xs none)
-
-length-records : (i k : ℕ) (rs : List Row) → length (node_records (numbered i k rs)) ≡ length rs
-length-records i k [] = refl
-length-records i k (r ∷ rs) = ap suc (length-records i (suc k) rs)
 
 -- all nodes are those of the levels from one on, and those above it
 nodes_both : (i : ℕ) (ls : List (List Row)) → i ≤ length ls → nodes_of i (drop i ls) ++ nodes_above i ls ≡ nodes_of 0 ls
@@ -80,18 +77,6 @@ other_word-below i rs deeper w below =
     let f : ℕ → ℕ = other_word (suc i) deeper in
     let r : Row = get_or rs (place_in i w) nowhere in
     ap (λ b. cond b (row_word i (place_of (other_row f r) (other_rows f rs))) (f w)) below
-
--- a truth value becomes the other one
-pub other_word-value : (i : ℕ) (ls : List (List Row)) → i + length ls ≤ 65535 → GivesOthers (other_word i ls)
-other_word-value i [] few true = refl
-other_word-value i [] few false = refl
-other_word-value i (rs ∷ deeper) few b =
-    other_word-below i rs deeper (terminal b) (deeper_at i (terminal b) (deep b))
-    ∙ other_word-value (suc i) deeper (omega (arith, few)) b
-  where
-    deep : (b : Bool) → suc i * 2 ^ 47 ≤ terminal b
-    deep true = omega (arith, few)
-    deep false = omega (arith, few)
 
 -- the names of the deeper nodes are theirs among those of the level too
 names_kept : (i : ℕ) (rs : List Row) (deeper : List (List Row)) (entries : List Rec)
@@ -128,7 +113,7 @@ level_done i ls done end nodes entries part new known own back within was ends i
     let run : level_run i (drop done nodes) ≡ length rs =
     ap (level_run i) was.rest ∙ run-own i 0 rs (nodes_above i ls) (run-none i i ls (omega arith)) in
     let many : end - done ≡ length rs = omega (arith, ends, run) in
-    let long : length mine ≡ end - done = length-records i 0 rs ∙ sym many in
+    let long : length mine ≡ end - done = length-node_records i 0 rs ∙ sym many in
     let whole : end ≡ done + (end - done) = omega (arith, ends) in
     let deep_long : i + 1 + length deeper ≡ length ls = omega (arith, length-drop (suc i) ls, within) in
     let mine_is : part ≡ mine = part_is ∙ ap (take (end - done)) rest_is ∙ take_at mine above (end - done) long in
@@ -146,7 +131,7 @@ level_done i ls done end nodes entries part new known own back within was ends i
         ap (λ levels. length (nodes_of i levels)) here,
         length-append (nodes_of (suc i) deeper) (numbered i 0 rs),
         length-map (numbered i 0 rs) (item_record node_words),
-        length-records i 0 rs,
+        length-node_records i 0 rs,
       );
       front = take-put_mid done (end - done) nodes new end (omega (arith, ends, new_long)) inside
           ∙ (λ j. was.front j ++ new_is j)

@@ -1,5 +1,5 @@
 -- The table of an operator's result, where it gives the value of one operand.
-use Rattle.std.proofs.Common.{◌≡◌, ◌≢◌, ◌∙◌, ℕ, zero, suc, ◌+◌, ◌*◌, ◌^◌, ◌<◌, ◌≤◌, Bool, true, false, not, cond, List, [], ◌∷◌, ◌++◌, replicate, refl, sym, ap, subst, arith}
+use Rattle.std.proofs.Common.{◌≡◌, ◌≢◌, ◌∙◌, ℕ, zero, suc, ◌+◌, ◌*◌, ◌^◌, ◌<◌, ◌≤◌, Bool, true, false, not, List, [], ◌∷◌, ◌++◌, replicate, refl, sym, ap, subst, arith}
 use Rattle.std.specs.Prelude.{IsTrue}
 use Rattle.std.proofs.lemmas.List.{get_or-replicate, replicate-append-replicate}
 use Rattle.bool_tables.specs.Steps.{op_value}
@@ -18,6 +18,7 @@ use Rattle.canon_file.specs.Walks.{table_of, row_at}
 use Rattle.canon_file.proofs.ConstDiagram.{constant, constant_unsplit, once_same}
 use Rattle.canon_file.proofs.RowLaws.{levels_same}
 use Rattle.canon_file.proofs.StandLaws.{deeper_at, nodes_stand}
+use Rattle.canon_file.proofs.WalkLaws.{parts_by}
 use Rattle.copied_diagrams.specs.declared.operand.Operand.{Operand}
 use Rattle.copied_diagrams.specs.declared.operand.Operand.TheVariants.{Left, Right}
 use Rattle.copied_diagrams.specs.declared.operand.Choice.TheVariants.{Constant, Copy, Complement}
@@ -27,11 +28,6 @@ use Rattle.copied_diagrams.specs.Operands.{pair_table, MayMeet, IsResult}
 use Rattle.copied_diagrams.specs.Pairs.{of_operand}
 
 -- a truth value stands for the table that has it everywhere
-abbrev parts_by : (ℕ → Row) → ℕ → ℕ → ℕ → Bool → List Bool
-parts_by arcs h i w b = cond b
-    (table_of arcs h (suc i) (arcs w).low ++ table_of arcs h (suc i) (arcs w).high)
-    (table_of arcs h (suc i) w ++ table_of arcs h (suc i) w)
-
 deep : (v : Bool) (i : ℕ) → suc i ≤ 65536 → suc i * 2 ^ 47 ≤ terminal v
 deep true i low = omega arith
 deep false i low = omega arith

@@ -1,6 +1,6 @@
 -- The trailer of a canonical file.
 use Rattle.std.proofs.Common.{◌≡◌, ◌∙◌, ℕ, ◌+◌, ◌-◌, ◌*◌, ◌/◌, ◌^◌, ◌<◌, Bool, List, ◌++◌, length, drop, sym, ap, subst, arith}
-use Rattle.std.specs.Prelude.{slice_index, [], ◌∷◌, Result, Ok, Err, IfErr, IsErrAnd}
+use Rattle.std.specs.Prelude.{slice_index, [], ◌∷◌}
 use Rattle.std.proofs.lemmas.Nat.{from_be_bytes-to_be_bytes_8}
 use Rattle.std.proofs.lemmas.List.{length-append, drop_at}
 use Rattle.rec_words.specs.declared.rec.Rec.{Rec}
@@ -46,11 +46,6 @@ long_canonical n t =
 pub operand_damage : (n : ℕ) (f : FileNo) (world : World) (e : StreamFault) → IsDamageOf f e → IsTrailerDamage n (file world f).bytes e → IsOperandDamage n f world e
 operand_damage n f world Shelf of damage = tt
 operand_damage n f world (Damaged g at) of damage = (of, damage)
-
--- what follows of the fault that a result has
-pub on_fault : {A E : Type 0} (r : Result A E) (e : E) (P : E → Type 0) → IsErrAnd r (λ x. x ≡ e) → P e → IfErr r P
-on_fault (Ok x) e P is p = tt
-on_fault (Err x) e P is p = subst P (sym is) p
 
 -- the canonical file of a table is read as such
 pub file_has : (n : ℕ) (t : List Bool) (f : FileNo) (world : World) → ((m : ℕ) (u : List Bool) → HasForm m u → HasNodes m (canon_root m u) (canon_nodes m u) (canon_bytes m u))

@@ -1,18 +1,12 @@
 -- What each step of a search keeps, and what its end says.
-use Rattle.std.proofs.Common.{◌≡◌, ◌≢◌, ◌⊎◌, inl, inr, ℕ, zero, suc, ◌+◌, ◌<◌, ◌≤◌, ◌==◌, ◌||◌, Bool, true, false, List, [], ◌∷◌, ◌++◌, length, get_or, replicate, refl, sym, ap, ◌∙◌, subst, arith, ⊎_elim}
-use Rattle.std.proofs.lemmas.Bool.{cases_Bool, cases_eq, eqb-true}
+use Rattle.std.proofs.Common.{◌≡◌, ◌≢◌, ℕ, ◌<◌, ◌==◌, ◌||◌, Bool, true, false, List, [], ◌∷◌, ◌++◌, length, get_or, replicate, refl, sym, ap, ◌∙◌, subst, arith, ⊎_elim}
+use Rattle.std.proofs.lemmas.Bool.{cases_Bool, cases_eq, eqb-true, or_left, or_right}
+use Rattle.std.proofs.lemmas.Grind.{get_or_default_zero}
 use Rattle.std.proofs.lemmas.List.{get_or-replicate, length-replicate}
+use Rattle.std.proofs.lemmas.List.Folds.{Any-from_list_any}
 use Rattle.depth_first.specs.Graph.{has, edges_of, IsGraph, Reaches, directly, through}
 use Rattle.depth_first.specs.Search.{Spreads, IsSearch, reached_at}
 use Rattle.depth_first.proofs.Frames.{has_push, has_last, has_other, has_at}
-
-or_left : (a b : Bool) → a ≡ true → (a || b) ≡ true
-or_left true b e = refl
-or_left false b e = absurd (cc)
-
-or_right : (a b : Bool) → b ≡ true → (a || b) ≡ true
-or_right true b e = refl
-or_right false b e = e
 
 or_cases : (a b : Bool) → (a || b) ≡ true → a ≡ false → b ≡ true
 or_cases true b h e = absurd (cc)
@@ -20,14 +14,12 @@ or_cases false b h e = h
 
 -- where a number of a list stands
 pub has_where : (xs : List ℕ) (x : ℕ) → has xs x ≡ true → (i : ℕ) × (i < length xs) × (get_or xs i 0 ≡ x)
-has_where [] x h = absurd (cc)
-has_where (y ∷ ys) x h = ⊎_elim
-    (λ (e : (y == x) ≡ true). (0, omega arith, eqb-true y x e))
-    (λ (e : (y == x) ≡ false). let r = has_where ys x (or_cases (y == x) (has ys x) h e) in (suc r.0, omega (arith, r.1), r.2))
-    (cases_Bool (y == x))
+has_where xs x h =
+    let a = Any-from_list_any (λ y. y == x) xs h in
+    (a.0, a.2, sym (get_or_default_zero xs a.0 a.1 a.2) ∙ a.3 ∙ eqb-true a.1 x a.4)
 
 -- a node that is reached directly, and then through others
-reaches_on : (g : List (List ℕ)) (s u t : ℕ) → Reaches g s u → has (edges_of g u) t ≡ true → Reaches g s t
+pub reaches_on : (g : List (List ℕ)) (s u t : ℕ) → Reaches g s u → has (edges_of g u) t ≡ true → Reaches g s t
 reaches_on g s u t (directly _ _ h) e = through s u t h (directly u t e)
 reaches_on g s u t (through _ v _ h r) e = through s v t h (reaches_on g v u t r e)
 

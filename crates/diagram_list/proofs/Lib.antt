@@ -1,4 +1,4 @@
-mod Steps
+pub mod Steps
 mod Saying
 mod Loops
 mod Listed

@@ -22,13 +22,11 @@ use Rattle.run_tiers.specs.declared.parts.Parts.{Parts}
 use Rattle.run_tiers.specs.Parts.{Took, Spilled, WasTaken}
 use Rattle.run_merge.specs.Sorters as sorters
 use Rattle.run_files.proofs.RecordOrder.{none_less}
+use Rattle.run_merge.proofs.RefusedLaws.{err_of}
 use Rattle.run_merge.proofs.SorterLaws.{credit_bounded, list_counted, list_kept, list_kept_unchanged, list_kept_with_parts, serves_on}
 use Rattle.run_merge.proofs.RunFiles.{sorter_taken}
 use Rattle.level_queue.specs.declared.queue.LevelQueue.{LevelQueue}
 use Rattle.level_queue.specs.Queues.{held, credit, IsRunOf, IsNoLess, IsReached, AnswersNoLess, IsOutOfOrder, IsBelow, IsQueueFault, IsQueueCause, Serves, Lists}
-
-abbrev err_of : {T : Type 0} → SortFault → Result (Option T) SortFault
-err_of e = Err e
 
 -- what follows from the list of which an item joined the other
 joins_so : {T : Type 0} (P Q : List T → Type 0) (x : T) (xs : List T) (result : Result Unit SortFault)
@@ -168,13 +166,6 @@ shows_on P Q xs (Ok o) e is shows = absurd is
 shows_on {T = T} P Q xs (Err Shelf) e is shows = tt
 shows_on {T = T} P Q xs (Err (Damaged f at)) e is shows = subst (λ (y : SortFault). Shows P xs (err_of {T = T} y)) (sym is) shows
 shows_on {T = T} P Q xs (Err RunsSpent) e is shows = subst (λ (y : SortFault). Shows P xs (err_of {T = T} y)) (sym is) shows
-
--- the same where one is to be given
-pub gives_on : {T : Type 0} (P Q : List T → Type 0) (xs : List T) (r : Result (Option T) SortFault) (e : SortFault) → IsErrAnd r (λ y. y ≡ e) → Shows P xs (Err e) → Gives Q xs r
-gives_on P Q xs (Ok o) e is shows = absurd is
-gives_on {T = T} P Q xs (Err Shelf) e is shows = tt
-gives_on {T = T} P Q xs (Err (Damaged f at)) e is shows = subst (λ (y : SortFault). Shows P xs (err_of {T = T} y)) (sym is) shows
-gives_on {T = T} P Q xs (Err RunsSpent) e is shows = subst (λ (y : SortFault). Shows P xs (err_of {T = T} y)) (sym is) shows
 
 -- a fault of the sorter is one of the queue
 pub fault_of_sorter : {T : Type 0} (is_value : T → Type 0) (words : T → List ℕ) (cmp : T → T → Ordering) (old new : LevelQueue T) (before after : World) (e : SortFault)

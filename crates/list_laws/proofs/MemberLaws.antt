@@ -1,7 +1,8 @@
--- what is kept and lost by maps, filters and ascending lists
-use Rattle.std.specs.Prelude.{◌≡◌, ◌⊎◌, suc, ◌≤◌, Bool, true, false, cond, List, [], ◌∷◌, ◌++◌, length, map, filter}
-use Rattle.std.proofs.Common.{refl, sym, ◌∙◌, ap, subst, inl, inr, true≢false, arith}
+-- what is kept and lost by maps, filters, parts and ascending lists
+use Rattle.std.specs.Prelude.{◌≡◌, ◌⊎◌, ℕ, suc, ◌+◌, ◌-◌, ◌≤◌, Bool, true, false, cond, List, [], ◌∷◌, ◌++◌, length, map, filter, slice_range}
+use Rattle.std.proofs.Common.{take, drop, refl, sym, ◌∙◌, ap, subst, inl, inr, true≢false, arith}
 use Rattle.std.proofs.lemmas.Bool.{cases_Bool}
+use Rattle.std.proofs.lemmas.List.{drop-take}
 use Rattle.list_laws.specs.Members.{Has, SameMembers, put, ascending, IsAscending, IsStrictOrder}
 
 -- a member of two lists one after the other is one of either
@@ -51,6 +52,12 @@ filter_has {X} p x (y ∷ ys) h = by (filter_has p x ys) (p y) refl h
 pub filter_none : {X : Type 0} (p : X → Bool) (xs : List X) → ((x : X) → Has x xs → p x ≡ false) → filter p xs ≡ []
 filter_none p [] none = refl
 filter_none p (x ∷ xs) none = let fail : p x ≡ false = none x (inl refl) in rw fail (filter_none p xs (λ y h. none y (inr h)))
+
+-- a part is the rest of a front
+pub slice_take : {X : Type 0} (xs : List X) (a e : ℕ) → a ≤ e → slice_range xs a e ≡ drop a (take e xs)
+slice_take {X} xs a e order =
+    let whole : a + (e - a) ≡ e = omega (arith, order) in
+    sym (drop-take a (e - a) xs) ∙ ap (λ (n : ℕ). drop a (take n xs)) whole
 
 module _ {X : Type 0} (before : X → X → Bool) where
   -- the three ways in which x is put into a list

@@ -1,5 +1,5 @@
 -- A choice of three canonical diagrams meets no more tuples than its step joins.
-use Rattle.std.specs.Prelude.{◌≡◌, ◌⊎◌, ℕ, suc, ◌+◌, ◌<◌, ◌≤◌, ◌==◌, ◌&&◌, Bool, true, false, cond, List, [], ◌∷◌}
+use Rattle.std.specs.Prelude.{◌≡◌, ◌⊎◌, ℕ, suc, ◌+◌, ◌<◌, ◌≤◌, Bool, true, false, cond, List, [], ◌∷◌}
 use Rattle.std.specs.List.{list_any}
 use Rattle.std.proofs.Common.{refl, sym, ◌∙◌, ap, subst, inl, inr, arith}
 use Rattle.std.proofs.lemmas.Bool.Decides.{nat_tests}
@@ -11,13 +11,13 @@ use Rattle.canon_file.specs.Pieces.{pieces, splits}
 use Rattle.canon_file.specs.Laws.{HasForm}
 use Rattle.arc_diagrams.specs.Arcs.{onward}
 use Rattle.top_down.specs.declared.tuple.Tuple.{Tuple}
-use Rattle.top_down.specs.declared.tuple.Goal.{Goal}
 use Rattle.top_down.specs.declared.tuple.Goal.TheVariants.{End, Go}
 use Rattle.top_down.specs.Tuples.{Targets, AreFrom, unused, level_of_tuple, parts}
 use Rattle.top_down.specs.Rules.{IsAsked}
 use Rattle.top_down.specs.Operations.{is_end, is_one, ends_or, choice_goal, choice_rule}
 use Rattle.top_down.specs.Laws.{roots_of_three, targets_of_three}
 use Rattle.top_down.proofs.TupleLaws.{onward-past}
+use Rattle.top_down.proofs.ChoiceLaws.{left_by, says_of, same_ends}
 use Rattle.top_down.proofs.GoalLaws.{go_tuple, end_go, ends_or-go}
 use Rattle.top_down_laws.specs.Operations.{canon_diagrams}
 use Rattle.top_down_laws.proofs.CanonTasks.{choice_is_task}
@@ -26,29 +26,14 @@ use Rattle.met_tuples.proofs.PointerLaws.{piece_pointer, half_piece, whole_piece
 use Rattle.met_tuples.proofs.Covering.{View, Family, meets_few}
 use Rattle.met_tuples.proofs.SideTuples.{has_side, member_at, any_splits, LeadsToHalves, AsksAlike, TurnsTo, TurnsToSides, same_side-parts, covers_sides}
 
--- the branch that a test leaves, and the tuple with that branch alone
+-- the branch that a test leaves
 abbrev branch : Bool → Tuple → ℕ
 branch value x = cond value x.second x.third
-
-abbrev left_by : Bool → Tuple → Tuple
-left_by true x = record { first = x.first; second = x.second; third = unused }
-left_by false x = record { first = x.first; second = unused; third = x.third }
 
 -- the test is a truth value, that one
 record Decides (value : Bool) (x : Tuple) : Type 0 where
   ends : is_end x.first ≡ true
   one : is_one x.first ≡ value
-
--- what the rule says, where it is known whether the test is a truth value, and which, and whether the branches are the
--- same one
-abbrev says_of : Bool → Bool → Bool → Tuple → Goal
-says_of b d s x =
-    cond b (cond d (ends_or x.second (left_by true x)) (ends_or x.third (left_by false x)))
-    (cond s (End (is_one x.second)) (Go x))
-
--- the branches are the same truth value
-abbrev same_ends : Tuple → Bool
-same_ends x = is_end x.second && (x.second == x.third)
 
 -- where the test decides, the rule speaks of the branch that is left
 decided : (value : Bool) (x : Tuple) → Decides value x → choice_goal x ≡ ends_or (branch value x) (left_by value x)

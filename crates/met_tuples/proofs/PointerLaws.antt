@@ -3,7 +3,7 @@ use Rattle.std.specs.Prelude.{◌≡◌, ℕ, zero, suc, ◌+◌, ◌≤◌, Boo
 use Rattle.std.proofs.Common.{refl, ◌∙◌, ap, subst, inl, inr, arith}
 use Rattle.std.proofs.lemmas.Bool.{cases_Bool}
 use Rattle.std.proofs.lemmas.List.{append-nil}
-use Rattle.bool_tables.specs.Tables.{low_half, high_half, half_where}
+use Rattle.bool_tables.specs.Tables.{low_half, half_where}
 use Rattle.rec_words.specs.Words.{level_of}
 use Rattle.list_laws.specs.Members.{Has}
 use Rattle.canon_file.specs.declared.row.Row.{Row}
@@ -15,6 +15,7 @@ use Rattle.canon_file.specs.Walks.{nowhere, row_at, Agrees}
 use Rattle.canon_file.proofs.PieceLaws.{has_low, has_high, unsplit}
 use Rattle.canon_file.proofs.RowLaws.{has_row, pointer-split, pointer-unsplit}
 use Rattle.canon_file.proofs.StandLaws.{at_level, placed, agrees}
+use Rattle.canon_file.proofs.WalkLaws.{below-half}
 use Rattle.arc_diagrams.specs.Arcs.{onward}
 use Rattle.top_down.specs.Tuples.{IsFrom}
 use Rattle.top_down.proofs.TupleLaws.{from_terminal, onward-past}
@@ -51,12 +52,6 @@ pointer_splits n h i ps p end top here =
           absurd (omega (arith, deep, same, here))
     ]
 
--- the pointer of the half on a side
-half-side : (f : List Bool → ℕ) (h : ℕ) (side : Bool) (p : List Bool)
-    → cond side (f (high_half h p)) (f (low_half h p)) ≡ f (half_where h side p)
-half-side f h true p = refl
-half-side f h false p = refl
-
 -- a piece that doesn't split has the same half on each side
 same_half : (h : ℕ) (side : Bool) (p : List Bool) → splits h p ≡ false → low_half h p ≡ half_where h side p
 same_half h true p e = unsplit h p e
@@ -75,7 +70,7 @@ pointer_onward targets n h i side ps p end top agree member =
           let at = placed r (rows_with f h ps) nowhere (has_row f h p ps member split) in
           let row : targets (row_word i k) ≡ r = agree.0 k at.0 ∙ at.1 in
           ap (onward targets i side) (pointer-split h i ps p split)
-          ∙ (λ j. cond (at_level i k j) (cond side (row j).high (row j).low) (row_word i k)) ∙ half-side f h side p
+          ∙ (λ j. cond (at_level i k j) (cond side (row j).high (row j).low) (row_word i k)) ∙ below-half f h side p
       | inr same ↦
           let deep : suc i ≤ level_of (f (low_half h p)) =
           (pointer_from n h (suc i) (halves h ps) (low_half h p) (omega arith) top).deep in

@@ -2,7 +2,7 @@
 use Rattle.std.specs.Prelude.{◌≡◌, ℕ, suc, ◌+◌, ◌<◌, ◌≤◌, ◌==◌, ◌||◌, nat_lt, Bool, true, false, cond, List, [], ◌∷◌}
 use Rattle.std.specs.List.{list_any}
 use Rattle.std.proofs.Common.{refl, sym, ◌∙◌, ap, subst, inl, inr, true≢false, arith}
-use Rattle.std.proofs.lemmas.Bool.{cases_Bool, lt-ltb}
+use Rattle.std.proofs.lemmas.Bool.{cases_Bool, lt-ltb, le-ltb, eq-eqb, ne_eqb}
 use Rattle.std.proofs.lemmas.Bool.Decides.{nat_tests}
 use Rattle.bool_tables.specs.Tables.{half_where}
 use Rattle.bool_tables.specs.declared.steps.Quant.{Quant}
@@ -21,7 +21,7 @@ use Rattle.top_down.specs.Rules.{Rule, IsAsked, IsRule, below_on}
 use Rattle.top_down.specs.Operations.{is_end, two, quantify_goal, quantify_rule}
 use Rattle.top_down.specs.Laws.{root_twice}
 use Rattle.top_down.proofs.TupleLaws.{from_terminal, onward-past, canon-deep}
-use Rattle.top_down.proofs.VariableLaws.{At, Above, Below, place_of_level, lt-false, same-true, same-false}
+use Rattle.top_down.proofs.VariableLaws.{At, Above, Below, place_of_level}
 use Rattle.top_down.proofs.QuantifyLaws.{may_one, quantify_is_rule}
 use Rattle.top_down_laws.specs.Operations.{canon_diagrams}
 use Rattle.top_down_laws.specs.Readings.{targets_in}
@@ -76,14 +76,14 @@ module _ (n variable : ℕ) (kind : Quant) (t : List Bool) (form : HasForm n t) 
   has_halves : (i h : ℕ) (l : List (List Bool)) → i ≡ variable
       → Has (halves h l) (tuples_below (Quantify kind 0 variable) i h l)
   has_halves i h l same =
-      subst (λ b. Has (halves h l) (cond b (halves h l ∷ []) (both_sides h l))) (sym (same-true i variable same))
+      subst (λ b. Has (halves h l) (cond b (halves h l ∷ []) (both_sides h l))) (sym (eq-eqb i variable same))
       (inl refl)
 
   has_side : (i h : ℕ) (side : Bool) (l : List (List Bool)) → (i ≡ variable → ⊥)
       → Has (side_of h side l) (tuples_below (Quantify kind 0 variable) i h l)
   has_side i h side l other =
       subst (λ b. Has (side_of h side l) (cond b (halves h l ∷ []) (both_sides h l)))
-      (sym (same-false i variable other)) (by side)
+      (sym (ne_eqb i variable other)) (by side)
     where
       by : (side : Bool) → Has (side_of h side l) (both_sides h l)
       by true = inr (inl refl)
@@ -97,7 +97,7 @@ module _ (n variable : ℕ) (kind : Quant) (t : List Bool) (form : HasForm n t) 
       ap (λ b. cond b
       (two (parts targets (level_of_tuple x) false x).first (parts targets (level_of_tuple x) true x).first)
       (cond side (parts targets (level_of_tuple x) true x) (parts targets (level_of_tuple x) false x)))
-      (same-true (level_of_tuple x) variable same)
+      (eq-eqb (level_of_tuple x) variable same)
 
   below_side : (side : Bool) (x : Tuple) → (level_of_tuple x ≡ variable → ⊥)
       → below_on rule targets side x ≡ parts targets (level_of_tuple x) side x
@@ -105,7 +105,7 @@ module _ (n variable : ℕ) (kind : Quant) (t : List Bool) (form : HasForm n t) 
       ap (λ b. cond b
       (two (parts targets (level_of_tuple x) false x).first (parts targets (level_of_tuple x) true x).first)
       (cond side (parts targets (level_of_tuple x) true x) (parts targets (level_of_tuple x) false x)))
-      (same-false (level_of_tuple x) variable other)
+      (ne_eqb (level_of_tuple x) variable other)
       ∙ by side
     where
       on : Bool → Tuple
@@ -146,13 +146,13 @@ module _ (n variable : ℕ) (kind : Quant) (t : List Bool) (form : HasForm n t) 
 
   -- one piece stands down to the variable, and two below it
   one_piece : (i h : ℕ) (l : List (List Bool)) → i ≤ variable → ArePieces t variable i h l → AreOf t false i h l
-  one_piece i h l most are = subst (λ b. AreOf t b i h l) (lt-false variable i most) are
+  one_piece i h l most are = subst (λ b. AreOf t b i h l) (le-ltb variable i most) are
 
   two_pieces : (i h : ℕ) (l : List (List Bool)) → variable < i → ArePieces t variable i h l → AreOf t true i h l
   two_pieces i h l more are = subst (λ b. AreOf t b i h l) (lt-ltb variable i more) are
 
   are_one : (i h : ℕ) (l : List (List Bool)) → i ≤ variable → AreOf t false i h l → ArePieces t variable i h l
-  are_one i h l most are = subst (λ b. AreOf t b i h l) (sym (lt-false variable i most)) are
+  are_one i h l most are = subst (λ b. AreOf t b i h l) (sym (le-ltb variable i most)) are
 
   are_two : (i h : ℕ) (l : List (List Bool)) → variable < i → AreOf t true i h l → ArePieces t variable i h l
   are_two i h l more are = subst (λ b. AreOf t b i h l) (sym (lt-ltb variable i more)) are

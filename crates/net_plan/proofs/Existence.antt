@@ -5,19 +5,14 @@ use Rattle.std.proofs.lemmas.Bool.{cond_both, cases_eq, ltb-true, ltb-false, fal
 use Rattle.std.proofs.lemmas.List.{length-set, length-replicate, get_or-set_other}
 use Rattle.std.proofs.lemmas.List.Sums.{count_by-le-length, sum_by-set, get_or-le-sum_by}
 use Rattle.depth_first.specs.Graph.{edges_of, has, Reaches}
+use Rattle.depth_first.proofs.Searches.{has_where, reaches_on}
 use Rattle.blif_reader.specs.Netlist.{Net, IsNet, cover_at}
 use Rattle.net_plan.specs.Values.{HasValue, cover_value}
-use Rattle.net_plan.proofs.Visits.{has_place}
 
 -- the value of a signal, by a recursion of bounded depth
 value_within : ℕ → Net → (ℕ → Bool) → ℕ → Bool
 value_within zero net inputs s = false
 value_within (suc d) net inputs s = cond (nat_lt s net.inputs) (inputs s) (cover_value (cover_at net s) (map (value_within d net inputs) (edges_of net.edges s)))
-
--- one edge more
-pub reaches_on : (g : List (List ℕ)) (s u t : ℕ) → Reaches g s u → has (edges_of g u) t ≡ true → Reaches g s t
-reaches_on g s u t (Reaches.directly s' u' h) e = Reaches.through s u t h (Reaches.directly u t e)
-reaches_on g s u t (Reaches.through s' v u' h r) e = Reaches.through s v t h (reaches_on g v u t r e)
 
 -- a signal that isn't on the way is marked
 marks_less : (marks : List Bool) (s : ℕ) → s < length marks → get_or marks s false ≡ false → count_by not (set marks s true) + 1 ≡ count_by not marks
@@ -54,7 +49,7 @@ module _ (net : Net) (inputs : ℕ → Bool) (sound : IsNet net) where
       (cases_eq u s)))) where
         reads : (t : ℕ) → has (edges_of net.edges s) t ≡ true → t < length net.names
         reads t h =
-            let place = has_place (edges_of net.edges s) t h in
+            let place = has_where (edges_of net.edges s) t h in
             let below : get_or (edges_of net.edges s) place.0 0 < length net.edges = sound.tables.graph s place.0 (subst (λ m. s < m) (sym sound.tables.signals) inside) place.1 in
             omega (arith, place.2, sound.tables.signals)
 

@@ -1,10 +1,13 @@
 -- The steps of signals go on with any well-formed plan.
-use Rattle.std.proofs.Common.{◌≡◌, ◌⊎◌, inl, inr, ⊎_elim, ℕ, zero, suc, ◌+◌, ◌<◌, ◌≤◌, Bool, true, false, cond, List, [], ◌∷◌, ◌++◌, length, get_or, take, map, set, nat_lt, refl, sym, ap, ◌∙◌, subst, arith, append_assoc}
+use Rattle.std.proofs.Common.{◌≡◌, ◌⊎◌, inl, inr, ⊎_elim, ℕ, suc, ◌+◌, ◌<◌, ◌≤◌, Bool, true, false, cond, List, [], ◌∷◌, ◌++◌, length, get_or, take, map, set, nat_lt, refl, sym, ap, ◌∙◌, subst, arith, append_assoc}
 use Rattle.std.specs.List.{list_all, flat_map}
-use Rattle.std.proofs.lemmas.Bool.{cond_both, cases_eq, cases_Bool, ltb-true, and_from, and_parts, or_cases, eqb-true, true≢false}
+use Rattle.std.proofs.lemmas.Bool.{cond_both, cases_eq, cases_Bool, ltb-true, and_from, or_cases, eqb-true, true≢false}
 use Rattle.std.proofs.lemmas.List.{append-nil, length-set, length-replicate, map-append, get_or-map, length-map, get_or-set_same, get_or-set_other}
+use Rattle.std.proofs.lemmas.List.Elements.{All-get_or}
+use Rattle.std.proofs.lemmas.List.Sums.{AllPass-from_list_all}
 use Rattle.depth_first.specs.Graph.{edges_of, has, visits, IsTopological}
 use Rattle.depth_first.proofs.Frames.{has_other, has_at}
+use Rattle.depth_first.proofs.Searches.{has_where}
 use Rattle.depth_first.proofs.Walks.{visits_above, visits_inside}
 use Rattle.blif_reader.specs.Netlist.{Net, IsNet, cover_at}
 use Rattle.bool_tables.specs.declared.steps.Step.{Step}
@@ -15,7 +18,7 @@ use Rattle.net_plan.specs.Plan.{Planning, signal_draft, with_signal, make_signal
 use Rattle.net_plan.specs.Values.{steps_of}
 use Rattle.net_plan.specs.WellFormed.{StaysWellFormed}
 use Rattle.net_plan.proofs.Blocks.{has_head, has_tail}
-use Rattle.net_plan.proofs.Visits.{has_place, roots_visited}
+use Rattle.net_plan.proofs.Visits.{roots_visited}
 use Rattle.net_plan.proofs.Distinct.{IsDistinct, distinct_head, distinct_rest, visits_distinct}
 use Rattle.net_plan.proofs.Follows.{live, live_is, live_inside, follows, all_follow, IsBelow, below_follows, may_from, follow_from, below_none, follow_none}
 use Rattle.net_plan.proofs.Lives.{Fits, IsLive, Adds, lives_inside, adds_one, block_adds, drop_fits, drop_stays}
@@ -99,7 +102,7 @@ module _ (n : ℕ) (text : List ℕ) (base : List Step) (below : IsBelow base) (
   signals_live p seen [] is inside above distinct fresh = subst (IsLivePlanning n text base net p) (sym (append-nil seen)) is
   signals_live p seen (s ∷ ss) is inside above distinct fresh =
       let reads : (t : ℕ) → has (edges_of net.edges s) t ≡ true → has seen t ≡ true =
-      λ t h. let place = has_place (edges_of net.edges s) t h in
+      λ t h. let place = has_where (edges_of net.edges s) t h in
       subst (λ u. has seen u ≡ true) place.2 (ap (λ us. has us (get_or (edges_of net.edges s) place.0 0)) (sym (append-nil seen)) ∙ above 0 place.0 (omega arith) place.1) in
       let d : Draft = signal_draft net levels first p s in
       subst (IsLivePlanning n text base net (make_signals net levels first p (s ∷ ss))) (append_assoc seen (s ∷ []) ss)
@@ -156,10 +159,8 @@ module _ (n : ℕ) (text : List ℕ) (base : List Step) (below : IsBelow base) (
       (cases_Bool (has wanted s))
 
 -- each number of a list passes a test that all pass
-each_passes : (p : ℕ → Bool) (xs : List ℕ) → list_all p xs ≡ true → (i : ℕ) → i < length xs → p (get_or xs i 0) ≡ true
-each_passes p [] h i b = absurd (omega arith)
-each_passes p (x ∷ xs) h zero b = (and_parts (p x) (list_all p xs) h).0
-each_passes p (x ∷ xs) h (suc i) b = each_passes p xs (and_parts (p x) (list_all p xs) h).1 i (omega arith)
+pub each_passes : (p : ℕ → Bool) (xs : List ℕ) → list_all p xs ≡ true → (i : ℕ) → i < length xs → p (get_or xs i 0) ≡ true
+each_passes p xs h i b = All-get_or (λ x. p x ≡ true) xs i 0 b (AllPass-from_list_all p xs h)
 
 -- the steps of a plan go on with any plan
 pub plan_goes_on : (net : Net) (levels wanted : List ℕ) (first : ℕ) (order : List ℕ) → IsNet net → length levels ≡ net.inputs → order ≡ visits net.edges wanted → IsTopological net.edges order

@@ -36,7 +36,7 @@ cube_grows first steps cells ts = omega (arith, length-append steps (Const true 
 row_grows : (first : ℕ) (sum : Draft) (cells ts : List ℕ) → length sum.steps ≤ length (row first sum cells ts).steps
 row_grows first sum cells ts = omega (arith, cube_grows first sum.steps cells ts, summed_grows first sum (cube first sum.steps cells ts))
 
-rows_grow : (first : ℕ) (sum : Draft) (rs : List (List ℕ)) (ts : List ℕ) → length sum.steps ≤ length (rows first sum rs ts).steps
+pub rows_grow : (first : ℕ) (sum : Draft) (rs : List (List ℕ)) (ts : List ℕ) → length sum.steps ≤ length (rows first sum rs ts).steps
 rows_grow first sum [] ts = omega arith
 rows_grow first sum (r ∷ rs) ts = omega (arith, row_grows first sum r ts, rows_grow first (row first sum r ts) rs ts)
 
@@ -58,10 +58,6 @@ cube_begins first steps cells ts = columns_grow first (put first steps (Const tr
 pub rows_below : (first : ℕ) (r : List ℕ) (d total : Draft) (all rs : List (List ℕ)) (ts : List ℕ) → all ≡ r ∷ rs → rows first d all ts ≡ total → length (row first d r ts).steps ≤ length total.steps
 rows_below first r d total all rs ts e so_far =
     subst (λ (u : Draft). length (row first d r ts).steps ≤ length u.steps) so_far (rw e (rows_grow first (row first d r ts) rs ts))
-
--- the first step of a sum
-pub rows_begin : (first : ℕ) (sum : Draft) (rs : List (List ℕ)) (ts : List ℕ) → length sum.steps ≤ length (rows first sum rs ts).steps
-rows_begin first sum rs ts = rows_grow first sum rs ts
 
 -- the sum, before its complement
 pub signed_grows : (first : ℕ) (value : Bool) (sum : Draft) → length sum.steps ≤ length (signed first value sum).steps

@@ -6,6 +6,7 @@ use Rattle.std.proofs.lemmas.List.{append-nil, get_or-map, get_or-set_same, get_
 use Rattle.std.specs.List.{flat_map}
 use Rattle.depth_first.specs.Graph.{edges_of, has, visits, IsTopological}
 use Rattle.depth_first.proofs.Frames.{has_other}
+use Rattle.depth_first.proofs.Searches.{has_where}
 use Rattle.blif_reader.specs.Netlist.{Net, IsNet, IsBlock, cover_at}
 use Rattle.bool_tables.specs.Tables.{value_at}
 use Rattle.bool_tables.specs.Steps.{tables_after}
@@ -16,7 +17,7 @@ use Rattle.net_plan.specs.Plan.{Planning, signal_draft, with_signal, make_signal
 use Rattle.net_plan.specs.Values.{HasValue, IsTableOf, MakeTables, inputs_at}
 use Rattle.net_plan.proofs.Tables.{table, table_named, Gives, Keeps, keeps_front, put_gives}
 use Rattle.net_plan.proofs.Blocks.{block_keeps, block_gives}
-use Rattle.net_plan.proofs.Visits.{has_place, roots_visited}
+use Rattle.net_plan.proofs.Visits.{roots_visited}
 
 -- the step with a number makes the table of a signal
 pub record IsSignal (n : ℕ) (before : List (List Bool)) (net : Net) (levels : List ℕ) (steps : List Step) (k s : ℕ) : Type 0 where
@@ -97,7 +98,7 @@ module _ (n : ℕ) (before : List (List Bool)) (net : Net) (levels : List ℕ) (
   signals_made p seen [] is inside above = subst (IsPlanning n before net levels p) (sym (append-nil seen)) is
   signals_made p seen (s ∷ ss) is inside above =
       let reads : (t : ℕ) → has (edges_of net.edges s) t ≡ true → has seen t ≡ true =
-      λ t h. let place = has_place (edges_of net.edges s) t h in
+      λ t h. let place = has_where (edges_of net.edges s) t h in
       subst (λ u. has seen u ≡ true) place.2 (ap (λ us. has us (get_or (edges_of net.edges s) place.0 0)) (sym (append-nil seen)) ∙ above 0 place.0 (omega arith) place.1) in
       let d : Draft = signal_draft net levels first p s in
       subst (IsPlanning n before net levels (make_signals net levels first p (s ∷ ss))) (append_assoc seen (s ∷ []) ss)

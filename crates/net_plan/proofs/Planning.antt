@@ -11,7 +11,7 @@ use Rattle.bool_tables.specs.declared.steps.Step.{Step}
 use Rattle.bool_tables.specs.declared.steps.Step.TheVariants.{Const, Var}
 use Rattle.net_plan.specs.Covers.{Draft, put, rows, block}
 use Rattle.net_plan.specs.Plan.{Planning, signal_draft, with_signal, make_signals}
-use Rattle.net_plan.proofs.Growth.{rows_begin, signed_grows, cond_grows}
+use Rattle.net_plan.proofs.Growth.{rows_grow, signed_grows, cond_grows}
 
 -- what a block reads is a signal
 pub reads_inside : (net : Net) (s i : ℕ) → IsNet net → s < length net.names → i < length (edges_of net.edges s) → get_or (edges_of net.edges s) i 0 < length net.names
@@ -22,7 +22,7 @@ reads_inside net s i sound inside less =
 
 block_grows : (first : ℕ) (steps : List Step) (value : Bool) (rs : List (List ℕ)) (ts : List ℕ) → length steps ≤ length (block first steps value rs ts).steps
 block_grows first steps value rs ts =
-    omega (arith, length-append steps (Const false ∷ []), rows_begin first (put first steps (Const false)) rs ts, signed_grows first value (rows first (put first steps (Const false)) rs ts))
+    omega (arith, length-append steps (Const false ∷ []), rows_grow first (put first steps (Const false)) rs ts, signed_grows first value (rows first (put first steps (Const false)) rs ts))
 
 signal_grows : (net : Net) (levels : List ℕ) (first : ℕ) (p : Planning) (s : ℕ) → length p.steps ≤ length (signal_draft net levels first p s).steps
 signal_grows net levels first p s =

@@ -1,17 +1,8 @@
 -- What a visit reaches.
-use Rattle.std.proofs.Common.{◌≡◌, ℕ, zero, suc, ◌-◌, ◌<◌, ◌==◌, true, false, List, [], ◌∷◌, length, get_or, sym, ap, ◌∙◌, arith}
+use Rattle.std.proofs.Common.{◌≡◌, ℕ, zero, suc, ◌-◌, ◌<◌, true, false, List, [], ◌∷◌, length, get_or, ap, ◌∙◌, arith}
 use Rattle.std.specs.List.{fold}
-use Rattle.std.proofs.lemmas.Bool.{eqb-true}
-use Rattle.std.proofs.lemmas.Grind.{get_or_default_zero}
-use Rattle.std.proofs.lemmas.List.Folds.{Any-from_list_any}
 use Rattle.depth_first.specs.Graph.{edges_of, has, visit, visits}
 use Rattle.depth_first.proofs.Descents.{visit_keeps, visit_sees}
-
--- where a number of a list stands
-pub has_place : (xs : List ℕ) (t : ℕ) → has xs t ≡ true → (i : ℕ) × (i < length xs) × (get_or xs i 0 ≡ t)
-has_place xs t h =
-    let a = Any-from_list_any (λ y. y == t) xs h in
-    (a.0, a.2, sym (get_or_default_zero xs a.0 a.1 a.2) ∙ a.3 ∙ eqb-true a.1 t a.4)
 
 -- steps that each keep a number keep it together
 fold_keeps : (f : List ℕ → ℕ → List ℕ) (x : ℕ) → ((us : List ℕ) (t : ℕ) → has us x ≡ true → has (f us t) x ≡ true) → (us ts : List ℕ) → has us x ≡ true → has (fold f us ts) x ≡ true

@@ -1,20 +1,16 @@
 -- the canonical file of a table is a node file
-use Rattle.std.specs.Prelude.{◌≡◌, ℕ, zero, suc, ◌+◌, ◌*◌, ◌^◌, ◌<◌, ◌≤◌, Bool, List, [], ◌∷◌, ◌++◌, length}
-use Rattle.std.proofs.Common.{refl, ap, subst, sym, ◌∙◌, arith}
+use Rattle.std.specs.Prelude.{◌≡◌, ℕ, suc, ◌+◌, ◌*◌, ◌^◌, ◌<◌, ◌≤◌, Bool, List, [], ◌∷◌, ◌++◌, length}
+use Rattle.std.proofs.Common.{ap, subst, sym, ◌∙◌, arith}
 use Rattle.std.proofs.lemmas.List.{length-append}
 use Rattle.rec_words.specs.Words.{level_numbers}
 use Rattle.canon_file.specs.declared.row.Row.{Row}
-use Rattle.canon_file.specs.Pieces.{halves}
 use Rattle.canon_file.specs.Rows.{levels, Fits}
 use Rattle.canon_file.specs.Canon.{numbered, nodes_of, canon_nodes, canon_root, canon_bytes}
 use Rattle.canon_file.specs.Laws.{HasForm}
 use Rattle.canon_file.proofs.FileLaws.{is_node_file}
+use Rattle.canon_file.proofs.LevelLaws.{length-levels, length-numbered}
 use Rattle.canon_file.proofs.CanonLaws.{canon_nodes-is, canon_bytes-is}
 use Rattle.node_file.specs.Nodes.{HasNodes}
-
-length-numbered : (i k : ℕ) (rs : List Row) → length (numbered i k rs) ≡ length rs
-length-numbered i k [] = refl
-length-numbered i k (r ∷ rs) = ap suc (length-numbered i (suc k) rs)
 
 -- there are no more nodes than numbers
 length-nodes_of : (i : ℕ) (ls : List (List Row)) → Fits ls → length (nodes_of i ls) ≤ length ls * level_numbers
@@ -23,10 +19,6 @@ length-nodes_of i (rs ∷ deeper) fits =
     let rest : length (nodes_of (suc i) deeper) ≤ length deeper * level_numbers = length-nodes_of (suc i) deeper fits.1 in
     let here : length rs ≤ level_numbers = fits.0 in
     omega (arith, length-append (nodes_of (suc i) deeper) (numbered i 0 rs), length-numbered i 0 rs, rest, here)
-
-length-levels : (h i : ℕ) (ps : List (List Bool)) → length (levels h i ps) ≡ h
-length-levels zero i ps = refl
-length-levels (suc h) i ps = ap suc (length-levels h (suc i) (halves h ps))
 
 pub canonical_file : (n : ℕ) (t : List Bool) → HasForm n t → HasNodes n (canon_root n t) (canon_nodes n t) (canon_bytes n t)
 canonical_file n t form =

@@ -65,7 +65,8 @@ ends_none : (root : ℕ) (xs : List Node) → length xs ≡ 0 → EndsAt root xs
 ends_none root [] none ends = ends
 ends_none root (x ∷ xs) none ends = absurd (omega arith)
 
-root_fits : (n root : ℕ) (xs : List Node) → ((x : Node) → Has x xs → IsProper n x) → EndsAt root xs → root < 2 ^ 64
+-- a root fits a word
+pub root_fits : (n root : ℕ) (xs : List Node) → ((x : Node) → Has x xs → IsProper n x) → EndsAt root xs → root < 2 ^ 64
 root_fits n root [] proper (inl zeros) = omega arith
 root_fits n root [] proper (inr ones) = omega arith
 root_fits n root (x ∷ xs) proper ends =

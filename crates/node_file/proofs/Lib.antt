@@ -1,5 +1,5 @@
 mod TrailerLaws
 mod NodeLaws
-mod SkipLaws
-mod FileLaws
+pub mod SkipLaws
+pub mod FileLaws
 mod CanonFiles

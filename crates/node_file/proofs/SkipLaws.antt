@@ -22,7 +22,7 @@ pub goes_down : (old new : NodeReader) (o : Option Node) → 0 < left_of old →
 goes_down old new None some goes = let none : left_of old ≡ 0 = goes.0 in absurd (omega arith)
 goes_down old new (Some x) some goes = goes.1
 
--- a file's bytes are as they were before a look
+-- a look leaves the bytes of each file
 pub same_bytes : (n : ℕ) (f g : FileNo) (old new : World) → Looked n old new → g ≡ f → (file new g).bytes ≡ (file old f).bytes
 same_bytes n f g old new looked same = ap (λ folder. (file_in folder g).bytes) (ran_end old new (Stays (now old)) looked.run) ∙ ap (λ h. (file old h).bytes) same
 

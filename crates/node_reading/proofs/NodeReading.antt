@@ -18,17 +18,8 @@ use Rattle.node_file.specs.declared.reader.NodeReader.{NodeReader}
 use Rattle.node_file.specs.declared.trailer.Trailer.{Trailer}
 use Rattle.node_file.specs.Nodes.{HasTrailer, IsTrailerDamage, IsNodeAt}
 use Rattle.node_file.specs.Readers.{file_of, trailer_of, left_of, given_of, Reads, AreLeft, GoesUp, IsNodePlace, IsNodeAnswer}
-use Rattle.shelf_model.specs.Folder.{file_in}
-use Rattle.shelf_model.specs.World.{now}
-use Rattle.shelf_model.specs.Moments.{Stays}
-use Rattle.shelf_model.proofs.Runs.{ran_end}
+pub use Rattle.node_file.proofs.SkipLaws.{same_bytes as looked_same}
 use Rattle.node_reading.specs.Reading.{bytes_of, count_of, IsTrailerFault, IsBegun, IsReading, IsDamagedNode, IsNodeFault, IsFaultOf, Rises, IsItsNode, GivesOf, GivesNode}
-
--- a look leaves the bytes of each file
-pub looked_same : (n : ℕ) (f g : FileNo) (old new : World) → Looked n old new → g ≡ f
-    → (file new g).bytes ≡ (file old f).bytes
-looked_same n f g old new looked same = ap (λ folder. (file_in folder g).bytes)
-    (ran_end old new (Stays (now old)) looked.run) ∙ ap (λ h. (file old h).bytes) same
 
 -- the answer, with its fault handed on
 abbrev pub handed : Result (Option Node) StreamFault → Result (Option Node) SortFault

@@ -1,9 +1,7 @@
 -- What the calls of the lists, of the readers and of the writer leave of what is held.
-use Rattle.std.proofs.Common.{◌≡◌, ℕ, ◌+◌, ◌-◌, refl, ap, sym, subst, ◌∙◌, inl, inr, List, ◌++◌}
+use Rattle.std.proofs.Common.{◌≡◌, ℕ, ◌+◌, ◌-◌, ap, sym, subst, ◌∙◌, inl, inr, List, ◌++◌}
 use Rattle.std.proofs.lemmas.Bool.{false≢true}
 use Rattle.std.specs.Prelude.{◌∷◌, [], true, false, IsSome, Option, Some, None, Result, Ok, Err, OnOk, IfOk, IfErr, IsErrAnd, Bool}
-use Rattle.std.specs.Int.{w64, to_be_bytes}
-use Rattle.rec_words.specs.declared.node.Node.{Node}
 use Rattle.rec_words.specs.Words.{level_of}
 use Rattle.shelf_model.specs.declared.fault.StreamFault.{StreamFault}
 use Rattle.shelf_model.specs.declared.fault.StreamFault.TheVariants.{Shelf, Damaged}
@@ -14,7 +12,6 @@ use Rattle.shelf_model.specs.World.{World, now, file}
 use Rattle.shelf_model.specs.Moments.{Ran, Stays}
 use Rattle.block_stream.specs.Items.{GivesLast}
 use Rattle.block_stream.specs.Writes.{Wrote, InStep, DuringWrite}
-use Rattle.canon_file.specs.Canon.{node_bytes}
 use Rattle.run_merge.specs.Lists.{Joins, Shows, Gives}
 use Rattle.run_tiers.specs.declared.parts.Parts.{Parts}
 use Rattle.run_tiers.specs.Parts.{Spilled}
@@ -298,13 +295,6 @@ inner_damaged r world told (Err e) fault is up answer =
         → IsDamageOf r world (handed_on f)
     by Shelf up answer = tt
     by (Damaged f at) up answer = inl (damaged_next Inner (inner_of r) world f at up answer)
-
--- the bytes of nodes that follow others
-pub node_bytes-append : (xs ys : List Node) → node_bytes (xs ++ ys) ≡ node_bytes xs ++ node_bytes ys
-node_bytes-append [] ys = refl
-node_bytes-append (x ∷ xs) ys =
-    ap (λ bytes. to_be_bytes w64 x.uid ++ (to_be_bytes w64 x.low ++ (to_be_bytes w64 x.high ++ bytes)))
-    (node_bytes-append xs ys)
 
 -- a writer that goes on with its file leaves the others
 pub served_put : (a : Ahead) (l : Lists) (w v : NodeWriter) (parts : Parts)

@@ -1,5 +1,5 @@
 -- Which arc is collected next, and what of the arcs is read on.
-use Rattle.std.proofs.Common.{◌≡◌, ◌≢◌, ℕ, ◌≤◌, arith, refl, ap, sym, subst, ◌∙◌, inl, inr, List, ◌++◌}
+use Rattle.std.proofs.Common.{◌≡◌, ℕ, ◌≤◌, arith, refl, ap, sym, subst, ◌∙◌, inl, inr, List, ◌++◌}
 use Rattle.std.proofs.lemmas.Bool.Decides.{nat_tests}
 use Rattle.std.proofs.lemmas.List.{same_from_push}
 use Rattle.std.specs.Prelude.{◌∷◌, [], false, true, Bool, cond, Option, Some, None, IfSome, Ok, map, length}
@@ -109,11 +109,6 @@ greatest_read k a end test queue ends =
 -- no arc is to be collected where the queue is empty and none to a truth value is left
 pub none_first : (k : Contents) → k.queue ≡ [] → k.ends ≡ [] → to_collect k ≡ []
 none_first k queue ends = λ j. map as_arc (queue j) ++ ends j
-
--- what is none of the items is None
-pub none_from : {A : Type 0} (o : Option A) → ((x : A) → o ≢ Some x) → o ≡ None
-none_from None never = refl
-none_from (Some x) never = absurd (never x refl)
 
 -- the items behind the first
 abbrev tail_of : {T : Type 0} → List T → List T

@@ -19,7 +19,7 @@ use Rattle.reduce_lists.specs.Held.{AreServed}
 use Rattle.reduce_lists.specs.Contents.{Contents, Holds}
 use Rattle.reduce_lists.specs.Changes.{JoinsNames}
 use Rattle.reduce_lists.proofs.Holding.{with_nodes}
-use Rattle.reduce_lists.proofs.Joining.{node_bytes-append}
+use Rattle.canon_file.proofs.ByteLaws.{node_bytes-append}
 use Rattle.reduce_sweep.specs.declared.phase.Numbered.{Numbered}
 use Rattle.reduce_sweep.specs.declared.reduce.ReduceSweep.{ReduceSweep}
 use Rattle.reduce_sweep.specs.Sweeps.{held_of, IsNumberedAt}

@@ -6,20 +6,17 @@ use Rattle.rec_words.specs.Words.{level_of, IsTerminal, IsNodeWord, IsPointer}
 use Rattle.rec_words.specs.declared.node.Node.{Node}
 use Rattle.block_stream.specs.Records.{record_at}
 use Rattle.arc_diagrams.proofs.WordLaws.{level-terminal}
+use Rattle.arc_diagrams.proofs.CanonArcs.{side_of}
 use Rattle.node_file.specs.Nodes.{identifier_at, IsNodeAt, HasTrailer}
 use Rattle.node_reading.specs.Reading.{count_of}
+use Rattle.top_down_sweep.proofs.OperandReading.{node_identifier}
 use Rattle.restrict_eval.specs.Missing.{IsNamed, IsMissedAt}
 use Rattle.restrict_eval.specs.Eval.{IsPath, IsPassed, side_by}
-use Rattle.restrict_eval.proofs.PathLaws.{by_side}
 
 -- the pointer is that of a node where it is no truth value
 pub node_word : (p : ℕ) → IsPointer p → ¬ IsTerminal p → IsNodeWord p
 node_word p (inl node) other = node
 node_word p (inr end) other = absurd (other end)
-
--- the identifier of a node that stands there
-identifier_is : (n l : ℕ) (bytes : List ℕ) (x : Node) → IsNodeAt n l bytes x → identifier_at l bytes ≡ x.uid
-identifier_is n l bytes x at = sym (ap (λ (ws : List ℕ). slice_index ws 0) at.record_is.same)
 
 -- that of the last node is the root
 last_is_root : (n l root : ℕ) (bytes : List ℕ) → HasTrailer n root bytes → l + 1 ≡ count_of bytes → identifier_at l bytes ≡ root
@@ -37,7 +34,7 @@ place_from P l count here later k from below = elim (cases_lt l k) [
 
 module _ (n l root p : ℕ) (bytes : List ℕ) (x : Node) (at : IsNodeAt n l bytes x) (among : l < count_of bytes) (path : IsPath root (l + 1) bytes p) where
   uid : identifier_at l bytes ≡ x.uid
-  uid = identifier_is n l bytes x at
+  uid = node_identifier n l bytes x at
 
   -- the node was found, and the path goes on to one of its sides
   pub path_found : (bits : List Bool) → x.uid ≡ p → IsPath root l bytes (side_by bits x)
@@ -45,16 +42,16 @@ module _ (n l root p : ℕ) (bytes : List ℕ) (x : Node) (at : IsNodeAt n l byt
       let proper = at.proper in
       let b : Bool = get_or bits (level_of x.uid) false in
       let c : ℕ = side_by bits x in
-      let above : x.uid < c = by_side (λ w. x.uid < w) x b (let d = proper.low in omega (arith, d)) (let d = proper.high in omega (arith, d)) in
+      let above : x.uid < c = side_of (λ w. x.uid < w) x b (let d = proper.low in omega (arith, d)) (let d = proper.high in omega (arith, d)) in
       record {
-        pointer = by_side IsPointer x b proper.words.low proper.words.high;
+        pointer = side_of IsPointer x b proper.words.low proper.words.high;
         above = place_from (λ k. identifier_at k bytes < c) l (count_of bytes) (omega (arith, above, uid))
             (λ k from below. let less : identifier_at k bytes < p = path.above k from below in omega (arith, less, same, above));
         named = inr (record {
           place = l;
           since = omega arith;
           among = among;
-          side = by_side (λ w. (slice_index (record_at 3 l bytes).w 1 ≡ w) ⊎ (slice_index (record_at 3 l bytes).w 2 ≡ w)) x b
+          side = side_of (λ w. (slice_index (record_at 3 l bytes).w 1 ≡ w) ⊎ (slice_index (record_at 3 l bytes).w 2 ≡ w)) x b
               (inl (sym (ap (λ (ws : List ℕ). slice_index ws 1) at.record_is.same)))
               (inr (sym (ap (λ (ws : List ℕ). slice_index ws 2) at.record_is.same)));
         });
@@ -102,7 +99,7 @@ pub passed_on : (n l q : ℕ) (given now : Option ℕ) (bytes : List ℕ) (x : N
     → IsPassed (l + 1) given bytes q → IsPassed l now bytes q
 passed_on n l q given now bytes x at rises last passed =
     let p : ℕ = passed.pointer in
-    let uid : identifier_at l bytes ≡ x.uid = identifier_is n l bytes x at in
+    let uid : identifier_at l bytes ≡ x.uid = node_identifier n l bytes x at in
     let up : passed.last.0 < x.uid = subst (λ o. IfSome o (λ g. g < x.uid)) passed.last.1 rises in
     let less : p < passed.last.0 = passed.last.2 in
     let read : l + 1 ≤ q = passed.read in

@@ -14,7 +14,7 @@ use Rattle.canon_file.proofs.FileLaws.{is_node_file}
 use Rattle.arc_file.specs.declared.arc.Arc.{Arc}
 use Rattle.arc_diagrams.specs.Arcs.{targets_of, arcs_of, IsWithin, IsMet}
 use Rattle.arc_diagrams.proofs.WordLaws.{at_from, past_from, level-terminal}
-use Rattle.arc_diagrams.proofs.CanonArcs.{targets-arcs_of, arc_to, has_arc_to, canon_complete}
+use Rattle.arc_diagrams.proofs.CanonArcs.{targets-arcs_of, arc_to, has_arc_to, side_of, canon_complete}
 use Rattle.restrict_eval.specs.Eval.{IsOneOf, side_by}
 
 -- a walk goes on from a node as from where it leads on the side of its level
@@ -85,10 +85,6 @@ met_one n t w form (inl below) met =
 pub root_one : (n : ℕ) (t : List Bool) → HasForm n t → IsOneOf (canon_nodes n t) (canon_root n t)
 root_one n t form = met_one n t (canon_root n t) form (canon_complete n t form).begins (inl refl)
 
-pub by_side : (P : ℕ → Type 0) (x : Node) (b : Bool) → P x.low → P x.high → P (cond b x.high x.low)
-by_side P x true low high = high
-by_side P x false low high = low
-
 module _ (n : ℕ) (t : List Bool) (form : HasForm n t) (xs ys : List Node) (y : Node) (split : canon_nodes n t ≡ xs ++ y ∷ ys) where
   descends : IsDescending (xs ++ y ∷ ys)
   descends = subst IsDescending split (is_node_file n t form.few form.whole form.fits).descend
@@ -100,7 +96,7 @@ module _ (n : ℕ) (t : List Bool) (form : HasForm n t) (xs ys : List Node) (y :
       let m : Has y (canon_nodes n t) = subst (Has y) (sym split) (middle xs) in
       let arc : Has (arc_to y b) (arcs_of (canon_nodes n t)) = has_arc_to y b (canon_nodes n t) m in
       let within : IsWithin n (cond b y.high y.low) = (canon_complete n t form).within (arc_to y b) arc in
-      let above : y.uid < cond b y.high y.low = by_side (λ w. y.uid < w) y b (let l = proper.low in omega (arith, l)) (let h = proper.high in omega (arith, h)) in
+      let above : y.uid < cond b y.high y.low = side_of (λ w. y.uid < w) y b (let l = proper.low in omega (arith, l)) (let h = proper.high in omega (arith, h)) in
       elim (met_one n t (cond b y.high y.low) form within (inr (arc_to y b, arc, refl))) [
         | inl end ↦ inl end
         | inr one ↦ (let uid : one.0.uid ≡ cond b y.high y.low = one.2 in
@@ -119,6 +115,6 @@ module _ (n : ℕ) (t : List Bool) (form : HasForm n t) (xs ys : List Node) (y :
       let below : l < n = proper.level in
       let row : targets_of (arcs_of (canon_nodes n t)) y.uid ≡ record { low = y.low; high = y.high } =
       targets-arcs_of (canon_nodes n t) y.uid ∙ ap (λ zs. row_at zs y.uid) split ∙ row_of_node xs ys y descends in
-      let deep : l < level_of (side_by bits y) = by_side (λ w. l < level_of w) y (get_or bits l false) proper.low proper.high in
+      let deep : l < level_of (side_by bits y) = side_of (λ w. l < level_of w) y (get_or bits l false) proper.low proper.high in
       walk_on (targets_of (arcs_of (canon_nodes n t))) 0 l bits y.uid (side_by bits y) (omega arith) (omega (arith, below, long)) (omega (arith, deep))
       (sym (ap (λ (r : Row). cond (get_or bits l false) r.high r.low) row))

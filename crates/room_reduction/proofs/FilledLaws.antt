@@ -1,5 +1,5 @@
 -- The sources that stand in the room when all arcs were read.
-use Rattle.std.proofs.Common.{◌≡◌, ℕ, zero, suc, ◌<◌, ◌≤◌, Bool, true, false, List, [], ◌∷◌, length, take, sym, ap, subst, ◌∙◌, inl, inr, arith}
+use Rattle.std.proofs.Common.{◌≡◌, ℕ, ◌<◌, ◌≤◌, Bool, true, false, List, [], length, take, sym, ap, subst, ◌∙◌, inl, inr, arith}
 use Rattle.std.specs.Prelude.{Result, Ok, Err, Option, Some, None, IfOk, IfSome}
 use Rattle.std.proofs.lemmas.Bool.{cases_lt}
 use Rattle.std.proofs.lemmas.List.{length-take-le, get_or-take}
@@ -13,14 +13,7 @@ use Rattle.arc_diagrams.specs.Arcs.{IsComplete, IsMet, target_on}
 use Rattle.arc_diagrams.proofs.TargetLaws.{the_target}
 use Rattle.room_reduction.specs.Sources.{word, AreSources}
 use Rattle.room_reduction.specs.Filling.{word_on, IsPut, AreMet}
-
--- a member stands at a place
-has_place : (r : Rec) (xs : List Rec) → Has r xs → (k : ℕ) × (k < length xs) × (record_at xs k ≡ r)
-has_place r [] has = absurd has
-has_place r (x ∷ xs) (inl same) = (zero, omega arith, same)
-has_place r (x ∷ xs) (inr has) =
-    let (k, below, at) = has_place r xs has in
-    (suc k, omega (arith, below), at)
+use Rattle.room_reduction.proofs.LevelSources.{member_place}
 
 module _ (n root : ℕ) (all : List Arc) (xs : List Rec) (count : ℕ) (complete : IsComplete n root all)
     (old : AreMet n root all [] xs count) where
@@ -59,7 +52,7 @@ module _ (n root : ℕ) (all : List Arc) (xs : List Rec) (count : ℕ) (complete
     -- each of them is a record among the first
     among : (r : Rec) → Has r (take count xs) → (k : ℕ) × (k < count) × (record_at xs k ≡ r)
     among r has =
-        let (k, below, at) = has_place r (take count xs) has in
+        let (k, below, at) = member_place r (take count xs) has in
         let long = length-take-le count xs within in
         let early : k < count = omega (arith, below, long) in
         (k, early, sym (in_front k early) ∙ at)

@@ -1,8 +1,8 @@
 -- How many words a line has at most.
-use Rattle.std.specs.Prelude.{◌≡◌, ℕ, suc, ◌+◌, ◌≤◌, List, [], ◌∷◌, length, min}
+use Rattle.std.specs.Prelude.{◌≡◌, ℕ, ◌+◌, ◌≤◌, List, length, min}
 use Rattle.std.specs.List.{slice_split, count_by, position_or_len}
 use Rattle.std.proofs.Math.Nat.{min-le_right}
-use Rattle.std.proofs.Common.{refl, ap, arith}
+use Rattle.std.proofs.Common.{ap, arith}
 use Rattle.std.proofs.lemmas.List.{length-take, length-map}
 use Rattle.std.proofs.lemmas.List.Sums.{length-filter, count_by-le-length}
 use Rattle.std.proofs.lemmas.List.Splits.{length-slice_split}
@@ -10,12 +10,8 @@ use Rattle.text_words.specs.Text.{Line, placed, words_in, code_of, is_blank, is_
 use Rattle.text_words.specs.Left.{line_of, word_of}
 use Rattle.text_words.specs.declared.lines.Line as shown_line
 use Rattle.text_words.specs.declared.words.Word as shown
+use Rattle.blif_reader.proofs.Pieces.{length-placed}
 use Rattle.script_reader.specs.Views.{words_of}
-
--- each piece has its place
-length-placed : (at : ℕ) (ps : List (List ℕ)) → length (placed at ps) ≡ length ps
-length-placed at [] = refl
-length-placed at (p ∷ ps) = ap suc (length-placed (at + length p + 1) ps)
 
 -- at most one word more than bytes
 few_in : (l : Line) → length (words_in l) ≤ length l.bytes + 1

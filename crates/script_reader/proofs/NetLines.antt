@@ -5,6 +5,7 @@ use Rattle.std.specs.List.{AllByRecursion, list_all, list_any, position_from}
 use Rattle.std.specs.Str.{bytes_eq}
 use Rattle.std.proofs.lemmas.Bool.{and_from, and_parts, or_parts, lt-ltb, ltb-true, le-leb, leb-true, not-true}
 use Rattle.std.proofs.lemmas.List.{append-nil, length-append, length-map, length-take}
+use Rattle.std.proofs.lemmas.Option.{same_Some}
 use Rattle.std.proofs.lemmas.Slice.Eq.{bytes_eq-Decides}
 use Rattle.bool_tables.specs.Plans.{has_name, may_follow, all_may_follow}
 use Rattle.bool_tables.specs.declared.steps.Planned.{Planned}
@@ -14,7 +15,7 @@ use Rattle.blif_reader.specs.Netlist.{Net, IsNet}
 use Rattle.net_plan.specs.Plan.{plan_steps, plan_made}
 use Rattle.net_plan.specs.Values.{steps_of}
 use Rattle.net_plan.specs.WellFormed.{GoesOn}
-use Rattle.net_plan.proofs.GoingOn.{steps_go_on}
+use Rattle.net_plan.proofs.GoingOn.{each_passes, steps_go_on}
 use Rattle.text_words.specs.Text.{Word}
 use Rattle.text_words.specs.Places.{StandsIn}
 use Rattle.script_reader.specs.declared.fault.ScriptKind.{ScriptKind}
@@ -91,15 +92,12 @@ module _ (k : ScriptKind) (find : List ℕ → Option ℕ) where
 
 -- the place of a name is one of the names', and that of no other
 
-some_is : (a b : ℕ) → Some a ≡ Some b → a ≡ b
-some_is a b e = cc
-
 pub place_low : (t : List ℕ → Bool) (from : ℕ) (names : List (List ℕ)) (x : ℕ) → position_from t from names ≡ Some x → from ≤ x
 place_low t from [] x e = absurd cc
 place_low t from (name ∷ names) x e = by (t name) refl (place_low t (from + 1) names x)
   where
     by : (b : Bool) → t name ≡ b → (position_from t (from + 1) names ≡ Some x → from + 1 ≤ x) → from ≤ x
-    by true here later = omega (arith, some_is _ _ (sym (ap (λ b. cond b (Some from) (position_from t (from + 1) names)) here) ∙ e))
+    by true here later = omega (arith, same_Some _ _ (sym (ap (λ b. cond b (Some from) (position_from t (from + 1) names)) here) ∙ e))
     by false other later = omega (arith, later (sym (ap (λ b. cond b (Some from) (position_from t (from + 1) names)) other) ∙ e))
 
 place_inside : (t : List ℕ → Bool) (from : ℕ) (names : List (List ℕ)) (x : ℕ) → position_from t from names ≡ Some x → x < from + length names
@@ -107,7 +105,7 @@ place_inside t from [] x e = absurd cc
 place_inside t from (name ∷ names) x e = by (t name) refl (place_inside t (from + 1) names x)
   where
     by : (b : Bool) → t name ≡ b → (position_from t (from + 1) names ≡ Some x → x < (from + 1) + length names) → x < from + suc (length names)
-    by true here later = omega (arith, some_is _ _ (sym (ap (λ b. cond b (Some from) (position_from t (from + 1) names)) here) ∙ e))
+    by true here later = omega (arith, same_Some _ _ (sym (ap (λ b. cond b (Some from) (position_from t (from + 1) names)) here) ∙ e))
     by false other later = omega (arith, later (sym (ap (λ b. cond b (Some from) (position_from t (from + 1) names)) other) ∙ e))
 
 one_place : (from : ℕ) (names : List (List ℕ)) (a b : List ℕ) (x : ℕ) → position_from (bytes_eq a) from names ≡ Some x → position_from (bytes_eq b) from names ≡ Some x → a ≡ b
@@ -119,20 +117,14 @@ one_place from (name ∷ names) a b x e k = by (bytes_eq a name) (bytes_eq b nam
 
     by : (s t : Bool) → bytes_eq a name ≡ s → bytes_eq b name ≡ t → (position_from (bytes_eq a) (from + 1) names ≡ Some x → position_from (bytes_eq b) (from + 1) names ≡ Some x → a ≡ b) → a ≡ b
     by true true is_a is_b later = (bytes_eq-Decides a name).0 is_a ∙ sym ((bytes_eq-Decides b name).0 is_b)
-    by true false is_a is_b later = absurd (omega (arith, some_is _ _ (behind a true is_a e), place_low (bytes_eq b) (from + 1) names x (behind b false is_b k)))
-    by false true is_a is_b later = absurd (omega (arith, some_is _ _ (behind b true is_b k), place_low (bytes_eq a) (from + 1) names x (behind a false is_a e)))
+    by true false is_a is_b later = absurd (omega (arith, same_Some _ _ (behind a true is_a e), place_low (bytes_eq b) (from + 1) names x (behind b false is_b k)))
+    by false true is_a is_b later = absurd (omega (arith, same_Some _ _ (behind b true is_b k), place_low (bytes_eq a) (from + 1) names x (behind a false is_a e)))
     by false false is_a is_b later = later (behind a false is_a e) (behind b false is_b k)
-
--- a test that all pass, at one of them
-pub passes_at : (p : ℕ → Bool) (xs : List ℕ) → list_all p xs ≡ true → (i : ℕ) → i < length xs → p (get_or xs i 0) ≡ true
-passes_at p [] h i b = absurd (omega arith)
-passes_at p (x ∷ xs) h zero b = (and_parts (p x) (list_all p xs) h).0
-passes_at p (x ∷ xs) h (suc i) b = passes_at p xs (and_parts (p x) (list_all p xs) h).1 i (omega arith)
 
 -- the signals of a line are the netlist's
 pub wanted_inside : (net : Net) (signals : List (List ℕ)) (wanted : List ℕ) → wanted_of net signals ≡ Ok wanted → (i : ℕ) → i < length wanted → get_or wanted i 0 < length net.names
 wanted_inside net signals wanted e i b =
-    ltb-true _ _ (passes_at (λ s. nat_lt s (length net.names)) wanted
+    ltb-true _ _ (each_passes (λ s. nat_lt s (length net.names)) wanted
     (found_all kind.UnknownName (index.place_of net.names) (λ s. nat_lt s (length net.names)) (λ name x is. lt-ltb _ _ (omega (arith, place_inside (bytes_eq name) 0 net.names x is))) signals wanted e) i b)
 
 -- steps without names

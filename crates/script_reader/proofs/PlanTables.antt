@@ -1,8 +1,8 @@
 -- The tables of the steps of a plan stay when further steps stand behind them.
 use Rattle.std.proofs.Common.{◌≡◌, ◌∙◌, ℕ, ◌+◌, ◌<◌, Bool, List, [], ◌∷◌, ◌++◌, length, get_or, refl, ap, arith, length-append}
-use Rattle.std.proofs.lemmas.List.{get_or_append_left}
 use Rattle.bool_tables.specs.declared.steps.Planned.{Planned}
 use Rattle.bool_tables.specs.Steps.{step_table, tables_after}
+use Rattle.bool_tables.proofs.TableSteps.{tables_keep}
 
 pub tables_append : (n : ℕ) (done : List (List Bool)) (xs ys : List Planned) → tables_after n done (xs ++ ys) ≡ tables_after n (tables_after n done xs) ys
 tables_append n done [] ys = refl
@@ -11,12 +11,6 @@ tables_append n done (x ∷ xs) ys = tables_append n (done ++ step_table n done 
 pub length-tables : (n : ℕ) (done : List (List Bool)) (xs : List Planned) → length (tables_after n done xs) ≡ length done + length xs
 length-tables n done [] = omega arith
 length-tables n done (x ∷ xs) = omega (arith, length-tables n (done ++ step_table n done x.step ∷ []) xs, length-append done (step_table n done x.step ∷ []))
-
-tables_keep : (n : ℕ) (done : List (List Bool)) (xs : List Planned) (k : ℕ) → k < length done → get_or (tables_after n done xs) k [] ≡ get_or done k []
-tables_keep n done [] k below = refl
-tables_keep n done (x ∷ xs) k below =
-    tables_keep n (done ++ step_table n done x.step ∷ []) xs k (omega (arith, below, length-append done (step_table n done x.step ∷ [])))
-    ∙ get_or_append_left done (step_table n done x.step ∷ []) [] k below
 
 -- the table of a step of the front
 pub table_stays : (n : ℕ) (steps more : List Planned) (k : ℕ) → k < length steps → get_or (tables_after n [] (steps ++ more)) k [] ≡ get_or (tables_after n [] steps) k []

@@ -5,6 +5,7 @@ use Rattle.std.specs.List.{All, AllByRecursion, Contains, position_from}
 use Rattle.std.specs.Str.{bytes_eq}
 use Rattle.std.proofs.lemmas.List.{length-append, length-map}
 use Rattle.std.proofs.lemmas.List.Elements.{All-from_recursion}
+use Rattle.std.proofs.lemmas.Option.{same_Some}
 use Rattle.bool_tables.specs.Steps.{tables_after}
 use Rattle.bool_tables.specs.declared.steps.Planned.{Planned}
 use Rattle.bool_tables.specs.declared.steps.Step.{Step}
@@ -207,9 +208,6 @@ line_makes net text s t number (w ∷ ws) sound h stand is_net e =
 
 -- an input of a netlist stands at its own place among the inputs
 
-some_is : (a b : ℕ) → Some a ≡ Some b → a ≡ b
-some_is a b e = cc
-
 front_place : (x : List ℕ) (from n i : ℕ) (names : List (List ℕ)) → position_from (bytes_eq x) from names ≡ Some (from + i) → i < n → place_of (take n names) x ≡ Some i
 front_place x from n i [] e b = absurd cc
 front_place x from zero i (name ∷ names) e b = absurd (omega arith)
@@ -219,7 +217,7 @@ front_place x from (suc n) i (name ∷ names) e b =
     by : (t : Bool) → bytes_eq x name ≡ t → ((j : ℕ) → position_from (bytes_eq x) (from + 1) names ≡ Some (from + 1 + j) → j < n → place_of (take n names) x ≡ Some j)
         → (i : ℕ) → position_from (bytes_eq x) from (name ∷ names) ≡ Some (from + i) → i < suc n → place_of (take (suc n) (name ∷ names)) x ≡ Some i
     by true is rest i e b =
-        let same : from ≡ from + i = some_is _ _ (sym (ap (λ c. cond c (Some from) (position_from (bytes_eq x) (from + 1) names)) is) ∙ e) in
+        let same : from ≡ from + i = same_Some _ _ (sym (ap (λ c. cond c (Some from) (position_from (bytes_eq x) (from + 1) names)) is) ∙ e) in
         ap (λ c. cond c (Some 0) (option_map suc (place_of (take n names) x))) is ∙ ap Some (omega (arith, same))
     by false is rest zero e b =
         let later = sym (ap (λ c. cond c (Some from) (position_from (bytes_eq x) (from + 1) names)) is) ∙ e in

@@ -2,48 +2,29 @@
 use Rattle.std.proofs.Common.{◌≡◌, ◌∙◌, ℕ, zero, suc, ◌+◌, ◌<◌, ◌≤◌, min, Bool, true, false, ◌&&◌, nat_le, nat_lt, List, [], ◌∷◌, ◌++◌, length, get_or, take, drop, refl, sym, ap, ap₂, subst, arith}
 use Rattle.std.specs.Prelude.{IsTrue, cond, filter}
 use Rattle.std.specs.List.{list_all}
+use Rattle.std.proofs.lemmas.Bool.{leb-true, ltb-true, le-leb, lt-ltb, le-ltb, lt-leb, and_from, and_parts}
 use Rattle.std.proofs.lemmas.List.{drop_more, take_more, take-append-drop, length-take-le, length-take}
 use Rattle.std.proofs.lemmas.List.Sums.{sum_by-cons, sum_by-append}
 use Rattle.std.proofs.lemmas.List.Folds.{list_all-append}
 use Rattle.script_reader.specs.declared.plan.LineEnd.{LineEnd}
 use Rattle.script_reader.specs.Lines.{rise_from, shows_past}
 use Rattle.script_runner.specs.Text.{ended_before, lines_from_step}
-use Rattle.script_runner.proofs.Tests.{first_true, second_true, both_true}
-
--- what a test of an order says, and the other way round
-pub from_le : (a b : ℕ) → IsTrue (nat_le a b) → a ≤ b
-from_le a b h = search (arith, h)
-
-pub from_lt : (a b : ℕ) → IsTrue (nat_lt a b) → a < b
-from_lt a b h = search (arith, h)
-
-pub to_le : (a b : ℕ) → a ≤ b → IsTrue (nat_le a b)
-to_le a b h = search (arith, h)
-
-pub to_lt : (a b : ℕ) → a < b → IsTrue (nat_lt a b)
-to_lt a b h = search (arith, h)
-
-pub no_lt : (a b : ℕ) → b ≤ a → nat_lt a b ≡ false
-no_lt a b h = search (arith, h)
-
-pub no_le : (a b : ℕ) → b < a → nat_le a b ≡ false
-no_le a b h = search (arith, h)
 
 -- lines that rise from a step rise from an earlier one
 pub rises_earlier : (from step : ℕ) (lines : List LineEnd) → from ≤ step → IsTrue (rise_from step lines) → IsTrue (rise_from from lines)
 rises_earlier from step [] earlier rise = refl
 rises_earlier from step (line ∷ lines) earlier rise =
-    let up : step ≤ line.last = from_le step line.last (first_true (nat_le step line.last) (rise_from line.last lines) rise) in
-    both_true (nat_le from line.last) (rise_from line.last lines) (to_le from line.last (omega (arith, earlier, up)))
-    (second_true (nat_le step line.last) (rise_from line.last lines) rise)
+    let up : step ≤ line.last = leb-true step line.last (and_parts (nat_le step line.last) (rise_from line.last lines) rise).0 in
+    and_from (nat_le from line.last) (rise_from line.last lines) (le-leb from line.last (omega (arith, earlier, up)))
+    (and_parts (nat_le step line.last) (rise_from line.last lines) rise).1
 
 -- the lines behind the first ones rise too
 pub rises_behind : (from : ℕ) (lines : List LineEnd) (i : ℕ) → IsTrue (rise_from from lines) → IsTrue (rise_from from (drop i lines))
 rises_behind from lines zero rise = rise
 rises_behind from [] (suc i) rise = rise
 rises_behind from (line ∷ lines) (suc i) rise =
-    rises_behind from lines i (rises_earlier from line.last lines (from_le from line.last (first_true (nat_le from line.last) (rise_from line.last lines) rise))
-    (second_true (nat_le from line.last) (rise_from line.last lines) rise))
+    rises_behind from lines i (rises_earlier from line.last lines (leb-true from line.last (and_parts (nat_le from line.last) (rise_from line.last lines) rise).0)
+    (and_parts (nat_le from line.last) (rise_from line.last lines) rise).1)
 
 -- they rise from a later step where the first of them does
 pub rises_later : (from step : ℕ) (lines : List LineEnd) (i : ℕ) (d : LineEnd) → i < length lines → step ≤ (get_or lines i d).last
@@ -51,8 +32,8 @@ pub rises_later : (from step : ℕ) (lines : List LineEnd) (i : ℕ) (d : LineEn
 rises_later from step lines i d within later rise =
     let front : IsTrue (rise_from from (get_or lines i d ∷ drop (i + 1) lines)) = subst (λ ys. IsTrue (rise_from from ys)) (drop_more lines i d within) rise in
     subst (λ ys. IsTrue (rise_from step ys)) (sym (drop_more lines i d within))
-    (both_true (nat_le step (get_or lines i d).last) (rise_from (get_or lines i d).last (drop (i + 1) lines)) (to_le step (get_or lines i d).last later)
-    (second_true (nat_le from (get_or lines i d).last) (rise_from (get_or lines i d).last (drop (i + 1) lines)) front))
+    (and_from (nat_le step (get_or lines i d).last) (rise_from (get_or lines i d).last (drop (i + 1) lines)) (le-leb step (get_or lines i d).last later)
+    (and_parts (nat_le from (get_or lines i d).last) (rise_from (get_or lines i d).last (drop (i + 1) lines)) front).1)
 
 -- one line more that comes before a step
 pub front_more : (step : ℕ) (lines : List LineEnd) (i : ℕ) (d : LineEnd) → i < length lines → (get_or lines i d).last < step
@@ -61,19 +42,19 @@ front_more step lines i d within before front =
     let test : LineEnd → Bool = λ l. nat_lt l.last step in
     subst (λ ys. IsTrue (list_all test ys)) (sym (take_more lines i d within))
     (subst IsTrue (sym (list_all-append test (take i lines) (get_or lines i d ∷ [])))
-    (both_true (list_all test (take i lines)) (test (get_or lines i d) && true) front
-    (both_true (test (get_or lines i d)) true (to_lt (get_or lines i d).last step before) refl)))
+    (and_from (list_all test (take i lines)) (test (get_or lines i d) && true) front
+    (and_from (test (get_or lines i d)) true (lt-ltb (get_or lines i d).last step before) refl)))
 
 -- of lines that rise from a step none comes before it
 pub none_before : (step : ℕ) (lines : List LineEnd) → IsTrue (rise_from step lines) → (ended_before step lines ≡ 0) × (lines_from_step step lines ≡ lines)
 none_before step [] rise = (refl, refl)
 none_before step (line ∷ lines) rise =
-    let up : step ≤ line.last = from_le step line.last (first_true (nat_le step line.last) (rise_from line.last lines) rise) in
+    let up : step ≤ line.last = leb-true step line.last (and_parts (nat_le step line.last) (rise_from line.last lines) rise).0 in
     let further : (ended_before step lines ≡ 0) × (lines_from_step step lines ≡ lines) =
-    none_before step lines (rises_earlier step line.last lines up (second_true (nat_le step line.last) (rise_from line.last lines) rise)) in (
+    none_before step lines (rises_earlier step line.last lines up (and_parts (nat_le step line.last) (rise_from line.last lines) rise).1) in (
       sum_by-cons (λ (l : LineEnd). cond (nat_lt l.last step) 1 0) line lines
-          ∙ ap₂ (λ a b. a + b) (ap (λ b. cond b 1 0) (no_lt line.last step up)) further.0,
-      ap (λ b. cond b (line ∷ lines_from_step step lines) (lines_from_step step lines)) (to_le step line.last up) ∙ ap (λ ls. line ∷ ls) further.1,
+          ∙ ap₂ (λ a b. a + b) (ap (λ b. cond b 1 0) (le-ltb line.last step up)) further.0,
+      ap (λ b. cond b (line ∷ lines_from_step step lines) (lines_from_step step lines)) (le-leb step line.last up) ∙ ap (λ ls. line ∷ ls) further.1,
     )
 
 -- and of lines that all come before a step none comes later
@@ -82,12 +63,12 @@ all_before : (step : ℕ) (lines : List LineEnd) → IsTrue (list_all (λ (l : L
 all_before step [] all = (refl, refl)
 all_before step (line ∷ lines) all =
     let test : LineEnd → Bool = λ l. nat_lt l.last step in
-    let here : IsTrue (nat_lt line.last step) = first_true (nat_lt line.last step) (list_all test lines) all in
+    let here : IsTrue (nat_lt line.last step) = (and_parts (nat_lt line.last step) (list_all test lines) all).0 in
     let further : (ended_before step lines ≡ length lines) × (lines_from_step step lines ≡ []) =
-    all_before step lines (second_true (nat_lt line.last step) (list_all test lines) all) in (
+    all_before step lines (and_parts (nat_lt line.last step) (list_all test lines) all).1 in (
       sum_by-cons (λ (l : LineEnd). cond (nat_lt l.last step) 1 0) line lines
           ∙ ap₂ (λ a b. a + b) (ap (λ b. cond b 1 0) here) further.0 ∙ one_more (length lines),
-      ap (λ b. cond b (line ∷ lines_from_step step lines) (lines_from_step step lines)) (no_le step line.last (from_lt line.last step here)) ∙ further.1,
+      ap (λ b. cond b (line ∷ lines_from_step step lines) (lines_from_step step lines)) (lt-leb step line.last (ltb-true line.last step here)) ∙ further.1,
     )
   where
     one_more : (n : ℕ) → 1 + n ≡ suc n
@@ -125,9 +106,9 @@ ended_is step lines count within front rest =
 pub none_left : (count : ℕ) (lines : List LineEnd) → IsTrue (rise_from count lines) → IsTrue (list_all (shows_past count) lines) → lines ≡ []
 none_left count [] rise shown = refl
 none_left count (line ∷ lines) rise shown =
-    let up : count ≤ line.last = from_le count line.last (first_true (nat_le count line.last) (rise_from line.last lines) rise) in
-    let here : IsTrue (shows_past count line) = first_true (shows_past count line) (list_all (shows_past count) lines) shown in
-    let below : line.last < count = from_lt line.last count (second_true (nat_le line.shows line.last) (nat_lt line.last count) here) in
+    let up : count ≤ line.last = leb-true count line.last (and_parts (nat_le count line.last) (rise_from line.last lines) rise).0 in
+    let here : IsTrue (shows_past count line) = (and_parts (shows_past count line) (list_all (shows_past count) lines) shown).0 in
+    let below : line.last < count = ltb-true line.last count (and_parts (nat_le line.shows line.last) (nat_lt line.last count) here).1 in
     absurd (omega (arith, up, below))
 
 -- lines that come before the step after a number show no step above it
@@ -135,20 +116,20 @@ pub shown_in_front : (count number : ℕ) (lines : List LineEnd) → IsTrue (lis
     → IsTrue (list_all (λ (l : LineEnd). nat_le l.shows number) lines)
 shown_in_front count number [] shown front = refl
 shown_in_front count number (line ∷ lines) shown front =
-    let here : IsTrue (shows_past count line) = first_true (shows_past count line) (list_all (shows_past count) lines) shown in
-    let up_to : line.shows ≤ line.last = from_le line.shows line.last (first_true (nat_le line.shows line.last) (nat_lt line.last count) here) in
+    let here : IsTrue (shows_past count line) = (and_parts (shows_past count line) (list_all (shows_past count) lines) shown).0 in
+    let up_to : line.shows ≤ line.last = leb-true line.shows line.last (and_parts (nat_le line.shows line.last) (nat_lt line.last count) here).0 in
     let before : line.last < number + 1 =
-    from_lt line.last (number + 1) (first_true (nat_lt line.last (number + 1)) (list_all (λ (l : LineEnd). nat_lt l.last (number + 1)) lines) front) in
-    both_true (nat_le line.shows number) (list_all (λ (l : LineEnd). nat_le l.shows number) lines) (to_le line.shows number (omega (arith, up_to, before)))
-    (shown_in_front count number lines (second_true (shows_past count line) (list_all (shows_past count) lines) shown)
-    (second_true (nat_lt line.last (number + 1)) (list_all (λ (l : LineEnd). nat_lt l.last (number + 1)) lines) front))
+    ltb-true line.last (number + 1) (and_parts (nat_lt line.last (number + 1)) (list_all (λ (l : LineEnd). nat_lt l.last (number + 1)) lines) front).0 in
+    and_from (nat_le line.shows number) (list_all (λ (l : LineEnd). nat_le l.shows number) lines) (le-leb line.shows number (omega (arith, up_to, before)))
+    (shown_in_front count number lines (and_parts (shows_past count line) (list_all (shows_past count) lines) shown).1
+    (and_parts (nat_lt line.last (number + 1)) (list_all (λ (l : LineEnd). nat_lt l.last (number + 1)) lines) front).1)
 
 -- a front of lines passes a test that all pass
 pub front_passes : (p : LineEnd → Bool) (lines : List LineEnd) (count : ℕ) → IsTrue (list_all p lines) → IsTrue (list_all p (take count lines))
 front_passes p lines zero all = refl
 front_passes p [] (suc count) all = refl
 front_passes p (line ∷ lines) (suc count) all =
-    both_true (p line) (list_all p (take count lines)) (first_true (p line) (list_all p lines) all) (front_passes p lines count (second_true (p line) (list_all p lines) all))
+    and_from (p line) (list_all p (take count lines)) (and_parts (p line) (list_all p lines) all).0 (front_passes p lines count (and_parts (p line) (list_all p lines) all).1)
 
 -- no fewer lines come before a later step
 pub ended_rises : (a b : ℕ) (lines : List LineEnd) → a ≤ b → ended_before a lines ≤ ended_before b lines
@@ -162,8 +143,8 @@ ended_rises a b (line ∷ lines) up =
   where
     by_test : (t : Bool) → nat_lt line.last a ≡ t → cond t 1 0 ≤ cond (nat_lt line.last b) 1 0
     by_test true is =
-        let below : line.last < a = from_lt line.last a is in
-        subst (λ u. 1 ≤ cond u 1 0) (sym (to_lt line.last b (omega (arith, below, up)))) (omega arith)
+        let below : line.last < a = ltb-true line.last a is in
+        subst (λ u. 1 ≤ cond u 1 0) (sym (lt-ltb line.last b (omega (arith, below, up)))) (omega arith)
     by_test false is = omega arith
 
 -- no more lines come before a step than stand before those that rise from it

@@ -1,7 +1,8 @@
 -- The endings of a call whose words ask for a list.
 use Rattle.std.proofs.Common.{◌≡◌, ◌∙◌, ◌⊎◌, ℕ, ◌+◌, ◌*◌, ◌≤◌, Bool, List, [], ◌∷◌, ◌++◌, length, refl, sym, ap, subst, inl, inr, arith}
-use Rattle.std.specs.Prelude.{IsTrue, Option, Some, None, ◌==◌}
+use Rattle.std.specs.Prelude.{IsTrue, Some, ◌==◌}
 use Rattle.std.specs.List.{list_any}
+use Rattle.std.proofs.lemmas.Option.{none-some}
 use Rattle.shelf_model.specs.World.{Moment, World, now, said}
 use Rattle.shelf_model.specs.Calls.{Told}
 use Rattle.shelf_model.specs.Faults.{Faults}
@@ -72,14 +73,11 @@ by_list folder status which = record {
       ]
     ]
   ]);
-  unread = λ none. absurd (some_is (list folder) none);
+  unread = λ none. absurd (none-some (list folder) (sym none));
   listed = λ other same. of_status (λ status. list_any (λ s. s == status) (0 ∷ 7 ∷ 8 ∷ 9 ∷ 10 ∷ [])) refl refl refl refl refl;
   known = of_status (λ status. list_any (λ s. s == status) (0 ∷ 2 ∷ 3 ∷ 4 ∷ 5 ∷ 6 ∷ 7 ∷ 8 ∷ 9 ∷ 10 ∷ 11 ∷ [])) refl refl refl refl refl;
 }
   where
-    some_is : (r : Reading) → ◌≡◌ {A = Option Reading} (Some r) None → ⊥
-    some_is r same = cc
-
     of_status : (test : ℕ → Bool) → IsTrue (test 0) → IsTrue (test 7) → IsTrue (test 8) → IsTrue (test 9) → IsTrue (test 10) → IsTrue (test status)
     of_status test at_0 at_7 at_8 at_9 at_10 = elim which [
       | inl x ↦ subst (λ s. IsTrue (test s)) (sym x) at_9
@@ -157,7 +155,7 @@ pub lists_end : (folder : List ℕ) (job : Job) (status : ℕ) (old new : World)
     → ((status ≡ 0) × (said new ≡ said old ++ diagram_lines job (count_in (present (now old).folder)))) ⊎ ((status ≡ 9) × OnlyFetched old new)
 lists_end folder job status old new before after few sound ends causes none =
     elim ends [
-      | inl usage ↦ absurd (some_is (list folder) usage.unread)
+      | inl usage ↦ absurd (none-some (list folder) (sym usage.unread))
       | inr other ↦ elim other [
         | inl silent ↦ elim silent.status_is [
           | inl six ↦ absurd (let fault = causes.text_fault six in no_text folder fault.2.0 fault.0 fault.1 fault.2.1)
@@ -176,9 +174,6 @@ lists_end folder job status old new before after few sound ends causes none =
       ]
     ]
   where
-    some_is : (r : Reading) → ◌≡◌ {A = Option Reading} (Some r) None → ⊥
-    some_is r same = cc
-
     by_list_in : (path : List ℕ) → ListsIn path status old new → EndsList status → (status ≡ 0) × (said new ≡ said old ++ diagram_lines job (count_in (present (now old).folder)))
     by_list_in path lists which = elim which [
       | inl zero ↦ (zero, lists.leaves.whole zero ∙ ap (λ text. said old ++ text) (lists.leaves.lines_are job sound))

@@ -23,13 +23,13 @@ use Rattle.catalogue.specs.Files.{catalogue, step_gate}
 use Rattle.catalogue.specs.Counts.{present, count_in, entry_at}
 use Rattle.catalogue.specs.Entries.{IsEntryOf}
 use Rattle.catalogue.specs.Standings.{counted_or, most_steps, standing_found}
-use Rattle.catalogue.proofs.Fields.{ReadsAs, entry_reads, same_fields}
 use Rattle.catalogue.proofs.Places.{length_entry}
 use Rattle.diagram_list.specs.declared.fault.ListFault.{ListFault}
 use Rattle.diagram_list.specs.declared.fault.ListFault.TheVariants.{Shelf, Say, Damaged}
-use Rattle.diagram_list.specs.Listing.{entry_read, entry_in, first_steps, is_dropped, step_line, listing}
+use Rattle.diagram_list.specs.Listing.{entry_in, first_steps, is_dropped, step_line, listing}
 use Rattle.diagram_list.specs.Listing as found
 use Rattle.diagram_list.specs.Lists.{StandWhole, SamePlace, DuringList, IsDamagedPlace, NamesDamage, Lists}
+use Rattle.diagram_list.proofs.Steps.{read_is}
 use Rattle.sound_image.specs.Jobs.{Job, no_step, step_at}
 use Rattle.sound_image.specs.Entries.{kind_of, count_of, name_of, IsEntryOfStep}
 use Rattle.sound_image.specs.Sound.{ShowsSteps, IsShown}
@@ -45,13 +45,6 @@ present_shown job folder files sound =
     let image : Image = chosen (λ _ x. x.bytes) folder in
     let reads : bytes_in image ≡ present folder = λ i f. standing folder files f i in
     subst (IsShown job) reads (sound image (standing_image folder files)).shown
-
--- the entry that stands whole is the one that is read
-read_is : (k : ℕ) (r : FileNo → List ℕ) (e : Entry) → IsEntryOf k r e → entry_in r k ≡ e
-unfolding entry_in
-read_is k r e is =
-    let reads : ReadsAs e (entry_at k r) = entry_reads e (entry_at k r) is.entry.fits (sym is.bytes) in
-    same_fields (entry_read (entry_at k r)) e (sym reads.number) (sym reads.kind) (sym reads.answer) (sym reads.count) (sym reads.turns) (sym reads.parts) (sym reads.name_len) (sym reads.name)
 
 -- a committed step has an entry that stands whole
 stands : (job : Job) (r : FileNo → List ℕ) (k : ℕ) → ShowsSteps job r → k < count_in r → (e : Entry) × IsEntryOfStep job k e × IsEntryOf k r e

@@ -2,7 +2,7 @@
 use Rattle.std.proofs.Common.{◌≡◌, ◌∙◌, ℕ, ◌+◌, ◌-◌, ◌*◌, ◌<◌, ◌≤◌, Bool, true, false, cond, nat_lt, List, [], ◌∷◌, ◌++◌, length, take, drop, get_or, refl, sym, ap, ap₂, subst, inl, inr, arith, append_assoc}
 use Rattle.std.specs.Prelude.{IsTrue, Result, Ok, if◌then◌else◌}
 use Rattle.std.specs.List.{flat_map, list_all}
-use Rattle.std.proofs.lemmas.Bool.{cases_lt}
+use Rattle.std.proofs.lemmas.Bool.{cases_lt, and_parts}
 use Rattle.std.proofs.lemmas.List.{append-nil, take-take}
 use Rattle.bool_tables.specs.declared.steps.Step.TheVariants as step
 use Rattle.bool_tables.specs.declared.steps.Planned.{Planned}
@@ -29,7 +29,7 @@ use Rattle.sound_image.specs.Holds.{Holds, AreSound}
 use Rattle.sound_image.proofs.HoldsLaws.{holds_sound, holds_count}
 use Rattle.sound_image.proofs.AttachLaws.{standing, sound_while_attached, count_while_attached}
 use Rattle.sound_image.proofs.Live.{live_below}
-use Rattle.step_engine.proofs.PlanLaws.{first_true, operands_live, follows_at}
+use Rattle.step_engine.proofs.PlanLaws.{operands_live, follows_at}
 use Rattle.script_reader.specs.declared.plan.LineEnd.{LineEnd}
 use Rattle.script_reader.specs.Lines.{AreLines}
 use Rattle.script_runner.specs.declared.finish.Finish.{Finish}
@@ -217,7 +217,7 @@ drop_below job k gone plan within drops_it =
     let live : IsTrue (list_all (is_live (take k job.steps)) (gone ∷ [])) =
     subst (λ s. IsTrue (list_all (is_live (take k job.steps)) (operands s))) drops_it
     (operands_live job.n job.text (take k job.steps) (get_or job.steps k no_step) (follows_at job.n job.text job.steps k no_step within plan)) in
-    live_below job.steps k gone (first_true (is_live (take k job.steps) gone) true live)
+    live_below job.steps k gone (and_parts (is_live (take k job.steps) gone) true live).0
 
 -- what a part of a text that is said next needs to be
 pub record PartSaid (job : Job) (lines : List LineEnd) (count : ℕ) (since part : List ℕ) (old mid : World) : Type 0 where

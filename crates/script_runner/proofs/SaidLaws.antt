@@ -3,8 +3,8 @@ use Rattle.std.proofs.Common.{◌≡◌, ◌∙◌, ◌⊎◌, ℕ, zero, suc, �
 use Rattle.std.specs.Prelude.{codes}
 use Rattle.std.specs.List.{flat_map}
 use Rattle.std.specs.Fmt.{decimal, digits, digits_onto, digit_glyph}
+use Rattle.std.proofs.lemmas.Bool.{lt-ltb}
 use Rattle.std.proofs.lemmas.List.Sums.{sum_by-cons, sum_by-append}
-use Rattle.script_runner.proofs.LineOrder.{to_lt}
 use Rattle.script_reader.specs.declared.plan.LineEnd.{LineEnd}
 use Rattle.bool_tables.specs.declared.steps.Step.{Step}
 use Rattle.bool_tables.specs.declared.steps.Step.TheVariants.{Const, Var, Pair, Ite, Quantify, Restrict, Drop, Same, Leq, Eval, Size}
@@ -28,7 +28,7 @@ whole_lines-front xs ys = omega (arith, whole_lines-append xs ys)
 
 -- no digit ends a line
 no_feed : (d : ℕ) → d < 10 → (digit_glyph false d == 10) ≡ false
-no_feed d small = ap (λ b. cond b (48 + d) (87 + d) == 10) (to_lt d 10 small) ∙ above (48 + d) 10 (omega arith)
+no_feed d small = ap (λ b. cond b (48 + d) (87 + d) == 10) (lt-ltb d 10 small) ∙ above (48 + d) 10 (omega arith)
   where
     above : (a b : ℕ) → b < a → (a == b) ≡ false
     above a b h = search (arith, h)

@@ -2,6 +2,7 @@
 use Rattle.std.proofs.Common.{◌≡◌, ◌∙◌, ℕ, suc, ◌+◌, ◌*◌, ◌<◌, ◌≤◌, Bool, nat_le, nat_lt, List, [], ◌∷◌, ◌++◌, length, take, drop, refl, sym, ap, ap₂, subst, inl, arith, append_assoc}
 use Rattle.std.specs.Prelude.{IsTrue}
 use Rattle.std.specs.List.{list_all}
+use Rattle.std.proofs.lemmas.Bool.{leb-true, ltb-true, lt-ltb, and_from, and_parts}
 use Rattle.std.proofs.lemmas.List.{append-nil, drop-take, take-take}
 use Rattle.shelf_model.specs.declared.file_no.FileNo.{FileNo}
 use Rattle.bool_tables.specs.declared.steps.Planned.{Planned}
@@ -12,8 +13,6 @@ use Rattle.script_reader.specs.declared.plan.LineEnd.{LineEnd}
 use Rattle.script_runner.specs.Text.{entry_line, banner_line, lines_from_step}
 use Rattle.script_runner.specs.Shapes.{AreShown, IsShapeFront}
 use Rattle.script_runner.specs.Said.{whole_lines}
-use Rattle.script_runner.proofs.Tests.{first_true, second_true, both_true}
-use Rattle.script_runner.proofs.LineOrder.{from_lt, from_le, to_lt}
 use Rattle.script_runner.proofs.SaidLaws.{whole_lines-append, entry_line_is_one}
 
 -- where the first entries of a catalogue stay, what stands at the place of each of them stays
@@ -33,12 +32,12 @@ pub still_shown : (steps : List Planned) (bound : ℕ) (r q : FileNo → List �
 still_shown steps bound r q [] bytes same below shown = shown
 still_shown steps bound r q (line ∷ lines) bytes same below shown =
     let here : line.shows < bound =
-    from_lt line.shows bound (first_true (nat_lt line.shows bound) (list_all (λ (l : LineEnd). nat_lt l.shows bound) lines) below) in (
+    ltb-true line.shows bound (and_parts (nat_lt line.shows bound) (list_all (λ (l : LineEnd). nat_lt l.shows bound) lines) below).0 in (
       shown.0,
       shown.1,
       record { entry = shown.2.entry; number = shown.2.number; bytes = same line.shows here ∙ shown.2.bytes },
       shown.3,
-      still_shown steps bound r q lines shown.1 same (second_true (nat_lt line.shows bound) (list_all (λ (l : LineEnd). nat_lt l.shows bound) lines) below) shown.4,
+      still_shown steps bound r q lines shown.1 same (and_parts (nat_lt line.shows bound) (list_all (λ (l : LineEnd). nat_lt l.shows bound) lines) below).1 shown.4,
     )
 
 -- lines and more lines
@@ -72,17 +71,17 @@ pub below_next : (number : ℕ) (lines : List LineEnd) → IsTrue (list_all (λ 
 below_next number [] all = refl
 below_next number (line ∷ lines) all =
     let rest : Bool = list_all (λ (l : LineEnd). nat_le l.shows number) lines in
-    let here : line.shows ≤ number = from_le line.shows number (first_true (nat_le line.shows number) rest all) in
-    both_true (nat_lt line.shows (number + 1)) (list_all (λ (l : LineEnd). nat_lt l.shows (number + 1)) lines) (to_lt line.shows (number + 1) (omega (arith, here)))
-    (below_next number lines (second_true (nat_le line.shows number) rest all))
+    let here : line.shows ≤ number = leb-true line.shows number (and_parts (nat_le line.shows number) rest all).0 in
+    and_from (nat_lt line.shows (number + 1)) (list_all (λ (l : LineEnd). nat_lt l.shows (number + 1)) lines) (lt-ltb line.shows (number + 1) (omega (arith, here)))
+    (below_next number lines (and_parts (nat_le line.shows number) rest all).1)
 
 pub below_later : (bound : ℕ) (lines : List LineEnd) → IsTrue (list_all (λ (l : LineEnd). nat_lt l.shows bound) lines) → IsTrue (list_all (λ (l : LineEnd). nat_lt l.shows (bound + 1)) lines)
 below_later bound [] all = refl
 below_later bound (line ∷ lines) all =
     let rest : Bool = list_all (λ (l : LineEnd). nat_lt l.shows bound) lines in
-    let here : line.shows < bound = from_lt line.shows bound (first_true (nat_lt line.shows bound) rest all) in
-    both_true (nat_lt line.shows (bound + 1)) (list_all (λ (l : LineEnd). nat_lt l.shows (bound + 1)) lines) (to_lt line.shows (bound + 1) (omega (arith, here)))
-    (below_later bound lines (second_true (nat_lt line.shows bound) rest all))
+    let here : line.shows < bound = ltb-true line.shows bound (and_parts (nat_lt line.shows bound) rest all).0 in
+    and_from (nat_lt line.shows (bound + 1)) (list_all (λ (l : LineEnd). nat_lt l.shows (bound + 1)) lines) (lt-ltb line.shows (bound + 1) (omega (arith, here)))
+    (below_later bound lines (and_parts (nat_lt line.shows bound) rest all).1)
 
 -- the shape of a run that has said nothing
 pub says_no_shape : (steps : List Planned) (lines : List LineEnd) (first here : FileNo → List ℕ) → IsShapeFront steps lines first here []

@@ -5,7 +5,7 @@ use Rattle.std.specs.List.{flat_map, list_all}
 use Rattle.std.proofs.lemmas.List.{append-nil, append_cancel_left, take-append-drop, drop-drop, get_or-drop, get_or-take, length-take, length-take-le, length-drop}
 use Rattle.std.proofs.lemmas.List.Folds.{list_all-append}
 use Rattle.std.proofs.lemmas.Grind.{flat_map-append}
-use Rattle.std.proofs.lemmas.Bool.{cases_lt}
+use Rattle.std.proofs.lemmas.Bool.{cases_lt, ltb-true, and_from}
 use Rattle.shelf_model.specs.declared.fault.Failed.{Failed}
 use Rattle.shelf_model.specs.Folder.{Folder, file_in, bytes_in, AreFiles}
 use Rattle.shelf_model.specs.File.{File, IsKept}
@@ -35,8 +35,8 @@ use Rattle.script_runner.specs.Shapes.{AreShown, IsShape, IsWholeShape}
 use Rattle.script_runner.specs.Said.{whole_lines, said_count, no_line}
 use Rattle.script_runner.specs.Running.{SaysFront, IsSaying, SaysOnly, HasSaid, StaysThere, AreEmptied}
 use Rattle.script_runner.specs.StepRuns.{SpeaksLines, SpokeWhole, SpokeAll, SaysRight, SaysLines}
-use Rattle.script_runner.proofs.Tests.{both_true, each_passes}
-use Rattle.script_runner.proofs.LineOrder.{from_lt, ended_is, ended_rises}
+use Rattle.script_runner.proofs.Tests.{each_passes}
+use Rattle.script_runner.proofs.LineOrder.{ended_is, ended_rises}
 use Rattle.script_runner.proofs.Shown.{shown_then}
 use Rattle.script_runner.proofs.SaidLaws.{whole_lines-append, whole_lines-front, lines_are, said_below}
 use Rattle.script_runner.proofs.Standing.{IsStanding}
@@ -50,7 +50,7 @@ front_each step count lines front i within inside =
     let there : i < length (take count lines) = omega (arith, within, inside, length-take count lines) in
     let test : IsTrue (nat_lt (get_or (take count lines) i no_line).last step) =
     each_passes (λ (l : LineEnd). nat_lt l.last step) (take count lines) i no_line there front in
-    subst (λ (l : LineEnd). l.last < step) (get_or-take count lines i no_line within) (from_lt (get_or (take count lines) i no_line).last step test)
+    subst (λ (l : LineEnd). l.last < step) (get_or-take count lines i no_line within) (ltb-true (get_or (take count lines) i no_line).last step test)
 
 -- a piece that was said leaves the files and the station's folder
 piece_stays : (piece : List ℕ) (mid new : World) → SaysOnly piece mid new → Throughout mid new (Stays (now mid)) × StaysThere mid new
@@ -331,7 +331,7 @@ module _ (job : Job) (lines : List LineEnd) (plan : IsPlan job lines) (old : Wor
       shown = subst (λ (folder : Folder). AreShown job.steps (present folder) (at.spoken ++ take count rest) (at.body ++ all.part)) (sym same)
           (shown_then job.steps (present (now mid).folder) at.spoken (take count rest) at.body all.part at.shown all.shown);
       below = subst IsTrue (sym (list_all-append (λ (l : LineEnd). nat_lt l.shows step) at.spoken (take count rest)))
-          (both_true (list_all (λ (l : LineEnd). nat_lt l.shows step) at.spoken) (list_all (λ (l : LineEnd). nat_lt l.shows step) (take count rest)) at.below shows);
+          (and_from (list_all (λ (l : LineEnd). nat_lt l.shows step) at.spoken) (list_all (λ (l : LineEnd). nat_lt l.shows step) (take count rest)) at.below shows);
       made = subst (HasMade job.steps (done_at old) step (now old).folder) (sym same) at.made;
       sound = λ sound.
           let whole : said new ≡ said mid ++ piece = subst (λ r. OnOk r (said new ≡ said mid ++ piece)) ok (right sound).ok in

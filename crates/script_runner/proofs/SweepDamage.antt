@@ -2,6 +2,7 @@
 use Rattle.std.proofs.Common.{◌≡◌, ◌≢◌, ◌∙◌, ℕ, zero, suc, ◌<◌, ◌≤◌, Bool, true, false, not, ◌||◌, ◌==◌, List, [], ◌∷◌, length, take, get_or, sym, ap, subst, inl, inr, arith}
 use Rattle.std.specs.Prelude.{IsTrue}
 use Rattle.std.specs.List.{list_all, list_any}
+use Rattle.std.proofs.lemmas.Bool.{and_parts}
 use Rattle.std.proofs.lemmas.List.{get_or-take, length-take}
 use Rattle.bool_tables.specs.declared.steps.Step.{Step}
 use Rattle.bool_tables.specs.declared.steps.Step.TheVariants.{Const, Var, Pair, Ite, Quantify, Restrict, Drop, Same, Leq, Eval, Size}
@@ -19,7 +20,6 @@ use Rattle.sound_image.specs.Files.{node_file}
 use Rattle.sound_image.specs.Jobs.{no_step}
 use Rattle.step_engine.specs.StepFaults.{IsKindFault, IsDamagedAmong, IsReadingFault, IsMakingFault, IsStepFault}
 use Rattle.script_runner.specs.Running.{IsMetDamage}
-use Rattle.script_runner.proofs.Tests.{first_true, second_true}
 
 -- a station with that folder
 abbrev with_folder : Folder → World → World
@@ -72,9 +72,9 @@ fault_there n (Size operand) a b fault same is = (
 among_passes : (P : ℕ → Bool) (n : ℕ) (xs : List ℕ) (world : World) (f : FileNo) (at : ℕ) → IsTrue (list_all P xs)
     → IsDamagedAmong n xs world f at → (k : ℕ) × (f ≡ node_file k) × IsTrue (P k)
 among_passes P n [] world f at all fault = absurd fault
-among_passes P n (x ∷ xs) world f at all (inl here) = (x, here.0, first_true (P x) (list_all P xs) all)
+among_passes P n (x ∷ xs) world f at all (inl here) = (x, here.0, (and_parts (P x) (list_all P xs) all).0)
 among_passes P n (x ∷ xs) world f at all (inr rest) =
-    among_passes P n xs world f at (second_true (P x) (list_all P xs) all) rest
+    among_passes P n xs world f at (and_parts (P x) (list_all P xs) all).1 rest
 
 -- so is one that a step that sweeps names
 pub fault_passes : (P : ℕ → Bool) (n : ℕ) (s : Step) (world : World) (f : FileNo) (at : ℕ) → IsTrue (sweeps s)
@@ -106,7 +106,7 @@ live_not_dropped steps count k j below within live drops_it =
     let inside : j < length (take count steps) = omega (arith, below, within, length-take count steps) in
     let test : Planned → Bool = λ s. drops k s.step in
     none_passes test (take count steps) j inside
-    (second_true (is_diagram (take count steps) k) (not (list_any test (take count steps))) live)
+    (and_parts (is_diagram (take count steps) k) (not (list_any test (take count steps))) live).1
     (subst (λ (s : Planned). IsTrue (test s)) (sym (get_or-take count steps j no_step below))
     (subst (λ s. IsTrue (drops k s)) (sym drops_it) (same_number k)))
   where

@@ -1,5 +1,5 @@
 -- One step of a run, from its files to its commit and what it leaves behind.
-use Rattle.std.proofs.Common.{◌≡◌, ◌∙◌, ℕ, ◌+◌, ◌*◌, ◌^◌, ◌<◌, ◌≤◌, Bool, true, ◌&&◌, nat_lt, List, [], length, take, get_or, refl, sym, ap, subst, inl, inr, arith}
+use Rattle.std.proofs.Common.{◌≡◌, ◌∙◌, ℕ, ◌+◌, ◌*◌, ◌^◌, ◌<◌, ◌≤◌, Bool, nat_lt, List, [], length, take, get_or, refl, sym, ap, subst, inl, inr, arith}
 use Rattle.std.specs.Prelude.{IsTrue, Ok, Err}
 use Rattle.std.specs.List.{list_all}
 use Rattle.bool_tables.specs.declared.steps.Step.{Step}
@@ -39,7 +39,7 @@ use Rattle.step_engine.specs.OneFile.{ChangesFile, OnlyMade, OnlyTidied}
 use Rattle.step_engine.specs.StepEntries.{IsEntryFor}
 use Rattle.step_engine.specs.StepFaults.{IsKindFault, IsStepFault, IsSoundFault, IsOfKind}
 use Rattle.step_engine.specs.Running.{RunsStep, IsReadyFor}
-use Rattle.step_engine.proofs.EntryLaws.{operand_kind}
+use Rattle.step_engine.proofs.EntryLaws.{only_below, operand_kind}
 use Rattle.script_runner.specs.declared.finish.Finish.{Finish}
 use Rattle.script_runner.specs.declared.finish.Finish.TheVariants.{FolderFault, RunsSpent}
 use Rattle.script_runner.specs.Running.{OthersAre, AreEmptied, IsMetDamage, RefusesFolder, IsStop}
@@ -75,10 +75,6 @@ own_file s k f (inr taken) = record { step_is = taken.1.step_is; part_is = inr t
 -- and is none of the job's
 job_apart : (k : ℕ) (f : FileNo) → k < 4294967295 → f.step ≡ 4294967295 → ¬ (IsOwnFile k f)
 job_apart k f early job_step own = let steps : f.step ≡ k = own.step_is in omega (arith, job_step, steps, early)
-
--- a step's only operand is an earlier step
-only_below : (k x : ℕ) → IsTrue (nat_lt x k && true) → x < k
-only_below k x h = search (arith, h)
 
 -- a step that drops a diagram is that drop
 dropping : (gone : ℕ) (s : Step) → IsTrue (drops gone s) → s ≡ Drop gone

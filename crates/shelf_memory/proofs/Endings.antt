@@ -1,6 +1,7 @@
 -- How the counts at the end of a call give the causes of its answer.
 use Rattle.std.proofs.Common.{◌≡◌, ◌⊎◌, ℕ, ◌+◌, ◌-◌, ◌^◌, ◌<◌, ◌≤◌, min, Bool, true, false, ◌||◌, refl, ap, ◌∙◌, inl, inr, arith}
 use Rattle.std.specs.Prelude.{Result, Ok, Err, OnErr, IsErr, is_err, String}
+use Rattle.std.proofs.Math.Bool.{or-true}
 use Rattle.std.specs.Global.{Global}
 use Rattle.std.specs.BTreeMap.{BTreeMap}
 use Rattle.shelf_memory.specs.declared.counts.Counts.{Counts}
@@ -33,10 +34,6 @@ refused_where : (refused : Bool) (old new : ℕ) → new ≡ raised refused old 
 refused_where true old new rise more = refl
 refused_where false old new rise more = let same : new ≡ old = rise in absurd (omega (arith, same, more))
 
-or_true : (fails : Bool) → (fails || true) ≡ true
-or_true true = refl
-or_true false = refl
-
 ticks_where : (refused : Bool) (clock after old new : ℕ) → new ≡ raised refused old → after ≡ clock_after refused clock → (clock < 2 ^ 64 - 1 → old ≡ 0)
     → new ≡ old → after ≡ min (clock + 1) (2 ^ 64 - 1)
 ticks_where true clock after old new rise tick none same =
@@ -53,7 +50,7 @@ pub fails_exactly : {T : Type 0} (Reason : Type 0) (fails refused : Bool) (resul
 fails_exactly Reason fails refused result old new means answer rise more tick kept listed watched = record {
   cause = cause_of Reason fails refused result (starved_of old) (starved_of new) means.0 answer rise;
   due = λ reason. answer ∙ ap (λ b. b || refused) (means.1 reason);
-  starving = λ rose. answer ∙ ap (λ b. fails || b) (refused_where refused (starved_of old) (starved_of new) rise rose) ∙ or_true fails;
+  starving = λ rose. answer ∙ ap (λ b. fails || b) (refused_where refused (starved_of old) (starved_of new) rise rose) ∙ or-true fails;
   later = more;
   kept = kept;
   ticks = ticks_where refused (clock_of old) (clock_of new) (starved_of old) (starved_of new) rise tick (λ counts. (old.counts_are counts).1);

@@ -1,5 +1,5 @@
 -- A folder that holds a job's first steps has only sound images, and the other way round.
-use Rattle.std.proofs.Common.{◌≡◌, ◌∙◌, ℕ, zero, suc, ◌+◌, ◌-◌, ◌*◌, ◌<◌, ◌≤◌, min, List, [], ◌∷◌, length, take, drop, refl, sym, ap, subst, inl, inr, arith}
+use Rattle.std.proofs.Common.{◌≡◌, ◌∙◌, ℕ, zero, suc, ◌+◌, ◌-◌, ◌*◌, ◌<◌, ◌≤◌, min, List, [], length, take, drop, sym, ap, subst, inl, inr, arith}
 use Rattle.std.specs.Prelude.{IsTrue}
 use Rattle.std.proofs.lemmas.List.{take-take, length-take, length-take-le, length-drop, drop-take}
 use Rattle.bool_tables.specs.Plans.{is_live}
@@ -7,7 +7,7 @@ use Rattle.shelf_model.specs.declared.file_no.FileNo.{FileNo}
 use Rattle.shelf_model.specs.File.{File, firm_file, no_file, IsLeft}
 use Rattle.shelf_model.specs.Folder.{Folder, Image, file_in, bytes_in, IsImage, AreFiles}
 use Rattle.shelf_model.proofs.Files.{only_image, same_image, kept_left}
-use Rattle.shelf_model.proofs.Images.{chosen, each_left, length_is_all, shortest_left, standing_left, standing_image}
+use Rattle.shelf_model.proofs.Images.{chosen, each_left, left_of_none, length_is_all, shortest_left, standing_left, standing_image}
 use Rattle.catalogue.specs.declared.layout.Entry.{Entry}
 use Rattle.catalogue.specs.Files.{job_file, catalogue}
 use Rattle.catalogue.specs.Counts.{HasCount}
@@ -28,14 +28,6 @@ entry_in_front k count front bytes size within begins =
     let room : 128 * k + 128 ≤ length front = omega (arith, size, within) in
     sym (drop-take (128 * k) 128 bytes) ∙ ap (drop (128 * k)) (sym (take-take (128 * k + 128) (length front) bytes room))
     ∙ ap (λ xs. drop (128 * k) (take (128 * k + 128) xs)) begins ∙ drop-take (128 * k) 128 front
-
--- nothing more is left of an empty file than nothing
-pub none_left : (left : List ℕ) → IsLeft no_file left → left ≡ []
-none_left left h = nothing left h.no_longer
-  where
-    nothing : (xs : List ℕ) → length xs ≤ 0 → xs ≡ []
-    nothing [] h = refl
-    nothing (x ∷ xs) h = absurd (omega arith)
 
 -- each image of a folder that holds so many steps has their count
 pub holds_count : (job : Job) (count : ℕ) (folder : Folder) → Holds job count folder → HaveCount count folder
@@ -63,7 +55,7 @@ holds_sound job count folder holds image is_image =
         forms = λ s live. holds.forms s (subst (λ c. IsTrue (is_live (take c job.steps) s)) counted.count live);
       });
       resumable = record {
-        no_checkpoint = λ s within. none_left (r (checkpoint_gate s)) (same_image folder image (checkpoint_gate s) no_file (holds.gates s within) is_image);
+        no_checkpoint = λ s within. left_of_none (r (checkpoint_gate s)) (same_image folder image (checkpoint_gate s) no_file (holds.gates s within) is_image);
       };
     }
 

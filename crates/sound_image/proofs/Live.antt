@@ -1,22 +1,11 @@
 -- Which diagrams are live after a number of steps.
-use Rattle.std.proofs.Common.{◌≡◌, ◌∙◌, ℕ, zero, suc, ◌+◌, ◌<◌, Bool, true, false, not, ◌&&◌, ◌||◌, List, [], ◌∷◌, ◌++◌, length, take, get_or, refl, sym, ap, subst, arith}
+use Rattle.std.proofs.Common.{◌≡◌, ◌∙◌, ℕ, zero, suc, ◌+◌, ◌<◌, Bool, true, false, not, ◌||◌, List, [], ◌∷◌, ◌++◌, length, take, get_or, refl, sym, ap, subst, arith}
 use Rattle.std.specs.Prelude.{IsTrue}
 use Rattle.std.specs.List.{list_any}
+use Rattle.std.proofs.lemmas.Bool.{and_parts, and_from}
 use Rattle.std.proofs.lemmas.List.{take_more, length-take}
 use Rattle.bool_tables.specs.declared.steps.Planned.{Planned}
 use Rattle.bool_tables.specs.Plans.{is_live, is_diagram, drops, makes_diagram}
-
-first_holds : (a b : Bool) → IsTrue (a && b) → IsTrue a
-first_holds true b h = refl
-first_holds false b h = cc
-
-second_holds : (a b : Bool) → IsTrue (a && b) → IsTrue b
-second_holds true b h = h
-second_holds false b h = cc
-
-both_hold : (a b : Bool) → IsTrue a → IsTrue b → IsTrue (a && b)
-both_hold true b x y = y
-both_hold false b x y = cc
 
 -- a diagram's number is that of one of the steps
 diagram_within : (steps : List Planned) (s : ℕ) → IsTrue (is_diagram steps s) → s < length steps
@@ -46,7 +35,7 @@ undropped_before test (x ∷ xs) ys h = by_head (test x) (undropped_before test 
 pub live_below : (steps : List Planned) (k s : ℕ) → IsTrue (is_live (take k steps) s) → s < k
 live_below steps k s h =
     let within : s < length (take k steps) =
-    diagram_within (take k steps) s (first_holds (is_diagram (take k steps) s) (not (list_any (λ (p : Planned). drops s p.step) (take k steps))) h) in
+    diagram_within (take k steps) s (and_parts (is_diagram (take k steps) s) (not (list_any (λ (p : Planned). drops s p.step) (take k steps))) h).0 in
     omega (arith, within, length-take k steps)
 
 -- it was live before the last of them, unless that made it
@@ -56,11 +45,11 @@ live_earlier steps k s d within below h =
     let live : IsTrue (is_live (take k steps ++ get_or steps k d ∷ []) s) = subst (λ xs. IsTrue (is_live xs s)) more h in
     let inside : s < length (take k steps) = omega (arith, below, within, length-take k steps) in
     let test : Planned → Bool = λ p. drops s p.step in
-    both_hold (is_diagram (take k steps) s) (not (list_any test (take k steps)))
+    and_from (is_diagram (take k steps) s) (not (list_any test (take k steps)))
     (subst IsTrue (diagram_before (take k steps) (get_or steps k d ∷ []) s inside)
-    (first_holds (is_diagram (take k steps ++ get_or steps k d ∷ []) s) (not (list_any test (take k steps ++ get_or steps k d ∷ []))) live))
+    (and_parts (is_diagram (take k steps ++ get_or steps k d ∷ []) s) (not (list_any test (take k steps ++ get_or steps k d ∷ []))) live).0)
     (undropped_before test (take k steps) (get_or steps k d ∷ [])
-    (second_holds (is_diagram (take k steps ++ get_or steps k d ∷ []) s) (not (list_any test (take k steps ++ get_or steps k d ∷ []))) live))
+    (and_parts (is_diagram (take k steps ++ get_or steps k d ∷ []) s) (not (list_any test (take k steps ++ get_or steps k d ∷ []))) live).1)
 
 -- and the last one is live only where it makes a diagram
 pub live_last : (steps : List Planned) (k : ℕ) (d : Planned) → k < length steps → IsTrue (is_live (take (k + 1) steps) k) → IsTrue (makes_diagram (get_or steps k d).step)
@@ -69,7 +58,7 @@ live_last steps k d within h =
     let size : length (take k steps) ≡ k = omega (arith, within, length-take k steps) in
     let live : IsTrue (is_live (take k steps ++ get_or steps k d ∷ []) k) = subst (λ xs. IsTrue (is_live xs k)) more h in
     let diagram : IsTrue (is_diagram (take k steps ++ get_or steps k d ∷ []) k) =
-    first_holds (is_diagram (take k steps ++ get_or steps k d ∷ []) k) (not (list_any (λ (p : Planned). drops k p.step) (take k steps ++ get_or steps k d ∷ []))) live in
+    (and_parts (is_diagram (take k steps ++ get_or steps k d ∷ []) k) (not (list_any (λ (p : Planned). drops k p.step) (take k steps ++ get_or steps k d ∷ []))) live).0 in
     subst IsTrue (ap (is_diagram (take k steps ++ get_or steps k d ∷ [])) (sym size) ∙ diagram_last (take k steps) (get_or steps k d)) diagram
 
 -- what a list's last step drops isn't live behind it
@@ -78,7 +67,7 @@ live_undropped steps k s d within dropped h =
     let more : take (k + 1) steps ≡ take k steps ++ get_or steps k d ∷ [] = take_more steps k d within in
     let live : IsTrue (is_live (take k steps ++ get_or steps k d ∷ []) s) = subst (λ xs. IsTrue (is_live xs s)) more h in
     none_drops (λ p. drops s p.step) (take k steps) (get_or steps k d) dropped
-    (second_holds (is_diagram (take k steps ++ get_or steps k d ∷ []) s) (not (list_any (λ (p : Planned). drops s p.step) (take k steps ++ get_or steps k d ∷ []))) live)
+    (and_parts (is_diagram (take k steps ++ get_or steps k d ∷ []) s) (not (list_any (λ (p : Planned). drops s p.step) (take k steps ++ get_or steps k d ∷ []))) live).1
   where
     none_drops : (test : Planned → Bool) (xs : List Planned) (p : Planned) → IsTrue (test p) → IsTrue (not (list_any test (xs ++ p ∷ []))) → ⊥
     none_drops test [] p one none = by_test (test p) one none

@@ -9,6 +9,7 @@ use Rattle.shelf_model.specs.File.{File, firm_file, no_file, IsKept}
 use Rattle.shelf_model.specs.Folder.{Folder, Image, file_in, bytes_in, IsImage}
 use Rattle.shelf_model.specs.World.{Moment}
 use Rattle.shelf_model.proofs.Files.{only_image, same_image, kept_left}
+use Rattle.shelf_model.proofs.Images.{left_of_none}
 use Rattle.catalogue.specs.declared.layout.Entry.{Entry}
 use Rattle.catalogue.specs.Files.{job_file, job_gate, catalogue, step_gate}
 use Rattle.catalogue.specs.Counts.{is_stored, count_in, entry_at}
@@ -24,7 +25,7 @@ use Rattle.sound_image.specs.Sound.{IsSound}
 use Rattle.sound_image.specs.Holds.{Holds, IsMade}
 use Rattle.sound_image.specs.Steps.{IsOwnFile, OnlyOwnFiles, IsCutBy, IsTidied}
 use Rattle.sound_image.proofs.Numbers.{IsOfStep, node_of_step, gate_of_step, not_catalogue, not_step_gate}
-use Rattle.sound_image.proofs.HoldsLaws.{entry_in_front, none_left}
+use Rattle.sound_image.proofs.HoldsLaws.{entry_in_front}
 use Rattle.sound_image.proofs.Live.{live_below, live_earlier, live_last, live_undropped}
 
 -- few enough steps that their numbers are none of the job's files
@@ -199,7 +200,7 @@ sound_while_committed job k e old m image few within holds made is_entry during 
         forms = λ s live. forms s (subst (λ n. IsTrue (is_live (take n job.steps) s)) count live);
       });
       resumable = record {
-        no_checkpoint = λ s inside. none_left (r (checkpoint_gate s)) (same_image m.folder image (checkpoint_gate s) no_file
+        no_checkpoint = λ s inside. left_of_none (r (checkpoint_gate s)) (same_image m.folder image (checkpoint_gate s) no_file
             (during.others (checkpoint_gate s) (not_catalogue (checkpoint_gate s) (gate_of_step s (early job s few inside)))
             (not_step_gate (checkpoint_gate s) (gate_of_step s (early job s few inside))) ∙ holds.gates s inside) is_image);
       };

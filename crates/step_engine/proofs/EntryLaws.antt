@@ -3,6 +3,7 @@ use Rattle.std.proofs.Common.{◌≡◌, ◌∙◌, ◌⊎◌, ℕ, zero, suc, �
 use Rattle.std.specs.Prelude.{IsTrue, All, not, Result, Ok, Err, IfErr}
 use Rattle.std.specs.Result.{IsErrAnd}
 use Rattle.std.specs.List.{list_all, list_any}
+use Rattle.std.proofs.lemmas.Bool.{and_parts, leb-true, ltb-true}
 use Rattle.std.proofs.lemmas.List.{length-take-le, length-drop, drop_at, length-replicate, get_or-take}
 use Rattle.std.proofs.lemmas.List.Elements.{All-replicate}
 use Rattle.bool_tables.specs.declared.steps.Step.{Step}
@@ -24,10 +25,7 @@ use Rattle.sound_image.proofs.EntryLaws.{entry_stands, held_entry}
 use Rattle.step_engine.specs.declared.entries.Spent.{Spent}
 use Rattle.step_engine.specs.StepEntries.{diagram_entry, nameless_entry, one_turn, IsEntryFor}
 use Rattle.step_engine.specs.StepFaults.{IsKindFault}
-use Rattle.step_engine.proofs.PlanLaws.{first_true, second_true, follows_at, operands_live}
-
-from_le : (a b : ℕ) → IsTrue (nat_le a b) → a ≤ b
-from_le a b h = search (arith, h)
+use Rattle.step_engine.proofs.PlanLaws.{follows_at, operands_live}
 
 all_zero : (n : ℕ) → All (λ (b : ℕ). b ≡ 0) (replicate n 0)
 all_zero n = All-replicate (λ (b : ℕ). b ≡ 0) n 0 refl
@@ -57,8 +55,8 @@ one_turn_spent = record {
 pub diagram_fits : (k nodes : ℕ) (spent : Spent) (text : List ℕ) (p : Planned) → k < 1048576 → IsTrue (has_name text p) → nodes < 2 ^ 64 → IsSpent spent
     → IsEntry (diagram_entry text p k nodes spent)
 diagram_fits k nodes spent text p few named small took =
-    let within : p.name_at + p.name_len ≤ length text = from_le (p.name_at + p.name_len) (length text) (first_true (nat_le (p.name_at + p.name_len) (length text)) (nat_le p.name_len 63) named) in
-    let short : p.name_len ≤ 63 = from_le p.name_len 63 (second_true (nat_le (p.name_at + p.name_len) (length text)) (nat_le p.name_len 63) named) in
+    let within : p.name_at + p.name_len ≤ length text = leb-true (p.name_at + p.name_len) (length text) (and_parts (nat_le (p.name_at + p.name_len) (length text)) (nat_le p.name_len 63) named).0 in
+    let short : p.name_len ≤ 63 = leb-true p.name_len 63 (and_parts (nat_le (p.name_at + p.name_len) (length text)) (nat_le p.name_len 63) named).1 in
     let name : List ℕ = take p.name_len (drop p.name_at text) in
     let size : length name ≡ p.name_len = length-take-le p.name_len (drop p.name_at text) (omega (arith, length-drop p.name_at text, within)) in
     record {
@@ -127,7 +125,7 @@ pub diagram_entry_is : (job : Job) (k nodes : ℕ) (spent : Spent) (text : List 
     → kind_of p.step ≡ 1 → makes_diagram p.step ≡ true → answer_of job p.step ≡ 0 → count_of job k p.step ≡ nodes → nodes < 2 ^ 64
     → IsSpent spent → spent.turns ≤ work_of job p.step → IsEntryOfStep job k (diagram_entry text p k nodes spent)
 diagram_entry_is job k nodes spent text p few named text_is p_is kind diagram answer count small took within_work =
-    let within : p.name_at + p.name_len ≤ length text = from_le (p.name_at + p.name_len) (length text) (first_true (nat_le (p.name_at + p.name_len) (length text)) (nat_le p.name_len 63) named) in
+    let within : p.name_at + p.name_len ≤ length text = leb-true (p.name_at + p.name_len) (length text) (and_parts (nat_le (p.name_at + p.name_len) (length text)) (nat_le p.name_len 63) named).0 in
     let name : List ℕ = take p.name_len (drop p.name_at text) in
     let size : length name ≡ p.name_len = length-take-le p.name_len (drop p.name_at text) (omega (arith, length-drop p.name_at text, within)) in
     let name_is : name_of job (step_at job k) ≡ name =
@@ -214,8 +212,8 @@ operand_kind n text steps k operand within plan size below =
     subst (λ s. IsTrue (list_all (is_live (take k steps)) (operands s))) size
     (operands_live n text (take k steps) (get_or steps k no_step) (follows_at n text steps k no_step within plan)) in
     let diagram : IsTrue (is_diagram (take k steps) operand) =
-    first_true (is_diagram (take k steps) operand) (not (list_any (λ (s : Planned). drops operand s.step) (take k steps)))
-    (first_true (is_live (take k steps) operand) true live) in
+    (and_parts (is_diagram (take k steps) operand) (not (list_any (λ (s : Planned). drops operand s.step) (take k steps)))
+    (and_parts (is_live (take k steps) operand) true live).0).0 in
     diagram_kind (get_or steps operand no_step).step
     (subst (λ (q : Planned). IsTrue (makes_diagram q.step)) (get_or-take k steps operand no_step below) (diagram_made (take k steps) operand no_step diagram))
 
@@ -235,10 +233,7 @@ place_step job k p s p_is step = ap (λ (q : Planned). q.step) p_is ∙ step
 
 -- a step's only operand is an earlier step, and its only level one of n
 pub only_below : (n x : ℕ) → IsTrue (nat_lt x n && true) → x < n
-only_below n x h = below (first_true (nat_lt x n) true h)
-  where
-    below : IsTrue (nat_lt x n) → x < n
-    below h = search (arith, h)
+only_below n x h = ltb-true x n (and_parts (nat_lt x n) true h).0
 
 -- what is said of a fault that was handed on
 pub handed : {T : Type 0} (result : Result T SortFault) (fault : StreamFault) (P : SortFault → Type 0) → IsErrAnd result (λ f. f ≡ handed_on fault) → P (handed_on fault) → IfErr result P

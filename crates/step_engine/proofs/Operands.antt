@@ -1,14 +1,16 @@
 -- What a step is given of the steps before it, where the folder holds them.
-use Rattle.std.proofs.Common.{◌≡◌, ◌∙◌, ℕ, ◌+◌, ◌*◌, ◌<◌, ◌≤◌, Bool, false, true, cond, List, [], ◌∷◌, length, map, take, get_or, refl, sym, ap, ap₂, subst, arith}
-use Rattle.std.specs.Prelude.{IsTrue, Option, Some, None, unwrap_or}
+use Rattle.std.proofs.Common.{◌≡◌, ◌∙◌, ℕ, ◌+◌, ◌*◌, ◌<◌, Bool, false, true, cond, List, [], ◌∷◌, length, map, take, refl, sym, ap, ap₂, subst}
+use Rattle.std.specs.Prelude.{IsTrue, Some}
 use Rattle.std.specs.List.{list_all}
+use Rattle.std.proofs.lemmas.Bool.{and_parts}
+use Rattle.std.proofs.lemmas.Option.{same_Some}
 use Rattle.bool_tables.specs.declared.steps.Step.{Step}
 use Rattle.bool_tables.specs.declared.steps.Step.TheVariants.{Const, Var, Pair, Ite, Quantify, Restrict, Drop, Same, Leq, Eval, Size}
 use Rattle.bool_tables.specs.declared.steps.Bin.{Bin}
 use Rattle.bool_tables.specs.declared.steps.Quant.{Quant}
 use Rattle.bool_tables.specs.declared.steps.Planned.{Planned}
 use Rattle.bool_tables.specs.Plans.{is_live, operands}
-use Rattle.bool_tables.specs.Steps.{step_table, step_value, table_of_step, op_value, quant_value}
+use Rattle.bool_tables.specs.Steps.{step_table, op_value, quant_value}
 use Rattle.bool_tables.specs.Tables.{value_at, table_with, with_digit}
 use Rattle.canon_file.specs.Canon.{canon_nodes, canon_bytes}
 use Rattle.canon_file.specs.Laws.{HasForm}
@@ -19,19 +21,17 @@ use Rattle.sound_image.specs.Jobs.{Job, step_at, table_at, nodes_at, file_of}
 use Rattle.sound_image.specs.Entries.{work_of}
 use Rattle.sound_image.specs.Holds.{Holds}
 use Rattle.sound_image.proofs.Live.{live_below}
-use Rattle.step_work.specs.Tuples.{tuple_count, joins}
+use Rattle.step_work.specs.Tuples.{joins}
 use Rattle.step_work.specs.Works.{work_for, nodes_of}
 use Rattle.step_work.proofs.SameTuples.{LeadAlike, same_count}
 use Rattle.top_down_sweep.specs.Tasks.{IsCanonicalFile}
-use Rattle.step_sweeps.specs.declared.operation.StepOperation.{StepOperation}
 use Rattle.step_sweeps.specs.declared.operation.StepOperation.TheVariants as operations
 use Rattle.step_sweeps.specs.Given.{Tables, AreGiven, made_by, work_by}
-use Rattle.step_sweeps.specs.Operations.{step_of}
 use Rattle.step_engine.specs.declared.sweeping.Sweeping.{Sweeping}
 use Rattle.step_engine.specs.Simple.{IsStepOf}
 use Rattle.step_engine.specs.Sweeping.{files_of, sweeping_of}
-use Rattle.step_engine.proofs.PlanLaws.{first_true, second_true, follows_at, operands_live}
-use Rattle.step_engine.proofs.TableLaws.{IsMadeFrom, made_from}
+use Rattle.step_engine.proofs.PlanLaws.{follows_at, operands_live}
+use Rattle.step_engine.proofs.TableLaws.{made_from}
 
 -- the step is the job's, under that number, and the folder holds the steps before it
 pub record IsHeld (job : Job) (number : ℕ) (step : Step) (world : World) : Type 0 where
@@ -59,10 +59,10 @@ canonical job number j world holds live = record { form = holds.forms j live; by
 
 -- of a list of live diagrams the first, the second and the third one
 first_live : (steps : List Planned) (a : ℕ) (more : List ℕ) → IsTrue (list_all (is_live steps) (a ∷ more)) → IsTrue (is_live steps a)
-first_live steps a more live = first_true (is_live steps a) (list_all (is_live steps) more) live
+first_live steps a more live = (and_parts (is_live steps a) (list_all (is_live steps) more) live).0
 
 more_live : (steps : List Planned) (a : ℕ) (more : List ℕ) → IsTrue (list_all (is_live steps) (a ∷ more)) → IsTrue (list_all (is_live steps) more)
-more_live steps a more live = second_true (is_live steps a) (list_all (is_live steps) more) live
+more_live steps a more live = (and_parts (is_live steps a) (list_all (is_live steps) more) live).1
 
 -- what a step is given that makes a diagram of others: the tables of the operands, whose files are canonical, the
 -- step's table as the operation makes it of these, and the step's work
@@ -158,22 +158,19 @@ module _ (job : Job) (number : ℕ) (world : World) where
       (from.are of (live_below job.steps number of live))))
       (same_work (Restrict 0 level value) (Restrict of level value) refl (λ i h x. refl) job.n (table_at job of ∷ []))
 
-some_is : {x : Sweeping} (y : Sweeping) → Some x ≡ Some y → x ≡ y
-some_is y same = ap (λ o. unwrap_or o y) same
-
 -- whichever of these the step is
 sweeping_given : (job : Job) (number : ℕ) (world : World) (step : Step) (sweeping : Sweeping) → sweeping_of step ≡ Some sweeping
     → IsHeld job number step world → IsGivenTo job number step sweeping world job.n
 sweeping_given job number world (Const value) sweeping none is = cc
 sweeping_given job number world (Var level) sweeping none is = cc
 sweeping_given job number world (Pair op left right) sweeping some is =
-    subst (λ s. IsGivenTo job number (Pair op left right) s world job.n) (some_is sweeping some) (pair_given job number world op left right is)
+    subst (λ s. IsGivenTo job number (Pair op left right) s world job.n) (same_Some _ sweeping some) (pair_given job number world op left right is)
 sweeping_given job number world (Ite test if_one if_zero) sweeping some is =
-    subst (λ s. IsGivenTo job number (Ite test if_one if_zero) s world job.n) (some_is sweeping some) (choice_given job number world test if_one if_zero is)
+    subst (λ s. IsGivenTo job number (Ite test if_one if_zero) s world job.n) (same_Some _ sweeping some) (choice_given job number world test if_one if_zero is)
 sweeping_given job number world (Quantify kind of level) sweeping some is =
-    subst (λ s. IsGivenTo job number (Quantify kind of level) s world job.n) (some_is sweeping some) (quantifier_given job number world kind of level is)
+    subst (λ s. IsGivenTo job number (Quantify kind of level) s world job.n) (same_Some _ sweeping some) (quantifier_given job number world kind of level is)
 sweeping_given job number world (Restrict of level value) sweeping some is =
-    subst (λ s. IsGivenTo job number (Restrict of level value) s world job.n) (some_is sweeping some) (restriction_given job number world of level value is)
+    subst (λ s. IsGivenTo job number (Restrict of level value) s world job.n) (same_Some _ sweeping some) (restriction_given job number world of level value is)
 sweeping_given job number world (Drop gone) sweeping none is = cc
 sweeping_given job number world (Same left right) sweeping none is = cc
 sweeping_given job number world (Leq left right) sweeping none is = cc

@@ -2,6 +2,7 @@
 use Rattle.std.proofs.Common.{◌≡◌, ◌≢◌, ℕ, ◌+◌, ◌*◌, ◌^◌, ◌≤◌, nat_le, List, [], ◌∷◌, length, take, drop, refl, sym, ap, subst, inl, inr, arith}
 use Rattle.std.specs.Prelude.{IsTrue, Err, IsErrOf}
 use Rattle.std.specs.List.{list_all}
+use Rattle.std.proofs.lemmas.Bool.{and_parts, leb-true}
 use Rattle.bool_tables.specs.declared.steps.Step.{Step}
 use Rattle.bool_tables.specs.declared.steps.Step.TheVariants.{Same, Leq, Eval}
 use Rattle.bool_tables.specs.declared.steps.Planned.{Planned}
@@ -18,7 +19,6 @@ use Rattle.step_sweeps.specs.declared.answers.Answered.{Answered}
 use Rattle.step_sweeps.specs.Damage.{IsReadFault, IsImplicationFault}
 use Rattle.step_engine.specs.Simple.{IsStepOf}
 use Rattle.step_engine.specs.StepFaults.{IsReadingFault, IsStepFault, IsSoundFault, IsOfKind}
-use Rattle.step_engine.proofs.PlanLaws.{first_true}
 use Rattle.step_engine.proofs.Runs.{sound_fault, of_kind}
 
 -- more calls than these are allowed
@@ -36,13 +36,10 @@ not_spent_kind step (sort.Damaged f at) kind = tt
 not_spent_kind step sort.RunsSpent kind = absurd (kind refl)
 
 -- where no operand is damaged, and parts aren't wanting, a call of the folder failed
-pub same_sound : (step : Step) (work : ℕ) (e : SortFault) → IsNoDamage e → (e ≡ sort.RunsSpent → ⊥) → IsSoundFault step work e
-same_sound step work sort.Shelf none spent = tt
-same_sound step work (sort.Damaged f at) none spent = none
-same_sound step work sort.RunsSpent none spent = absurd (spent refl)
-
-pub eval_sound : (step : Step) (work : ℕ) (e : SortFault) → IsNoDamage e → (e ≡ sort.RunsSpent → ⊥) → IsSoundFault step work e
-eval_sound = same_sound
+pub undamaged_sound : (step : Step) (work : ℕ) (e : SortFault) → IsNoDamage e → (e ≡ sort.RunsSpent → ⊥) → IsSoundFault step work e
+undamaged_sound step work sort.Shelf none spent = tt
+undamaged_sound step work (sort.Damaged f at) none spent = none
+undamaged_sound step work sort.RunsSpent none spent = absurd (spent refl)
 
 pub leq_sound : (step : Step) (left right : ℕ) → step ≡ Leq left right → (bound work : ℕ) (e : SortFault) → bound ≡ work → IsNoDamage e
     → (IsErrOf {T = Answered} (Err e) sort.RunsSpent → 2 ^ 35 ≤ bound) → IsSoundFault step work e
@@ -92,11 +89,8 @@ eval_fault n of at step is world e fault =
 -- the bits of an evaluation stand in the text
 pub bits_within : (n of at : ℕ) (text : List ℕ) (step : Step) → step ≡ Eval of at → IsTrue (has_bits n text step) → at + n ≤ length text
 bits_within n of at text step is bits =
-    within (first_true (nat_le (at + n) (length text)) (list_all is_bit (take n (drop at text)))
-    (subst (λ s. IsTrue (has_bits n text s)) is bits))
-  where
-    within : IsTrue (nat_le (at + n) (length text)) → at + n ≤ length text
-    within h = search (arith, h)
+    leb-true (at + n) (length text) (and_parts (nat_le (at + n) (length text)) (list_all is_bit (take n (drop at text)))
+    (subst (λ s. IsTrue (has_bits n text s)) is bits)).0
 
 -- the value by the job's text is the value by the text
 pub value_given : (job : Job) (n number of at : ℕ) (text : List ℕ) (p : Planned) → IsStepOf job n text number p

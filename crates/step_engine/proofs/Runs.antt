@@ -1,7 +1,9 @@
 -- The runs of steps that sweep, from what the sweeps say.
 use Rattle.std.proofs.Common.{◌≡◌, ◌∙◌, ℕ, ◌+◌, ◌-◌, ◌*◌, ◌^◌, ◌<◌, ◌≤◌, Bool, true, false, cond, nat_lt, List, [], ◌∷◌, refl, sym, ap, subst, inl, inr, arith}
-use Rattle.std.specs.Prelude.{IsTrue, Some, None, Result, Ok, Err, IsErrOf, IsErrAnd}
+use Rattle.std.specs.Prelude.{IsTrue, Some, Result, Ok, Err, IsErrOf, IsErrAnd}
 use Rattle.std.specs.List.{list_all}
+use Rattle.std.proofs.lemmas.Bool.{and_parts, ltb-true}
+use Rattle.std.proofs.lemmas.Option.{same_Some}
 use Rattle.bool_tables.specs.declared.steps.Step.{Step}
 use Rattle.bool_tables.specs.declared.steps.Step.TheVariants.{Const, Var, Pair, Ite, Quantify, Restrict, Drop, Same, Leq, Eval, Size}
 use Rattle.bool_tables.specs.declared.steps.Planned.{Planned}
@@ -15,6 +17,7 @@ use Rattle.shelf_model.specs.Moments.{Ran}
 use Rattle.shelf_model.specs.World.{World, now}
 use Rattle.catalogue.specs.declared.layout.Entry.{Entry}
 use Rattle.run_tiers.specs.Faults.{OnlySortShelf}
+use Rattle.run_tiers.proofs.FaultLaws.{fault_in}
 use Rattle.step_work.specs.Tuples.{joins, sweeps}
 use Rattle.sweep_core.specs.Sweeps.{IsNoDamage}
 use Rattle.sound_image.specs.Jobs.{Job, step_at, nodes_at}
@@ -36,13 +39,7 @@ use Rattle.step_engine.specs.StepFaults.{IsMakingFault, IsStepFault, IsSoundFaul
 use Rattle.step_engine.specs.Running.{run_calls, RunsStep}
 use Rattle.step_engine.proofs.EntryLaws.{IsSpent, for_diagram, for_nameless, diagram_entry_is, nameless_entry_is, bit_says}
 use Rattle.step_engine.proofs.Operands.{step_given}
-use Rattle.step_engine.proofs.PlanLaws.{first_true, second_true}
 use Rattle.step_engine.proofs.Written.{parts_only, step_only}
-
--- a fault that is handed on
-abbrev fault_in : {A : Type 0} → Result A SortFault → SortFault
-fault_in (Ok x) = sort.Shelf
-fault_in (Err e) = e
 
 pub faults_err : {A B : Type 0} (old new : Faults) (e : SortFault) → OnlySortShelf {T = A} old new (Err e) → OnlyStep {T = B} old new (Err e)
 faults_err {A} {B} old new e only = record {
@@ -84,15 +81,12 @@ pub record IsOperation (n number : ℕ) (step : Step) (sweeping : Sweeping) : Ty
   pub fault : (world : World) (e : SortFault) → IsArcsFault n sweeping.operands world e → IsStepFault n step world e
   pub reads_is : reads step ≡ true
 
-below : (a b : ℕ) → IsTrue (nat_lt a b) → a < b
-below a b h = search (arith, h)
-
 -- of a list of earlier steps the first is one, and so are the others
 first_below : (number a : ℕ) (more : List ℕ) → IsTrue (list_all (λ k. nat_lt k number) (a ∷ more)) → a < number
-first_below number a more h = below a number (first_true (nat_lt a number) (list_all (λ k. nat_lt k number) more) h)
+first_below number a more h = ltb-true a number (and_parts (nat_lt a number) (list_all (λ k. nat_lt k number) more) h).0
 
 more_below : (number a : ℕ) (more : List ℕ) → IsTrue (list_all (λ k. nat_lt k number) (a ∷ more)) → IsTrue (list_all (λ k. nat_lt k number) more)
-more_below number a more h = second_true (nat_lt a number) (list_all (λ k. nat_lt k number) more) h
+more_below number a more h = (and_parts (nat_lt a number) (list_all (λ k. nat_lt k number) more) h).1
 
 -- faults of two, three and one operands
 two_faults : (n a b : ℕ) (world : World) (e : SortFault) → IsArcsFault n (files_of a b b) world e
@@ -119,14 +113,11 @@ one_fault n a world (sort.Damaged f at) (inr (inl one)) = inl one
 one_fault n a world (sort.Damaged f at) (inr (inr one)) = inl one
 one_fault n a world sort.RunsSpent is = tt
 
-some_is : {x : Sweeping} (y : Sweeping) → Some x ≡ Some y → x ≡ y
-some_is y same = ap (λ o. elim o [ None ↦ y | Some z ↦ z ]) same
-
 pub is_operation : (n number : ℕ) (step : Step) (sweeping : Sweeping) → sweeping_of step ≡ Some sweeping → IsOperation n number step sweeping
 is_operation n number (Const value) sweeping none = cc
 is_operation n number (Var level) sweeping none = cc
 is_operation n number (Pair op left right) sweeping some =
-    subst (IsOperation n number (Pair op left right)) (some_is sweeping some) (record {
+    subst (IsOperation n number (Pair op left right)) (same_Some _ sweeping some) (record {
       makes = refl;
       sweeps_is = refl;
       joins_is = refl;
@@ -143,7 +134,7 @@ is_operation n number (Pair op left right) sweeping some =
       reads_is = refl;
     })
 is_operation n number (Ite test if_one if_zero) sweeping some =
-    subst (IsOperation n number (Ite test if_one if_zero)) (some_is sweeping some) (record {
+    subst (IsOperation n number (Ite test if_one if_zero)) (same_Some _ sweeping some) (record {
       makes = refl;
       sweeps_is = refl;
       joins_is = refl;
@@ -160,7 +151,7 @@ is_operation n number (Ite test if_one if_zero) sweeping some =
       reads_is = refl;
     })
 is_operation n number (Quantify kind of level) sweeping some =
-    subst (IsOperation n number (Quantify kind of level)) (some_is sweeping some) (record {
+    subst (IsOperation n number (Quantify kind of level)) (same_Some _ sweeping some) (record {
       makes = refl;
       sweeps_is = refl;
       joins_is = refl;
@@ -177,7 +168,7 @@ is_operation n number (Quantify kind of level) sweeping some =
       reads_is = refl;
     })
 is_operation n number (Restrict of level value) sweeping some =
-    subst (IsOperation n number (Restrict of level value)) (some_is sweeping some) (record {
+    subst (IsOperation n number (Restrict of level value)) (same_Some _ sweeping some) (record {
       makes = refl;
       sweeps_is = refl;
       joins_is = refl;

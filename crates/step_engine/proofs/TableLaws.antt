@@ -1,10 +1,11 @@
 -- The tables and files of constants and variables in a plan.
-use Rattle.std.proofs.Common.{◌≡◌, ◌∙◌, ℕ, zero, suc, ◌+◌, ◌<◌, ◌≤◌, Bool, List, [], ◌∷◌, ◌++◌, length, get_or, refl, sym, ap, subst, arith, length-append}
-use Rattle.std.proofs.lemmas.List.{get_or_append_left, get_or-append-add}
+use Rattle.std.proofs.Common.{◌≡◌, ◌∙◌, ℕ, zero, suc, ◌+◌, ◌<◌, ◌≤◌, Bool, List, [], ◌∷◌, ◌++◌, length, get_or, sym, ap, subst, arith, length-append}
+use Rattle.std.proofs.lemmas.List.{get_or-append-add}
 use Rattle.bool_tables.specs.declared.steps.Step.TheVariants.{Const, Var}
 use Rattle.bool_tables.specs.declared.steps.Planned.{Planned}
 use Rattle.bool_tables.specs.Steps.{step_table, table_of_step, tables_after}
 use Rattle.bool_tables.proofs.Halves.{length-table_with}
+use Rattle.bool_tables.proofs.TableSteps.{tables_keep}
 use Rattle.rec_words.specs.Words.{level_numbers}
 use Rattle.canon_file.specs.declared.row.Row.{Row}
 use Rattle.canon_file.specs.Canon.{numbered, nodes_of, canon_nodes, canon_bytes}
@@ -13,15 +14,9 @@ use Rattle.canon_file.specs.Rows.{levels, Fits}
 use Rattle.canon_file.specs.Constants.{const_table}
 use Rattle.canon_file.specs.Variables.{var_table}
 use Rattle.canon_file.proofs.ConstDiagram.{no_node-const}
+use Rattle.canon_file.proofs.LevelLaws.{length-numbered}
 use Rattle.canon_file.proofs.VarDiagram.{one_node-var}
 use Rattle.sound_image.specs.Jobs.{Job, no_step, step_at, table_at, nodes_at, file_of}
-
--- the tables that were made before stay
-tables_keep : (n : ℕ) (done : List (List Bool)) (steps : List Planned) (i : ℕ) → i < length done → get_or (tables_after n done steps) i [] ≡ get_or done i []
-tables_keep n done [] i within = refl
-tables_keep n done (s ∷ steps) i within =
-    tables_keep n (done ++ step_table n done s.step ∷ []) steps i (omega (arith, within, length-append done (step_table n done s.step ∷ [])))
-    ∙ get_or_append_left done (step_table n done s.step ∷ []) [] i within
 
 -- each step's table is made from those before it, which are the first of all
 made_at : (n : ℕ) (done : List (List Bool)) (steps : List Planned) (k : ℕ) (d : Planned) → k < length steps
@@ -84,10 +79,6 @@ pub made_from : (job : Job) (k : ℕ) → k < length job.steps → IsMadeFrom jo
 made_from job k within =
     let found = made_at job.n [] job.steps k no_step within in
     record { seen = found.0; table_is = here job k ∙ found.1; are = λ j below. found.2 j (omega (arith, below)) }
-
-length-numbered : (i k : ℕ) (rs : List Row) → length (numbered i k rs) ≡ length rs
-length-numbered i k [] = refl
-length-numbered i k (r ∷ rs) = let more = length-numbered i (suc k) rs in omega (arith, more)
 
 -- where there are few nodes, each level has few rows
 fits_nodes : (i : ℕ) (rows : List (List Row)) → length (nodes_of i rows) ≤ level_numbers → Fits rows

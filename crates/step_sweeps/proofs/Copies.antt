@@ -13,6 +13,7 @@ use Rattle.shelf_model.proofs.Runs.{told, ran_end}
 use Rattle.block_stream.specs.Writes.{DuringCut, Cut}
 use Rattle.canon_file.specs.Canon.{canon_bytes}
 use Rattle.sweep_core.specs.Accounts.{CanBeTaken, OnlyOwn}
+use Rattle.sweep_core.proofs.Leaving.{taken_before}
 use Rattle.copied_diagrams.specs.declared.source.Source.{Source}
 use Rattle.copied_diagrams.specs.Pairs.{IsSourceOf, IsCopied, nodes_of_both}
 use Rattle.copied_diagrams.proofs.TrailerFacts.{long_canonical}
@@ -27,7 +28,7 @@ use Rattle.step_sweeps.specs.Given.{Tables, AreGiven, AreTrailersOf, made_by, no
 use Rattle.step_sweeps.specs.Made.{node_file, OnlyStepFiles, IsReduced}
 use Rattle.step_sweeps.proofs.Copying.{apart}
 use Rattle.step_sweeps.proofs.RoomOrSweeps.{operands_are}
-use Rattle.step_sweeps.proofs.Running.{taken_from, cut_changes, runs_on}
+use Rattle.step_sweeps.proofs.Running.{cut_changes, runs_on}
 
 -- the copy of so many pieces of an operand's file
 abbrev pub copy_of : Source → ℕ → ℕ → CopyTask
@@ -49,7 +50,7 @@ module _ {S : Type 0} (tells : S → Bool) (world : S → World) (number : ℕ) 
   copy_changes s old mid new to cut ran =
       runs_on tells world (λ q. (q ≡ node_file number) ⊎ CanBeTaken number 3 q) (λ f. f ≡ s.task.to) s.task.to.step
       (2 ^ 32) old mid new (λ f is. inl (is ∙ to))
-      (λ f free. inr (taken_from number 3 s.task.to.step (2 ^ 32) f (ap (λ (x : FileNo). x.step) to) (omega arith) free))
+      (λ f free. inr (taken_before number 3 s.task.to.step (2 ^ 32) f (ap (λ (x : FileNo). x.step) to) (omega arith) free))
       (copy_begins old mid cut) ran
 
 -- of the canonical file of a table all is copied

@@ -9,6 +9,7 @@ use Rattle.shelf_model.specs.World.{World, now}
 use Rattle.run_tiers.specs.declared.parts.Parts.{Parts}
 use Rattle.run_tiers.specs.Parts.{Spilled}
 use Rattle.sweep_core.specs.Accounts.{CanBeTaken, OnlyOwn}
+use Rattle.sweep_core.proofs.Leaving.{taken_before}
 use Rattle.arc_file.specs.declared.unreduced.Unreduced.{Unreduced}
 use Rattle.top_down.specs.declared.tuple.Tuple.{Tuple}
 use Rattle.top_down_sweep.specs.declared.machine.Machine.{Machine}
@@ -31,7 +32,7 @@ use Rattle.step_sweeps.specs.Made.{AreArcsOf, OnlyParts, inner_file, ends_file}
 use Rattle.step_sweeps.specs.Damage.{IsArcsFault}
 use Rattle.step_sweeps.specs.Work.{parts_of}
 use Rattle.step_sweeps.proofs.Faults.{AreStill, turn_fault}
-use Rattle.step_sweeps.proofs.Running.{not_of_step, taken_from, taken_changes, runs_on, file_stays}
+use Rattle.step_sweeps.proofs.Running.{not_of_step, taken_changes, runs_on, file_stays}
 use Rattle.table_work.proofs.Sources.{sources_are, sources_few}
 use Rattle.step_sweeps.proofs.Tasks.{earlier_apart}
 
@@ -101,7 +102,7 @@ sweep_changes tells world number operands m old mid new files parts cut ran =
     let behind : 3 ≤ m.parts.next = omega (arith, ap (λ (p : Parts). p.next) parts) in
     runs_on tells world (CanBeTaken number 3) (IsMade (files_in m)) m.parts.step m.parts.next old mid new
     (λ f. made_in_step number (files_in m) f (ap (λ (x : Files). x.inner) files) (ap (λ (x : Files). x.ends) files))
-    (λ f. taken_from number 3 m.parts.step m.parts.next f step behind)
+    (λ f. taken_before number 3 m.parts.step m.parts.next f step behind)
     (taken_changes tells world (CanBeTaken number 3) (parts_of number) (after_two (parts_of number)) old mid
     (λ f is. record { step_is = is.step_is; from = is.from }) cut) ran
 

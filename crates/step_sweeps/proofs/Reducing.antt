@@ -13,6 +13,7 @@ use Rattle.block_stream.specs.Writes.{DuringCut}
 use Rattle.run_tiers.specs.declared.parts.Parts.{Parts}
 use Rattle.sweep_core.specs.Accounts.{CanBeTaken, OnlyOwn}
 use Rattle.sweep_core.specs.Sweeps.{IsNoDamage}
+use Rattle.sweep_core.proofs.Leaving.{taken_before}
 use Rattle.canon_file.specs.Canon.{canon_nodes, canon_bytes}
 use Rattle.canon_file.specs.Laws.{HasForm}
 use Rattle.arc_file.specs.declared.arc.Arc.{Arc}
@@ -31,7 +32,7 @@ use Rattle.reduce_lists.specs.Damage.{IsDamageAmong}
 use Rattle.reduce_lists.proofs.Undamaged.{none_among}
 use Rattle.step_sweeps.specs.declared.diagram.MadeDiagram.{MadeDiagram}
 use Rattle.step_sweeps.specs.Made.{node_file, HasArcFiles, OnlyStepFiles, IsReduced}
-use Rattle.step_sweeps.proofs.Running.{taken_from, cut_changes, runs_on}
+use Rattle.step_sweeps.proofs.Running.{cut_changes, runs_on}
 
 -- the arcs of a table's diagram, as they are to be reduced
 abbrev pub job_of : {n : ℕ} {table : List Bool} {made : Unreduced} {world : World} → AreArcFiles n table made world
@@ -92,7 +93,7 @@ reduction_changes tells world number s parts old mid new out same step past cut 
     let behind : 3 ≤ s.parts.next = omega (arith, ap (λ (p : Parts). p.next) same, past) in
     runs_on tells world (λ q. (q ≡ node_file number) ⊎ CanBeTaken number 3 q) (λ f. f ≡ out_of s) s.parts.step
     s.parts.next old mid new (λ f is. inl (is ∙ out))
-    (λ f free. inr (taken_from number 3 s.parts.step s.parts.next f of_step behind free))
+    (λ f free. inr (taken_before number 3 s.parts.step s.parts.next f of_step behind free))
     (cut_changes tells world (λ q. (q ≡ node_file number) ⊎ CanBeTaken number 3 q) (node_file number) 0 old mid
     (inl refl) cut) ran
 

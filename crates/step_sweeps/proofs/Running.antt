@@ -24,14 +24,6 @@ not_of_step step next f before free =
     let same : f.step ≡ step = free.step_is in
     absurd (omega (arith, same, before))
 
--- what can be taken from a later part on can be taken from an earlier one on
-pub taken_from : (number from step next : ℕ) (f : FileNo) → step ≡ number → from ≤ next → CanBeTaken step next f
-    → CanBeTaken number from f
-taken_from number from step next f same later free = record {
-  step_is = free.step_is ∙ same;
-  from = let past : next ≤ f.part = free.from in omega (arith, later, past);
-}
-
 -- what was kept of one's own files changes no other one
 own_changes : (makes : FileNo → Type 0) (step next : ℕ) (old m : Moment) → OnlyOwn makes step next old m
     → OnlyChanged (λ q. makes q ⊎ CanBeTaken step next q) old m

@@ -17,16 +17,17 @@ use Rattle.top_down.proofs.PointwiseLaws.{joined_one, joined_same, constant_at, 
 use Rattle.top_down.proofs.GoalLaws.{end_value, go_tuple, end_go, ends_or-end, ends_or-go}
 
 -- the tuple that a test which is a truth value leaves
-abbrev left_by : Bool → Tuple → Tuple
+abbrev pub left_by : Bool → Tuple → Tuple
 left_by value x = cond value (record { first = x.first; second = x.second; third = unused }) (record { first = x.first; second = unused; third = x.third })
 
 -- what the rule says, where it is known whether the test is a truth value, and which, and whether the branches are the same one
-abbrev says_of : Bool → Bool → Bool → Tuple → Goal
+abbrev pub says_of : Bool → Bool → Bool → Tuple → Goal
 says_of b d s x =
     cond b (cond d (ends_or x.second (left_by true x)) (ends_or x.third (left_by false x)))
     (cond s (End (is_one x.second)) (Go x))
 
-abbrev same_ends : Tuple → Bool
+-- the branches are the same truth value
+abbrev pub same_ends : Tuple → Bool
 same_ends x = is_end x.second && (x.second == x.third)
 
 same_values : (x : Tuple) → same_ends x ≡ true → (is_end x.second ≡ true) × (x.second ≡ x.third)

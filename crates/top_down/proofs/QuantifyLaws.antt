@@ -1,7 +1,8 @@
 -- the rule of a quantifier
 use Rattle.std.specs.Prelude.{◌≡◌, ◌+◌, ◌-◌, ◌^◌, ◌<◌, ◌≤◌, ◌==◌, ◌||◌, nat_lt, nat_le, ℕ, suc, Bool, true, false, cond, List, [], ◌∷◌, ◌++◌, replicate}
 use Rattle.std.proofs.Common.{refl, sym, ◌∙◌, ap, subst, arith}
-use Rattle.std.proofs.lemmas.Bool.{lt-ltb}
+use Rattle.std.proofs.Math.Bool.{or-true}
+use Rattle.std.proofs.lemmas.Bool.{lt-ltb, le-ltb, eq-eqb}
 use Rattle.std.proofs.lemmas.Bool.Decides.{nat_tests}
 use Rattle.bool_tables.specs.Tables.{low_half, high_half, value_at, same_bit}
 use Rattle.bool_tables.specs.Steps.{quant_value, step_table}
@@ -27,7 +28,7 @@ use Rattle.top_down.specs.Operations.{is_end, is_one, ends_or, two, strong, sort
 use Rattle.top_down.proofs.TupleLaws.{table-end, low_node, from_terminal}
 use Rattle.top_down.proofs.PointwiseLaws.{of_members, joined_same, joined_one, constant_at, parts_from, on_side}
 use Rattle.top_down.proofs.GoalLaws.{end_value, go_tuple, end_go, ends_or-end, ends_or-go}
-use Rattle.top_down.proofs.VariableLaws.{place_of_level, At, Above, Below, lt-false, same-true, IsDeepStep, constant_step, constant_table, table-below, table-above, below-at, below-off, variable_splits, variable_passes}
+use Rattle.top_down.proofs.VariableLaws.{place_of_level, At, Above, Below, IsDeepStep, constant_step, constant_table, table-below, table-above, below-at, below-off, variable_splits, variable_passes}
 
 abbrev value_of : Quant → Bool → Bool → Bool → Bool
 value_of kind b c d = quant_value kind b c
@@ -117,18 +118,14 @@ module _ (n variable : ℕ) (kind : Quant) (below : variable < n) (top : n ≤ 6
   -- down to the variable the two pointers are one
   one_pointer : (i : ℕ) (x : Tuple) → i ≤ variable → may variable i x ≡ true → x.first ≡ x.second
   one_pointer i x most e =
-      let same : (x.first == x.second) ≡ true = ap (λ b. b || (x.first == x.second)) (sym (lt-false variable i most)) ∙ e in
+      let same : (x.first == x.second) ≡ true = ap (λ b. b || (x.first == x.second)) (sym (le-ltb variable i most)) ∙ e in
       grind (arith, nat_tests)
 
   may_below : (i : ℕ) (x : Tuple) → variable < i → may variable i x ≡ true
   may_below i x more = ap (λ b. b || (x.first == x.second)) (lt-ltb variable i more)
 
   pub may_one : (i : ℕ) (x : Tuple) → x.first ≡ x.second → may variable i x ≡ true
-  may_one i x same = ap (λ b. nat_lt variable i || b) (same-true x.first x.second same) ∙ either (nat_lt variable i)
-    where
-      either : (b : Bool) → b || true ≡ true
-      either true = refl
-      either false = refl
+  may_one i x same = ap (λ b. nat_lt variable i || b) (eq-eqb x.first x.second same) ∙ or-true (nat_lt variable i)
 
   -- the table, by where the level stands to the variable
   deep_is : (h i : ℕ) (x : Tuple) → variable < i → table_for rule operand h i x ≡ of_members (joined_by (value_of kind)) operand h i x

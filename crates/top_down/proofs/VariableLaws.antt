@@ -2,7 +2,7 @@
 use Rattle.std.specs.Prelude.{◌≡◌, ◌+◌, ◌-◌, ◌^◌, ◌<◌, ◌≤◌, ◌==◌, nat_lt, ℕ, zero, suc, Bool, true, false, cond, List, [], ◌∷◌, ◌++◌, replicate}
 use Rattle.std.proofs.Common.{refl, sym, ◌∙◌, ap, arith}
 use Rattle.std.proofs.lemmas.List.{replicate-append-replicate}
-use Rattle.std.proofs.lemmas.Bool.{lt-ltb}
+use Rattle.std.proofs.lemmas.Bool.{lt-ltb, le-ltb, eq-eqb, ne_eqb}
 use Rattle.std.proofs.lemmas.Bool.Decides.{nat_tests}
 use Rattle.bool_tables.specs.Tables.{low_half, high_half}
 use Rattle.bool_tables.specs.Steps.{step_table}
@@ -30,19 +30,6 @@ place_of_level variable i = by (nat_lt variable i) (i == variable) refl refl
     by true c e f = Below (grind (arith, nat_tests))
     by false true e f = At (grind (arith, nat_tests))
     by false false e f = Above (grind (arith, nat_tests))
-
-pub lt-false : (a b : ℕ) → b ≤ a → nat_lt a b ≡ false
-lt-false a b most = grind (arith, nat_tests)
-
-pub same-true : (a b : ℕ) → a ≡ b → (a == b) ≡ true
-same-true a b e = grind (arith, nat_tests)
-
-pub same-false : (a b : ℕ) → (a ≡ b → ⊥) → (a == b) ≡ false
-same-false a b other = by (a == b) refl
-  where
-    by : (c : Bool) → (a == b) ≡ c → (a == b) ≡ false
-    by true e = absurd (other (grind (arith, nat_tests)))
-    by false e = e
 
 -- how a step works on the halves of its operand, where its variable isn't the first
 pub record IsDeepStep (step : ℕ → Step) : Type 0 where
@@ -83,7 +70,7 @@ module _ (n variable : ℕ) (below : variable < n) (f : Bool → Bool → Bool �
   table-below h i x more = ap (λ b. cond b (joined_table h i x) (step_on (variable - i) h i x)) (lt-ltb variable i more)
 
   pub table-above : (h i : ℕ) (x : Tuple) → i ≤ variable → table_for rule targets h i x ≡ step_on (variable - i) h i x
-  table-above h i x most = ap (λ b. cond b (joined_table h i x) (step_on (variable - i) h i x)) (lt-false variable i most)
+  table-above h i x most = ap (λ b. cond b (joined_table h i x) (step_on (variable - i) h i x)) (le-ltb variable i most)
 
   -- the tuples on both sides
   pub below-at : (side : Bool) (x : Tuple) → level_of_tuple x ≡ variable
@@ -91,14 +78,14 @@ module _ (n variable : ℕ) (below : variable < n) (f : Bool → Bool → Bool �
   below-at side x same =
       ap (λ b. cond b (at_variable (parts targets (level_of_tuple x) false x) (parts targets (level_of_tuple x) true x))
       (same_side (level_of_tuple x) side (parts targets (level_of_tuple x) false x) (parts targets (level_of_tuple x) true x)))
-      (same-true (level_of_tuple x) variable same)
+      (eq-eqb (level_of_tuple x) variable same)
 
   pub below-off : (side : Bool) (x : Tuple) → (level_of_tuple x ≡ variable → ⊥)
       → below_on rule targets side x ≡ cond side (parts targets (level_of_tuple x) true x) (parts targets (level_of_tuple x) false x)
   below-off side x other =
       ap (λ b. cond b (at_variable (parts targets (level_of_tuple x) false x) (parts targets (level_of_tuple x) true x))
       (same_side (level_of_tuple x) side (parts targets (level_of_tuple x) false x) (parts targets (level_of_tuple x) true x)))
-      (same-false (level_of_tuple x) variable other)
+      (ne_eqb (level_of_tuple x) variable other)
 
   -- what the first variable's step makes in both halves
   module _ (first_low : (h i : ℕ) (x : Tuple)

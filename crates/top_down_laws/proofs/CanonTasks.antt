@@ -1,26 +1,25 @@
 -- The operations on canonical diagrams are tasks.
-use Rattle.std.proofs.Common.{◌≡◌, ℕ, ◌∙◌, Bool, List, [], ◌∷◌, refl, inl, arith}
+use Rattle.std.proofs.Common.{◌≡◌, ℕ, ◌∙◌, Bool, List, [], ◌∷◌, arith}
 use Rattle.std.specs.Prelude.{◌-◌}
 use Rattle.bool_tables.specs.Steps.{op_value, step_table}
 use Rattle.bool_tables.specs.declared.steps.Step.TheVariants.{Quantify, Restrict}
-use Rattle.rec_words.specs.declared.node.Node.{Node}
 use Rattle.canon_file.specs.Canon.{canon_nodes}
 use Rattle.canon_file.specs.Laws.{HasForm}
 use Rattle.top_down.specs.declared.tuple.Tuple.{Tuple}
 use Rattle.top_down.specs.Rules.{Rule}
-use Rattle.top_down.specs.Tuples.{AreDeepening, canon_targets, joined_by, unused}
+use Rattle.top_down.specs.Tuples.{canon_targets, joined_by}
 use Rattle.top_down.specs.Operations.{choice_rule}
 use Rattle.top_down.specs.Laws.{Makes, root_twice, roots_of_one, targets_of_one}
-use Rattle.top_down.proofs.TupleLaws.{canon-deep, root-table}
+use Rattle.top_down.proofs.TupleLaws.{root-table}
 use Rattle.top_down.proofs.QuantifyLaws.{above_is}
 use Rattle.top_down.proofs.RestrictLaws.{not_below}
 use Rattle.top_down.proofs.OperationDiagrams.{product_stands, choice_stands, quantify_stands, restrict_stands}
-use Rattle.top_down_laws.specs.Readings.{targets_in, IsIn, AreIn}
+use Rattle.top_down_laws.specs.Readings.{targets_in, AreIn}
 use Rattle.top_down_laws.specs.Remains.{Picks}
 use Rattle.top_down_laws.specs.Laws.{task_table}
 use Rattle.top_down_laws.specs.Operations.{canon_diagrams, IsTaskFor, ProductIsTask, ChoiceIsTask, QuantifyIsTask, RestrictIsTask}
 use Rattle.top_down_laws.proofs.CanonReduced.{root_in, canon_reduced}
-use Rattle.top_down_laws.proofs.PickLaws.{product_picks, choice_picks, quantify_picks, restrict_picks}
+use Rattle.top_down_laws.proofs.PickLaws.{no_member, product_picks, choice_picks, quantify_picks, restrict_picks}
 
 -- a rule that makes a table of canonical diagrams is a task
 canon_task : (n : ℕ) (t u v : List Bool) → HasForm n t → HasForm n u → HasForm n v
@@ -45,20 +44,13 @@ canon_task n t u v form_t form_u form_v rule roots made makes roots_in picks tab
   table_is = table;
 }
 
-no_root : (nodes : List Node) → IsIn nodes unused
-no_root nodes = inl (inl refl)
-
-one_deep : (n : ℕ) (t : List Bool) → HasForm n t → AreDeepening n (targets_of_one n t)
-one_deep n t form =
-    let deep = canon-deep n t form in record { first = deep; second = deep; third = deep }
-
 pub product_is_task : (n : ℕ) → ProductIsTask n
 product_is_task n op t u form_t form_u =
     canon_task n t u u form_t form_u form_u _ _ _ (product_stands n op t u form_t form_u)
     (record {
       first = root_in n t form_t;
       second = root_in n u form_u;
-      third = no_root (canon_nodes n u);
+      third = no_member (canon_nodes n u);
     })
     (product_picks op (canon_diagrams n t u u))
     (λ j. joined_by (λ b c d. op_value op b c) n (root-table n t form_t j)
@@ -88,7 +80,7 @@ quantify_is_task n kind variable t form low =
     (record {
       first = root_in n t form;
       second = root_in n t form;
-      third = no_root (canon_nodes n t);
+      third = no_member (canon_nodes n t);
     })
     (quantify_picks kind variable (canon_nodes n t) (canon_nodes n t))
     (above_is n variable kind low form.few (canon_targets n t) (canon_targets n t) n 0
@@ -100,8 +92,8 @@ restrict_is_task n variable value t form low =
     canon_task n t t t form form form _ _ _ (restrict_stands n variable value t form low)
     (record {
       first = root_in n t form;
-      second = no_root (canon_nodes n t);
-      third = no_root (canon_nodes n t);
+      second = no_member (canon_nodes n t);
+      third = no_member (canon_nodes n t);
     })
     (restrict_picks variable value (canon_diagrams n t t t))
     (not_below n variable value low form.few (targets_of_one n t) n 0 (roots_of_one n t)

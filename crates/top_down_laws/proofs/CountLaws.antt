@@ -2,9 +2,9 @@
 use Rattle.std.proofs.Common.{◌≡◌, ◌≢◌, ℕ, ◌+◌, ◌≤◌, ◌∙◌, Bool, true, false, cond, List, [], ◌∷◌, refl, sym, ap, inl, inr, arith}
 use Rattle.std.specs.Prelude.{◌==◌}
 use Rattle.std.proofs.lemmas.List.Sums.{sum_by-cons}
+use Rattle.std.proofs.lemmas.Bool.{eq-eqb, ne_eqb, eqb-true, eqb-false}
 use Rattle.canon_file.specs.Members.{Has}
 use Rattle.top_down_laws.specs.Remains.{Open, asks_by}
-use Rattle.top_down_laws.proofs.NumberTests.{is_same, is_other, same_is, other_is}
 
 asks_first : (w : ℕ) (o : Open) (os : List Open)
     → asks_by w (o ∷ os) ≡ cond (o.asker == w) 1 0 + asks_by w os
@@ -12,13 +12,13 @@ asks_first w o os = sum_by-cons (λ (p : Open). cond (p.asker == w) 1 0) o os
 
 pub asks_same : (w : ℕ) (o : Open) (os : List Open) → o.asker ≡ w
     → asks_by w (o ∷ os) ≡ 1 + asks_by w os
-asks_same w o os is = asks_first w o os ∙ ap (λ b. cond b 1 0 + asks_by w os) (is_same o.asker w is)
+asks_same w o os is = asks_first w o os ∙ ap (λ b. cond b 1 0 + asks_by w os) (eq-eqb o.asker w is)
 
 pub asks_other : (w : ℕ) (o : Open) (os : List Open) → o.asker ≢ w
     → asks_by w (o ∷ os) ≡ asks_by w os
 asks_other w o os other =
     let first : asks_by w (o ∷ os) ≡ 0 + asks_by w os =
-    asks_first w o os ∙ ap (λ b. cond b 1 0 + asks_by w os) (is_other o.asker w other) in
+    asks_first w o os ∙ ap (λ b. cond b 1 0 + asks_by w os) (ne_eqb o.asker w other) in
     omega (arith, first)
 
 asks_more : (w : ℕ) (o : Open) (os : List Open) → asks_by w os ≤ asks_by w (o ∷ os)
@@ -64,6 +64,6 @@ asks_added p os none once w = by (p.asker == w) refl
   where
     by : (b : Bool) → (p.asker == w) ≡ b → asks_by w (p ∷ os) ≤ 1
     by true same =
-        let is : p.asker ≡ w = same_is p.asker w same in
+        let is : p.asker ≡ w = eqb-true p.asker w same in
         omega (arith, asks_same w p os is, no_asks w os (λ o m e. none o m (e ∙ sym is)))
-    by false other = omega (arith, asks_other w p os (other_is p.asker w other), once w)
+    by false other = omega (arith, asks_other w p os (eqb-false p.asker w other), once w)

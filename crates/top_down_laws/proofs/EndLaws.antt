@@ -1,5 +1,5 @@
 -- What is written stands for, and what it is where nothing waits.
-use Rattle.std.proofs.Common.{◌≡◌, ℕ, ◌+◌, ◌*◌, ◌<◌, ◌∙◌, Bool, true, false, List, [], ◌∷◌, ◌++◌, refl, subst, sym, ap, inl, inr, arith}
+use Rattle.std.proofs.Common.{◌≡◌, ℕ, ◌+◌, ◌*◌, ◌<◌, ◌∙◌, List, [], ◌∷◌, ◌++◌, refl, subst, sym, ap, inl, inr, arith}
 use Rattle.std.specs.Prelude.{Option, Some, None, map, length, suc}
 use Rattle.std.proofs.lemmas.List.{length-map}
 use Rattle.list_laws.proofs.MemberLaws.{has_map, map_has}
@@ -15,10 +15,10 @@ use Rattle.arc_diagrams.specs.Arcs.{targets_of, target_on}
 use Rattle.arc_diagrams.specs.Laws.{IsDiagramOf}
 use Rattle.list_laws.proofs.MemberLaws.{has_left}
 use Rattle.top_down.specs.declared.tuple.Tuple.{Tuple}
-use Rattle.top_down.specs.declared.tuple.Goal.{Goal}
 use Rattle.top_down.specs.declared.tuple.Goal.TheVariants.{End, Go}
 use Rattle.top_down.specs.Rules.{Rule, below_on, table_for}
 use Rattle.top_down.specs.Asks.{Ask, AreNumbered}
+use Rattle.top_down.proofs.GoalLaws.{go_tuple, end_go}
 use Rattle.top_down.proofs.NumberLaws.{newest_above}
 use Rattle.top_down.proofs.GrownLaws.{open_stands, closed_stands}
 use Rattle.top_down_laws.specs.Forms.{Waiting}
@@ -27,21 +27,6 @@ use Rattle.top_down_laws.specs.Remains.{IsTask, Open, waiting_of, ask_of, IsOpen
 use Rattle.top_down_laws.specs.Laws.{IsFor, AsksForOne, WrittenStands, RootStands, AreDifferent, IsWhole, NothingWaits, task_table}
 use Rattle.top_down_laws.proofs.FormLaws.{levels_from, same_tuple}
 use Rattle.top_down_laws.proofs.ReadTurns.{open_key}
-
--- two tuples that a rule says at once are the same
-same_goal : (x y : Tuple) → Go x ≡ Go y → x ≡ y
-same_goal x y same = ap tuple_or same
-  where
-    tuple_or : Goal → Tuple
-    tuple_or (End value) = x
-    tuple_or (Go z) = z
-
-no_end : (value : Bool) (y : Tuple) → End value ≡ Go y → ⊥
-no_end value y same = absurd (let no : true ≡ false = ap is_end same in cc)
-  where
-    is_end : Goal → Bool
-    is_end (End v) = true
-    is_end (Go z) = false
 
 module _ (n : ℕ) (rule : Rule) (d : Diagrams) (roots : Tuple) (task : IsTask n rule d roots) where
   abbrev wait : Open → Waiting
@@ -124,7 +109,7 @@ module _ (n : ℕ) (rule : Rule) (d : Diagrams) (roots : Tuple) (task : IsTask n
 
     all_met : (y : Tuple) → IsMet rule (targets_in d) roots y → Has y (map g.tuple used)
     all_met y (AtRoot z says) =
-        subst (λ v. Has v (map g.tuple used)) (same_goal (g.tuple root) y (sym g.goes ∙ says))
+        subst (λ v. Has v (map g.tuple used)) (go_tuple (g.tuple root) y (sym g.goes ∙ says))
         (has_map g.tuple root used g.grows.begins)
     all_met y (Below z w side met says) =
         let (s, k, is) = map_has g.tuple z used (all_met z met) in
@@ -137,14 +122,14 @@ module _ (n : ℕ) (rule : Rule) (d : Diagrams) (roots : Tuple) (task : IsTask n
               ≡ Go (g.tuple a.target) =
               (λ i. rule.goal (below_on rule (targets_in d) (sym high i) (g.tuple (sym source i))))
               ∙ goes in
-              subst (λ v. Has v (map g.tuple used)) (same_goal (g.tuple a.target) y (sym goes_s
+              subst (λ v. Has v (map g.tuple used)) (go_tuple (g.tuple a.target) y (sym goes_s
               ∙ says_s)) (has_map g.tuple a.target used target)
           | inl (a, inr m, source, high) ↦
               let (value, _, _, ends_there) = g.grows.end_right a m in
               let ends_s : rule.goal (below_on rule (targets_in d) side (g.tuple s)) ≡ End value =
               (λ i. rule.goal (below_on rule (targets_in d) (sym high i) (g.tuple (sym source i))))
               ∙ ends_there in
-              absurd (no_end value y (sym ends_s ∙ says_s))
+              absurd (end_go value y (sym ends_s ∙ says_s))
           | inr (e, m, _, _) ↦ absurd m
         ]
 

@@ -1,13 +1,14 @@
 -- What the form of a tuple is while nodes of its level are read.
 use Rattle.std.proofs.Common.{◌≡◌, ℕ, ◌≤◌, ◌<◌, ◌∙◌, ◌^◌, Bool, true, false, refl, subst, sym, ap, inl, inr, arith}
 use Rattle.std.specs.Prelude.{◌⊎◌, min}
+use Rattle.std.proofs.lemmas.Bool.{or_parts, le-ltb}
 use Rattle.rec_words.specs.Words.{level_of}
 use Rattle.canon_file.specs.declared.row.Row.{Row}
 use Rattle.top_down.specs.declared.tuple.Tuple.{Tuple}
 use Rattle.top_down.specs.Tuples.{Targets, level_of_tuple, parts}
 use Rattle.top_down_laws.specs.Forms.{Form, least, first_form, form_at, member_at, unread_at, filled, wants, next_key, on_side, twice, IsKey, IsLastKey, IsUpToKey}
 use Rattle.top_down_laws.specs.Readings.{Diagrams, targets_in, AreIn, AreReduced, Readings, AreReadings, want, filled_form, read_on}
-use Rattle.top_down_laws.proofs.NumberTests.{or_left, or_right, not_less, Order, Before, Same, Behind, order}
+use Rattle.top_down_laws.proofs.NumberTests.{Order, Before, Same, Behind, order}
 use Rattle.top_down_laws.proofs.MemberLaws.{waits_behind, waits_there, does_wait, reads_on, side_pointer, same_member}
 
 -- tuples with the same members are the same
@@ -65,7 +66,7 @@ first_form-is targets x = λ i. record {
 }
   where
     is : (rows : ℕ → Row) (w : ℕ) → least x ≤ w → member_at rows (least x) w ≡ twice w
-    is rows w from = let test = not_less w (least x) from in rw test refl
+    is rows w from = let test = le-ltb w (least x) from in rw test refl
 
 -- a key is no earlier than the least pointer, and the last key is one alone
 pub one_last : (k l : ℕ) (x : Tuple) → IsLastKey k x → IsLastKey l x → k ≡ l
@@ -120,13 +121,13 @@ module _ (n : ℕ) (d : Diagrams) (reduced : AreReduced n d) where
     deep = levels_from (level_of key) x at.level
 
     none_first : wants key r.first.hand form.first ≡ false
-    none_first = or_left _ _ none
+    none_first = (or_parts _ _ none).0
 
     none_second : wants key r.second.hand form.second ≡ false
-    none_second = or_left _ _ (or_right _ _ none)
+    none_second = (or_parts _ _ (or_parts _ _ none).1).0
 
     none_third : wants key r.third.hand form.third ≡ false
-    none_third = or_right _ _ (or_right _ _ none)
+    none_third = (or_parts _ _ (or_parts _ _ none).1).1
 
     pub next_later : key < next
     next_later =

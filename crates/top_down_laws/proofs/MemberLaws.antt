@@ -1,6 +1,7 @@
 -- What a member of a tuple is while nodes of its level are read.
 use Rattle.std.proofs.Common.{◌≡◌, ◌≢◌, ℕ, ◌≤◌, ◌<◌, ◌∙◌, ◌^◌, Bool, true, false, cond, refl, subst, sym, ap, inl, inr, arith}
 use Rattle.std.specs.Prelude.{Option, Some, None, ◌⊎◌, ◌==◌, ◌&&◌, List, [], ◌∷◌}
+use Rattle.std.proofs.lemmas.Bool.{eq-eqb, ne_eqb, eqb-true, lt-ltb, le-ltb}
 use Rattle.list_laws.proofs.MemberLaws.{has_right}
 use Rattle.rec_words.specs.Words.{level_of, terminal}
 use Rattle.rec_words.specs.declared.node.Node.{Node}
@@ -11,7 +12,7 @@ use Rattle.canon_file.specs.Walks.{is_at, row_at}
 use Rattle.arc_diagrams.specs.Arcs.{onward}
 use Rattle.top_down_laws.specs.Forms.{pointers_of, twice, is_node, wants, filled, unread_at, member_at, IsUpToKey}
 use Rattle.top_down_laws.specs.Readings.{IsIn, IsReduced, IsReadTo}
-use Rattle.top_down_laws.proofs.NumberTests.{is_same, is_other, same_is, is_less, not_less, Order, Before, Same, Behind, order}
+use Rattle.top_down_laws.proofs.NumberTests.{Order, Before, Same, Behind, order}
 
 -- the pointer of a row on a side
 abbrev pub pointer_on : Bool → Row → ℕ
@@ -21,11 +22,11 @@ pub row_at-node : (nodes : List Node) → IsDescending nodes → (x : Node) → 
     row_at nodes x.uid ≡ pointers_of x
 row_at-node [] down x m = absurd m
 row_at-node (y ∷ ys) down x (inl e) =
-    let same : (y.uid == x.uid) ≡ true = is_same y.uid x.uid (ap (λ (z : Node). z.uid) e) in
+    let same : (y.uid == x.uid) ≡ true = eq-eqb y.uid x.uid (ap (λ (z : Node). z.uid) e) in
     rw same (ap pointers_of e)
 row_at-node (y ∷ ys) down x (inr m) =
     let below : x.uid < y.uid = down.0 x m in
-    let other : (y.uid == x.uid) ≡ false = is_other y.uid x.uid (λ same. omega (
+    let other : (y.uid == x.uid) ≡ false = ne_eqb y.uid x.uid (λ same. omega (
       arith,
       same,
       below,
@@ -61,14 +62,14 @@ module _ (n : ℕ) (nodes : List Node) (reduced : IsReduced n nodes) where
     where
       by : (b c : Bool) → (r.low == key) ≡ b → (r.high == key) ≡ c → (b && c) ≡ false
       by true true low high =
-          absurd (differ (same_is r.low key low ∙ sym (same_is r.high key high)))
+          absurd (differ (eqb-true r.low key low ∙ sym (eqb-true r.high key high)))
       by true false low high = refl
       by false c low high = refl
 
   split_waits : (level : ℕ) (r : Row) → r.low ≢ r.high → unread_at level r ≡ terminal true
   split_waits level r differ =
       ap (λ b. cond (b && (level_of r.low == level)) r.low (terminal true))
-      (is_other r.low r.high differ)
+      (ne_eqb r.low r.high differ)
 
   -- a member stays that isn't the key's node
   stays : (key : ℕ) (hand : Option Node) (r : Row) → is_node key r ≡ false → filled key hand r ≡ r
@@ -86,27 +87,27 @@ module _ (n : ℕ) (nodes : List Node) (reduced : IsReduced n nodes) where
       wants key hand (twice w) ≡ false → filled key hand (twice w) ≡ row_at nodes w
   fills key unread None w is reading none =
       absurd (let both : is_node key (twice w) ≡ true =
-      (λ j. is_same w key is j && is_same w key is j) in
+      (λ j. eq-eqb w key is j && eq-eqb w key is j) in
       let no : true ≡ false = sym both ∙ none in cc)
   fills key unread (Some x) w is reading none = by (x.uid == key) refl none
     where
       both : is_node key (twice w) ≡ true
-      both = (λ j. is_same w key is j && is_same w key is j)
+      both = (λ j. eq-eqb w key is j && eq-eqb w key is j)
 
       by : (b : Bool) → (x.uid == key) ≡ b → cond b false (is_node key (twice w)) ≡ false →
           cond (b && is_node key (twice w)) (pointers_of x) (twice w) ≡ row_at nodes w
       by true same none =
           ap (λ c. cond c (pointers_of x) (twice w)) both
           ∙ sym (row_at-node nodes reduced.descend x (hand_in nodes unread x reading))
-          ∙ ap (row_at nodes) (same_is x.uid key same ∙ sym is)
+          ∙ ap (row_at nodes) (eqb-true x.uid key same ∙ sym is)
       by false same none = let no : true ≡ false = sym both ∙ none in absurd cc
 
   module _ (key : ℕ) (node : key < 2 ^ 63) (w : ℕ) (is : IsIn nodes w) where
     pub was_read : w < key → member_at (row_at nodes) key w ≡ row_at nodes w
-    was_read before = ap (λ b. cond b (row_at nodes w) (twice w)) (is_less w key before)
+    was_read before = ap (λ b. cond b (row_at nodes w) (twice w)) (lt-ltb w key before)
 
     pub waits : key ≤ w → member_at (row_at nodes) key w ≡ twice w
-    waits from = ap (λ b. cond b (row_at nodes w) (twice w)) (not_less w key from)
+    waits from = ap (λ b. cond b (row_at nodes w) (twice w)) (le-ltb w key from)
 
     -- once the key is filled in, what comes up to it was read, and what comes behind it waits
     module _ (unread : List Node) (hand : Option Node) (reading : IsReadTo nodes unread hand)
@@ -128,7 +129,7 @@ module _ (n : ℕ) (nodes : List Node) (reduced : IsReduced n nodes) where
 
       pub filled_waits : key < w → filled key hand (member_at (row_at nodes) key w) ≡ twice w
       filled_waits behind =
-          let other : (w == key) ≡ false = is_other w key (λ same. omega (arith, same, behind)) in
+          let other : (w == key) ≡ false = ne_eqb w key (λ same. omega (arith, same, behind)) in
           let no : is_node key (twice w) ≡ false = ap (λ b. b && (w == key)) other in
           ap (filled key hand) (waits (omega (arith, behind))) ∙ stays key hand (twice w) no
 
@@ -157,7 +158,7 @@ module _ (n : ℕ) (nodes : List Node) (reduced : IsReduced n nodes) where
           by (Before before) = read (omega (arith, before))
           by (Same same) = read (omega (arith, same))
           by (Behind behind) =
-              let same : (w == w) ≡ true = is_same w w refl in
+              let same : (w == w) ≡ true = eq-eqb w w refl in
               let is_twice : unread_at (level_of key)
               (filled key hand (member_at (row_at nodes) key w))
               ≡ cond (level_of w == level_of key) w (terminal true) =
@@ -189,7 +190,7 @@ module _ (n : ℕ) (nodes : List Node) (reduced : IsReduced n nodes) where
               (key < w) × (level_of w ≡ level_of key) × (later ≡ w)
           at behind is_twice true same = (
             behind,
-            same_is _ _ same,
+            eqb-true _ _ same,
             is_twice ∙ ap (λ b. cond b w (terminal true)) same,
           )
           at behind is_twice false other =
@@ -201,7 +202,7 @@ module _ (n : ℕ) (nodes : List Node) (reduced : IsReduced n nodes) where
           by (Before before) = read (omega (arith, before))
           by (Same same) = read (omega (arith, same))
           by (Behind behind) =
-              let same : (w == w) ≡ true = is_same w w refl in
+              let same : (w == w) ≡ true = eq-eqb w w refl in
               let is_twice : later ≡ cond (level_of w == level_of key) w (terminal true) =
               ap (unread_at (level_of key)) (filled_waits behind)
               ∙ ap (λ b. cond (b && (level_of w == level_of key)) w (terminal true)) same in
@@ -212,7 +213,7 @@ module _ (n : ℕ) (nodes : List Node) (reduced : IsReduced n nodes) where
           unread_at (level_of key) (filled key hand (member_at (row_at nodes) key w)) ≡ w
       does_wait behind level =
           ap (unread_at (level_of key)) (filled_waits behind)
-          ∙ (λ j. cond (is_same w w refl j && is_same (level_of w) (level_of key) level j) w
+          ∙ (λ j. cond (eq-eqb w w refl j && eq-eqb (level_of w) (level_of key) level j) w
           (terminal true))
 
       -- a member is read up to the next key, where none of its level stands between
@@ -225,7 +226,7 @@ module _ (n : ℕ) (nodes : List Node) (reduced : IsReduced n nodes) where
           read : w ≤ key → filled key hand (member_at (row_at nodes) key w)
               ≡ member_at (row_at nodes) next w
           read upto = filled_read upto
-              ∙ sym (ap (λ b. cond b (row_at nodes w) (twice w)) (is_less w next (omega (
+              ∙ sym (ap (λ b. cond b (row_at nodes w) (twice w)) (lt-ltb w next (omega (
                 arith,
                 upto,
                 later,
@@ -251,7 +252,7 @@ module _ (n : ℕ) (nodes : List Node) (reduced : IsReduced n nodes) where
           by (Behind behind) =
               let from : next ≤ w = behind_next behind (split (level_of key) (level_of w) deep) in
               filled_waits behind ∙ sym (ap (λ b. cond b (row_at nodes w) (twice w))
-              (not_less w next from))
+              (le-ltb w next from))
 
       -- where the key is the last of the level, the member was read where it is of the level
       module _ (deep : level_of key ≤ level_of w) (last : IsUpToKey key w) where
@@ -271,7 +272,7 @@ module _ (n : ℕ) (nodes : List Node) (reduced : IsReduced n nodes) where
                 → pointer_on side (filled key hand (member_at (row_at nodes) key w))
                 ≡ onward (row_at nodes) (level_of key) side w
             read upto =
-                let at : is_at (level_of key) w ≡ true = is_less _ _ (omega (arith, upto)) in
+                let at : is_at (level_of key) w ≡ true = lt-ltb _ _ (omega (arith, upto)) in
                 ap (pointer_on side) (filled_read upto) ∙ sym (ap (either w) at)
 
             by : Order w key
@@ -283,7 +284,7 @@ module _ (n : ℕ) (nodes : List Node) (reduced : IsReduced n nodes) where
                 let other : level_of w ≢ level_of key = λ same. (let upto : w ≤ key = last same in
                 omega (arith, behind, upto)) in
                 let at : is_at (level_of key) w ≡ false =
-                not_less _ _ (omega (arith, deep, other)) in
+                le-ltb _ _ (omega (arith, deep, other)) in
                 ap (pointer_on side) (filled_waits behind)
                 ∙ same_either side ∙ sym (ap (either w) at)
 

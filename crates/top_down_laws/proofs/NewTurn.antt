@@ -2,6 +2,7 @@
 use Rattle.std.proofs.Common.{◌≡◌, ◌≢◌, ℕ, ◌+◌, ◌≤◌, ◌<◌, ◌∙◌, ◌^◌, Bool, true, false, cond, List, [], ◌∷◌, ◌++◌, refl, subst, sym, ap, inl, inr, arith, append_assoc}
 use Rattle.std.specs.Prelude.{Option, Some, None, IfSome, map, length, suc, ◌==◌}
 use Rattle.std.proofs.lemmas.List.{length-append, append-nil}
+use Rattle.std.proofs.lemmas.Bool.{eqb-true}
 use Rattle.list_laws.proofs.MemberLaws.{has_append, has_map}
 use Rattle.rec_words.specs.Words.{level_of, node_word, level_numbers}
 use Rattle.canon_file.specs.Members.{Has}
@@ -19,7 +20,6 @@ use Rattle.top_down_laws.specs.Forms.{Form, Waiting, comes_before, asker_word, I
 use Rattle.top_down_laws.specs.Readings.{Diagrams, targets_in, AreIn, Readings, want, filled_form}
 use Rattle.top_down_laws.specs.Remains.{IsTask, Open, waiting_of, ask_of, source_of, side_of, IsOpen, Waits, Numbered, identifier, IsMade, AsksForRoot, IsMet, AtRoot, Below, IsUpToForm, IsGrown, Remains, answer_arcs, goal_on, side_waits, next_numbered}
 use Rattle.top_down_laws.specs.Laws.{IsNext, NewIsNumbered}
-use Rattle.top_down_laws.proofs.NumberTests.{same_is}
 use Rattle.top_down_laws.proofs.FormLaws.{one_last, is_last}
 use Rattle.top_down_laws.proofs.OrderLaws.{no_later_self, no_later_chain, no_later_both, no_later_key}
 use Rattle.top_down_laws.proofs.AskerLaws.{answer-nobody, answer-node}
@@ -40,7 +40,7 @@ next_is x f used l old_level new_level = by (level_of x.form.key == level_of f.k
         → node_word (level_of f.key) (cond (level_of x.form.key == level_of f.key) (x.number + 1) 0)
         ≡ cond (level_of (identifier x) == l) (suc (identifier x)) (node_word l 0)
     by true same =
-        let level : level_of x.form.key ≡ level_of f.key = same_is _ _ same in
+        let level : level_of x.form.key ≡ level_of f.key = eqb-true _ _ same in
         ap (λ b. node_word (level_of f.key) (cond b (x.number + 1) 0)) same
         ∙ one_more (level_of f.key) (level_of x.form.key) x.number level
         ∙ sym (ap (λ b. cond b (suc (identifier x)) (node_word l 0)) (test ∙ same))

@@ -2,7 +2,8 @@
 use Rattle.std.proofs.Common.{◌≡◌, ◌≢◌, ℕ, ◌≤◌, ◌<◌, ◌∙◌, true, false, cond, refl, sym, ap, inl, inr, arith}
 use Rattle.std.specs.Prelude.{List, [], ◌∷◌, ◌++◌, length, nat_lt, ◌==◌}
 use Rattle.std.specs.Cmp.{IsStrictWeakOrder}
-use Rattle.std.specs.Ordering.{nat_cmp, is_lt, ordering_then, ordering_reverse}
+use Rattle.std.specs.Cmp.Derive.{then_next}
+use Rattle.std.specs.Ordering.{nat_cmp, is_lt, ordering_then}
 use Rattle.std.specs.declared.cmp.Ordering.{Ordering}
 use Rattle.std.specs.declared.cmp.Ordering.TheVariants.{Less, Equal, Greater}
 use Rattle.std.specs.Cmp.Lexicographic.{slice_cmp}
@@ -11,22 +12,8 @@ use Rattle.std.proofs.lemmas.Bool.Decides.{nat_tests}
 use Rattle.std.proofs.lemmas.Cmp.{nat_list_cmp_total}
 use Rattle.std.proofs.lemmas.List.MinMax.{ranks_by}
 use Rattle.std.proofs.lemmas.Map.Lookups.{exact_bytes}
+use Rattle.list_laws.proofs.SortedLaws.{neither_less}
 use Rattle.top_down_laws.specs.Forms.{Form, Waiting, form_words, words_of, comes_before, IsNoLater}
-
--- of two comparisons the other way round, neither of which says less, both say equal
-neither_less : (o p : Ordering) → o ≡ ordering_reverse p → is_lt o ≡ false → is_lt p ≡ false
-    → o ≡ Equal
-neither_less Less p back not_o not_p = cc
-neither_less Equal p back not_o not_p = refl
-neither_less Greater Less back not_o not_p = cc
-neither_less Greater Equal back not_o not_p = cc
-neither_less Greater Greater back not_o not_p = cc
-
-then_flat : (a b c : Ordering) → ordering_then (ordering_then a b) c
-    ≡ ordering_then a (ordering_then b c)
-then_flat Less b c = refl
-then_flat Equal b c = refl
-then_flat Greater b c = refl
 
 then_first : (o p : Ordering) → is_lt (ordering_then o p) ≡ false → is_lt o ≡ false
 then_first Less p none = none
@@ -109,7 +96,7 @@ slice_cmp-last [] (y ∷ ys) a b long = absurd (omega (arith, long))
 slice_cmp-last (x ∷ xs) [] a b long = absurd (omega (arith, long))
 slice_cmp-last (x ∷ xs) (y ∷ ys) a b long =
     ap (ordering_then (nat_cmp x y)) (slice_cmp-last xs ys a b (omega (arith, long)))
-    ∙ sym (then_flat (nat_cmp x y) (slice_cmp nat_cmp xs ys) _)
+    ∙ then_next (nat_cmp x y) (slice_cmp nat_cmp xs ys) _ refl refl
 
 by_form : (a b : Waiting) → slice_cmp nat_cmp (words_of a) (words_of b)
     ≡ ordering_then (slice_cmp nat_cmp (form_words a.form) (form_words b.form))

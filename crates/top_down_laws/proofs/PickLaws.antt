@@ -44,7 +44,7 @@ one_of : (d : Diagrams) (b : Bool) (x y : Tuple) → AreIn d x → AreIn d y →
 one_of d true x y first second = first
 one_of d false x y first second = second
 
-no_member : (nodes : List Node) → IsIn nodes unused
+pub no_member : (nodes : List Node) → IsIn nodes unused
 no_member nodes = inl (inl refl)
 
 pub product_picks : (op : Bin) (d : Diagrams) → Picks (product_rule op) d

@@ -1,6 +1,7 @@
 -- What is read for the first ask, and what remains then.
 use Rattle.std.proofs.Common.{◌≡◌, ◌≢◌, ℕ, ◌≤◌, ◌<◌, ◌∙◌, ◌^◌, Bool, true, false, cond, List, [], ◌∷◌, ◌++◌, refl, subst, sym, ap, inl, inr, arith, append_assoc}
 use Rattle.std.specs.Prelude.{Option, Some, None, IfSome, map, ◌==◌, ◌&&◌}
+use Rattle.std.proofs.lemmas.Bool.{ne_eqb, eqb-false}
 use Rattle.list_laws.proofs.MemberLaws.{has_append, has_right, has_map}
 use Rattle.rec_words.specs.declared.node.Node.{Node}
 use Rattle.canon_file.specs.declared.row.Row.{Row}
@@ -10,7 +11,7 @@ use Rattle.canon_file.specs.Walks.{row_at}
 use Rattle.top_down_laws.specs.Forms.{Waiting, comes_before, is_node, wants, member_at}
 use Rattle.top_down_laws.specs.Readings.{Diagrams, targets_in, IsIn, IsReduced, IsReadTo, IsUpToHand}
 use Rattle.top_down_laws.specs.Remains.{Open, waiting_of}
-use Rattle.top_down_laws.proofs.NumberTests.{is_other, other_is, Order, Before, Same, Behind, order}
+use Rattle.top_down_laws.proofs.NumberTests.{Order, Before, Same, Behind, order}
 use Rattle.top_down_laws.proofs.MemberLaws.{node_in, two_pointers, split_row, was_read, waits}
 use Rattle.top_down_laws.proofs.OrderLaws.{forms_follow, no_later_key}
 
@@ -121,7 +122,7 @@ wants_itself n nodes reduced key node w is wanted = by (order w key)
     by (Behind behind) =
         let other : is_node key (member_at (row_at nodes) key w) ≡ false =
         ap (is_node key) (waits n nodes reduced key node w is (omega (arith, behind)))
-        ∙ ap (λ b. b && (w == key)) (is_other w key (λ same. omega (arith, same, behind))) in
+        ∙ ap (λ b. b && (w == key)) (ne_eqb w key (λ same. omega (arith, same, behind))) in
         let clash : true ≡ false = sym wanted ∙ other in
         absurd cc
 
@@ -134,7 +135,7 @@ not_at_hand key (Some x) m wanted = by (x.uid == key) refl wanted
     by : (b : Bool) → (x.uid == key) ≡ b → cond b false (is_node key m) ≡ true
         → (is_node key m ≡ true) × (x.uid ≢ key)
     by true same is = absurd cc
-    by false other is = (is, other_is x.uid key other)
+    by false other is = (is, eqb-false x.uid key other)
 
 -- a wanted node is to be read
 pub wanted_next : (n : ℕ) (nodes : List Node) → IsReduced n nodes → (key : ℕ) → key < 2 ^ 63

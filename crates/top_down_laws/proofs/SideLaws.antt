@@ -1,6 +1,7 @@
 -- The asks for the two sides of a new tuple.
 use Rattle.std.proofs.Common.{◌≡◌, ◌≢◌, ℕ, ◌-◌, ◌≤◌, ◌<◌, ◌∙◌, ◌^◌, Bool, true, false, cond, List, ◌∷◌, ◌++◌, refl, subst, sym, ap, inl, inr, arith}
 use Rattle.std.specs.Prelude.{◌⊎◌, Some, map, suc}
+use Rattle.std.proofs.lemmas.Bool.{ltb-true}
 use Rattle.rec_words.specs.Words.{level_of}
 use Rattle.rec_words.specs.declared.node.Node.{Node}
 use Rattle.canon_file.specs.declared.row.Row.{Row}
@@ -17,7 +18,6 @@ use Rattle.top_down.proofs.TurnLaws.{asked_at, tuple_deep}
 use Rattle.top_down_laws.specs.Forms.{Waiting, asker_word, comes_before, least, next_key}
 use Rattle.top_down_laws.specs.Readings.{Diagrams, targets_in, IsIn, AreIn, IsReduced, Readings, AreReadings, HandsReach, want, filled_form}
 use Rattle.top_down_laws.specs.Remains.{IsTask, Open, waiting_of, ask_of, source_of, IsOpen, asks_by, Waits, goal_on, side_waits}
-use Rattle.top_down_laws.proofs.NumberTests.{less_is}
 use Rattle.top_down_laws.proofs.MemberLaws.{row_at-node, node_in}
 use Rattle.top_down_laws.proofs.FormLaws.{least_key, first_form-is, side-is}
 use Rattle.top_down_laws.proofs.OrderLaws.{before_by_key}
@@ -99,7 +99,7 @@ onward_in n nodes reduced few level low side w is = by (is_at level w) refl side
 
     by : (b : Bool) → is_at level w ≡ b → (c : Bool)
         → IsIn nodes (cond b (cond c (row_at nodes w).high (row_at nodes w).low) w)
-    by true at c = child (let below = less_is _ _ at in omega (arith, below, low, few)) c
+    by true at c = child (let below = ltb-true _ _ at in omega (arith, below, low, few)) c
     by false at c = is
 
 module _ (n : ℕ) (rule : Rule) (d : Diagrams) (roots : Tuple) (task : IsTask n rule d roots)

@@ -1,6 +1,7 @@
 -- The asks that wait pass all tests of a sweep.
 use Rattle.std.proofs.Common.{◌≡◌, ◌≢◌, ℕ, ◌≤◌, ◌<◌, ◌∙◌, ◌^◌, true, false, List, ◌∷◌, refl, subst, sym, ap, inl, inr, arith}
 use Rattle.std.specs.Prelude.{Option, Some, None, IfSome, map, ◌&&◌}
+use Rattle.std.proofs.lemmas.Bool.{eq-eqb}
 use Rattle.list_laws.proofs.MemberLaws.{has_map, map_has}
 use Rattle.rec_words.specs.Words.{level_of}
 use Rattle.rec_words.specs.declared.node.Node.{Node}
@@ -14,7 +15,7 @@ use Rattle.top_down_laws.specs.Forms.{pointers_of, Waiting, comes_before, is_nod
 use Rattle.top_down_laws.specs.Readings.{Diagrams, targets_in, IsIn, IsReduced}
 use Rattle.top_down_laws.specs.Remains.{IsTask, Open, waiting_of, ask_of, source_of, side_of, IsOpen, IsBehind, Numbered, identifier, IsMade}
 use Rattle.top_down_laws.specs.Laws.{Stands, IsAskedBy, IsSound, AsksAreSound}
-use Rattle.top_down_laws.proofs.NumberTests.{is_same, Order, Before, Same, Behind, order}
+use Rattle.top_down_laws.proofs.NumberTests.{Order, Before, Same, Behind, order}
 use Rattle.top_down_laws.proofs.MemberLaws.{row_at-node, node_in, was_read, waits}
 use Rattle.top_down_laws.proofs.FormLaws.{Levels, levels_from}
 use Rattle.top_down_laws.proofs.OrderLaws.{not_before_self}
@@ -60,7 +61,7 @@ key_member : (n : ℕ) (nodes : List Node) → IsReduced n nodes → (key : ℕ)
     → is_node key (member_at (row_at nodes) key w) ≡ true
 key_member n nodes reduced key node w is same =
     ap (is_node key) (waits n nodes reduced key node w is (omega (arith, same)))
-    ∙ (λ i. is_same w key (sym same) i && is_same w key (sym same) i)
+    ∙ (λ i. eq-eqb w key (sym same) i && eq-eqb w key (sym same) i)
 
 module _ (n : ℕ) (rule : Rule) (d : Diagrams) (roots : Tuple) (task : IsTask n rule d roots) where
   abbrev wait : Open → Waiting

@@ -5,6 +5,7 @@ use Rattle.std.specs.List.{sum_by}
 use Rattle.std.proofs.lemmas.List.{length-append, length-map}
 use Rattle.std.proofs.lemmas.List.Sums.{sum_by-cons}
 use Rattle.std.proofs.lemmas.List.Sorted.{sum_by-IsPermutation, length_permutation}
+use Rattle.std.proofs.lemmas.Bool.{or_parts, eq-eqb, ne_eqb, eqb-true}
 use Rattle.list_laws.proofs.MemberLaws.{map_has}
 use Rattle.rec_words.specs.Words.{level_of, terminal}
 use Rattle.rec_words.specs.declared.node.Node.{Node}
@@ -21,7 +22,6 @@ use Rattle.top_down_laws.specs.Readings.{Diagrams, targets_in, IsReduced, Readin
 use Rattle.top_down_laws.specs.Remains.{IsTask, waiting_of, ask_of, IsMade, Place, at_place, Numbered, identifier, source_of, Remains, IsMet, answer_arcs, side_waits, next_numbered}
 use Rattle.top_down_laws.specs.Laws.{unread_all, AreDifferent, IsSound}
 use Rattle.top_down_laws.specs.Turns.{waits_at, stages, unread_count, IsCounted, CountBegins, CountInAnyOrder, ReadIsCounted, ReadOnIsCounted, KnownIsCounted, NewIsCounted, TurnsAreFew}
-use Rattle.top_down_laws.proofs.NumberTests.{or_left, or_right, is_same, is_other, same_is}
 use Rattle.top_down_laws.proofs.MemberLaws.{hand_in}
 use Rattle.top_down_laws.proofs.AskerLaws.{answer-node}
 use Rattle.top_down_laws.proofs.FormLaws.{one_least}
@@ -51,10 +51,10 @@ key_waits key m is = by (m.low == key) (m.high == key) refl refl is
     by : (b c : Bool) → (m.low == key) ≡ b → (m.high == key) ≡ c → (b && c) ≡ true
         → waits_at (level_of key) m ≡ 1
     by true true low high both =
-        let low_is : m.low ≡ key = same_is m.low key low in
-        let high_is : m.high ≡ key = same_is m.high key high in
-        let same : (m.low == m.high) ≡ true = is_same m.low m.high (low_is ∙ sym high_is) in
-        let level : (level_of m.low == level_of key) ≡ true = is_same _ _ (ap level_of low_is) in
+        let low_is : m.low ≡ key = eqb-true m.low key low in
+        let high_is : m.high ≡ key = eqb-true m.high key high in
+        let same : (m.low == m.high) ≡ true = eq-eqb m.low m.high (low_is ∙ sym high_is) in
+        let level : (level_of m.low == level_of key) ≡ true = eq-eqb _ _ (ap level_of low_is) in
         (λ i. cond (same i && level i) 1 0)
     by true false low high both = absurd cc
     by false c low high both = absurd cc
@@ -65,7 +65,7 @@ filled_waits_not : (n : ℕ) (nodes : List Node) → IsReduced n nodes → (unre
     → waits_at level (record { low = x.low; high = x.high }) ≡ 0
 filled_waits_not n nodes reduced unread x reading level =
     let differ : x.low ≢ x.high = (reduced.proper x (hand_in nodes unread x reading)).differ in
-    ap (λ b. cond (b && (level_of x.low == level)) 1 0) (is_other x.low x.high differ)
+    ap (λ b. cond (b && (level_of x.low == level)) 1 0) (ne_eqb x.low x.high differ)
 
 module _ (n : ℕ) (nodes : List Node) (reduced : IsReduced n nodes) (key level : ℕ) where
   -- filling in never makes more wait
@@ -170,7 +170,7 @@ without x (y ∷ ys) (inr m) =
     }
 
 -- different tuples of a list are no more than the list has
-different_few : (xs ys : List Tuple) → AreDifferent xs → ((x : Tuple) → Has x xs → Has x ys)
+pub different_few : (xs ys : List Tuple) → AreDifferent xs → ((x : Tuple) → Has x xs → Has x ys)
     → length xs ≤ length ys
 different_few [] ys differ among = omega arith
 different_few (x ∷ xs) ys differ among =
@@ -242,7 +242,7 @@ module _ (n : ℕ) (rule : Rule) (d : Diagrams) (roots : Tuple) (task : IsTask n
           third,
           key_waits key a.form.first is,
           filled_less n d.first task.reduced.first key (level_of key) r.first.unread r.first.hand
-              reading.first a.form.first is (or_left _ _ none),
+              reading.first a.form.first is (or_parts _ _ none).0,
         )
         | inr (inl is) ↦ omega (
           arith,
@@ -252,7 +252,7 @@ module _ (n : ℕ) (rule : Rule) (d : Diagrams) (roots : Tuple) (task : IsTask n
           key_waits key a.form.second is,
           filled_less n d.second task.reduced.second key
               (level_of key) r.second.unread r.second.hand reading.second a.form.second is
-              (or_left _ _ (or_right _ _ none)),
+              (or_parts _ _ (or_parts _ _ none).1).0,
         )
         | inr (inr is) ↦ omega (
           arith,
@@ -261,7 +261,7 @@ module _ (n : ℕ) (rule : Rule) (d : Diagrams) (roots : Tuple) (task : IsTask n
           third,
           key_waits key a.form.third is,
           filled_less n d.third task.reduced.third key (level_of key) r.third.unread r.third.hand
-              reading.third a.form.third is (or_right _ _ (or_right _ _ none)),
+              reading.third a.form.third is (or_parts _ _ (or_parts _ _ none).1).1,
         )
       ]
 
@@ -273,7 +273,7 @@ module _ (n : ℕ) (rule : Rule) (d : Diagrams) (roots : Tuple) (task : IsTask n
       by : (b c : Bool) → (level_of m.low == level) ≡ c
           → cond (b && c) m.low (terminal true) < 2 ^ 63
           → level_of (cond (b && c) m.low (terminal true)) ≡ level
-      by true true same below = same_is _ _ same
+      by true true same below = eqb-true _ _ same
       by true false same below = absurd (omega (arith, below))
       by false c same below = absurd (omega (arith, below))
 

@@ -5,6 +5,7 @@ use Rattle.std.specs.Ordering.{is_lt}
 use Rattle.std.specs.Cmp.{IsStrictWeakOrder}
 use Rattle.std.specs.List.Sorted.{IsSorted}
 use Rattle.std.proofs.lemmas.List.MinMax.{ranks_by}
+use Rattle.std.proofs.lemmas.Bool.{and_parts, eqb-true, eq-eqb}
 use Rattle.list_laws.proofs.MemberLaws.{map_has}
 use Rattle.list_laws.proofs.SortedLaws.{none_before}
 use Rattle.rec_words.specs.Words.{level_of}
@@ -17,7 +18,6 @@ use Rattle.top_down_laws.specs.Forms as forms
 use Rattle.top_down_laws.specs.Readings as readings
 use Rattle.top_down_laws.specs.Remains as laws
 use Rattle.top_down_laws.specs.Laws.{IsNext}
-use Rattle.top_down_laws.proofs.NumberTests.{is_same}
 use Rattle.top_down_sweep.specs.declared.ask.Member.{Member}
 use Rattle.top_down_sweep.specs.declared.ask.Ask.{Ask}
 use Rattle.top_down_sweep.specs.declared.operand.Operands.{Operands}
@@ -29,7 +29,6 @@ use Rattle.top_down_sweep.specs.Members.{wants, filled, want, all_filled, all_wa
 use Rattle.top_down_sweep.specs.Soundness.{identifier, answers, known, next_number, next_numbered, same_member}
 use Rattle.top_down_sweep.specs.Meaning.{row_of, form_of, waiting_of, numbered_of}
 use Rattle.top_down_sweep.specs.Changes.{side_asks, goal_below}
-use Rattle.top_down_sweep.proofs.MemberLaws.{and_left, and_right, equal}
 use Rattle.top_down_sweep.proofs.Holding.{ask_total}
 
 -- the nodes at hand are those of the readings
@@ -136,33 +135,32 @@ same_form x a is =
     let first = same_member x.members.first a.members.first in
     let second = same_member x.members.second a.members.second in
     let third = same_member x.members.third a.members.third in
-    let members : (first && (second && third)) ≡ true = and_right key (first && (second && third))
-    is in
-    let others : (second && third) ≡ true = and_right first (second && third) members in
+    let all = and_parts key (first && (second && third)) is in
+    let members = and_parts first (second && third) all.1 in
+    let others = and_parts second third members.1 in
     λ i. record {
-      key = equal x.key a.key (and_left key (first && (second && third)) is) i;
-      first = same_row x.members.first a.members.first
-          (and_left first (second && third) members) i;
-      second = same_row x.members.second a.members.second (and_left second third others) i;
-      third = same_row x.members.third a.members.third (and_right second third others) i;
+      key = eqb-true x.key a.key all.0 i;
+      first = same_row x.members.first a.members.first members.0 i;
+      second = same_row x.members.second a.members.second others.0 i;
+      third = same_row x.members.third a.members.third others.1 i;
     }
   where
     same_row : (m l : Member) → same_member m l ≡ true → row_of m ≡ row_of l
     same_row m l both = λ i. record {
-      low = equal m.low l.low (and_left (m.low == l.low) (m.high == l.high) both) i;
-      high = equal m.high l.high (and_right (m.low == l.low) (m.high == l.high) both) i;
+      low = eqb-true m.low l.low (and_parts (m.low == l.low) (m.high == l.high) both).0 i;
+      high = eqb-true m.high l.high (and_parts (m.low == l.low) (m.high == l.high) both).1 i;
     }
 
 form_same : (x : Numbered) (a : Ask) → form_of x.key x.members ≡ form_of a.key a.members
     → answers x a ≡ true
-form_same x a is = λ i. is_same _ _ (ap (λ (f : forms.Form). f.key) is) i
+form_same x a is = λ i. eq-eqb _ _ (ap (λ (f : forms.Form). f.key) is) i
     && (row_same x.members.first a.members.first (ap (λ (f : forms.Form). f.first) is) i
     && (row_same x.members.second a.members.second (ap (λ (f : forms.Form). f.second) is) i
     && row_same x.members.third a.members.third (ap (λ (f : forms.Form). f.third) is) i))
   where
     row_same : (m l : Member) → row_of m ≡ row_of l → same_member m l ≡ true
-    row_same m l both = λ i. is_same m.low l.low (ap (λ (w : Row). w.low) both) i
-        && is_same m.high l.high (ap (λ (w : Row). w.high) both) i
+    row_same m l both = λ i. eq-eqb m.low l.low (ap (λ (w : Row). w.low) both) i
+        && eq-eqb m.high l.high (ap (λ (w : Row). w.high) both) i
 
 -- the tuple is known: it is the one that was numbered last
 pub record IsKnown (last : Option Numbered) (a : Ask) (uid : ℕ) : Type 0 where

@@ -7,6 +7,7 @@ use Rattle.std.specs.Cmp.Lexicographic.{slice_cmp}
 use Rattle.std.specs.declared.cmp.Ordering.{Ordering}
 use Rattle.std.specs.declared.cmp.Ordering.TheVariants.{Less, Equal, Greater}
 use Rattle.std.proofs.lemmas.Cmp.{ranked}
+use Rattle.std.proofs.lemmas.Bool.{and_parts, eqb-true}
 use Rattle.shelf_model.specs.declared.sort_fault.SortFault.{SortFault}
 use Rattle.run_merge.specs.Lists.{GivesValue, IsShown, AnswersShown, CountsDown}
 use Rattle.arc_file.specs.declared.unreduced.Unreduced.{Unreduced}
@@ -234,58 +235,41 @@ same_asks x y = eqb x.key y.key && ((same_pair x.members.first y.members.first &
     (same_pair x.members.second y.members.second && same_pair x.members.third y.members.third))
     && eqb x.asker y.asker)
 
-both_left : (b c : Bool) → (b && c) ≡ true → b ≡ true
-both_left true c both = refl
-both_left false c both = both
-
-both_right : (b c : Bool) → (b && c) ≡ true → c ≡ true
-both_right true c both = both
-both_right false c both = absurd (cc)
-
-same_number : (a b : ℕ) → eqb a b ≡ true → a ≡ b
-same_number a b test = grind (arith, tests)
-
 pair_low : (x y : Member) → same_pair x y ≡ true → x.low ≡ y.low
-pair_low x y same = same_number x.low y.low (both_left (eqb x.low y.low) (eqb x.high y.high) same)
+pair_low x y same = eqb-true x.low y.low (and_parts (eqb x.low y.low) (eqb x.high y.high) same).0
 
 pair_high : (x y : Member) → same_pair x y ≡ true → x.high ≡ y.high
-pair_high x y same = same_number x.high y.high
-    (both_right (eqb x.low y.low) (eqb x.high y.high) same)
+pair_high x y same = eqb-true x.high y.high (and_parts (eqb x.low y.low) (eqb x.high y.high) same).1
 
 alike : (x y : Ask) → same_asks x y ≡ true → x ≡ y
 alike x y same =
     let first : Bool = same_pair x.members.first y.members.first in
     let second : Bool = same_pair x.members.second y.members.second in
     let third : Bool = same_pair x.members.third y.members.third in
-    let rest = both_right (eqb x.key y.key) ((first && (second && third)) && eqb x.asker y.asker)
-    same in
-    let members = both_left (first && (second && third)) (eqb x.asker y.asker) rest in
-    let first_same = both_left first (second && third) members in
-    let others = both_right first (second && third) members in
-    let second_same = both_left second third others in
-    let third_same = both_right second third others in
+    let all = and_parts (eqb x.key y.key) ((first && (second && third)) && eqb x.asker y.asker) same in
+    let rest = and_parts (first && (second && third)) (eqb x.asker y.asker) all.1 in
+    let members = and_parts first (second && third) rest.0 in
+    let others = and_parts second third members.1 in
     λ i. record {
-      key = same_number x.key y.key (both_left (eqb x.key y.key)
-          ((first && (second && third)) && eqb x.asker y.asker) same) i;
+      key = eqb-true x.key y.key all.0 i;
       members = record {
         first = record {
-          low = pair_low x.members.first y.members.first first_same i;
+          low = pair_low x.members.first y.members.first members.0 i;
           high =
-              pair_high x.members.first y.members.first first_same i;
+              pair_high x.members.first y.members.first members.0 i;
         };
         second = record {
-          low = pair_low x.members.second y.members.second second_same i;
+          low = pair_low x.members.second y.members.second others.0 i;
           high =
-              pair_high x.members.second y.members.second second_same i;
+              pair_high x.members.second y.members.second others.0 i;
         };
         third = record {
-          low = pair_low x.members.third y.members.third third_same i;
+          low = pair_low x.members.third y.members.third others.1 i;
           high =
-              pair_high x.members.third y.members.third third_same i;
+              pair_high x.members.third y.members.third others.1 i;
         };
       };
-      asker = same_number x.asker y.asker (both_right (first && (second && third))
-          (eqb x.asker y.asker) rest) i;
+      asker = eqb-true x.asker y.asker rest.1 i;
     }
 
 own_number : (a : ℕ) → eqb a a ≡ true

@@ -12,7 +12,7 @@ use Rattle.arc_file.specs.declared.unreduced.Unreduced.{Unreduced}
 use Rattle.arc_file.specs.declared.writer.ArcWriter.{ArcWriter}
 use Rattle.arc_file.specs.Writers.{inner_file, ends_file}
 use Rattle.run_tiers.specs.declared.parts.Parts.{Parts}
-use Rattle.run_tiers.proofs.FaultLaws.{sort_shelf_on}
+use Rattle.run_tiers.proofs.FaultLaws.{fault_in, sort_shelf_on}
 use Rattle.sweep_core.specs.Accounts.{Accounts, CanBeTaken, Leaves}
 use Rattle.sweep_core.specs.Sweeps.{IsNoDamage, StaysEnded}
 use Rattle.sweep_core.specs.declared.turn.Turn.{Turn}
@@ -35,11 +35,6 @@ use Rattle.top_down_sweep.specs.Tasks.{AreArcFiles, IsTaskFor, MadeIsDiagram}
 use Rattle.top_down_sweep.specs.Waiting.{IsApart, AreApart}
 use Rattle.top_down_sweep.proofs.Holding.{if_err_map}
 use Rattle.top_down_sweep.proofs.TurnKeeps.{made_where}
-
--- the fault that was answered
-abbrev fault_in : {A : Type 0} → Result A SortFault → SortFault
-fault_in (Ok x) = RunsSpent
-fault_in (Err e) = e
 
 -- what was made of a task is a diagram of its table
 pub diagram_made : MadeIsDiagram

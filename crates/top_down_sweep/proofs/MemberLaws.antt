@@ -1,7 +1,8 @@
 -- What the members of a sound ask are once its key is filled in.
 use Rattle.std.proofs.Common.{◌≡◌, ◌≢◌, ℕ, ◌≤◌, ◌<◌, ◌∙◌, ◌^◌, Bool, true, false, cond, refl, subst, sym, ap, arith}
-use Rattle.std.specs.Prelude.{Option, Some, None, IfSome, ◌==◌, ◌&&◌, ◌||◌, nat_le, nat_lt}
+use Rattle.std.specs.Prelude.{Option, Some, None, IfSome, ◌==◌, ◌&&◌, nat_le, nat_lt}
 use Rattle.std.proofs.lemmas.Bool.Decides.{nat_tests}
+use Rattle.std.proofs.lemmas.Bool.{and_parts, or_parts, eqb-true, eq-eqb, ne_eqb, leb-true, ltb-true}
 use Rattle.rec_words.specs.Words.{level_of, terminal, IsNodeWord}
 use Rattle.rec_words.specs.declared.node.Node.{Node}
 use Rattle.canon_file.specs.NodeFiles.{IsProper}
@@ -13,38 +14,6 @@ use Rattle.top_down_sweep.specs.Members.{is_node, wants, filled, waiting, all_wa
 use Rattle.top_down_sweep.specs.Soundness.{stands, is_keyed}
 use Rattle.top_down_sweep.specs.Sweeps.{AreOperands}
 
--- both tests of two, and neither
-pub and_left : (b c : Bool) → (b && c) ≡ true → b ≡ true
-and_left true c both = refl
-and_left false c both = both
-
-pub and_right : (b c : Bool) → (b && c) ≡ true → c ≡ true
-and_right true c both = both
-and_right false c both = absurd (cc)
-
-or_left : (b c : Bool) → (b || c) ≡ false → b ≡ false
-or_left true c none = none
-or_left false c none = refl
-
-or_right : (b c : Bool) → (b || c) ≡ false → c ≡ false
-or_right true c none = absurd (cc)
-or_right false c none = none
-
-pub equal : (a b : ℕ) → (a == b) ≡ true → a ≡ b
-equal a b test = grind (arith, nat_tests)
-
-unequal : (a b : ℕ) → a ≢ b → (a == b) ≡ false
-unequal a b differ = grind (arith, nat_tests)
-
-at_most : (a b : ℕ) → nat_le a b ≡ true → a ≤ b
-at_most a b test = grind (arith, nat_tests)
-
-less : (a b : ℕ) → nat_lt a b ≡ true → a < b
-less a b test = grind (arith, nat_tests)
-
-is_less : (a b : ℕ) → a < b → nat_lt a b ≡ true
-is_less a b below = grind (arith, nat_tests)
-
 -- a member stands from a node on, by cases
 pub data Standing (key : ℕ) (m : Member) : Type 0 where
   Same : m.low ≡ m.high → key ≤ m.low → Standing key m
@@ -54,26 +23,28 @@ standing : (key : ℕ) (m : Member) → stands key m ≡ true → Standing key m
 standing key m is = by (m.low == m.high) refl is
   where
     by : (b : Bool) → (m.low == m.high) ≡ b → cond b (nat_le key m.low) (nat_lt (level_of key) (level_of m.low) && nat_lt (level_of key) (level_of m.high)) ≡ true → Standing key m
-    by true same from = Same (equal m.low m.high same) (at_most key m.low from)
-    by false split deeper = Split split (less _ _ (and_left _ _ deeper)) (less _ _ (and_right _ _ deeper))
+    by true same from = Same (eqb-true m.low m.high same) (leb-true key m.low from)
+    by false split deeper =
+        let parts = and_parts _ _ deeper in
+        Split split (ltb-true _ _ parts.0) (ltb-true _ _ parts.1)
 
 -- the pointers of a node that is filled in lie deeper, and are another member than the node
 node_stands : (n key : ℕ) (x : Node) → x.uid ≡ key → IsProper n x → Standing key (record { low = x.low; high = x.high })
 node_stands n key x same proper =
-    Split (unequal x.low x.high proper.differ) (subst (λ k. level_of k < level_of x.low) same proper.low) (subst (λ k. level_of k < level_of x.high) same proper.high)
+    Split (ne_eqb x.low x.high proper.differ) (subst (λ k. level_of k < level_of x.low) same proper.low) (subst (λ k. level_of k < level_of x.high) same proper.high)
 
 node_other : (n key : ℕ) (x : Node) → x.uid ≡ key → IsProper n x → is_node key (record { low = x.low; high = x.high }) ≡ false
 node_other n key x same proper =
     let deeper : level_of key < level_of x.low = subst (λ k. level_of k < level_of x.low) same proper.low in
     let differ : x.low ≢ key = λ is. (let level : level_of x.low ≡ level_of key = ap level_of is in omega (arith, deeper, level)) in
-    ap (λ b. b && (x.high == key)) (unequal x.low key differ)
+    ap (λ b. b && (x.high == key)) (ne_eqb x.low key differ)
 
 filled_stands : (n key : ℕ) (hand : Option Node) (m : Member) → IfSome hand (IsProper n) → stands key m ≡ true → Standing key (filled key hand m)
 filled_stands n key None m proper is = standing key m is
 filled_stands n key (Some x) m proper is = by (x.uid == key) (is_node key m) refl
   where
     by : (b c : Bool) → (x.uid == key) ≡ b → Standing key (cond (b && c) (record { low = x.low; high = x.high }) m)
-    by true true same = node_stands n key x (equal x.uid key same) proper
+    by true true same = node_stands n key x (eqb-true x.uid key same) proper
     by true false same = standing key m is
     by false c same = standing key m is
 
@@ -82,7 +53,7 @@ filled_other n key None m proper none = none
 filled_other n key (Some x) m proper none = by (x.uid == key) (is_node key m) refl refl none
   where
     by : (b c : Bool) → (x.uid == key) ≡ b → is_node key m ≡ c → cond b false c ≡ false → is_node key (cond (b && c) (record { low = x.low; high = x.high }) m) ≡ false
-    by true true same is none = node_other n key x (equal x.uid key same) proper
+    by true true same is none = node_other n key x (eqb-true x.uid key same) proper
     by true false same is none = is
     by false c same is none = is ∙ none
 
@@ -95,11 +66,8 @@ waits_later key m node (Same same from) other =
     let differ : key ≢ m.low = λ is. (let both : is_node key m ≡ true = is_key is in let no : true ≡ false = sym both ∙ other in absurd (cc)) in
     by ((m.low == m.high) && (level_of m.low == level_of key)) differ
   where
-    self_equal : (a b : ℕ) → a ≡ b → (a == b) ≡ true
-    self_equal a b is = grind (arith, nat_tests)
-
     is_key : key ≡ m.low → is_node key m ≡ true
-    is_key is = (λ j. self_equal m.low key (sym is) j && self_equal m.high key (sym (is ∙ same)) j)
+    is_key is = (λ j. eq-eqb m.low key (sym is) j && eq-eqb m.high key (sym (is ∙ same)) j)
 
     by : (b : Bool) → key ≢ m.low → key < cond b m.low (terminal true)
     by true differ = omega (arith, from, differ)
@@ -115,7 +83,7 @@ read_deeper key m node (Same same from) none = by (level_of m.low == level_of ke
 
     by : (b : Bool) → (level_of m.low == level_of key) ≡ b → (waiting (level_of key) m < 2 ^ 63 → ⊥) → (level_of key < level_of m.low) × (level_of key < level_of m.high)
     by true is none =
-        let level : level_of m.low ≡ level_of key = equal _ _ is in
+        let level : level_of m.low ≡ level_of key = eqb-true _ _ is in
         let waits : waiting (level_of key) m ≡ m.low = λ j. cond (test j && is j) m.low (terminal true) in
         absurd (none (subst (λ w. w < 2 ^ 63) (sym waits) (omega (arith, level, node))))
     by false is none =
@@ -125,23 +93,23 @@ read_deeper key m node (Same same from) none = by (level_of m.low == level_of ke
 
 module _ (n : ℕ) (o : Operands) (a : Ask) (are : AreOperands n o) (keyed : is_keyed a ≡ true) (node : IsNodeWord a.key) where
   all_stand : (stands a.key a.members.first && (stands a.key a.members.second && stands a.key a.members.third)) ≡ true
-  all_stand = and_right _ _ keyed
+  all_stand = (and_parts _ _ keyed).1
 
   pub first_stands : Standing a.key (filled a.key o.first.hand a.members.first)
-  first_stands = filled_stands n a.key o.first.hand a.members.first are.first.hand_is (and_left _ _ all_stand)
+  first_stands = filled_stands n a.key o.first.hand a.members.first are.first.hand_is (and_parts _ _ all_stand).0
 
   pub second_stands : Standing a.key (filled a.key o.second.hand a.members.second)
-  second_stands = filled_stands n a.key o.second.hand a.members.second are.second.hand_is (and_left _ _ (and_right _ _ all_stand))
+  second_stands = filled_stands n a.key o.second.hand a.members.second are.second.hand_is (and_parts _ _ (and_parts _ _ all_stand).1).0
 
   pub third_stands : Standing a.key (filled a.key o.third.hand a.members.third)
-  third_stands = filled_stands n a.key o.third.hand a.members.third are.third.hand_is (and_right _ _ (and_right _ _ all_stand))
+  third_stands = filled_stands n a.key o.third.hand a.members.third are.third.hand_is (and_parts _ _ (and_parts _ _ all_stand).1).1
 
   -- what is read next for an ask whose node is at hand comes later
   pub next_later : want o a ≡ false → a.key < least (all_waiting (level_of a.key) (all_filled o a))
   next_later none =
-      let first = waits_later a.key _ node first_stands (filled_other n a.key o.first.hand a.members.first are.first.hand_is (or_left _ _ none)) in
-      let second = waits_later a.key _ node second_stands (filled_other n a.key o.second.hand a.members.second are.second.hand_is (or_left _ _ (or_right _ _ none))) in
-      let third = waits_later a.key _ node third_stands (filled_other n a.key o.third.hand a.members.third are.third.hand_is (or_right _ _ (or_right _ _ none))) in
+      let first = waits_later a.key _ node first_stands (filled_other n a.key o.first.hand a.members.first are.first.hand_is (or_parts _ _ none).0) in
+      let second = waits_later a.key _ node second_stands (filled_other n a.key o.second.hand a.members.second are.second.hand_is (or_parts _ _ (or_parts _ _ none).1).0) in
+      let third = waits_later a.key _ node third_stands (filled_other n a.key o.third.hand a.members.third are.third.hand_is (or_parts _ _ (or_parts _ _ none).1).1) in
       all_later _ _ _ _ first second third
     where
       all_later : (k x y z : ℕ) → k < x → k < y → k < z → k < least (record { first = x; second = y; third = z })

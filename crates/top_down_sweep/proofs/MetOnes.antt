@@ -1,6 +1,8 @@
 -- Whether the truth value 1 was met tells whether the table that is made has a 1.
-use Rattle.std.specs.Prelude.{◌≡◌, ◌⊎◌, ◌↔◌, ℕ, ◌<◌, ◌^◌, ◌==◌, ◌||◌, Bool, true, false, List, [], ◌∷◌, ◌++◌, All, IsSome}
+use Rattle.std.specs.Prelude.{◌≡◌, ◌↔◌, ℕ, ◌<◌, ◌^◌, ◌==◌, ◌||◌, Bool, true, false, List, [], ◌∷◌, ◌++◌, All, IsSome}
 use Rattle.std.proofs.Common.{refl, sym, ◌∙◌, ap, subst, inl, inr, true≢false, arith}
+use Rattle.std.proofs.Math.Bool.{or-true, or-false}
+use Rattle.std.proofs.lemmas.Bool.{or_cases}
 use Rattle.std.proofs.lemmas.Bool.Decides.{nat_tests}
 use Rattle.std.proofs.lemmas.List.Folds.{list_any-append}
 use Rattle.list_laws.specs.Members.{Has}
@@ -21,15 +23,11 @@ use Rattle.top_down_sweep.specs.Sweeps.{made_at, has_root_one}
 use Rattle.top_down_sweep.specs.Meaning.{Task, table_of, leads_to_one, some_one, IsDone, RemainsIn}
 use Rattle.top_down_sweep.proofs.Somewhere.{one_somewhere, met_at_end}
 
-or_false : (b : Bool) → (b || false) ≡ b
-or_false true = refl
-or_false false = refl
-
 -- an arc to a node doesn't lead to 1
 one_stays : (known : Bool) (a : Arc) → a.target < 2 ^ 63 → (known || leads_to_one a) ≡ known
 one_stays known a inner =
     let not_here : leads_to_one a ≡ false = grind (arith, nat_tests) in
-    ap (λ b. known || b) not_here ∙ or_false known
+    ap (λ b. known || b) not_here ∙ or-false known
 
 -- so nothing but the writer changes where one is put
 pub only_written : (m q : Machine) (a : Arc) → q ≡ record m { writer = q.writer; has_one = q.has_one }
@@ -47,18 +45,10 @@ one_put known ends a is = ap (λ b. b || leads_to_one a) is ∙ ap (λ b. some_o
     alone : some_one (end_arcs (a ∷ [])) ≡ leads_to_one a
     alone = grind (arith, nat_tests)
 
-or_true : (b : Bool) → (b || true) ≡ true
-or_true true = refl
-or_true false = refl
-
-either : (a b : Bool) → (a || b) ≡ true → (a ≡ true) ⊎ (b ≡ true)
-either true b e = inl refl
-either false b e = inr e
-
 -- one of a list leads to 1 where its test says so
 has_one : (xs : List Arc) → some_one xs ≡ true → (a : Arc) × Has a xs × (a.target ≡ terminal true)
 has_one [] e = absurd (true≢false (sym e))
-has_one (x ∷ xs) e = elim (either (leads_to_one x) (some_one xs) e) [
+has_one (x ∷ xs) e = elim (or_cases (leads_to_one x) (some_one xs) e) [
   | inl here ↦ (x, inl refl, grind (arith, nat_tests))
   | inr there ↦ let (a, m, t) = has_one xs there in (a, inr m, t)
 ]
@@ -69,12 +59,12 @@ one_has (x ∷ xs) a (inl is) e =
     let first : x.target ≡ terminal true = ap (λ (y : Arc). y.target) is ∙ e in
     let here : leads_to_one x ≡ true = grind (arith, nat_tests) in
     ap (λ b. b || some_one xs) here
-one_has (x ∷ xs) a (inr m) e = ap (λ b. leads_to_one x || b) (one_has xs a m e) ∙ or_true (leads_to_one x)
+one_has (x ∷ xs) a (inr m) e = ap (λ b. leads_to_one x || b) (one_has xs a m e) ∙ or-true (leads_to_one x)
 
 -- what is tested of the root and the arcs
 met_is : (root : ℕ) (ends : List Arc) → (some_one ends || (root == terminal true)) ≡ true
     → IsMet root ends (terminal true)
-met_is root ends e = elim (either (some_one ends) (root == terminal true) e) [
+met_is root ends e = elim (or_cases (some_one ends) (root == terminal true) e) [
   | inl one ↦ inr (has_one ends one)
   | inr first ↦ inl (grind (arith, nat_tests))
 ]
@@ -83,7 +73,7 @@ is_met : (root : ℕ) (ends : List Arc) → IsMet root ends (terminal true)
     → (some_one ends || (root == terminal true)) ≡ true
 is_met root ends (inl first) =
     let here : (root == terminal true) ≡ true = grind (arith, nat_tests) in
-    ap (λ b. some_one ends || b) here ∙ or_true (some_one ends)
+    ap (λ b. some_one ends || b) here ∙ or-true (some_one ends)
 is_met root ends (inr (a, m, e)) = ap (λ b. b || (root == terminal true)) (one_has ends a m e)
 
 -- what all of a list are, each of them is
@@ -116,11 +106,11 @@ module _ (t : Task) (begins : Tuple → Tuple) (m : Machine) (world : World) whe
   -- where 1 was met the table has a 1
   pub met_value : (p : Phase) → RemainsIn t begins p m world → (m.has_one || has_root_one (made_at p)) ≡ true
       → Has true (table_of t)
-  met_value phases.Fresh fresh e = absurd (elim (either m.has_one false e) [
+  met_value phases.Fresh fresh e = absurd (elim (or_cases m.has_one false e) [
     | inl one ↦ true≢false (sym one ∙ fresh.stands.one_is)
     | inr unmet ↦ true≢false (sym unmet)
   ])
-  met_value (phases.Asking s) h e = elim (either m.has_one false e) [
+  met_value (phases.Asking s) h e = elim (or_cases m.has_one false e) [
     | inl one ↦
         let k = h.contents in
         let (a, there, leads) = has_one k.ends (sym h.stands.one_is ∙ one) in

@@ -1,6 +1,7 @@
 -- The numbers of a level are no more than the arcs to nodes.
 use Rattle.std.proofs.Common.{◌≡◌, ℕ, ◌≤◌, ◌<◌, ◌+◌, ◌*◌, ◌/◌, Bool, true, false, cond, refl, subst, sym, arith}
 use Rattle.std.specs.Prelude.{Option, Some, None, IfSome, ◌==◌, ◌&&◌, nat_lt}
+use Rattle.std.proofs.lemmas.Bool.{and_parts}
 use Rattle.rec_words.specs.Words.{level_of, node_word, level_numbers}
 use Rattle.arc_file.specs.declared.writer.ArcWriter.{ArcWriter}
 use Rattle.arc_file.specs.Writers.{inner_count}
@@ -13,7 +14,6 @@ use Rattle.top_down_sweep.specs.declared.place.Phase.{Phase}
 use Rattle.top_down_sweep.specs.declared.place.Phase.TheVariants as phases
 use Rattle.top_down_sweep.specs.Soundness.{is_none, is_sound, is_asker, nobody, next_number, next_numbered}
 use Rattle.top_down_sweep.specs.Sweeps.{IsPhaseAt}
-use Rattle.top_down_sweep.proofs.MemberLaws.{and_right}
 
 -- a node asks, unless it is the first ask
 asker_there : (b c d : Bool) → cond b (true && c) (false && d) ≡ true → b ≡ true
@@ -25,7 +25,7 @@ next_fits : (last : Option Numbered) (a : Ask) (count : ℕ) → is_sound (is_no
     → next_number last (level_of a.key) ≤ count + cond (is_asker a.asker) 1 0
 next_fits None a count sound few = omega arith
 next_fits (Some x) a count sound few =
-    let there : is_asker a.asker ≡ true = asker_there _ (nat_lt (level_of (a.asker / 2)) (level_of a.key)) (a.asker == nobody) (and_right _ _ sound) in
+    let there : is_asker a.asker ≡ true = asker_there _ (nat_lt (level_of (a.asker / 2)) (level_of a.key)) (a.asker == nobody) (and_parts _ _ sound).1 in
     subst (λ b. next_number (Some x) (level_of a.key) ≤ count + cond b 1 0) (sym there) (by (level_of x.key == level_of a.key))
   where
     by : (b : Bool) → cond b (x.number + 1) 0 ≤ count + 1

@@ -45,7 +45,7 @@ pub same_some : (x y : Node) → Some x ≡ Some y → x ≡ y
 same_some x y same = cc
 
 -- the identifier of the node at a place
-node_identifier : (n place : ℕ) (bytes : List ℕ) (x : Node) → IsNodeAt n place bytes x
+pub node_identifier : (n place : ℕ) (bytes : List ℕ) (x : Node) → IsNodeAt n place bytes x
     → identifier_at place bytes ≡ x.uid
 node_identifier n place bytes x at = ap (λ (ws : List ℕ). slice_index ws 0) (sym at.record_is.same)
 

@@ -11,6 +11,7 @@ use Rattle.std.proofs.lemmas.Cmp.{ranked}
 use Rattle.std.proofs.lemmas.List.Elements.{All-push, All-weaker}
 use Rattle.std.proofs.lemmas.List.Kept.{IsSortedBy-push}
 use Rattle.std.proofs.lemmas.List.MinMax.{ranks_by}
+use Rattle.std.proofs.lemmas.Bool.{and_parts, eqb-true}
 use Rattle.rec_words.specs.Words.{level_of, node_word, level_numbers, terminal, IsNodeWord, IsTerminal}
 use Rattle.shelf_model.specs.World.{World}
 use Rattle.arc_file.specs.declared.arc.Arc.{Arc}
@@ -40,7 +41,6 @@ use Rattle.top_down_sweep.specs.Soundness.{side_number, asker_word, is_asker, as
 use Rattle.top_down_sweep.specs.Ordered.{AreOrdered, source_word, AreInnerTo, AreEndsTo, ArePutTo, ArePut, HoldsPut, HoldsOrdered, IsOrderedAt, IsOrdered, KeepsArcs}
 use Rattle.top_down_sweep.proofs.FormsOf.{IsKnown}
 use Rattle.top_down_sweep.proofs.Holding.{ask_total, key_from}
-use Rattle.top_down_sweep.proofs.MemberLaws.{equal, and_right}
 use Rattle.top_down_sweep.proofs.Numbers.{level_of_node}
 
 -- an arc isn't before one whose asker comes no later
@@ -84,7 +84,7 @@ asker_is : (w target : ℕ) → source_word (arc_from w target) ≡ w
 asker_is w target = by (w % 2 == 1) refl
   where
     by : (b : Bool) → (w % 2 == 1) ≡ b → 2 * (w / 2) + side_number b ≡ w
-    by true is = let odd : w % 2 ≡ 1 = equal _ _ is in omega (arith, odd)
+    by true is = let odd : w % 2 ≡ 1 = eqb-true _ _ is in omega (arith, odd)
     by false is = let even : (w % 2 ≡ 1 → ⊥) = grind (arith, nat_tests) in omega (arith, even)
 
 -- an ask is answered
@@ -244,7 +244,7 @@ asks_deeper w key first above is =
     sym (ap (λ b. cond b (not first && nat_lt (level_of (w / 2)) (level_of key))
     (first && (w == nobody))) is) ∙ above in
     let deeper : nat_lt (level_of (w / 2)) (level_of key) ≡ true =
-    and_right (not first) (nat_lt (level_of (w / 2)) (level_of key)) both in
+    (and_parts (not first) (nat_lt (level_of (w / 2)) (level_of key)) both).1 in
     grind (arith, nat_tests)
 
 -- it was answered by a known number
@@ -287,7 +287,7 @@ number_grows x a few upto = by (level_of x.key == level_of a.key) refl
   where
     by : (b : Bool) → (level_of x.key == level_of a.key) ≡ b
         → identifier x < node_word (level_of a.key) (cond b (x.number + 1) 0)
-    by true same = let level : level_of x.key ≡ level_of a.key = equal _ _ same in omega (arith, level)
+    by true same = let level : level_of x.key ≡ level_of a.key = eqb-true _ _ same in omega (arith, level)
     by false other =
         let levels : (level_of x.key ≡ level_of a.key → ⊥) = grind (arith, nat_tests) in
         let deeper : level_of x.key < level_of a.key = omega (arith, levels, upto) in

@@ -7,6 +7,7 @@ use Rattle.rec_words.specs.Words.{terminal, level_of}
 use Rattle.canon_file.specs.declared.row.Row.{Row}
 use Rattle.canon_file.specs.Members.{Has}
 use Rattle.canon_file.specs.Walks.{table_of}
+use Rattle.canon_file.proofs.WalkLaws.{parts_by}
 use Rattle.arc_file.specs.declared.arc.Arc.{Arc}
 use Rattle.arc_file.specs.declared.kind.Kind.TheVariants.{Inner}
 use Rattle.arc_file.specs.Files.{Leads}
@@ -16,12 +17,6 @@ use Rattle.arc_diagrams.proofs.WordLaws.{at_from, past_from, level-terminal}
 use Rattle.arc_diagrams.proofs.TargetLaws.{the_target}
 use Rattle.arc_diagrams.proofs.TableLaws.{table_parts, onward_met, table_from_stands}
 use Rattle.arc_diagrams.proofs.FinalLaws.{source_below}
-
--- the table of a pointer, by whether it is of the level
-abbrev parts_by : (ℕ → Row) → ℕ → ℕ → ℕ → Bool → List Bool
-parts_by targets h i w b = cond b
-    (table_of targets h (suc i) (targets w).low ++ table_of targets h (suc i) (targets w).high)
-    (table_of targets h (suc i) w ++ table_of targets h (suc i) w)
 
 -- what a pointer's table has on the level behind, it has on a level above the pointer's own
 one_before : (targets : ℕ → Row) (h i w : ℕ) → i < level_of w → Has true (table_of targets h (suc i) w)

@@ -2,6 +2,7 @@
 use Rattle.std.proofs.Common.{◌≡◌, ◌≢◌, ℕ, ◌+◌, ◌*◌, ◌/◌, ◌≤◌, ◌<◌, ◌∙◌, ◌^◌, Bool, true, false, cond, refl, subst, sym, ap, arith}
 use Rattle.std.specs.Prelude.{◌==◌, ◌&&◌, ◌||◌, not, nat_le, nat_lt, min}
 use Rattle.std.proofs.lemmas.Bool.Decides.{nat_tests}
+use Rattle.std.proofs.lemmas.Bool.{and_parts, eqb-true, eq-eqb, le-leb, lt-ltb}
 use Rattle.rec_words.specs.Words.{level_of, terminal, terminal_level, most_variables, IsNodeWord}
 use Rattle.top_down.specs.declared.tuple.Tuple.{Tuple}
 use Rattle.top_down.specs.Tuples.{level_of_tuple}
@@ -12,16 +13,7 @@ use Rattle.top_down_sweep.specs.declared.sound.Source.{Source}
 use Rattle.top_down_sweep.specs.Members.{member, members_of, is_node, waiting, all_waiting, least, all_filled}
 use Rattle.top_down_sweep.specs.Soundness.{nobody, asker_word, is_asker, asks_above, stands, is_keyed, is_sound, side_number}
 use Rattle.top_down_sweep.specs.Sweeps.{AreOperands}
-use Rattle.top_down_sweep.proofs.MemberLaws.{Standing, Same, Split, first_stands, second_stands, third_stands, and_right, equal}
-
-equal_to : (a b : ℕ) → a ≡ b → (a == b) ≡ true
-equal_to a b is = grind (arith, nat_tests)
-
-no_more : (a b : ℕ) → a ≤ b → nat_le a b ≡ true
-no_more a b is = grind (arith, nat_tests)
-
-is_less : (a b : ℕ) → a < b → nat_lt a b ≡ true
-is_less a b is = grind (arith, nat_tests)
+use Rattle.top_down_sweep.proofs.MemberLaws.{Standing, Same, Split, first_stands, second_stands, third_stands}
 
 all_three : (b c d : Bool) → b ≡ true → c ≡ true → d ≡ true → (b && (c && d)) ≡ true
 all_three b c d first second third = (λ i. first i && (second i && third i))
@@ -58,11 +50,11 @@ which a b c = by (nat_le a b) (nat_le a c) (nat_le b c) refl refl refl
 
 -- a pointer as a member is the node that it is, and stands from each node that comes no later
 node_is : (k w : ℕ) → w ≡ k → is_node k (member w) ≡ true
-node_is k w is = λ i. equal_to w k is i && equal_to w k is i
+node_is k w is = λ i. eq-eqb w k is i && eq-eqb w k is i
 
 pointer_stands : (k w : ℕ) → k ≤ w → stands k (member w) ≡ true
-pointer_stands k w from = (λ i. cond (equal_to w w refl i) (nat_le k w)
-    (nat_lt (level_of k) (level_of w) && nat_lt (level_of k) (level_of w))) ∙ no_more k w from
+pointer_stands k w from = (λ i. cond (eq-eqb w w refl i) (nat_le k w)
+    (nat_lt (level_of k) (level_of w) && nat_lt (level_of k) (level_of w))) ∙ le-leb k w from
 
 -- the ask for a tuple is for the least of its pointers
 pub tuple_keyed : (x : Tuple) (k asker : ℕ) → k ≡ least x
@@ -84,9 +76,9 @@ pub node_asks : (s : Source) (k : ℕ) → level_of s.uid < most_variables → l
 node_asks s k node deeper =
     let uid : asker_word s / 2 ≡ s.uid = half s.high in
     let there : is_asker (asker_word s) ≡ true = ap (λ w. nat_lt (level_of w) most_variables) uid
-    ∙ is_less _ _ node in
+    ∙ lt-ltb _ _ node in
     let above : nat_lt (level_of (asker_word s / 2)) (level_of k) ≡ true = ap
-    (λ w. nat_lt (level_of w) (level_of k)) uid ∙ is_less _ _ deeper in
+    (λ w. nat_lt (level_of w) (level_of k)) uid ∙ lt-ltb _ _ deeper in
     (λ i. cond (there i) (not false && above i) (false && (asker_word s == nobody)))
   where
     half : (b : Bool) → (2 * s.uid + side_number b) / 2 ≡ s.uid
@@ -134,8 +126,8 @@ module _ (n : ℕ) (o : Operands) (a : Ask) (k : ℕ) (are : AreOperands n o)
       by : (b c : Bool) → (m.low == m.high) ≡ b → (level_of m.low == level_of a.key) ≡ c → IsIt m
       by true true same level =
           let low : m.low ≡ k = sym (λ i. cond (same i && level i) m.low (terminal true)) ∙ waits in
-          let both : m.low ≡ m.high = equal _ _ same in
-          It low (sym both ∙ low) (ap level_of (sym low) ∙ equal _ _ level)
+          let both : m.low ≡ m.high = eqb-true _ _ same in
+          It low (sym both ∙ low) (ap level_of (sym low) ∙ eqb-true _ _ level)
       by true false same level =
           let none : terminal true ≡ k = sym (λ i. cond (same i && level i) m.low (terminal true))
           ∙ waits in
@@ -149,7 +141,7 @@ module _ (n : ℕ) (o : Operands) (a : Ask) (k : ℕ) (are : AreOperands n o)
   level_from m (It low high level) = level
 
   node_from : (m : Member) → IsIt m → is_node k m ≡ true
-  node_from m (It low high level) = λ i. equal_to m.low k low i && equal_to m.high k high i
+  node_from m (It low high level) = λ i. eq-eqb m.low k low i && eq-eqb m.high k high i
 
   abbrev first_read : Member
   first_read = (all_filled o a).first
@@ -179,19 +171,19 @@ module _ (n : ℕ) (o : Operands) (a : Ask) (k : ℕ) (are : AreOperands n o)
   -- each member stands from it on
   stands_on : (m : Member) → Standing a.key m → k ≤ waiting (level_of a.key) m → stands k m ≡ true
   stands_on m (Split split low high) from =
-      let deep : nat_lt (level_of k) (level_of m.low) ≡ true = is_less _ _
+      let deep : nat_lt (level_of k) (level_of m.low) ≡ true = lt-ltb _ _
       (subst (λ l. l < level_of m.low) (sym next_level) low) in
-      let high_deep : nat_lt (level_of k) (level_of m.high) ≡ true = is_less _ _
+      let high_deep : nat_lt (level_of k) (level_of m.high) ≡ true = lt-ltb _ _
       (subst (λ l. l < level_of m.high) (sym next_level) high) in
       λ i. cond (split i) (nat_le k m.low) (deep i && high_deep i)
-  stands_on m (Same same after) from = λ i. cond (equal_to m.low m.high same i)
-      (no_more k m.low (by (level_of m.low == level_of a.key) refl) i)
+  stands_on m (Same same after) from = λ i. cond (eq-eqb m.low m.high same i)
+      (le-leb k m.low (by (level_of m.low == level_of a.key) refl) i)
       (nat_lt (level_of k) (level_of m.low) && nat_lt (level_of k) (level_of m.high))
     where
       by : (c : Bool) → (level_of m.low == level_of a.key) ≡ c → k ≤ m.low
       by true level =
           let waits : waiting (level_of a.key) m ≡ m.low =
-          (λ i. cond (equal_to m.low m.high same i && level i) m.low (terminal true)) in
+          (λ i. cond (eq-eqb m.low m.high same i && level i) m.low (terminal true)) in
           omega (arith, from, waits)
       by false level =
           let other : level_of m.low ≢ level_of a.key = grind (arith, nat_tests) in
@@ -216,4 +208,4 @@ module _ (n : ℕ) (o : Operands) (a : Ask) (k : ℕ) (are : AreOperands n o)
       → is_sound is_first (record { key = k; members = all_filled o a; asker = a.asker }) ≡ true
   again_sound is_first sound = λ i. again_keyed i &&
       ((λ j. cond (is_asker a.asker) (not is_first && nat_lt (level_of (a.asker / 2))
-      (next_level j)) (is_first && (a.asker == nobody))) ∙ and_right _ _ sound) i
+      (next_level j)) (is_first && (a.asker == nobody))) ∙ (and_parts _ _ sound).1) i

@@ -1,6 +1,6 @@
 -- The lists that a machine stands for, from call to call.
-use Rattle.std.proofs.Common.{◌≡◌, ℕ, ◌∙◌, Bool, List, [], ◌∷◌, ◌++◌, refl, sym, subst, ap, inl, inr}
-use Rattle.std.specs.Prelude.{◌⊎◌, take, length, Option, Some, None, Result, Ok, Err, IfOk, IfErr, OnOk, IsTrue}
+use Rattle.std.proofs.Common.{◌≡◌, ℕ, ◌∙◌, Bool, List, [], ◌∷◌, refl, sym, subst, ap, inl, inr}
+use Rattle.std.specs.Prelude.{◌⊎◌, Option, Some, None, Result, Ok, Err, IfOk, IfErr, OnOk, IsTrue}
 use Rattle.std.specs.List.Sorted.{IsSorted}
 use Rattle.shelf_model.specs.declared.file_no.FileNo.{FileNo}
 use Rattle.shelf_model.specs.declared.sort_fault.SortFault.{SortFault}
@@ -13,13 +13,9 @@ use Rattle.shelf_model.specs.World.{World, now, file}
 use Rattle.shelf_model.proofs.Runs.{ran_end}
 use Rattle.arc_file.specs.declared.arc.Arc.{Arc}
 use Rattle.arc_file.specs.declared.writer.ArcWriter.{ArcWriter}
-use Rattle.block_stream.specs.declared.appender.Appender.{Appender}
-use Rattle.block_stream.specs.Records.{records_bytes}
-use Rattle.block_stream.specs.Appenders.{filling_of, written_of, HoldsItems}
-use Rattle.block_stream.specs.Items.{AreItems}
-use Rattle.arc_file.specs.Arcs.{arc_words, IsArc}
 use Rattle.arc_file.specs.Pairs.{DuringWrites, WroteBoth}
 use Rattle.arc_file.specs.Writers.{inner_file, ends_file, HoldsArcs}
+use Rattle.arc_file.proofs.WriterLaws.{held_on}
 use Rattle.run_tiers.specs.declared.parts.Parts.{Parts}
 use Rattle.run_tiers.specs.Parts.{IsTaken, OnlyTaken, Spilled, Took}
 use Rattle.run_merge.specs.Lists.{Joins, Shows, Gives, AnswersShown}
@@ -77,17 +73,6 @@ all_still m old new r are same apart read = record {
 }
 
 -- and what a writer holds stays where its files do
-held_on : (a : Appender Arc) (old new : World) (xs : List Arc)
-    → file new (filling_of a).file ≡ file old (filling_of a).file
-    → HoldsItems IsArc arc_words a old xs → HoldsItems IsArc arc_words a new xs
-held_on a old new xs same held =
-    let bytes : written_of a new ≡ written_of a old = ap (λ (f : File).
-    f.bytes ++ records_bytes a.filling.words (take a.filling.waiting a.window.now)) same in
-    record {
-      items = subst (λ b. AreItems IsArc arc_words a.filling.words 0 b xs) (sym bytes) held.items;
-      all = ap length bytes ∙ held.all;
-    }
-
 arcs_still : (w : ArcWriter) (old new : World) (inner ends : List Arc)
     → file new (inner_file w) ≡ file old (inner_file w)
     → file new (ends_file w) ≡ file old (ends_file w) → HoldsArcs w old inner ends

@@ -1,14 +1,11 @@
 -- What is read of operands at first.
-use Rattle.std.proofs.Common.{◌≡◌, ℕ, ◌+◌, ◌-◌, ◌*◌, ◌/◌, ◌^◌, ◌<◌, ◌∙◌, List, [], ◌∷◌, length, drop, refl, sym, subst, ap, inl, inr, arith, length-append}
+use Rattle.std.proofs.Common.{◌≡◌, ℕ, ◌+◌, ◌-◌, ◌*◌, ◌/◌, ◌∙◌, List, length, drop, refl, sym, subst, ap, arith, length-append}
 use Rattle.std.specs.Prelude.{None, slice_index}
 use Rattle.std.proofs.lemmas.List.{drop_at}
 use Rattle.std.proofs.lemmas.Nat.{from_be_bytes-to_be_bytes_8}
-use Rattle.rec_words.specs.RecordLaws.{pointer_fits}
 use Rattle.rec_words.specs.declared.rec.Rec.{Rec}
-use Rattle.list_laws.specs.Members.{Has}
 use Rattle.block_stream.specs.Records.{record_of, record_at}
 use Rattle.canon_file.specs.Canon.{node_bytes, trailer_bytes}
-use Rattle.canon_file.specs.NodeFiles.{IsProper, EndsAt}
 use Rattle.canon_file.proofs.ByteLaws.{length-node_bytes}
 use Rattle.rec_words.specs.declared.node.Node.{Node}
 use Rattle.shelf_model.specs.declared.file_no.FileNo.{FileNo}
@@ -16,6 +13,7 @@ use Rattle.shelf_model.specs.World.{World, file}
 use Rattle.node_file.specs.declared.reader.NodeReader.{NodeReader}
 use Rattle.node_file.specs.Nodes.{HasTrailer, HasNodes}
 use Rattle.node_file.specs.Readers.{file_of, trailer_of, Reads, AreLeft}
+use Rattle.node_file.proofs.FileLaws.{root_fits}
 use Rattle.node_reading.proofs.NodeReading.{starts_reading}
 use Rattle.top_down_sweep.specs.Meaning.{IsNodeFile, IsUnread}
 
@@ -25,16 +23,7 @@ pub moved_file : (f : FileNo) (n root : ℕ) (nodes : List Node) (old new : Worl
     → IsNodeFile f new n root nodes
 moved_file f n root nodes old new same is = subst (HasNodes n root nodes) (sym same) is
 
--- the root that ends a file of nodes
-root_fits : (n root : ℕ) (xs : List Node) → ((x : Node) → Has x xs → IsProper n x)
-    → EndsAt root xs → root < 2 ^ 64
-root_fits n root [] proper (inl zeros) = omega (arith, zeros)
-root_fits n root [] proper (inr ones) = omega (arith, ones)
-root_fits n root (x ∷ []) proper ends = subst (λ w. w < 2 ^ 64) (sym ends)
-    (pointer_fits x.uid (inl (proper x (inl refl)).words.uid))
-root_fits n root (x ∷ (y ∷ xs)) proper ends = root_fits n root (y ∷ xs)
-    (λ z there. proper z (inr there)) ends
-
+-- the root that a trailer names is the one that ends the file's nodes
 root_read : (n r root : ℕ) (xs : List Node) (bytes : List ℕ) → HasTrailer n r bytes
     → HasNodes n root xs bytes → r ≡ root
 root_read n r root xs bytes has nodes =

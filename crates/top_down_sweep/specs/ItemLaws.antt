@@ -1,35 +1,30 @@
 -- what makes asks values that can be spilled
 use Rattle.std.specs.Prelude.{◌≡◌, ◌<◌, ◌^◌, All, zero, suc, refl}
 use Rattle.std.specs.Ordering.{nat_cmp, ordering_then}
+use Rattle.std.specs.Cmp.Derive.{then_next}
 use Rattle.std.specs.Cmp.Lexicographic.{slice_cmp}
 use Rattle.std.specs.declared.cmp.Ordering.{Ordering}
-use Rattle.std.specs.declared.cmp.Ordering.TheVariants.{Less, Equal, Greater}
-use Rattle.std.proofs.Common.{ap, ◌∙◌, arith, inl}
+use Rattle.std.proofs.Common.{ap, sym, ◌∙◌, arith, inl}
 use Rattle.rec_words.specs.RecordLaws.{then_equal, pointer_fits}
 use Rattle.top_down_sweep.specs.declared.ask.Member.{Member}
 use Rattle.top_down_sweep.specs.declared.ask.Members.{Members}
 use Rattle.top_down_sweep.specs.declared.ask.Ask.{Ask}
 use Rattle.top_down_sweep.specs.Items.{ask_words, IsAsk, member_cmp, members_cmp, ask_cmp}
 
--- two comparisons and others behind them, one after the other
-then_flat : (a b c : Ordering) → ordering_then (ordering_then a b) c ≡ ordering_then a (ordering_then b c)
-then_flat Less b c = refl
-then_flat Equal b c = refl
-then_flat Greater b c = refl
-
 -- a member's comparison, and another behind it
 member_then : (x y : Member) (o : Ordering) → ordering_then (member_cmp x y) o ≡ ordering_then (nat_cmp x.low y.low)
     (ordering_then (nat_cmp x.high y.high) o)
-member_then x y o = then_flat (nat_cmp x.low y.low) (nat_cmp x.high y.high) o
+member_then x y o = sym (then_next (nat_cmp x.low y.low) (nat_cmp x.high y.high) o refl refl)
 
 members_then : (x y : Members) (o : Ordering) → ordering_then (members_cmp x y) o
     ≡ ordering_then (nat_cmp x.first.low y.first.low) (ordering_then (nat_cmp x.first.high y.first.high)
     (ordering_then (nat_cmp x.second.low y.second.low) (ordering_then (nat_cmp x.second.high y.second.high)
     (ordering_then (nat_cmp x.third.low y.third.low) (ordering_then (nat_cmp x.third.high y.third.high) o)))))
 members_then x y o =
-    then_flat (member_cmp x.first y.first) (ordering_then (member_cmp x.second y.second) (member_cmp x.third y.third)) o
+    sym (then_next (member_cmp x.first y.first)
+    (ordering_then (member_cmp x.second y.second) (member_cmp x.third y.third)) o refl refl)
     ∙ ap (λ p. ordering_then (member_cmp x.first y.first) p)
-    (then_flat (member_cmp x.second y.second) (member_cmp x.third y.third) o)
+    (sym (then_next (member_cmp x.second y.second) (member_cmp x.third y.third) o refl refl))
     ∙ ap (λ p. ordering_then (member_cmp x.first y.first) (ordering_then (member_cmp x.second y.second) p))
     (member_then x.third y.third o)
     ∙ ap (λ p. ordering_then (member_cmp x.first y.first) p) (member_then x.second y.second _)

@@ -5,7 +5,8 @@ use Rattle.canon_file.specs.declared.row.Row.{Row}
 use Rattle.canon_file.specs.Canon.{canon_nodes}
 use Rattle.complement_laws.specs.Complements.{other_word}
 use Rattle.block_stream.specs.Records.{records_of}
-use Rattle.complemented_diagrams.proofs.CanonicalFile.{levels_many, records_of_canon, complement_bytes}
+use Rattle.canon_file.proofs.LevelLaws.{length-levels}
+use Rattle.complemented_diagrams.proofs.CanonicalFile.{records_of_canon, complement_bytes}
 use Rattle.complemented_diagrams.proofs.file.complement_file.Goals as goal
 
 -- the file has the nodes of the other levels
@@ -13,7 +14,7 @@ pub returns-clause-made : goal.returns-clause-made
 returns-clause-made g c made tells t form bytes root count =
     let n = c.args.trailer.n in
     let ls : List (List Row) = levels n 0 (t ∷ []) in
-    let many = levels_many n 0 (t ∷ []) in
+    let many = length-levels n 0 (t ∷ []) in
     let mid = c.write_nodes.ensures.content.before tells in
     let read = c.in_ok-read_nodes.ensures.read c.if-not-branch.false mid in
     let long : length c.split_at_mut-nodes.result.0.now ≡ length (canon_nodes n t) =

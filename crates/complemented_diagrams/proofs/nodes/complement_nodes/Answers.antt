@@ -2,7 +2,8 @@ use Rattle.std.proofs.Common.{◌≡◌, ◌∙◌, ◌-◌, length, refl, subst
 use Rattle.std.proofs.lemmas.Option.{IfSome_then}
 use Rattle.complement_laws.specs.Complements.{other_word}
 use Rattle.complemented_diagrams.specs.Levels.{AreDone}
-use Rattle.complemented_diagrams.proofs.LevelSteps.{none_done, entries_done, other_word-value}
+use Rattle.complemented_diagrams.proofs.LevelSteps.{none_done, entries_done}
+use Rattle.complemented_diagrams.proofs.LevelRows.{other_word-terminal}
 use Rattle.complemented_diagrams.proofs.nodes.complement_nodes.Goals as goal
 
 pub loop-deeper-init : goal.loop-deeper-init
@@ -31,5 +32,5 @@ returns-clause-root c =
     IfSome_then c.other_of.result c.other_of.ensures (λ w gives ls long are.
     let levels_done : AreDone 0 ls done nodes entries =
     subst (λ i. AreDone i ls done nodes entries) top (kept.levels_are ls long are) in
-    gives (other_word 0 ls) (other_word-value 0 ls (omega (arith, few, long)))
+    gives (other_word 0 ls) (other_word-terminal 0 ls (omega (arith, few, long)))
     (entries_done ls done nodes entries levels_done (omega (arith, past, whole))))

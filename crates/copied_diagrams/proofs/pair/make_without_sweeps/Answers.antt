@@ -1,6 +1,6 @@
 use Rattle.std.proofs.Common.{inl, inr}
 use Rattle.shelf_model.proofs.Runs.{told}
-use Rattle.copied_diagrams.proofs.TrailerFacts.{on_fault}
+use Rattle.list_laws.proofs.AnswerLaws.{on_fault}
 use Rattle.copied_diagrams.proofs.PairRuns.{then_changed, damaged_before, file_before, way_made, so_many, if_made}
 use Rattle.copied_diagrams.proofs.pair.make_without_sweeps.Goals as goal
 

@@ -1,7 +1,8 @@
 use Rattle.std.proofs.Common.{◌∙◌, ap}
 use Rattle.node_file.specs.declared.trailer.Trailer.{Trailer}
 use Rattle.canon_file.specs.Canon.{canon_root, canon_nodes}
-use Rattle.copied_diagrams.proofs.TrailerFacts.{root_read, operand_damage, on_fault, file_has}
+use Rattle.list_laws.proofs.AnswerLaws.{on_fault}
+use Rattle.copied_diagrams.proofs.TrailerFacts.{root_read, operand_damage, file_has}
 use Rattle.copied_diagrams.proofs.trailers.read_trailer.Goals as goal
 
 pub returns-in_err-reader-clause-sound : goal.returns-in_err-reader-clause-sound

@@ -4,7 +4,7 @@ use Rattle.bool_tables.specs.declared.steps.Step.TheVariants.{Const}
 use Rattle.blif_reader.specs.Netlist.{cover_at}
 use Rattle.blif_reader.specs.Answers.{net_of}
 use Rattle.net_plan.specs.Covers.{Draft, put, row, rows}
-use Rattle.net_plan.proofs.Growth.{passes_on, rows_begin, rows_below}
+use Rattle.net_plan.proofs.Growth.{passes_on, rows_grow, rows_below}
 use Rattle.net_plan.proofs.covers.push_rows.Goals as goal
 use Rattle.std.proofs.lemmas.Grind.{common_steps}
 
@@ -12,7 +12,7 @@ pub returns-in_err-sum : goal.returns-in_err-sum
 returns-in_err-sum c =
     let rs : List (List ℕ) = (cover_at (net_of c.args.net.now) c.args.signal).rows in
     let start : Draft = put c.args.first c.args.steps.now.items (Const false) in
-    passes_on c.args.first c.args.steps.now.items c.put_step.new.steps.items _ start (rows c.args.first start rs c.args.signals.now) c.from_residual.result c.in_err-sum.field-0.0 c.from_residual.ensures.1 c.in_err-sum.ensures (rows_begin c.args.first start rs c.args.signals.now)
+    passes_on c.args.first c.args.steps.now.items c.put_step.new.steps.items _ start (rows c.args.first start rs c.args.signals.now) c.from_residual.result c.in_err-sum.field-0.0 c.from_residual.ensures.1 c.in_err-sum.ensures (rows_grow c.args.first start rs c.args.signals.now)
 
 pub returns-in_err-sum-2 : goal.returns-in_err-sum-2
 returns-in_err-sum-2 c =

@@ -2,7 +2,7 @@ use Rattle.std.proofs.Common.{◌∙◌, ◌≤◌, refl, sym, ap, subst, arith}
 use Rattle.bool_tables.specs.declared.steps.Step.TheVariants.{Same}
 use Rattle.sound_image.specs.Entries.{bit_of, answer_of}
 use Rattle.step_engine.proofs.Operands.{two_given, work_given}
-use Rattle.step_engine.proofs.Questions.{same_sound, same_fault, not_spent, not_spent_kind, few_more}
+use Rattle.step_engine.proofs.Questions.{undamaged_sound, same_fault, not_spent, not_spent_kind, few_more}
 use Rattle.step_engine.proofs.Runs.{handed_runs, same_question, question_refused, question_answered}
 use Rattle.step_engine.proofs.sweeping.run_comparison.Goals as goal
 
@@ -22,7 +22,7 @@ returns-in_err-answered g c =
           c.in_err-answered.field-0.0
           (λ told job is holds.
           let given = two_given job c.args.n c.args.number c.args.text.now p (g.S.Shelf.world c.args.shelf.now) (Same c.args.left c.args.right) c.args.left c.args.right c.requires.kind refl is holds in
-          same_sound p.step _ c.in_err-answered.field-0.0 (said.undamaged told _ _ given.0 given.1) (not_spent c.in_err-answered.field-0.0 said.kind))
+          undamaged_sound p.step _ c.in_err-answered.field-0.0 (said.undamaged told _ _ given.0 given.1) (not_spent c.in_err-answered.field-0.0 said.kind))
           (λ told. same_fault c.args.n c.args.left c.args.right p.step c.requires.kind
           (g.S.Shelf.world c.args.shelf.now) c.in_err-answered.field-0.0 (said.damaged told))
           (not_spent_kind p.step c.in_err-answered.field-0.0 said.kind)

@@ -2,7 +2,7 @@ use Rattle.std.proofs.Common.{◌∙◌, ◌≤◌, refl, sym, ap, subst, arith}
 use Rattle.bool_tables.specs.declared.steps.Step.TheVariants.{Eval}
 use Rattle.sound_image.specs.Entries.{bit_of, answer_of}
 use Rattle.step_engine.proofs.Operands.{one_given, work_given}
-use Rattle.step_engine.proofs.Questions.{bits_within, value_given, eval_sound, eval_fault, not_spent, not_spent_kind, few_more}
+use Rattle.step_engine.proofs.Questions.{bits_within, value_given, undamaged_sound, eval_fault, not_spent, not_spent_kind, few_more}
 use Rattle.step_engine.proofs.Runs.{handed_runs, eval_question, question_refused, question_answered}
 use Rattle.step_engine.proofs.sweeping.run_evaluation.Goals as goal
 
@@ -26,7 +26,7 @@ returns-in_err-answered g c =
           c.in_err-answered.field-0.0
           (λ told job is holds.
           let given = one_given job c.args.n c.args.number c.args.text.now p (g.S.Shelf.world c.args.shelf.now) (Eval c.args.of c.args.at) c.args.of c.requires.kind refl is holds in
-          eval_sound p.step _ c.in_err-answered.field-0.0 (said.undamaged told _ given) (not_spent c.in_err-answered.field-0.0 said.kind))
+          undamaged_sound p.step _ c.in_err-answered.field-0.0 (said.undamaged told _ given) (not_spent c.in_err-answered.field-0.0 said.kind))
           (λ told. eval_fault c.args.n c.args.of c.args.at p.step c.requires.kind (g.S.Shelf.world c.args.shelf.now)
           c.in_err-answered.field-0.0 (said.damaged told))
           (not_spent_kind p.step c.in_err-answered.field-0.0 said.kind)

@@ -4,13 +4,14 @@ use Rattle.run_merge.specs.Lists.{Shows, Gives}
 use Rattle.run_merge.specs.Sorters as sorters
 use Rattle.level_queue.specs.Queues.{Lists, shown, credit}
 use Rattle.run_merge.proofs.SorterLaws.{shown_so}
-use Rattle.level_queue.proofs.QueueLaws.{gives_on, queue_given, given_reached}
+use Rattle.run_merge.proofs.RefusedLaws.{gives_refused}
+use Rattle.level_queue.proofs.QueueLaws.{queue_given, given_reached}
 use Rattle.level_queue.proofs.queue.LevelQueue.take.Goals as goal
 
 pub returns-in_err-item-clause-list : goal.returns-in_err-item-clause-list
 returns-in_err-item-clause-list g c told xs list =
     let v = g.S.Shelf.world c.peek.new.shelf in
-    gives_on (Lists g.T.Spill.is_value g.T.Spill.words g.T.Ord.cmp c.peek.new.self v) (Lists g.T.Spill.is_value g.T.Spill.words g.T.Ord.cmp _ v) xs
+    gives_refused (Lists g.T.Spill.is_value g.T.Spill.words g.T.Ord.cmp c.peek.new.self v) (Lists g.T.Spill.is_value g.T.Spill.words g.T.Ord.cmp _ v) xs
     c.from_residual.result c.in_err-item.field-0.0 c.from_residual.ensures.1 (c.in_err-item.ensures.list told xs list)
 
 pub returns-in_default-clause-list : goal.returns-in_default-clause-list

@@ -6,7 +6,7 @@ use Rattle.canon_file.specs.Members.{Has}
 use Rattle.arc_file.specs.declared.arc.Arc.{Arc}
 use Rattle.reduce_lists.specs.Contents.{to_collect}
 use Rattle.reduce_lists.specs.Changes.{ComesNext}
-use Rattle.reduce_lists.proofs.NextArcs.{none_from}
+use Rattle.run_tiers.proofs.Slots.{none_from}
 use Rattle.reduce_sweep.specs.declared.reduce.ReduceSweep.{ReduceSweep}
 use Rattle.reduce_sweep.specs.declared.phase.Phase.TheVariants.{Number}
 use Rattle.reduce_sweep.specs.Sweeps.{none_numbered}

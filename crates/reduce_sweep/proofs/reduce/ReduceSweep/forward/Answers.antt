@@ -2,7 +2,7 @@ use Rattle.std.proofs.Common.{◌≡◌, ◌∙◌, ap, sym, subst, arith, true}
 use Rattle.std.proofs.lemmas.Bool.Decides.{nat_tests}
 use Rattle.rec_words.specs.Words.{level_of}
 use Rattle.reduce_lists.specs.Changes.{ShowsName}
-use Rattle.reduce_lists.proofs.NextArcs.{none_from}
+use Rattle.run_tiers.proofs.Slots.{none_from}
 use Rattle.reduce_sweep.specs.declared.reduce.ReduceSweep.{ReduceSweep}
 use Rattle.reduce_sweep.specs.declared.phase.Phase.TheVariants.{Between}
 use Rattle.reduce_sweep.specs.declared.place.Place.{Place}

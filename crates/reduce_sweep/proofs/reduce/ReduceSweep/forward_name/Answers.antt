@@ -4,7 +4,7 @@ use Rattle.rec_words.specs.Words.{level_of}
 use Rattle.arc_file.specs.declared.arc.Arc.{Arc}
 use Rattle.arc_diagrams.specs.declared.final_arc.FinalArc.{FinalArc}
 use Rattle.std.proofs.lemmas.Bool.Decides.{nat_tests}
-use Rattle.reduce_lists.proofs.NextArcs.{none_from}
+use Rattle.run_tiers.proofs.Slots.{none_from}
 use Rattle.reduce_sweep.specs.declared.reduce.ReduceSweep.{ReduceSweep}
 use Rattle.reduce_sweep.specs.Changes.{ForwardsAlong}
 use Rattle.list_laws.proofs.AnswerLaws.{on_ok_both}

@@ -4,7 +4,7 @@ use Rattle.rec_words.specs.Words.{level_of}
 use Rattle.block_stream.specs.Writes.{count_of}
 use Rattle.node_file.specs.Writers.{filling_of}
 use Rattle.reduce_lists.specs.Changes.{GivesRow}
-use Rattle.reduce_lists.proofs.NextArcs.{none_from}
+use Rattle.run_tiers.proofs.Slots.{none_from}
 use Rattle.reduce_sweep.specs.declared.reduce.ReduceSweep.{ReduceSweep}
 use Rattle.reduce_sweep.specs.declared.phase.Phase.TheVariants.{Forward}
 use Rattle.reduce_sweep.specs.Sweeps.{held_of}

@@ -4,7 +4,6 @@ use Rattle.top_down.specs.Asks.{side_arcs}
 use Rattle.top_down_sweep.specs.Soundness.{is_none, identifier, next_numbered}
 use Rattle.top_down_sweep.specs.Ordered.{ArePut}
 use Rattle.top_down_sweep.proofs.Numbers.{last_few}
-use Rattle.top_down_sweep.proofs.MemberLaws.{and_right}
 use Rattle.top_down_sweep.proofs.Orders.{put_of, put_at, put_known, put_new}
 use Rattle.top_down_sweep.specs.Members.{all_waiting, least}
 use Rattle.top_down_sweep.specs.declared.ask.Members.{Members}
@@ -18,6 +17,7 @@ use Rattle.level_queue.specs.Queues.{last_of}
 use Rattle.top_down_sweep.proofs.FuelLaws.{two_more}
 use Rattle.top_down_sweep.proofs.Holding.{first_at, first_fits, more_at, read_level}
 use Rattle.std.proofs.lemmas.Result.{on_ok_weaker}
+use Rattle.std.proofs.lemmas.Bool.{and_parts}
 use Rattle.top_down_sweep.specs.Waiting.{is_first_at, AreReadTo}
 use Rattle.rec_words.specs.Words.{level_of}
 use Rattle.top_down_sweep.specs.declared.operand.Operands.{Operands}
@@ -215,7 +215,7 @@ returns-in-Some-clause-ordered g c = on_ok_weaker c.put_inner.result (λ put tol
           (sym (ap (λ (m : Machine). last_of m.queue) c.put_inner.ensures.rest ∙ c.in_ok-take.ensures.last))
           (put_known s.last (last_of m.queue) a (is_none s.last) c.in-Some.known h.inner h.ends
           (last_few m.writer _ m.place.phase s c.requires.phase c.requires.fit.sound.phase)
-          c.requires.shown.first.value.key_is (and_right _ _ c.requires.shown.sound)
+          c.requires.shown.first.value.key_is (and_parts _ _ c.requires.shown.sound).1
           c.requires.shown.first.no_less
           (is_known s.last a c.in-Some.known (sym c.known.ensures ∙ c.in-Some.is)) h.put);
     })) c.put_inner.ensures.arcs
@@ -249,6 +249,6 @@ returns-clause-ordered g c = on_ok_weaker c.ask_side-2.result (λ high told orde
           (sym last)
           (put_new s (last_of m.queue) a uid (goal_of false) (goal_of true) h.inner h.ends
           (last_few m.writer _ m.place.phase s c.requires.phase c.requires.fit.sound.phase)
-          c.requires.shown.first.value.key_is (is_none s.last) (and_right _ _ c.requires.shown.sound)
+          c.requires.shown.first.value.key_is (is_none s.last) (and_parts _ _ c.requires.shown.sound).1
           c.requires.shown.first.no_less c.in_ok-uid.ensures.number c.in_ok-uid.ensures.level h.put);
     })) c.ask_side-2.ensures.arcs

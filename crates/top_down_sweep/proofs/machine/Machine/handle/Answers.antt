@@ -10,13 +10,14 @@ use Rattle.top_down_sweep.specs.Waiting.{is_first_at}
 use Rattle.top_down_sweep.specs.Soundness.{is_sound}
 use Rattle.top_down_sweep.specs.declared.ask.Members.{Members}
 use Rattle.std.proofs.Common.{◌≡◌, ◌<◌, ◌^◌, subst, sym, ap, ◌∙◌, arith, true}
+use Rattle.std.proofs.lemmas.Bool.{and_parts}
 use Rattle.rec_words.specs.Words.{IsNodeWord}
 use Rattle.top_down_sweep.specs.Members.{IsResolved, all_waiting, least}
 use Rattle.top_down_sweep.proofs.Doing.{does_more, on_ok}
 use Rattle.top_down_sweep.proofs.Phases.{still_asking}
 use Rattle.top_down_sweep.proofs.FuelLaws.{falls_known, falls_taken, first_behind, no_more_waits, last_is, last_differs}
 use Rattle.top_down_sweep.specs.declared.machine.Machine.{Machine}
-use Rattle.top_down_sweep.proofs.MemberLaws.{and_left, next_later, all_resolved}
+use Rattle.top_down_sweep.proofs.MemberLaws.{next_later, all_resolved}
 use Rattle.top_down_sweep.proofs.machine.Machine.handle.Goals as goal
 
 -- the ask's node is at hand: what is read next comes later
@@ -30,7 +31,7 @@ ask_again-requires-clause-later g c =
     (subst (λ v. v) (λ j. a.key < least (all_waiting (sym c.level_at.ensures.level j)
     (sym c.filled-members.ensures j)))
     (next_later s.place.variables s.operands a c.requires.fit.sound.operands
-    (and_left _ _ c.requires.shown.sound) node (sym c.want.ensures ∙ c.if-want.false)))
+    (and_parts _ _ c.requires.shown.sound).0 node (sym c.want.ensures ∙ c.if-want.false)))
 
 -- and where nothing is, all was read
 pub answer-requires-clause-resolved : goal.answer-requires-clause-resolved
@@ -41,7 +42,7 @@ answer-requires-clause-resolved g c =
     in
     subst (IsResolved _) (sym c.filled-members.ensures)
     (all_resolved s.place.variables s.operands a c.requires.fit.sound.operands
-    (and_left _ _ c.requires.shown.sound) node
+    (and_parts _ _ c.requires.shown.sound).0 node
     (λ below. c.in-None.ensures (subst (λ v. v)
     (λ j. least (all_waiting (sym c.level_at.ensures.level j) (sym c.filled-members.ensures j))
     < 2 ^ 63) below)))
@@ -105,7 +106,7 @@ ask_again-requires-clause-sound g c =
     (record { key = c.in-Some.key; members = m; asker = a.asker }) ≡ true)
     (sym c.filled-members.ensures)
     (again_sound s.place.variables s.operands a c.in-Some.key c.requires.fit.sound.operands
-    (and_left _ _ c.requires.shown.sound) node
+    (and_parts _ _ c.requires.shown.sound).0 node
     (c.in-Some.ensures.1 ∙ (λ j. least (all_waiting (c.level_at.ensures.level j)
     (c.filled-members.ensures j)))) (subst (λ k. k < 2 ^ 63) (sym c.in-Some.ensures.1)
     c.in-Some.ensures.0)
