@@ -1,3 +1,6 @@
+ghost use Rattle.std.specs.Prelude.{◌≡◌};
+ghost use Rattle.bool_tables.specs.Steps.{op_value};
+
 /// An operator on two truth values. `v01` is its value for left 0 and right 1.
 #[derive(Clone, Copy, Debug, PartialEq, Eq)]
 pub struct Bin {
@@ -5,6 +8,20 @@ pub struct Bin {
     pub v01: bool,
     pub v10: bool,
     pub v11: bool,
+}
+
+impl Bin {
+    /// The operator's value.
+    pub fn value(self, left: bool, right: bool) -> bool
+        ensures { result ≡ op_value self left right }
+    {
+        match (left, right) {
+            (false, false) => self.v00,
+            (false, true) => self.v01,
+            (true, false) => self.v10,
+            (true, true) => self.v11,
+        }
+    }
 }
 
 #[derive(Clone, Copy, Debug, PartialEq, Eq)]

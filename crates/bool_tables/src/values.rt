@@ -1,7 +1,7 @@
 //! The value of a step's table at one place.
 ghost use Rattle.std.specs.Prelude.{◌≡◌, ◌<◌, ◌≤◌, ◌^◌};
 ghost use Rattle.bool_tables.specs.Tables.{value_at, weight, digit, with_digit};
-ghost use Rattle.bool_tables.specs.Steps.{op_value, quant_value, table_of_step, step_value};
+ghost use Rattle.bool_tables.specs.Steps.{quant_value, table_of_step, step_value};
 ghost use Rattle.bool_tables.specs.Plans.{makes_diagram};
 
 use crate::{Bin, Quant, Step, Table};
@@ -27,8 +27,7 @@ pub fn value_in_step(n: u32, tables: &[Table], step: Step, place: usize) -> bool
     match step {
         Step::Const { value } => value,
         Step::Var { level } => has_digit(n, level, place),
-        Step::Pair { op, left, right } => apply(
-            op,
+        Step::Pair { op, left, right } => op.value(
             look_up(tables, left, place),
             look_up(tables, right, place),
         ),
@@ -54,17 +53,6 @@ pub fn value_in_step(n: u32, tables: &[Table], step: Step, place: usize) -> bool
         | Step::Leq { .. }
         | Step::Eval { .. }
         | Step::Size { .. } => false,
-    }
-}
-
-fn apply(op: Bin, left: bool, right: bool) -> bool
-    ensures { result ≡ op_value op left right }
-{
-    match (left, right) {
-        (false, false) => op.v00,
-        (false, true) => op.v01,
-        (true, false) => op.v10,
-        (true, true) => op.v11,
     }
 }
 

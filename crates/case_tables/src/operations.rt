@@ -26,12 +26,7 @@ pub fn product_of(
     let op = operator(digits);
     let mut made = Vec::new(alloc);
     for place in 0..left.len() {
-        made.push(match (value_at(left, place), value_at(right, place)) {
-            (false, false) => op.v00,
-            (false, true) => op.v01,
-            (true, false) => op.v10,
-            (true, true) => op.v11,
-        })?;
+        made.push(op.value(value_at(left, place), value_at(right, place)))?;
     }
     Ok(made)
 }

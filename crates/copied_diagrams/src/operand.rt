@@ -72,7 +72,7 @@ fn gives(op: Bin, known: &Known, choice: Choice, left: bool, right: bool) -> boo
         Choice::Copy(operand) => value_of(operand, left, right),
         Choice::Complement(operand) => !value_of(operand, left, right),
     };
-    !may_meet(known, left, right) || apply(op, left, right) == wanted
+    !may_meet(known, left, right) || op.value(left, right) == wanted
 }
 
 fn value_of(operand: Operand, left: bool, right: bool) -> bool
@@ -96,15 +96,4 @@ fn may_be(root: Ptr, value: bool) -> bool
     ensures { IsTrue result ↔ (root ≢ terminal (not value)) }
 {
     root != Ptr::terminal(!value)
-}
-
-fn apply(op: Bin, left: bool, right: bool) -> bool
-    ensures { result ≡ op_value op left right }
-{
-    match (left, right) {
-        (false, false) => op.v00,
-        (false, true) => op.v01,
-        (true, false) => op.v10,
-        (true, true) => op.v11,
-    }
 }

@@ -1,7 +1,6 @@
 //! What an operator makes of a pair of pointers.
 ghost use Rattle.std.specs.Prelude.{◌≡◌, Some, None, cond};
 ghost use Rattle.bool_tables.specs.Tables.{same_bit};
-ghost use Rattle.bool_tables.specs.Steps.{op_value};
 ghost use Rattle.top_down.specs.Operations.{is_end, is_one, product_goal, two};
 ghost use Rattle.room_products.specs.Goals.{end_in};
 
@@ -15,9 +14,9 @@ pub(crate) fn end_of(op: Bin, first: u64, second: u64) -> Option<bool>
     ensures { result ≡ end_in (product_goal op (two first second)) }
 {
     match (value_of(first), value_of(second)) {
-        (Some(left), Some(right)) => Some(apply(op, left, right)),
-        (Some(left), None) => decided(apply(op, left, false), apply(op, left, true)),
-        (None, Some(right)) => decided(apply(op, false, right), apply(op, true, right)),
+        (Some(left), Some(right)) => Some(op.value(left, right)),
+        (Some(left), None) => decided(op.value(left, false), op.value(left, true)),
+        (None, Some(right)) => decided(op.value(false, right), op.value(true, right)),
         (None, None) => None,
     }
 }
@@ -38,16 +37,4 @@ fn decided(zero: bool, one: bool) -> Option<bool>
     ensures { result ≡ cond (same_bit zero one) (Some zero) None }
 {
     if zero == one { Some(zero) } else { None }
-}
-
-// The operator's value.
-fn apply(op: Bin, left: bool, right: bool) -> bool
-    ensures { result ≡ op_value op left right }
-{
-    match (left, right) {
-        (false, false) => op.v00,
-        (false, true) => op.v01,
-        (true, false) => op.v10,
-        (true, true) => op.v11,
-    }
 }

@@ -1,5 +1,4 @@
 ghost use Rattle.std.specs.Prelude.{◌≡◌};
-ghost use Rattle.bool_tables.specs.Steps.{op_value};
 ghost use Rattle.top_down.specs.Operations as rules;
 
 use crate::Operation;
@@ -46,21 +45,9 @@ fn product_goal(op: Bin, tuple: &Tuple) -> Goal
     ensures { result ≡ rules.product_goal op tuple.now }
 {
     match (value_of(tuple.first), value_of(tuple.second)) {
-        (Some(left), Some(right)) => Goal::End(apply(op, left, right)),
-        (Some(left), None) => decides(apply(op, left, false), apply(op, left, true), tuple),
-        (None, Some(right)) => decides(apply(op, false, right), apply(op, true, right), tuple),
+        (Some(left), Some(right)) => Goal::End(op.value(left, right)),
+        (Some(left), None) => decides(op.value(left, false), op.value(left, true), tuple),
+        (None, Some(right)) => decides(op.value(false, right), op.value(true, right), tuple),
         (None, None) => Goal::Go(*tuple),
-    }
-}
-
-// The operator's value.
-fn apply(op: Bin, left: bool, right: bool) -> bool
-    ensures { result ≡ op_value op left right }
-{
-    match (left, right) {
-        (false, false) => op.v00,
-        (false, true) => op.v01,
-        (true, false) => op.v10,
-        (true, true) => op.v11,
     }
 }
