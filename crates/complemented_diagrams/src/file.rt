@@ -6,7 +6,7 @@ ghost use Rattle.shelf_model.specs.Calls.{Told};
 ghost use Rattle.shelf_model.specs.Faults.{OnlyShelf};
 ghost use Rattle.block_stream.specs.Reads.{Looked};
 ghost use Rattle.canon_file.specs.Canon.{canon_nodes, canon_root, canon_bytes};
-ghost use Rattle.canon_file.specs.Laws.{HasForm};
+ghost use Rattle.node_file.specs.Canonical.{IsCanonicalFile};
 ghost use Rattle.complement_laws.specs.Complements.{complement};
 ghost use Rattle.complemented_diagrams.specs.Changes.{Changed};
 
@@ -31,7 +31,7 @@ pub fn complement_file<S: Shelf>(
     requires few { trailer.count < 65536 }
     requires room { 2 * trailer.count + 8 ≤ length room.old }
     ensures made { IfOk result (λ made. IsTrue made → IsTrue (S.tells shelf.new) → (t : List Bool) →
-        HasForm trailer.n t → (file (S.world shelf.old) from).bytes ≡ canon_bytes trailer.n t →
+        IsCanonicalFile trailer.n t from (S.world shelf.old) →
         trailer.root ≡ canon_root trailer.n t → trailer.count ≡ length (canon_nodes trailer.n t) →
         file (S.world shelf.new) to ≡ firm_file (canon_bytes trailer.n (complement t))) }
     ensures cause { IfErr result (λ e. e ≡ StreamFault.Shelf) }

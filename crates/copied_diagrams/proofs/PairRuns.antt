@@ -30,7 +30,8 @@ use Rattle.copied_diagrams.specs.declared.source.Way.TheVariants.{Constant, Copy
 use Rattle.complemented_diagrams.specs.Changes.{Changed}
 use Rattle.complemented_diagrams.proofs.FileChanges.{looked_changes, changed_after}
 use Rattle.copied_diagrams.specs.Operands.{pair_table, IsResult}
-use Rattle.copied_diagrams.specs.Pairs.{IsFileOf, ArePair, IsTrailerOf, IsSourceOf, IsCopied, IfMade, IsWay, IsWayOf, HasMade, IsOperandDamage, IsMade, of_operand, nodes_of_both, count_of}
+use Rattle.node_file.specs.Canonical.{IsCanonicalFile}
+use Rattle.copied_diagrams.specs.Pairs.{ArePair, IsTrailerOf, IsSourceOf, IsCopied, IfMade, IsWay, IsWayOf, HasMade, IsOperandDamage, IsMade, of_operand, nodes_of_both, count_of}
 use Rattle.complement_laws.specs.Complements.{complement}
 use Rattle.complement_laws.proofs.ComplementLaws.{has_complement}
 use Rattle.copied_diagrams.proofs.PairTables.{copy_is, complement_is, constant_is, constant_form}
@@ -63,7 +64,7 @@ damaged_before n k f old new Shelf looked damage = tt
 damaged_before n k f old new (Damaged g at) looked damage =
     subst (λ (x : File). (g ≡ f) × IsTrailerDamage n x.bytes (Damaged g at)) (looked_same k f old new looked) damage
 
-pub file_before : (n k : ℕ) (t : List Bool) (f : FileNo) (old new : World) → Looked k old new → IsFileOf n t f old → IsFileOf n t f new
+pub file_before : (n k : ℕ) (t : List Bool) (f : FileNo) (old new : World) → Looked k old new → IsCanonicalFile n t f old → IsCanonicalFile n t f new
 file_before n k t f old new looked is = record {
   form = is.form;
   bytes_are = ap (λ (x : File). x.bytes) (looked_same k f old new looked) ∙ is.bytes_are;
@@ -106,12 +107,11 @@ copy_made n table wanted most s to old mid late new first second is has copied =
 complement_made : (n : ℕ) (table wanted : List Bool) (most : ℕ) (s : Source) (to : FileNo) (old mid late new : World) → Looked 2 old mid → Looked 2 mid late
     → wanted ≡ complement table → IsSourceOf n table most s old → HasMade n (Complement s) to late new → IsMade n wanted to s.trailer.count most new
 complement_made n table wanted most s to old mid late new first second is has made =
-    let bytes : (file late s.from).bytes ≡ canon_bytes n table =
-    ap (λ (x : File). x.bytes) (looked_same 2 s.from mid late second ∙ looked_same 2 s.from old mid first) ∙ has.of.bytes_are in
+    let of = file_before n 2 table s.from mid late second (file_before n 2 table s.from old mid first has.of) in
     let other = has_complement n table has.of.form in
     record {
       form = subst (HasForm n) (sym is) other.form;
-      file_is = made table has.of.form bytes has.trailer ∙ ap firm_file (ap (canon_bytes n) (sym is));
+      file_is = made table of has.trailer ∙ ap firm_file (ap (canon_bytes n) (sym is));
       nodes_are = has.trailer.count_is ∙ sym other.nodes_are ∙ ap (λ x. length (canon_nodes n x)) (sym is);
       few = has.few;
     }

@@ -16,7 +16,8 @@ use Rattle.canon_file.specs.Laws.{HasForm}
 use Rattle.canon_file.proofs.ByteLaws.{length-node_bytes, pointer_is}
 use Rattle.canon_file.proofs.CanonLaws.{canon_root-is, canon_bytes-is}
 use Rattle.node_file.specs.Nodes.{HasTrailer, HasNodes, IsTrailerDamage}
-use Rattle.copied_diagrams.specs.Pairs.{IsFileOf, IsOperandDamage}
+use Rattle.node_file.specs.Canonical.{IsCanonicalFile}
+use Rattle.copied_diagrams.specs.Pairs.{IsOperandDamage}
 
 -- the root that is read of a canonical file is the table's
 pub root_read : (n root : ℕ) (t : List Bool) (bytes : List ℕ) → HasForm n t → bytes ≡ canon_bytes n t → HasTrailer n root bytes → root ≡ canon_root n t
@@ -49,5 +50,5 @@ operand_damage n f world (Damaged g at) of damage = (of, damage)
 
 -- the canonical file of a table is read as such
 pub file_has : (n : ℕ) (t : List Bool) (f : FileNo) (world : World) → ((m : ℕ) (u : List Bool) → HasForm m u → HasNodes m (canon_root m u) (canon_nodes m u) (canon_bytes m u))
-    → IsFileOf n t f world → HasNodes n (canon_root n t) (canon_nodes n t) (file world f).bytes
+    → IsCanonicalFile n t f world → HasNodes n (canon_root n t) (canon_nodes n t) (file world f).bytes
 file_has n t f world law is = subst (HasNodes n (canon_root n t) (canon_nodes n t)) (sym is.bytes_are) (law n t is.form)

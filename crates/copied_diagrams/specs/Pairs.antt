@@ -10,6 +10,7 @@ use Rattle.shelf_model.specs.World.{World, file}
 use Rattle.canon_file.specs.Canon.{canon_nodes, canon_root, canon_bytes, trailer_bytes}
 use Rattle.canon_file.specs.Laws.{HasForm}
 use Rattle.complement_laws.specs.Complements.{complement}
+use Rattle.node_file.specs.Canonical.{IsCanonicalFile}
 use Rattle.node_file.specs.Nodes.{IsTrailerDamage}
 use Rattle.node_file.specs.declared.trailer.Trailer.{Trailer}
 use Rattle.copied_diagrams.specs.declared.operand.Operand.{Operand}
@@ -23,15 +24,10 @@ use Rattle.copied_diagrams.specs.declared.source.Way.{Way}
 use Rattle.copied_diagrams.specs.declared.source.Way.TheVariants.{Constant, Copy, Complement}
 use Rattle.copied_diagrams.specs.Operands.{pair_table, IsResult}
 
--- the file is the canonical one of the table, which has a form
-pub record IsFileOf (n : ℕ) (t : List Bool) (f : FileNo) (world : World) : Type 0 where
-  pub form : HasForm n t
-  pub bytes_are : (file world f).bytes ≡ canon_bytes n t
-
 -- the operands' files are those of two tables
 pub record ArePair (n : ℕ) (left right : FileNo) (t u : List Bool) (world : World) : Type 0 where
-  pub first : IsFileOf n t left world
-  pub second : IsFileOf n u right world
+  pub first : IsCanonicalFile n t left world
+  pub second : IsCanonicalFile n u right world
 
 -- how many nodes the diagrams of both have
 abbrev pub nodes_of_both : ℕ → List Bool → List Bool → ℕ
@@ -76,7 +72,7 @@ pub record IsTrailerOf (n : ℕ) (t : List Bool) (trailer : Trailer) : Type 0 wh
 
 -- the source is the canonical file of the table, with its trailer, of no more nodes than so many
 pub record IsSourceOf (n : ℕ) (table : List Bool) (most : ℕ) (source : Source) (world : World) : Type 0 where
-  pub of : IsFileOf n table source.from world
+  pub of : IsCanonicalFile n table source.from world
   pub trailer : IsTrailerOf n table source.trailer
   pub few : source.trailer.count ≤ most
 
@@ -136,6 +132,6 @@ HasMade n (Constant value) to old new = file new to ≡ firm_file (trailer_bytes
 HasMade n (Copy source) to old new =
     length (file old source.from).bytes ≡ (source.trailer.count + 1) * node_size →
     file new to ≡ firm_file (file old source.from).bytes
-HasMade n (Complement source) to old new = (t : List Bool) → HasForm n t →
-    (file old source.from).bytes ≡ canon_bytes n t → IsTrailerOf n t source.trailer →
+HasMade n (Complement source) to old new = (t : List Bool) → IsCanonicalFile n t source.from old →
+    IsTrailerOf n t source.trailer →
     file new to ≡ firm_file (canon_bytes n (complement t))

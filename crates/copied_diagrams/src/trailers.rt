@@ -3,7 +3,8 @@ ghost use Rattle.std.specs.Prelude.{◌≡◌, ◌≤◌, Bool, List, IsTrue, If
 ghost use Rattle.shelf_model.specs.Calls.{Told};
 ghost use Rattle.shelf_model.specs.Faults.{OnlyShelf};
 ghost use Rattle.block_stream.specs.Reads.{Looked};
-ghost use Rattle.copied_diagrams.specs.Pairs.{IsFileOf, IsTrailerOf, IsOperandDamage};
+ghost use Rattle.node_file.specs.Canonical.{IsCanonicalFile};
+ghost use Rattle.copied_diagrams.specs.Pairs.{IsTrailerOf, IsOperandDamage};
 
 use node_file::laws::canonical_files_are_read;
 use node_file::{NodeReader, Trailer};
@@ -21,9 +22,9 @@ pub(crate) fn read_trailer<S: Shelf>(
     requires variables { n ≤ 65535 }
     ensures variables { IfOk result (λ r. r.n ≡ n) }
     ensures of { IfOk result (λ r. IsTrue (S.tells shelf.new) → (t : List Bool) →
-        IsFileOf n t f (S.world shelf.old) → IsTrailerOf n t r) }
+        IsCanonicalFile n t f (S.world shelf.old) → IsTrailerOf n t r) }
     ensures sound { IfErr result (λ e. IsTrue (S.tells shelf.new) → (t : List Bool) →
-        IsFileOf n t f (S.world shelf.old) → e ≡ StreamFault.Shelf) }
+        IsCanonicalFile n t f (S.world shelf.old) → e ≡ StreamFault.Shelf) }
     ensures damaged { IfErr result (λ e. IsTrue (S.tells shelf.new) → IsOperandDamage n f (S.world shelf.old) e) }
     ensures content { Told S.tells shelf.old shelf.new (Looked 2 (S.world shelf.old) (S.world shelf.new)) }
     ensures faults { OnlyShelf (S.faults shelf.old) (S.faults shelf.new) result }

@@ -1,3 +1,4 @@
+pub mod Canonical
 pub mod Nodes
 pub mod Readers
 pub mod Writers

@@ -33,7 +33,7 @@ impl<'r> LeqSweep<'r> {
     ghost use Rattle.sweep_core.specs.Sweeps.{IsNoDamage};
     ghost use Rattle.top_down_sweep.specs.Beginning.{after_two, files_from, Begun, Starts};
     ghost use Rattle.top_down_sweep.specs.Sweeps.{parts_of, variables_of};
-    ghost use Rattle.top_down_sweep.specs.Tasks.{IsCanonicalFile};
+    ghost use Rattle.node_file.specs.Canonical.{IsCanonicalFile};
     ghost use Rattle.product_sweep.specs.Products.{operands};
     ghost use Rattle.product_sweep.specs.Implications.{IsReady, IsInStep, product_in, Refutes, turns_left, TellsAnswer, Turned};
 

@@ -26,7 +26,7 @@ impl<'r> ProductSweep<'r> {
     ghost use Rattle.table_work.specs.Jobs.{work_of_step, turns_of, arcs_turns};
     ghost use Rattle.top_down_sweep.specs.Beginning.{after_two, files_from, Begun, Starts};
     ghost use Rattle.top_down_sweep.specs.Sweeps.{parts_of, variables_of};
-    ghost use Rattle.top_down_sweep.specs.Tasks.{IsCanonicalFile};
+    ghost use Rattle.node_file.specs.Canonical.{IsCanonicalFile};
     ghost use Rattle.product_sweep.specs.Products.{operands, sweep_of, MakesTable, GivesArcs};
 
     /// Begins the operator on the files of two diagrams of `n` variables, which may be one file. The next two parts

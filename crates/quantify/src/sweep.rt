@@ -26,7 +26,7 @@ impl<'r> QuantifySweep<'r> {
     ghost use Rattle.table_work.specs.Jobs.{work_of_step, turns_of, arcs_turns};
     ghost use Rattle.top_down_sweep.specs.Beginning.{after_two, files_from, Begun, Starts};
     ghost use Rattle.top_down_sweep.specs.Sweeps.{parts_of, variables_of};
-    ghost use Rattle.top_down_sweep.specs.Tasks.{IsCanonicalFile};
+    ghost use Rattle.node_file.specs.Canonical.{IsCanonicalFile};
     ghost use Rattle.quantify.specs.Quantifiers.{operands, sweep_of, MakesTable, GivesArcs};
 
     /// Begins the quantifier over the variable of a level, on the file of a diagram of `n` variables. The next two

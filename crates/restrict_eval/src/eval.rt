@@ -35,8 +35,7 @@ impl<'r> EvalSweep<'r> {
     ghost use Rattle.shelf_model.specs.Calls.{Told};
     ghost use Rattle.shelf_model.specs.World.{file};
     ghost use Rattle.block_stream.specs.Reads.{Looked};
-    ghost use Rattle.canon_file.specs.Canon.{canon_bytes};
-    ghost use Rattle.canon_file.specs.Laws.{HasForm};
+    ghost use Rattle.node_file.specs.Canonical.{IsCanonicalFile};
     ghost use Rattle.node_file.specs.Readers.{file_of, trailer_of, left_of};
     ghost use Rattle.run_tiers.specs.Faults.{OnlySortShelf};
     ghost use Rattle.sweep_core.specs.Accounts.{Leaves};
@@ -69,12 +68,12 @@ impl<'r> EvalSweep<'r> {
             turns_left s ≡ count_of (file (S.world shelf.old) f).bytes + 1) }
 
         // what remains
-        ensures remains { IfOk result (λ s. IsTrue (S.tells shelf.new) → (t : List Bool) → HasForm n t →
-            (file (S.world shelf.old) f).bytes ≡ canon_bytes n t →
+        ensures remains { IfOk result (λ s. IsTrue (S.tells shelf.new) → (t : List Bool) →
+            IsCanonicalFile n t f (S.world shelf.old) →
             RemainsOf s (S.world shelf.new) (record { n = n; table = t })) }
         ensures damage { IfErr result (λ e. IsTrue (S.tells shelf.new) → IsTrailerFault f n (S.world shelf.old) e) }
-        ensures undamaged { IfErr result (λ e. IsTrue (S.tells shelf.new) → (t : List Bool) → HasForm n t →
-            (file (S.world shelf.old) f).bytes ≡ canon_bytes n t → IsNoDamage e) }
+        ensures undamaged { IfErr result (λ e. IsTrue (S.tells shelf.new) → (t : List Bool) →
+            IsCanonicalFile n t f (S.world shelf.old) → IsNoDamage e) }
 
         // what the call leaves, and what it costs
         ensures content { Told S.tells shelf.old shelf.new (Looked 2 (S.world shelf.old) (S.world shelf.new)) }

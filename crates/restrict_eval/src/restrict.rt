@@ -25,7 +25,7 @@ impl<'r> RestrictSweep<'r> {
     ghost use Rattle.table_work.specs.Jobs.{work_of_step, turns_of, arcs_turns};
     ghost use Rattle.top_down_sweep.specs.Beginning.{after_two, files_from, Begun, Starts};
     ghost use Rattle.top_down_sweep.specs.Sweeps.{parts_of, variables_of};
-    ghost use Rattle.top_down_sweep.specs.Tasks.{IsCanonicalFile};
+    ghost use Rattle.node_file.specs.Canonical.{IsCanonicalFile};
     ghost use Rattle.restrict_eval.specs.Restrictions.{operands, sweep_of, MakesTable, GivesArcs};
 
     /// Begins the restriction of the variable of a level, on the file of a diagram of `n` variables. The next two parts

@@ -29,8 +29,7 @@ impl<'r> SameSweep<'r> {
     ghost use Rattle.shelf_model.specs.Calls.{Told};
     ghost use Rattle.shelf_model.specs.World.{file};
     ghost use Rattle.block_stream.specs.Reads.{Looked};
-    ghost use Rattle.canon_file.specs.Canon.{canon_bytes};
-    ghost use Rattle.canon_file.specs.Laws.{HasForm};
+    ghost use Rattle.node_file.specs.Canonical.{IsCanonicalFile};
     ghost use Rattle.node_file.specs.Readers.{file_of, trailer_of};
     ghost use Rattle.run_tiers.specs.Faults.{OnlySortShelf};
     ghost use Rattle.sweep_core.specs.Accounts.{Leaves};
@@ -61,14 +60,13 @@ impl<'r> SameSweep<'r> {
 
         // what remains
         ensures remains { IfOk result (λ s. IsTrue (S.tells shelf.new) → (t u : List Bool) →
-            HasForm n t → (file (S.world shelf.old) f).bytes ≡ canon_bytes n t →
-            HasForm n u → (file (S.world shelf.old) g).bytes ≡ canon_bytes n u →
+            IsCanonicalFile n t f (S.world shelf.old) → IsCanonicalFile n u g (S.world shelf.old) →
             RemainsOf s (S.world shelf.new) (record { n = n; first = t; second = u })) }
         ensures damage { IfErr result (λ e. IsTrue (S.tells shelf.new) →
             IsTrailerFault f n (S.world shelf.old) e ⊎ IsTrailerFault g n (S.world shelf.old) e) }
         ensures undamaged { IfErr result (λ e. IsTrue (S.tells shelf.new) → (t u : List Bool) →
-            HasForm n t → (file (S.world shelf.old) f).bytes ≡ canon_bytes n t →
-            HasForm n u → (file (S.world shelf.old) g).bytes ≡ canon_bytes n u → IsNoDamage e) }
+            IsCanonicalFile n t f (S.world shelf.old) → IsCanonicalFile n u g (S.world shelf.old) →
+            IsNoDamage e) }
 
         // what the call leaves, and what it costs
         ensures content { Told S.tells shelf.old shelf.new (Looked 4 (S.world shelf.old) (S.world shelf.new)) }

@@ -23,11 +23,10 @@ use Rattle.canon_file.specs.Laws.{HasForm}
 use Rattle.canon_file.specs.Walks.{row_at}
 use Rattle.canon_file.proofs.CanonLaws.{canon_bytes-is}
 use Rattle.canon_file.proofs.FileLaws.{is_node_file}
-use Rattle.complemented_diagrams.specs.Records.{node_records}
+use Rattle.complemented_diagrams.specs.Records.{node_records, word}
 use Rattle.complemented_diagrams.proofs.CanonicalFile.{bytes_of_nodes, nodes_back}
-use Rattle.copied_diagrams.specs.Pairs.{IsFileOf}
+use Rattle.node_file.specs.Canonical.{IsCanonicalFile}
 use Rattle.top_down.specs.Tuples.{canon_targets}
-use Rattle.room_reduction.specs.Sources.{word}
 use Rattle.room_reduction.proofs.LevelSources.{member_place}
 use Rattle.room_products.specs.Goals.{GivesRows}
 use Rattle.room_products.specs.Operands.{HoldNodes}
@@ -53,7 +52,7 @@ records_give n t rules r has =
 
 -- and so do those that hold what is read from a canonical file
 pub read_gives : (n : ℕ) (t : List Bool) (f : FileNo) (world : World) (count : ℕ) (nodes : List Rec)
-    → IsFileOf n t f world → count ≡ length (canon_nodes n t) → count ≤ length nodes
+    → IsCanonicalFile n t f world → count ≡ length (canon_nodes n t) → count ≤ length nodes
     → HoldNodes count (records_of 3 count (file world f).bytes) nodes → GivesRows (canon_targets n t) (take count nodes)
 read_gives n t f world count nodes is_file many room held r has =
     let form : HasForm n t = is_file.form in

@@ -11,8 +11,10 @@ use Rattle.arc_file.specs.declared.arc.Arc.{Arc}
 use Rattle.arc_diagrams.specs.Arcs.{arcs_of}
 use Rattle.arc_diagrams.specs.Laws.{IsDiagramOf}
 use Rattle.copied_diagrams.specs.declared.source.Source.{Source}
-use Rattle.copied_diagrams.specs.Pairs.{IsFileOf, IsTrailerOf}
-use Rattle.room_reduction.specs.Sources.{word, AreSources}
+use Rattle.node_file.specs.Canonical.{IsCanonicalFile}
+use Rattle.copied_diagrams.specs.Pairs.{IsTrailerOf}
+use Rattle.complemented_diagrams.specs.Records.{word}
+use Rattle.room_reduction.specs.Sources.{AreSources}
 
 -- the node of a source's record, and the arcs of such records
 abbrev pub node_of : Rec → Node
@@ -28,7 +30,7 @@ pub record AreOfTable (n root : ℕ) (table : List Bool) (sources : List Rec) : 
 
 -- the file is the canonical one of a table, and the trailer is its diagram's
 pub record IsOperandOf (n : ℕ) (t : List Bool) (source : Source) (world : World) : Type 0 where
-  pub file_of : IsFileOf n t source.from world
+  pub file_of : IsCanonicalFile n t source.from world
   pub trailer_of : IsTrailerOf n t source.trailer
 
 -- the table has a form, and the file is its canonical one, whatever a stop leaves; the nodes are counted

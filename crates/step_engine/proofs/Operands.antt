@@ -24,7 +24,7 @@ use Rattle.sound_image.proofs.Live.{live_below}
 use Rattle.step_work.specs.Tuples.{joins}
 use Rattle.step_work.specs.Works.{work_for, nodes_of}
 use Rattle.step_work.proofs.SameTuples.{LeadAlike, same_count}
-use Rattle.top_down_sweep.specs.Tasks.{IsCanonicalFile}
+use Rattle.node_file.specs.Canonical.{IsCanonicalFile}
 use Rattle.step_sweeps.specs.declared.operation.StepOperation.TheVariants as operations
 use Rattle.step_sweeps.specs.Given.{Tables, AreGiven, made_by, work_by}
 use Rattle.step_engine.specs.declared.sweeping.Sweeping.{Sweeping}

@@ -12,10 +12,9 @@ use Rattle.node_file.specs.Nodes.{HasTrailer}
 use Rattle.node_reading.specs.Reading.{IsDamagedNode}
 use Rattle.copied_diagrams.specs.declared.pair.Making.{Making}
 use Rattle.copied_diagrams.specs.declared.pair.Making.TheVariants.{Made}
-use Rattle.copied_diagrams.specs.Pairs.{ArePair, IsFileOf, IsMade, IfMade, nodes_of_both}
+use Rattle.copied_diagrams.specs.Pairs.{ArePair, IsMade, IfMade, nodes_of_both}
 use Rattle.top_down_sweep.specs.declared.beginning.OperandFiles.{OperandFiles}
 use Rattle.top_down_sweep.specs.Damage.{IsAbsent}
-use Rattle.top_down_sweep.specs.Tasks.{IsCanonicalFile}
 use Rattle.step_sweeps.specs.declared.diagram.MadeDiagram.{MadeDiagram}
 use Rattle.step_sweeps.specs.declared.operation.StepOperation.{StepOperation}
 use Rattle.step_sweeps.specs.declared.operation.StepOperation.TheVariants.{Operator}
@@ -24,15 +23,12 @@ use Rattle.step_sweeps.specs.Given.{Tables, AreGiven, AreEarlier, made_by}
 use Rattle.step_sweeps.specs.Made.{node_file, IsDiagramOf}
 use Rattle.step_sweeps.proofs.Running.{file_stays}
 
--- a canonical file, as the look at its trailer takes it
-file_of : (n : ℕ) (t : List Bool) (f : FileNo) (world : World) → IsCanonicalFile n t f world → IsFileOf n t f world
-file_of n t f world is = record { form = is.form; bytes_are = is.bytes_are }
-
+-- the operands of an operator are a pair
 pub pair_of : (n : ℕ) (op : Bin) (operands : OperandFiles) (world : World) (g : Tables) → AreGiven (Operator op) n operands world g
     → ArePair n operands.first operands.second g.first g.second world
 pair_of n op operands world g given = record {
-  first = file_of n g.first operands.first world given.first;
-  second = file_of n g.second operands.second world given.second;
+  first = given.first;
+  second = given.second;
 }
 
 -- what is made without sweeps is the diagram that the operator makes

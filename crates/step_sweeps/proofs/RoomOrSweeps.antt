@@ -8,12 +8,12 @@ use Rattle.shelf_model.specs.Moments.{Ran, OnlyChanged}
 use Rattle.shelf_model.specs.World.{World, now}
 use Rattle.copied_diagrams.specs.declared.source.Source.{Source}
 use Rattle.copied_diagrams.specs.Operands.{pair_table}
-use Rattle.copied_diagrams.specs.Pairs.{IsFileOf, IfNotMade, nodes_of_both}
+use Rattle.copied_diagrams.specs.Pairs.{IfNotMade, nodes_of_both}
 use Rattle.copied_diagrams.specs.declared.pair.Making.{Making}
 use Rattle.copied_diagrams.specs.declared.pair.Making.TheVariants.{NotMade}
 use Rattle.room_products.specs.Joined.{IsOperandOf, IsJoined}
 use Rattle.top_down_sweep.specs.declared.beginning.OperandFiles.{OperandFiles}
-use Rattle.top_down_sweep.specs.Tasks.{IsCanonicalFile}
+use Rattle.node_file.specs.Canonical.{IsCanonicalFile}
 use Rattle.step_sweeps.specs.declared.diagram.MadeDiagram.{MadeDiagram}
 use Rattle.step_sweeps.specs.declared.operation.StepOperation.{StepOperation}
 use Rattle.step_sweeps.specs.declared.operation.StepOperation.TheVariants.{Operator}
@@ -53,11 +53,11 @@ module _ (op : Bin) (n : ℕ) (g : Tables) where
     operands_are operands world first second given =
         let pair = pair_of n op operands world g given in (
           record {
-            file_of = subst (λ f. IsFileOf n g.first f world) (sym first) pair.first;
+            file_of = subst (λ f. IsCanonicalFile n g.first f world) (sym first) pair.first;
             trailer_of = trailers.0;
           },
           record {
-            file_of = subst (λ f. IsFileOf n g.second f world) (sym second) pair.second;
+            file_of = subst (λ f. IsCanonicalFile n g.second f world) (sym second) pair.second;
             trailer_of = trailers.1;
           },
         )

@@ -12,7 +12,8 @@ use Rattle.top_down_laws.specs.Remains.{IsMet}
 use Rattle.top_down_sweep.specs.declared.beginning.OperandFiles.{OperandFiles}
 use Rattle.top_down_sweep.specs.declared.start.Files.{Files}
 use Rattle.top_down_sweep.specs.Beginning.{files_from}
-use Rattle.top_down_sweep.specs.Tasks.{IsCanonicalFile, AreCanonicalFiles, IsTaskFor, ProductOnFiles, ChoiceOnFiles, QuantifyOnFiles, RestrictOnFiles}
+use Rattle.node_file.specs.Canonical.{IsCanonicalFile}
+use Rattle.top_down_sweep.specs.Tasks.{AreCanonicalFiles, IsTaskFor, ProductOnFiles, ChoiceOnFiles, QuantifyOnFiles, RestrictOnFiles}
 use Rattle.top_down_sweep.specs.Turns.{AllMet, nodes_of}
 use Rattle.top_down_sweep.specs.Waiting.{AreApart}
 use Rattle.top_down_sweep.proofs.Makings.{apart_from}

@@ -7,7 +7,7 @@ use Rattle.copied_diagrams.specs.Pairs.{IsTrailerOf}
 use Rattle.step_work.specs.Tuples.{tuple_count}
 use Rattle.step_work.specs.Works.{nodes_of, work_for}
 use Rattle.top_down_sweep.specs.declared.beginning.OperandFiles.{OperandFiles}
-use Rattle.top_down_sweep.specs.Tasks.{IsCanonicalFile}
+use Rattle.node_file.specs.Canonical.{IsCanonicalFile}
 use Rattle.step_sweeps.specs.declared.operation.StepOperation.{StepOperation}
 use Rattle.step_sweeps.specs.declared.operation.StepOperation.TheVariants.{Operator, Choice, Quantifier, Restriction}
 use Rattle.step_sweeps.specs.Operations.{step_of}

@@ -9,7 +9,7 @@ ghost use Rattle.shelf_model.specs.Moments.{Ran};
 ghost use Rattle.run_tiers.specs.Faults.{OnlySortShelf};
 ghost use Rattle.step_work.specs.Works.{work_for};
 ghost use Rattle.sweep_core.specs.Sweeps.{IsNoDamage};
-ghost use Rattle.top_down_sweep.specs.Tasks.{IsCanonicalFile};
+ghost use Rattle.node_file.specs.Canonical.{IsCanonicalFile};
 ghost use Rattle.step_sweeps.specs.Made.{OnlyParts, IsAnswer, IsCounted, Called};
 ghost use Rattle.step_sweeps.specs.Damage.{IsReadFault};
 

@@ -9,7 +9,8 @@ use Rattle.top_down_laws.specs.Operations.{canon_diagrams}
 use Rattle.top_down_sweep.specs.declared.start.Files.{Files}
 use Rattle.top_down.specs.declared.tuple.Tuple.{Tuple}
 use Rattle.top_down_sweep.specs.Meaning.{IsNodeFile, AreNodeFiles}
-use Rattle.top_down_sweep.specs.Tasks.{IsCanonicalFile, AreCanonicalFiles}
+use Rattle.node_file.specs.Canonical.{IsCanonicalFile}
+use Rattle.top_down_sweep.specs.Tasks.{AreCanonicalFiles}
 
 -- the roots of three tables' files
 abbrev pub file_roots : ℕ → List Bool → List Bool → List Bool → Tuple

@@ -1,13 +1,11 @@
 -- The operations on canonical files as tasks, and what is made of a task.
 use Rattle.std.specs.Prelude.{◌≡◌, ◌<◌, ℕ, Bool, List, [], ◌∷◌, ◌++◌}
-use Rattle.shelf_model.specs.declared.file_no.FileNo.{FileNo}
 use Rattle.shelf_model.specs.World.{World, file}
 use Rattle.bool_tables.specs.Steps.{step_table}
 use Rattle.bool_tables.specs.declared.steps.Bin.{Bin}
 use Rattle.bool_tables.specs.declared.steps.Quant.{Quant}
 use Rattle.bool_tables.specs.declared.steps.Step.TheVariants.{Pair, Ite, Quantify, Restrict}
-use Rattle.canon_file.specs.Canon.{canon_bytes}
-use Rattle.canon_file.specs.Laws.{HasForm}
+use Rattle.node_file.specs.Canonical.{IsCanonicalFile}
 use Rattle.arc_file.specs.declared.arc.Arc.{Arc}
 use Rattle.arc_file.specs.declared.unreduced.Unreduced.{Unreduced}
 use Rattle.arc_file.specs.declared.kind.Kind.TheVariants.{Inner, End}
@@ -23,11 +21,6 @@ use Rattle.top_down_laws.specs.Readings.{Diagrams}
 use Rattle.top_down_sweep.specs.declared.start.Files.{Files}
 use Rattle.top_down_sweep.specs.Waiting.{AreApart}
 use Rattle.top_down_sweep.specs.Meaning.{Task, table_of, IsTaskOn, IsMadeOf}
-
--- the file is the canonical one of the table, which has a form
-pub record IsCanonicalFile (n : ℕ) (t : List Bool) (f : FileNo) (world : World) : Type 0 where
-  pub form : HasForm n t
-  pub bytes_are : (file world f).bytes ≡ canon_bytes n t
 
 -- the operands' files are those of three tables
 pub record AreCanonicalFiles (n : ℕ) (t u v : List Bool) (files : Files) (world : World) : Type 0

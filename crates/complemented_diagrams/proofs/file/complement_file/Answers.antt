@@ -11,7 +11,7 @@ use Rattle.complemented_diagrams.proofs.file.complement_file.Goals as goal
 
 -- the file has the nodes of the other levels
 pub returns-clause-made : goal.returns-clause-made
-returns-clause-made g c made tells t form bytes root count =
+returns-clause-made g c made tells t is root count =
     let n = c.args.trailer.n in
     let ls : List (List Row) = levels n 0 (t ∷ []) in
     let many = length-levels n 0 (t ∷ []) in
@@ -19,8 +19,8 @@ returns-clause-made g c made tells t form bytes root count =
     let read = c.in_ok-read_nodes.ensures.read c.if-not-branch.false mid in
     let long : length c.split_at_mut-nodes.result.0.now ≡ length (canon_nodes n t) =
     c.split_at_mut-nodes.ensures.front_len ∙ count in
-    let nodes = read ∙ (λ j. records_of 3 (long j) (bytes j)) ∙ records_of_canon n t form in
+    let nodes = read ∙ (λ j. records_of 3 (long j) (is.bytes_are j)) ∙ records_of_canon n t is.form in
     c.in_ok-write_nodes.ensures.made tells
-    ∙ ap firm_file (complement_bytes n c.in-Some.root t c.complement_nodes.new.nodes form
+    ∙ ap firm_file (complement_bytes n c.in-Some.root t c.complement_nodes.new.nodes is.form
     (c.in-Some.ensures.nodes ls many nodes)
     (c.in-Some.ensures.root ls many nodes ∙ ap (other_word 0 ls) (c.word.ensures.value ∙ root)))

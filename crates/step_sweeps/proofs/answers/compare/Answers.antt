@@ -12,8 +12,7 @@ pub returns-in_err-turns-clause-undamaged : goal.returns-in_err-turns-clause-und
 returns-in_err-turns-clause-undamaged g c =
     if_handed _ c.from_residual-in_err-turns.result _ c.from_residual-in_err-turns.ensures.1 (λ told t u first second.
     c.in_err-turns.ensures.undamaged told (record { n = c.args.n; first = t; second = u })
-    (c.in_ok-sweep.ensures.remains (c.in_err-turns.ensures.leaves.content.before told) t u
-    first.form first.bytes_are second.form second.bytes_are))
+    (c.in_ok-sweep.ensures.remains (c.in_err-turns.ensures.leaves.content.before told) t u first second))
 
 pub returns-in_err-turns-clause-few_calls : goal.returns-in_err-turns-clause-few_calls
 returns-in_err-turns-clause-few_calls g c = λ told t u first second.
@@ -21,7 +20,7 @@ returns-in_err-turns-clause-few_calls g c = λ told t u first second.
     calls_within 4 _ _ (g.S.Shelf.world c.args.shelf.now) (g.S.Shelf.world c.start.new.shelf)
     (g.S.Shelf.world c.run_to_end.new.shelf) (c.start.ensures.content.did before).few
     ((c.in_err-turns.ensures.few told (record { n = c.args.n; first = t; second = u })
-    (c.in_ok-sweep.ensures.remains before t u first.form first.bytes_are second.form second.bytes_are)).1.calls told)
+    (c.in_ok-sweep.ensures.remains before t u first second)).1.calls told)
     (two_within c.args.n _ t u _ _ _ first.bytes_are second.bytes_are (c.in_ok-sweep.ensures.left before))
 
 pub returns-in_err-turns-clause-content : goal.returns-in_err-turns-clause-content
@@ -51,7 +50,7 @@ pub returns-clause-answer : goal.returns-clause-answer
 returns-clause-answer g c = λ told t u first second.
     let before = c.in_ok-turns.ensures.leaves.content.before told in
     let job : Tables = record { n = c.args.n; first = t; second = u } in
-    let remains = c.in_ok-sweep.ensures.remains before t u first.form first.bytes_are second.form second.bytes_are in
+    let remains = c.in_ok-sweep.ensures.remains before t u first second in
     let few = (c.in_ok-turns.ensures.few told job remains).0 in
     let within = two_within c.args.n (Same 0 1) t u _ _ _ first.bytes_are second.bytes_are
     (c.in_ok-sweep.ensures.left before) in
@@ -67,7 +66,7 @@ returns-clause-few_calls g c = λ told t u first second.
     calls_within 4 _ _ (g.S.Shelf.world c.args.shelf.now) (g.S.Shelf.world c.start.new.shelf)
     (g.S.Shelf.world c.run_to_end.new.shelf) (c.start.ensures.content.did before).few
     ((c.in_ok-turns.ensures.few told (record { n = c.args.n; first = t; second = u })
-    (c.in_ok-sweep.ensures.remains before t u first.form first.bytes_are second.form second.bytes_are)).1.calls told)
+    (c.in_ok-sweep.ensures.remains before t u first second)).1.calls told)
     (two_within c.args.n _ t u _ _ _ first.bytes_are second.bytes_are (c.in_ok-sweep.ensures.left before))
 
 pub returns-clause-content : goal.returns-clause-content

@@ -12,7 +12,7 @@ pub returns-in_err-turns-clause-undamaged : goal.returns-in_err-turns-clause-und
 returns-in_err-turns-clause-undamaged g c =
     if_handed _ c.from_residual-in_err-turns.result _ c.from_residual-in_err-turns.ensures.1 (λ told t first.
     c.in_err-turns.ensures.undamaged told (record { n = c.args.n; table = t })
-    (c.in_ok-sweep.ensures.remains (c.in_err-turns.ensures.leaves.content.before told) t first.form first.bytes_are))
+    (c.in_ok-sweep.ensures.remains (c.in_err-turns.ensures.leaves.content.before told) t first))
 
 pub returns-in_err-turns-clause-content : goal.returns-in_err-turns-clause-content
 returns-in_err-turns-clause-content g c =
@@ -39,7 +39,7 @@ returns-clause-answer g c = λ told t first.
     let before = c.in_ok-turns.ensures.leaves.content.before told in
     let job : OneTable = record { n = c.args.n; table = t } in
     let same = c.in_ok-turns.ensures.same in
-    let remains = c.in_ok-sweep.ensures.remains before t first.form first.bytes_are in
+    let remains = c.in_ok-sweep.ensures.remains before t first in
     let few = (c.in_ok-turns.ensures.few told job remains).0 in
     let within = one_within c.args.n (Eval 0 c.args.at) t _ _ first.bytes_are (c.in_ok-sweep.ensures.left before) in
     record {

@@ -11,17 +11,17 @@ use Rattle.restrict_eval.proofs.same.SameSweep.start.Goals as goal
 -- a canonical file has its trailer
 pub returns-in_err-left-clause-undamaged : goal.returns-in_err-left-clause-undamaged
 returns-in_err-left-clause-undamaged g c = if_handed _ c.from_residual.result _ c.from_residual.ensures.1
-    (λ told t u first here second there. no_damage c.in_err-left.field-0.0
+    (λ told t u first second. no_damage c.in_err-left.field-0.0
     (c.in_err-left.ensures.sound told (canon_root c.args.n t) (canon_nodes c.args.n t)
-    (subst (HasNodes c.args.n (canon_root c.args.n t) (canon_nodes c.args.n t)) (sym here) (c.canonical_files_are_read.ensures c.args.n t first))))
+    (subst (HasNodes c.args.n (canon_root c.args.n t) (canon_nodes c.args.n t)) (sym first.bytes_are) (c.canonical_files_are_read.ensures c.args.n t first.form))))
 
 pub returns-in_err-right-clause-undamaged : goal.returns-in_err-right-clause-undamaged
 returns-in_err-right-clause-undamaged g c = if_handed _ c.from_residual-in_err-right.result _ c.from_residual-in_err-right.ensures.1
-    (λ told t u first here second there.
+    (λ told t u first second.
     let same = looked_same 2 c.args.g c.args.g (g.S.Shelf.world c.args.shelf.now) (g.S.Shelf.world c.start.new.shelf) (c.start.ensures.content.did (c.start-2.ensures.content.before told)) refl in
     no_damage c.in_err-right.field-0.0
     (c.in_err-right.ensures.sound told (canon_root c.args.n u) (canon_nodes c.args.n u)
-    (subst (HasNodes c.args.n (canon_root c.args.n u) (canon_nodes c.args.n u)) (sym (same ∙ there)) (c.canonical_files_are_read.ensures c.args.n u second))))
+    (subst (HasNodes c.args.n (canon_root c.args.n u) (canon_nodes c.args.n u)) (sym (same ∙ second.bytes_are)) (c.canonical_files_are_read.ensures c.args.n u second.form))))
 
 -- the second file was read as the first call found it
 pub returns-in_err-right-clause-damage : goal.returns-in_err-right-clause-damage
@@ -68,7 +68,7 @@ returns-clause-left g c = λ told.
     λ i. here i + there i + 1
 
 pub returns-clause-remains : goal.returns-clause-remains
-returns-clause-remains g c = λ told t u first here second there.
+returns-clause-remains g c = λ told t u first second.
     let old = g.S.Shelf.world c.args.shelf.now in
     let mid = g.S.Shelf.world c.start.new.shelf in
     let new = g.S.Shelf.world c.start-2.new.shelf in
@@ -76,15 +76,15 @@ returns-clause-remains g c = λ told t u first here second there.
     let before = c.start-2.ensures.content.before told in
     let left_same = looked_same 2 c.args.f c.args.f mid new (c.start-2.ensures.content.did told) refl ∙ looked_same 2 c.args.f c.args.f old mid (c.start.ensures.content.did before) refl in
     let right_now = looked_same 2 c.args.g c.args.g mid new (c.start-2.ensures.content.did told) refl in
-    let right_there = looked_same 2 c.args.g c.args.g old mid (c.start.ensures.content.did before) refl ∙ there in
-    let left_file = c.canonical_files_are_read.ensures n t first in
-    let right_file = c.canonical_files_are_read.ensures n u second in
-    let left_nodes = c.in_ok-left.ensures.nodes before (canon_root n t) (canon_nodes n t) (subst (HasNodes n (canon_root n t) (canon_nodes n t)) (sym here) left_file) in
+    let right_there = looked_same 2 c.args.g c.args.g old mid (c.start.ensures.content.did before) refl ∙ second.bytes_are in
+    let left_file = c.canonical_files_are_read.ensures n t first.form in
+    let right_file = c.canonical_files_are_read.ensures n u second.form in
+    let left_nodes = c.in_ok-left.ensures.nodes before (canon_root n t) (canon_nodes n t) (subst (HasNodes n (canon_root n t) (canon_nodes n t)) (sym first.bytes_are) left_file) in
     let right_nodes = c.in_ok-right.ensures.nodes told (canon_root n u) (canon_nodes n u) (subst (HasNodes n (canon_root n u) (canon_nodes n u)) (sym right_there) right_file) in
     record {
-      first_is = begins_canonical n t c.in_ok-left.left c.args.f old new first here left_file c.in_ok-left.ensures.file c.in_ok-left.ensures.variables
+      first_is = begins_canonical n t c.in_ok-left.left c.args.f old new first.form first.bytes_are left_file c.in_ok-left.ensures.file c.in_ok-left.ensures.variables
           (c.in_ok-left.ensures.trailer before).0 left_nodes.0 left_same;
-      second_is = begins_canonical n u c.in_ok-right.right c.args.g mid new second right_there right_file c.in_ok-right.ensures.file c.in_ok-right.ensures.variables
+      second_is = begins_canonical n u c.in_ok-right.right c.args.g mid new second.form right_there right_file c.in_ok-right.ensures.file c.in_ok-right.ensures.variables
           (c.in_ok-right.ensures.trailer told).0 right_nodes.0 right_now;
       compared = (
         [],
