@@ -34,7 +34,8 @@ use Rattle.restrict_eval.specs.declared.eval.EvalSweep.{EvalSweep}
 use Rattle.node_reading.specs.Reading.{bytes_of, count_of, GivesNode}
 use Rattle.restrict_eval.specs.Missing.{IsMissedAt}
 use Rattle.restrict_eval.specs.Turns.{AnswersAtEnd, Turns}
-use Rattle.restrict_eval.specs.Eval.{bits_of, fuel_at, answer_at, answer_of, parts_of, task_of, side_by, IsReady, IsInStep, IsPlaceAt, IsOn, IsOneOf, IsOnWay, IsFollowed, IsPath, IsPassed, OneTable, RemainsOf, evaluations}
+use Rattle.top_down_laws.specs.Readings.{IsIn}
+use Rattle.restrict_eval.specs.Eval.{bits_of, fuel_at, answer_at, answer_of, parts_of, task_of, side_by, IsReady, IsInStep, IsPlaceAt, IsOn, IsOnWay, IsFollowed, IsPath, IsPassed, OneTable, RemainsOf, evaluations}
 use Rattle.restrict_eval.proofs.Looking.{faults_ok, looked_leaves, still_leaves}
 use Rattle.restrict_eval.proofs.Canonical.{canonical_stays}
 use Rattle.restrict_eval.proofs.PathLaws.{root_one, walk_stays, before_above, side_one, side_walks}
@@ -325,6 +326,6 @@ begins_way n t r now then bits root form is long left same = record {
     nodes_are = sym (append-nil (canon_nodes n t));
     left = subst (λ bytes. AreLeft r bytes (canon_nodes n t)) (sym same) left;
   };
-  next = subst (IsOneOf (canon_nodes n t)) (sym is) (root_one n t form);
+  next = subst (IsIn (canon_nodes n t)) (sym is) (root_one n t form);
   walks = ap (walk (targets_of (arcs_of (canon_nodes n t))) 0 bits) is ∙ (canon_stands n t form).walks bits long;
 }

@@ -15,7 +15,8 @@ use Rattle.arc_file.specs.declared.arc.Arc.{Arc}
 use Rattle.arc_diagrams.specs.Arcs.{targets_of, arcs_of, IsWithin, IsMet}
 use Rattle.arc_diagrams.proofs.WordLaws.{at_from, past_from, level-terminal}
 use Rattle.arc_diagrams.proofs.CanonArcs.{targets-arcs_of, arc_to, has_arc_to, side_of, canon_complete}
-use Rattle.restrict_eval.specs.Eval.{IsOneOf, side_by}
+use Rattle.top_down_laws.specs.Readings.{IsIn}
+use Rattle.restrict_eval.specs.Eval.{side_by}
 
 -- a walk goes on from a node as from where it leads on the side of its level
 walk_on : (arcs : ℕ → Row) (i k : ℕ) (bits : List Bool) (p c : ℕ) → level_of p ≡ i + k → k < length bits → i + k < level_of c
@@ -75,14 +76,14 @@ source_has a (x ∷ xs) (inr (inl e)) = (x, inl refl, ap (λ (b : Arc). b.source
 source_has a (x ∷ xs) (inr (inr m)) = let (y, k, e) = source_has a xs m in (y, inr k, e)
 
 -- a pointer that is met is a truth value or a node of the file
-met_one : (n : ℕ) (t : List Bool) (w : ℕ) → HasForm n t → IsWithin n w → IsMet (canon_root n t) (arcs_of (canon_nodes n t)) w → IsOneOf (canon_nodes n t) w
+met_one : (n : ℕ) (t : List Bool) (w : ℕ) → HasForm n t → IsWithin n w → IsMet (canon_root n t) (arcs_of (canon_nodes n t)) w → IsIn (canon_nodes n t) w
 met_one n t w form (inr end) met = inl end
 met_one n t w form (inl below) met =
     let (a, m, source, high) = (canon_complete n t form).both w met below false in
     let (x, k, e) = source_has a (canon_nodes n t) m in
     inr (x, k, e ∙ source)
 
-pub root_one : (n : ℕ) (t : List Bool) → HasForm n t → IsOneOf (canon_nodes n t) (canon_root n t)
+pub root_one : (n : ℕ) (t : List Bool) → HasForm n t → IsIn (canon_nodes n t) (canon_root n t)
 root_one n t form = met_one n t (canon_root n t) form (canon_complete n t form).begins (inl refl)
 
 module _ (n : ℕ) (t : List Bool) (form : HasForm n t) (xs ys : List Node) (y : Node) (split : canon_nodes n t ≡ xs ++ y ∷ ys) where
@@ -90,7 +91,7 @@ module _ (n : ℕ) (t : List Bool) (form : HasForm n t) (xs ys : List Node) (y :
   descends = subst IsDescending split (is_node_file n t form.few form.whole form.fits).descend
 
   -- a node leads to truth values and to nodes before it
-  pub side_one : IsProper n y → (bits : List Bool) → IsOneOf xs (side_by bits y)
+  pub side_one : IsProper n y → (bits : List Bool) → IsIn xs (side_by bits y)
   side_one proper bits =
       let b : Bool = get_or bits (level_of y.uid) false in
       let m : Has y (canon_nodes n t) = subst (Has y) (sym split) (middle xs) in

@@ -2,16 +2,16 @@
 use Rattle.std.specs.Prelude.{◌≡◌, ◌≢◌, ◌⊎◌, ℕ, ◌+◌, ◌<◌, ◌≤◌, Bool, false, cond, List, length, get_or, Option, Some, None}
 use Rattle.bool_tables.specs.Tables.{value_at, place_of_bits}
 use Rattle.bool_tables.specs.Steps.{bits_at}
-use Rattle.rec_words.specs.Words.{level_of, terminal, IsTerminal, IsNodeWord, IsPointer}
+use Rattle.rec_words.specs.Words.{level_of, terminal, IsNodeWord, IsPointer}
 use Rattle.rec_words.specs.declared.node.Node.{Node}
 use Rattle.shelf_model.specs.declared.file_no.FileNo.{FileNo}
 use Rattle.shelf_model.specs.declared.sort_fault.SortFault.{SortFault}
 use Rattle.shelf_model.specs.declared.sort_fault.SortFault.TheVariants.{Shelf, Damaged, RunsSpent}
 use Rattle.shelf_model.specs.World.{World}
-use Rattle.list_laws.specs.Members.{Has}
 use Rattle.canon_file.specs.Canon.{canon_nodes}
 use Rattle.canon_file.specs.Walks.{walk}
 use Rattle.arc_diagrams.specs.Arcs.{targets_of, arcs_of}
+use Rattle.top_down_laws.specs.Readings.{IsIn}
 use Rattle.node_file.specs.declared.reader.NodeReader.{NodeReader}
 use Rattle.node_file.specs.Nodes.{identifier_at}
 use Rattle.node_file.specs.Readers.{file_of, trailer_of, left_of, given_of}
@@ -122,16 +122,12 @@ pub record OneTable : Type 0 where
   pub n : ℕ
   pub table : List Bool
 
--- the pointer is a truth value or that of one of the nodes
-abbrev pub IsOneOf : List Node → ℕ → Type 0
-IsOneOf xs p = IsTerminal p ⊎ ((x : Node) × Has x xs × (x.uid ≡ p))
-
 -- the path goes on from the pointer to the table's value, and its node isn't read yet
 pub record IsOnWay (r : NodeReader) (bytes : List ℕ) (nodes : List Node) (bits : List Bool) (value : Bool)
     (p : ℕ) : Type 0 where
   pub given : List Node
   pub but : AreLeftBut r bytes nodes given
-  pub next : IsOneOf but.rest p
+  pub next : IsIn but.rest p
   pub walks : walk (targets_of (arcs_of nodes)) 0 bits p ≡ terminal value
 
 abbrev pub IsFollowed : Following → NodeReader → List ℕ → List Node → List Bool → Bool → Type 0

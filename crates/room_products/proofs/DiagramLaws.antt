@@ -20,7 +20,8 @@ use Rattle.top_down.specs.Rules.{Rule, IsAsked, IsRule, below_on, table_for}
 use Rattle.top_down.proofs.TupleLaws.{table-terminal}
 use Rattle.top_down.proofs.PointwiseLaws.{are_later}
 use Rattle.top_down.proofs.TurnLaws.{tuple_deep}
-use Rattle.room_reduction.specs.Sources.{word, AreSources}
+use Rattle.complemented_diagrams.specs.Records.{word}
+use Rattle.room_reduction.specs.Sources.{AreSources}
 use Rattle.room_products.specs.Slots.{pair_at, id_at}
 use Rattle.room_products.specs.Joining.{IsAnswer, IsSourceOf, IsJoining, AreDone}
 use Rattle.room_products.specs.Joined.{arcs_in, AreOfTable}

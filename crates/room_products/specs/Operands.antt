@@ -3,7 +3,7 @@ use Rattle.std.specs.Prelude.{◌≡◌, ℕ, ◌<◌, List, take}
 use Rattle.rec_words.specs.declared.rec.Rec.{Rec}
 use Rattle.run_files.specs.Items.{record_at}
 use Rattle.packed_records.specs.Packed.{packed}
-use Rattle.room_reduction.specs.Sources.{word}
+use Rattle.complemented_diagrams.specs.Records.{word}
 use Rattle.room_products.specs.declared.operands.Nodes.{Nodes}
 
 -- the records of an operand's nodes

@@ -8,7 +8,7 @@ ghost use Rattle.run_files.specs.Items.{record_at};
 ghost use Rattle.block_stream.specs.Records.{records_of};
 ghost use Rattle.block_stream.specs.Reads.{Looked};
 ghost use Rattle.packed_records.specs.Packed.{packed};
-ghost use Rattle.room_reduction.specs.Sources.{word};
+ghost use Rattle.complemented_diagrams.specs.Records.{word};
 ghost use Rattle.room_products.specs.Operands.{HoldNodes};
 
 use block_stream::load;

@@ -11,8 +11,8 @@ use Rattle.arc_file.specs.declared.arc.Arc.{Arc}
 use Rattle.arc_diagrams.specs.Arcs.{IsComplete}
 use Rattle.arc_diagrams.specs.Reduction.{final_pointer}
 use Rattle.arc_diagrams.specs.Reducing.{nodes_from, distinct_after}
-use Rattle.complemented_diagrams.specs.Records.{node_records, row_in}
-use Rattle.room_reduction.specs.Sources.{word, AreSources}
+use Rattle.complemented_diagrams.specs.Records.{node_records, row_in, word}
+use Rattle.room_reduction.specs.Sources.{AreSources}
 
 -- f gives each truth value back
 abbrev pub KeepsEnds : (ℕ → ℕ) → Type 0

@@ -1,16 +1,13 @@
 -- The sources of a diagram, as records in the room.
-use Rattle.std.specs.Prelude.{◌≡◌, ℕ, ◌<◌, List, length, take, slice_index}
+use Rattle.std.specs.Prelude.{◌≡◌, ℕ, ◌<◌, List, length, take}
 use Rattle.canon_file.specs.Members.{Has}
 use Rattle.rec_words.specs.declared.rec.Rec.{Rec}
 use Rattle.rec_words.specs.Words.{level_of}
 use Rattle.run_files.specs.Items.{record_at}
 use Rattle.packed_records.specs.Packed.{packed}
+use Rattle.complemented_diagrams.specs.Records.{word}
 use Rattle.arc_file.specs.declared.arc.Arc.{Arc}
 use Rattle.arc_diagrams.specs.Arcs.{IsMet, targets_of}
-
--- the word at a place of a record
-abbrev pub word : ℕ → Rec → ℕ
-word k r = slice_index r.w k
 
 -- the first so many packed records of a room
 abbrev pub sources_in : ℕ → List Rec → List Rec

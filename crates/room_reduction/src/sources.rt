@@ -1,7 +1,8 @@
 //! The sources of a diagram, as packed records in the room.
 ghost use Rattle.std.specs.Prelude.{◌≡◌, ◌≢◌, ℕ, ◌*◌, ◌<◌, ◌≤◌, IsTrue, IfSome, length};
 ghost use Rattle.run_files.specs.Items.{record_at};
-ghost use Rattle.room_reduction.specs.Sources.{word, sources_in};
+ghost use Rattle.complemented_diagrams.specs.Records.{word};
+ghost use Rattle.room_reduction.specs.Sources.{sources_in};
 
 use packed_records::{put_word, word_at};
 use rec_words::{LEVEL_NUMBERS, Rec};

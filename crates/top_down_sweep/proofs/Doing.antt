@@ -26,7 +26,8 @@ use Rattle.top_down_sweep.specs.declared.machine.Machine.{Machine}
 use Rattle.top_down_sweep.specs.declared.ask.Ask.{Ask}
 use Rattle.top_down_sweep.specs.declared.place.Place.{Place}
 use Rattle.top_down_sweep.specs.declared.sweep.TopDownSweep.{TopDownSweep}
-use Rattle.top_down_sweep.specs.Sweeps.{files_in, task_in, parts_of, IsServed, IsDamageIn, machine_accounts, Refuses, Refused}
+use Rattle.node_reading.specs.Reading.{IsFaultOf}
+use Rattle.top_down_sweep.specs.Sweeps.{files_in, task_in, parts_of, IsServed, machine_accounts, Refuses, Refused}
 use Rattle.sweep_core.specs.Sweeps.{IsNoDamage}
 use Rattle.top_down_sweep.specs.declared.operand.Operands.{Operands}
 use Rattle.top_down_sweep.specs.Damage.{IsMachineDamage}
@@ -59,7 +60,7 @@ on_ok (Ok x) p = p
 on_ok (Err e) p = tt
 
 -- damage in a file that is read
-pub damage_refuses : (q : Machine) (e : SortFault) → e ≢ Shelf → IsDamageIn q.operands.first.file e
+pub damage_refuses : (q : Machine) (e : SortFault) → e ≢ Shelf → IsFaultOf q.operands.first.file e
     → Refuses q e
 damage_refuses q Shelf other damage = tt
 damage_refuses q (Damaged f at) other damage = inl (inl damage)

@@ -25,7 +25,8 @@ use Rattle.top_down_sweep.specs.declared.place.Numbered.{Numbered}
 use Rattle.top_down_sweep.specs.declared.place.Asking.{Asking}
 use Rattle.top_down_sweep.specs.Items.{ask_cmp}
 use Rattle.top_down_sweep.specs.ItemLaws.{ask_order}
-use Rattle.top_down_sweep.specs.Members.{wants, filled, want, all_filled, all_waiting, least, is_node}
+use Rattle.top_down_laws.specs.Forms.{least}
+use Rattle.top_down_sweep.specs.Members.{wants, filled, want, all_filled, all_waiting, is_node}
 use Rattle.top_down_sweep.specs.Soundness.{identifier, answers, known, next_number, next_numbered, same_member}
 use Rattle.top_down_sweep.specs.Meaning.{row_of, form_of, waiting_of, numbered_of}
 use Rattle.top_down_sweep.specs.Changes.{side_asks, goal_below}

@@ -10,7 +10,8 @@ use Rattle.top_down.specs.Tuples.{level_of_tuple}
 use Rattle.top_down_sweep.specs.declared.ask.Member.{Member}
 use Rattle.top_down_sweep.specs.declared.ask.Ask.{Ask}
 use Rattle.top_down_sweep.specs.declared.operand.Operands.{Operands}
-use Rattle.top_down_sweep.specs.Members.{is_node, wants, filled, waiting, all_waiting, least, want, all_filled, IsResolved}
+use Rattle.top_down_laws.specs.Forms.{least}
+use Rattle.top_down_sweep.specs.Members.{is_node, wants, filled, waiting, all_waiting, want, all_filled, IsResolved}
 use Rattle.top_down_sweep.specs.Soundness.{stands, is_keyed}
 use Rattle.top_down_sweep.specs.Sweeps.{AreOperands}
 

@@ -10,7 +10,8 @@ use Rattle.top_down_sweep.specs.declared.ask.Member.{Member}
 use Rattle.top_down_sweep.specs.declared.ask.Ask.{Ask}
 use Rattle.top_down_sweep.specs.declared.operand.Operands.{Operands}
 use Rattle.top_down_sweep.specs.declared.sound.Source.{Source}
-use Rattle.top_down_sweep.specs.Members.{member, members_of, is_node, waiting, all_waiting, least, all_filled}
+use Rattle.top_down_laws.specs.Forms.{least}
+use Rattle.top_down_sweep.specs.Members.{member, members_of, is_node, waiting, all_waiting, all_filled}
 use Rattle.top_down_sweep.specs.Soundness.{nobody, asker_word, is_asker, asks_above, stands, is_keyed, is_sound, side_number}
 use Rattle.top_down_sweep.specs.Sweeps.{AreOperands}
 use Rattle.top_down_sweep.proofs.MemberLaws.{Standing, Same, Split, first_stands, second_stands, third_stands}

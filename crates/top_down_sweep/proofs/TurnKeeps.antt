@@ -29,7 +29,8 @@ use Rattle.top_down_sweep.specs.declared.place.Phase.{Phase}
 use Rattle.top_down_sweep.specs.declared.place.Phase.TheVariants as phases
 use Rattle.top_down_sweep.specs.declared.machine.Machine.{Machine}
 use Rattle.top_down.specs.Rules.{Rule}
-use Rattle.top_down_sweep.specs.Members.{want, all_filled, all_waiting, least, on_side}
+use Rattle.top_down_laws.specs.Forms.{least}
+use Rattle.top_down_sweep.specs.Members.{want, all_filled, all_waiting, on_side}
 use Rattle.top_down_sweep.specs.Soundness.{identifier, next_numbered, known}
 use Rattle.top_down_sweep.specs.Meaning.{Task, waiting_of, Contents, StandsFor, IsLeft, IsWorking, IsHandling, IsFresh, first_contents, AreFilesOf, IsDone, RemainsIn, RemainsOf, WorksIn, WorksOn, IsMadeWhere}
 use Rattle.top_down_sweep.specs.Changes.{ShowsAsk, JoinAsks, AsksInstead, ServesSide, side_asks, goal_below, ask_for}

@@ -28,7 +28,8 @@ use Rattle.top_down_sweep.specs.declared.place.Asking.{Asking}
 use Rattle.top_down_sweep.specs.declared.place.Phase.TheVariants as phases
 use Rattle.top_down_sweep.specs.declared.machine.Machine.{Machine}
 use Rattle.top_down_sweep.specs.Items.{ask_cmp}
-use Rattle.top_down_sweep.specs.Members.{want, all_filled, all_waiting, least, wants}
+use Rattle.top_down_laws.specs.Forms.{least}
+use Rattle.top_down_sweep.specs.Members.{want, all_filled, all_waiting, wants}
 use Rattle.top_down_sweep.specs.Soundness.{identifier, next_numbered}
 use Rattle.top_down_sweep.specs.Meaning.{Task, form_of, waiting_of, numbered_of, place_of, Contents, StandsFor, IsLeft, IsWorking, WorksIn, WorksOn}
 use Rattle.top_down_sweep.specs.Changes.{side_asks, goal_below, HasNext}

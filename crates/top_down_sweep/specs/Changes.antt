@@ -13,7 +13,8 @@ use Rattle.top_down_sweep.specs.declared.ask.Members.{Members}
 use Rattle.top_down_sweep.specs.declared.ask.Ask.{Ask}
 use Rattle.top_down_sweep.specs.declared.operand.Operand.{Operand}
 use Rattle.top_down_sweep.specs.declared.machine.Machine.{Machine}
-use Rattle.top_down_sweep.specs.Members.{members_of, on_side, least}
+use Rattle.top_down_laws.specs.Forms.{least}
+use Rattle.top_down_sweep.specs.Members.{members_of, on_side}
 use Rattle.top_down_sweep.specs.Soundness.{asker_word}
 use Rattle.top_down_sweep.specs.Meaning.{Contents, IsReadOf, StandsFor}
 

@@ -1,5 +1,5 @@
 -- The members of asks, and the node that is read next for them.
-use Rattle.std.specs.Prelude.{ℕ, ◌==◌, ◌&&◌, ◌||◌, ◌<◌, min, Bool, true, false, cond, Option, Some, None}
+use Rattle.std.specs.Prelude.{ℕ, ◌==◌, ◌&&◌, ◌||◌, ◌<◌, Bool, true, false, cond, Option, Some, None}
 use Rattle.rec_words.specs.Words.{terminal, level_of}
 use Rattle.rec_words.specs.declared.node.Node.{Node}
 use Rattle.top_down.specs.declared.tuple.Tuple.{Tuple}
@@ -46,10 +46,6 @@ all_waiting level m = record {
   third = waiting level
       m.third;
 }
-
--- the least of a tuple's pointers
-abbrev pub least : Tuple → ℕ
-least x = min x.first (min x.second x.third)
 
 -- an ask's node isn't at hand for each member that it is
 abbrev pub want : Operands → Ask → Bool

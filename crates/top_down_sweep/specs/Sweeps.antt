@@ -121,12 +121,6 @@ Refuses m Shelf = Unit
 Refuses m (Damaged f at) = IsRead (files_in m) f ⊎ WasTaken m.parts f
 Refuses m RunsSpent = 2 ^ 32 ≤ m.parts.next
 
--- a call of the folder failed, or that file is damaged
-abbrev pub IsDamageIn : FileNo → SortFault → Type 0
-IsDamageIn file Shelf = Unit
-IsDamageIn file (Damaged f at) = f ≡ file
-IsDamageIn file RunsSpent = ⊥
-
 -- a call of the folder failed, or an operand is damaged
 abbrev pub IsStartDamage : Files → SortFault → Type 0
 IsStartDamage files Shelf = Unit

@@ -30,7 +30,8 @@ impl<'r> Machine<'r> {
     ghost use Rattle.top_down_sweep.specs.Ordered.{IsOrdered, KeepsArcs};
     ghost use Rattle.sweep_core.specs.Sweeps.{IsNoDamage};
     ghost use Rattle.top_down_laws.specs.Remains.{answer_arcs};
-    ghost use Rattle.top_down_sweep.specs.Members.{want, all_filled, all_waiting, least};
+    ghost use Rattle.top_down_laws.specs.Forms.{least};
+    ghost use Rattle.top_down_sweep.specs.Members.{want, all_filled, all_waiting};
     ghost use Rattle.top_down_sweep.specs.Meaning.{Task, Contents, StandsFor, IsHandling};
     ghost use Rattle.top_down_sweep.specs.Turns.{Advances};
     ghost use Rattle.top_down_sweep.specs.Soundness.{asker_word};

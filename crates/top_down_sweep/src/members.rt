@@ -2,7 +2,8 @@
 ghost use Rattle.std.specs.Prelude.{◌≡◌, ◌<◌, ◌≤◌, ◌^◌, min};
 ghost use Rattle.std.specs.Option.{SomeIff};
 ghost use Rattle.rec_words.specs.Words.{deepest_level, level_of};
-ghost use Rattle.top_down_sweep.specs.Members.{member, members_of, on_side, is_node, filled, waiting, all_waiting, least};
+ghost use Rattle.top_down_laws.specs.Forms.{least};
+ghost use Rattle.top_down_sweep.specs.Members.{member, members_of, on_side, is_node, filled, waiting, all_waiting};
 
 use crate::ask::{Member, Members};
 use rec_words::{Node, Ptr, Uid};

@@ -22,8 +22,8 @@ impl<'r> Operand<'r> {
     ghost use Rattle.run_tiers.specs.Faults.{OnlySortShelf};
     ghost use Rattle.node_file.specs.Readers.{trailer_of, left_of};
     ghost use Rattle.top_down_sweep.specs.Members.{wants};
-    ghost use Rattle.node_reading.specs.Reading.{IsReading};
-    ghost use Rattle.top_down_sweep.specs.Sweeps.{IsOperand, IsDamageIn};
+    ghost use Rattle.node_reading.specs.Reading.{IsReading, IsFaultOf};
+    ghost use Rattle.top_down_sweep.specs.Sweeps.{IsOperand};
     ghost use Rattle.top_down_sweep.specs.Waiting.{IsReadTo};
     ghost use Rattle.top_down_sweep.specs.Damage.{IsReadDamage};
     ghost use Rattle.sweep_core.specs.Sweeps.{IsNoDamage};
@@ -47,7 +47,7 @@ impl<'r> Operand<'r> {
         ensures fewer { OnOk result (left_of self.old.reader ≡ left_of self.new.reader + 1) }
         ensures is { OnOk result ((n : ℕ) → IsOperand n self.old → IsOperand n self.new) }
         ensures hand { OnOk result (IsReadTo key self.new) }
-        ensures damage { IfErr result (λ e. (n : ℕ) → IsOperand n self.old → IsDamageIn self.old.file e) }
+        ensures damage { IfErr result (λ e. (n : ℕ) → IsOperand n self.old → IsFaultOf self.old.file e) }
 
         // what its file holds
         ensures reads { OnOk result (IsTrue (S.tells shelf.new) → (n : ℕ) → IsOperand n self.old →
@@ -73,7 +73,7 @@ impl<'r> Operand<'r> {
     /// Damage at the node that was read last, or at the front where there is none.
     pub(crate) fn damage(&self) -> SortFault
         ensures place { result ≡ SortFault.Damaged self.now.file (left_of self.now.reader * 24) }
-        ensures damage { IsDamageIn self.now.file result }
+        ensures damage { IsFaultOf self.now.file result }
         ensures cause { result ≢ SortFault.Shelf }
     {
         SortFault::Damaged {

@@ -167,8 +167,8 @@ impl<'r> Operand<'r> {
     ghost use Rattle.shelf_model.specs.Calls.{Told};
     ghost use Rattle.block_stream.specs.Reads.{Looked};
     ghost use Rattle.run_tiers.specs.Faults.{OnlySortShelf};
-    ghost use Rattle.node_reading.specs.Reading.{IsReading, IsTrailerFault};
-    ghost use Rattle.top_down_sweep.specs.Sweeps.{IsOperand, IsDamageIn};
+    ghost use Rattle.node_reading.specs.Reading.{IsReading, IsTrailerFault, IsFaultOf};
+    ghost use Rattle.top_down_sweep.specs.Sweeps.{IsOperand};
     ghost use Rattle.std.specs.Prelude.{ℕ, List};
     ghost use Rattle.rec_words.specs.declared.node.Node.{Node};
     ghost use Rattle.sweep_core.specs.Sweeps.{IsNoDamage};
@@ -186,7 +186,7 @@ impl<'r> Operand<'r> {
         ensures file { IfOk result (λ o. o.file ≡ file) }
         ensures unread { IfOk result (λ o. o.hand ≡ None) }
         ensures reading { IfOk result (λ o. IsTrue (S.tells shelf.new) → IsReading o.reader (S.world shelf.new)) }
-        ensures damage { IfErr result (IsDamageIn file) }
+        ensures damage { IfErr result (IsFaultOf file) }
         ensures trailer { IfErr result (λ e. IsTrue (S.tells shelf.new) →
             IsTrailerFault file n (S.world shelf.old) e) }
         ensures nodes { IfOk result (λ o. IsTrue (S.tells shelf.new) → (root : ℕ) → (nodes : List Node) →

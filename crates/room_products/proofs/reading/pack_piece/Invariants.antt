@@ -2,7 +2,7 @@ use Rattle.std.proofs.Common.{◌≡◌, ℕ, ◌+◌, ◌<◌, List, length}
 use Rattle.rec_words.specs.declared.rec.Rec.{Rec}
 use Rattle.run_files.specs.Items.{record_at}
 use Rattle.packed_records.specs.Packed.{packed}
-use Rattle.room_reduction.specs.Sources.{word}
+use Rattle.complemented_diagrams.specs.Records.{word}
 use Rattle.room_products.specs.Operands.{HoldNodes}
 use Rattle.room_products.proofs.reading.pack_piece.Given as goal
 

@@ -4,7 +4,7 @@ use Rattle.shelf_model.specs.World.{file}
 use Rattle.block_stream.specs.Records.{records_of}
 use Rattle.packed_records.specs.Packed.{packed}
 use Rattle.complemented_diagrams.proofs.FirstRecords.{piece_looked, bytes_looked}
-use Rattle.room_reduction.specs.Sources.{word}
+use Rattle.complemented_diagrams.specs.Records.{word}
 use Rattle.room_products.specs.Operands.{HoldNodes}
 use Rattle.room_products.proofs.PackedNodes.{piece_is}
 use Rattle.room_products.proofs.reading.read_operand.Goals as goal

@@ -1,7 +1,8 @@
 use Rattle.std.proofs.Common.{◌≡◌, ℕ, ◌<◌, ◌≤◌}
 use Rattle.rec_words.specs.Words.{level_of}
 use Rattle.run_files.specs.Items.{record_at}
-use Rattle.room_reduction.specs.Sources.{word, sources_in}
+use Rattle.complemented_diagrams.specs.Records.{word}
+use Rattle.room_reduction.specs.Sources.{sources_in}
 use Rattle.room_reduction.proofs.level.level_start.Given as goal
 
 -- the sources from the place on are of the level

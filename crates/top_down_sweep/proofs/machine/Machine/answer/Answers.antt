@@ -5,7 +5,8 @@ use Rattle.top_down_sweep.specs.Soundness.{is_none, identifier, next_numbered}
 use Rattle.top_down_sweep.specs.Ordered.{ArePut}
 use Rattle.top_down_sweep.proofs.Numbers.{last_few}
 use Rattle.top_down_sweep.proofs.Orders.{put_of, put_at, put_known, put_new}
-use Rattle.top_down_sweep.specs.Members.{all_waiting, least}
+use Rattle.top_down_laws.specs.Forms.{least}
+use Rattle.top_down_sweep.specs.Members.{all_waiting}
 use Rattle.top_down_sweep.specs.declared.ask.Members.{Members}
 use Rattle.top_down.specs.declared.tuple.Goal.{Goal}
 use Rattle.std.specs.Prelude.{Bool, Some}

@@ -12,7 +12,8 @@ use Rattle.top_down_sweep.specs.declared.ask.Members.{Members}
 use Rattle.std.proofs.Common.{◌≡◌, ◌<◌, ◌^◌, subst, sym, ap, ◌∙◌, arith, true}
 use Rattle.std.proofs.lemmas.Bool.{and_parts}
 use Rattle.rec_words.specs.Words.{IsNodeWord}
-use Rattle.top_down_sweep.specs.Members.{IsResolved, all_waiting, least}
+use Rattle.top_down_laws.specs.Forms.{least}
+use Rattle.top_down_sweep.specs.Members.{IsResolved, all_waiting}
 use Rattle.top_down_sweep.proofs.Doing.{does_more, on_ok}
 use Rattle.top_down_sweep.proofs.Phases.{still_asking}
 use Rattle.top_down_sweep.proofs.FuelLaws.{falls_known, falls_taken, first_behind, no_more_waits, last_is, last_differs}
