@@ -25,7 +25,7 @@ use Rattle.step_work.specs.Tuples.{joins}
 use Rattle.step_work.specs.Works.{work_for, nodes_of}
 use Rattle.step_work.proofs.SameTuples.{LeadAlike, same_count}
 use Rattle.node_file.specs.Canonical.{IsCanonicalFile}
-use Rattle.step_sweeps.specs.declared.operation.StepOperation.TheVariants as operations
+use Rattle.top_down_sweep.specs.declared.steps.StepOperation.TheVariants as operations
 use Rattle.step_sweeps.specs.Given.{Tables, AreGiven, made_by, work_by}
 use Rattle.step_engine.specs.declared.sweeping.Sweeping.{Sweeping}
 use Rattle.step_engine.specs.Simple.{IsStepOf}

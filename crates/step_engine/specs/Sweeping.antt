@@ -3,7 +3,7 @@ use Rattle.std.specs.Prelude.{ℕ, Option, Some, None}
 use Rattle.bool_tables.specs.declared.steps.Step.{Step}
 use Rattle.bool_tables.specs.declared.steps.Step.TheVariants.{Const, Var, Pair, Ite, Quantify, Restrict, Drop, Same, Leq, Eval, Size}
 use Rattle.top_down_sweep.specs.declared.beginning.OperandFiles.{OperandFiles}
-use Rattle.step_sweeps.specs.declared.operation.StepOperation.TheVariants as operations
+use Rattle.top_down_sweep.specs.declared.steps.StepOperation.TheVariants as operations
 use Rattle.sound_image.specs.Files.{node_file}
 use Rattle.step_engine.specs.declared.sweeping.Sweeping.{Sweeping}
 

@@ -23,7 +23,7 @@ use Rattle.copy_sweep.specs.Copies.{fuel_of, Copies, IsInStep}
 use Rattle.copy_sweep.proofs.Copying.{all_copied}
 use Rattle.top_down_sweep.specs.declared.beginning.OperandFiles.{OperandFiles}
 use Rattle.step_sweeps.specs.declared.diagram.MadeDiagram.{MadeDiagram}
-use Rattle.step_sweeps.specs.declared.operation.StepOperation.TheVariants.{Operator}
+use Rattle.top_down_sweep.specs.declared.steps.StepOperation.TheVariants.{Operator}
 use Rattle.step_sweeps.specs.Given.{Tables, AreGiven, AreTrailersOf, made_by, nodes_by, work_by}
 use Rattle.step_sweeps.specs.Made.{node_file, OnlyStepFiles, IsReduced}
 use Rattle.step_sweeps.proofs.Copying.{apart}

@@ -16,8 +16,8 @@ use Rattle.copied_diagrams.specs.Pairs.{ArePair, IsMade, IfMade, nodes_of_both}
 use Rattle.top_down_sweep.specs.declared.beginning.OperandFiles.{OperandFiles}
 use Rattle.top_down_sweep.specs.Damage.{IsAbsent}
 use Rattle.step_sweeps.specs.declared.diagram.MadeDiagram.{MadeDiagram}
-use Rattle.step_sweeps.specs.declared.operation.StepOperation.{StepOperation}
-use Rattle.step_sweeps.specs.declared.operation.StepOperation.TheVariants.{Operator}
+use Rattle.top_down_sweep.specs.declared.steps.StepOperation.{StepOperation}
+use Rattle.top_down_sweep.specs.declared.steps.StepOperation.TheVariants.{Operator}
 use Rattle.step_sweeps.specs.Damage.{IsDamagedFile, IsArcsFault}
 use Rattle.step_sweeps.specs.Given.{Tables, AreGiven, AreEarlier, made_by}
 use Rattle.step_sweeps.specs.Made.{node_file, IsDiagramOf}

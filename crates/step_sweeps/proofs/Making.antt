@@ -26,7 +26,7 @@ use Rattle.top_down_sweep.specs.Turns.{Work}
 use Rattle.top_down_sweep.specs.Waiting.{AreApart}
 use Rattle.top_down_sweep.proofs.Makings.{diagram_made}
 use Rattle.step_sweeps.specs.declared.arcs.MadeArcs.{MadeArcs}
-use Rattle.step_sweeps.specs.declared.operation.StepOperation.{StepOperation}
+use Rattle.top_down_sweep.specs.declared.steps.StepOperation.{StepOperation}
 use Rattle.step_sweeps.specs.Given.{Tables, AreEarlier, made_by, tuples_by, nodes_by, arcs_turns}
 use Rattle.step_sweeps.specs.Made.{AreArcsOf, OnlyParts, inner_file, ends_file}
 use Rattle.step_sweeps.specs.Damage.{IsArcsFault}

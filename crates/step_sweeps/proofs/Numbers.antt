@@ -2,7 +2,7 @@
 use Rattle.std.proofs.Common.{◌≡◌, ℕ, ◌+◌, ◌-◌, ◌*◌, ◌^◌, ◌<◌, ◌≤◌, inl, inr, arith}
 use Rattle.std.specs.Prelude.{min}
 use Rattle.std.proofs.lemmas.Bool.{cases_lt}
-use Rattle.step_sweeps.specs.declared.operation.StepOperation.{StepOperation}
+use Rattle.top_down_sweep.specs.declared.steps.StepOperation.{StepOperation}
 use Rattle.step_sweeps.specs.Given.{Tables, tuples_by, nodes_by, arcs_turns, work_by}
 
 module _ (operation : StepOperation) (n : ℕ) (g : Tables) (sources : ℕ) (few : sources ≤ tuples_by operation n g) where

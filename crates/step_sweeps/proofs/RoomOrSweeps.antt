@@ -15,8 +15,8 @@ use Rattle.room_products.specs.Joined.{IsOperandOf, IsJoined}
 use Rattle.top_down_sweep.specs.declared.beginning.OperandFiles.{OperandFiles}
 use Rattle.node_file.specs.Canonical.{IsCanonicalFile}
 use Rattle.step_sweeps.specs.declared.diagram.MadeDiagram.{MadeDiagram}
-use Rattle.step_sweeps.specs.declared.operation.StepOperation.{StepOperation}
-use Rattle.step_sweeps.specs.declared.operation.StepOperation.TheVariants.{Operator}
+use Rattle.top_down_sweep.specs.declared.steps.StepOperation.{StepOperation}
+use Rattle.top_down_sweep.specs.declared.steps.StepOperation.TheVariants.{Operator}
 use Rattle.step_sweeps.specs.Given.{Tables, AreGiven, AreEarlier, AreTrailersOf, made_by, nodes_by, work_by}
 use Rattle.step_sweeps.specs.Made.{node_file, IsReduced, IsDiagramOf}
 use Rattle.step_sweeps.proofs.Copying.{pair_of, apart}

@@ -18,8 +18,8 @@ use Rattle.top_down_sweep.specs.Turns.{AllMet, nodes_of}
 use Rattle.top_down_sweep.specs.Waiting.{AreApart}
 use Rattle.top_down_sweep.proofs.Makings.{apart_from}
 use Rattle.met_tuples.specs.Few.{MeetsFew, ProductMeetsFew, ChoiceMeetsFew, QuantifyMeetsFew, RestrictMeetsFew}
-use Rattle.step_sweeps.specs.declared.operation.StepOperation.{StepOperation}
-use Rattle.step_sweeps.specs.declared.operation.StepOperation.TheVariants.{Operator, Choice, Quantifier, Restriction}
+use Rattle.top_down_sweep.specs.declared.steps.StepOperation.{StepOperation}
+use Rattle.top_down_sweep.specs.declared.steps.StepOperation.TheVariants.{Operator, Choice, Quantifier, Restriction}
 use Rattle.step_sweeps.specs.Operations.{rule_of, begins_of, IsWithin}
 use Rattle.step_sweeps.specs.Given.{Tables, AreGiven, AreEarlier, made_by, tuples_by, nodes_by}
 use Rattle.step_sweeps.specs.Work.{IsWorkOn, parts_of, GivenIsWork}

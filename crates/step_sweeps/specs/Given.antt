@@ -8,8 +8,8 @@ use Rattle.step_work.specs.Tuples.{tuple_count}
 use Rattle.step_work.specs.Works.{nodes_of, work_for}
 use Rattle.top_down_sweep.specs.declared.beginning.OperandFiles.{OperandFiles}
 use Rattle.node_file.specs.Canonical.{IsCanonicalFile}
-use Rattle.step_sweeps.specs.declared.operation.StepOperation.{StepOperation}
-use Rattle.step_sweeps.specs.declared.operation.StepOperation.TheVariants.{Operator, Choice, Quantifier, Restriction}
+use Rattle.top_down_sweep.specs.declared.steps.StepOperation.{StepOperation}
+use Rattle.top_down_sweep.specs.declared.steps.StepOperation.TheVariants.{Operator, Choice, Quantifier, Restriction}
 use Rattle.step_sweeps.specs.Operations.{step_of}
 
 -- the tables of three diagrams

@@ -1,4 +1,4 @@
-pub mod Operations
+pub use Rattle.top_down_sweep.specs.Operations
 pub mod Given
 pub mod Made
 pub mod Damage

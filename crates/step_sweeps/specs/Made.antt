@@ -11,7 +11,7 @@ use Rattle.sweep_core.specs.Accounts.{CanBeTaken}
 use Rattle.top_down_sweep.specs.Tasks.{AreArcFiles}
 use Rattle.step_sweeps.specs.declared.arcs.MadeArcs.{MadeArcs}
 use Rattle.step_sweeps.specs.declared.diagram.MadeDiagram.{MadeDiagram}
-use Rattle.step_sweeps.specs.declared.operation.StepOperation.{StepOperation}
+use Rattle.top_down_sweep.specs.declared.steps.StepOperation.{StepOperation}
 use Rattle.step_sweeps.specs.declared.answers.Answered.{Answered}
 use Rattle.step_sweeps.specs.Given.{Tables, made_by, tuples_by, arcs_turns, work_by}
 

@@ -9,7 +9,7 @@ use Rattle.top_down_sweep.specs.declared.start.Files.{Files}
 use Rattle.top_down_sweep.specs.Beginning.{files_from}
 use Rattle.top_down_sweep.specs.Meaning.{table_of, IsTaskOn}
 use Rattle.top_down_sweep.specs.Turns.{Work, nodes_of}
-use Rattle.step_sweeps.specs.declared.operation.StepOperation.{StepOperation}
+use Rattle.top_down_sweep.specs.declared.steps.StepOperation.{StepOperation}
 use Rattle.step_sweeps.specs.Operations.{rule_of, begins_of, IsWithin}
 use Rattle.step_sweeps.specs.Given.{Tables, AreGiven, AreEarlier, made_by, tuples_by, nodes_by}
 

@@ -10,11 +10,10 @@ mod implication;
 mod in_room;
 mod joining;
 mod laws;
-mod operation;
 mod reduction;
 mod swept;
 
 pub use answers::{Answered, compare, evaluate};
 pub use diagram::{MadeDiagram, make_diagram};
 pub use implication::imply;
-pub use operation::StepOperation;
+pub use top_down_sweep::StepOperation;

@@ -16,3 +16,4 @@ pub mod Turns
 pub mod Tasks
 pub mod Beginning
 pub mod Making
+pub mod Operations

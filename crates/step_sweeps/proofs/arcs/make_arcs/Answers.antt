@@ -5,7 +5,7 @@ use Rattle.run_tiers.proofs.FaultLaws.{on_fault, sort_shelf_on, sort_shelf_then}
 use Rattle.top_down_sweep.specs.Beginning.{files_from}
 use Rattle.top_down_sweep.specs.Sweeps.{SweepTask, accounts, made_in}
 use Rattle.top_down_sweep.specs.Turns.{nodes_of}
-use Rattle.step_sweeps.specs.declared.operation.StepOperation.{StepOperation}
+use Rattle.top_down_sweep.specs.declared.steps.StepOperation.{StepOperation}
 use Rattle.step_sweeps.specs.Work.{parts_of}
 use Rattle.step_sweeps.proofs.Faults.{start_fault}
 use Rattle.step_sweeps.proofs.Making.{arcs_of, few_turns, spent_turns, sweep_changes, arcs_fault}

@@ -8,8 +8,8 @@ use Rattle.top_down.specs.Rules.{Rule}
 use Rattle.top_down.specs.Tuples.{unused}
 use Rattle.top_down_sweep.specs.Deepening.{product_deepens, choice_deepens, quantify_deepens, restrict_deepens}
 use Rattle.top_down_sweep.specs.Rules.{Deepens}
-use Rattle.step_sweeps.specs.declared.operation.StepOperation.{StepOperation}
-use Rattle.step_sweeps.specs.declared.operation.StepOperation.TheVariants.{Operator, Choice, Quantifier, Restriction}
+use Rattle.top_down_sweep.specs.declared.steps.StepOperation.{StepOperation}
+use Rattle.top_down_sweep.specs.declared.steps.StepOperation.TheVariants.{Operator, Choice, Quantifier, Restriction}
 
 -- what the operation says of tuples of pointers
 abbrev pub rule_of : StepOperation → Rule

@@ -1,6 +1,6 @@
+use crate::{Choice, Operation, Product, Quantified, Restricted};
 use bool_tables::{Bin, Quant};
 use top_down::{Goal, Tuple};
-use top_down_sweep::{Choice, Operation, Product, Quantified, Restricted};
 
 /// The operation that a step is, on up to three diagrams.
 #[derive(Clone, Copy, Debug, PartialEq, Eq)]
@@ -16,7 +16,7 @@ pub enum StepOperation {
 }
 
 impl Operation for StepOperation {
-    ghost use Rattle.step_sweeps.specs.Operations.{rule_of, begins_of, operation_deepens};
+    ghost use Rattle.top_down_sweep.specs.Operations.{rule_of, begins_of, operation_deepens};
 
     ghost rule = { rule_of };
 
