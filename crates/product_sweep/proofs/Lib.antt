@@ -1,2 +1,3 @@
+mod Given
 mod Refuting
 mod Turning

@@ -13,7 +13,9 @@ use Rattle.sweep_core.specs.Sweeps.{Falls, MovesOn, AtEnd, IsFirm, IsNoDamage}
 use Rattle.sweep_core.specs.declared.turn.Turn.{Turn}
 use Rattle.sweep_core.specs.declared.turn.Turn.TheVariants as turns
 use Rattle.sweep_core.proofs.Leaving.{leaves_more, leaves_ok, leaves_err}
+use Rattle.table_work.specs.declared.sweep.TableSweep.{TableSweep}
 use Rattle.table_work.specs.Jobs.{TableWork, turns_of}
+use Rattle.table_work.specs.Tables.{sweep_of}
 use Rattle.top_down_sweep.specs.declared.product.Product.{Product}
 use Rattle.top_down_sweep.specs.declared.sweep.TopDownSweep.{TopDownSweep}
 use Rattle.top_down_sweep.specs.Beginning as top
@@ -28,18 +30,17 @@ use Rattle.top_down_sweep.proofs.Makings.{gives, still_ready}
 use Rattle.product_sweep.specs.declared.leq.LeqPhase.{LeqPhase}
 use Rattle.product_sweep.specs.declared.leq.LeqPhase.TheVariants.{Making, Answered}
 use Rattle.product_sweep.specs.declared.leq.LeqSweep.{LeqSweep}
-use Rattle.product_sweep.specs.declared.sweep.ProductSweep.{ProductSweep}
 use Rattle.product_sweep.specs.Implications.{Implication, IsToBeMade, refutation, accounts, Turned}
-use Rattle.product_sweep.specs.Products.{sweep_of, rule_of, begins_of, MakesTable}
+use Rattle.product_sweep.specs.Products.{rule_of, begins_of, MakesTable}
 use Rattle.product_sweep.proofs.Refuting.{leq_nowhere, refuted}
 
 -- what the product's sweep changes and owes
-abbrev pub product_accounts : Accounts ProductSweep
+abbrev pub product_accounts : Accounts (TableSweep Product)
 product_accounts = accounts_along sweep_of (sweeps.accounts Product)
 
 -- what a turn of it does
 pub record ProductTurned {S : Type 0} (tells : S → Bool) (world : S → World) (counts : S → Faults)
-    (before after : S) (p q : ProductSweep) (result : Result Turn SortFault) : Type 0 where
+    (before after : S) (p q : TableSweep Product) (result : Result Turn SortFault) : Type 0 where
   pub ready : OnOk result (top.IsReady (sweep_of q))
   pub in_step : OnOk result (IsTrue (tells after) → calls.IsInStep (sweep_of q) (world after))
   pub falls : Falls (fuel.fuel_of (sweep_of p)) (fuel.fuel_of (sweep_of q)) result
@@ -68,14 +69,14 @@ pub record EndsEarly {S : Type 0} (tells : S → Bool) (world : S → World) (co
   pub undamaged : IfErr result IsNoDamage
 
 -- whether the truth value 1 was met decides whether the table has it, once all is made, and before where it was met
-pub record TellsOne (p : ProductSweep) (one : Bool) : Type 0 where
+pub record TellsOne (p : TableSweep Product) (one : Bool) : Type 0 where
   pub value : one ≡ true → (world : World) (t : Task) → Remains rule_of begins_of (sweep_of p) world t
       → Has true (table_of t)
   pub none : one ≡ false → IsSome (sweeps.made_in (sweep_of p)) → (world : World) (t : Task)
       → Remains rule_of begins_of (sweep_of p) world t → Has true (table_of t) → ⊥
 
 -- the sweep with that product, at that phase
-abbrev pub leq : ProductSweep → LeqPhase → LeqSweep
+abbrev pub leq : TableSweep Product → LeqPhase → LeqSweep
 leq p phase = record { product = p; phase = phase }
 
 -- no file is said to be damaged
@@ -85,7 +86,7 @@ no_damage s world (Damaged f at) none = absurd none
 no_damage s world RunsSpent none = tt
 
 -- where the truth value 1 was met, the left function doesn't imply the right one
-met_refutes : (p : ProductSweep) (phase : LeqPhase) (world : World) (d : Implication) → TellsOne p true
+met_refutes : (p : TableSweep Product) (phase : LeqPhase) (world : World) (d : Implication) → TellsOne p true
     → IsToBeMade (leq p phase) world d → false ≡ is_leq d.left d.right
 met_refutes p phase world d tells r =
     let makes = r.makes.makes in
@@ -93,7 +94,7 @@ met_refutes p phase world d tells r =
     (subst (Has true) makes.table_is (tells.value refl world makes.task makes.remains))
 
 -- once all is made, that decides
-made_decides : (p : ProductSweep) (phase : LeqPhase) (one : Bool) (world : World) (d : Implication) → TellsOne p one
+made_decides : (p : TableSweep Product) (phase : LeqPhase) (one : Bool) (world : World) (d : Implication) → TellsOne p one
     → IsSome (sweeps.made_in (sweep_of p)) → IsToBeMade (leq p phase) world d → not one ≡ is_leq d.left d.right
 made_decides p phase true world d tells made r = met_refutes p phase world d tells r
 made_decides p phase false world d tells made r =
@@ -103,7 +104,7 @@ made_decides p phase false world d tells made r =
 
 module _ {S : Type 0} (tells : S → Bool) (world : S → World) (counts : S → Faults) (before after : S) where
   -- what a turn of the product leaves, the whole sweep leaves
-  leaves_as : (p q : ProductSweep) (a b : LeqPhase) (r : Result Turn SortFault)
+  leaves_as : (p q : TableSweep Product) (a b : LeqPhase) (r : Result Turn SortFault)
       → Leaves tells world counts product_accounts 224 12 before after p q r
       → Leaves tells world counts accounts 224 12 before after (leq p a) (leq q b) r
   leaves_as p q a b r l = record {
@@ -117,7 +118,7 @@ module _ {S : Type 0} (tells : S → Bool) (world : S → World) (counts : S →
     faults = l.faults;
   }
 
-  module _ (p q : ProductSweep) where
+  module _ (p q : TableSweep Product) where
     -- arcs are made on
     pub going_on : ProductTurned tells world counts before after p q (Ok turns.More)
         → Turned tells world counts before after (leq p Making) (leq q Making) (Ok turns.More)

@@ -13,6 +13,7 @@ use Rattle.sweep_core.specs.Accounts.{Accounts, Leaves}
 use Rattle.sweep_core.specs.Sweeps.{Falls, MovesOn, AtEnd, IsFirm, StaysEnded, IsNoDamage}
 use Rattle.sweep_core.specs.declared.turn.Turn.{Turn}
 use Rattle.table_work.specs.Jobs.{TableWork, work_of_step, turns_of}
+use Rattle.table_work.specs.Tables.{sweep_of}
 use Rattle.top_down_sweep.specs.declared.product.Product.{Product}
 use Rattle.top_down_sweep.specs.declared.sweep.TopDownSweep.{TopDownSweep}
 use Rattle.top_down_sweep.specs.Beginning as top
@@ -24,7 +25,7 @@ use Rattle.top_down_sweep.specs.Sweeps as sweeps
 use Rattle.product_sweep.specs.declared.leq.LeqPhase.{LeqPhase}
 use Rattle.product_sweep.specs.declared.leq.LeqPhase.TheVariants.{Making, Answered}
 use Rattle.product_sweep.specs.declared.leq.LeqSweep.{LeqSweep}
-use Rattle.product_sweep.specs.Products.{sweep_of, MakesTable}
+use Rattle.product_sweep.specs.Products.{MakesTable}
 
 -- two tables of n variables, of which the left one may imply the right one everywhere
 pub record Implication : Type 0 where

@@ -34,7 +34,7 @@ impl<'r> LeqSweep<'r> {
     ghost use Rattle.top_down_sweep.specs.Beginning.{after_two, files_from, Begun, Starts};
     ghost use Rattle.top_down_sweep.specs.Sweeps.{parts_of, variables_of};
     ghost use Rattle.node_file.specs.Canonical.{IsCanonicalFile};
-    ghost use Rattle.product_sweep.specs.Products.{operands};
+    ghost use Rattle.table_work.specs.Tables.{operand_files};
     ghost use Rattle.product_sweep.specs.Implications.{IsReady, IsInStep, product_in, Refutes, turns_left, TellsAnswer, Turned};
 
     /// Begins with the files of two diagrams of `n` variables, which may be one file. The next two parts are its files
@@ -51,10 +51,10 @@ impl<'r> LeqSweep<'r> {
         requires past_made { 3 ≤ parts.next }
         ensures ready { IfOk result IsReady }
         ensures in_step { IfOk result (λ s. IsTrue (S.tells shelf.new) → IsInStep s (S.world shelf.new)) }
-        ensures begun { IfOk result (λ s. Begun S.tells S.world (files_from (operands f g) parts) (after_two parts)
+        ensures begun { IfOk result (λ s. Begun S.tells S.world (files_from (operand_files f g g) parts) (after_two parts)
             shelf.old shelf.new (product_in s)) }
         ensures variables { IfOk result (λ s. variables_of (product_in s) ≡ n) }
-        ensures leaves { Starts S.tells S.world S.faults n (files_from (operands f g) parts) parts
+        ensures leaves { Starts S.tells S.world S.faults n (files_from (operand_files f g g) parts) parts
             shelf.old shelf.new result }
         ensures few_calls { IsTrue (S.tells shelf.new) →
             (S.world shelf.new).clock ≤ (S.world shelf.old).clock + 8 }

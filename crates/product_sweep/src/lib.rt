@@ -2,7 +2,7 @@
 #![tactic(auto)]
 
 mod leq;
-mod sweep;
+mod product;
 
 pub use leq::LeqSweep;
-pub use sweep::ProductSweep;
+pub use product::ProductSweep;

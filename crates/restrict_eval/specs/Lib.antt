@@ -4,4 +4,3 @@ pub mod Turns
 pub mod Same
 pub mod Missing
 pub mod Eval
-pub mod Restrictions

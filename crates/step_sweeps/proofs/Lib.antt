@@ -3,7 +3,6 @@ pub mod AnswersFaults
 pub mod AnswersValues
 mod ImpliedWork
 mod Running
-mod Tasks
 mod Faults
 mod Reducing
 mod Making

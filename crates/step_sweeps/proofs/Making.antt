@@ -1,6 +1,6 @@
 -- The arcs that a step makes of canonical files.
 use Rattle.std.proofs.Common.{◌≡◌, ℕ, ◌+◌, ◌*◌, ◌≤◌, ◌-◌, ◌^◌, ◌∙◌, Bool, sym, subst, ap, inl, inr, arith}
-use Rattle.std.specs.Prelude.{length, Some}
+use Rattle.std.specs.Prelude.{Option, Some, IfSome}
 use Rattle.shelf_model.specs.declared.file_no.FileNo.{FileNo}
 use Rattle.shelf_model.specs.declared.sort_fault.SortFault.{SortFault}
 use Rattle.shelf_model.specs.Calls.{Told}
@@ -11,73 +11,78 @@ use Rattle.run_tiers.specs.Parts.{Spilled}
 use Rattle.sweep_core.specs.Accounts.{CanBeTaken, OnlyOwn}
 use Rattle.sweep_core.proofs.Leaving.{taken_before}
 use Rattle.arc_file.specs.declared.unreduced.Unreduced.{Unreduced}
-use Rattle.top_down.specs.declared.tuple.Tuple.{Tuple}
 use Rattle.top_down_sweep.specs.declared.machine.Machine.{Machine}
 use Rattle.top_down_sweep.specs.declared.beginning.OperandFiles.{OperandFiles}
-use Rattle.top_down_sweep.specs.declared.place.Phase.{Phase}
-use Rattle.top_down_sweep.specs.declared.place.Phase.TheVariants.{Fresh, Asking, Ended}
 use Rattle.top_down_sweep.specs.declared.start.Files.{Files}
+use Rattle.top_down_sweep.specs.declared.steps.StepOperation.{StepOperation}
+use Rattle.top_down_sweep.specs.declared.sweep.TopDownSweep.{TopDownSweep}
 use Rattle.top_down_sweep.specs.Beginning.{files_from, after_two}
 use Rattle.top_down_sweep.specs.Damage.{IsMachineDamage}
-use Rattle.top_down_sweep.specs.Meaning.{Task, table_of, IsMadeOf, RemainsIn, RemainsOf}
-use Rattle.top_down_sweep.specs.Sweeps.{made_at, files_in, IsMade}
+use Rattle.top_down_sweep.specs.Operations.{rule_of, begins_of, step_of}
+use Rattle.top_down_sweep.specs.Sweeps.{files_in, IsMade}
 use Rattle.top_down_sweep.specs.Tasks.{AreArcFiles}
-use Rattle.top_down_sweep.specs.Turns.{Work}
 use Rattle.top_down_sweep.specs.Waiting.{AreApart}
-use Rattle.top_down_sweep.proofs.Makings.{diagram_made}
+use Rattle.top_down_sweep.proofs.Makings.{apart_from}
+use Rattle.table_work.specs.Jobs as jobs
+use Rattle.table_work.specs.Jobs.{table_job, MakesWithin, HasFewSources, GivesWithin}
+use Rattle.table_work.specs.Tables.{work_of, AreGivenTo}
 use Rattle.step_sweeps.specs.declared.arcs.MadeArcs.{MadeArcs}
-use Rattle.top_down_sweep.specs.declared.steps.StepOperation.{StepOperation}
-use Rattle.step_sweeps.specs.Given.{Tables, AreEarlier, made_by, tuples_by, nodes_by, arcs_turns}
+use Rattle.step_sweeps.specs.Given.{Tables, used_by, AreGiven, AreEarlier, made_by, tuples_by, arcs_turns}
 use Rattle.step_sweeps.specs.Made.{AreArcsOf, OnlyParts, inner_file, ends_file}
 use Rattle.step_sweeps.specs.Damage.{IsArcsFault}
-use Rattle.step_sweeps.specs.Work.{parts_of}
+use Rattle.step_sweeps.specs.Parts.{parts_of}
 use Rattle.step_sweeps.proofs.Faults.{AreStill, turn_fault}
 use Rattle.step_sweeps.proofs.Running.{not_of_step, taken_changes, runs_on, file_stays}
-use Rattle.table_work.proofs.Sources.{sources_are, sources_few}
-use Rattle.step_sweeps.proofs.Tasks.{earlier_apart}
 
--- what was made is the task's
-made_of : (t : Task) (begins : Tuple → Tuple) (p : Phase) (m : Machine) (world : World) (made : Unreduced)
-    → Some made ≡ made_at p → RemainsIn t begins p m world → IsMadeOf t world made
-made_of t begins Fresh m world made is remains = absurd (cc)
-made_of t begins (Asking s) m world made is remains = absurd (cc)
-made_of t begins (Ended x) m world made is remains =
-    let same : x ≡ made = cc in
-    subst (IsMadeOf t world) same remains.made_of
+-- files of earlier steps are apart from those that a step writes
+earlier_apart : (number : ℕ) (operands : OperandFiles) → AreEarlier number operands
+    → AreApart (files_from operands (parts_of number)) number
+earlier_apart number operands earlier = apart_from operands (parts_of number) (omega arith)
+    (not_of_step number 3 operands.first earlier.first) (not_of_step number 3 operands.second earlier.second)
+    (not_of_step number 3 operands.third earlier.third)
 
--- so it is a diagram of the table that the operation makes, of few sources
-pub arcs_of : (operation : StepOperation) (n : ℕ) (g : Tables) (w : Work) (begins : Tuple → Tuple) (m : Machine)
-    (world : World) (made : MadeArcs) → w.task.n ≡ n → table_of w.task ≡ made_by operation n g
-    → length w.tuples ≤ tuples_by operation n g → made.turns ≤ arcs_turns operation n g
-    → Some made.arcs ≡ made_at m.place.phase → RemainsOf w.task begins m world
+-- and none of them is of a part that the step may take
+pub earlier_given : (operation : StepOperation) (n number : ℕ) (operands : OperandFiles) (world : World) (g : Tables)
+    → AreGiven operation n operands world g → AreEarlier number operands
+    → AreGivenTo number operation n operands world g
+earlier_given operation n number operands world g given earlier = record {
+  files = given;
+  first_stays = not_of_step number 3 operands.first earlier.first;
+  second_stays = not_of_step number 3 operands.second earlier.second;
+  third_stays = not_of_step number 3 operands.third earlier.third;
+}
+
+-- what a sweep has made of the operation's table is a diagram of it, of few sources
+pub arcs_of : (operation : StepOperation) (n : ℕ) (g : Tables) (s : TopDownSweep StepOperation) (world : World)
+    (o : Option Unreduced) (made : MadeArcs) → o ≡ Some made.arcs → GivesWithin rule_of begins_of s o
+    → MakesWithin rule_of begins_of s world (work_of operation n g) → made.turns ≤ arcs_turns operation n g
     → AreArcsOf operation n g made world
-arcs_of operation n g w begins m world made variables table few turns is remains =
-    let of_task = made_of w.task begins m.place.phase m world made.arcs is remains in
-    let within : length of_task.whole.tuples ≤ length w.tuples =
-    sources_few w.task world made.arcs of_task w.tuples w.all_met in
+arcs_of operation n g s world o made is gives makes turns =
+    let few : HasFewSources (tuples_by operation n g) made.arcs =
+    subst (λ (x : Option Unreduced). IfSome x (HasFewSources (tuples_by operation n g))) is
+    (gives.few_sources world (work_of operation n g) makes) in
     record {
-      arcs = subst (λ v. v) (λ i. AreArcFiles (variables i) (table i) made.arcs world)
-          (diagram_made w.task world made.arcs of_task);
-      sources = length of_task.whole.tuples;
-      has_sources = sources_are w.task world made.arcs of_task;
-      few_sources = omega (arith, within, few);
+      arcs = subst (λ (x : Option Unreduced). IfSome x (λ arcs. AreArcFiles n (made_by operation n g) arcs world)) is
+          (gives.gives.of_table world (table_job (work_of operation n g)) makes.makes);
+      sources = few.sources;
+      has_sources = few.two_each;
+      few_sources = few.few;
       few = turns;
     }
 
 -- the turns of the first sweep
-pub few_turns : (operation : StepOperation) (n : ℕ) (g : Tables) (tuples nodes left turns : ℕ)
-    → left ≡ 6 * tuples + nodes + 5 → tuples ≤ tuples_by operation n g → nodes ≤ 3 * nodes_by operation n g
-    → turns ≤ left + 1 → turns ≤ arcs_turns operation n g
-few_turns operation n g tuples nodes left turns is few_tuples few_nodes few =
-    omega (arith, is, few_tuples, few_nodes, few)
+pub few_turns : (operation : StepOperation) (n : ℕ) (g : Tables) (left turns : ℕ)
+    → left ≤ jobs.arcs_turns n (step_of operation) (used_by operation g) → turns ≤ left + 1
+    → turns ≤ arcs_turns operation n g
+few_turns operation n g left turns is few = omega (arith, is, few)
 
 -- no part number is left only after many turns
-pub spent_turns : (operation : StepOperation) (n : ℕ) (g : Tables) (tuples nodes left first last before after : ℕ)
-    → left ≡ 6 * tuples + nodes + 5 → tuples ≤ tuples_by operation n g → nodes ≤ 3 * nodes_by operation n g
+pub spent_turns : (operation : StepOperation) (n : ℕ) (g : Tables) (left first last before after : ℕ)
+    → left ≤ jobs.arcs_turns n (step_of operation) (used_by operation g)
     → first ≡ 5 → before ≡ 0 → 256 * (last - first) + after ≤ before + 12 * (left + 1) → 2 ^ 32 ≤ last
     → 256 * (2 ^ 32 - 5) ≤ 12 * arcs_turns operation n g
-spent_turns operation n g tuples nodes left first last before after is few_tuples few_nodes from none few spent =
-    omega (arith, is, few_tuples, few_nodes, from, none, few, spent)
+spent_turns operation n g left first last before after is from none few spent =
+    omega (arith, is, from, none, few, spent)
 
 -- what a sweep makes is of its step
 made_in_step : (number : ℕ) (files : Files) (f : FileNo) → files.inner ≡ inner_file number

@@ -13,13 +13,13 @@ ghost use Rattle.step_sweeps.specs.Made.{HasArcFiles, OnlyParts, Spends, AreArcs
 ghost use Rattle.step_sweeps.specs.Damage.{IsArcsFault};
 
 use crate::StepOperation;
-use crate::laws::operations_on_given_files_are_work;
 use arc_file::Unreduced;
 use rec_words::Rec;
 use run_merge::Parts;
 use shelf_model::{Shelf, SortFault};
 use sweep_core::run_to_end;
-use top_down_sweep::{OperandFiles, TopDownSweep};
+use table_work::TableSweep;
+use top_down_sweep::OperandFiles;
 
 /// The part number of the first file of arcs: the parts before it are a step's node file, its checkpoints and their
 /// gate.
@@ -71,12 +71,11 @@ pub(crate) fn make_arcs<S: Shelf>(
         Spends S.tells S.world m.turns 8 5 m.parts.next shelf.old shelf.new)) }
     ensures faults { OnlySortShelf (S.faults shelf.old) (S.faults shelf.new) result }
 {
-    operations_on_given_files_are_work();
     let parts = Parts {
         step: number,
         next: FIRST_PART,
     };
-    let mut sweep = TopDownSweep::begin(operation, n, operands, parts, room, shelf)?;
+    let mut sweep = TableSweep::begin(operation, n, operands, parts, room, shelf)?;
     let turns = run_to_end(&mut sweep, shelf)?;
     let Some(arcs) = sweep.made() else {
         unreachable!();

@@ -9,7 +9,6 @@ mod diagram;
 mod implication;
 mod in_room;
 mod joining;
-mod laws;
 mod reduction;
 mod swept;
 

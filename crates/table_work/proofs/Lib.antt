@@ -1,4 +1,5 @@
 mod CanonicalWork
 pub mod Sources
+mod Starting
 pub mod Turns
 pub mod Workings

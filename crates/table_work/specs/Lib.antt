@@ -1,2 +1,4 @@
+pub mod Given
 pub mod Works
 pub mod Jobs
+pub mod Tables

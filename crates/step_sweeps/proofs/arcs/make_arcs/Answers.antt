@@ -2,24 +2,23 @@ use Rattle.std.proofs.Common.{◌≡◌, ◌∙◌, refl, ap, arith}
 use Rattle.std.specs.Prelude.{Some, length}
 use Rattle.run_tiers.specs.declared.parts.Parts.{Parts}
 use Rattle.run_tiers.proofs.FaultLaws.{on_fault, sort_shelf_on, sort_shelf_then}
-use Rattle.top_down_sweep.specs.Beginning.{files_from}
-use Rattle.top_down_sweep.specs.Sweeps.{SweepTask, accounts, made_in}
-use Rattle.top_down_sweep.specs.Turns.{nodes_of}
 use Rattle.top_down_sweep.specs.declared.steps.StepOperation.{StepOperation}
-use Rattle.step_sweeps.specs.Work.{parts_of}
-use Rattle.step_sweeps.proofs.Faults.{start_fault}
-use Rattle.step_sweeps.proofs.Making.{arcs_of, few_turns, spent_turns, sweep_changes, arcs_fault}
-use Rattle.step_sweeps.proofs.Running.{few_calls, faults_ok, spent_before}
+use Rattle.top_down_sweep.specs.Beginning.{files_from}
+use Rattle.top_down_sweep.specs.Making.{accounts_along}
+use Rattle.top_down_sweep.specs.Sweeps.{SweepTask, accounts, made_in}
 use Rattle.top_down_sweep.proofs.Orders.{ended_in_order}
+use Rattle.table_work.specs.Tables.{sweep_of, work_of}
+use Rattle.step_sweeps.specs.Parts.{parts_of}
+use Rattle.step_sweeps.proofs.Faults.{start_fault}
+use Rattle.step_sweeps.proofs.Making.{earlier_given, arcs_of, few_turns, spent_turns, sweep_changes, arcs_fault}
+use Rattle.step_sweeps.proofs.Running.{few_calls, faults_ok, spent_before}
 use Rattle.step_sweeps.proofs.arcs.make_arcs.Goals as goal
 
 -- a start finds no canonical file damaged
 pub returns-in_err-sweep-clause-undamaged : goal.returns-in_err-sweep-clause-undamaged
 returns-in_err-sweep-clause-undamaged g c = on_fault c.from_residual.result c.in_err-sweep.field-0.0 _
-    c.from_residual.ensures.1 (λ told tables given.
-    let w = c.operations_on_given_files_are_work.ensures c.args.operation c.args.n c.args.operands c.args.number _ tables
-    given c.requires.within c.requires.earlier in
-    c.in_err-sweep.ensures.undamaged told w.work.task w.on_files)
+    c.from_residual.ensures.1 (λ told tables given. c.in_err-sweep.ensures.undamaged told tables
+    (earlier_given c.args.operation c.args.n c.args.number c.args.operands _ tables given c.requires.earlier))
 
 pub returns-in_err-sweep-clause-damaged : goal.returns-in_err-sweep-clause-damaged
 returns-in_err-sweep-clause-damaged g c = on_fault c.from_residual.result c.in_err-sweep.field-0.0 _
@@ -32,58 +31,48 @@ returns-in_err-sweep-clause-damaged g c = on_fault c.from_residual.result c.in_e
 pub returns-in_err-turns-clause-undamaged : goal.returns-in_err-turns-clause-undamaged
 returns-in_err-turns-clause-undamaged g c = on_fault c.from_residual-in_err-turns.result
     c.in_err-turns.field-0.0 _ c.from_residual-in_err-turns.ensures.1 (λ told tables given.
-    let w = c.operations_on_given_files_are_work.ensures c.args.operation c.args.n c.args.operands c.args.number _ tables
-    given c.requires.within c.requires.earlier in
-    c.in_err-turns.ensures.undamaged told w.work
-    (c.in_ok-sweep.ensures.remains (c.run_to_end.ensures.leaves.content.before told) w.work.task w.on_files))
+    let soon = c.in_ok-sweep.ensures.remains (c.run_to_end.ensures.leaves.content.before told) tables
+    (earlier_given c.args.operation c.args.n c.args.number c.args.operands _ tables given c.requires.earlier) in
+    c.in_err-turns.ensures.undamaged told (work_of c.args.operation c.args.n tables) soon.makes)
 
 pub returns-in_err-turns-clause-spent : goal.returns-in_err-turns-clause-spent
 returns-in_err-turns-clause-spent g c spent told tables given =
-    let w = c.operations_on_given_files_are_work.ensures c.args.operation c.args.n c.args.operands c.args.number _ tables
-    given c.requires.within c.requires.earlier in
-    let begun = c.run_to_end.ensures.leaves.content.before told in
-    let few = (c.run_to_end.ensures.few told w.work
-    (c.in_ok-sweep.ensures.remains begun w.work.task w.on_files)).1 in
-    spent_turns c.args.operation c.args.n tables (length w.work.tuples) (nodes_of w.work.task.diagrams) _ _ _ _ _
-    (c.in_ok-sweep.ensures.left begun w.work w.on_files) w.few_tuples w.few_nodes
+    let soon = c.in_ok-sweep.ensures.remains (c.run_to_end.ensures.leaves.content.before told) tables
+    (earlier_given c.args.operation c.args.n c.args.number c.args.operands _ tables given c.requires.earlier) in
+    let few = (c.run_to_end.ensures.few told (work_of c.args.operation c.args.n tables) soon.makes).1 in
+    spent_turns c.args.operation c.args.n tables _ _ _ _ _ soon.few
     (ap (λ (p : Parts). p.next) c.in_ok-sweep.ensures.begun.parts_are) c.in_ok-sweep.ensures.begun.stock_is few.spent
     (c.in_err-turns.ensures.spent (spent_before c.from_residual-in_err-turns.result c.in_err-turns.field-0.0
     c.from_residual-in_err-turns.ensures.1 spent))
 
 pub returns-in_err-turns-clause-few_calls : goal.returns-in_err-turns-clause-few_calls
 returns-in_err-turns-clause-few_calls g c told tables given =
-    let w = c.operations_on_given_files_are_work.ensures c.args.operation c.args.n c.args.operands c.args.number _ tables
-    given c.requires.within c.requires.earlier in
-    let begun = c.run_to_end.ensures.leaves.content.before told in
-    let few = (c.run_to_end.ensures.few told w.work
-    (c.in_ok-sweep.ensures.remains begun w.work.task w.on_files)).1 in
-    few_calls g.S.Shelf.tells g.S.Shelf.world (accounts StepOperation) _ _ _ _ _ 8 _ _
+    let soon = c.in_ok-sweep.ensures.remains (c.run_to_end.ensures.leaves.content.before told) tables
+    (earlier_given c.args.operation c.args.n c.args.number c.args.operands _ tables given c.requires.earlier) in
+    let few = (c.run_to_end.ensures.few told (work_of c.args.operation c.args.n tables) soon.makes).1 in
+    few_calls g.S.Shelf.tells g.S.Shelf.world (accounts_along sweep_of (accounts StepOperation)) _ _ _ _ _ 8 _ _
     c.run_to_end.ensures.leaves.content.before c.in_ok-sweep.ensures.begun.calls few
-    (few_turns c.args.operation c.args.n tables (length w.work.tuples) (nodes_of w.work.task.diagrams) _ _
-    (c.in_ok-sweep.ensures.left begun w.work w.on_files) w.few_tuples w.few_nodes (omega arith)) told
+    (few_turns c.args.operation c.args.n tables _ _ soon.few (omega arith)) told
 
 pub returns-clause-few_calls : goal.returns-clause-few_calls
 returns-clause-few_calls g c told tables given =
-    let w = c.operations_on_given_files_are_work.ensures c.args.operation c.args.n c.args.operands c.args.number _ tables
-    given c.requires.within c.requires.earlier in
-    let begun = c.run_to_end.ensures.leaves.content.before told in
-    let few = (c.run_to_end.ensures.few told w.work
-    (c.in_ok-sweep.ensures.remains begun w.work.task w.on_files)).1 in
-    few_calls g.S.Shelf.tells g.S.Shelf.world (accounts StepOperation) _ _ _ _ _ 8 _ _
+    let soon = c.in_ok-sweep.ensures.remains (c.run_to_end.ensures.leaves.content.before told) tables
+    (earlier_given c.args.operation c.args.n c.args.number c.args.operands _ tables given c.requires.earlier) in
+    let few = (c.run_to_end.ensures.few told (work_of c.args.operation c.args.n tables) soon.makes).1 in
+    few_calls g.S.Shelf.tells g.S.Shelf.world (accounts_along sweep_of (accounts StepOperation)) _ _ _ _ _ 8 _ _
     c.run_to_end.ensures.leaves.content.before c.in_ok-sweep.ensures.begun.calls few
-    (few_turns c.args.operation c.args.n tables (length w.work.tuples) (nodes_of w.work.task.diagrams) _ _
-    (c.in_ok-sweep.ensures.left begun w.work w.on_files) w.few_tuples w.few_nodes (omega arith)) told
+    (few_turns c.args.operation c.args.n tables _ _ soon.few (omega arith)) told
 
 -- only parts of the step were changed
 pub returns-in_err-turns-clause-content : goal.returns-in_err-turns-clause-content
 returns-in_err-turns-clause-content g c = sweep_changes g.S.Shelf.tells g.S.Shelf.world c.args.number c.args.operands
-    c.in_ok-sweep.sweep.machine _ _ _ c.in_ok-sweep.ensures.begun.files_are c.in_ok-sweep.ensures.begun.parts_are
-    c.begin.ensures.leaves.content c.run_to_end.ensures.leaves.content
+    (sweep_of c.in_ok-sweep.sweep).machine _ _ _ c.in_ok-sweep.ensures.begun.files_are
+    c.in_ok-sweep.ensures.begun.parts_are c.begin.ensures.leaves.content c.run_to_end.ensures.leaves.content
 
 pub returns-clause-content : goal.returns-clause-content
 returns-clause-content g c = sweep_changes g.S.Shelf.tells g.S.Shelf.world c.args.number c.args.operands
-    c.in_ok-sweep.sweep.machine _ _ _ c.in_ok-sweep.ensures.begun.files_are c.in_ok-sweep.ensures.begun.parts_are
-    c.begin.ensures.leaves.content c.run_to_end.ensures.leaves.content
+    (sweep_of c.in_ok-sweep.sweep).machine _ _ _ c.in_ok-sweep.ensures.begun.files_are
+    c.in_ok-sweep.ensures.begun.parts_are c.begin.ensures.leaves.content c.run_to_end.ensures.leaves.content
 
 -- an operand is damaged as it was at first
 pub returns-in_err-turns-clause-damaged : goal.returns-in_err-turns-clause-damaged
@@ -91,8 +80,8 @@ returns-in_err-turns-clause-damaged g c = on_fault c.from_residual-in_err-turns.
     c.in_err-turns.field-0.0 _ c.from_residual-in_err-turns.ensures.1 (λ told.
     let same = c.run_to_end.ensures.same in
     let begun = c.in_ok-sweep.ensures.begun in
-    arcs_fault c.args.n c.args.number c.args.operands c.run_to_end.new.sweep.machine _ _ c.in_err-turns.field-0.0
-    (ap (λ (t : SweepTask). t.files) same ∙ begun.files_are)
+    arcs_fault c.args.n c.args.number c.args.operands (sweep_of c.run_to_end.new.sweep).machine _ _
+    c.in_err-turns.field-0.0 (ap (λ (t : SweepTask). t.files) same ∙ begun.files_are)
     (ap (λ (t : SweepTask). t.variables) same ∙ c.in_ok-sweep.ensures.variables)
     (c.run_to_end.ensures.leaves.step_is ∙ ap (λ (p : Parts). p.step) begun.parts_are) c.requires.earlier
     ((returns-in_err-turns-clause-content g c).did told) (c.in_err-turns.ensures.damage told))
@@ -109,18 +98,15 @@ returns-clause-faults g c = faults_ok _ _ _ c.begin.result c.run_to_end.result _
 -- whatever the operands' files hold, the arcs that were made are in order
 pub returns-clause-ordered : goal.returns-clause-ordered
 returns-clause-ordered g c told =
-    let is : made_in c.run_to_end.new.sweep ≡ Some c.in-Some.arcs = cc in
-    ended_in_order c.run_to_end.new.sweep _ c.in-Some.arcs (c.in_ok-turns.ensures.in_step told) is
+    let is : made_in (sweep_of c.run_to_end.new.sweep) ≡ Some c.in-Some.arcs = cc in
+    ended_in_order (sweep_of c.run_to_end.new.sweep) _ c.in-Some.arcs (c.in_ok-turns.ensures.in_step told) is
 
 -- the sweep ends with a diagram of the operation's table
 pub returns-clause-made : goal.returns-clause-made
 returns-clause-made g c told tables given =
-    let w = c.operations_on_given_files_are_work.ensures c.args.operation c.args.n c.args.operands c.args.number _ tables
-    given c.requires.within c.requires.earlier in
-    let begun = c.run_to_end.ensures.leaves.content.before told in
-    let remains = c.in_ok-sweep.ensures.remains begun w.work.task w.on_files in
-    let is : Some c.in-Some.arcs ≡ made_in c.run_to_end.new.sweep = cc in
-    arcs_of c.args.operation c.args.n tables w.work _ c.run_to_end.new.sweep.machine _ _ w.on_files.variables_are
-    w.table_is w.few_tuples (few_turns c.args.operation c.args.n tables (length w.work.tuples)
-    (nodes_of w.work.task.diagrams) _ _ (c.in_ok-sweep.ensures.left begun w.work w.on_files) w.few_tuples w.few_nodes
-    (c.in_ok-turns.ensures.few told w.work remains).0) is (c.in_ok-turns.ensures.keeps told w.work remains).1
+    let soon = c.in_ok-sweep.ensures.remains (c.run_to_end.ensures.leaves.content.before told) tables
+    (earlier_given c.args.operation c.args.n c.args.number c.args.operands _ tables given c.requires.earlier) in
+    let work = work_of c.args.operation c.args.n tables in
+    arcs_of c.args.operation c.args.n tables (sweep_of c.run_to_end.new.sweep) _ c.made.result _ (cc) c.made.ensures
+    (c.in_ok-turns.ensures.keeps told work soon.makes)
+    (few_turns c.args.operation c.args.n tables _ _ soon.few (c.in_ok-turns.ensures.few told work soon.makes).0)

@@ -7,7 +7,7 @@ use Rattle.top_down_sweep.specs.Beginning.{after_two, files_from}
 use Rattle.top_down_sweep.specs.Sweeps.{SweepTask}
 use Rattle.product_sweep.specs.Implications.{Implication, product_in, accounts}
 use Rattle.product_sweep.specs.Products.{operands}
-use Rattle.step_sweeps.specs.Work.{parts_of}
+use Rattle.step_sweeps.specs.Parts.{parts_of}
 use Rattle.step_sweeps.proofs.Faults.{start_fault}
 use Rattle.step_sweeps.proofs.Making.{sweep_changes, arcs_fault}
 use Rattle.step_sweeps.proofs.Running.{not_of_step, taken_changes, few_calls, faults_ok, spent_before}

@@ -3,9 +3,10 @@ use Rattle.std.specs.Prelude.{Ok}
 use Rattle.sweep_core.specs.declared.turn.Turn.{Turn}
 use Rattle.sweep_core.specs.declared.turn.Turn.TheVariants.{More, Ended}
 use Rattle.node_reading.proofs.NodeReading.{is_handed}
+use Rattle.table_work.specs.declared.sweep.TableSweep.{TableSweep}
+use Rattle.top_down_sweep.specs.declared.product.Product.{Product}
 use Rattle.product_sweep.specs.declared.leq.LeqPhase.{LeqPhase}
 use Rattle.product_sweep.specs.declared.leq.LeqPhase.TheVariants.{Making, Answered}
-use Rattle.product_sweep.specs.declared.sweep.ProductSweep.{ProductSweep}
 use Rattle.product_sweep.specs.Implications.{Turned}
 use Rattle.product_sweep.proofs.Turning.{ProductTurned, TellsOne, leq, going_on, all_made, make_refused, ended_early, early_refused}
 use Rattle.product_sweep.proofs.leq.LeqSweep.make.Goals as goal
@@ -13,7 +14,7 @@ use Rattle.product_sweep.proofs.leq.LeqSweep.make.Goals as goal
 -- an arc leads to 1, and the files can't be ended
 pub returns-in_err-end_early : goal.returns-in_err-end_early
 returns-in_err-end_early g c =
-    let q : ProductSweep = record { sweep = c.end_early.new.self } in
+    let q : TableSweep Product = record { sweep = c.end_early.new.self } in
     subst (λ (phase : LeqPhase). Turned g.S.Shelf.tells g.S.Shelf.world g.S.Shelf.faults c.args.shelf.now
     c.end_early.new.shelf (leq c.args.self.now.product phase) (leq q phase) c.from_residual.result)
     (sym c.requires.phase)
@@ -33,7 +34,7 @@ returns-in_err-end_early g c =
 -- they are ended
 pub returns-then-meets_one : goal.returns-then-meets_one
 returns-then-meets_one g c =
-    let q : ProductSweep = record { sweep = c.end_early.new.self } in
+    let q : TableSweep Product = record { sweep = c.end_early.new.self } in
     subst (λ (phase : LeqPhase). Turned g.S.Shelf.tells g.S.Shelf.world g.S.Shelf.faults c.args.shelf.now
     c.end_early.new.shelf (leq c.args.self.now.product phase) (leq q (Answered false)) (Ok Ended))
     (sym c.requires.phase)

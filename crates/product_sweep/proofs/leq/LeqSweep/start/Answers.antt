@@ -1,6 +1,8 @@
 use Rattle.std.proofs.Common.{arith}
 use Rattle.std.specs.Prelude.{[], ◌∷◌}
+use Rattle.run_tiers.proofs.FaultLaws.{on_fault}
 use Rattle.product_sweep.specs.Implications.{and_not}
+use Rattle.product_sweep.proofs.Given.{two_tables, given_two}
 use Rattle.product_sweep.proofs.Refuting.{work_same}
 use Rattle.product_sweep.proofs.leq.LeqSweep.start.Goals as goal
 
@@ -9,10 +11,20 @@ pub returns-clause-means : goal.returns-clause-means
 returns-clause-means g c told t u first second first_apart second_apart = record {
   left_form = first.form;
   right_form = second.form;
-  makes = c.in_ok-product.ensures.means told t u first second first_apart second_apart;
+  makes = (c.in_ok-product.ensures.remains told (two_tables t u)
+      (given_two c.args.parts.step c.args.n and_not c.args.f c.args.g _ t u first second first_apart
+      second_apart)).makes;
 }
 
 pub returns-clause-half : goal.returns-clause-half
 returns-clause-half g c told t u first second first_apart second_apart =
-    let few = c.in_ok-product.ensures.left told t u first second first_apart second_apart in
+    let few = (c.in_ok-product.ensures.remains told (two_tables t u)
+    (given_two c.args.parts.step c.args.n and_not c.args.f c.args.g _ t u first second first_apart second_apart)).few in
     omega (arith, few, work_same and_not c.args.n (t ∷ u ∷ []))
+
+-- no operand is damaged
+pub returns-in_err-product-clause-undamaged : goal.returns-in_err-product-clause-undamaged
+returns-in_err-product-clause-undamaged g c = on_fault c.from_residual.result c.in_err-product.field-0.0 _
+    c.from_residual.ensures.1 (λ told t u first second first_apart second_apart.
+    c.in_err-product.ensures.undamaged told (two_tables t u)
+    (given_two c.args.parts.step c.args.n and_not c.args.f c.args.g _ t u first second first_apart second_apart))
