@@ -1,13 +1,11 @@
 -- What is still to be made after a start.
-use Rattle.std.proofs.Common.{◌≡◌, ℕ, ◌+◌, ◌*◌, ◌≤◌, Bool, IsTrue, List, sym, subst}
+use Rattle.std.proofs.Common.{◌≡◌, ℕ, ◌+◌, ◌*◌, ◌≤◌, Bool, IsTrue, sym, subst}
 use Rattle.std.specs.Prelude.{Result, Ok, Err, IsErrAnd, length}
 use Rattle.shelf_model.specs.declared.sort_fault.SortFault.{SortFault}
 use Rattle.shelf_model.specs.Faults.{Faults}
 use Rattle.shelf_model.specs.World.{World}
 use Rattle.run_tiers.specs.declared.parts.Parts.{Parts}
 use Rattle.sweep_core.specs.Sweeps.{IsNoDamage}
-use Rattle.top_down.specs.declared.tuple.Tuple.{Tuple}
-use Rattle.top_down.specs.Rules.{Rule}
 use Rattle.top_down_sweep.specs.declared.beginning.OperandFiles.{OperandFiles}
 use Rattle.top_down_sweep.specs.declared.operation.Operation.{Ghosts}
 use Rattle.top_down_sweep.specs.declared.steps.StepOperation.{StepOperation}

@@ -11,14 +11,14 @@ pub returns-clause-means : goal.returns-clause-means
 returns-clause-means g c told t u first second first_apart second_apart = record {
   left_form = first.form;
   right_form = second.form;
-  makes = (c.in_ok-product.ensures.remains told (two_tables t u)
+  makes = (c.in_ok-product.ensures.starts.remains told (two_tables t u)
       (given_two c.args.parts.step c.args.n and_not c.args.f c.args.g _ t u first second first_apart
       second_apart)).makes;
 }
 
 pub returns-clause-half : goal.returns-clause-half
 returns-clause-half g c told t u first second first_apart second_apart =
-    let few = (c.in_ok-product.ensures.remains told (two_tables t u)
+    let few = (c.in_ok-product.ensures.starts.remains told (two_tables t u)
     (given_two c.args.parts.step c.args.n and_not c.args.f c.args.g _ t u first second first_apart second_apart)).few in
     omega (arith, few, work_same and_not c.args.n (t ∷ u ∷ []))
 
@@ -26,5 +26,5 @@ returns-clause-half g c told t u first second first_apart second_apart =
 pub returns-in_err-product-clause-undamaged : goal.returns-in_err-product-clause-undamaged
 returns-in_err-product-clause-undamaged g c = on_fault c.from_residual.result c.in_err-product.field-0.0 _
     c.from_residual.ensures.1 (λ told t u first second first_apart second_apart.
-    c.in_err-product.ensures.undamaged told (two_tables t u)
+    c.in_err-product.ensures.starts.undamaged told (two_tables t u)
     (given_two c.args.parts.step c.args.n and_not c.args.f c.args.g _ t u first second first_apart second_apart))
