@@ -1,5 +1,5 @@
 //! The copy of a file, piece by piece.
-ghost use Rattle.std.specs.Prelude.{◌≡◌, ◌≢◌, ◌+◌, ◌*◌, ◌^◌, ◌<◌, ◌≤◌, [], IsTrue, OnOk, take};
+ghost use Rattle.std.specs.Prelude.{◌≡◌, ◌≢◌, ℕ, ◌+◌, ◌*◌, ◌^◌, ◌<◌, ◌≤◌, [], Bool, List, IsTrue, OnOk, take};
 ghost use Rattle.shelf_model.specs.File.{firm_file};
 ghost use Rattle.shelf_model.specs.World.{file};
 ghost use Rattle.shelf_model.specs.Calls.{Told, longest, most_piece};
@@ -7,7 +7,9 @@ ghost use Rattle.shelf_model.specs.Faults.{OnlyFolder};
 ghost use Rattle.block_stream.specs.Writes.{Wrote};
 ghost use Rattle.rec_words.specs.Words.{node_size};
 ghost use Rattle.complemented_diagrams.specs.Changes.{Changed};
+ghost use Rattle.copied_diagrams.specs.Pairs.{IsSourceOf, IsMade};
 
+use crate::Source;
 use rec_words::NODE_SIZE;
 use shelf_model::{Failed, FileNo, PIECE, Shelf};
 
@@ -18,6 +20,21 @@ pub fn node_pieces(count: u64) -> u64
     ensures no_more { result * most_piece < (count + 1) * node_size + most_piece }
 {
     ((count + 1) * NODE_SIZE).div_ceil(PIECE as u64)
+}
+
+/// Makes the node file of a diagram a copy of another one, which has that trailer.
+pub fn copy_diagram<S: Shelf>(source: Source, to: FileNo, shelf: &mut S) -> Result<(), Failed>
+    requires apart { source.from ≢ to }
+    requires few { source.trailer.count < 65536 }
+    ensures made { OnOk result (IsTrue (S.tells shelf.new) → (n : ℕ) → (table : List Bool) → (most : ℕ) →
+        IsSourceOf n table most source (S.world shelf.old) →
+        IsMade n table to source.trailer.count (S.world shelf.new)) }
+    ensures content { Told S.tells shelf.old shelf.new
+        (Changed (2 * source.trailer.count + 4) to (S.world shelf.old) (S.world shelf.new)) }
+    ensures faults { OnlyFolder (S.faults shelf.old) (S.faults shelf.new) result }
+{
+    let pieces = node_pieces(source.trailer.count);
+    copy_file(source.from, to, pieces, shelf)
 }
 
 /// Makes a file that of the first pieces of another one, 2,048 bytes each: of all of it where it has no more.

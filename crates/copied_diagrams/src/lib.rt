@@ -1,13 +1,17 @@
-//! The diagram of an operator whose table is a constant, that of one operand or its complement: it needs no sweep.
+//! The diagram of an operator whose table is a constant, that of one operand or its complement: in which way it is
+//! made, and the making of a constant and of a copy.
 #![tactic(auto)]
 
+mod constant;
 mod copy;
 mod operand;
 mod pair;
 mod source;
 mod trailers;
+mod way;
 
-pub use copy::{copy_file, copy_piece, node_pieces};
-pub use operand::{Choice, Operand};
-pub use pair::{Look, Making, make_without_sweeps};
-pub use source::{Source, copied_operand};
+pub use constant::make_constant;
+pub use copy::{copy_diagram, copy_file, copy_piece, node_pieces};
+pub use pair::{Pair, read_pair};
+pub use source::Source;
+pub use way::{Way, way_of};

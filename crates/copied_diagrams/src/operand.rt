@@ -9,7 +9,7 @@ use rec_words::Ptr;
 
 /// One of the two operands of an operator.
 #[derive(Clone, Copy, Debug, PartialEq, Eq)]
-pub enum Operand {
+pub(crate) enum Operand {
     Left,
     Right,
 }
@@ -24,7 +24,7 @@ pub(crate) struct Known {
 
 /// What an operator's result may be that needs no sweep.
 #[derive(Clone, Copy, Debug, PartialEq, Eq)]
-pub enum Choice {
+pub(crate) enum Choice {
     Constant(bool),
     Copy(Operand),
     Complement(Operand),

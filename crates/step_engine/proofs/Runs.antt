@@ -25,9 +25,11 @@ use Rattle.sound_image.specs.Entries.{IsEntryOfStep, kind_of, answer_of, bit_of,
 use Rattle.sound_image.specs.Holds.{Holds}
 use Rattle.step_sweeps.specs.declared.answers.Answered.{Answered}
 use Rattle.step_sweeps.specs.declared.diagram.MadeDiagram.{MadeDiagram}
+use Rattle.step_sweeps.specs.declared.task.Making.{Making}
 use Rattle.step_sweeps.specs.Damage.{IsArcsFault}
 use Rattle.step_sweeps.specs.Given.{Tables, AreGiven, AreEarlier, work_by}
-use Rattle.step_sweeps.specs.Made.{OnlyParts, OnlyStepFiles, IsDiagramOf, IsCounted}
+use Rattle.step_sweeps.specs.Made.{OnlyParts, OnlyStepFiles, IsCounted}
+use Rattle.step_sweeps.specs.Makes.{IsDiagramOf}
 use Rattle.step_sweeps.specs.Operations.{IsWithin}
 use Rattle.step_engine.specs.declared.entries.Spent.{Spent}
 use Rattle.step_engine.specs.declared.sweeping.Sweeping.{Sweeping}
@@ -216,6 +218,11 @@ swept_calls step turns now_clock clock swept few =
 never_one : {A : Type 0} (step : Step) → sweeps step ≡ true → sweeps step ≡ false → A
 never_one step swept not = absurd cc
 
+-- what it is given
+abbrev pub making_of : ℕ → Sweeping → ℕ → Making
+making_of n sweeping number =
+    record { operation = sweeping.operation; n = n; operands = sweeping.operands; number = number }
+
 module _ {S : Type 0} (tells : S → Bool) (world : S → World) (counts : S → Faults) (n : ℕ) (text : List ℕ) (number : ℕ) (p : Planned)
     (sweeping : Sweeping) (some : sweeping_of p.step ≡ Some sweeping) (may : MayRun n text number p) (before after : S)
     (content : Told tells before after (Ran (OnlyStepFiles number (now (world before))) (world before) (world after)))
@@ -263,7 +270,7 @@ module _ {S : Type 0} (tells : S → Bool) (world : S → World) (counts : S →
   pub operation_made : (m : MadeDiagram) (e : Entry) → e ≡ diagram_entry text p number m.nodes (spent_by m)
       → m.nodes < 2 ^ 64 → m.turns < 2 ^ 64 → IsCounted m.turns m.next
       → (IsTrue (tells after) → (g : Tables) → AreGiven sweeping.operation n sweeping.operands (world before) g
-      → IsDiagramOf sweeping.operation n number g m (world after))
+      → IsDiagramOf (making_of n sweeping number) g 0 0 m (world after))
       → (IsTrue (tells after) → m.turns < 2 ^ 64 - 1 → (world after).clock ≤ (world before).clock + (224 * m.turns + 11))
       → OnlySortShelf {T = MadeDiagram} (counts before) (counts after) (Ok m)
       → RunsStep tells world counts n text number p before after (Ok e)
@@ -274,14 +281,15 @@ module _ {S : Type 0} (tells : S → Bool) (world : S → World) (counts : S →
         let holds = ready.holds is_one.reads_is in
         let given = step_given job n number text p sweeping (world before) some ready.step holds in
         let diagram = made told given.tables given.are in
+        let few : m.turns ≤ work_by sweeping.operation n given.tables = let few = diagram.few in omega (arith, few) in
         subst (IsEntryOfStep job number) (sym e_is)
         (diagram_entry_is job number m.nodes (spent_by m) text p may.few_steps may.named ready.step.text_is ready.step.step_is is_one.kind_is is_one.makes
-        (is_one.no_answer job) (is_one.counts job ∙ sym (diagram.reduced.nodes_are ∙ given.nodes_are)) small took
-        (subst (λ w. m.turns ≤ w) given.work_is diagram.few));
+        (is_one.no_answer job) (is_one.counts job ∙ sym (diagram.made.nodes_are ∙ given.nodes_are)) small took
+        (subst (λ w. m.turns ≤ w) given.work_is few));
     made = λ told job ready _.
         let given = step_given job n number text p sweeping (world before) some ready.step (ready.holds is_one.reads_is) in
         let diagram = made told given.tables given.are in
-        (diagram.reduced.file_is ∙ ap firm_file given.bytes_are, given.form diagram.reduced.form);
+        (diagram.made.file_is ∙ ap firm_file given.bytes_are, given.form diagram.made.form);
     sound = tt;
     damaged = tt;
     kind = tt;

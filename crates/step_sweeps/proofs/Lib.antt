@@ -6,8 +6,8 @@ mod Running
 mod Faults
 mod Reducing
 mod Making
-mod Numbers
-mod Copying
-mod RoomOrSweeps
-mod FewArcs
+mod Ways
+mod Joins
 mod Copies
+mod SweptArcs
+mod Reductions

@@ -16,6 +16,7 @@ use Rattle.sweep_core.specs.Sweeps.{IsNoDamage}
 use Rattle.sweep_core.proofs.Leaving.{taken_before}
 use Rattle.canon_file.specs.Canon.{canon_nodes, canon_bytes}
 use Rattle.canon_file.specs.Laws.{HasForm}
+use Rattle.copied_diagrams.specs.Pairs.{IsMade}
 use Rattle.arc_file.specs.declared.arc.Arc.{Arc}
 use Rattle.arc_file.specs.declared.unreduced.Unreduced.{Unreduced}
 use Rattle.arc_file.specs.declared.kind.Kind.TheVariants.{Inner, End}
@@ -30,8 +31,7 @@ use Rattle.reduce_sweep.specs.Remaining as sweep
 use Rattle.reduce_sweep.specs.Sweeps.{out_of, count_in, fuel_at, turns_left, arcs_weight, lists_weight}
 use Rattle.reduce_lists.specs.Damage.{IsDamageAmong}
 use Rattle.reduce_lists.proofs.Undamaged.{none_among}
-use Rattle.step_sweeps.specs.declared.diagram.MadeDiagram.{MadeDiagram}
-use Rattle.step_sweeps.specs.Made.{node_file, HasArcFiles, OnlyStepFiles, IsReduced}
+use Rattle.step_sweeps.specs.Made.{node_file, HasArcFiles, OnlyStepFiles}
 use Rattle.step_sweeps.proofs.Running.{cut_changes, runs_on}
 
 -- the arcs of a table's diagram, as they are to be reduced
@@ -67,20 +67,28 @@ the_count x o y one two = cc
 
 -- then the node file is the canonical one
 pub reduced_at_end : (n number : ℕ) (table : List Bool) (s : ReduceSweep) (world : World) (arcs : List Arc)
-    (m : MadeDiagram) → turns_left s ≡ 0 → out_of s ≡ node_file number → s.place.variables ≡ n
-    → Some m.nodes ≡ count_in s → HasForm n table
-    → sweep.RemainsOf s world (record { arcs = arcs; table = table }) → IsReduced n number table m world
-reduced_at_end n number table s world arcs m none out variables counted form remains =
+    (nodes : ℕ) → turns_left s ≡ 0 → out_of s ≡ node_file number → s.place.variables ≡ n
+    → Some nodes ≡ count_in s → HasForm n table
+    → sweep.RemainsOf s world (record { arcs = arcs; table = table }) → IsMade n table (node_file number) nodes world
+reduced_at_end n number table s world arcs nodes none out variables counted form remains =
     let is = ended_in s.place.phase (arcs_weight s.ahead + lists_weight s.lists) s world
     (record { arcs = arcs; table = table }) none remains in
     record {
       form = form;
       file_is = subst (λ v. v) (λ i. file world (out i) ≡ firm_file (canon_bytes (variables i) table)) is.firm;
-      nodes_are = the_count m.nodes (count_in s) _ counted (is.count_is
+      nodes_are = the_count nodes (count_in s) _ counted (is.count_is
           ∙ ap (λ (k : ℕ). Some (length (canon_nodes k table))) variables);
     }
 
--- the node file was cut, and then it was made with parts of the step
+-- the node file was cut
+pub reduction_begins : {S : Type 0} (tells : S → Bool) (world : S → World) (number : ℕ) (old mid : S)
+    → Told tells old mid (Ran (DuringCut (node_file number) 0 (now (world old))) (world old) (world mid))
+    → Told tells old mid (Ran (OnlyStepFiles number (now (world old))) (world old) (world mid))
+reduction_begins tells world number old mid cut =
+    cut_changes tells world (λ q. (q ≡ node_file number) ⊎ CanBeTaken number 3 q) (node_file number) 0 old mid
+    (inl refl) cut
+
+-- and then it was made with parts of the step
 pub reduction_changes : {S : Type 0} (tells : S → Bool) (world : S → World) (number : ℕ) (s : ReduceSweep)
     (parts : Parts) (old mid new : S) → out_of s ≡ node_file number → s.parts ≡ parts → parts.step ≡ number
     → 5 ≤ parts.next
@@ -94,8 +102,7 @@ reduction_changes tells world number s parts old mid new out same step past cut 
     runs_on tells world (λ q. (q ≡ node_file number) ⊎ CanBeTaken number 3 q) (λ f. f ≡ out_of s) s.parts.step
     s.parts.next old mid new (λ f is. inl (is ∙ out))
     (λ f free. inr (taken_before number 3 s.parts.step s.parts.next f of_step behind free))
-    (cut_changes tells world (λ q. (q ≡ node_file number) ⊎ CanBeTaken number 3 q) (node_file number) 0 old mid
-    (inl refl) cut) ran
+    (reduction_begins tells world number old mid cut) ran
 
 -- a file of an earlier part of the step is as it was
 part_stays : (number : ℕ) (s : ReduceSweep) (parts : Parts) (old mid new : World) (f : FileNo) → f ≢ node_file number

@@ -1,18 +1,12 @@
 -- The diagrams that an operation is given: canonical files of tables.
 use Rattle.std.specs.Prelude.{ℕ, ◌+◌, ◌*◌, ◌<◌, Bool, List}
 use Rattle.bool_tables.specs.Steps.{step_table}
-use Rattle.copied_diagrams.specs.declared.source.Source.{Source}
-use Rattle.copied_diagrams.specs.Pairs.{IsTrailerOf}
 use Rattle.step_work.specs.Tuples.{tuple_count}
 use Rattle.step_work.specs.Works.{nodes_of, work_for}
 use Rattle.top_down_sweep.specs.declared.beginning.OperandFiles.{OperandFiles}
 use Rattle.top_down_sweep.specs.declared.steps.StepOperation.{StepOperation}
 use Rattle.top_down_sweep.specs.Operations.{step_of}
 pub use Rattle.table_work.specs.Given.{Tables, used_by, AreRepeated, AreGiven}
-
--- the trailers are those of the first two tables' diagrams
-abbrev pub AreTrailersOf : ℕ → Tables → Source → Source → Type 0
-AreTrailersOf n g left right = IsTrailerOf n g.first left.trailer × IsTrailerOf n g.second right.trailer
 
 -- the table that the operation makes of them
 abbrev pub made_by : StepOperation → ℕ → Tables → List Bool

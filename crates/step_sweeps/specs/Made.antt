@@ -1,19 +1,15 @@
 -- What a step that sweeps makes, leaves and costs.
-use Rattle.std.specs.Prelude.{◌≡◌, ◌⊎◌, ℕ, ◌+◌, ◌-◌, ◌*◌, ◌/◌, ◌^◌, ◌<◌, ◌≤◌, Bool, IsTrue, List, length}
+use Rattle.std.specs.Prelude.{◌≡◌, ◌⊎◌, ℕ, ◌+◌, ◌-◌, ◌*◌, ◌/◌, ◌^◌, ◌<◌, ◌≤◌, Bool, IsTrue}
 use Rattle.shelf_model.specs.declared.file_no.FileNo.{FileNo}
-use Rattle.shelf_model.specs.File.{firm_file}
 use Rattle.shelf_model.specs.Moments.{OnlyChanged}
-use Rattle.shelf_model.specs.World.{Moment, World, file}
-use Rattle.canon_file.specs.Canon.{canon_nodes, canon_bytes}
-use Rattle.canon_file.specs.Laws.{HasForm}
+use Rattle.shelf_model.specs.World.{Moment, World}
 use Rattle.arc_file.specs.declared.unreduced.Unreduced.{Unreduced}
 use Rattle.sweep_core.specs.Accounts.{CanBeTaken}
 use Rattle.top_down_sweep.specs.Tasks.{AreArcFiles}
 use Rattle.step_sweeps.specs.declared.arcs.MadeArcs.{MadeArcs}
-use Rattle.step_sweeps.specs.declared.diagram.MadeDiagram.{MadeDiagram}
 use Rattle.top_down_sweep.specs.declared.steps.StepOperation.{StepOperation}
 use Rattle.step_sweeps.specs.declared.answers.Answered.{Answered}
-use Rattle.step_sweeps.specs.Given.{Tables, made_by, tuples_by, arcs_turns, work_by}
+use Rattle.step_sweeps.specs.Given.{Tables, made_by, tuples_by, arcs_turns}
 
 -- the node file of a step, and its two files of arcs
 abbrev pub node_file : ℕ → FileNo
@@ -62,19 +58,6 @@ pub record AreArcsOf (operation : StepOperation) (n : ℕ) (g : Tables) (m : Mad
   pub has_sources : HasSources m.arcs sources
   pub few_sources : sources ≤ tuples_by operation n g
   pub few : m.turns ≤ arcs_turns operation n g
-
--- the canonical form of the table is defined, the node file is the canonical one of the table, whatever a stop leaves,
--- and its nodes are counted
-pub record IsReduced (n number : ℕ) (table : List Bool) (m : MadeDiagram) (world : World) : Type 0 where
-  pub form : HasForm n table
-  pub file_is : file world (node_file number) ≡ firm_file (canon_bytes n table)
-  pub nodes_are : m.nodes ≡ length (canon_nodes n table)
-
--- so it is of the table that the operation makes, and the turns are within the work
-pub record IsDiagramOf (operation : StepOperation) (n number : ℕ) (g : Tables) (m : MadeDiagram) (world : World)
-    : Type 0 where
-  pub reduced : IsReduced n number (made_by operation n g) m world
-  pub few : m.turns ≤ work_by operation n g
 
 -- at least one turn was made, and parts were taken from the third on, few for so many turns
 pub record IsCounted (turns next : ℕ) : Type 0 where

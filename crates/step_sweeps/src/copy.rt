@@ -1,48 +1,32 @@
 //! An operator's diagram that is that of one operand, copied in turns.
-ghost use Rattle.std.specs.Prelude.{◌≡◌, ℕ, ◌+◌, ◌*◌, ◌-◌, ◌^◌, ◌<◌, ◌≤◌, Bool, List, IsTrue, IfOk, IfErr};
-ghost use Rattle.shelf_model.specs.World.{now};
-ghost use Rattle.shelf_model.specs.Calls.{Told};
-ghost use Rattle.shelf_model.specs.Moments.{Ran};
-ghost use Rattle.run_tiers.specs.Faults.{OnlySortShelf};
-ghost use Rattle.copied_diagrams.specs.Pairs.{IsSourceOf};
-ghost use Rattle.step_sweeps.specs.Made.{OnlyStepFiles, IsReduced};
+ghost use Rattle.std.specs.Prelude.{◌≡◌, ◌+◌, ◌^◌, ◌<◌};
+ghost use Rattle.copied_diagrams.specs.declared.way.Way.TheVariants as ways;
+ghost use Rattle.step_sweeps.specs.Makes.{Makes};
+ghost use Rattle.step_sweeps.specs.Pairs.{Leads};
 
 use crate::MadeDiagram;
 use crate::arcs::FIRST_PART;
+use crate::task::Making;
 use copied_diagrams::{Source, node_pieces};
 use copy_sweep::{CopySweep, CopyTask};
 use shelf_model::{FileNo, Shelf, SortFault};
 use sweep_core::run_to_end;
 
 /// Makes the step's node file a copy of an operand's, of which each turn copies a piece, and one syncs them.
-pub(crate) fn copy_diagram<S: Shelf>(
+pub(crate) fn copy_in_turns<S: Shelf>(
     source: Source,
-    number: u32,
+    making: Making,
     shelf: &mut S,
 ) -> Result<MadeDiagram, SortFault>
-    requires earlier { source.from.step < number }
+    requires earlier { source.from.step < making.number }
     requires few { source.trailer.count < 2 ^ 40 }
-    ensures counted { IfOk result (λ m. (0 < m.turns) × (m.next ≡ 3)) }
-
-    // of the canonical file of a table
-    ensures made { IfOk result (λ m. IsTrue (S.tells shelf.new) → (n : ℕ) → (table : List Bool) → (most : ℕ) →
-        IsSourceOf n table most source (S.world shelf.old) → IsReduced n number table m (S.world shelf.new)) }
-
-    // whatever the file holds
-    ensures few { IfOk result (λ m. IsTrue (S.tells shelf.new) → m.turns ≤ source.trailer.count + 2) }
-    ensures few_calls { IsTrue (S.tells shelf.new) →
-        (S.world shelf.new).clock ≤ (S.world shelf.old).clock + (224 * (source.trailer.count + 2) + 1) }
-    ensures calls { IfOk result (λ m. IsTrue (S.tells shelf.new) → m.turns < 2 ^ 64 - 1 →
-        (S.world shelf.new).clock ≤ (S.world shelf.old).clock + (224 * m.turns + 1)) }
-    ensures cause { IfErr result (λ e. IsTrue (S.tells shelf.new) → e ≡ SortFault.Shelf) }
-    ensures content { Told S.tells shelf.old shelf.new
-        (Ran (OnlyStepFiles number (now (S.world shelf.old))) (S.world shelf.old) (S.world shelf.new)) }
-    ensures faults { OnlySortShelf (S.faults shelf.old) (S.faults shelf.new) result }
+    requires leads { Leads S.tells S.world making (ways.CopyInTurns source) shelf.old }
+    ensures makes { Makes S.tells S.world S.faults making 0 (λ g. 0) 7 shelf.old shelf.new result }
 {
     let task = CopyTask {
         from: source.from,
         to: FileNo {
-            step: number,
+            step: making.number,
             part: 0,
         },
         pieces: node_pieces(source.trailer.count),

@@ -11,6 +11,8 @@ mod in_room;
 mod joining;
 mod reduction;
 mod swept;
+mod task;
+mod unswept;
 
 pub use answers::{Answered, compare, evaluate};
 pub use diagram::{MadeDiagram, make_diagram};

@@ -1,17 +1,11 @@
 //! The second half of a step that makes a diagram: from its arcs to its node file.
-ghost use Rattle.std.specs.Prelude.{◌≡◌, ℕ, ◌+◌, ◌-◌, ◌*◌, ◌^◌, ◌<◌, ◌≤◌, Bool, IsTrue, IsErrOf, List, IfOk, IfErr, length};
-ghost use Rattle.shelf_model.specs.World.{now};
-ghost use Rattle.shelf_model.specs.Calls.{Told};
-ghost use Rattle.shelf_model.specs.Moments.{Ran};
-ghost use Rattle.run_tiers.specs.Faults.{OnlySortShelf};
-ghost use Rattle.sweep_core.specs.Sweeps.{IsNoDamage};
-ghost use Rattle.top_down_sweep.specs.Ordered.{AreOrdered};
-ghost use Rattle.top_down_sweep.specs.Tasks.{AreArcFiles};
-ghost use Rattle.step_sweeps.specs.Made.{HasArcFiles, HasSources, OnlyStepFiles, Spends, IsReduced};
+ghost use Rattle.std.specs.Prelude.{◌≡◌, ◌≤◌, length};
+ghost use Rattle.step_sweeps.specs.Made.{HasArcFiles};
+ghost use Rattle.step_sweeps.specs.Makes.{Reduces};
 
 use crate::MadeDiagram;
 use crate::arcs::MadeArcs;
-use crate::in_room::{after_an_attempt, reduce_few};
+use crate::in_room::reduce_few;
 use arc_diagrams::laws::reducing_gives_the_canonical_form;
 use rec_words::Rec;
 use reduce_sweep::ReduceSweep;
@@ -25,9 +19,8 @@ pub(crate) const PARTS: u64 = 1 << 32;
 /// turn of a sweep, so that these turns are fewer than a checkpoint's interval has.
 const FEW_ARCS: u64 = (1 << 18) - 8;
 
-/// Reduces the arcs of a diagram of `n` variables to the step's node file: in the room where they are few and it holds
-/// what that takes, and else by a sweep. The turns that are answered are those of the reduction alone, with those of
-/// an attempt in the room.
+/// Reduces the arcs of a diagram of `n` variables to the step's node file, behind the turns that made them: in the room
+/// where they are few and it holds what that takes, and else by a sweep, for which an attempt in the room counts first.
 pub(crate) fn reduce_arcs<S: Shelf>(
     n: u32,
     made: MadeArcs,
@@ -39,42 +32,23 @@ pub(crate) fn reduce_arcs<S: Shelf>(
     requires room { 16384 ≤ length room.old }
     requires files { HasArcFiles number made.arcs }
     requires parts { (made.parts.step ≡ number) × (5 ≤ made.parts.next) }
-    ensures next { IfOk result (λ m. (5 ≤ m.next) × (m.next ≤ 2 ^ 32)) }
-
-    // of the arcs of a table's diagram
-    ensures reduced { IfOk result (λ m. IsTrue (S.tells shelf.new) → (table : List Bool) →
-        AreArcFiles n table made.arcs (S.world shelf.old) → IsReduced n number table m (S.world shelf.new)) }
-    ensures few { IfOk result (λ m. IsTrue (S.tells shelf.new) → (table : List Bool) (sources : ℕ) →
-        AreArcFiles n table made.arcs (S.world shelf.old) → HasSources made.arcs sources →
-        m.turns ≤ 10 * sources + 9) }
-    ensures spent { IsErrOf result SortFault.RunsSpent → IsTrue (S.tells shelf.new) → (table : List Bool)
-        (sources : ℕ) → AreArcFiles n table made.arcs (S.world shelf.old) → HasSources made.arcs sources →
-        256 * (2 ^ 32 - made.parts.next) ≤ 12 * (10 * sources + 9) }
-    ensures few_calls { IsTrue (S.tells shelf.new) → (table : List Bool) (sources : ℕ) →
-        AreArcFiles n table made.arcs (S.world shelf.old) → HasSources made.arcs sources →
-        (S.world shelf.new).clock ≤ (S.world shelf.old).clock + (224 * (10 * sources + 9) + 3) }
-
-    // of arcs in the order of their files
-    ensures undamaged { IfErr result (λ e. IsTrue (S.tells shelf.new) →
-        AreOrdered made.arcs (S.world shelf.old) → IsNoDamage e) }
-
-    // whatever the files hold
-    ensures content { Told S.tells shelf.old shelf.new
-        (Ran (OnlyStepFiles number (now (S.world shelf.old))) (S.world shelf.old) (S.world shelf.new)) }
-    ensures counted { IfOk result (λ m. (0 < m.turns) × (m.turns < 2 ^ 64 - 1 →
-        Spends S.tells S.world m.turns 3 made.parts.next m.next shelf.old shelf.new)) }
-    ensures faults { OnlySortShelf (S.faults shelf.old) (S.faults shelf.new) result }
+    ensures reduces { Reduces S.tells S.world S.faults n number made 10 shelf.old shelf.new result }
 {
     let arcs = made.arcs.inner_count + made.arcs.ends_count;
     if arcs == 0 || arcs > FEW_ARCS {
         return sweep_arcs(n, made, number, room, shelf);
     }
-    let tried = reduce_few(n, &made, number, room, shelf)?;
+    let tried = reduce_few(n, &made.arcs, number, room, shelf)?;
     if let Some(reduced) = tried {
-        return Ok(reduced);
+        return Ok(MadeDiagram {
+            nodes: reduced.nodes,
+            turns: made.turns.saturating_add(reduced.turns),
+            next: made.parts.next.min(PARTS),
+        });
     }
-    let swept = sweep_arcs(n, made, number, room, shelf)?;
-    Ok(after_an_attempt(swept, arcs))
+    // The attempt's calls are paid by a turn for each 64 arcs, and one.
+    let turns = made.turns.saturating_add(1 + arcs / 64);
+    sweep_arcs(n, MadeArcs { turns, ..made }, number, room, shelf)
 }
 
 /// Reduces them by a sweep.
@@ -89,31 +63,7 @@ fn sweep_arcs<S: Shelf>(
     requires room { 16384 ≤ length room.old }
     requires files { HasArcFiles number made.arcs }
     requires parts { (made.parts.step ≡ number) × (5 ≤ made.parts.next) }
-    ensures next { IfOk result (λ m. (5 ≤ m.next) × (m.next ≤ 2 ^ 32)) }
-
-    // of the arcs of a table's diagram
-    ensures reduced { IfOk result (λ m. IsTrue (S.tells shelf.new) → (table : List Bool) →
-        AreArcFiles n table made.arcs (S.world shelf.old) → IsReduced n number table m (S.world shelf.new)) }
-    ensures few { IfOk result (λ m. IsTrue (S.tells shelf.new) → (table : List Bool) (sources : ℕ) →
-        AreArcFiles n table made.arcs (S.world shelf.old) → HasSources made.arcs sources →
-        m.turns ≤ 8 * sources + 9) }
-    ensures spent { IsErrOf result SortFault.RunsSpent → IsTrue (S.tells shelf.new) → (table : List Bool)
-        (sources : ℕ) → AreArcFiles n table made.arcs (S.world shelf.old) → HasSources made.arcs sources →
-        256 * (2 ^ 32 - made.parts.next) ≤ 12 * (8 * sources + 9) }
-    ensures few_calls { IsTrue (S.tells shelf.new) → (table : List Bool) (sources : ℕ) →
-        AreArcFiles n table made.arcs (S.world shelf.old) → HasSources made.arcs sources →
-        (S.world shelf.new).clock ≤ (S.world shelf.old).clock + (224 * (8 * sources + 9) + 3) }
-
-    // of arcs in the order of their files
-    ensures undamaged { IfErr result (λ e. IsTrue (S.tells shelf.new) →
-        AreOrdered made.arcs (S.world shelf.old) → IsNoDamage e) }
-
-    // whatever the files hold
-    ensures content { Told S.tells shelf.old shelf.new
-        (Ran (OnlyStepFiles number (now (S.world shelf.old))) (S.world shelf.old) (S.world shelf.new)) }
-    ensures counted { IfOk result (λ m. (0 < m.turns) × (m.turns < 2 ^ 64 - 1 →
-        Spends S.tells S.world m.turns 3 made.parts.next m.next shelf.old shelf.new)) }
-    ensures faults { OnlySortShelf (S.faults shelf.old) (S.faults shelf.new) result }
+    ensures reduces { Reduces S.tells S.world S.faults n number made 8 shelf.old shelf.new result }
 {
     // A diagram of so few arcs has a canonical form.
     reducing_gives_the_canonical_form();
@@ -128,7 +78,7 @@ fn sweep_arcs<S: Shelf>(
     };
     Ok(MadeDiagram {
         nodes,
-        turns,
+        turns: made.turns.saturating_add(turns),
         // None is given from there on.
         next: sweep.parts().next.min(PARTS),
     })

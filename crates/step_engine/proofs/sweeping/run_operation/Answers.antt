@@ -11,19 +11,22 @@ make_diagram-requires-clause-earlier g c =
     (is_operation c.args.n c.args.number c.args.planned.now.step c.args.sweeping c.requires.sweeping).earlier c.requires.step.operands_are
 
 pub returns-in_err-made : goal.returns-in_err-made
-returns-in_err-made g c = record {
-  runs = handed_runs g.S.Shelf.tells g.S.Shelf.world g.S.Shelf.faults c.args.n c.args.text.now c.args.number c.args.planned.now _ _
-      c.in_err-made.field-0.0 c.from_residual.result c.from_residual.ensures.1
-      (operation_refused g.S.Shelf.tells g.S.Shelf.world g.S.Shelf.faults c.args.n c.args.text.now c.args.number c.args.planned.now
-      c.args.sweeping c.requires.sweeping c.requires.step _ _ c.in_err-made.ensures.content c.in_err-made.ensures.few_calls
-      c.in_err-made.field-0.0 c.in_err-made.ensures.undamaged c.in_err-made.ensures.spent c.in_err-made.ensures.damaged
-      c.in_err-made.ensures.faults);
-}
+returns-in_err-made g c =
+    let said = c.in_err-made.ensures.makes in record {
+      runs = handed_runs g.S.Shelf.tells g.S.Shelf.world g.S.Shelf.faults c.args.n c.args.text.now c.args.number c.args.planned.now _ _
+          c.in_err-made.field-0.0 c.from_residual.result c.from_residual.ensures.1
+          (operation_refused g.S.Shelf.tells g.S.Shelf.world g.S.Shelf.faults c.args.n c.args.text.now c.args.number c.args.planned.now
+          c.args.sweeping c.requires.sweeping c.requires.step _ _ said.content
+          (λ told tables given. (let few = said.few_calls told tables given in omega (arith, few)))
+          c.in_err-made.field-0.0 said.undamaged said.spent said.damaged said.faults);
+    }
 
 pub returns : goal.returns
-returns g c = record {
-  runs = operation_made g.S.Shelf.tells g.S.Shelf.world g.S.Shelf.faults c.args.n c.args.text.now c.args.number c.args.planned.now
-      c.args.sweeping c.requires.sweeping c.requires.step _ _ c.in_ok-made.ensures.content c.in_ok-made.ensures.few_calls
-      c.in_ok-made.made c.diagram_entry.result c.diagram_entry.ensures (search arith) (search arith) c.in_ok-made.ensures.counted
-      c.in_ok-made.ensures.made c.in_ok-made.ensures.calls c.in_ok-made.ensures.faults;
-}
+returns g c =
+    let said = c.in_ok-made.ensures.makes in record {
+      runs = operation_made g.S.Shelf.tells g.S.Shelf.world g.S.Shelf.faults c.args.n c.args.text.now c.args.number c.args.planned.now
+          c.args.sweeping c.requires.sweeping c.requires.step _ _ said.content
+          (λ told tables given. (let few = said.few_calls told tables given in omega (arith, few)))
+          c.in_ok-made.made c.diagram_entry.result c.diagram_entry.ensures (search arith) (search arith) said.counted.1
+          said.made (λ told below. (let few = said.calls told below in omega (arith, few))) said.faults;
+    }

@@ -1,55 +1,37 @@
-use Rattle.std.proofs.Common.{ap, arith}
-use Rattle.step_sweeps.specs.declared.diagram.MadeDiagram.{MadeDiagram}
-use Rattle.step_sweeps.proofs.FewArcs.{still_arcs, ok_more}
-use Rattle.step_sweeps.proofs.Running.{spent_before}
+use Rattle.std.proofs.Common.{refl, rules, arith}
+use Rattle.step_sweeps.proofs.Joins.{of_some}
+use Rattle.step_sweeps.proofs.Reductions.{by_sweep, room_failed, room_makes, after_attempt}
+use Rattle.step_sweeps.proofs.Ways.{answered}
 use Rattle.step_sweeps.proofs.reduction.reduce_arcs.Goals as goal
 
 -- by a sweep alone
-pub returns-then-arcs-eq0-clause-few : goal.returns-then-arcs-eq0-clause-few
-returns-then-arcs-eq0-clause-few g c = ok_more c.sweep_arcs.result _ _ (λ m few told table sources is has.
-    let few = few told table sources is has in omega (arith, few)) c.sweep_arcs.ensures.few
+pub returns-then-arcs-eq0 : goal.returns-then-arcs-eq0
+returns-then-arcs-eq0 g c = record {
+  reduces = by_sweep g.S.Shelf.tells g.S.Shelf.world g.S.Shelf.faults c.args.n c.args.number c.args.made _ _
+      c.sweep_arcs.result c.sweep_arcs.ensures.reduces;
+}
 
-pub returns-then-arcs-eq0-clause-spent : goal.returns-then-arcs-eq0-clause-spent
-returns-then-arcs-eq0-clause-spent g c spent told table sources is has =
-    let spent = c.sweep_arcs.ensures.spent spent told table sources is has in omega (arith, spent)
+-- in the room, where the folder failed
+pub returns-in_err-tried : goal.returns-in_err-tried
+returns-in_err-tried g c = record {
+  reduces = room_failed g.S.Shelf.tells g.S.Shelf.world g.S.Shelf.faults c.args.n c.args.number c.args.made
+      c.requires.files _ refl _ _ _ (search rules) c.reduce_few.ensures.content (search rules);
+}
 
-pub returns-then-arcs-eq0-clause-few_calls : goal.returns-then-arcs-eq0-clause-few_calls
-returns-then-arcs-eq0-clause-few_calls g c told table sources is has =
-    let few = c.sweep_arcs.ensures.few_calls told table sources is has in omega (arith, few)
+-- or where they were reduced
+pub returns-in-Some : goal.returns-in-Some
+returns-in-Some g c = record {
+  reduces = room_makes g.S.Shelf.tells g.S.Shelf.world g.S.Shelf.faults c.args.n c.args.number c.args.made
+      c.requires.files _ refl _ c.in-Some.reduced.turns _ _ _ (search arith) c.requires.parts.1
+      (of_some _ c.in-Some.reduced _ c.in-Some.is c.in_ok-tried.ensures.turns) refl c.saturating_add.ensures
+      c.min.ensures (of_some _ c.in-Some.reduced _ c.in-Some.is c.in_ok-tried.ensures.reduced) c.reduce_few.ensures.content (search rules);
+}
 
--- and after an attempt, which left the arcs as they were
-pub returns-in_err-swept-clause-spent : goal.returns-in_err-swept-clause-spent
-returns-in_err-swept-clause-spent g c spent told table sources is has =
-    let began = c.sweep_arcs-2.ensures.content.before told in
-    let are = still_arcs c.args.number c.args.made.arcs _ _ c.requires.files (c.reduce_few.ensures.content.did began).run
-    c.args.n table is in
-    let spent = c.in_err-swept.ensures.spent (spent_before c.from_residual-in_err-swept.result
-    c.in_err-swept.field-0.0 c.from_residual-in_err-swept.ensures.1 spent) told table sources are has in
-    omega (arith, spent)
-
-pub returns-in_err-swept-clause-few_calls : goal.returns-in_err-swept-clause-few_calls
-returns-in_err-swept-clause-few_calls g c told table sources is has =
-    let began = c.sweep_arcs-2.ensures.content.before told in
-    let tried = c.reduce_few.ensures.content.did began in
-    let are = still_arcs c.args.number c.args.made.arcs _ _ c.requires.files tried.run c.args.n table is in
-    let few = tried.few in
-    let more = c.sweep_arcs-2.ensures.few_calls told table sources are has in
-    omega (arith, c.if-arcs-eq0.false, has, few, more)
-
-pub returns-clause-few_calls : goal.returns-clause-few_calls
-returns-clause-few_calls g c told table sources is has =
-    let began = c.sweep_arcs-2.ensures.content.before told in
-    let tried = c.reduce_few.ensures.content.did began in
-    let are = still_arcs c.args.number c.args.made.arcs _ _ c.requires.files tried.run c.args.n table is in
-    let few = tried.few in
-    let more = c.sweep_arcs-2.ensures.few_calls told table sources are has in
-    omega (arith, c.if-arcs-eq0.false, has, few, more)
-
-pub returns-clause-few : goal.returns-clause-few
-returns-clause-few g c told table sources is has =
-    let began = c.sweep_arcs-2.ensures.content.before told in
-    let are = still_arcs c.args.number c.args.made.arcs _ _ c.requires.files (c.reduce_few.ensures.content.did began).run
-    c.args.n table is in
-    let few = c.in_ok-swept.ensures.few told table sources are has in
-    let turns = ap (λ (m : MadeDiagram). m.turns) c.after_an_attempt.ensures in
-    omega (arith, c.if-arcs-eq0.false, has, turns, few)
+-- and by a sweep after an attempt
+pub returns : goal.returns
+returns g c = record {
+  reduces = after_attempt g.S.Shelf.tells g.S.Shelf.world g.S.Shelf.faults c.args.n c.args.number c.args.made
+      c.requires.files _ refl c.saturating_add-turns.result _ _ _ c.sweep_arcs-2.result (search arith) (search arith)
+      c.saturating_add-turns.ensures c.reduce_few.ensures.content
+      (answered _ _ _ c.in_ok-tried.ensures.faults) c.sweep_arcs-2.ensures.reduces;
+}
