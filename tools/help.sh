@@ -21,6 +21,8 @@ FOLDER is made where it isn't there. It belongs to one script, one netlist or no
                      16384 to 4194304, and 262144 where none is given
   --size SIZE        a number from 1 to 16
 
+On a terminal it shows how far a run is; with ADIAR_PROGRESS=1 everywhere, with ADIAR_PROGRESS=0 nowhere.
+
 A script's first line is `vars V1 V2 ..`, or `inputs` for those of the netlist. Each other line is a request:
 
   const NAME 0|1          the diagram of a truth value

@@ -8,6 +8,7 @@ run() {
     # nothing can say what its status means.
     setpriv --pdeathsig KILL true 2>/dev/null || exec "$program" "$@"
     hold_place
+    showing=''
     on_signals pass_on
     held=yes
     # The shell gives a process behind it no standard input, unless it is told to.
@@ -21,8 +22,16 @@ run() {
     running=$!
     held=
     [ -z "$asked" ] || pass_on
+    if wants_progress; then
+        show_progress "$running" &
+        showing=$!
+    fi
     await "$running"
     status=$?
+    if [ "$showing" ]; then
+        kill "$showing" 2>/dev/null
+        await "$showing"
+    fi
     if [ "$status" -gt 128 ] && [ "$asked" ]; then end_by_signal; fi
     [ "$status" = 0 ] || [ "$asks_help" ] || explain "$status"
     exit "$status"
