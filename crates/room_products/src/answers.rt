@@ -33,9 +33,6 @@ pub(crate) fn answer_pair(
     buckets: &mut [Rec],
 ) -> Option<Answer>
     requires within { count ≤ 4 * length slots.old }
-    ensures slots_len { length slots.new ≡ length slots.old }
-    ensures firsts_len { length firsts.new ≡ length firsts.old }
-    ensures buckets_len { length buckets.new ≡ length buckets.old }
     ensures within { IfSome result (λ a. a.count ≤ 4 * length slots.new) }
     ensures kept { IfSome result (λ a. KeepsSlots count a.count (packed slots.old) (packed slots.new)) }
     ensures answered { IfSome result (λ a. (n root i : ℕ) (roots : Tuple) (targets : Targets) (owed : List ℕ)

@@ -154,8 +154,6 @@ fn join_operands<S: Shelf>(
     requires window { 128 ≤ length window.old }
     requires fits { 2 * (most / 4) + (left.trailer.count / 4 + 1) + (right.trailer.count / 4 + 1) + (most / 10 + 1)
         ≤ length area.old }
-    ensures area_len { length area.new ≡ length area.old }
-    ensures window_len { length window.new ≡ length window.old }
     ensures joined { IfOk result (λ found. IsTrue (S.tells shelf.new) → (n : ℕ) (t u : List Bool) → n ≤ 65535 →
         IsOperandOf n t left (S.world shelf.old) → IsOperandOf n u right (S.world shelf.old) →
         IfSome found (λ j. AreOfTable n j.root (pair_table n op t u) (sources_in j.count area.new))) }

@@ -35,9 +35,6 @@ pub(crate) fn join_levels(
 ) -> Option<Progress>
     requires within { begun.count ≤ 4 * length slots.old }
     requires done { begun.done ≤ 4 * length sources.old }
-    ensures slots_len { length slots.new ≡ length slots.old }
-    ensures firsts_len { length firsts.new ≡ length firsts.old }
-    ensures sources_len { length sources.new ≡ length sources.old }
     ensures within { IfSome result (λ p. p.count ≤ 4 * length slots.new) }
     ensures done { IfSome result (λ p. p.done ≤ 4 * length sources.new) }
     ensures joined { IfSome result (λ p. (n root : ℕ) (roots : Tuple) (targets : Targets) → n ≤ 65535 →
@@ -69,10 +66,6 @@ fn join_level(
     requires level { level < length firsts.old }
     requires within { begun.count ≤ 4 * length slots.old }
     requires done { begun.done ≤ 4 * length sources.old }
-    ensures slots_len { length slots.new ≡ length slots.old }
-    ensures firsts_len { length firsts.new ≡ length firsts.old }
-    ensures buckets_len { length buckets.new ≡ length buckets.old }
-    ensures sources_len { length sources.new ≡ length sources.old }
     ensures within { IfSome result (λ p. p.count ≤ 4 * length slots.new) }
     ensures done { IfSome result (λ p. p.done ≤ 4 * length sources.new) }
     ensures joined { IfSome result (λ p. (n root : ℕ) (roots : Tuple) (targets : Targets) → n ≤ 65535 →

@@ -44,7 +44,6 @@ pub(crate) fn sides_of(nodes: Nodes, begin: u64, level: u16, word: u64) -> Optio
 /// Says where the nodes of each level begin: in word 4 of the level's record for the one operand, in word 5 for the
 /// other. Answers whether all records are those of nodes in the order of their files.
 pub(crate) fn index_nodes(left: Nodes, right: Nodes, firsts: &mut [Rec]) -> bool
-    ensures len { length firsts.new ≡ length firsts.old }
 {
     firsts.fill(Rec { w: [0; 8] });
     index_side(left, 4, firsts) && index_side(right, 5, firsts)
@@ -53,7 +52,6 @@ pub(crate) fn index_nodes(left: Nodes, right: Nodes, firsts: &mut [Rec]) -> bool
 // Says of each level of an operand where its nodes begin.
 fn index_side(nodes: Nodes, column: usize, firsts: &mut [Rec]) -> bool
     requires column { column < 8 }
-    ensures len { length firsts.new ≡ length firsts.old }
 {
     let mut last = u64::MAX;
     for place in 0..nodes.count.min(4 * nodes.records.len()) {

@@ -31,8 +31,6 @@ pub(crate) fn read_operand<S: Shelf>(
     requires few { count < 65536 }
     requires room { count ≤ 4 * length nodes.old }
     requires window { 85 ≤ length window.old }
-    ensures len { length nodes.new ≡ length nodes.old }
-    ensures window_len { length window.new ≡ length window.old }
     ensures read { IfOk result (λ whole. IsTrue whole → IsTrue (S.tells shelf.new) →
         HoldNodes count (records_of 3 count (file (S.world shelf.old) f).bytes) (packed nodes.new)) }
     ensures content { Told S.tells shelf.old shelf.new (Looked count (S.world shelf.old) (S.world shelf.new)) }
@@ -53,7 +51,6 @@ pub(crate) fn read_operand<S: Shelf>(
 // Packs records behind so many others, where each word has a number.
 fn pack_piece(records: &[Rec], nodes: &mut [Rec], done: usize) -> bool
     requires room { done + length records.now ≤ 4 * length nodes.old }
-    ensures len { length nodes.new ≡ length nodes.old }
     ensures held { IsTrue result → (these : List Rec) → HoldNodes done these (packed nodes.old) →
         ((k c : ℕ) → k < length records.now → c < 3 →
         word c (record_at records.now k) ≡ word c (record_at these (done + k))) →

@@ -89,9 +89,6 @@ pub(crate) fn add_slot(
     firsts: &mut [Rec],
     buckets: &mut [Rec],
 ) -> Option<u64>
-    ensures slots_len { length slots.new ≡ length slots.old }
-    ensures firsts_len { length firsts.new ≡ length firsts.old }
-    ensures buckets_len { length buckets.new ≡ length buckets.old }
     ensures within { IfSome result (λ id. count < 4 * length slots.new) }
     ensures kept { IfSome result (λ id. KeepsSlots count (count + 1) (packed slots.old) (packed slots.new)) }
     ensures pair { IfSome result (λ id. pair_at (packed slots.new) count ≡ two first second) }
@@ -125,7 +122,6 @@ pub(crate) fn add_slot(
 // Puts the place of a slot into a bucket, where there is that one.
 fn fill_bucket(bucket: usize, place: usize, buckets: &mut [Rec])
     requires place { place < 2 ^ 32 }
-    ensures { length buckets.new ≡ length buckets.old }
 {
     if bucket / 16 < buckets.len() {
         put_number(buckets, bucket / 4, bucket % 4, place as u32);
@@ -138,8 +134,6 @@ fn link_slot(level: usize, place: usize, slots: &mut [Rec], firsts: &mut [Rec])
     requires level { level < length firsts.old }
     requires place { place < 2 ^ 32 - 1 }
     requires few { used_at firsts.old level < 2 ^ 17 }
-    ensures slots_len { length slots.new ≡ length slots.old }
-    ensures firsts_len { length firsts.new ≡ length firsts.old }
     ensures pairs { (k : ℕ) → pair_at (packed slots.new) k ≡ pair_at (packed slots.old) k }
     ensures ids { (k : ℕ) → id_at (packed slots.new) k ≡ id_at (packed slots.old) k }
     ensures used { used_at firsts.new level ≡ used_at firsts.old level + 1 }

@@ -31,10 +31,6 @@ pub(crate) fn join_slot(
     done: usize,
 ) -> Option<usize>
     requires within { count ≤ 4 * length slots.old }
-    ensures slots_len { length slots.new ≡ length slots.old }
-    ensures firsts_len { length firsts.new ≡ length firsts.old }
-    ensures buckets_len { length buckets.new ≡ length buckets.old }
-    ensures sources_len { length sources.new ≡ length sources.old }
     ensures within { IfSome result (λ more. more ≤ 4 * length slots.new) }
     ensures done { IfSome result (λ more. done < 4 * length sources.new) }
     ensures joined { IfSome result (λ more. (n root : ℕ) (roots : Tuple) (targets : Targets) → n ≤ 65535 →
@@ -67,7 +63,6 @@ pub(crate) fn join_slot(
 
 // Puts a source behind those that are done, where it is greater than the last of them and there is room.
 fn put_source(source: u64, low: u64, high: u64, sources: &mut [Rec], done: usize) -> bool
-    ensures sources_len { length sources.new ≡ length sources.old }
     ensures within { IsTrue result → done < 4 * length sources.new }
     ensures source { IsTrue result → word 0 (record_at (packed sources.new) done) ≡ source }
     ensures low { IsTrue result → word 1 (record_at (packed sources.new) done) ≡ low }

@@ -40,9 +40,6 @@ pub(crate) fn join_nodes(
     slots: &mut [Rec],
     sources: &mut [Rec],
 ) -> Option<Tabled>
-    ensures slots_len { length slots.new ≡ length slots.old }
-    ensures firsts_len { length firsts.new ≡ length firsts.old }
-    ensures sources_len { length sources.new ≡ length sources.old }
     ensures within { IfSome result (λ t. t.count ≤ 4 * length slots.new) }
     ensures few { IfSome result (λ t. t.count ≤ 4 * length sources.new) }
     ensures joined { IfSome result (λ t. (n : ℕ) (targets : Targets) → n ≤ 65535 →

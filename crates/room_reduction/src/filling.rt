@@ -34,8 +34,6 @@ pub(crate) fn read_sources<S: Shelf>(
 ) -> Result<Option<usize>, StreamFault>
     requires few { made.now.inner_count + made.now.ends_count ≤ 2 ^ 18 }
     requires window { 8 ≤ length window.old }
-    ensures sources_len { length sources.new ≡ length sources.old }
-    ensures firsts_len { length firsts.new ≡ length firsts.old }
     ensures within { IfOk result (λ found. IfSome found (λ count. count ≤ 4 * length sources.new)) }
     ensures read { IfOk result (λ found. IsTrue (S.tells shelf.new) → (inner ends : List Arc) →
         HasArcs Inner inner made.now.inner_count (file (S.world shelf.old) made.now.inner).bytes →
@@ -90,9 +88,6 @@ fn read_arcs<S: Shelf>(
     requires few { count ≤ 2 ^ 18 }
     requires window { 8 ≤ length window.old }
     requires within { before ≤ 4 * length sources.old }
-    ensures sources_len { length sources.new ≡ length sources.old }
-    ensures firsts_len { length firsts.new ≡ length firsts.old }
-    ensures window_len { length window.new ≡ length window.old }
     ensures within { IfOk result (λ found. IfSome found (λ k. k ≤ 4 * length sources.new)) }
     ensures read { IfOk result (λ found. IsTrue (S.tells shelf.new) → (root : ℕ) (all these left : List Arc) →
         BeginWith these count (file (S.world shelf.old) f).bytes →
@@ -142,8 +137,6 @@ fn take_arc(
     firsts: &mut [Rec],
 ) -> Option<usize>
     requires within { found ≤ 4 * length sources.old }
-    ensures sources_len { length sources.new ≡ length sources.old }
-    ensures firsts_len { length firsts.new ≡ length firsts.old }
     ensures within { IfSome result (λ k. k ≤ 4 * length sources.new) }
     ensures taken { IfSome result (λ k. (root : ℕ) (all left : List Arc) →
         AreMet n root all (arc ∷ left) (packed sources.old) found → AreMet n root all left (packed sources.new) k) }
@@ -164,8 +157,6 @@ fn meet(
     firsts: &mut [Rec],
 ) -> Option<usize>
     requires within { found ≤ 4 * length sources.old }
-    ensures sources_len { length sources.new ≡ length sources.old }
-    ensures firsts_len { length firsts.new ≡ length firsts.old }
     ensures within { IfSome result (λ k. k ≤ 4 * length sources.new) }
     ensures met { IfSome result (λ k. (root : ℕ) (all left : List Arc) → IsMet root all pointer →
         AreMet n root all left (packed sources.old) found → AreMet n root all left (packed sources.new) k) }
@@ -187,8 +178,6 @@ fn meet(
 // Puts a source behind those that were found, where it is greater and there is room.
 fn add_source(n: u32, source: u64, sources: &mut [Rec], found: usize, firsts: &mut [Rec]) -> bool
     requires within { found ≤ 4 * length sources.old }
-    ensures sources_len { length sources.new ≡ length sources.old }
-    ensures firsts_len { length firsts.new ≡ length firsts.old }
     ensures within { IsTrue result → found < 4 * length sources.new }
     ensures added { IsTrue result → (root : ℕ) (all left : List Arc) → IsMet root all source →
         AreMet n root all left (packed sources.old) found → AreMet n root all left (packed sources.new) (found + 1) }
@@ -210,7 +199,6 @@ fn add_source(n: u32, source: u64, sources: &mut [Rec], found: usize, firsts: &m
 // Puts the target of an arc into the record of its source, where that is found.
 fn put_target(arc: Arc, sources: &mut [Rec], found: usize, firsts: &[Rec]) -> bool
     requires within { found ≤ 4 * length sources.old }
-    ensures sources_len { length sources.new ≡ length sources.old }
     ensures put { IsTrue result → (n root : ℕ) (all left : List Arc) →
         AreMet n root all (arc ∷ left) (packed sources.old) found → AreMet n root all left (packed sources.new) found }
 {
@@ -223,7 +211,6 @@ fn put_target(arc: Arc, sources: &mut [Rec], found: usize, firsts: &[Rec]) -> bo
 // Puts a target on one side into the record of a source.
 fn put_target_on(high: bool, target: u64, sources: &mut [Rec], place: usize) -> bool
     requires place { place < 4 * length sources.old }
-    ensures sources_len { length sources.new ≡ length sources.old }
     ensures source { word 0 (record_at (packed sources.new) place) ≡ word 0 (record_at (packed sources.old) place) }
     ensures target { IsTrue result → word_on high (record_at (packed sources.new) place) ≡ target }
     ensures other { word_on (not high) (record_at (packed sources.new) place)

@@ -46,9 +46,6 @@ pub(crate) fn reduce_level(
     requires few { total ≤ 2 ^ 17 }
     requires many { total ≤ 4 * length sources.old }
     requires within { done.from + done.count ≤ total }
-    ensures nodes_len { length nodes.new ≡ length nodes.old }
-    ensures rows_len { length rows.new ≡ length rows.old }
-    ensures sources_len { length sources.new ≡ length sources.old }
     ensures within { IfSome result (λ next. next.from + next.count ≤ total) }
     ensures room { IfSome result (λ next. next.count ≤ 4 * length nodes.new) }
     ensures done { IfSome result (λ next. (n root : ℕ) (arcs : List Arc) → n ≤ 65535 → level < n →
@@ -80,8 +77,6 @@ pub(crate) fn nodes_of_level(
     requires few { total ≤ 2 ^ 17 }
     requires many { total ≤ 4 * length sources.old }
     requires within { end ≤ total }
-    ensures rows_len { length rows.new ≡ length rows.old }
-    ensures sources_len { length sources.new ≡ length sources.old }
     ensures within { IfSome result (λ made. made.from + made.count ≤ end) }
     ensures room { IfSome result (λ made. made.count ≤ length rows.new) }
     ensures done { IfSome result (λ made. (n root : ℕ) (arcs : List Arc) → n ≤ 65535 → level < n →
@@ -135,8 +130,6 @@ fn reduce_sources_of(
     requires few { length rows.old ≤ 2 ^ 17 }
     requires many { total ≤ 4 * length sources.old }
     requires within { from + length rows.old ≤ total }
-    ensures len { length rows.new ≡ length rows.old }
-    ensures sources_len { length sources.new ≡ length sources.old }
     ensures within { IfSome result (λ count. count ≤ length rows.old) }
     ensures same { KeepsSources (sources_in total sources.old) (sources_in total sources.new) }
     ensures nodes { IfSome result (λ count. (n root : ℕ) (arcs : List Arc) →

@@ -72,8 +72,6 @@ fn reduce_levels(
     requires variables { n ≤ 65535 }
     requires many { total ≤ 4 * length sources.old }
     requires few { total ≤ 2 ^ 17 }
-    ensures sources_len { length sources.new ≡ length sources.old }
-    ensures nodes_len { length nodes.new ≡ length nodes.old }
     ensures within { IfSome result (λ count. count ≤ total) }
     ensures room { IfSome result (λ count. count ≤ 4 * length nodes.new) }
     ensures done { IfSome result (λ count. (root : ℕ) (arcs : List Arc) → IsComplete n root arcs →

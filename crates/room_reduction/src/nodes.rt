@@ -20,7 +20,6 @@ use shelf_model::{FileNo, Shelf, StreamFault};
 
 /// Puts nodes behind so many others, where there is room for them.
 pub(crate) fn pack_nodes(records: &[Rec], nodes: &mut [Rec], count: usize) -> bool
-    ensures len { length nodes.new ≡ length nodes.old }
     ensures within { IsTrue result → count + length records.now ≤ 4 * length nodes.new }
     ensures behind { IsTrue result → (xs : List Node) → records.now ≡ node_records xs →
         take (count + length records.now) (packed nodes.new) ≡ take count (packed nodes.old) ++ records.now }

@@ -34,9 +34,7 @@ pub(crate) fn number_rows(
     requires level { level ≤ deepest_level }
     requires many { total ≤ 4 * length sources.old }
     requires few { length rows.old ≤ 2 ^ 17 }
-    ensures len { length rows.new ≡ length rows.old }
     ensures within { IfSome result (λ count. count ≤ length rows.old) }
-    ensures sources_len { length sources.new ≡ length sources.old }
     ensures same { KeepsSources (sources_in total sources.old) (sources_in total sources.new) }
     ensures nodes { IfSome result (λ count.
         take count rows.new ≡ node_records (numbered level 0 (distinct_rows rows.old))) }
@@ -65,7 +63,6 @@ fn number_row(level: u16, row: &Rec, rows: &mut [Rec], done: Numbered) -> Number
     requires level { level ≤ deepest_level }
     requires few { length rows.old ≤ 2 ^ 17 }
     requires within { done.count < length rows.old }
-    ensures len { length rows.new ≡ length rows.old }
     ensures within { result.count ≤ done.count + 1 }
     ensures rest { drop (done.count + 1) rows.new ≡ drop (done.count + 1) rows.old }
     ensures more { (first : List Rec) (place : ℕ) → place < length first → row.now ≡ record_at first place →
@@ -121,7 +118,6 @@ fn name_of(level: u16, row: &Rec, done: Numbered) -> u64
 // Says to the source at a place what it became.
 fn name_source(place: u64, name: u64, sources: &mut [Rec], total: usize) -> bool
     requires many { total ≤ 4 * length sources.old }
-    ensures len { length sources.new ≡ length sources.old }
     ensures same { KeepsSources (sources_in total sources.old) (sources_in total sources.new) }
     ensures name { IsTrue result → word 3 (record_at (sources_in total sources.new) place) ≡ name }
     ensures others { (k : ℕ) → k ≢ place →

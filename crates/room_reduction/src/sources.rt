@@ -29,7 +29,6 @@ pub(crate) fn put_source_word(
     requires many { count ≤ 4 * length sources.old }
     requires place { place < count }
     requires column { column < 4 }
-    ensures len { length sources.new ≡ length sources.old }
     ensures own { IsTrue result → word column (record_at (sources_in count sources.new) place) ≡ to }
     ensures columns { (c : ℕ) → c ≢ column → word c (record_at (sources_in count sources.new) place)
         ≡ word c (record_at (sources_in count sources.old) place) }

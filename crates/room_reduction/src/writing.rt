@@ -83,7 +83,6 @@ fn write_levels<S: Shelf>(
     requires fills { IsFilling filling.old (length window.old) }
     requires words { filling.old.words ≡ 3 }
     requires in_step { IsTrue (S.tells shelf.old) → InStep filling.old (S.world shelf.old) }
-    ensures sources_len { length sources.new ≡ length sources.old }
     ensures within { IfOk result (λ found. IfSome found (λ count. count ≤ total)) }
     ensures fills { IsFilling filling.new (length window.new) }
     ensures same { SameFile filling.old filling.new }
@@ -139,8 +138,6 @@ fn write_level<S: Shelf>(
     requires fills { IsFilling filling.old (length window.old) }
     requires words { filling.old.words ≡ 3 }
     requires in_step { IsTrue (S.tells shelf.old) → InStep filling.old (S.world shelf.old) }
-    ensures rows_len { length rows.new ≡ length rows.old }
-    ensures sources_len { length sources.new ≡ length sources.old }
     ensures within { IfOk result (λ found. IfSome found (λ next. (done.count ≤ next.count) ×
         (next.from + next.count ≤ total))) }
     ensures fills { IsFilling filling.new (length window.new) }

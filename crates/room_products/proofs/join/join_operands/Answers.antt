@@ -24,8 +24,8 @@ returns-clause-joined g c told n t u few left right =
     let second_is = c.word-second.ensures.value ∙ right.trailer_of.root_is in
     let lefts = c.split_at_mut-lefts.ensures.front_len in
     let rights = c.split_at_mut-rights.ensures.front_len in
-    let lefts_long = c.in_ok-read_operand.ensures.len in
-    let rights_long = c.in_ok-read_operand-2.ensures.len in
+    let lefts_long = c.read_operand.auto.nodes in
+    let rights_long = c.read_operand-2.auto.nodes in
     some_both _ _ _ c.join_nodes.result (λ tabled within made.
     subst (AreOfTable n tabled.root (pair_table n op t u))
     (sym (front_sources tabled.count c.join_nodes.new.sources _ within))

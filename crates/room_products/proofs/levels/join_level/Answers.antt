@@ -6,10 +6,6 @@ use Rattle.room_products.proofs.levels.join_level.Goals as goal
 
 pub loop-source-init : goal.loop-source-init
 loop-source-init c = record {
-  slots_long = refl;
-  firsts_long = search rules;
-  buckets_long = refl;
-  sources_long = refl;
   within = c.requires.within;
   done_within = c.requires.done;
   joined = λ n root roots targets top rule rows joining.
@@ -24,10 +20,6 @@ loop-source-preserved c =
     let turn = c.in_ok-count.ensures in
     let one_more = turn.done in
     record {
-      slots_long = turn.slots_len ∙ so_far.slots_long;
-      firsts_long = turn.firsts_len ∙ so_far.firsts_long;
-      buckets_long = turn.buckets_len ∙ so_far.buckets_long;
-      sources_long = turn.sources_len ∙ so_far.sources_long;
       within = turn.within;
       done_within = omega (arith, one_more);
       joined = λ n root roots targets top rule rows joining.

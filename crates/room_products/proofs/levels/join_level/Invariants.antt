@@ -12,10 +12,6 @@ use Rattle.room_products.proofs.levels.join_level.Given as goal
 -- the pairs that were answered have their sources
 abbrev pub invariant-loop-source : goal.invariant-loop-source
 invariant-loop-source l = record {
-  slots_long : length l.slots ≡ length l.fn.slots;
-  firsts_long : length l.firsts ≡ length l.fn.firsts;
-  buckets_long : length l.buckets ≡ length l.fn.buckets;
-  sources_long : length l.sources ≡ length l.fn.sources;
   within : l.now.count ≤ 4 * length l.slots;
   done_within : l.now.done ≤ 4 * length l.sources;
   joined : (n root : ℕ) (roots : Tuple) (targets : Targets) → n ≤ 65535 → IsRule n (product_rule l.fn.op) targets →

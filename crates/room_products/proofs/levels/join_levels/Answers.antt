@@ -6,9 +6,6 @@ loop-level-preserved c =
     let so_far = c.loop-level.invariant in
     let turn = c.in_ok-now.ensures in
     record {
-      slots_long = turn.slots_len ∙ so_far.slots_long;
-      firsts_long = turn.firsts_len ∙ so_far.firsts_long;
-      sources_long = turn.sources_len ∙ so_far.sources_long;
       within = turn.within;
       done_within = turn.done;
       joined = λ n root roots targets top rule rows joining.

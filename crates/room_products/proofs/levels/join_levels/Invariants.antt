@@ -12,9 +12,6 @@ use Rattle.room_products.proofs.levels.join_levels.Given as goal
 -- the pairs of the levels above have their sources
 abbrev pub invariant-loop-level : goal.invariant-loop-level
 invariant-loop-level l = record {
-  slots_long : length l.slots ≡ length l.fn.slots;
-  firsts_long : length l.firsts ≡ length l.fn.firsts;
-  sources_long : length l.sources ≡ length l.fn.sources;
   within : l.now.count ≤ 4 * length l.slots;
   done_within : l.now.done ≤ 4 * length l.sources;
   joined : (n root : ℕ) (roots : Tuple) (targets : Targets) → n ≤ 65535 → IsRule n (product_rule l.fn.op) targets →

@@ -9,7 +9,6 @@ use Rattle.room_products.proofs.reading.pack_piece.Given as goal
 -- the records so far are packed behind those that were
 abbrev pub invariant-loop-place : goal.invariant-loop-place
 invariant-loop-place l = record {
-  long : length l.nodes ≡ length l.fn.nodes;
   held : (these : List Rec) → HoldNodes l.fn.done these (packed l.fn.nodes)
       → ((k c : ℕ) → k < length l.records → c < 3 →
       word c (record_at l.records k) ≡ word c (record_at these (l.fn.done + k)))

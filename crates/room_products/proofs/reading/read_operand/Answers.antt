@@ -26,13 +26,11 @@ pieces-preserved g c =
     let more : done < count = c.pieces-test.true in
     let within : done + wanted ≤ count = omega (arith, wanted_is, more) in
     let room = c.requires.window in
-    let window_long = c.load.auto.window ∙ known.window_long in
+    let window_long = c.load.auto.window ∙ c.pieces.auto.window in
     let piece_long : length (take wanted window) ≡ wanted =
     length-take-le wanted window (omega (arith, wanted_is, window_long, room)) in
     let these = records_of 3 count (file old f).bytes in
     record {
-      long = piece.len ∙ known.long;
-      window_long = window_long;
       within = within;
       read = λ tells.
           let before = did.content.before tells in

@@ -10,8 +10,6 @@ use Rattle.room_products.proofs.reading.read_operand.Given as goal
 -- the first nodes were read, with no more calls than nodes
 abbrev pub invariant-pieces : goal.invariant-pieces
 invariant-pieces g l = record {
-  long : length l.nodes ≡ length l.fn.nodes;
-  window_long : length l.window ≡ length l.fn.window;
   within : l.done ≤ l.count;
   read : IsTrue (g.S.Shelf.tells l.shelf)
       → HoldNodes l.done (records_of 3 l.count (file (g.S.Shelf.world l.fn.shelf) l.f).bytes) (packed l.nodes);

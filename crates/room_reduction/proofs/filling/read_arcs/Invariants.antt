@@ -12,8 +12,6 @@ use Rattle.room_reduction.proofs.filling.read_arcs.Given as goal
 -- the first arcs were taken, and the stream has the others before it
 abbrev pub invariant-loop-arc : goal.invariant-loop-arc
 invariant-loop-arc g l = record {
-  sources_len : length l.sources ≡ length l.fn.sources;
-  firsts_len : length l.firsts ≡ length l.fn.firsts;
   within : l.found ≤ 4 * length l.sources;
   same_file : (reading_of l.arcs).file ≡ l.fn.f;
   taken : IsTrue (g.S.Shelf.tells l.shelf) → (root : ℕ) (all these left : List Arc) →

@@ -45,6 +45,6 @@ returns-clause-nodes c n root arcs few below complete done =
     let made = c.in_ok-count.ensures in
     let own = c.reduce_sources_of.new.rows in
     let within = made.within in
-    let still = made.len in
+    let still = c.reduce_sources_of.auto.rows in
     take-append-le c.in_ok-count.count own _ (omega (arith, within, still))
     ∙ made.nodes n root arcs (is c n root arcs few complete done)

@@ -19,7 +19,7 @@ returns-clause-nodes c =
     (final_keeps_ends n root arcs is.few is.complete) is.known in
     made ∙ ap (λ rs. node_records (numbered c.args.level 0 rs))
     (sym (rows_are n root arcs c.args.level c.args.from _ sources c.collect_rows.new.rows
-    c.sort_unstable.new.self is (ap (λ m. c.args.from + m) c.collect_rows.ensures.len) within rows
+    c.sort_unstable.new.self is (ap (λ m. c.args.from + m) c.collect_rows.auto.rows) within rows
     c.sort_unstable.ensures.permutation (c.if-not-are_rising.ensures refl))))
 
 pub returns-clause-known : goal.returns-clause-known
@@ -30,7 +30,7 @@ returns-clause-known c =
     let within : c.args.from + length c.args.rows.now ≤ length sources = omega (arith, room, all) in
     IfSome_then c.number_rows.result c.number_rows.ensures.names (λ count names n root arcs is.
     let rising = c.if-not-are_rising.ensures refl in
-    let many = ap (λ m. c.args.from + m) c.collect_rows.ensures.len in
+    let many = ap (λ m. c.args.from + m) c.collect_rows.auto.rows in
     let rows = c.if-not-collect_rows.ensures.rows refl (final_pointer n arcs)
     (final_keeps_ends n root arcs is.few is.complete) is.known in
     level_known n root arcs c.args.level c.args.from _ sources c.collect_rows.new.rows

@@ -8,8 +8,6 @@ use Rattle.room_reduction.proofs.levels.reduce_levels.Goals as goal
 
 pub loop-deeper-init : goal.loop-deeper-init
 loop-deeper-init c = record {
-  nodes_long = refl;
-  sources_long = refl;
   within = omega arith;
   room = omega arith;
   done_is = λ root arcs complete are.

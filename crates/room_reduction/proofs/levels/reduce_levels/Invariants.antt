@@ -9,8 +9,6 @@ use Rattle.room_reduction.proofs.levels.reduce_levels.Given as goal
 -- the deeper levels are done
 abbrev pub invariant-loop-deeper : goal.invariant-loop-deeper
 invariant-loop-deeper l = record {
-  nodes_long : length l.nodes ≡ length l.fn.nodes;
-  sources_long : length l.sources ≡ length l.fn.sources;
   within : l.done.from + l.done.count ≤ l.total;
   room : l.done.count ≤ 4 * length l.nodes;
   done_is : (root : ℕ) (arcs : List Arc) → IsComplete l.n root arcs

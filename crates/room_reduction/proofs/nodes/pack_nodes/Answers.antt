@@ -9,12 +9,11 @@ loop-place-preserved c =
     let known = c.loop-place.invariant in
     let put = c.put_record.ensures in
     let below = c.loop-place-test.true in
-    let long = known.len in
+    let long = c.loop-place.auto.nodes in
     let some = c.if-count-room.false in
     let enough = c.if-records-room.false in
     let room : count + place < 4 * length c.loop-place.nodes = omega (arith, long, some, enough, below) in
     record {
-      len = put.len ∙ known.len;
       behind = λ xs is.
           one_packed c.args.nodes.now c.loop-place.nodes c.put_record.new.room c.args.records.now xs count place is
           below room put.len (put.own c.if-not-put_record.false) put.others (known.behind xs is);

@@ -7,7 +7,6 @@ use Rattle.room_reduction.proofs.nodes.pack_nodes.Given as goal
 -- the nodes so far stand behind those that stood there
 abbrev pub invariant-loop-place : goal.invariant-loop-place
 invariant-loop-place l = record {
-  len : length l.nodes ≡ length l.fn.nodes;
   behind : (xs : List Node) → l.records ≡ node_records xs
       → take (l.count + l.place) (packed l.nodes) ≡ take l.count (packed l.fn.nodes) ++ take l.place l.records;
 }

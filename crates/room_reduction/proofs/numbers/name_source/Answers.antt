@@ -10,7 +10,7 @@ returns-clause-same c =
     let old = c.args.sources.now in
     let new = c.put_source_word.new.sources in
     let put = c.put_source_word.ensures in
-    let long = put.len in
+    let long = c.put_source_word.auto.sources in
     let many = c.requires.many in
     other_column c.args.place (sources_in total old) (sources_in total new)
     (sources_many total new (omega (arith, many, long)) ∙ sym (sources_many total old many)) put.columns put.others

@@ -14,10 +14,8 @@ use Rattle.room_reduction.proofs.numbers.number_rows.Goals as goal
 
 pub loop-place-init : goal.loop-place-init
 loop-place-init c = let sources = sources_in c.args.total c.args.sources.now in record {
-  long = refl;
   within = omega arith;
   rest = refl;
-  sources_long = refl;
   same = sources_same sources;
   numbering = none_numbered c.args.level c.args.rows.now (record { low = 0; high = 0 });
   names = λ rising f says. none_named f sources;
@@ -40,10 +38,8 @@ loop-place-preserved c =
     let order : c.loop-place.done.count + 1 ≤ place + 1 = omega (arith, within) in
     let numbering = did.more first place below is known.numbering in
     record {
-      long = did.len ∙ known.long;
       within = omega (arith, within, one_more);
       rest = same_later _ _ _ _ order did.rest ∙ same_later _ _ place (place + 1) (omega arith) known.rest;
-      sources_long = c.name_source.ensures.len ∙ known.sources_long;
       same = sources_on _ _ _ known.same c.name_source.ensures.same;
       numbering = numbering;
       names = λ rising f says.

@@ -12,10 +12,8 @@ use Rattle.room_reduction.proofs.numbers.number_rows.Given as goal
 -- the rows so far are numbered, and their sources named
 abbrev pub invariant-loop-place : goal.invariant-loop-place
 invariant-loop-place l = record {
-  long : length l.rows ≡ length l.fn.rows;
   within : l.done.count ≤ l.place;
   rest : drop l.place l.rows ≡ drop l.place l.fn.rows;
-  sources_long : length l.sources ≡ length l.fn.sources;
   same : KeepsSources (sources_in l.total l.fn.sources) (sources_in l.total l.sources);
   numbering : IsNumbering l.level l.fn.rows l.place l.done.count (record { low = l.done.low; high = l.done.high })
       l.rows;

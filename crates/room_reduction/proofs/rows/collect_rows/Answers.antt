@@ -16,10 +16,9 @@ loop-place-preserved c =
     let row = c.in-Some.row in
     let known = c.loop-place.invariant in
     let test = c.loop-place-test.true in
-    let long = known.long in
+    let long = c.loop-place.auto.rows in
     let in_rows : place < length rows = omega (arith, long, test) in
     record {
-      long = length-set rows place row ∙ known.long;
       rows_are = λ f ends done k below.
           elim (cases_eq k place) [
             | inl e ↦
@@ -37,5 +36,5 @@ loop-place-preserved c =
 pub returns-clause-rows : goal.returns-clause-rows
 returns-clause-rows c is f ends done k below =
     let past = c.loop-place-test.false in
-    let long = c.loop-place.invariant.long in
+    let long = c.loop-place.auto.rows in
     c.loop-place.invariant.rows_are f ends done k (omega (arith, past, long, below))

@@ -21,7 +21,6 @@ loop-deeper-init g c =
     let n = c.args.n in
     let begun = written c.args.filling.now c.args.window.now (g.S.Shelf.world c.args.shelf.now) in
     record {
-      sources_long = refl;
       within = omega arith;
       fills = c.requires.fills;
       same = record { file_is = refl; words_are = refl };
@@ -81,7 +80,6 @@ loop-deeper-preserved g c =
     let later = sources_in c.args.total c.write_level.new.sources in
     let begun = written c.args.filling.now c.args.window.now (g.S.Shelf.world c.args.shelf.now) in
     record {
-      sources_long = now.sources_len ∙ known.sources_long;
       within = within.1;
       fills = now.fills;
       same = record {

@@ -11,7 +11,6 @@ use Rattle.room_reduction.proofs.writing.write_levels.Given as goal
 -- the deeper levels are done and written
 abbrev pub invariant-loop-deeper : goal.invariant-loop-deeper
 invariant-loop-deeper g l = record {
-  sources_long : length l.sources ≡ length l.fn.sources;
   within : l.done.from + l.done.count ≤ l.total;
   fills : IsFilling l.filling (length l.window);
   same : SameFile l.fn.filling l.filling;
