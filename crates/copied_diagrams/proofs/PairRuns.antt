@@ -1,5 +1,5 @@
 -- Which way leads to an operator's diagram, and what is made in it.
-use Rattle.std.proofs.Common.{◌≡◌, ◌⊎◌, ◌∙◌, ℕ, ◌+◌, ◌*◌, ◌≤◌, Bool, IsTrue, List, length, take, sym, ap, subst, inl, inr, arith}
+use Rattle.std.proofs.Common.{◌≡◌, ◌∙◌, ℕ, ◌+◌, ◌*◌, ◌≤◌, Bool, IsTrue, List, length, take, sym, ap, subst, inl, inr, arith}
 use Rattle.std.proofs.lemmas.List.{take_all}
 use Rattle.bool_tables.specs.declared.steps.Bin.{Bin}
 use Rattle.shelf_model.specs.declared.file_no.FileNo.{FileNo}
@@ -27,8 +27,7 @@ use Rattle.copied_diagrams.specs.declared.pair.Pair.{Pair}
 use Rattle.copied_diagrams.specs.declared.source.Source.{Source}
 use Rattle.copied_diagrams.specs.declared.way.Way.{Way}
 use Rattle.copied_diagrams.specs.declared.way.Way.TheVariants.{Constant, Copy, CopyInTurns, Complement, Join}
-use Rattle.complement_laws.specs.Complements.{complement}
-use Rattle.complement_laws.proofs.ComplementLaws.{has_complement}
+use Rattle.room_reduction.specs.Complements.{complement, IsWritten}
 use Rattle.copied_diagrams.specs.Operands.{pair_table, IsResult}
 use Rattle.copied_diagrams.specs.Pairs.{ArePair, IsTrailerOf, AreTrailersOf, IsSourceOf, IsOperandDamage, IsMade, of_operand, nodes_of_both}
 use Rattle.copied_diagrams.specs.Ways.{IsWayBy, IsOneOf, IsOfPair, LeadsTo}
@@ -135,14 +134,14 @@ copy_made n table most pieces s to old new enough copied has =
 pub complement_made : (n : ℕ) (table wanted : List Bool) (most : ℕ) (s : Source) (to : FileNo) (old new : World)
     → wanted ≡ complement table → IsSourceOf n table most s old
     → ((t : List Bool) → IsCanonicalFile n t s.from old → IsTrailerOf n t s.trailer
-    → file new to ≡ firm_file (canon_bytes n (complement t)))
+    → IsWritten n (complement t) to s.trailer.count new)
     → IsMade n wanted to s.trailer.count new
 complement_made n table wanted most s to old new is has made =
-    let other = has_complement n table has.of.form in
+    let other = made table has.of has.trailer in
     record {
       form = subst (HasForm n) (sym is) other.form;
-      file_is = made table has.of has.trailer ∙ ap firm_file (ap (canon_bytes n) (sym is));
-      nodes_are = has.trailer.count_is ∙ sym other.nodes_are ∙ ap (λ x. length (canon_nodes n x)) (sym is);
+      file_is = other.file_is ∙ ap firm_file (ap (canon_bytes n) (sym is));
+      nodes_are = other.nodes_are ∙ ap (λ x. length (canon_nodes n x)) (sym is);
     }
 
 -- and a constant's file is that of its table

@@ -1,9 +1,10 @@
 -- The table of an operator's result, where it gives the value of one operand.
 use Rattle.std.proofs.Common.{◌≡◌, ◌≢◌, ◌∙◌, ℕ, zero, suc, ◌+◌, ◌*◌, ◌^◌, ◌<◌, ◌≤◌, Bool, true, false, not, List, [], ◌∷◌, ◌++◌, replicate, refl, sym, ap, subst, arith}
-use Rattle.std.specs.Prelude.{IsTrue}
+use Rattle.std.specs.Prelude.{IsTrue, length, map}
+use Rattle.std.specs.List.{range_with_len}
 use Rattle.std.proofs.lemmas.List.{get_or-replicate, replicate-append-replicate}
 use Rattle.bool_tables.specs.Steps.{op_value}
-use Rattle.bool_tables.specs.Tables.{value_at}
+use Rattle.bool_tables.specs.Tables.{value_at, table_with}
 use Rattle.bool_tables.specs.declared.steps.Bin.{Bin}
 use Rattle.bool_tables.proofs.Halves.{twice, table_with_same, table_with_one, length-table_with, low_half-constant, high_half-constant}
 use Rattle.bool_tables.proofs.StepHalves.{table_with-values}
@@ -22,8 +23,7 @@ use Rattle.canon_file.proofs.WalkLaws.{parts_by}
 use Rattle.copied_diagrams.specs.declared.operand.Operand.{Operand}
 use Rattle.copied_diagrams.specs.declared.operand.Operand.TheVariants.{Left, Right}
 use Rattle.copied_diagrams.specs.declared.operand.Choice.TheVariants.{Constant, Copy, Complement}
-use Rattle.complement_laws.specs.Complements.{complement}
-use Rattle.complement_laws.proofs.ComplementLaws.{others_at}
+use Rattle.room_reduction.specs.Complements.{complement}
 use Rattle.copied_diagrams.specs.Operands.{pair_table, MayMeet, IsResult}
 use Rattle.copied_diagrams.specs.Pairs.{of_operand}
 
@@ -78,7 +78,15 @@ copy_is n op same t u Right first second equal is =
     (λ p below. is (value_at t p) (value_at u p) (values_meet n same t u p first second equal below))
     ∙ table_with-values n u second.whole
 
--- and so is that of its complement
+-- the table that has the other value at each place is the complement
+others_at : (n : ℕ) (t : List Bool) → length t ≡ 2 ^ n → table_with n (λ p. not (value_at t p)) ≡ complement t
+others_at n t whole = others (range_with_len 0 (2 ^ n)) ∙ ap complement (table_with-values n t whole)
+  where
+    others : (places : List ℕ) → map (λ p. not (value_at t p)) places ≡ map not (map (value_at t) places)
+    others [] = refl
+    others (p ∷ places) = ap (λ bs. not (value_at t p) ∷ bs) (others places)
+
+-- so where it gives the other value of one operand, it is the complement of that one's table
 pub complement_is : (n : ℕ) (op : Bin) (same : Bool) (t u : List Bool) (o : Operand) → HasForm n t → HasForm n u → (IsTrue same → t ≡ u)
     → IsResult op same (canon_root n t) (canon_root n u) (Complement o) → pair_table n op t u ≡ complement (of_operand o t u)
 complement_is n op same t u Left first second equal is =

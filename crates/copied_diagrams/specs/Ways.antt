@@ -3,7 +3,7 @@ use Rattle.std.specs.Prelude.{◌≡◌, ◌⊎◌, ℕ, ◌+◌, ◌*◌, ◌^�
 use Rattle.bool_tables.specs.declared.steps.Bin.{Bin}
 use Rattle.shelf_model.specs.World.{World}
 use Rattle.canon_file.specs.Constants.{const_table}
-use Rattle.complement_laws.specs.Complements.{complement}
+use Rattle.room_reduction.specs.Complements.{complement}
 use Rattle.copied_diagrams.specs.declared.operand.Operand.{Operand}
 use Rattle.copied_diagrams.specs.declared.operand.Choice.{Choice}
 use Rattle.copied_diagrams.specs.declared.operand.Choice.TheVariants as choices

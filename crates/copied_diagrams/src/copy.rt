@@ -6,7 +6,7 @@ ghost use Rattle.shelf_model.specs.Calls.{Told, longest, most_piece};
 ghost use Rattle.shelf_model.specs.Faults.{OnlyFolder};
 ghost use Rattle.block_stream.specs.Writes.{Wrote};
 ghost use Rattle.rec_words.specs.Words.{node_size};
-ghost use Rattle.complemented_diagrams.specs.Changes.{Changed};
+ghost use Rattle.room_reduction.specs.Changes.{Changed};
 ghost use Rattle.copied_diagrams.specs.Pairs.{IsSourceOf, IsMade};
 
 use crate::Source;

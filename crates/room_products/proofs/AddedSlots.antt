@@ -13,7 +13,7 @@ use Rattle.top_down.specs.declared.tuple.Tuple.{Tuple}
 use Rattle.top_down.specs.Operations.{two}
 use Rattle.top_down.specs.Tuples.{level_of_tuple}
 use Rattle.top_down.specs.Rules.{Rule, IsAsked}
-use Rattle.complemented_diagrams.specs.Records.{word}
+use Rattle.room_reduction.specs.Records.{word}
 use Rattle.room_products.specs.Slots.{pair_at, id_at, used_at, AreSlots, KeepsSlots}
 
 -- where the number in the last column of a slot is written, the other words stay

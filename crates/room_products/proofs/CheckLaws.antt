@@ -6,7 +6,7 @@ use Rattle.std.specs.Option.{is_some}
 use Rattle.std.proofs.lemmas.Bool.{cases_lt}
 use Rattle.rec_words.specs.declared.rec.Rec.{Rec}
 use Rattle.run_files.specs.Items.{record_at}
-use Rattle.complemented_diagrams.specs.Records.{word}
+use Rattle.room_reduction.specs.Records.{word}
 use Rattle.room_reduction.specs.Sources.{sources_in}
 use Rattle.room_reduction.proofs.PackedSources.{sources_many}
 use Rattle.room_products.specs.Slots.{id_at}

@@ -20,7 +20,7 @@ use Rattle.top_down.specs.Rules.{Rule, IsAsked, IsRule, below_on, table_for}
 use Rattle.top_down.proofs.TupleLaws.{table-terminal}
 use Rattle.top_down.proofs.PointwiseLaws.{are_later}
 use Rattle.top_down.proofs.TurnLaws.{tuple_deep}
-use Rattle.complemented_diagrams.specs.Records.{word}
+use Rattle.room_reduction.specs.Records.{word}
 use Rattle.room_reduction.specs.Sources.{AreSources}
 use Rattle.room_products.specs.Slots.{pair_at, id_at}
 use Rattle.room_products.specs.Joining.{IsAnswer, IsSourceOf, IsJoining, AreDone}

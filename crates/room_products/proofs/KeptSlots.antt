@@ -7,7 +7,7 @@ use Rattle.top_down.specs.declared.tuple.Goal.{Goal}
 use Rattle.top_down.specs.declared.tuple.Goal.TheVariants.{Go}
 use Rattle.top_down.specs.Tuples.{Targets}
 use Rattle.top_down.specs.Rules.{Rule, below_on}
-use Rattle.complemented_diagrams.specs.Records.{word}
+use Rattle.room_reduction.specs.Records.{word}
 use Rattle.room_products.specs.Slots.{pair_at, KeepsSlots}
 use Rattle.room_products.specs.Joining.{IsAnswer, IsSourceOf, AreSourcesOf}
 

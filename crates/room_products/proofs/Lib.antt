@@ -4,7 +4,6 @@ pub mod SourceRows
 pub mod DiagramLaws
 pub mod FirstSlot
 mod AddedSlots
-mod PackedNodes
 mod CheckLaws
 mod SideLaws
 mod SlotJoining

@@ -8,7 +8,7 @@ use Rattle.run_files.specs.Items.{record_at}
 use Rattle.top_down.specs.declared.tuple.Tuple.{Tuple}
 use Rattle.top_down.specs.Tuples.{Targets}
 use Rattle.top_down.specs.Rules.{Rule}
-use Rattle.complemented_diagrams.specs.Records.{word}
+use Rattle.room_reduction.specs.Records.{word}
 use Rattle.room_products.specs.Slots.{id_at, used_at, KeepsUsed}
 use Rattle.room_products.specs.Joining.{IsJoining}
 

@@ -23,13 +23,13 @@ use Rattle.canon_file.specs.Laws.{HasForm}
 use Rattle.canon_file.specs.Walks.{row_at}
 use Rattle.canon_file.proofs.CanonLaws.{canon_bytes-is}
 use Rattle.canon_file.proofs.FileLaws.{is_node_file}
-use Rattle.complemented_diagrams.specs.Records.{node_records, word}
-use Rattle.complemented_diagrams.proofs.CanonicalFile.{bytes_of_nodes, nodes_back}
+use Rattle.room_reduction.specs.Records.{node_records, word}
+use Rattle.room_reduction.proofs.CanonicalFile.{canon_read}
 use Rattle.node_file.specs.Canonical.{IsCanonicalFile}
 use Rattle.top_down.specs.Tuples.{canon_targets}
 use Rattle.room_reduction.proofs.LevelSources.{member_place}
 use Rattle.room_products.specs.Goals.{GivesRows}
-use Rattle.room_products.specs.Operands.{HoldNodes}
+use Rattle.room_reduction.specs.Reading.{HoldNodes}
 
 -- a node's pointers are found by its identifier
 row_at-node : (nodes : List Node) → IsDescending nodes → (x : Node) → Has x nodes
@@ -57,13 +57,8 @@ pub read_gives : (n : ℕ) (t : List Bool) (f : FileNo) (world : World) (count :
 read_gives n t f world count nodes is_file many room held r has =
     let form : HasForm n t = is_file.form in
     let rules : IsNodeFile n t = is_node_file n t form.few form.whole form.fits in
-    let xs : List Node = canon_nodes n t in
-    let trailer : List ℕ = trailer_bytes (canon_root n t) (length xs) n in
-    let bytes : (file world f).bytes ≡ records_bytes 3 (node_records xs) ++ trailer =
-    is_file.bytes_are ∙ canon_bytes-is n t ∙ ap (λ front. front ++ trailer) (sym (bytes_of_nodes xs)) in
     let read : List Rec = records_of 3 count (file world f).bytes in
-    let is : read ≡ node_records xs = (λ j. records_of 3 (many j) (bytes j))
-    ∙ nodes_back xs trailer (λ x has. (rules.proper x has).words) in
+    let is : read ≡ node_records (canon_nodes n t) = canon_read n t f world count is_file many in
     let gives : GivesRows (canon_targets n t) read =
     subst (GivesRows (canon_targets n t)) (sym is) (records_give n t rules) in
     let (k, among, at) = member_place r (take count nodes) has in

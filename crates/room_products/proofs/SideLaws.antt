@@ -11,7 +11,7 @@ use Rattle.packed_records.proofs.PackedLaws.{length-packed}
 use Rattle.canon_file.specs.declared.row.Row.{Row}
 use Rattle.canon_file.specs.Walks.{is_at}
 use Rattle.arc_diagrams.specs.Arcs.{onward}
-use Rattle.complemented_diagrams.specs.Records.{word}
+use Rattle.room_reduction.specs.Records.{word}
 use Rattle.room_products.specs.Goals.{GivesRows}
 
 -- from a node of the level that stands in the records, a walk goes on to its record's targets

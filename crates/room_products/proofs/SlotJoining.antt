@@ -12,7 +12,7 @@ use Rattle.top_down.specs.Operations.{two, product_rule, product_goal}
 use Rattle.top_down.specs.Tuples.{Targets, unused, level_of_tuple, parts}
 use Rattle.top_down.specs.Rules.{IsRule, IsAsked, below_on}
 use Rattle.top_down.proofs.TupleLaws.{onward-past}
-use Rattle.complemented_diagrams.specs.Records.{word}
+use Rattle.room_reduction.specs.Records.{word}
 use Rattle.room_products.specs.Slots.{pair_at, id_at, AreSlots, KeepsSlots}
 use Rattle.room_products.specs.Joining.{IsAnswer, IsSourceOf, AreSourcesOf, IsTarget, IsJoining}
 use Rattle.room_products.proofs.KeptSlots.{keeps_both, answer_kept}

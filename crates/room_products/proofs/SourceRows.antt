@@ -12,7 +12,7 @@ use Rattle.arc_file.specs.declared.arc.Arc.{Arc}
 use Rattle.arc_diagrams.proofs.CanonArcs.{arc_to, has_arc_to}
 use Rattle.top_down.specs.Tuples.{Targets}
 use Rattle.top_down.specs.Rules.{Rule, below_on}
-use Rattle.complemented_diagrams.specs.Records.{word}
+use Rattle.room_reduction.specs.Records.{word}
 use Rattle.room_reduction.proofs.LevelSources.{member_place}
 use Rattle.room_products.specs.Slots.{pair_at, id_at}
 use Rattle.room_products.specs.Joining.{IsAnswer, IsSourceOf, AreSourcesOf, AreDone}

@@ -6,7 +6,7 @@ use Rattle.canon_file.specs.declared.row.Row.{Row}
 use Rattle.top_down.specs.declared.tuple.Goal.{Goal}
 use Rattle.top_down.specs.declared.tuple.Goal.TheVariants.{End, Go}
 use Rattle.top_down.specs.Tuples.{Targets}
-use Rattle.complemented_diagrams.specs.Records.{word}
+use Rattle.room_reduction.specs.Records.{word}
 
 -- the truth value in which a pair ends
 abbrev pub end_in : Goal → Option Bool

@@ -13,7 +13,7 @@ use Rattle.arc_diagrams.specs.Laws.{IsDiagramOf}
 use Rattle.copied_diagrams.specs.declared.source.Source.{Source}
 use Rattle.node_file.specs.Canonical.{IsCanonicalFile}
 use Rattle.copied_diagrams.specs.Pairs.{IsTrailerOf}
-use Rattle.complemented_diagrams.specs.Records.{word}
+use Rattle.room_reduction.specs.Records.{word}
 use Rattle.room_reduction.specs.Sources.{AreSources}
 
 -- the node of a source's record, and the arcs of such records

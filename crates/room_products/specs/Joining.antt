@@ -9,7 +9,7 @@ use Rattle.top_down.specs.declared.tuple.Goal.{Goal}
 use Rattle.top_down.specs.declared.tuple.Goal.TheVariants.{End, Go}
 use Rattle.top_down.specs.Tuples.{Targets}
 use Rattle.top_down.specs.Rules.{Rule, below_on}
-use Rattle.complemented_diagrams.specs.Records.{word}
+use Rattle.room_reduction.specs.Records.{word}
 use Rattle.room_products.specs.Slots.{pair_at, id_at, AreSlots}
 
 -- the word is the truth value in which a pair ends, or the identifier of the slot of the pair that is asked for

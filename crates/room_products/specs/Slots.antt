@@ -7,7 +7,7 @@ use Rattle.top_down.specs.declared.tuple.Tuple.{Tuple}
 use Rattle.top_down.specs.Operations.{two}
 use Rattle.top_down.specs.Tuples.{level_of_tuple}
 use Rattle.top_down.specs.Rules.{Rule, IsAsked}
-use Rattle.complemented_diagrams.specs.Records.{word}
+use Rattle.room_reduction.specs.Records.{word}
 
 -- the pair of the slot at a place, and its identifier
 abbrev pub pair_at : List Rec → ℕ → Tuple

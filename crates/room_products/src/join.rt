@@ -4,18 +4,17 @@ ghost use Rattle.std.specs.Prelude.{IfOk, IfErr, IfSome, IfNone};
 ghost use Rattle.shelf_model.specs.Calls.{Told};
 ghost use Rattle.shelf_model.specs.Faults.{OnlyShelf};
 ghost use Rattle.block_stream.specs.Reads.{Looked};
-ghost use Rattle.complemented_diagrams.specs.Changes.{Changed};
+ghost use Rattle.room_reduction.specs.Changes.{Changed};
 ghost use Rattle.copied_diagrams.specs.Operands.{pair_table};
 ghost use Rattle.room_reduction.specs.Sources.{sources_in};
 ghost use Rattle.room_products.specs.Joined.{IsOperandOf, IsJoined, AreOfTable};
 
 use crate::operands::Nodes;
-use crate::reading::read_operand;
 use crate::tables::{Tabled, join_nodes};
 use bool_tables::Bin;
 use copied_diagrams::Source;
 use rec_words::{Ptr, Rec};
-use room_reduction::reduce_sources;
+use room_reduction::{read_nodes, reduce_sources};
 use shelf_model::{FileNo, Shelf, StreamFault};
 
 /// The records through which nodes are read and written: no fewer than a piece has.
@@ -170,10 +169,10 @@ fn join_operands<S: Shelf>(
     let (lefts, rest) = rest.split_at_mut(left_count / 4 + 1);
     let (rights, rest) = rest.split_at_mut(right_count / 4 + 1);
     let (buckets, _spare) = rest.split_at_mut(most / 10 + 1);
-    if !read_operand(left.from, left_count, lefts, window, shelf)? {
+    if !read_nodes(left.from, left_count, lefts, window, shelf)? {
         return Ok(None);
     }
-    if !read_operand(right.from, right_count, rights, window, shelf)? {
+    if !read_nodes(right.from, right_count, rights, window, shelf)? {
         return Ok(None);
     }
     let left_nodes = Nodes {

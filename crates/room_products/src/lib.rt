@@ -8,7 +8,6 @@ mod goals;
 mod join;
 mod levels;
 mod operands;
-mod reading;
 mod slots;
 mod sources;
 mod tables;

@@ -6,7 +6,7 @@ ghost use Rattle.top_down.specs.Operations.{product_rule};
 ghost use Rattle.top_down.specs.Tuples.{Targets};
 ghost use Rattle.top_down.specs.Rules.{IsRule};
 ghost use Rattle.packed_records.specs.Packed.{packed};
-ghost use Rattle.complemented_diagrams.specs.Records.{word};
+ghost use Rattle.room_reduction.specs.Records.{word};
 ghost use Rattle.room_products.specs.Goals.{GiveRows};
 ghost use Rattle.room_products.specs.Operands.{nodes_of};
 ghost use Rattle.room_products.specs.Joining.{IsJoining};

@@ -11,7 +11,7 @@ use Rattle.run_files.specs.Items.{record_at}
 use Rattle.arc_file.specs.declared.arc.Arc.{Arc}
 use Rattle.arc_diagrams.specs.Arcs.{IsComplete, IsMet, target_on}
 use Rattle.arc_diagrams.proofs.TargetLaws.{the_target}
-use Rattle.complemented_diagrams.specs.Records.{word}
+use Rattle.room_reduction.specs.Records.{word}
 use Rattle.room_reduction.specs.Sources.{AreSources}
 use Rattle.room_reduction.specs.Filling.{word_on, IsPut, AreMet}
 use Rattle.room_reduction.proofs.LevelSources.{member_place}

@@ -8,7 +8,7 @@ use Rattle.canon_file.specs.Members.{Has}
 use Rattle.run_files.specs.Items.{record_at}
 use Rattle.arc_file.specs.declared.arc.Arc.{Arc}
 use Rattle.arc_diagrams.specs.Arcs.{IsMet}
-use Rattle.complemented_diagrams.specs.Records.{word}
+use Rattle.room_reduction.specs.Records.{word}
 use Rattle.room_reduction.specs.Filling.{word_on, IsPut, AreMet}
 
 -- two places are the same or not

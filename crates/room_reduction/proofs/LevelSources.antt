@@ -18,7 +18,7 @@ use Rattle.arc_diagrams.specs.Arcs.{sources_of, IsComplete}
 use Rattle.arc_diagrams.specs.Reduction.{final_pointer, final_pair, final_rows}
 use Rattle.arc_diagrams.specs.Reducing.{IsRising}
 use Rattle.arc_diagrams.proofs.FinalLaws.{finds_final}
-use Rattle.complemented_diagrams.specs.Records.{row_in, word}
+use Rattle.room_reduction.specs.Records.{row_in, word}
 use Rattle.room_reduction.specs.Sources.{AreSources}
 use Rattle.room_reduction.specs.Levels.{KeepsEnds, KeepsSources, IsKnown, AreKnown, Names, IsRowOf, AreRowsOf, IsLevel, distinct_rows}
 use Rattle.room_reduction.proofs.RowOrder.{distinct_rows_are}

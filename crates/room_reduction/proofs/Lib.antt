@@ -1,3 +1,9 @@
+pub mod CanonicalFile
+pub mod FirstRecords
+mod FirstPlaces
+pub mod FileChanges
+mod WrittenBytes
+mod ReadPieces
 pub mod FillingLaws
 pub mod FilledLaws
 mod RowOrder
@@ -8,3 +14,5 @@ pub mod LevelSources
 mod LevelSteps
 mod PackedNodes
 mod RoomFile
+mod ComplementLaws
+pub mod ComplementSources

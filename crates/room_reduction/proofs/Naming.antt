@@ -7,7 +7,7 @@ use Rattle.rec_words.specs.declared.rec.Rec.{Rec}
 use Rattle.list_laws.specs.Members.{Has}
 use Rattle.list_laws.proofs.MemberLaws.{has_append}
 use Rattle.run_files.specs.Items.{record_at}
-use Rattle.complemented_diagrams.specs.Records.{word}
+use Rattle.room_reduction.specs.Records.{word}
 use Rattle.room_reduction.specs.Levels.{KeepsSources, IsKnown, Names}
 
 -- lists that are the same from a place on are so from a later one on

@@ -6,7 +6,7 @@ use Rattle.rec_words.specs.declared.node.Node.{Node}
 use Rattle.rec_words.specs.declared.rec.Rec.{Rec}
 use Rattle.block_stream.specs.Records.{record_bytes, records_bytes}
 use Rattle.run_files.specs.Items.{record_at}
-use Rattle.complemented_diagrams.specs.Records.{node_records, word}
+use Rattle.room_reduction.specs.Records.{node_records, word}
 use Rattle.packed_records.specs.Packed.{packed}
 use Rattle.packed_records.proofs.PackedLaws.{length-packed}
 

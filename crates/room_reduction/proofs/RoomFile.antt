@@ -11,8 +11,8 @@ use Rattle.arc_file.specs.declared.arc.Arc.{Arc}
 use Rattle.arc_diagrams.specs.Laws.{IsDiagramOf}
 use Rattle.arc_diagrams.specs.Reduction.{final_pointer, final_nodes}
 use Rattle.arc_diagrams.proofs.ReduceLaws.{reduces}
-use Rattle.complemented_diagrams.specs.Records.{node_records}
-use Rattle.complemented_diagrams.proofs.CanonicalFile.{bytes_of_nodes}
+use Rattle.room_reduction.specs.Records.{node_records}
+use Rattle.room_reduction.proofs.CanonicalFile.{bytes_of_nodes}
 use Rattle.room_reduction.specs.Levels.{nodes_down_to}
 
 module _ (n root : ℕ) (arcs : List Arc) (t : List Bool) (variables : n ≤ 65535) (few : length arcs ≤ 2 ^ 47)

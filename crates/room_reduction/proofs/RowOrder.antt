@@ -11,7 +11,7 @@ use Rattle.canon_file.proofs.MemberLaws.{either_bit, filter_has, ascending_ascen
 use Rattle.canon_file.proofs.RowLaws.{row_order}
 use Rattle.arc_diagrams.specs.Reducing.{IsRising}
 use Rattle.arc_diagrams.proofs.RowLists.{distinct_is}
-use Rattle.complemented_diagrams.specs.Records.{row_in}
+use Rattle.room_reduction.specs.Records.{row_in}
 use Rattle.room_reduction.specs.Levels.{distinct_rows}
 
 not_before : (x s r : Row) → row_before x s ≡ false → row_before s r ≡ false → row_before x r ≡ false

@@ -10,7 +10,7 @@ use Rattle.block_stream.specs.Items.{AreAhead}
 use Rattle.arc_file.specs.declared.arc.Arc.{Arc}
 use Rattle.arc_file.specs.Arcs.{arc_words, IsArc}
 use Rattle.arc_diagrams.specs.Arcs.{IsMet}
-use Rattle.complemented_diagrams.specs.Records.{word}
+use Rattle.room_reduction.specs.Records.{word}
 
 -- the target of a source on a side, in its record
 abbrev pub word_on : Bool → Rec → ℕ

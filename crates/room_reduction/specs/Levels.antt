@@ -1,17 +1,19 @@
 -- The reduction of a diagram in the room, whose deepest levels are done.
-use Rattle.std.specs.Prelude.{◌≡◌, ℕ, zero, suc, ◌+◌, ◌<◌, ◌≤◌, List, [], ◌∷◌, ◌++◌, length, map, filter, take, drop, Option, Some, None}
+use Rattle.std.specs.Prelude.{◌≡◌, ℕ, zero, suc, ◌+◌, ◌<◌, ◌≤◌, Bool, List, [], ◌∷◌, ◌++◌, length, map, filter, take, drop, Option, Some, None}
 use Rattle.rec_words.specs.Words.{level_of, IsTerminal}
 use Rattle.rec_words.specs.declared.rec.Rec.{Rec}
 use Rattle.list_laws.specs.Members.{Has}
 use Rattle.run_files.specs.Items.{record_at}
 use Rattle.canon_file.specs.declared.row.Row.{Row}
 use Rattle.canon_file.specs.Pairs.{differs}
-use Rattle.canon_file.specs.Canon.{numbered}
+use Rattle.canon_file.specs.Canon.{numbered, canon_nodes, canon_bytes, trailer_bytes}
+use Rattle.canon_file.specs.Laws.{HasForm}
+use Rattle.block_stream.specs.Records.{records_bytes}
 use Rattle.arc_file.specs.declared.arc.Arc.{Arc}
 use Rattle.arc_diagrams.specs.Arcs.{IsComplete}
 use Rattle.arc_diagrams.specs.Reduction.{final_pointer}
 use Rattle.arc_diagrams.specs.Reducing.{nodes_from, distinct_after}
-use Rattle.complemented_diagrams.specs.Records.{node_records, row_in, word}
+use Rattle.room_reduction.specs.Records.{node_records, row_in, word}
 use Rattle.room_reduction.specs.Sources.{AreSources}
 
 -- f gives each truth value back
@@ -96,3 +98,9 @@ pub record IsPacked (n root : ℕ) (arcs : List Arc) (i from count : ℕ) (sourc
 pub record IsCounted (n root : ℕ) (arcs : List Arc) (i from count : ℕ) (sources : List Rec) : Type 0 where
   pub done : IsDone n root arcs i from sources
   pub count_is : count ≡ length (nodes_down_to i n arcs)
+
+-- the first so many records, and a trailer with that root, are the canonical file of the table
+pub record IsReduced (n : ℕ) (t : List Bool) (root count : ℕ) (nodes : List Rec) : Type 0 where
+  pub form : HasForm n t
+  pub bytes_are : records_bytes 3 (take count nodes) ++ trailer_bytes root count n ≡ canon_bytes n t
+  pub count_is : count ≡ length (canon_nodes n t)

@@ -5,7 +5,7 @@ use Rattle.rec_words.specs.declared.rec.Rec.{Rec}
 use Rattle.rec_words.specs.Words.{level_of}
 use Rattle.run_files.specs.Items.{record_at}
 use Rattle.packed_records.specs.Packed.{packed}
-use Rattle.complemented_diagrams.specs.Records.{word}
+use Rattle.room_reduction.specs.Records.{word}
 use Rattle.arc_file.specs.declared.arc.Arc.{Arc}
 use Rattle.arc_diagrams.specs.Arcs.{IsMet, targets_of}
 

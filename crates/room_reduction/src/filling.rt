@@ -11,7 +11,7 @@ ghost use Rattle.arc_file.specs.Files.{HasArcs, BeginWith};
 ghost use Rattle.arc_diagrams.specs.Arcs.{IsComplete, IsMet};
 ghost use Rattle.packed_records.specs.Packed.{packed};
 ghost use Rattle.run_files.specs.Items.{record_at};
-ghost use Rattle.complemented_diagrams.specs.Records.{word};
+ghost use Rattle.room_reduction.specs.Records.{word};
 ghost use Rattle.room_reduction.specs.Sources.{sources_in, AreSources};
 ghost use Rattle.room_reduction.specs.Filling.{word_on, AreMet, StillGives, GivesNext};
 

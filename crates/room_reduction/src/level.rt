@@ -6,7 +6,7 @@ ghost use Rattle.canon_file.specs.Canon.{numbered};
 ghost use Rattle.arc_file.specs.declared.arc.Arc.{Arc};
 ghost use Rattle.arc_diagrams.specs.Arcs.{IsComplete};
 ghost use Rattle.arc_diagrams.specs.Reduction.{final_pointer, final_rows};
-ghost use Rattle.complemented_diagrams.specs.Records.{node_records, word};
+ghost use Rattle.room_reduction.specs.Records.{node_records, word};
 ghost use Rattle.packed_records.specs.Packed.{packed};
 ghost use Rattle.room_reduction.specs.Sources.{sources_in};
 ghost use Rattle.room_reduction.specs.Levels.{KeepsSources, AreKnown, IsLevel, IsDone, IsPacked};

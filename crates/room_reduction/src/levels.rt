@@ -8,16 +8,23 @@ ghost use Rattle.canon_file.specs.Canon.{canon_nodes, canon_bytes};
 ghost use Rattle.arc_file.specs.declared.arc.Arc.{Arc};
 ghost use Rattle.arc_diagrams.specs.Arcs.{IsComplete};
 ghost use Rattle.arc_diagrams.specs.Laws.{IsDiagramOf};
-ghost use Rattle.complemented_diagrams.specs.Changes.{Changed};
+ghost use Rattle.room_reduction.specs.Changes.{Changed};
 ghost use Rattle.packed_records.specs.Packed.{packed};
 ghost use Rattle.room_reduction.specs.Sources.{AreSources, sources_in};
-ghost use Rattle.room_reduction.specs.Levels.{IsPacked};
+ghost use Rattle.room_reduction.specs.Levels.{IsPacked, IsReduced};
 
 use crate::level::{Done, reduce_level};
 use crate::nodes::write_packed;
 use crate::rows::became;
 use rec_words::{Ptr, Rec};
 use shelf_model::{FileNo, Shelf, StreamFault};
+
+/// How many nodes a diagram has, and the word of its root.
+#[derive(Clone, Copy)]
+pub(crate) struct Reduced {
+    pub(crate) count: usize,
+    pub(crate) root: u64,
+}
 
 /// Makes the node file of the diagram whose sources stand in the room, so many, and answers how many nodes it has. None
 /// is answered, and no file is changed, where they aren't those of a diagram, where there is no room for the nodes,
@@ -49,14 +56,36 @@ pub fn reduce_sources<S: Shelf>(
         (Changed (total + 6) out (S.world shelf.old) (S.world shelf.new)) }
     ensures faults { OnlyShelf (S.faults shelf.old) (S.faults shelf.new) result }
 {
-    let Some(count) = reduce_levels(n, sources, total, firsts, nodes, rows) else {
+    let Some(reduced) = reduce_nodes(n, root.word(), sources, total, firsts, nodes, rows) else {
         return Ok(None);
     };
-    let Some(word) = became(sources, total, firsts, 0, root.word()) else {
-        return Ok(None);
-    };
-    write_packed(out, n, nodes, count, word, window, shelf)?;
-    Ok(Some(count as u64))
+    write_packed(out, n, nodes, reduced.count, reduced.root, window, shelf)?;
+    Ok(Some(reduced.count as u64))
+}
+
+/// Makes the nodes of the diagram whose sources stand in the room, so many, and answers how many there are and what the
+/// root became.
+pub(crate) fn reduce_nodes(
+    n: u32,
+    root: u64,
+    sources: &mut [Rec],
+    total: usize,
+    firsts: &[Rec],
+    nodes: &mut [Rec],
+    rows: &mut [Rec],
+) -> Option<Reduced>
+    requires variables { n ≤ 65535 }
+    requires many { total ≤ 4 * length sources.old }
+    requires few { total ≤ 2 ^ 17 }
+    ensures within { IfSome result (λ r. r.count ≤ total) }
+    ensures room { IfSome result (λ r. r.count ≤ 4 * length nodes.new) }
+    ensures made { IfSome result (λ r. (arcs : List Arc) → (t : List Bool) → length arcs ≤ 2 ^ 47 →
+        IsDiagramOf n root arcs t → AreSources n root arcs (sources_in total sources.old) →
+        IsReduced n t r.root r.count (packed nodes.new)) }
+{
+    let count = reduce_levels(n, sources, total, firsts, nodes, rows)?;
+    let root = became(sources, total, firsts, 0, root)?;
+    Some(Reduced { count, root })
 }
 
 // Makes the nodes of all levels, the deepest first, and answers how many there are. Each source says then what it

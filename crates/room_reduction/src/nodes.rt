@@ -6,14 +6,13 @@ ghost use Rattle.shelf_model.specs.World.{file};
 ghost use Rattle.shelf_model.specs.Calls.{Told};
 ghost use Rattle.shelf_model.specs.Faults.{OnlyShelf};
 ghost use Rattle.canon_file.specs.Canon.{trailer_bytes};
-ghost use Rattle.block_stream.specs.Records.{records_bytes};
+ghost use Rattle.block_stream.specs.Records.{record_bytes, records_bytes};
 ghost use Rattle.block_stream.specs.Writes.{Wrote, IsFilling, InStep, IsWriting, SameFile, written};
-ghost use Rattle.complemented_diagrams.specs.Changes.{Changed};
-ghost use Rattle.complemented_diagrams.specs.Records.{node_records};
+ghost use Rattle.room_reduction.specs.Changes.{Changed};
+ghost use Rattle.room_reduction.specs.Records.{node_records};
 ghost use Rattle.packed_records.specs.Packed.{packed};
 
 use block_stream::{Filling, put_record, settle_records};
-use complemented_diagrams::trailer_with;
 use packed_records::record_of;
 use rec_words::Rec;
 use shelf_model::{FileNo, Shelf, StreamFault};
@@ -92,4 +91,38 @@ fn put_packed<S: Shelf>(
         put_record(window, filling, record_of(nodes, place), shelf)?;
     }
     Ok(())
+}
+
+/// Puts nodes behind one another.
+pub(crate) fn put_nodes<S: Shelf>(
+    nodes: &[Rec],
+    window: &mut [Rec],
+    filling: &mut Filling,
+    shelf: &mut S,
+) -> Result<(), StreamFault>
+    requires fills { IsFilling filling.old (length window.old) }
+    requires words { filling.old.words ≡ 3 }
+    requires in_step { IsTrue (S.tells shelf.old) → InStep filling.old (S.world shelf.old) }
+    ensures fills { IsFilling filling.new (length window.new) }
+    ensures same { SameFile filling.old filling.new }
+    ensures bytes { OnOk result (IsTrue (S.tells shelf.new) → IsWriting filling.new window.new (S.world shelf.new)
+        (written filling.old window.old (S.world shelf.old) ++ records_bytes 3 nodes.now)) }
+    ensures cause { IfErr result (λ e. e ≡ StreamFault.Shelf) }
+    ensures content { Told S.tells shelf.old shelf.new
+        (Wrote (length nodes.now) filling.old.file (S.world shelf.old) (S.world shelf.new)) }
+    ensures faults { OnlyShelf (S.faults shelf.old) (S.faults shelf.new) result }
+{
+    for node in nodes {
+        put_record(window, filling, *node, shelf)?;
+    }
+    Ok(())
+}
+
+/// The record of a trailer.
+pub(crate) fn trailer_with(root: u64, count: u64, n: u32) -> Rec
+    ensures { record_bytes 3 result ≡ trailer_bytes root count n }
+{
+    Rec {
+        w: [root, count, u64::from(n), 0, 0, 0, 0, 0],
+    }
 }

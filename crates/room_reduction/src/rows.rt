@@ -2,7 +2,7 @@
 ghost use Rattle.std.specs.Prelude.{◌≡◌, ℕ, ◌+◌, ◌*◌, ◌<◌, ◌≤◌, IsTrue, IfSome, length, map};
 ghost use Rattle.canon_file.specs.Rows.{row_before};
 ghost use Rattle.arc_diagrams.specs.Reducing.{IsRising};
-ghost use Rattle.complemented_diagrams.specs.Records.{row_in};
+ghost use Rattle.room_reduction.specs.Records.{row_in};
 ghost use Rattle.room_reduction.specs.Sources.{sources_in};
 ghost use Rattle.room_reduction.specs.Levels.{KeepsEnds, AreKnown, IsRowOf, AreRowsOf};
 

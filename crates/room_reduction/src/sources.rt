@@ -1,7 +1,7 @@
 //! The sources of a diagram, as packed records in the room.
 ghost use Rattle.std.specs.Prelude.{◌≡◌, ◌≢◌, ℕ, ◌*◌, ◌<◌, ◌≤◌, IsTrue, IfSome, length};
 ghost use Rattle.run_files.specs.Items.{record_at};
-ghost use Rattle.complemented_diagrams.specs.Records.{word};
+ghost use Rattle.room_reduction.specs.Records.{word};
 ghost use Rattle.room_reduction.specs.Sources.{sources_in};
 
 use packed_records::{put_word, word_at};
@@ -39,17 +39,17 @@ pub(crate) fn put_source_word(
     put_word(sources, place, column, to)
 }
 
-/// The place of a source among so many, where it is found: its level begins at a place that is kept, if that is right,
-/// and it has its number among those of the level.
+/// The place of a source among so many, where it is found: of its level the place is kept where its first number would
+/// stand, if that is right. A level of which none is kept is looked for by halves: the sources ascend.
 pub fn find(sources: &[Rec], count: usize, firsts: &[Rec], source: u64) -> Option<usize>
     requires many { count ≤ 4 * length sources.now }
     ensures { IfSome result (λ k. (k < count) × (word 0 (record_at (sources_in count sources.now) k) ≡ source)) }
 {
     let level = (source / LEVEL_NUMBERS) as usize;
     if level >= firsts.len() {
-        return None;
+        return search(sources, count, source);
     }
-    let place = firsts[level].w[0].saturating_add(source % LEVEL_NUMBERS);
+    let place = firsts[level].w[0].wrapping_add(source % LEVEL_NUMBERS);
     if place >= count as u64 {
         return None;
     }
@@ -58,4 +58,26 @@ pub fn find(sources: &[Rec], count: usize, firsts: &[Rec], source: u64) -> Optio
         return None;
     }
     Some(place)
+}
+
+// The place of a source among so many that ascend.
+fn search(sources: &[Rec], count: usize, source: u64) -> Option<usize>
+    requires many { count ≤ 4 * length sources.now }
+    ensures { IfSome result (λ k. (k < count) × (word 0 (record_at (sources_in count sources.now) k) ≡ source)) }
+{
+    let mut from = 0;
+    let mut to = count;
+    'halves: while from < to {
+        let middle = from + (to - from) / 2;
+        let there = source_word(sources, count, middle, 0);
+        if there == source {
+            return Some(middle);
+        }
+        if there < source {
+            from = middle + 1;
+        } else {
+            to = middle;
+        }
+    }
+    None
 }

@@ -12,15 +12,15 @@ ghost use Rattle.arc_file.specs.declared.arc.Arc.{Arc};
 ghost use Rattle.arc_diagrams.specs.Arcs.{IsComplete};
 ghost use Rattle.arc_diagrams.specs.Laws.{IsDiagramOf};
 ghost use Rattle.arc_diagrams.specs.Reduction.{final_rows};
-ghost use Rattle.complemented_diagrams.specs.Changes.{Changed};
-ghost use Rattle.complemented_diagrams.specs.Records.{node_records};
+ghost use Rattle.room_reduction.specs.Changes.{Changed};
+ghost use Rattle.room_reduction.specs.Records.{node_records};
 ghost use Rattle.room_reduction.specs.Sources.{AreSources, sources_in};
 ghost use Rattle.room_reduction.specs.Levels.{IsDone, IsCounted, nodes_down_to};
 
 use crate::level::{Done, nodes_of_level};
+use crate::nodes::{put_nodes, trailer_with};
 use crate::rows::became;
 use block_stream::{Filling, put_record, settle_records};
-use complemented_diagrams::{put_nodes, trailer_with};
 use rec_words::{Ptr, Rec};
 use shelf_model::{FileNo, Shelf, StreamFault};
 

@@ -13,8 +13,8 @@ use Rattle.shelf_model.specs.World.{World, file}
 use Rattle.block_stream.specs.Reads.{Looked}
 use Rattle.run_tiers.specs.Faults.{OnlySortShelf}
 use Rattle.node_file.specs.Canonical.{IsCanonicalFile}
-use Rattle.complement_laws.specs.Complements.{complement}
-use Rattle.complemented_diagrams.specs.Changes.{Changed}
+use Rattle.room_reduction.specs.Complements.{complement, IsWritten}
+use Rattle.room_reduction.specs.Changes.{Changed}
 use Rattle.copied_diagrams.specs.declared.pair.Pair.{Pair}
 use Rattle.copied_diagrams.specs.declared.source.Source.{Source}
 use Rattle.copied_diagrams.specs.declared.way.Way.{Way}
@@ -112,12 +112,12 @@ pair_read tells world op making pair old mid is left right look trailers = recor
 pub complement_is : (n : ℕ) (table : List Bool) (most : ℕ) (source : Source) (to : FileNo) (old new : World)
     → source.trailer.n ≡ n → LeadsTo n table most (Complement source) old
     → ((t : List Bool) → IsCanonicalFile source.trailer.n t source.from old → IsTrailerOf source.trailer.n t source.trailer
-    → file new to ≡ firm_file (canon_bytes source.trailer.n (complement t)))
+    → IsWritten source.trailer.n (complement t) to source.trailer.count new)
     → IsMade n table to source.trailer.count new
 complement_is n table most source to old new variables leads made =
     complement_made n leads.0 table most source to old new leads.1 leads.2
     (subst (λ k. (t : List Bool) → IsCanonicalFile k t source.from old → IsTrailerOf k t source.trailer
-    → file new to ≡ firm_file (canon_bytes k (complement t))) variables made)
+    → IsWritten k (complement t) to source.trailer.count new) variables made)
 
 module _ {S : Type 0} (tells : S → Bool) (world : S → World) (counts : S → Faults) (op : Bin) (making : Making)
     (pair : Pair) (old : S) (are : IsPairOf tells world op making pair old) where

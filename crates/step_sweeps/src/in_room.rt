@@ -2,7 +2,7 @@
 ghost use Rattle.std.specs.Prelude.{◌≡◌, ◌+◌, ◌*◌, ◌/◌, ◌^◌, ◌<◌, ◌≤◌, min, Bool, IsTrue, List, IfOk, IfErr, IfSome, length};
 ghost use Rattle.shelf_model.specs.Calls.{Told};
 ghost use Rattle.shelf_model.specs.Faults.{OnlyShelf};
-ghost use Rattle.complemented_diagrams.specs.Changes.{Changed};
+ghost use Rattle.room_reduction.specs.Changes.{Changed};
 ghost use Rattle.copied_diagrams.specs.Pairs.{IsMade};
 ghost use Rattle.top_down_sweep.specs.Tasks.{AreArcFiles};
 ghost use Rattle.step_sweeps.specs.Made.{HasArcFiles, node_file, arc_count};

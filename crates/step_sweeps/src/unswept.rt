@@ -11,9 +11,9 @@ use crate::arcs::FIRST_PART;
 use crate::joining::join;
 use crate::task::Making;
 use bool_tables::Bin;
-use complemented_diagrams::complement_file;
 use copied_diagrams::{Pair, Source, copy_diagram, make_constant};
 use rec_words::Rec;
+use room_reduction::complement_file;
 use shelf_model::{FileNo, Shelf, SortFault};
 
 /// Makes the step's node file that of a constant.

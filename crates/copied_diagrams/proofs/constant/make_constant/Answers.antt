@@ -1,4 +1,4 @@
-use Rattle.std.proofs.Common.{◌≡◌, rules}
+use Rattle.std.proofs.Common.{rules}
 use Rattle.copied_diagrams.proofs.PairRuns.{constant_made}
 use Rattle.copied_diagrams.proofs.constant.make_constant.Goals as goal
 

@@ -2,7 +2,7 @@ use Rattle.std.proofs.Common.{◌≡◌, ◌*◌, ◌≤◌, ℕ, List, take}
 use Rattle.std.specs.Prelude.{IsTrue}
 use Rattle.shelf_model.specs.World.{file}
 use Rattle.shelf_model.specs.Calls.{Told, most_piece}
-use Rattle.complemented_diagrams.specs.Changes.{Changed}
+use Rattle.room_reduction.specs.Changes.{Changed}
 use Rattle.copied_diagrams.proofs.copy.copy_pieces.Given as goal
 
 -- the pieces before this one stand in the file

@@ -1,6 +1,6 @@
 use Rattle.std.proofs.Common.{◌≡◌, ℕ, ◌<◌}
 use Rattle.run_files.specs.Items.{record_at}
-use Rattle.complemented_diagrams.specs.Records.{word}
+use Rattle.room_reduction.specs.Records.{word}
 use Rattle.room_reduction.specs.Sources.{sources_in}
 use Rattle.room_products.specs.Slots.{id_at}
 use Rattle.room_products.proofs.checks.are_done.Given as goal

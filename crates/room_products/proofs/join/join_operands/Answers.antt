@@ -16,16 +16,16 @@ use Rattle.room_products.proofs.join.join_operands.Goals as goal
 pub returns-clause-joined : goal.returns-clause-joined
 returns-clause-joined g c told n t u few left right =
     let op = c.args.op in
-    let mid = c.read_operand-2.ensures.content.before told in
-    let looked = c.read_operand.ensures.content.did mid in
+    let mid = c.read_nodes-2.ensures.content.before told in
+    let looked = c.read_nodes.ensures.content.did mid in
     let form_t = left.file_of.form in
     let form_u = right.file_of.form in
     let first_is = c.word-first.ensures.value ∙ left.trailer_of.root_is in
     let second_is = c.word-second.ensures.value ∙ right.trailer_of.root_is in
     let lefts = c.split_at_mut-lefts.ensures.front_len in
     let rights = c.split_at_mut-rights.ensures.front_len in
-    let lefts_long = c.read_operand.auto.nodes in
-    let rights_long = c.read_operand-2.auto.nodes in
+    let lefts_long = c.read_nodes.auto.nodes in
+    let rights_long = c.read_nodes-2.auto.nodes in
     some_both _ _ _ c.join_nodes.result (λ tabled within made.
     subst (AreOfTable n tabled.root (pair_table n op t u))
     (sym (front_sources tabled.count c.join_nodes.new.sources _ within))
@@ -33,13 +33,13 @@ returns-clause-joined g c told n t u few left right =
     (product_table n op t u form_t form_u _ _ first_is second_is)
     (made n (targets_of_two n t u) few (product_rules n op t u form_t form_u _ _ first_is second_is)
     (record {
-      first = read_gives n t c.args.left.from _ c.args.left.trailer.count (packed c.read_operand.new.nodes) left.file_of
-          left.trailer_of.count_is (omega (arith, lefts, lefts_long, length-packed c.read_operand.new.nodes))
-          (c.in_ok-read_operand.ensures.read c.if-not-branch.false mid);
-      second = read_gives n u c.args.right.from _ c.args.right.trailer.count (packed c.read_operand-2.new.nodes)
+      first = read_gives n t c.args.left.from _ c.args.left.trailer.count (packed c.read_nodes.new.nodes) left.file_of
+          left.trailer_of.count_is (omega (arith, lefts, lefts_long, length-packed c.read_nodes.new.nodes))
+          (c.in_ok-read_nodes.ensures.read c.if-not-branch.false mid);
+      second = read_gives n u c.args.right.from _ c.args.right.trailer.count (packed c.read_nodes-2.new.nodes)
           (file_before n _ u c.args.right.from _ _ looked right.file_of) right.trailer_of.count_is
-          (omega (arith, rights, rights_long, length-packed c.read_operand-2.new.nodes))
-          (c.in_ok-read_operand-2.ensures.read c.if-not-branch-2.false told);
+          (omega (arith, rights, rights_long, length-packed c.read_nodes-2.new.nodes))
+          (c.in_ok-read_nodes-2.ensures.read c.if-not-branch-2.false told);
     })
     (product_asked n op t u form_t form_u _ _ first_is second_is))))
     c.join_nodes.ensures.few c.join_nodes.ensures.joined

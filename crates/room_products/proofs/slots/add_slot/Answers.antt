@@ -3,7 +3,7 @@ use Rattle.rec_words.specs.Words.{level_numbers}
 use Rattle.packed_records.specs.Packed.{packed}
 use Rattle.packed_records.proofs.PackedLaws.{length-packed}
 use Rattle.top_down.specs.Operations.{two}
-use Rattle.complemented_diagrams.specs.Records.{word}
+use Rattle.room_reduction.specs.Records.{word}
 use Rattle.room_products.proofs.AddedSlots.{slots_added, level_of_two, more_slots}
 use Rattle.room_products.proofs.slots.add_slot.Goals as goal
 

@@ -2,7 +2,7 @@ use Rattle.std.proofs.Common.{◌∙◌, ◌-◌, ap, arith}
 use Rattle.run_files.specs.Items.{record_at}
 use Rattle.packed_records.specs.Packed.{packed}
 use Rattle.top_down.specs.Operations.{two}
-use Rattle.complemented_diagrams.specs.Records.{word}
+use Rattle.room_reduction.specs.Records.{word}
 use Rattle.room_products.specs.Slots.{pair_at, id_at}
 use Rattle.room_products.proofs.AddedSlots.{words_linked}
 use Rattle.room_products.proofs.slots.link_slot.Goals.{then-last-gt0+then-last-slots, else-last-gt0}

@@ -2,7 +2,7 @@ use Rattle.std.proofs.Common.{◌<◌, ◌-◌, ap, arith}
 use Rattle.rec_words.specs.Words.{level_of}
 use Rattle.run_files.specs.Items.{record_at}
 use Rattle.packed_records.specs.Packed.{packed}
-use Rattle.complemented_diagrams.specs.Records.{word}
+use Rattle.room_reduction.specs.Records.{word}
 use Rattle.room_reduction.proofs.FillingLaws.{one_more}
 use Rattle.room_reduction.proofs.filling.add_source.Goals as goal
 use Rattle.room_reduction.proofs.filling.add_source.Goals.{else-found-gt0-via-then-found-gt0+else-word_at-source, else-found-gt0-via-else-found-gt0}

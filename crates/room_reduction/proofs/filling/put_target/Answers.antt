@@ -1,6 +1,6 @@
 use Rattle.std.proofs.Common.{◌∙◌, sym, ap}
 use Rattle.packed_records.specs.Packed.{packed}
-use Rattle.complemented_diagrams.specs.Records.{word}
+use Rattle.room_reduction.specs.Records.{word}
 use Rattle.room_reduction.proofs.PackedSources.{source_at}
 use Rattle.room_reduction.proofs.FillingLaws.{arc_put}
 use Rattle.room_reduction.proofs.filling.put_target.Goals as goal

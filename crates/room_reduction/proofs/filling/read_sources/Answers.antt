@@ -3,7 +3,7 @@ use Rattle.std.specs.Prelude.{IfSome}
 use Rattle.std.proofs.lemmas.List.{append-nil}
 use Rattle.arc_file.specs.declared.arc.Arc.{Arc}
 use Rattle.arc_file.specs.Files.{BeginWith}
-use Rattle.complemented_diagrams.proofs.FirstRecords.{bytes_looked}
+use Rattle.room_reduction.proofs.FirstRecords.{bytes_looked}
 use Rattle.packed_records.specs.Packed.{packed}
 use Rattle.packed_records.proofs.PackedLaws.{length-packed}
 use Rattle.room_reduction.specs.Filling.{AreMet}

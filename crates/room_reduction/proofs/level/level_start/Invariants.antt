@@ -1,7 +1,7 @@
 use Rattle.std.proofs.Common.{◌≡◌, ℕ, ◌<◌, ◌≤◌}
 use Rattle.rec_words.specs.Words.{level_of}
 use Rattle.run_files.specs.Items.{record_at}
-use Rattle.complemented_diagrams.specs.Records.{word}
+use Rattle.room_reduction.specs.Records.{word}
 use Rattle.room_reduction.specs.Sources.{sources_in}
 use Rattle.room_reduction.proofs.level.level_start.Given as goal
 

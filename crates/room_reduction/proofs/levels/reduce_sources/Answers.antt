@@ -1,33 +1,10 @@
-use Rattle.std.proofs.Common.{◌≡◌, ◌∙◌, ◌++◌, length, take, sym, ap, arith}
-use Rattle.std.proofs.lemmas.List.{length-take-le}
+use Rattle.std.proofs.Common.{◌∙◌, ap, subst}
 use Rattle.shelf_model.specs.File.{firm_file}
-use Rattle.canon_file.specs.Canon.{trailer_bytes}
-use Rattle.block_stream.specs.Records.{records_bytes}
-use Rattle.arc_diagrams.specs.Reduction.{final_pointer}
-use Rattle.packed_records.specs.Packed.{packed}
-use Rattle.packed_records.proofs.PackedLaws.{length-packed}
-use Rattle.room_reduction.proofs.LevelSources.{final_keeps_ends}
-use Rattle.room_reduction.proofs.RoomFile.{nodes_many, bytes_canonical}
+use Rattle.arc_diagrams.specs.Laws.{IsDiagramOf}
 use Rattle.room_reduction.proofs.levels.reduce_sources.Goals as goal
 
 -- the file has the nodes of all levels
 pub returns-clause-made : goal.returns-clause-made
 returns-clause-made g c tells arcs t few stands are =
-    let n = c.args.n in
-    let root = c.args.root in
-    let count = c.in-Some.count in
-    let variables = c.requires.variables in
-    let nodes = packed c.reduce_levels.new.nodes in
-    let room = c.in-Some.ensures.room in
-    let many = length-packed c.reduce_levels.new.nodes in
-    let long : length (take count nodes) ≡ count = length-take-le count nodes (omega (arith, room, many)) in
-    let done = c.in-Some.ensures.done root arcs stands.complete are in
-    let count_is = sym long ∙ ap length done.nodes_are in
-    let ends = final_keeps_ends n root arcs variables stands.complete in
-    let word = c.in-Some-became.ensures (final_pointer n arcs) ends done.done.known
-    ∙ ap (final_pointer n arcs) c.word.ensures.value in (
-      c.in_ok-write_packed.ensures.made tells
-          ∙ ap firm_file (ap (λ xs. records_bytes 3 xs ++ trailer_bytes c.in-Some-became.word count n) done.nodes_are
-          ∙ bytes_canonical n root arcs t variables few stands _ _ word count_is),
-      count_is ∙ nodes_many n root arcs t variables few stands,
-    )
+    let made = c.in-Some.ensures.made arcs t few (subst (λ w. IsDiagramOf c.args.n w arcs t) c.word.ensures.value stands) are in
+    (c.in_ok-write_packed.ensures.made tells ∙ ap firm_file made.bytes_are, made.count_is)

@@ -4,9 +4,9 @@ use Rattle.shelf_model.specs.File.{firm_file}
 use Rattle.shelf_model.specs.World.{file}
 use Rattle.block_stream.specs.declared.filling.Filling.{Filling}
 use Rattle.block_stream.specs.Writes.{written}
-use Rattle.complemented_diagrams.proofs.FileChanges.{then_wrote, cut_and_wrote}
+use Rattle.room_reduction.proofs.FileChanges.{then_wrote, cut_and_wrote}
 use Rattle.packed_records.specs.Packed.{packed}
-use Rattle.complemented_diagrams.proofs.WrittenBytes.{put_behind}
+use Rattle.room_reduction.proofs.WrittenBytes.{put_behind}
 use Rattle.room_reduction.proofs.nodes.write_packed.Goals as goal
 
 -- the file was cut, and then written to

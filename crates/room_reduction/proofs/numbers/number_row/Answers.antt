@@ -1,7 +1,7 @@
 use Rattle.std.proofs.Common.{◌≡◌, ◌∙◌, ◌+◌, true, set, sym, subst, arith}
 use Rattle.std.proofs.lemmas.Bool.Decides.{nat_tests}
 use Rattle.canon_file.specs.Pairs.{differs}
-use Rattle.complemented_diagrams.specs.Records.{row_in}
+use Rattle.room_reduction.specs.Records.{row_in}
 use Rattle.room_reduction.specs.Levels.{IsNumbering}
 use Rattle.room_reduction.proofs.Numbering.{new_numbered}
 use Rattle.room_reduction.proofs.numbers.number_row.Goals as goal

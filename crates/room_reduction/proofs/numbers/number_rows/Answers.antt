@@ -4,8 +4,8 @@ use Rattle.rec_words.specs.declared.rec.Rec.{Rec}
 use Rattle.list_laws.proofs.SameMembers.{has_at}
 use Rattle.run_files.specs.Items.{record_at}
 use Rattle.canon_file.specs.Pairs.{word_in}
-use Rattle.complemented_diagrams.specs.Records.{row_in, word}
-use Rattle.complemented_diagrams.proofs.FirstPlaces.{same_there}
+use Rattle.room_reduction.specs.Records.{row_in, word}
+use Rattle.room_reduction.proofs.FirstPlaces.{same_there}
 use Rattle.room_reduction.specs.Sources.{sources_in}
 use Rattle.room_reduction.specs.Levels.{Names, distinct_rows}
 use Rattle.room_reduction.proofs.Numbering.{none_numbered, row_named}

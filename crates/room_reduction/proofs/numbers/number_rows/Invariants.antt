@@ -4,7 +4,7 @@ use Rattle.list_laws.specs.Members.{Has}
 use Rattle.run_files.specs.Items.{record_at}
 use Rattle.canon_file.specs.Pairs.{word_in}
 use Rattle.arc_diagrams.specs.Reducing.{IsRising}
-use Rattle.complemented_diagrams.specs.Records.{row_in, word}
+use Rattle.room_reduction.specs.Records.{row_in, word}
 use Rattle.room_reduction.specs.Sources.{sources_in}
 use Rattle.room_reduction.specs.Levels.{KeepsSources, Names, IsNumbering, distinct_rows}
 use Rattle.room_reduction.proofs.numbers.number_rows.Given as goal

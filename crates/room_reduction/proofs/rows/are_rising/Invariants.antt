@@ -2,7 +2,7 @@ use Rattle.std.proofs.Common.{◌≡◌, ℕ, ◌+◌, ◌<◌, false}
 use Rattle.std.specs.Prelude.{get_or}
 use Rattle.rec_words.specs.declared.rec.Rec.{Rec}
 use Rattle.canon_file.specs.Rows.{row_before}
-use Rattle.complemented_diagrams.specs.Records.{row_in}
+use Rattle.room_reduction.specs.Records.{row_in}
 use Rattle.room_reduction.proofs.rows.are_rising.Given as goal
 
 -- no row so far is before the one in front of it

@@ -7,7 +7,7 @@ use Rattle.shelf_model.proofs.Runs.{told}
 use Rattle.block_stream.specs.Records.{record_bytes, records_bytes}
 use Rattle.block_stream.specs.Writes.{Wrote, written}
 use Rattle.block_stream.proofs.WriteRuns.{wrote_on}
-use Rattle.complemented_diagrams.specs.Records.{node_records}
+use Rattle.room_reduction.specs.Records.{node_records}
 use Rattle.canon_file.specs.Canon.{numbered}
 use Rattle.arc_diagrams.specs.Reduction.{final_rows}
 use Rattle.room_reduction.specs.Sources.{sources_in}

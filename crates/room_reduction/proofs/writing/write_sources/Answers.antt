@@ -4,8 +4,8 @@ use Rattle.shelf_model.specs.World.{file}
 use Rattle.block_stream.specs.declared.filling.Filling.{Filling}
 use Rattle.block_stream.specs.Writes.{written}
 use Rattle.arc_diagrams.specs.Reduction.{final_pointer}
-use Rattle.complemented_diagrams.proofs.FileChanges.{then_wrote, cut_and_wrote}
-use Rattle.complemented_diagrams.proofs.WrittenBytes.{put_behind}
+use Rattle.room_reduction.proofs.FileChanges.{then_wrote, cut_and_wrote}
+use Rattle.room_reduction.proofs.WrittenBytes.{put_behind}
 use Rattle.room_reduction.specs.Levels.{nodes_down_to}
 use Rattle.room_reduction.proofs.LevelSources.{final_keeps_ends}
 use Rattle.room_reduction.proofs.RoomFile.{nodes_many, bytes_canonical}

@@ -1,0 +1,43 @@
+-- The complement of a table, and the diagram of a table with exchanged truth values.
+use Rattle.std.specs.Prelude.{◌≡◌, ℕ, ◌-◌, ◌<◌, ◌==◌, Bool, false, true, not, cond, List, length, map}
+use Rattle.rec_words.specs.Words.{terminal}
+use Rattle.rec_words.specs.declared.rec.Rec.{Rec}
+use Rattle.shelf_model.specs.declared.file_no.FileNo.{FileNo}
+use Rattle.shelf_model.specs.File.{firm_file}
+use Rattle.shelf_model.specs.World.{World, file}
+use Rattle.run_files.specs.Items.{record_at}
+use Rattle.canon_file.specs.Canon.{canon_nodes, canon_bytes}
+use Rattle.canon_file.specs.Laws.{HasForm}
+use Rattle.arc_file.specs.declared.arc.Arc.{Arc}
+use Rattle.room_reduction.specs.Records.{word}
+
+-- the table with the other value at each place
+abbrev pub complement : List Bool → List Bool
+complement t = map not t
+
+-- of the word of a truth value that of the other one; any other word stays
+abbrev pub other_end : ℕ → ℕ
+other_end w = cond (w == terminal false) (terminal true) (cond (w == terminal true) (terminal false) w)
+
+-- the arcs with the truth values exchanged to which they lead
+abbrev pub other_arc : Arc → Arc
+other_arc a = record { source = a.source; high = a.high; target = other_end a.target }
+
+abbrev pub other_arcs : List Arc → List Arc
+other_arcs arcs = map other_arc arcs
+
+-- the record has the words of another one, with its truth values exchanged
+pub record IsOther (r other : Rec) : Type 0 where
+  pub uid : word 0 other ≡ word 0 r
+  pub low : word 1 other ≡ other_end (word 1 r)
+  pub high : word 2 other ≡ other_end (word 2 r)
+
+-- so have the first so many of these, the other way round
+abbrev pub AreOthers : ℕ → List Rec → List Rec → Type 0
+AreOthers count nodes others = (k : ℕ) → k < count → IsOther (record_at nodes (count - 1 - k)) (record_at others k)
+
+-- the table has a form, and the file is its canonical one, whatever a stop leaves; the nodes are counted
+pub record IsWritten (n : ℕ) (t : List Bool) (f : FileNo) (nodes : ℕ) (world : World) : Type 0 where
+  pub form : HasForm n t
+  pub file_is : file world f ≡ firm_file (canon_bytes n t)
+  pub nodes_are : nodes ≡ length (canon_nodes n t)
