@@ -15,7 +15,7 @@ use Rattle.arc_diagrams.specs.Laws.{IsDiagramOf}
 use Rattle.arc_diagrams.proofs.WordLaws.{level_at, level_past, past_from, level-terminal}
 use Rattle.arc_diagrams.proofs.TargetLaws.{the_target, arc_on, met_within}
 use Rattle.arc_diagrams.proofs.TableLaws.{onward_met}
-use Rattle.room_reduction.specs.Complements.{complement, other_end, other_arc, other_arcs}
+use Rattle.room_reduction.specs.Complements.{complement, other_end, other_arc, other_arcs, GivesComplement}
 
 -- the word of a node stays
 pub other_end-node : (w : ℕ) → level_of w < 65536 → other_end w ≡ w
@@ -158,8 +158,7 @@ module _ (n root : ℕ) (arcs : List Arc) (few : n ≤ 65535) (c : IsComplete n 
       ∙ walk-other bits (suc i) (onward (targets_of arcs) i b w) (omega (arith, long)) on deeper
 
 -- so with exchanged truth values the diagram is one of the complement
-pub other_diagram : (n root : ℕ) (arcs : List Arc) (t : List Bool) → n ≤ 65535 → IsDiagramOf n root arcs t
-    → IsDiagramOf n (other_end root) (other_arcs arcs) (complement t)
+pub other_diagram : (n : ℕ) → GivesComplement n
 other_diagram n root arcs t few is = record {
   complete = other_complete n root arcs few is.complete;
   stands = record {

@@ -1,5 +1,5 @@
 -- The complement of a table, and the diagram of a table with exchanged truth values.
-use Rattle.std.specs.Prelude.{◌≡◌, ℕ, ◌-◌, ◌<◌, ◌==◌, Bool, false, true, not, cond, List, length, map}
+use Rattle.std.specs.Prelude.{◌≡◌, ℕ, ◌-◌, ◌<◌, ◌≤◌, ◌==◌, Bool, false, true, not, cond, List, length, map}
 use Rattle.rec_words.specs.Words.{terminal}
 use Rattle.rec_words.specs.declared.rec.Rec.{Rec}
 use Rattle.shelf_model.specs.declared.file_no.FileNo.{FileNo}
@@ -9,6 +9,7 @@ use Rattle.run_files.specs.Items.{record_at}
 use Rattle.canon_file.specs.Canon.{canon_nodes, canon_bytes}
 use Rattle.canon_file.specs.Laws.{HasForm}
 use Rattle.arc_file.specs.declared.arc.Arc.{Arc}
+use Rattle.arc_diagrams.specs.Laws.{IsDiagramOf}
 use Rattle.room_reduction.specs.Records.{word}
 
 -- the table with the other value at each place
@@ -25,6 +26,11 @@ other_arc a = record { source = a.source; high = a.high; target = other_end a.ta
 
 abbrev pub other_arcs : List Arc → List Arc
 other_arcs arcs = map other_arc arcs
+
+-- so a diagram of a table becomes one of the complement
+abbrev pub GivesComplement : ℕ → Type 0
+GivesComplement n = (root : ℕ) (arcs : List Arc) (t : List Bool) → n ≤ 65535 → IsDiagramOf n root arcs t
+    → IsDiagramOf n (other_end root) (other_arcs arcs) (complement t)
 
 -- the record has the words of another one, with its truth values exchanged
 pub record IsOther (r other : Rec) : Type 0 where

@@ -99,8 +99,10 @@ fn exchange_nodes(nodes: &[Rec], count: usize, sources: &mut [Rec], firsts: &mut
     for place in 0..count {
         let node = count - 1 - place;
         let uid = word_at(nodes, node, 0);
-        let low = exchanged(word_at(nodes, node, 1));
-        let high = exchanged(word_at(nodes, node, 2));
+        let first = word_at(nodes, node, 1);
+        let second = word_at(nodes, node, 2);
+        let low = exchanged(first);
+        let high = exchanged(second);
         if !put_record(sources, place, [uid, low, high, 0]) {
             return false;
         }

@@ -199,7 +199,7 @@ fn add_source(n: u32, source: u64, sources: &mut [Rec], found: usize, firsts: &m
 // Puts the target of an arc into the record of its source, where that is found.
 fn put_target(arc: Arc, sources: &mut [Rec], found: usize, firsts: &[Rec]) -> bool
     requires within { found ≤ 4 * length sources.old }
-    ensures put { IsTrue result → (n root : ℕ) (all left : List Arc) →
+    ensures { IsTrue result → (n root : ℕ) (all left : List Arc) →
         AreMet n root all (arc ∷ left) (packed sources.old) found → AreMet n root all left (packed sources.new) found }
 {
     let Some(place) = find(sources, found, firsts, arc.source.ptr().word()) else {

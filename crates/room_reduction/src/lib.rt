@@ -4,6 +4,7 @@
 
 mod complement;
 mod filling;
+pub mod laws;
 mod level;
 mod levels;
 mod nodes;

@@ -58,7 +58,7 @@ pub(crate) fn collect_rows(
     requires as_many { from + length rows.old ≡ end }
     requires many { count ≤ 4 * length sources.now }
     requires within { end ≤ count }
-    ensures rows { IsTrue result → (f : ℕ → ℕ) → KeepsEnds f → AreKnown f end (sources_in count sources.now) →
+    ensures { IsTrue result → (f : ℕ → ℕ) → KeepsEnds f → AreKnown f end (sources_in count sources.now) →
         AreRowsOf f from (sources_in count sources.now) rows.new }
 {
     for place in 0..rows.len() {

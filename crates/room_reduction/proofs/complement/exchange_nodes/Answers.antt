@@ -18,8 +18,8 @@ loop-place-preserved c k below =
           (sym here)
           (record {
             uid = ap (word 0) own ∙ c.word_at-uid.ensures;
-            low = ap (word 1) own ∙ c.exchanged-low.ensures ∙ ap other_end c.word_at-low.ensures;
-            high = ap (word 2) own ∙ c.exchanged-high.ensures ∙ ap other_end c.word_at-high.ensures;
+            low = ap (word 1) own ∙ c.exchanged-low.ensures ∙ ap other_end c.word_at-first.ensures;
+            high = ap (word 2) own ∙ c.exchanged-high.ensures ∙ ap other_end c.word_at-second.ensures;
           })
       | inr other ↦
           subst (IsOther (record_at nodes (c.args.count - 1 - k))) (sym (put.others k other))

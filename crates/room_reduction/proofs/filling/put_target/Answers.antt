@@ -5,8 +5,8 @@ use Rattle.room_reduction.proofs.PackedSources.{source_at}
 use Rattle.room_reduction.proofs.FillingLaws.{arc_put}
 use Rattle.room_reduction.proofs.filling.put_target.Goals as goal
 
-pub returns-clause-put : goal.returns-clause-put
-returns-clause-put c done n root all left met =
+pub returns : goal.returns
+returns c done n root all left met =
     let found = c.args.found in
     let place = c.in-Some.place in
     let below = c.in-Some.ensures.0 in

@@ -15,7 +15,7 @@ returns-clause-nodes c =
     let all = sources_many c.args.total c.args.sources.now c.requires.many in
     let within : c.args.from + length c.args.rows.now ≤ length sources = omega (arith, room, all) in
     IfSome_then c.number_rows.result c.number_rows.ensures.nodes (λ count made n root arcs is.
-    let rows = c.if-not-collect_rows.ensures.rows refl (final_pointer n arcs)
+    let rows = c.if-not-collect_rows.ensures refl (final_pointer n arcs)
     (final_keeps_ends n root arcs is.few is.complete) is.known in
     made ∙ ap (λ rs. node_records (numbered c.args.level 0 rs))
     (sym (rows_are n root arcs c.args.level c.args.from _ sources c.collect_rows.new.rows
@@ -31,7 +31,7 @@ returns-clause-known c =
     IfSome_then c.number_rows.result c.number_rows.ensures.names (λ count names n root arcs is.
     let rising = c.if-not-are_rising.ensures refl in
     let many = ap (λ m. c.args.from + m) c.collect_rows.auto.rows in
-    let rows = c.if-not-collect_rows.ensures.rows refl (final_pointer n arcs)
+    let rows = c.if-not-collect_rows.ensures refl (final_pointer n arcs)
     (final_keeps_ends n root arcs is.few is.complete) is.known in
     level_known n root arcs c.args.level c.args.from _ sources c.collect_rows.new.rows
     c.sort_unstable.new.self is many within rows c.sort_unstable.ensures.permutation

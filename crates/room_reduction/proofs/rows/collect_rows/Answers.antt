@@ -33,8 +33,8 @@ loop-place-preserved c =
           ];
     }
 
-pub returns-clause-rows : goal.returns-clause-rows
-returns-clause-rows c is f ends done k below =
+pub returns : goal.returns
+returns c is f ends done k below =
     let past = c.loop-place-test.false in
     let long = c.loop-place.auto.rows in
     c.loop-place.invariant.rows_are f ends done k (omega (arith, past, long, below))
