@@ -43,8 +43,7 @@ pub(crate) fn sides_of(nodes: Nodes, begin: u64, level: u16, word: u64) -> Optio
 
 /// Says where the nodes of each level begin: in word 4 of the level's record for the one operand, in word 5 for the
 /// other. Answers whether all records are those of nodes in the order of their files.
-pub(crate) fn index_nodes(left: Nodes, right: Nodes, firsts: &mut [Rec]) -> bool
-{
+pub(crate) fn index_nodes(left: Nodes, right: Nodes, firsts: &mut [Rec]) -> bool {
     firsts.fill(Rec { w: [0; 8] });
     index_side(left, 4, firsts) && index_side(right, 5, firsts)
 }
