@@ -1,5 +1,5 @@
 -- A diagram with exchanged truth values is one of the complement.
-use Rattle.std.specs.Prelude.{◌≡◌, ◌⊎◌, ℕ, zero, suc, ◌+◌, ◌^◌, ◌<◌, ◌≤◌, ◌==◌, Bool, true, false, not, cond, List, [], ◌∷◌, length, map}
+use Rattle.std.specs.Prelude.{◌≡◌, ℕ, zero, suc, ◌+◌, ◌^◌, ◌<◌, ◌≤◌, ◌==◌, Bool, true, false, not, cond, List, [], ◌∷◌, length}
 use Rattle.std.proofs.Common.{refl, sym, ◌∙◌, ap, subst, inl, inr, arith}
 use Rattle.std.proofs.lemmas.Bool.Decides.{nat_tests}
 use Rattle.std.proofs.lemmas.List.{length-map}
@@ -10,8 +10,7 @@ use Rattle.list_laws.proofs.MemberLaws.{has_map, map_has}
 use Rattle.canon_file.specs.Walks.{is_at, walk}
 use Rattle.canon_file.proofs.WalkLaws.{place_below}
 use Rattle.arc_file.specs.declared.arc.Arc.{Arc}
-use Rattle.arc_diagrams.specs.Arcs.{target_on, targets_of, onward, IsWithin, IsMet, IsComplete, StandFor}
-use Rattle.arc_diagrams.specs.Laws.{IsDiagramOf}
+use Rattle.arc_diagrams.specs.Arcs.{target_on, targets_of, onward, IsWithin, IsMet, IsComplete}
 use Rattle.arc_diagrams.proofs.WordLaws.{level_at, level_past, past_from, level-terminal}
 use Rattle.arc_diagrams.proofs.TargetLaws.{the_target, arc_on, met_within}
 use Rattle.arc_diagrams.proofs.TableLaws.{onward_met}

@@ -1,14 +1,10 @@
 -- What is made of a list place by place, with one place more.
-use Rattle.std.proofs.Common.{◌≡◌, ◌∙◌, ℕ, suc, ◌+◌, ◌<◌, List, [], ◌∷◌, ◌++◌, length, map, take, drop, set, sym, ap, subst, arith}
+use Rattle.std.proofs.Common.{◌≡◌, ◌∙◌, ℕ, suc, ◌+◌, List, [], ◌∷◌, ◌++◌, length, drop, sym, ap, subst, arith}
 use Rattle.std.specs.Prelude.{get_or}
-use Rattle.std.proofs.lemmas.List.{drop-drop, drop-set-lt, get_or-drop, length-map, length-take-le, map_more, map_push, take_more_set}
-use Rattle.rec_words.specs.Records.{node_words}
-use Rattle.rec_words.specs.declared.rec.Rec.{Rec}
-use Rattle.block_stream.specs.Items.{item_record}
+use Rattle.std.proofs.lemmas.List.{get_or-drop}
 use Rattle.canon_file.specs.declared.row.Row.{Row}
 use Rattle.canon_file.specs.Rows.{row_word}
 use Rattle.canon_file.specs.Canon.{numbered}
-use Rattle.room_reduction.specs.Records.{node_records, node_record, row_in}
 
 -- lists that are the same from a place on have the same there
 pub same_there : {X : Type 0} (xs ys : List X) (i : ℕ) (d : X) → drop i xs ≡ drop i ys → get_or xs i d ≡ get_or ys i d

@@ -1,18 +1,12 @@
 -- The first records of a file, read piece by piece.
-use Rattle.std.proofs.Common.{◌≡◌, ◌∙◌, ℕ, zero, suc, ◌+◌, ◌-◌, ◌*◌, ◌≤◌, Bool, List, ◌∷◌, ◌++◌, length, take, drop, sym, ap, arith}
-use Rattle.std.proofs.Math.Seq.{take-add}
-use Rattle.std.proofs.lemmas.List.{drop-drop, drop_at, length-append, length-drop, length-take-le, take-append-le}
-use Rattle.std.proofs.lemmas.Slice.{take-put_mid_below}
-use borrow.Rule.Slice.PartMut.{put_mid, post_of}
-use Rattle.rec_words.specs.declared.rec.Rec.{Rec}
+use Rattle.std.proofs.Common.{◌≡◌, ℕ, ◌+◌, ◌≤◌, Bool, ap, arith}
 use Rattle.shelf_model.specs.declared.file_no.FileNo.{FileNo}
 use Rattle.shelf_model.specs.Folder.{Folder, file_in}
 use Rattle.shelf_model.specs.World.{World, now, file}
 use Rattle.shelf_model.specs.Calls.{Told}
 use Rattle.shelf_model.specs.Moments.{Stays}
 use Rattle.shelf_model.proofs.Runs.{told, ran_end}
-use Rattle.block_stream.specs.Records.{record_of, records_of, from_place}
-use Rattle.block_stream.specs.Reads.{Looked, DidLoad}
+use Rattle.block_stream.specs.Reads.{Looked}
 use Rattle.block_stream.proofs.WriteRuns.{looked_on}
 
 -- reading a piece takes no more calls than the piece has records

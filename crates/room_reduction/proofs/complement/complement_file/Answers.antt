@@ -1,4 +1,4 @@
-use Rattle.std.proofs.Common.{◌≡◌, ◌∙◌, ◌++◌, ◌*◌, ◌≤◌, ◌<◌, length, take, ap, sym, subst, arith}
+use Rattle.std.proofs.Common.{◌∙◌, ◌++◌, ◌≤◌, ◌<◌, length, take, ap, sym, subst, arith}
 use Rattle.shelf_model.specs.File.{firm_file}
 use Rattle.block_stream.specs.Records.{records_bytes}
 use Rattle.canon_file.specs.Canon.{canon_nodes, trailer_bytes}

@@ -1,4 +1,4 @@
-use Rattle.std.proofs.Common.{◌≡◌, ◌-◌, refl, sym, subst, arith}
+use Rattle.std.proofs.Common.{◌≡◌, ◌-◌, sym, subst, arith}
 use Rattle.packed_records.specs.Packed.{packed}
 use Rattle.room_reduction.specs.Sources.{sources_in}
 use Rattle.room_reduction.specs.Levels.{IsPacked}

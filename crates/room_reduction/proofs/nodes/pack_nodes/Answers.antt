@@ -1,4 +1,4 @@
-use Rattle.std.proofs.Common.{◌∙◌, ◌+◌, ◌*◌, ◌<◌, length, arith}
+use Rattle.std.proofs.Common.{◌+◌, ◌*◌, ◌<◌, length, arith}
 use Rattle.room_reduction.proofs.PackedNodes.{one_packed}
 use Rattle.room_reduction.proofs.nodes.pack_nodes.Goals as goal
 

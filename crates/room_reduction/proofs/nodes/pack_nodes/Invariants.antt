@@ -1,4 +1,4 @@
-use Rattle.std.proofs.Common.{◌≡◌, ◌+◌, ◌++◌, List, length, take}
+use Rattle.std.proofs.Common.{◌≡◌, ◌+◌, ◌++◌, List, take}
 use Rattle.rec_words.specs.declared.node.Node.{Node}
 use Rattle.room_reduction.specs.Records.{node_records}
 use Rattle.packed_records.specs.Packed.{packed}

@@ -1,4 +1,4 @@
-use Rattle.std.proofs.Common.{◌≡◌, ℕ, ◌≤◌, length, map, take, drop}
+use Rattle.std.proofs.Common.{◌≡◌, ℕ, ◌≤◌, map, take, drop}
 use Rattle.rec_words.specs.declared.rec.Rec.{Rec}
 use Rattle.list_laws.specs.Members.{Has}
 use Rattle.run_files.specs.Items.{record_at}

@@ -1,4 +1,4 @@
-use Rattle.std.proofs.Common.{◌-◌, ◌≡◌, ◌≤◌, ℕ, List, IsTrue, length}
+use Rattle.std.proofs.Common.{◌-◌, ◌≡◌, ◌≤◌, ℕ, List, IsTrue}
 use Rattle.shelf_model.specs.World.{file}
 use Rattle.shelf_model.specs.Calls.{Told}
 use Rattle.block_stream.specs.Records.{records_of}
