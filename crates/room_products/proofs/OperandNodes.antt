@@ -1,5 +1,5 @@
 -- The nodes of a canonical file, as they are read.
-use Rattle.std.proofs.Common.{◌≡◌, ◌∙◌, ℕ, ◌<◌, ◌≤◌, Bool, true, false, List, [], ◌∷◌, ◌++◌, length, take}
+use Rattle.std.proofs.Common.{◌≡◌, ◌∙◌, ℕ, ◌<◌, ◌≤◌, Bool, true, false, List, [], ◌∷◌, length, take}
 use Rattle.std.proofs.Common.{sym, ap, subst, inl, inr, arith}
 use Rattle.std.specs.Prelude.{◌==◌}
 use Rattle.std.proofs.lemmas.Bool.Decides.{nat_tests}
@@ -14,14 +14,13 @@ use Rattle.run_files.specs.Items.{record_at}
 use Rattle.shelf_model.specs.declared.file_no.FileNo.{FileNo}
 use Rattle.shelf_model.specs.World.{World, file}
 use Rattle.block_stream.specs.Items.{item_record}
-use Rattle.block_stream.specs.Records.{records_of, records_bytes}
+use Rattle.block_stream.specs.Records.{records_of}
 use Rattle.block_stream.proofs.RecordLaws.{length-records_of}
 use Rattle.canon_file.specs.declared.row.Row.{Row}
-use Rattle.canon_file.specs.Canon.{canon_nodes, canon_root, trailer_bytes}
+use Rattle.canon_file.specs.Canon.{canon_nodes}
 use Rattle.canon_file.specs.NodeFiles.{IsDescending, IsNodeFile}
 use Rattle.canon_file.specs.Laws.{HasForm}
 use Rattle.canon_file.specs.Walks.{row_at}
-use Rattle.canon_file.proofs.CanonLaws.{canon_bytes-is}
 use Rattle.canon_file.proofs.FileLaws.{is_node_file}
 use Rattle.room_reduction.specs.Records.{node_records, word}
 use Rattle.room_reduction.proofs.CanonicalFile.{canon_read}

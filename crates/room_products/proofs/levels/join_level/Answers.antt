@@ -1,4 +1,4 @@
-use Rattle.std.proofs.Common.{rules, arith, refl, ◌∙◌, []}
+use Rattle.std.proofs.Common.{arith, []}
 use Rattle.top_down.specs.Operations.{product_rule}
 use Rattle.packed_records.specs.Packed.{packed}
 use Rattle.room_products.proofs.MarkedLevels.{joining_marked}

@@ -1,4 +1,3 @@
-use Rattle.std.proofs.Common.{◌∙◌}
 use Rattle.room_products.proofs.levels.join_levels.Goals as goal
 
 pub loop-level-preserved : goal.loop-level-preserved

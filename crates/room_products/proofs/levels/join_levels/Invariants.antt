@@ -1,4 +1,4 @@
-use Rattle.std.proofs.Common.{◌≡◌, ℕ, ◌*◌, ◌≤◌, [], length}
+use Rattle.std.proofs.Common.{ℕ, ◌*◌, ◌≤◌, [], length}
 use Rattle.top_down.specs.declared.tuple.Tuple.{Tuple}
 use Rattle.top_down.specs.Operations.{product_rule}
 use Rattle.top_down.specs.Tuples.{Targets}
