@@ -1,12 +1,12 @@
 -- What cutting the files that a step leaves behind changes.
-use Rattle.std.proofs.Common.{◌≡◌, ◌∙◌, ◌⊎◌, ℕ, ◌+◌, ◌<◌, ◌≤◌, Bool, List, [], take, min, refl, sym, ap, subst, inl, inr, arith}
-use Rattle.std.specs.Prelude.{IsTrue, Result, Ok, Err}
+use Rattle.std.proofs.Common.{◌≡◌, ◌∙◌, ℕ, ◌+◌, ◌<◌, Bool, [], min, refl, sym, ap, subst, inl, inr, arith}
+use Rattle.std.specs.Prelude.{Result, Ok, Err}
 use Rattle.std.proofs.lemmas.Bool.{cases_lt}
 use Rattle.bool_tables.specs.declared.steps.Step.{Step}
 use Rattle.shelf_model.specs.declared.file_no.FileNo.{FileNo}
 use Rattle.shelf_model.specs.declared.fault.Failed.{Failed}
 use Rattle.shelf_model.specs.File.{File, no_file, cut_to, TornCut}
-use Rattle.shelf_model.specs.Folder.{Folder, file_in}
+use Rattle.shelf_model.specs.Folder.{Folder}
 use Rattle.shelf_model.specs.World.{World, Moment, now, file}
 use Rattle.shelf_model.specs.Calls.{Told, WasCut}
 use Rattle.shelf_model.specs.Moments.{Ran}

@@ -15,14 +15,14 @@ use Rattle.product_sweep.specs.declared.leq.LeqPhase.{LeqPhase}
 use Rattle.product_sweep.specs.declared.leq.LeqPhase.TheVariants.{Making, Answered}
 use Rattle.product_sweep.specs.declared.leq.LeqSweep.{LeqSweep}
 use Rattle.product_sweep.specs.Implications.{product_in, accounts, IsDamageAt}
-use Rattle.product_sweep.specs.Products.{operands}
+use Rattle.table_work.specs.Tables.{operand_files}
 use Rattle.step_sweeps.specs.Damage.{IsArcsFault, IsImplicationFault}
 use Rattle.step_sweeps.specs.Made.{IsCounted}
 use Rattle.step_sweeps.proofs.Running.{few_calls}
 
 -- a fault of an operand is one of the implication
 pub implication_fault : (n : ℕ) (left right : FileNo) (world : World) (e : SortFault)
-    → IsArcsFault n (operands left right) world e → IsImplicationFault n left right world e
+    → IsArcsFault n (operand_files left right right) world e → IsImplicationFault n left right world e
 implication_fault n left right world Shelf is = tt
 implication_fault n left right world (Damaged f at) (inl first) = inl first
 implication_fault n left right world (Damaged f at) (inr (inl second)) = inr second
@@ -31,7 +31,7 @@ implication_fault n left right world RunsSpent is = tt
 
 -- so is each that a turn of the sweep finds
 pub turn_fault_at : (phase : LeqPhase) (n : ℕ) (left right : FileNo) (s : LeqSweep) (old new : World) (e : SortFault)
-    → (IsDamage (product_in s) new e → IsArcsFault n (operands left right) old e) → IsDamageAt phase s new e
+    → (IsDamage (product_in s) new e → IsArcsFault n (operand_files left right right) old e) → IsDamageAt phase s new e
     → IsImplicationFault n left right old e
 turn_fault_at Making n left right s old new e arcs damage = implication_fault n left right old e (arcs damage)
 turn_fault_at (Answered b) n left right s old new e arcs damage = absurd damage

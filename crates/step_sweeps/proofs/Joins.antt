@@ -1,15 +1,12 @@
 -- The diagram of an operator: the ways to it, and how it is made in the room, or by sweeps after the room was tried.
-use Rattle.std.proofs.Common.{◌≡◌, ◌∙◌, ℕ, ◌+◌, ◌-◌, ◌*◌, ◌^◌, ◌<◌, ◌≤◌, Bool, IsTrue, List, length, ap, sym, subst, inl, inr, arith}
-use Rattle.std.specs.Prelude.{min, Option, Some, IfSome, Result, Ok, Err}
+use Rattle.std.proofs.Common.{◌≡◌, ◌∙◌, ℕ, ◌+◌, ◌-◌, ◌*◌, ◌^◌, ◌<◌, ◌≤◌, Bool, IsTrue, List, ap, sym, subst, inl, inr, arith}
+use Rattle.std.specs.Prelude.{min, Option, Some, IfSome, Ok}
 use Rattle.bool_tables.specs.declared.steps.Bin.{Bin}
-use Rattle.canon_file.specs.Canon.{canon_bytes}
-use Rattle.canon_file.specs.Constants.{const_table}
 use Rattle.shelf_model.specs.declared.file_no.FileNo.{FileNo}
-use Rattle.shelf_model.specs.declared.sort_fault.SortFault.{SortFault}
 use Rattle.shelf_model.specs.Calls.{Told}
 use Rattle.shelf_model.specs.Faults.{Faults}
-use Rattle.shelf_model.specs.File.{File, firm_file}
-use Rattle.shelf_model.specs.World.{World, file}
+use Rattle.shelf_model.specs.File.{File}
+use Rattle.shelf_model.specs.World.{World}
 use Rattle.block_stream.specs.Reads.{Looked}
 use Rattle.run_tiers.specs.Faults.{OnlySortShelf}
 use Rattle.node_file.specs.Canonical.{IsCanonicalFile}
@@ -20,17 +17,16 @@ use Rattle.copied_diagrams.specs.declared.source.Source.{Source}
 use Rattle.copied_diagrams.specs.declared.way.Way.{Way}
 use Rattle.copied_diagrams.specs.declared.way.Way.TheVariants.{Constant, Copy, CopyInTurns, Complement, Join}
 use Rattle.copied_diagrams.specs.Operands.{pair_table}
-use Rattle.copied_diagrams.specs.Pairs.{ArePair, AreTrailersOf, IsMade, IsOf, IsSourceOf, IsTrailerOf, nodes_of_both}
+use Rattle.copied_diagrams.specs.Pairs.{ArePair, AreTrailersOf, IsMade, IsOf, IsTrailerOf, nodes_of_both}
 use Rattle.copied_diagrams.specs.Ways.{IsWayOf, IsOneOf, LeadsTo}
 use Rattle.copied_diagrams.proofs.PairRuns.{complement_made, looked_same}
 use Rattle.room_products.specs.declared.join.Joined.{Joined}
 use Rattle.room_products.specs.Joined.{IsOperandOf, IsJoined}
-use Rattle.top_down_sweep.specs.declared.beginning.OperandFiles.{OperandFiles}
 use Rattle.step_sweeps.specs.declared.diagram.MadeDiagram.{MadeDiagram}
 use Rattle.step_sweeps.specs.declared.task.Making.{Making}
 use Rattle.top_down_sweep.specs.declared.steps.StepOperation.{StepOperation}
 use Rattle.top_down_sweep.specs.declared.steps.StepOperation.TheVariants.{Operator}
-use Rattle.step_sweeps.specs.Given.{Tables, AreGiven, AreEarlier, made_by, nodes_by}
+use Rattle.step_sweeps.specs.Given.{Tables, AreEarlier, made_by, nodes_by}
 use Rattle.step_sweeps.specs.Made.{node_file}
 use Rattle.step_sweeps.specs.Makes.{IsGiven, Makes, table_by, nodes_for, work_for, left_by_sweeps}
 use Rattle.step_sweeps.specs.Operations.{IsWithin}

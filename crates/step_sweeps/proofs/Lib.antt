@@ -5,7 +5,7 @@ mod ImpliedWork
 mod Running
 mod Faults
 mod Reducing
-mod Making
+mod FirstSweeps
 mod Ways
 mod Joins
 mod Copies

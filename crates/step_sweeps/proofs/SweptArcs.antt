@@ -1,5 +1,5 @@
 -- A step that sweeps: the arcs that it makes, and then reduces.
-use Rattle.std.proofs.Common.{◌≡◌, ◌≢◌, ℕ, ◌+◌, ◌-◌, ◌*◌, ◌/◌, ◌^◌, ◌<◌, ◌≤◌, Bool, IsTrue, List, ap, inl, inr, arith}
+use Rattle.std.proofs.Common.{◌≡◌, ℕ, ◌+◌, ◌-◌, ◌*◌, ◌^◌, ◌<◌, ◌≤◌, Bool, IsTrue, ap, inl, inr, arith}
 use Rattle.std.specs.Prelude.{min, Result, Ok, Err, IsErrOf}
 use Rattle.std.proofs.lemmas.Bool.{cases_lt}
 use Rattle.shelf_model.specs.declared.sort_fault.SortFault.{SortFault}

@@ -1,6 +1,6 @@
 -- What a step makes, leaves and costs, by what a way of it does, and after files were looked at.
 use Rattle.std.proofs.Common.{◌≡◌, ◌⊎◌, ◌∙◌, ℕ, ◌+◌, ◌-◌, ◌*◌, ◌^◌, ◌<◌, ◌≤◌, Bool, IsTrue, List, length, refl, sym, subst, ap, inl, inr, arith}
-use Rattle.std.specs.Prelude.{Result, Ok, Err, IfOk, IfErr, IsErrOf, IsErrAnd}
+use Rattle.std.specs.Prelude.{Result, Ok, Err, IfOk, IfErr, IsErrAnd}
 use Rattle.rec_words.specs.Words.{node_size}
 use Rattle.shelf_model.specs.declared.file_no.FileNo.{FileNo}
 use Rattle.shelf_model.specs.declared.fault.StreamFault.{StreamFault}
@@ -19,7 +19,6 @@ use Rattle.shelf_model.proofs.Runs.{told, told_here, ran_stands, ran_weakens}
 use Rattle.block_stream.specs.Reads.{Looked}
 use Rattle.run_tiers.specs.Faults.{OnlySortShelf}
 use Rattle.run_tiers.proofs.FaultLaws.{sort_shelf_then}
-use Rattle.sweep_core.specs.Accounts.{CanBeTaken}
 use Rattle.sweep_core.specs.Sweeps.{IsNoDamage}
 use Rattle.node_file.specs.Nodes.{HasTrailer}
 use Rattle.node_reading.specs.Reading.{IsDamagedNode}
@@ -33,7 +32,7 @@ use Rattle.step_sweeps.specs.declared.task.Making.{Making}
 use Rattle.step_sweeps.specs.Damage.{IsDamagedFile, IsArcsFault}
 use Rattle.step_sweeps.specs.Given.{Tables}
 use Rattle.step_sweeps.specs.Made.{node_file, OnlyStepFiles}
-use Rattle.step_sweeps.specs.Makes.{IsGiven, IsDiagramOf, Makes, table_by, nodes_for, work_for}
+use Rattle.step_sweeps.specs.Makes.{IsGiven, Makes, table_by, nodes_for, work_for}
 
 -- what follows of an answer, and of a fault
 pub ok_more : {A E : Type 0} (r : Result A E) (P Q : A → Type 0) → ((x : A) → P x → Q x) → IfOk r P → IfOk r Q

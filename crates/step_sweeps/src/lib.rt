@@ -17,4 +17,5 @@ mod unswept;
 pub use answers::{Answered, compare, evaluate};
 pub use diagram::{MadeDiagram, make_diagram};
 pub use implication::imply;
+pub use task::Making;
 pub use top_down_sweep::StepOperation;

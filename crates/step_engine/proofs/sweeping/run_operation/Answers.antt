@@ -1,4 +1,4 @@
-use Rattle.std.proofs.Common.{◌<◌, ◌^◌, arith}
+use Rattle.std.proofs.Common.{arith}
 use Rattle.step_engine.proofs.Runs.{is_operation, handed_runs, operation_refused, operation_made}
 use Rattle.step_engine.proofs.sweeping.run_operation.Goals as goal
 

@@ -10,7 +10,7 @@ use Rattle.top_down_sweep.proofs.Orders.{ended_in_order}
 use Rattle.table_work.specs.Tables.{sweep_of, work_of}
 use Rattle.step_sweeps.specs.Parts.{parts_of}
 use Rattle.step_sweeps.proofs.Faults.{start_fault}
-use Rattle.step_sweeps.proofs.Making.{earlier_given, arcs_of, few_turns, spent_turns, sweep_changes, arcs_fault}
+use Rattle.step_sweeps.proofs.FirstSweeps.{earlier_given, arcs_of, few_turns, spent_turns, sweep_changes, arcs_fault}
 use Rattle.step_sweeps.proofs.Running.{few_calls, faults_ok, spent_before}
 use Rattle.step_sweeps.proofs.arcs.make_arcs.Goals as goal
 

@@ -1,4 +1,4 @@
-use Rattle.std.proofs.Common.{◌+◌, ◌≤◌, refl, ap, rules, arith}
+use Rattle.std.proofs.Common.{◌+◌, refl, ap, rules, arith}
 use Rattle.std.specs.Prelude.{Err}
 use Rattle.run_tiers.proofs.FaultLaws.{sort_shelf_on, sort_shelf_then}
 use Rattle.copy_sweep.specs.declared.copy.CopySweep.{CopySweep}

@@ -2,7 +2,6 @@ use Rattle.std.proofs.Common.{ℕ, rules, arith}
 use Rattle.top_down_sweep.specs.declared.beginning.OperandFiles.{OperandFiles}
 use Rattle.step_sweeps.specs.declared.task.Making.{Making}
 use Rattle.top_down_sweep.specs.declared.steps.StepOperation.{StepOperation}
-use Rattle.step_sweeps.specs.Makes.{left_by_sweeps}
 use Rattle.step_sweeps.proofs.Joins.{pair_read, chosen_leads}
 use Rattle.step_sweeps.proofs.Ways.{after_look, answered, look_refused, with_less}
 use Rattle.step_sweeps.proofs.diagram.make_diagram.Goals as goal

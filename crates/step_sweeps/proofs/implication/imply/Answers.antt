@@ -6,10 +6,10 @@ use Rattle.sweep_core.specs.Accounts.{CanBeTaken}
 use Rattle.top_down_sweep.specs.Beginning.{after_two, files_from}
 use Rattle.top_down_sweep.specs.Sweeps.{SweepTask}
 use Rattle.product_sweep.specs.Implications.{Implication, product_in, accounts}
-use Rattle.product_sweep.specs.Products.{operands}
+use Rattle.table_work.specs.Tables.{operand_files}
 use Rattle.step_sweeps.specs.Parts.{parts_of}
 use Rattle.step_sweeps.proofs.Faults.{start_fault}
-use Rattle.step_sweeps.proofs.Making.{sweep_changes, arcs_fault}
+use Rattle.step_sweeps.proofs.FirstSweeps.{sweep_changes, arcs_fault}
 use Rattle.step_sweeps.proofs.Running.{not_of_step, taken_changes, few_calls, faults_ok, spent_before}
 use Rattle.step_sweeps.proofs.ImpliedWork.{implication_fault, turn_fault_at, within_work, spent_after, counted, called}
 use Rattle.step_sweeps.proofs.implication.imply.Goals as goal
@@ -25,8 +25,8 @@ pub returns-in_err-sweep-clause-damaged : goal.returns-in_err-sweep-clause-damag
 returns-in_err-sweep-clause-damaged g c = on_fault c.from_residual.result c.in_err-sweep.field-0.0 _
     c.from_residual.ensures.1 (λ told. implication_fault c.args.n c.args.left c.args.right
     (g.S.Shelf.world c.args.shelf.now) c.in_err-sweep.field-0.0
-    (start_fault c.args.n (operands c.args.left c.args.right)
-    (files_from (operands c.args.left c.args.right) (parts_of c.args.number)) (g.S.Shelf.world c.args.shelf.now)
+    (start_fault c.args.n (operand_files c.args.left c.args.right c.args.right)
+    (files_from (operand_files c.args.left c.args.right c.args.right) (parts_of c.args.number)) (g.S.Shelf.world c.args.shelf.now)
     c.in_err-sweep.field-0.0 refl refl refl (λ other. c.in_err-sweep.ensures.leaves.damage other told)))
 
 -- two part numbers are there
@@ -92,13 +92,13 @@ returns-clause-few_calls g c told t u first second =
 -- only parts of the step were changed
 pub returns-in_err-turns-clause-content : goal.returns-in_err-turns-clause-content
 returns-in_err-turns-clause-content g c = sweep_changes g.S.Shelf.tells g.S.Shelf.world c.args.number
-    (operands c.args.left c.args.right) (product_in c.in_ok-sweep.sweep).machine _ _ _
+    (operand_files c.args.left c.args.right c.args.right) (product_in c.in_ok-sweep.sweep).machine _ _ _
     c.in_ok-sweep.ensures.begun.files_are c.in_ok-sweep.ensures.begun.parts_are
     c.start.ensures.leaves.content c.run_to_end.ensures.leaves.content
 
 pub returns-clause-content : goal.returns-clause-content
 returns-clause-content g c = sweep_changes g.S.Shelf.tells g.S.Shelf.world c.args.number
-    (operands c.args.left c.args.right) (product_in c.in_ok-sweep.sweep).machine _ _ _
+    (operand_files c.args.left c.args.right c.args.right) (product_in c.in_ok-sweep.sweep).machine _ _ _
     c.in_ok-sweep.ensures.begun.files_are c.in_ok-sweep.ensures.begun.parts_are
     c.start.ensures.leaves.content c.run_to_end.ensures.leaves.content
 
@@ -111,7 +111,7 @@ returns-in_err-turns-clause-damaged g c = on_fault c.from_residual-in_err-turns.
     let files = ap (λ (t : SweepTask). t.files) c.run_to_end.ensures.same ∙ begun.files_are in
     turn_fault_at sweep.phase c.args.n c.args.left c.args.right sweep
     (g.S.Shelf.world c.args.shelf.now) (g.S.Shelf.world c.run_to_end.new.shelf) c.in_err-turns.field-0.0
-    (arcs_fault c.args.n c.args.number (operands c.args.left c.args.right) (product_in sweep).machine _ _
+    (arcs_fault c.args.n c.args.number (operand_files c.args.left c.args.right c.args.right) (product_in sweep).machine _ _
     c.in_err-turns.field-0.0 files
     (ap (λ (t : SweepTask). t.variables) c.run_to_end.ensures.same ∙ c.in_ok-sweep.ensures.variables)
     (c.run_to_end.ensures.leaves.step_is ∙ ap (λ (p : Parts). p.step) begun.parts_are)

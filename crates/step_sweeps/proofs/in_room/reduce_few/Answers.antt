@@ -1,4 +1,3 @@
-use Rattle.std.specs.Prelude.{IfSome}
 use Rattle.step_sweeps.proofs.Joins.{of_some}
 use Rattle.step_sweeps.proofs.Reducing.{has_form}
 use Rattle.step_sweeps.proofs.in_room.reduce_few.Goals as goal

@@ -76,7 +76,7 @@ pub returns : goal.returns
 returns g c =
     let said = c.in_ok-turns.ensures in record {
       reduces = reduced_makes g.S.Shelf.tells g.S.Shelf.world g.S.Shelf.faults c.args.n c.args.number c.args.made
-          c.in-Some.nodes c.in_ok-turns.turns _ _ _ _ (search arith) c.requires.parts.1 (search arith) refl
+          c.in-Some.nodes c.in_ok-turns.turns c.parts.result.next _ _ _ (search arith) c.requires.parts.1 (search arith) refl
           c.saturating_add.ensures (search arith) said.counted.0
           (λ told table is.
           let same = c.run_to_end.ensures.same in
@@ -109,7 +109,8 @@ returns g c =
                 let spent = (said.counted.1 below).spent in
                 let stock = c.in_ok-sweep.ensures.stock in
                 let first = ap (λ (p : Parts). p.next) c.in_ok-sweep.ensures.parts in
-                omega (arith, spent, stock, first);
+                let last = ap (λ (p : Parts). p.next) c.parts.ensures in
+                omega (arith, spent, stock, first, last);
           })
           (faults_ok _ _ _ c.start.result c.run_to_end.result _ c.start.ensures.faults
           c.run_to_end.ensures.leaves.faults);
