@@ -436,14 +436,6 @@ whole_line good end other (inl same) is = same
 whole_line good end other (inr fault) is = absurd (other (sym is ∙ ap status_of fault))
 
 module _ {S : Type 0} (tells : S → Bool) (world : S → World) where
-  -- a run of steps and lines that are those of a plan
-  pub of_items : (n : ℕ) (text bytes : List ℕ) (given steps : List Planned) (spoken lines : List LineEnd) (finish : Finish) (s t : S) → given ≡ steps → spoken ≡ lines
-      → Told tells s t (RunsSteps (record { n = n; text = text; steps = given; bytes = bytes }) spoken finish (world s) (world t))
-      → Told tells s t (RunsSteps (record { n = n; text = text; steps = steps; bytes = bytes }) lines finish (world s) (world t))
-  of_items n text bytes given steps spoken lines finish s t steps_are lines_are run =
-      subst (λ (ls : List LineEnd). Told tells s t (RunsSteps (record { n = n; text = text; steps = steps; bytes = bytes }) ls finish (world s) (world t))) lines_are
-      (subst (λ (ss : List Planned). Told tells s t (RunsSteps (record { n = n; text = text; steps = ss; bytes = bytes }) spoken finish (world s) (world t))) steps_are run)
-
   pub enter_failed : (folder : List ℕ) (job : Job) (lines : List LineEnd) (result : Result Unit Failed) (old s : S)
       → Told tells old s (Entered folder result (world old) (world s)) → Told tells old s (RunsIn folder job lines 7 (world old) (world s))
   enter_failed folder job lines result old s entered = told tells old s _ _ entered (λ _ e. not_entered folder job lines result (world old) (world s) e)
@@ -511,30 +503,14 @@ module _ {S : Type 0} (tells : S → Bool) (world : S → World) where
         (λ eleven. whole eleven tells_u ∙ ap (λ l. said (world t) ++ l) line_is));
   }
 
--- the calls of entering a folder and of a run of the steps and lines of a plan
-pub entered_calls : (n : ℕ) (text bytes : List ℕ) (given steps : List Planned) (spoken lines : List LineEnd) (path : List ℕ)
-    (result : Result Unit Failed) (old mid : World) (end : ℕ)
-    → given ≡ steps → spoken ≡ lines → Entered path result old mid
-    → (AreCounted (record { n = n; text = text; steps = given; bytes = bytes }) (now mid).folder
-    → end ≤ mid.clock + most_calls (record { n = n; text = text; steps = given; bytes = bytes }) (length spoken))
-    → AreCounted (record { n = n; text = text; steps = steps; bytes = bytes }) (now old).folder
-    → end ≤ old.clock + 1 + most_calls (record { n = n; text = text; steps = steps; bytes = bytes }) (length lines)
-entered_calls n text bytes given steps spoken lines path result old mid end steps_are lines_are entered run counted =
-    within end mid.clock old.clock (calls steps lines) entered.ticks.clock_is
-    (subst (λ ls. end ≤ mid.clock + calls steps ls) lines_are (by_steps counted_there))
+-- the calls of entering a folder and of a run of a job
+pub entered_calls : (job : Job) (lines : List LineEnd) (path : List ℕ) (result : Result Unit Failed) (old mid : World) (end : ℕ)
+    → Entered path result old mid
+    → (AreCounted job (now mid).folder → end ≤ mid.clock + most_calls job (length lines))
+    → AreCounted job (now old).folder → end ≤ old.clock + 1 + most_calls job (length lines)
+entered_calls job lines path result old mid end entered run counted =
+    within end mid.clock old.clock (most_calls job (length lines)) entered.ticks.clock_is
+    (run (subst (λ (m : Moment). AreCounted job m.folder) (sym entered.same) counted))
   where
-    job_with : List Planned → Job
-    job_with ss = record { n = n; text = text; steps = ss; bytes = bytes }
-
-    calls : List Planned → List LineEnd → ℕ
-    calls ss ls = most_calls (job_with ss) (length ls)
-
-    counted_there : AreCounted (job_with steps) (now mid).folder
-    counted_there = subst (λ (m : Moment). AreCounted (job_with steps) m.folder) (sym entered.same) counted
-
-    by_steps : AreCounted (job_with steps) (now mid).folder → end ≤ mid.clock + calls steps spoken
-    by_steps = subst (λ (ss : List Planned). AreCounted (job_with ss) (now mid).folder
-        → end ≤ mid.clock + calls ss spoken) steps_are run
-
     within : (a b c most : ℕ) → b ≡ c + 1 → a ≤ b + most → a ≤ c + 1 + most
     within a b c most one few = omega (arith, one, few)

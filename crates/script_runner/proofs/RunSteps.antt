@@ -33,6 +33,8 @@ use Rattle.step_engine.proofs.PlanLaws.{operands_live, follows_at}
 use Rattle.script_reader.specs.declared.plan.LineEnd.{LineEnd}
 use Rattle.script_reader.specs.Lines.{AreLines}
 use Rattle.script_runner.specs.declared.finish.Finish.{Finish}
+use Rattle.script_runner.specs.declared.given_job.Job as declared
+use Rattle.script_runner.specs.JobOf.{job_in}
 use Rattle.script_runner.specs.Text.{said_line, done_line, ended_before, lines_from_step, banner_line, start_line, resume_line, run_text}
 use Rattle.script_runner.specs.Shapes.{AreShown, IsShape, IsShapeFront}
 use Rattle.script_runner.specs.Said.{whole_lines, acknowledged, said_count, no_line}
@@ -63,6 +65,10 @@ remains job rest = flat_map (said_line job) rest ++ done_line
 pub record IsPlan (job : Job) (lines : List LineEnd) : Type 0 where
   pub well_formed : IsWellFormed job.n job.text job.steps
   pub are_lines : AreLines job.steps lines
+
+-- the plan of a job that a run is given
+pub plan_in : (job : declared.Job) → IsPlan (job_in job) job.lines.now
+plan_in job = record { well_formed = job.well_formed; are_lines = job.are_lines }
 
 -- what holds at a moment of a run that began there
 abbrev pub IsGoing : Job → List LineEnd → World → Moment → Type 0
@@ -406,7 +412,7 @@ module _ (job : Job) (lines : List LineEnd) (plan : IsPlan job lines) (old : Wor
             (subst (λ i. IsTrue (is_live (take swept.step job.steps) i)) same live.2)
 
     -- a step is taken
-    module _ (new : World) (result : Result Entry Finish) (all_said : ended_before step lines ≤ at.place) (takes : TakesStep job.n job.text job.steps step result mid new) where
+    module _ (new : World) (result : Result Entry Finish) (all_said : ended_before step lines ≤ at.place) (takes : TakesStep job step result mid new) where
       abbrev Takes : Moment → Type 0
       Takes m = IsTaking (length job.steps) step (now mid).folder m.folder
 
@@ -414,7 +420,7 @@ module _ (job : Job) (lines : List LineEnd) (plan : IsPlan job lines) (old : Wor
       same_at m is k below = same_entries step (file_in (now mid).folder catalogue).bytes (file_in m.folder catalogue).bytes is.reads k below
 
       held : AreSound job (now old).folder → HoldsStep job step result mid new
-      held sound = takes.holds job (record { n_is = refl; text_is = refl; steps_are = refl }) (at.sound sound).holds
+      held sound = takes.holds (at.sound sound).holds
 
       pub taking : Ongoing job lines old new
       taking = record {
@@ -463,7 +469,7 @@ module _ (job : Job) (lines : List LineEnd) (plan : IsPlan job lines) (old : Wor
           less : (image : Image) → CountsAbout step (bytes_in image) → count_in (bytes_in image) - 1 ≤ step
           less image about = let high = about.no_more in omega (arith, high)
 
-    pub has_taken : (e : Entry) (new : World) → step < length job.steps → ended_before step lines ≤ at.place → TakesStep job.n job.text job.steps step (Ok e) mid new
+    pub has_taken : (e : Entry) (new : World) → step < length job.steps → ended_before step lines ≤ at.place → TakesStep job step (Ok e) mid new
         → AtStep job lines (step + 1) rest old new × (AreSound job (now old).folder → IsEntryOfStep job step e)
     has_taken e new within all_said takes = (
       record {
@@ -524,7 +530,7 @@ module _ (job : Job) (lines : List LineEnd) (plan : IsPlan job lines) (old : Wor
         last = ran_end mid new (λ m. IsTaking (length job.steps) step (now mid).folder m.folder) takes.run
 
         holds_it : AreSound job (now old).folder → HoldsStep job step (Ok e) mid new
-        holds_it sound = takes.holds job (record { n_is = refl; text_is = refl; steps_are = refl }) (at.sound sound).holds
+        holds_it sound = takes.holds (at.sound sound).holds
 
         shorter : (done : ℕ) (xs ys : List ℕ) → done ≤ step → take (128 * step) ys ≡ take (128 * step) xs → take (128 * done) ys ≡ take (128 * done) xs
         shorter done xs ys low same =

@@ -11,6 +11,8 @@ use Rattle.shelf_model.specs.Folder.{Folder}
 use Rattle.shelf_model.specs.World.{World, said}
 use Rattle.sound_image.specs.Jobs.{Job}
 use Rattle.script_reader.specs.declared.fault.ScriptFault.{ScriptFault}
+use Rattle.bool_tables.specs.declared.steps.Planned.{Planned}
+use Rattle.script_reader.specs.declared.plan.LineEnd.{LineEnd}
 use Rattle.script_reader.specs.declared.plan.Plan.{Plan}
 use Rattle.script_reader.specs.Reads.{Reads, Refuses}
 use Rattle.script_runner.specs.declared.ending.Ending.{Ending}
@@ -59,25 +61,27 @@ faulty_of budget script netlist net fault is spelled refuses = record {
   refuses = subst (λ n. Refuses n script fault) is refuses;
 }
 
+-- the job that is given is the source's
+given_job_is : (source : Source) (plan : Plan) (given : List Planned) (job : List ℕ) → given ≡ plan.steps → job ≡ job_bytes source
+    → record { n = plan.n; text = source.script; steps = given; bytes = job } ≡ job_of source plan
+given_job_is source plan given job steps_are is i =
+    record { n = plan.n; text = source.script; steps = steps_are i; bytes = is i }
+
 -- the calls of a run of the plan are those of the source's job
-pub calls_of : (source : Source) (plan : Plan) (job : List ℕ) (folder : Folder) (old new : World) → job ≡ job_bytes source
-    → (AreCounted (record { n = plan.n; text = source.script; steps = plan.steps; bytes = job }) folder
+pub calls_of : (source : Source) (plan : Plan) (given : List Planned) (spoken : List LineEnd) (job : List ℕ) (folder : Folder)
+    (old new : World) → given ≡ plan.steps → spoken ≡ plan.lines → job ≡ job_bytes source
+    → (AreCounted (record { n = plan.n; text = source.script; steps = given; bytes = job }) folder
     → new.clock ≤ old.clock + 2
-    + most_calls (record { n = plan.n; text = source.script; steps = plan.steps; bytes = job }) (length plan.lines))
+    + most_calls (record { n = plan.n; text = source.script; steps = given; bytes = job }) (length spoken))
     → AreCounted (job_of source plan) folder
     → new.clock ≤ old.clock + 0 + 2 + most_calls (job_of source plan) (length plan.lines)
-calls_of source plan job folder old new is few counted =
-    let within = by_bytes few counted in omega (arith, within)
+calls_of source plan given spoken job folder old new steps_are lines_are is few counted =
+    let within = subst IsFew (given_job_is source plan given job steps_are is) few counted in
+    let lines = ap length lines_are in
+    omega (arith, within, lines)
   where
-    job_with : List ℕ → Job
-    job_with bytes = record { n = plan.n; text = source.script; steps = plan.steps; bytes = bytes }
-
-    IsFew : List ℕ → Type 0
-    IsFew bytes = AreCounted (job_with bytes) folder
-        → new.clock ≤ old.clock + 2 + most_calls (job_with bytes) (length plan.lines)
-
-    by_bytes : IsFew job → IsFew (job_bytes source)
-    by_bytes h = subst IsFew is h
+    IsFew : Job → Type 0
+    IsFew j = AreCounted j folder → new.clock ≤ old.clock + 2 + most_calls j (length spoken)
 
 -- a status of an ending that is one of two
 pub one_of_two : (P : ℕ → Type 0) (e f : Ending) → (e ≡ f) ⊎ (e ≡ SayFault) → P (status_of f) → P 8 → P (status_of e)
@@ -187,18 +191,21 @@ module _ {S : Type 0} (tells : S → Bool) (world : S → World) where
   }
 
   -- a source's job was run
-  pub ran_source : (folder : List ℕ) (source : Source) (plan : Plan) (job : List ℕ) (status : ℕ) (s t : S) → Plans source plan
+  pub ran_source : (folder : List ℕ) (source : Source) (plan : Plan) (given : List Planned) (spoken : List LineEnd)
+      (job : List ℕ) (status : ℕ) (s t : S) → Plans source plan → given ≡ plan.steps → spoken ≡ plan.lines
       → job ≡ job_bytes source
-      → Told tells s t (RunsIn folder (record { n = plan.n; text = source.script; steps = plan.steps; bytes = job })
-      plan.lines status (world s) (world t))
+      → Told tells s t (RunsIn folder (record { n = plan.n; text = source.script; steps = given; bytes = job })
+      spoken status (world s) (world t))
       → Told tells s t (EndsSource folder source status (world s) (world t))
-  ran_source folder source plan job status s t plans is runs = record {
+  ran_source folder source plan given spoken job status s t plans steps_are lines_are is runs = record {
     before = runs.before;
     did = λ tells_t. inr (inr (record {
       plan = plan;
       plans = plans;
-      run = subst (λ bytes. RunsIn folder (record { n = plan.n; text = source.script; steps = plan.steps; bytes = bytes })
-          plan.lines status (world s) (world t)) is (runs.did tells_t);
+      run = subst (λ (j : Job). RunsIn folder j plan.lines status (world s) (world t))
+          (given_job_is source plan given job steps_are is)
+          (subst (λ ls. RunsIn folder (record { n = plan.n; text = source.script; steps = given; bytes = job }) ls status
+          (world s) (world t)) lines_are (runs.did tells_t));
     }));
   }
 

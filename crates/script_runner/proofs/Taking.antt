@@ -43,7 +43,7 @@ use Rattle.step_engine.proofs.EntryLaws.{only_below, operand_kind}
 use Rattle.script_runner.specs.declared.finish.Finish.{Finish}
 use Rattle.script_runner.specs.declared.finish.Finish.TheVariants.{FolderFault, RunsSpent}
 use Rattle.script_runner.specs.Running.{OthersAre, AreEmptied, IsMetDamage, RefusesFolder, IsStop}
-use Rattle.script_runner.specs.StepRuns.{IsJobOf, CountsAbout, IsTaking, HasEntry, HasSteps, HoldsStep, NamesMet, NamesSpent, StaysEmpty, KeepsDiagrams, TakesStep, stopped_by}
+use Rattle.script_runner.specs.StepRuns.{CountsAbout, IsTaking, HasEntry, HasSteps, HoldsStep, NamesMet, NamesSpent, StaysEmpty, KeepsDiagrams, TakesStep, stopped_by}
 use Rattle.script_runner.proofs.RunSteps.{held_steps, present_count}
 use Rattle.script_runner.proofs.SweepDamage.{fault_there}
 
@@ -149,41 +149,41 @@ taking_commits steps step e old mid m number so_far during = record {
         let same : count_in (bytes_in image) ≡ count = has.count in
         record { stored = has.stored; no_fewer = omega (arith, same, low, number); no_more = omega (arith, same, high, number) }
 
-module _ (n : ℕ) (text : List ℕ) (steps : List Planned) (k : ℕ) (few : length steps ≤ 1048576) (within : k < length steps) where
+module _ (job : Job) (k : ℕ) (few : AreFew job) (within : k < length job.steps) where
   early : k < 4294967295
   early = omega (arith, few, within)
 
   abbrev Takes : World → Moment → Type 0
-  Takes old m = IsTaking (length steps) k (now old).folder m.folder
+  Takes old m = IsTaking (length job.steps) k (now old).folder m.folder
 
-  own_within : (f : FileNo) → IsOwnFile k f → f.step < length steps
+  own_within : (f : FileNo) → IsOwnFile k f → f.step < length job.steps
   own_within f own = let same : f.step ≡ k = own.step_is in omega (arith, same, within)
 
   pub run_made : (old new : World) → IsReady k (now old).folder → Ran (OnlyItsFiles k (now old)) old new → Ran (Takes old) old new
   run_made old new ready run = ran_weakens old new (OnlyItsFiles k (now old)) (Takes old) (λ m only.
-      taking_same (length steps) k k (now old).folder (now old).folder m.folder (omega arith) (omega arith) ready
+      taking_same (length job.steps) k k (now old).folder (now old).folder m.folder (omega arith) (omega arith) ready
       (λ f job_step. only f (job_apart k f early job_step))
       (λ f apart. only f (λ own. apart (inl (own_within f own))))
-      (taking_first (length steps) k (now old).folder ready)) run
+      (taking_first (length job.steps) k (now old).folder ready)) run
 
   pub run_committed : (e : Entry) (old mid new : World) → e.number ≡ k → Ran (Takes old) old mid → Ran (DuringCommit e (now mid)) mid new → Ran (Takes old) old new
   run_committed e old mid new number first second = ran_joins old mid new (Takes old) first
       (ran_weakens mid new (DuringCommit e (now mid)) (Takes old)
-      (λ m during. taking_commits (length steps) k e (now old).folder (now mid) m number (ran_end old mid (Takes old) first) during) second)
+      (λ m during. taking_commits (length job.steps) k e (now old).folder (now mid) m number (ran_end old mid (Takes old) first) during) second)
 
-  cut_within : (s : Step) (f : FileNo) → IsTrue (list_all (λ j. nat_lt j k) (operands s)) → IsCutBy s k f → f.step < length steps
+  cut_within : (s : Step) (f : FileNo) → IsTrue (list_all (λ j. nat_lt j k) (operands s)) → IsCutBy s k f → f.step < length job.steps
   cut_within s f earlier cut = let low : f.step ≤ k = cut_file s k f earlier cut in omega (arith, low, within)
 
   -- the job's files stay while what a step leaves behind is cut
   job_tidied : (s : Step) (last m : Moment) → IsTrue (list_all (λ j. nat_lt j k) (operands s)) → OnlyTidied s k last m → JobStays last.folder m.folder
   job_tidied s last m earlier tidied f job_step =
-      tidied.only f (λ cut. let own : f.step < length steps = cut_within s f earlier cut in omega (arith, own, job_step, few))
+      tidied.only f (λ cut. let own : f.step < length job.steps = cut_within s f earlier cut in omega (arith, own, job_step, few))
 
   pub run_tidied : (s : Step) (old last new : World) → IsTrue (list_all (λ j. nat_lt j k) (operands s)) → IsReady (k + 1) (now last).folder
       → Ran (Takes old) old last → Ran (OnlyTidied s k (now last)) last new → Ran (Takes old) old new
   run_tidied s old last new earlier ready first second = ran_joins old last new (Takes old) first
       (ran_weakens last new (OnlyTidied s k (now last)) (Takes old) (λ m tidied.
-      taking_same (length steps) k (k + 1) (now old).folder (now last).folder m.folder (omega arith) (omega arith) ready (job_tidied s (now last) m earlier tidied)
+      taking_same (length job.steps) k (k + 1) (now old).folder (now last).folder m.folder (omega arith) (omega arith) ready (job_tidied s (now last) m earlier tidied)
       (λ f apart. tidied.only f (λ cut. apart (inl (cut_within s f earlier cut)))) (ran_end old last (Takes old) first)) second)
 
   -- the folder is as ready once what a step leaves behind is cut
@@ -198,9 +198,9 @@ module _ (n : ℕ) (text : List ℕ) (steps : List Planned) (k : ℕ) (few : len
       (λ f job_step. ran_end old new (OnlyItsFiles k (now old)) made f (job_apart k f early job_step)) ready
 
   -- the entry of the step stands at its place, once it is committed and tidied up
-  pub entry_made : (s : Step) (e : Entry) (mid last new : World) → (get_or steps k no_step).step ≡ s → IsTrue (list_all (λ j. nat_lt j k) (operands s)) → IsEntryFor s k e
+  pub entry_made : (s : Step) (e : Entry) (mid last new : World) → (get_or job.steps k no_step).step ≡ s → IsTrue (list_all (λ j. nat_lt j k) (operands s)) → IsEntryFor s k e
       → IsReady e.number (now mid).folder → IsCommitted e (now mid).folder (now last).folder → Ran (OnlyTidied s k (now last)) last new
-      → HasEntry steps k e (present (now new).folder)
+      → HasEntry job.steps k e (present (now new).folder)
   entry_made s e mid last new step earlier is ready committed tidies = record {
     stands = record {
       entry = is.entry_is;
@@ -213,11 +213,11 @@ module _ (n : ℕ) (text : List ℕ) (steps : List Planned) (k : ℕ) (few : len
   }
 
   -- what the step drops is empty
-  pub emptied_here : (s : Step) (folder : Folder) → (get_or steps k no_step).step ≡ s
-      → ((gone : ℕ) → s ≡ Drop gone → (file_in folder (node_file gone)).bytes ≡ []) → AreEmptied steps k (k + 1) folder
+  pub emptied_here : (s : Step) (folder : Folder) → (get_or job.steps k no_step).step ≡ s
+      → ((gone : ℕ) → s ≡ Drop gone → (file_in folder (node_file gone)).bytes ≡ []) → AreEmptied job.steps k (k + 1) folder
   emptied_here s folder step empty j from until gone drops_it =
       let same : j ≡ k = omega (arith, from, until) in
-      empty gone (sym step ∙ ap (λ i. (get_or steps i no_step).step) (sym same) ∙ drops_it)
+      empty gone (sym step ∙ ap (λ i. (get_or job.steps i no_step).step) (sym same) ∙ drops_it)
 
   -- an earlier diagram's file stays until the step is tidied up
   until_tidied : (e : Entry) (old mid last : World) → Ran (OnlyItsFiles k (now old)) old mid
@@ -238,9 +238,9 @@ module _ (n : ℕ) (text : List ℕ) (steps : List Planned) (k : ℕ) (few : len
       (ap (λ (x : File). x.bytes) (until_tidied e old mid last made commits j below) ∙ before)
 
   -- and unless the step drops it, it is as it was
-  pub keeps_diagrams : (s : Step) (e : Entry) (old mid last new : World) → (get_or steps k no_step).step ≡ s
+  pub keeps_diagrams : (s : Step) (e : Entry) (old mid last new : World) → (get_or job.steps k no_step).step ≡ s
       → Ran (OnlyItsFiles k (now old)) old mid → Ran (DuringCommit e (now mid)) mid last
-      → Ran (OnlyTidied s k (now last)) last new → KeepsDiagrams steps k (k + 1) (now old).folder (now new).folder
+      → Ran (OnlyTidied s k (now last)) last new → KeepsDiagrams job.steps k (k + 1) (now old).folder (now new).folder
   keeps_diagrams s e old mid last new step made commits tidies j below none =
       (ran_end last new (OnlyTidied s k (now last)) tidies).only (node_file j) not_cut
       ∙ until_tidied e old mid last made commits j below
@@ -252,9 +252,9 @@ module _ (n : ℕ) (text : List ℕ) (steps : List Planned) (k : ℕ) (few : len
       not_cut (inr (swept, behind)) = let same : j ≡ k = behind.step_is in omega (arith, same, below)
 
   -- a place that a step that sweeps found damaged
-  swept_damage : (s : Step) (f : FileNo) (at : ℕ) (P : Moment → Type 0) (old new : World) → (get_or steps k no_step).step ≡ s
+  swept_damage : (s : Step) (f : FileNo) (at : ℕ) (P : Moment → Type 0) (old new : World) → (get_or job.steps k no_step).step ≡ s
       → IsTrue (sweeps s) → count_in (present (now old).folder) ≡ k → Throughout old new P
-      → IsStepFault n s old (sort.Damaged f at) → IsMetDamage n steps f at (now old).folder old new
+      → IsStepFault job.n s old (sort.Damaged f at) → IsMetDamage job.n job.steps f at (now old).folder old new
   swept_damage s f at P old new step swept count run fault =
       let same : (new.moment old.clock).folder ≡ (now old).folder =
       ap (λ (m : Moment). m.folder) (run.past old.clock (omega arith)) in
@@ -266,17 +266,17 @@ module _ (n : ℕ) (text : List ℕ) (steps : List Planned) (k : ℕ) (few : len
         since = omega arith;
         until = run.later;
         committed = ap (λ (folder : Folder). count_in (present folder)) same ∙ count;
-        fault = fault_there n _ old _ (sort.Damaged f at) same
-            (subst (λ x. IsStepFault n x old (sort.Damaged f at)) (sym step) fault);
+        fault = fault_there job.n _ old _ (sort.Damaged f at) same
+            (subst (λ x. IsStepFault job.n x old (sort.Damaged f at)) (sym step) fault);
         uncommitted = omega (arith, count);
         at_first = λ j below is. ap (λ (folder : Folder). file_in folder f) same;
       })
 
   -- the entry that a size couldn't use, or the file that a step that sweeps couldn't
-  pub step_damage : (plan : IsWellFormed n text steps) (s : Step) (f : FileNo) (at : ℕ) (P : Moment → Type 0) (old new : World)
-      → (get_or steps k no_step).step ≡ s → IsTrue (list_all (λ j. nat_lt j k) (operands s))
-      → count_in (present (now old).folder) ≡ k → Throughout old new P → IsStepFault n s old (sort.Damaged f at)
-      → IsMetDamage n steps f at (now old).folder old new
+  pub step_damage : (plan : IsWellFormed job.n job.text job.steps) (s : Step) (f : FileNo) (at : ℕ) (P : Moment → Type 0) (old new : World)
+      → (get_or job.steps k no_step).step ≡ s → IsTrue (list_all (λ j. nat_lt j k) (operands s))
+      → count_in (present (now old).folder) ≡ k → Throughout old new P → IsStepFault job.n s old (sort.Damaged f at)
+      → IsMetDamage job.n job.steps f at (now old).folder old new
   step_damage plan (Const value) f at P old new step earlier count run fault = absurd cc
   step_damage plan (Var level) f at P old new step earlier count run fault = absurd cc
   step_damage plan (Pair op left right) f at P old new step earlier count run fault =
@@ -300,7 +300,7 @@ module _ (n : ℕ) (text : List ℕ) (steps : List Planned) (k : ℕ) (few : len
       below = only_below k operand earlier
 
       by_fault : (found : StreamFault) → sort.Damaged f at ≡ handed_on found → IsKindFault operand 1 (present (now old).folder) found
-          → IsMetDamage n steps f at (now old).folder old new
+          → IsMetDamage job.n job.steps f at (now old).folder old new
       by_fault stream.Shelf same kind = absurd cc
       by_fault (stream.Damaged g b) same kind =
           let files_are : f ≡ g = cc in
@@ -310,23 +310,23 @@ module _ (n : ℕ) (text : List ℕ) (steps : List Planned) (k : ℕ) (few : len
             counted = omega (arith, below, count);
             file_is = files_are ∙ kind.0;
             at_is = places ∙ kind.1;
-            none_there = λ e is same_kind. kind.2 e is (same_kind ∙ operand_kind n text steps k operand within plan step below);
+            none_there = λ e is same_kind. kind.2 e is (same_kind ∙ operand_kind job.n job.text job.steps k operand within plan step below);
           })
 
   -- what the run says of a fault of the step
-  pub names_met : (plan : IsWellFormed n text steps) (s : Step) (fault : SortFault) (P : Moment → Type 0) (old new : World)
-      → (get_or steps k no_step).step ≡ s → IsTrue (list_all (λ j. nat_lt j k) (operands s))
-      → count_in (present (now old).folder) ≡ k → Throughout old new P → IsStepFault n s old fault
-      → NamesMet n steps old new (stopped_by k fault)
+  pub names_met : (plan : IsWellFormed job.n job.text job.steps) (s : Step) (fault : SortFault) (P : Moment → Type 0) (old new : World)
+      → (get_or job.steps k no_step).step ≡ s → IsTrue (list_all (λ j. nat_lt j k) (operands s))
+      → count_in (present (now old).folder) ≡ k → Throughout old new P → IsStepFault job.n s old fault
+      → NamesMet job.n job.steps old new (stopped_by k fault)
   names_met plan s sort.Shelf P old new step earlier count run fault = λ f at e. absurd cc
   names_met plan s (sort.Damaged g b) P old new step earlier count run fault = λ f at e.
       let files_are : g ≡ f = cc in
       let places : b ≡ at = cc in
-      subst (λ h. IsMetDamage n steps h at (now old).folder old new) files_are
-      (subst (λ c. IsMetDamage n steps g c (now old).folder old new) places (step_damage plan s g b P old new step earlier count run fault))
+      subst (λ h. IsMetDamage job.n job.steps h at (now old).folder old new) files_are
+      (subst (λ c. IsMetDamage job.n job.steps g c (now old).folder old new) places (step_damage plan s g b P old new step earlier count run fault))
   names_met plan s sort.RunsSpent P old new step earlier count run fault = λ f at e. absurd cc
 
-  pub names_spent : (s : Step) (fault : SortFault) → (get_or steps k no_step).step ≡ s → IsOfKind s fault → NamesSpent steps k (stopped_by k fault)
+  pub names_spent : (s : Step) (fault : SortFault) → (get_or job.steps k no_step).step ≡ s → IsOfKind s fault → NamesSpent job.steps k (stopped_by k fault)
   names_spent s sort.Shelf step kind = λ j e. absurd cc
   names_spent s (sort.Damaged f at) step kind = λ j e. absurd cc
   names_spent s sort.RunsSpent step kind = λ j e. let same : j ≡ k = cc in (same, subst (λ x. IsTrue (joins_pieces x)) (sym step) kind)
@@ -422,31 +422,13 @@ module _ (job : Job) (k : ℕ) (few : AreFew job) (within : k < length job.steps
       spent = tt;
     }
 
--- the step of a job with this plan
-step_of : (job : Job) (n : ℕ) (text : List ℕ) (steps : List Planned) (k : ℕ) → IsJobOf job n text steps → IsWellFormed n text steps → k < length steps
-    → IsStepOf job n text k (get_or steps k no_step)
-step_of job n text steps k is plan within = record {
-  well_formed = subst (λ m. IsWellFormed m job.text job.steps) (sym is.n_is)
-      (subst (λ t. IsWellFormed n t job.steps) (sym is.text_is) (subst (IsWellFormed n text) (sym is.steps_are) plan));
-  n_is = is.n_is;
-  text_is = is.text_is;
-  within = subst (λ (xs : List Planned). k < length xs) (sym is.steps_are) within;
-  step_is = ap (λ (xs : List Planned). get_or xs k no_step) is.steps_are;
-}
-
-job_few : (job : Job) (n : ℕ) (text : List ℕ) (steps : List Planned) → IsJobOf job n text steps → IsWellFormed n text steps → AreFew job
-job_few job n text steps is plan = subst (λ (xs : List Planned). length xs ≤ 1048576) (sym is.steps_are) plan.few_steps
-
 module _ {S : Type 0} (tells : S → Bool) (world : S → World) (counts : S → Faults) (law : (s : S) → IsTrue (tells s) → AreFiles (now (world s)).folder)
-    (n : ℕ) (text : List ℕ) (steps : List Planned) (k : ℕ) (plan : IsWellFormed n text steps) (within : k < length steps) (p : Planned) (p_is : p ≡ get_or steps k no_step)
+    (job : Job) (k : ℕ) (plan : IsWellFormed job.n job.text job.steps) (within : k < length job.steps) (p : Planned) (p_is : p ≡ step_at job k)
     (earlier : IsTrue (list_all (λ j. nat_lt j k) (operands p.step))) where
-  the_step : (job : Job) → IsJobOf job n text steps → IsStepOf job n text k p
-  the_step job is = subst (IsStepOf job n text k) (sym p_is) (step_of job n text steps k is plan within)
+  the_step : IsStepOf job job.n job.text k p
+  the_step = record { well_formed = plan; n_is = refl; text_is = refl; within = within; step_is = sym p_is }
 
-  the_place : (job : Job) → IsJobOf job n text steps → (step_at job k).step ≡ p.step
-  the_place job is = ap (λ (q : Planned). q.step) (the_step job is).step_is
-
-  place_is : (get_or steps k no_step).step ≡ p.step
+  place_is : (step_at job k).step ≡ p.step
   place_is = ap (λ (q : Planned). q.step) (sym p_is)
 
   -- at most the step's own files were changed
@@ -456,38 +438,38 @@ module _ {S : Type 0} (tells : S → Bool) (world : S → World) (counts : S →
       (λ m only f apart. only f (λ changed. apart (own_file p.step k f changed))) (made.did tells_s)
 
   -- the step couldn't be run
-  module _ (fault : SortFault) (old s : S) (runs : RunsStep tells world counts n text k p old s (Err fault)) where
+  module _ (fault : SortFault) (old s : S) (runs : RunsStep tells world counts job.n job.text k p old s (Err fault)) where
     stopped_so : (IsTrue (tells old) → IsReady k (now (world old)).folder)
-        → Told tells old s (TakesStep n text steps k (Err (stopped_by k fault)) (world old) (world s))
+        → Told tells old s (TakesStep job k (Err (stopped_by k fault)) (world old) (world s))
     stopped_so ready = record {
       before = runs.content.before;
       did = λ tells_s.
           let tells_old : IsTrue (tells old) = runs.content.before tells_s in
           let ran = filed old s runs.content tells_s in
           record {
-            run = run_made n text steps k plan.few_steps within (world old) (world s) (ready tells_old) ran;
+            run = run_made job k plan.few_steps within (world old) (world s) (ready tells_old) ran;
             ready = tt;
             made = tt;
             emptied = tt;
             still_empty = tt;
             keeps = tt;
             stops = is_stop k fault;
-            damaged = names_met n text steps k plan.few_steps within plan p.step fault _ (world old) (world s) place_is earlier
+            damaged = names_met job k plan.few_steps within plan p.step fault _ (world old) (world s) place_is earlier
                 (present_count (now (world old)).folder k (law old tells_old) (ready tells_old)) ran.moments (runs.damaged tells_s);
-            spent = names_spent n text steps k plan.few_steps within p.step fault place_is runs.kind;
-            holds = λ job is holds. stopped_making job k (job_few job n text steps is plan) (the_step job is).within fault (world old) (world s) holds ran
-                (subst (λ x. IsSoundFault x (work_of job x) fault) (sym (the_place job is)) (runs.sound tells_s job (the_step job is) holds));
+            spent = names_spent job k plan.few_steps within p.step fault place_is runs.kind;
+            holds = λ holds. stopped_making job k plan.few_steps within fault (world old) (world s) holds ran
+                (subst (λ x. IsSoundFault x (work_of job x) fault) (sym place_is) (runs.sound tells_s job the_step holds));
           };
     }
 
     pub was_stopped : (finish : Finish) → finish ≡ stopped_by k fault → (IsTrue (tells old) → IsReady k (now (world old)).folder)
-        → Told tells old s (TakesStep n text steps k (Err finish) (world old) (world s))
-    was_stopped finish finish_is ready = subst (λ x. Told tells old s (TakesStep n text steps k (Err x) (world old) (world s))) (sym finish_is) (stopped_so ready)
+        → Told tells old s (TakesStep job k (Err finish) (world old) (world s))
+    was_stopped finish finish_is ready = subst (λ x. Told tells old s (TakesStep job k (Err x) (world old) (world s))) (sym finish_is) (stopped_so ready)
 
   -- what a step that was made leaves for its commit
-  module _ (e : Entry) (old s : S) (runs : RunsStep tells world counts n text k p old s (Ok e)) (ready : IsTrue (tells old) → IsReady k (now (world old)).folder) where
-    ready_for : (job : Job) → IsJobOf job n text steps → Holds job k (now (world old)).folder → IsReadyFor job n text k p (world old)
-    ready_for job is holds = record { step = the_step job is; holds = λ reads. holds }
+  module _ (e : Entry) (old s : S) (runs : RunsStep tells world counts job.n job.text k p old s (Ok e)) (ready : IsTrue (tells old) → IsReady k (now (world old)).folder) where
+    ready_for : Holds job k (now (world old)).folder → IsReadyFor job job.n job.text k p (world old)
+    ready_for holds = record { step = the_step; holds = λ reads. holds }
 
     ran_so : IsTrue (tells s) → Ran (OnlyItsFiles k (now (world old))) (world old) (world s)
     ran_so tells_s = filed old s runs.content tells_s
@@ -495,16 +477,16 @@ module _ {S : Type 0} (tells : S → Bool) (world : S → World) (counts : S →
     pub made_ready : IsTrue (tells s) → IsReady e.number (now (world s)).folder
     made_ready tells_s =
         subst (λ c. IsReady c (now (world s)).folder) (sym runs.fits.number_is)
-        (ready_made n text steps k plan.few_steps within k (world old) (world s) (ran_so tells_s) (ready (runs.content.before tells_s)))
+        (ready_made job k plan.few_steps within k (world old) (world s) (ran_so tells_s) (ready (runs.content.before tells_s)))
 
     -- the run up to the commit, and within it
     to_commit : (t : S) → IsTrue (tells s) → Ran (DuringCommit e (now (world s))) (world s) (world t)
-        → Ran (λ m. IsTaking (length steps) k (now (world old)).folder m.folder) (world old) (world t)
+        → Ran (λ m. IsTaking (length job.steps) k (now (world old)).folder m.folder) (world old) (world t)
     to_commit t tells_s commits =
-        run_committed n text steps k plan.few_steps within e (world old) (world s) (world t) runs.fits.number_is
-        (run_made n text steps k plan.few_steps within (world old) (world s) (ready (runs.content.before tells_s)) (ran_so tells_s)) commits
+        run_committed job k plan.few_steps within e (world old) (world s) (world t) runs.fits.number_is
+        (run_made job k plan.few_steps within (world old) (world s) (ready (runs.content.before tells_s)) (ran_so tells_s)) commits
 
-    pub commit_failed : (t : S) → Told tells s t (Ran (DuringCommit e (now (world s))) (world s) (world t)) → Told tells old t (TakesStep n text steps k (Err FolderFault) (world old) (world t))
+    pub commit_failed : (t : S) → Told tells s t (Ran (DuringCommit e (now (world s))) (world s) (world t)) → Told tells old t (TakesStep job k (Err FolderFault) (world old) (world t))
     commit_failed t commits = record {
       before = λ tells_t. runs.content.before (commits.before tells_t);
       did = λ tells_t.
@@ -519,8 +501,8 @@ module _ {S : Type 0} (tells : S → Bool) (world : S → World) (counts : S →
             stops = tt;
             damaged = λ f at d. absurd cc;
             spent = λ j d. absurd cc;
-            holds = λ job is holds. stopped_committing job k (job_few job n text steps is plan) (the_step job is).within e (world old) (world s) (world t) holds (ran_so tells_s)
-                (runs.made tells_s job (ready_for job is holds)) (runs.entry tells_s job (ready_for job is holds)) (commits.did tells_t);
+            holds = λ holds. stopped_committing job k plan.few_steps within e (world old) (world s) (world t) holds (ran_so tells_s)
+                (runs.made tells_s job (ready_for holds)) (runs.entry tells_s job (ready_for holds)) (commits.did tells_t);
           };
     }
 
@@ -533,14 +515,14 @@ module _ {S : Type 0} (tells : S → Bool) (world : S → World) (counts : S →
       ready_last : IsTrue (tells t) → IsReady (k + 1) (now (world t)).folder
       ready_last tells_t = subst (λ c. IsReady (c + 1) (now (world t)).folder) runs.fits.number_is (committed tells_t).ready
 
-      pub tidy_failed : Told tells old u (TakesStep n text steps k (Err FolderFault) (world old) (world u))
+      pub tidy_failed : Told tells old u (TakesStep job k (Err FolderFault) (world old) (world u))
       tidy_failed = record {
         before = λ tells_u. runs.content.before (commits.before (tidies.before tells_u));
         did = λ tells_u.
             let tells_t : IsTrue (tells t) = tidies.before tells_u in
             let tells_s : IsTrue (tells s) = commits.before tells_t in
             record {
-              run = run_tidied n text steps k plan.few_steps within p.step (world old) (world t) (world u) earlier (ready_last tells_t)
+              run = run_tidied job k plan.few_steps within p.step (world old) (world t) (world u) earlier (ready_last tells_t)
                   (to_commit t tells_s (commits.did tells_t)) (tidies.did tells_u);
               ready = tt;
               made = tt;
@@ -550,35 +532,35 @@ module _ {S : Type 0} (tells : S → Bool) (world : S → World) (counts : S →
               stops = tt;
               damaged = λ f at d. absurd cc;
               spent = λ j d. absurd cc;
-              holds = λ job is holds. stopped_tidying job k (job_few job n text steps is plan) (the_step job is).within p.step (the_place job is) earlier e
-                  (world old) (world s) (world t) (world u) holds (ran_so tells_s) (runs.made tells_s job (ready_for job is holds)) (runs.entry tells_s job (ready_for job is holds))
+              holds = λ holds. stopped_tidying job k plan.few_steps within p.step place_is earlier e
+                  (world old) (world s) (world t) (world u) holds (ran_so tells_s) (runs.made tells_s job (ready_for holds)) (runs.entry tells_s job (ready_for holds))
                   (commits.did tells_t) (committed tells_t) (tidies.did tells_u);
             };
       }
 
       pub took : (IsTrue (tells u) → (gone : ℕ) → p.step ≡ Drop gone → (file (world u) (node_file gone)).bytes ≡ [])
-          → Told tells old u (TakesStep n text steps k (Ok e) (world old) (world u))
+          → Told tells old u (TakesStep job k (Ok e) (world old) (world u))
       took empty = record {
         before = λ tells_u. runs.content.before (commits.before (tidies.before tells_u));
         did = λ tells_u.
             let tells_t : IsTrue (tells t) = tidies.before tells_u in
             let tells_s : IsTrue (tells s) = commits.before tells_t in
             record {
-              run = run_tidied n text steps k plan.few_steps within p.step (world old) (world t) (world u) earlier (ready_last tells_t)
+              run = run_tidied job k plan.few_steps within p.step (world old) (world t) (world u) earlier (ready_last tells_t)
                   (to_commit t tells_s (commits.did tells_t)) (tidies.did tells_u);
-              ready = ready_tidied n text steps k plan.few_steps within p.step (k + 1) (world t) (world u) earlier (tidies.did tells_u) (ready_last tells_t);
-              made = entry_made n text steps k plan.few_steps within p.step e (world s) (world t) (world u) place_is earlier runs.fits
+              ready = ready_tidied job k plan.few_steps within p.step (k + 1) (world t) (world u) earlier (tidies.did tells_u) (ready_last tells_t);
+              made = entry_made job k plan.few_steps within p.step e (world s) (world t) (world u) place_is earlier runs.fits
                   (made_ready tells_s) (committed tells_t) (tidies.did tells_u);
-              emptied = emptied_here n text steps k plan.few_steps within p.step (now (world u)).folder place_is (empty tells_u);
-              still_empty = still_empty n text steps k plan.few_steps within p.step e (world old) (world s) (world t) (world u) (ran_so tells_s) (commits.did tells_t)
+              emptied = emptied_here job k plan.few_steps within p.step (now (world u)).folder place_is (empty tells_u);
+              still_empty = still_empty job k plan.few_steps within p.step e (world old) (world s) (world t) (world u) (ran_so tells_s) (commits.did tells_t)
                   (tidies.did tells_u);
-              keeps = keeps_diagrams n text steps k plan.few_steps within p.step e
+              keeps = keeps_diagrams job k plan.few_steps within p.step e
                   (world old) (world s) (world t) (world u) place_is (ran_so tells_s) (commits.did tells_t) (tidies.did tells_u);
               stops = tt;
               damaged = tt;
               spent = tt;
-              holds = λ job is holds. was_taken job k (job_few job n text steps is plan) (the_step job is).within p.step (the_place job is) earlier e
-                  (world old) (world s) (world t) (world u) holds (ran_so tells_s) (runs.made tells_s job (ready_for job is holds)) (runs.entry tells_s job (ready_for job is holds))
+              holds = λ holds. was_taken job k plan.few_steps within p.step place_is earlier e
+                  (world old) (world s) (world t) (world u) holds (ran_so tells_s) (runs.made tells_s job (ready_for holds)) (runs.entry tells_s job (ready_for holds))
                   (commits.did tells_t) (committed tells_t) (tidies.did tells_u);
             };
       }

@@ -322,7 +322,7 @@ module _ {S : Type 0} (tells : S → Bool) (world : S → World) (law : (s : S) 
   -- a step is taken, or stops the run
   pub stops_step : (step : ℕ) (rest : List LineEnd) (finish : Finish) (old s t : S) → step < length job.steps
       → IsTrue (rise_from step rest) → Told tells old s (Turn job lines step rest (world old) (world s))
-      → Told tells s t (TakesStep job.n job.text job.steps step (Err finish) (world s) (world t)) → Told tells old t (RunsSteps job lines finish (world old) (world t))
+      → Told tells s t (TakesStep job step (Err finish) (world s) (world t)) → Told tells old t (RunsSteps job lines finish (world old) (world t))
   stops_step step rest finish old s t within rise so_far takes = record {
     before = λ tells_t. so_far.before (takes.before tells_t);
     did = λ tells_t.
@@ -336,7 +336,7 @@ module _ {S : Type 0} (tells : S → Bool) (world : S → World) (law : (s : S) 
         (same_at job lines plan (world old) (law old tells_old) step rest (world s) turn.0 (world t) (Err finish) said_all took (now (world t))
         (ran_end (world s) (world t) (λ m. IsTaking (length job.steps) step (now (world s)).folder m.folder) took.run)) in
         let held : AreSound job (now (world old)).folder → HoldsStep job step (Err finish) (world s) (world t) =
-        λ sound. took.holds job (record { n_is = refl; text_is = refl; steps_are = refl }) (turn.0.sound sound).holds in
+        λ sound. took.holds (turn.0.sound sound).holds in
         by_stop job lines finish (world old) (world t) (taking job lines plan (world old) (law old tells_old) step rest (world s) turn.0 (world t) (Err finish) said_all took) turn.1 took.stops
         (λ sound. (held sound).err)
         (λ f at e. record {
@@ -357,7 +357,7 @@ module _ {S : Type 0} (tells : S → Bool) (world : S → World) (law : (s : S) 
 
   pub takes_step : (step : ℕ) (rest : List LineEnd) (e : Entry) (old s t : S) → step < length job.steps → IsTrue (rise_from step rest)
       → Told tells old s (Turn job lines step rest (world old) (world s))
-      → Told tells s t (TakesStep job.n job.text job.steps step (Ok e) (world s) (world t)) → Told tells old t (Taken job lines step rest e (world old) (world t))
+      → Told tells s t (TakesStep job step (Ok e) (world s) (world t)) → Told tells old t (Taken job lines step rest e (world old) (world t))
   takes_step step rest e old s t within rise so_far takes = told_then tells old s t _ _ _ so_far takes (λ tells_old turn took.
       let both = has_taken job lines plan (world old) (law old tells_old) step rest (world s) turn.0 e (world t) within (all_said step rest (world old) (world s) rise turn.0) took in
       ((both.0, turn.1), both.1))
@@ -433,9 +433,9 @@ module _ {S : Type 0} (tells : S → Bool) (world : S → World) (law : (s : S) 
 
 module _ {S : Type 0} (tells : S → Bool) (world : S → World) where
   -- the entry of a step that was taken stands at its place
-  pub made_stands : (n : ℕ) (text : List ℕ) (steps : List Planned) (step : ℕ) (e : Entry) (s t : S) → e.number ≡ step
-      → Told tells s t (TakesStep n text steps step (Ok e) (world s) (world t)) → IsTrue (tells t) → IsEntryOf e.number (present (now (world t)).folder) e
-  made_stands n text steps step e s t number takes tells_t =
+  pub made_stands : (job : Job) (step : ℕ) (e : Entry) (s t : S) → e.number ≡ step
+      → Told tells s t (TakesStep job step (Ok e) (world s) (world t)) → IsTrue (tells t) → IsEntryOf e.number (present (now (world t)).folder) e
+  made_stands job step e s t number takes tells_t =
       subst (λ k. IsEntryOf k (present (now (world t)).folder) e) (sym number) (takes.did tells_t).made.stands
 
   -- where the turns of all steps are bounded, those of the next step are

@@ -1,9 +1,10 @@
--- The job of a source.
+-- The job of a source, and the one that a run is given.
 use Rattle.std.specs.Prelude.{ℕ, ◌≤◌, List, [], ◌++◌, length, replicate, codes, Option, Some, None}
 use Rattle.byteorder.specs.Endian.{big_bytes}
 use Rattle.sound_image.specs.Jobs.{Job}
 use Rattle.script_reader.specs.declared.plan.Plan.{Plan}
 use Rattle.script_runner.specs.Source.{Source}
+use Rattle.script_runner.specs.declared.given_job.Job as declared
 
 -- a room, a script and maybe a netlist
 abbrev pub source_of : ℕ → List ℕ → Option (List ℕ) → Source
@@ -33,3 +34,7 @@ job_bytes s =
 -- the job of a source whose script asks for this plan
 abbrev pub job_of : Source → Plan → Job
 job_of s plan = record { n = plan.n; text = s.script; steps = plan.steps; bytes = job_bytes s }
+
+-- the job that a run is given, as a folder stores and shows it
+abbrev pub job_in : declared.Job → Job
+job_in job = record { n = job.n; text = job.text.now; steps = job.steps.now; bytes = job.bytes.now }

@@ -31,12 +31,6 @@ use Rattle.script_runner.specs.Text.{said_line}
 use Rattle.script_runner.specs.Shapes.{AreShown}
 use Rattle.script_runner.specs.Running.{SaysFront, StaysThere, OthersAre, AreEmptied, IsEntryDamage, IsMetDamage, RefusesFolder, IsStop}
 
--- the job whose plan this is
-pub record IsJobOf (job : Job) (n : ℕ) (text : List ℕ) (steps : List Planned) : Type 0 where
-  pub n_is : job.n ≡ n
-  pub text_is : job.text ≡ text
-  pub steps_are : job.steps ≡ steps
-
 -- the image is sound, and has so many steps of the stored job at least
 pub record HasSteps (job : Job) (count : ℕ) (r : FileNo → List ℕ) : Type 0 where
   pub sound : IsSound job r
@@ -98,22 +92,20 @@ KeepsDiagrams steps from until old new = (k : ℕ) → k < from → NoneDrops st
     → file_in new (node_file k) ≡ file_in old (node_file k)
 
 -- a step was made, committed and tidied up, or the run stopped there
-pub record TakesStep (n : ℕ) (text : List ℕ) (steps : List Planned) (step : ℕ) (result : Result Entry Finish)
-    (old new : World) : Type 0 where
-  pub run : Ran (λ m. IsTaking (length steps) step (now old).folder m.folder) old new
+pub record TakesStep (job : Job) (step : ℕ) (result : Result Entry Finish) (old new : World) : Type 0 where
+  pub run : Ran (λ m. IsTaking (length job.steps) step (now old).folder m.folder) old new
   pub ready : OnOk result (IsReady (step + 1) (now new).folder)
-  pub made : IfOk result (λ e. HasEntry steps step e (present (now new).folder))
+  pub made : IfOk result (λ e. HasEntry job.steps step e (present (now new).folder))
   -- what the step drops is empty, and so are earlier diagrams' files that were
-  pub emptied : OnOk result (AreEmptied steps step (step + 1) (now new).folder)
+  pub emptied : OnOk result (AreEmptied job.steps step (step + 1) (now new).folder)
   pub still_empty : OnOk result ((k : ℕ) → k < step
       → StaysEmpty (node_file k) (now old).folder (now new).folder)
   -- those that it doesn't drop are as they were
-  pub keeps : OnOk result (KeepsDiagrams steps step (step + 1) (now old).folder (now new).folder)
+  pub keeps : OnOk result (KeepsDiagrams job.steps step (step + 1) (now old).folder (now new).folder)
   pub stops : IfErr result IsStop
-  pub damaged : IfErr result (NamesMet n steps old new)
-  pub spent : IfErr result (NamesSpent steps step)
-  pub holds : (job : Job) → IsJobOf job n text steps → Holds job step (now old).folder
-      → HoldsStep job step result old new
+  pub damaged : IfErr result (NamesMet job.n job.steps old new)
+  pub spent : IfErr result (NamesSpent job.steps step)
+  pub holds : Holds job step (now old).folder → HoldsStep job step result old new
 
 -- the lines that are right for a job were said, or a front part of them
 pub record SaysRight (job : Job) (lines : List LineEnd) (result : Result Unit Finish) (old new : World) : Type 0 where

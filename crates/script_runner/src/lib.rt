@@ -6,6 +6,7 @@ mod banner;
 mod ending;
 mod fetch;
 mod finish;
+mod given_job;
 mod job;
 pub mod laws;
 mod line;

@@ -6,9 +6,11 @@ ghost use Rattle.script_runner.specs.Running.{RunsSteps};
 ghost use Rattle.script_runner.specs.Causes.{FinishHasCause};
 ghost use Rattle.shelf_model.specs.World.{now};
 ghost use Rattle.script_runner.specs.Calls.{most_calls, AreCounted};
+ghost use Rattle.script_runner.specs.JobOf.{job_in};
 
 use crate::Finish;
 use crate::banner::banner_line;
+use crate::given_job::Job;
 use crate::say::{count_before, say_lines};
 use crate::step::take_step;
 use bool_tables::Planned;
@@ -43,25 +45,45 @@ pub fn run_steps<W: Station>(
         + most_calls (record { n = n; text = text.now; steps = steps.now; bytes = job.now }) (length lines.now) }
     ensures causes { FinishHasCause (W.faults station.old) (W.faults station.new) result }
 {
-    let standing = match attach(job, steps.len() as u32, station) {
+    let job = Job {
+        n,
+        text,
+        steps,
+        lines,
+        bytes: job,
+    };
+    run_job(&job, room, station)
+}
+
+/// The same of a job that is given as one.
+pub(crate) fn run_job<W: Station>(job: &Job, room: &mut [Rec], station: &mut W) -> Finish
+    requires room { (16384 ≤ length room.old) × (length room.old ≤ 4194304) }
+    ensures content { Told W.tells station.old station.new
+        (RunsSteps (job_in job.now) job.now.lines.now result (W.world station.old) (W.world station.new)) }
+    ensures calls { IsTrue (W.tells station.new) → AreCounted (job_in job.now) (now (W.world station.old)).folder
+        → (W.world station.new).clock
+        ≤ (W.world station.old).clock + most_calls (job_in job.now) (length job.now.lines.now) }
+    ensures causes { FinishHasCause (W.faults station.old) (W.faults station.new) result }
+{
+    let standing = match attach(job.bytes, job.steps.len() as u32, station) {
         Ok(standing) => standing,
         Err(AttachFault::Shelf) => return Finish::FolderFault,
         Err(AttachFault::Damaged { file, at }) => return Finish::Damaged { file, at },
         Err(AttachFault::OtherJob { at }) => return Finish::OtherJob { at },
     };
-    let before = count_before(standing.done, lines);
-    let banner = banner_line(standing.fresh, before as u64, lines.len() as u64);
+    let before = count_before(standing.done, job.lines);
+    let banner = banner_line(standing.fresh, before as u64, job.lines.len() as u64);
     let Ok(()) = station.say(banner.as_str().as_bytes()) else {
         return Finish::SayFault;
     };
-    let mut rest = lines.split_at(before).1;
-    for step in standing.done..steps.len() as u32 {
-        let entry = match take_step(n, text, steps, step, room, station) {
+    let mut rest = job.lines.split_at(before).1;
+    for step in standing.done..job.steps.len() as u32 {
+        let entry = match take_step(job, step, room, station) {
             Ok(entry) => entry,
             Err(finish) => return finish,
         };
         let (ending, later) = rest.split_at(count_before(step + 1, rest));
-        match say_lines(steps, ending, &entry, station) {
+        match say_lines(job.steps, ending, &entry, station) {
             Ok(()) => {}
             Err(finish) => return finish,
         }

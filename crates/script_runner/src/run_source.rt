@@ -1,27 +1,27 @@
 //! The run of a source: a script, and maybe a netlist.
 ghost use Rattle.std.specs.Prelude.{◌≡◌, ◌+◌, ◌≤◌, IsTrue, IfOk, length};
-ghost use Rattle.bool_tables.specs.Plans.{IsWellFormed};
 ghost use Rattle.shelf_model.specs.World.{now};
 ghost use Rattle.shelf_model.specs.Calls.{Told};
-ghost use Rattle.script_reader.specs.Lines.{AreLines};
 ghost use Rattle.script_runner.specs.Calls.{most_calls, AreCounted};
 ghost use Rattle.script_runner.specs.Entered.{RunsIn, EndsRun, EndingHasCause};
-ghost use Rattle.script_runner.specs.JobOf.{source_of};
+ghost use Rattle.script_runner.specs.JobOf.{source_of, job_in};
 ghost use Rattle.command_words.specs.Views.{text_of};
 ghost use Rattle.script_reader.specs.Views.{given};
 ghost use Rattle.script_runner.specs.Netlists.{netlist_in, netlist_text, IsSpelled};
 ghost use Rattle.script_runner.specs.Outcome.{EndsSource, RunsInCalls, IsRunStatus};
 ghost use Rattle.script_runner.specs.Status.{status_of};
 
+use crate::Finish;
 use crate::ending::Ending;
+use crate::given_job::Job;
 use crate::job::job_bytes;
 use crate::line::{damaged_line, other_job_line, refused_line, runs_spent_line};
 use crate::read_netlist::ReadNetlist;
 use crate::refusal::say_refusal;
-use crate::{Finish, run_steps};
+use crate::run::run_job;
 use blif_reader::Netlist;
 use rec_words::Rec;
-use script_reader::{Plan, ScriptKind, read_script};
+use script_reader::{ScriptKind, read_script};
 use shelf_model::Station;
 use std::alloc::{AllocError, Global};
 
@@ -60,13 +60,20 @@ pub(crate) fn run_source<W: Station>(
         },
     };
     let text = text_in(netlist);
-    let Ok(job) = job_bytes(alloc, budget, script, text) else {
+    let Ok(bytes) = job_bytes(alloc, budget, script, text) else {
         return Ending::NoMemory;
     };
     let Ok(mut room) = take_room(alloc, budget) else {
         return Ending::NoMemory;
     };
-    run_plan(folder, script, &plan, &job, &mut room, station)
+    let job = Job {
+        n: plan.n,
+        text: script,
+        steps: plan.steps.items(),
+        lines: plan.lines.items(),
+        bytes: &bytes,
+    };
+    run_in(folder, &job, &mut room, station)
 }
 
 /// The room of a run.
@@ -76,43 +83,22 @@ fn take_room(alloc: Global, budget: u32) -> Result<Vec<Rec>, AllocError>
     vec![in alloc; Rec { w: [0; 8] }; budget as usize]
 }
 
-/// Enters the folder and runs the plan's job there.
-fn run_plan<W: Station>(
-    folder: &str,
-    text: &[u8],
-    plan: &Plan,
-    job: &[u8],
-    room: &mut [Rec],
-    station: &mut W,
-) -> Ending
-    requires plan { IsWellFormed plan.now.n text.now plan.now.steps }
-    requires lines { AreLines plan.now.steps plan.now.lines }
+/// Enters the folder and runs the job there.
+fn run_in<W: Station>(folder: &str, job: &Job, room: &mut [Rec], station: &mut W) -> Ending
     requires room { (16384 ≤ length room.old) × (length room.old ≤ 4194304) }
     ensures content { Told W.tells station.old station.new
-        (RunsIn folder.now (record { n = plan.now.n; text = text.now; steps = plan.now.steps; bytes = job.now })
-        plan.now.lines
-        (status_of result) (W.world station.old) (W.world station.new)) }
-    ensures calls { IsTrue (W.tells station.new) →
-        AreCounted (record { n = plan.now.n; text = text.now; steps = plan.now.steps; bytes = job.now })
-        (now (W.world station.old)).folder → (W.world station.new).clock ≤ (W.world station.old).clock + 2
-        + most_calls (record { n = plan.now.n; text = text.now; steps = plan.now.steps; bytes = job.now })
-        (length plan.now.lines) }
+        (RunsIn folder.now (job_in job.now) job.now.lines.now (status_of result)
+        (W.world station.old) (W.world station.new)) }
+    ensures calls { IsTrue (W.tells station.new) → AreCounted (job_in job.now) (now (W.world station.old)).folder
+        → (W.world station.new).clock
+        ≤ (W.world station.old).clock + 2 + most_calls (job_in job.now) (length job.now.lines.now) }
     ensures which { EndsRun (status_of result) }
     ensures cause { EndingHasCause (W.faults station.old) (W.faults station.new) result }
 {
     let Ok(()) = station.enter(folder) else {
         return Ending::FolderFault;
     };
-    let finish = run_steps(
-        plan.n,
-        text,
-        plan.steps.items(),
-        plan.lines.items(),
-        job,
-        room,
-        station,
-    );
-    match finish {
+    match run_job(job, room, station) {
         Finish::Done => Ending::Done,
         Finish::OtherJob { at } => say_refusal(
             other_job_line(at).as_str().as_bytes(),

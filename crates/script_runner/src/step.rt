@@ -1,16 +1,16 @@
 //! One step of a run: it is made, committed and tidied up.
 ghost use Rattle.std.specs.Prelude.{◌≡◌, ◌+◌, ◌≤◌, ◌<◌, IsTrue, IfOk, length, get_or};
-ghost use Rattle.bool_tables.specs.Plans.{IsWellFormed};
 ghost use Rattle.shelf_model.specs.World.{now};
 ghost use Rattle.shelf_model.specs.Calls.{Told};
 ghost use Rattle.catalogue.specs.Commits.{IsReady};
-ghost use Rattle.sound_image.specs.Jobs.{Job, no_step};
+ghost use Rattle.sound_image.specs.Jobs.{no_step};
 ghost use Rattle.script_runner.specs.Calls.{step_calls, IsCounted};
-ghost use Rattle.script_runner.specs.StepRuns.{TakesStep, IsJobOf, stopped_by};
+ghost use Rattle.script_runner.specs.JobOf.{job_in};
+ghost use Rattle.script_runner.specs.StepRuns.{TakesStep, stopped_by};
 ghost use Rattle.script_runner.specs.Causes.{StopHasCause};
 
 use crate::Finish;
-use bool_tables::Planned;
+use crate::given_job::Job;
 use catalogue::{Entry, commit};
 use rec_words::Rec;
 use shelf_model::{Shelf, SortFault};
@@ -18,27 +18,24 @@ use step_engine::{run_step, tidy};
 
 /// Runs the step of that number, behind those that are committed, and commits it. The answer is its entry.
 pub(crate) fn take_step<S: Shelf>(
-    n: u32,
-    text: &[u8],
-    steps: &[Planned],
+    job: &Job,
     number: u32,
     room: &mut [Rec],
     shelf: &mut S,
 ) -> Result<Entry, Finish>
-    requires plan { IsWellFormed n text.now steps.now }
-    requires within { number < length steps.now }
+    requires within { number < length job.now.steps.now }
     requires room { (16384 ≤ length room.old) × (length room.old ≤ 4194304) }
     requires ready { IsTrue (S.tells shelf.old) → IsReady number (now (S.world shelf.old)).folder }
     ensures content { Told S.tells shelf.old shelf.new
-        (TakesStep n text.now steps.now number result (S.world shelf.old) (S.world shelf.new)) }
-    ensures calls { IsTrue (S.tells shelf.new) → (job : Job) → IsJobOf job n text.now steps.now →
-        IsCounted job number (now (S.world shelf.old)).folder →
-        (S.world shelf.new).clock ≤ (S.world shelf.old).clock + step_calls job (get_or steps.now number no_step) }
+        (TakesStep (job_in job.now) number result (S.world shelf.old) (S.world shelf.new)) }
+    ensures calls { IsTrue (S.tells shelf.new) → IsCounted (job_in job.now) number (now (S.world shelf.old)).folder →
+        (S.world shelf.new).clock
+        ≤ (S.world shelf.old).clock + step_calls (job_in job.now) (get_or job.now.steps.now number no_step) }
     ensures number { IfOk result (λ e. e.number ≡ number) }
     ensures causes { StopHasCause (S.faults shelf.old) (S.faults shelf.new) result }
 {
-    let planned = &steps[number as usize];
-    let entry = match run_step(n, text, planned, number, room, shelf) {
+    let planned = &job.steps[number as usize];
+    let entry = match run_step(job.n, job.text, planned, number, room, shelf) {
         Ok(entry) => entry,
         Err(fault) => return Err(stopped_by(fault, number)),
     };

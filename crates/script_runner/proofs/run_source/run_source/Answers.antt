@@ -46,13 +46,13 @@ job_bytes-requires-clause-short_netlist g c =
 pub returns-clause-content : goal.returns-clause-content
 returns-clause-content g c =
     let source : Source = source_of c.args.budget c.args.script.now (netlist_text c.args.netlist.now) in
-    ran_source g.W.Shelf.tells g.W.Shelf.world c.args.folder.now source c.in-Ok.plan c.deref.result.now
-    (status_of c.run_plan.result) _ _
+    ran_source g.W.Shelf.tells g.W.Shelf.world c.args.folder.now source c.in-Ok.plan c.items.result.now c.items-2.result.now
+    c.deref.result.now (status_of c.run_in.result) _ _
     (plans_of c.args.budget c.args.script.now c.args.netlist.now (given c.net_in-net.result) c.in-Ok.plan c.net_in-net.ensures
-    c.requires.spelled c.in-Ok.ensures.read)
+    c.requires.spelled c.in-Ok.ensures.read) c.items.ensures c.items-2.ensures
     (c.deref.ensures.value ∙ c.in-Ok-job_bytes.ensures
     ∙ ap (λ text. job_bytes (source_of c.args.budget c.args.script.now text)) c.text_in-text.ensures)
-    c.run_plan.ensures.content
+    c.run_in.ensures.content
 
 pub returns-clause-calls : goal.returns-clause-calls
 returns-clause-calls g c t =
@@ -63,9 +63,10 @@ returns-clause-calls g c t =
     inr (
       c.in-Ok.plan,
       plans,
-      calls_of source c.in-Ok.plan c.deref.result.now (now (g.W.Shelf.world c.args.station.now)).folder
-          (g.W.Shelf.world c.args.station.now) (g.W.Shelf.world c.run_plan.new.station)
+      calls_of source c.in-Ok.plan c.items.result.now c.items-2.result.now c.deref.result.now
+          (now (g.W.Shelf.world c.args.station.now)).folder (g.W.Shelf.world c.args.station.now)
+          (g.W.Shelf.world c.run_in.new.station) c.items.ensures c.items-2.ensures
           (c.deref.ensures.value ∙ c.in-Ok-job_bytes.ensures
           ∙ ap (λ text. job_bytes (source_of c.args.budget c.args.script.now text)) c.text_in-text.ensures)
-          (c.run_plan.ensures.calls t),
+          (c.run_in.ensures.calls t),
     )

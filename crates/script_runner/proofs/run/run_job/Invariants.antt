@@ -6,21 +6,22 @@ use Rattle.shelf_model.specs.Calls.{Told}
 use Rattle.script_reader.specs.Lines.{rise_from, shows_past}
 use Rattle.catalogue.specs.Writes.{pieces}
 use Rattle.script_runner.specs.Calls.{AreCounted}
+use Rattle.script_runner.specs.JobOf.{job_in}
 use Rattle.script_runner.proofs.Turns.{Turn, calls_before}
-use Rattle.script_runner.proofs.run.run_steps.Given as goal
+use Rattle.script_runner.proofs.run.run_job.Given as goal
 
 -- so many steps are committed, and the lines that remain end with no earlier one
 abbrev pub invariant-loop-step : goal.invariant-loop-step
 invariant-loop-step g l = record {
   so_far : Told g.W.Shelf.tells l.fn.station l.station
-      (Turn (record { n = l.n; text = l.text; steps = l.steps; bytes = l.fn.job }) l.fn.lines l.step l.rest (g.W.Shelf.world l.fn.station) (g.W.Shelf.world l.station));
+      (Turn (job_in l.fn.job) l.fn.job.lines.now l.step l.rest (g.W.Shelf.world l.fn.station) (g.W.Shelf.world l.station));
   calls : IsTrue (g.W.Shelf.tells l.station)
-      → AreCounted (record { n = l.n; text = l.text; steps = l.steps; bytes = l.fn.job }) (now (g.W.Shelf.world l.fn.station)).folder
+      → AreCounted (job_in l.fn.job) (now (g.W.Shelf.world l.fn.station)).folder
       → (g.W.Shelf.world l.station).clock + 2 * length l.rest
-      ≤ (g.W.Shelf.world l.fn.station).clock + 10 + pieces (length l.fn.job)
-      + calls_before (record { n = l.n; text = l.text; steps = l.steps; bytes = l.fn.job }) l.step + 2 * length l.fn.lines;
+      ≤ (g.W.Shelf.world l.fn.station).clock + 10 + pieces (length l.fn.job.bytes.now)
+      + calls_before (job_in l.fn.job) l.step + 2 * length l.fn.job.lines.now;
   rise : IsTrue (rise_from l.step l.rest);
-  shown : IsTrue (list_all (shows_past (length l.steps)) l.rest);
+  shown : IsTrue (list_all (shows_past (length l.fn.job.steps.now)) l.rest);
   folder_later : (g.W.Shelf.faults l.fn.station).folder ≤ (g.W.Shelf.faults l.station).folder;
   say_later : (g.W.Shelf.faults l.fn.station).say ≤ (g.W.Shelf.faults l.station).say;
   text_is : (path : List ℕ) → (g.W.Shelf.faults l.station).text path ≡ (g.W.Shelf.faults l.fn.station).text path;

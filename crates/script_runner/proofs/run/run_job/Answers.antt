@@ -1,0 +1,237 @@
+use Rattle.std.proofs.Common.{◌≡◌, ◌≤◌, ◌<◌, ◌+◌, ◌-◌, ◌∙◌, ℕ, nat_le, nat_lt, List, [], length, take, drop, arith, sym, ap, subst, refl}
+use Rattle.std.proofs.lemmas.List.{length-take-le, length-drop}
+use Rattle.std.specs.Prelude.{IsTrue, Ok, Err}
+use Rattle.std.specs.List.{list_all}
+use Rattle.shelf_model.specs.Calls.{Told}
+use Rattle.sound_image.specs.Jobs.{Job}
+use Rattle.script_reader.specs.declared.plan.LineEnd.{LineEnd}
+use Rattle.script_reader.specs.Lines.{rise_from, shows_past}
+use Rattle.script_runner.specs.JobOf.{job_in}
+use Rattle.script_runner.specs.Text.{done_line}
+use Rattle.script_runner.specs.StepRuns.{SaysLines}
+use Rattle.script_runner.proofs.Tests.{rest_passes}
+use Rattle.script_runner.proofs.LineOrder.{rises_earlier, none_left, shown_in_front, front_passes}
+use Rattle.script_runner.proofs.Shown.{below_next}
+use Rattle.script_runner.proofs.RunSteps.{plan_in}
+use Rattle.script_runner.proofs.Saying.{told_second}
+use Rattle.script_runner.proofs.Turns.{Turn, not_attached, refuses_job, refuses_damage, says_banner, stopped_saying, stops_step, takes_step, is_ready, made_stands, stops_lines, said_lines, says_done, is_done, is_counted, calls_of_one_more, calls_before_all}
+use Rattle.script_runner.proofs.run.run_job.Goals as goal
+
+pub returns-in-Err-Shelf-clause-content : goal.returns-in-Err-Shelf-clause-content
+returns-in-Err-Shelf-clause-content g c =
+    let job : Job = job_in c.args.job.now in
+    let plan = plan_in c.args.job.now in
+    not_attached g.W.Shelf.tells g.W.Shelf.world (λ s told f. g.met.W.Shelf.files_are s told f) job c.args.job.now.lines.now plan _ _ c.in-Err-Shelf.ensures.content
+
+pub returns-in-Err-Damaged-clause-content : goal.returns-in-Err-Damaged-clause-content
+returns-in-Err-Damaged-clause-content g c =
+    let job : Job = job_in c.args.job.now in
+    let plan = plan_in c.args.job.now in
+    refuses_damage g.W.Shelf.tells g.W.Shelf.world (λ s told f. g.met.W.Shelf.files_are s told f) job c.args.job.now.lines.now plan c.in-Err-Damaged.field-0 _ c.in-Err-Damaged.file c.in-Err-Damaged.at _ _ c.in-Err-Damaged.field-0-is refl
+    c.in-Err-Damaged.ensures.content (λ t. c.in-Err-Damaged.ensures.answer t (λ e. let fault = c.in-Err-Damaged.field-0-is in cc))
+
+pub returns-in-Err-OtherJob-clause-content : goal.returns-in-Err-OtherJob-clause-content
+returns-in-Err-OtherJob-clause-content g c =
+    let job : Job = job_in c.args.job.now in
+    let plan = plan_in c.args.job.now in
+    refuses_job g.W.Shelf.tells g.W.Shelf.world (λ s told f. g.met.W.Shelf.files_are s told f) job c.args.job.now.lines.now plan c.in-Err-OtherJob.field-0 _ c.in-Err-OtherJob.at _ _ c.in-Err-OtherJob.field-0-is refl
+    c.in-Err-OtherJob.ensures.content (λ t. c.in-Err-OtherJob.ensures.answer t (λ e. let fault = c.in-Err-OtherJob.field-0-is in cc))
+
+pub returns-in_default-clause-content : goal.returns-in_default-clause-content
+returns-in_default-clause-content g c =
+    let job : Job = job_in c.args.job.now in
+    let plan = plan_in c.args.job.now in
+    stopped_saying g.W.Shelf.tells g.W.Shelf.world (λ s told f. g.met.W.Shelf.files_are s told f) job c.args.job.now.lines.now plan _ _
+    (says_banner g.W.Shelf.tells g.W.Shelf.world (λ s told f. g.met.W.Shelf.files_are s told f) job c.args.job.now.lines.now plan c.in-Ok.standing c.count_before-before.result c.as_bytes.result.now _ _ _ _
+    c.in-Ok.ensures.content (λ t. c.in-Ok.ensures.answer t (λ e. cc)) c.in-Ok.ensures.ok
+    c.count_before-before.ensures.within c.count_before-before.ensures.front c.count_before-before.ensures.rest
+    (c.as_bytes.ensures.value ∙ c.as_str.ensures.value ∙ c.banner_line-banner.ensures.text) c.in_default.ensures.content)
+
+pub loop-step-init : goal.loop-step-init
+loop-step-init g c =
+    let job : Job = job_in c.args.job.now in
+    let plan = plan_in c.args.job.now in
+    let attach_faults = c.in-Ok.ensures.faults in
+    let say_faults = c.in-Ok-say.ensures.faults in
+    let rest : c.split_at.result.1.now ≡ drop c.count_before-before.result c.args.job.now.lines.now = c.split_at.ensures.back in
+    record {
+      so_far = subst (λ (ls : List LineEnd). Told g.W.Shelf.tells c.args.station.now c.say.new.self (Turn job c.args.job.now.lines.now c.in-Ok.standing.done ls (g.W.Shelf.world c.args.station.now) (g.W.Shelf.world c.say.new.self))) (sym rest)
+          (told_second g.W.Shelf.tells g.W.Shelf.world _ _ _ _ (says_banner g.W.Shelf.tells g.W.Shelf.world (λ s told f. g.met.W.Shelf.files_are s told f) job c.args.job.now.lines.now plan c.in-Ok.standing c.count_before-before.result c.as_bytes.result.now _ _ _ _
+          c.in-Ok.ensures.content (λ t. c.in-Ok.ensures.answer t (λ e. cc)) c.in-Ok.ensures.ok
+          c.count_before-before.ensures.within c.count_before-before.ensures.front c.count_before-before.ensures.rest
+          (c.as_bytes.ensures.value ∙ c.as_str.ensures.value ∙ c.banner_line-banner.ensures.text) c.in-Ok-say.ensures.content));
+      calls = λ t counted.
+          let clock = (c.in-Ok-say.ensures.content.did t).elsewhere.ticks.clock_is in
+          let attached = c.in-Ok.ensures.calls (c.in-Ok-say.ensures.content.before t) in
+          let left : length c.split_at.result.1.now ≡ length c.args.job.now.lines.now - c.count_before-before.result =
+          ap length rest ∙ length-drop c.count_before-before.result c.args.job.now.lines.now in
+          omega (arith, clock, attached, left);
+      rise = subst (λ (ls : List LineEnd). IsTrue (rise_from c.in-Ok.standing.done ls)) (sym rest) c.count_before-before.ensures.rest;
+      shown = subst (λ (ls : List LineEnd). IsTrue (list_all (shows_past (length c.args.job.now.steps.now)) ls)) (sym rest)
+          (rest_passes (shows_past (length c.args.job.now.steps.now)) c.args.job.now.lines.now c.count_before-before.result c.args.job.now.are_lines.show_past);
+      folder_later = let a = attach_faults.later in let b = say_faults.folder_is in omega (arith, a, b);
+      say_later = let a = attach_faults.say_is in let b = say_faults.later in omega (arith, a, b);
+      text_is = λ path. say_faults.text_is path ∙ attach_faults.text_is path;
+    }
+
+pub take_step-requires-clause-ready : goal.take_step-requires-clause-ready
+take_step-requires-clause-ready g c =
+    let job : Job = job_in c.args.job.now in
+    let plan = plan_in c.args.job.now in
+    is_ready g.W.Shelf.tells g.W.Shelf.world (λ s told f. g.met.W.Shelf.files_are s told f) job c.args.job.now.lines.now plan c.loop-step.step c.loop-step.rest.now _ _ c.loop-step.invariant.so_far
+
+pub returns-in-Err-clause-content : goal.returns-in-Err-clause-content
+returns-in-Err-clause-content g c =
+    let job : Job = job_in c.args.job.now in
+    let plan = plan_in c.args.job.now in
+    stops_step g.W.Shelf.tells g.W.Shelf.world (λ s told f. g.met.W.Shelf.files_are s told f) job c.args.job.now.lines.now plan c.loop-step.step c.loop-step.rest.now c.in-Err.finish _ _ _ c.loop-step-test.true c.loop-step.invariant.rise c.loop-step.invariant.so_far c.in-Err.ensures.content
+
+pub count_before-requires : goal.count_before-requires
+count_before-requires g c = rises_earlier 0 c.loop-step.step c.loop-step.rest.now (omega arith) c.loop-step.invariant.rise
+
+pub say_lines-requires-clause-within : goal.say_lines-requires-clause-within
+say_lines-requires-clause-within g c =
+    let within : c.loop-step.step < length c.args.job.now.steps.now = c.loop-step-test.true in
+    subst (λ k. k < length c.args.job.now.steps.now) (sym c.in-Ok-take_step.ensures.number) within
+
+pub say_lines-requires-clause-stands : goal.say_lines-requires-clause-stands
+say_lines-requires-clause-stands g c =
+    made_stands g.W.Shelf.tells g.W.Shelf.world (job_in c.args.job.now) c.loop-step.step c.in-Ok-take_step.entry _ _
+    c.in-Ok-take_step.ensures.number c.in-Ok-take_step.ensures.content
+
+pub say_lines-requires-clause-shown : goal.say_lines-requires-clause-shown
+say_lines-requires-clause-shown g c =
+    let k : ℕ = c.in-Ok-take_step.entry.number in
+    let first : List LineEnd = take c.count_before.result c.loop-step.rest.now in
+    subst (λ (ls : List LineEnd). IsTrue (list_all (λ (l : LineEnd). nat_le l.shows k) ls)) (sym c.split_at-in-loop-step.ensures.front)
+    (shown_in_front (length c.args.job.now.steps.now) k first
+    (front_passes (shows_past (length c.args.job.now.steps.now)) c.loop-step.rest.now c.count_before.result c.loop-step.invariant.shown)
+    (subst (λ j. IsTrue (list_all (λ (l : LineEnd). nat_lt l.last (j + 1)) first)) (sym c.in-Ok-take_step.ensures.number) c.count_before.ensures.front))
+
+pub returns-in-Err-say_lines-clause-content : goal.returns-in-Err-say_lines-clause-content
+returns-in-Err-say_lines-clause-content g c =
+    let job : Job = job_in c.args.job.now in
+    let plan = plan_in c.args.job.now in
+    let e = c.in-Ok-take_step.entry in
+    let number : e.number ≡ c.loop-step.step = c.in-Ok-take_step.ensures.number in
+    let taken = takes_step g.W.Shelf.tells g.W.Shelf.world (λ s told f. g.met.W.Shelf.files_are s told f) job c.args.job.now.lines.now plan c.loop-step.step c.loop-step.rest.now e _ _ _ c.loop-step-test.true c.loop-step.invariant.rise c.loop-step.invariant.so_far c.in-Ok-take_step.ensures.content in
+    let ending : c.split_at-in-loop-step.result.0.now ≡ take c.count_before.result c.loop-step.rest.now = c.split_at-in-loop-step.ensures.front in
+    let shows = below_next c.loop-step.step (take c.count_before.result c.loop-step.rest.now)
+    (shown_in_front (length c.args.job.now.steps.now) c.loop-step.step (take c.count_before.result c.loop-step.rest.now)
+    (front_passes (shows_past (length c.args.job.now.steps.now)) c.loop-step.rest.now c.count_before.result c.loop-step.invariant.shown) c.count_before.ensures.front) in
+    stops_lines g.W.Shelf.tells g.W.Shelf.world (λ s told f. g.met.W.Shelf.files_are s told f) job c.args.job.now.lines.now plan c.loop-step.step c.count_before.result c.loop-step.rest.now e number _ _ _ c.count_before.ensures.within c.count_before.ensures.front shows taken c.in-Err-say_lines.finish
+    (subst (λ (ls : List LineEnd). Told g.W.Shelf.tells c.take_step.new.shelf c.say_lines.new.station
+    (SaysLines c.args.job.now.steps.now (e.number + 1) ls e (Err c.in-Err-say_lines.finish) (g.W.Shelf.world c.take_step.new.shelf) (g.W.Shelf.world c.say_lines.new.station))) ending c.in-Err-say_lines.ensures.content)
+
+pub loop-step-preserved : goal.loop-step-preserved
+loop-step-preserved g c =
+    let job : Job = job_in c.args.job.now in
+    let plan = plan_in c.args.job.now in
+    let e = c.in-Ok-take_step.entry in
+    let number : e.number ≡ c.loop-step.step = c.in-Ok-take_step.ensures.number in
+    let taken = takes_step g.W.Shelf.tells g.W.Shelf.world (λ s told f. g.met.W.Shelf.files_are s told f) job c.args.job.now.lines.now plan c.loop-step.step c.loop-step.rest.now e _ _ _ c.loop-step-test.true c.loop-step.invariant.rise c.loop-step.invariant.so_far c.in-Ok-take_step.ensures.content in
+    let ending : c.split_at-in-loop-step.result.0.now ≡ take c.count_before.result c.loop-step.rest.now = c.split_at-in-loop-step.ensures.front in
+    let shows = below_next c.loop-step.step (take c.count_before.result c.loop-step.rest.now)
+    (shown_in_front (length c.args.job.now.steps.now) c.loop-step.step (take c.count_before.result c.loop-step.rest.now)
+    (front_passes (shows_past (length c.args.job.now.steps.now)) c.loop-step.rest.now c.count_before.result c.loop-step.invariant.shown) c.count_before.ensures.front) in
+    let take_faults = c.in-Ok-take_step.ensures.causes in
+    let say_faults = c.in-Ok-say_lines.ensures.causes in
+    let invariant = c.loop-step.invariant in
+    let rest : c.split_at-in-loop-step.result.1.now ≡ drop c.count_before.result c.loop-step.rest.now = c.split_at-in-loop-step.ensures.back in
+    record {
+      so_far = subst (λ (ls : List LineEnd). Told g.W.Shelf.tells c.args.station.now c.say_lines.new.station (Turn job c.args.job.now.lines.now (c.loop-step.step + 1) ls (g.W.Shelf.world c.args.station.now) (g.W.Shelf.world c.say_lines.new.station))) (sym rest)
+          (said_lines g.W.Shelf.tells g.W.Shelf.world (λ s told f. g.met.W.Shelf.files_are s told f) job c.args.job.now.lines.now plan c.loop-step.step c.count_before.result c.loop-step.rest.now e number _ _ _ c.count_before.ensures.within c.count_before.ensures.front shows taken _
+          (subst (λ (ls : List LineEnd). Told g.W.Shelf.tells c.take_step.new.shelf c.say_lines.new.station
+          (SaysLines c.args.job.now.steps.now (e.number + 1) ls e (Ok c.in-Ok-say_lines.field-0) (g.W.Shelf.world c.take_step.new.shelf) (g.W.Shelf.world c.say_lines.new.station))) ending c.in-Ok-say_lines.ensures.content));
+      calls = λ t counted.
+          let told_take = c.in-Ok-say_lines.ensures.content.before t in
+          let told_before = c.in-Ok-take_step.ensures.content.before told_take in
+          let before = invariant.calls told_before counted in
+          let took = c.in-Ok-take_step.ensures.calls told_take
+          (is_counted g.W.Shelf.tells g.W.Shelf.world job c.args.job.now.lines.now c.loop-step.step c.loop-step.rest.now _ _
+          c.loop-step-test.true invariant.so_far told_before counted) in
+          let one_more = calls_of_one_more job c.loop-step.step c.loop-step-test.true in
+          let said_them = c.in-Ok-say_lines.ensures.calls t in
+          let spoken : length c.split_at-in-loop-step.result.0.now ≡ c.count_before.result =
+          ap length ending ∙ length-take-le c.count_before.result c.loop-step.rest.now c.count_before.ensures.within in
+          let left : length c.split_at-in-loop-step.result.1.now ≡ length c.loop-step.rest.now - c.count_before.result =
+          ap length rest ∙ length-drop c.count_before.result c.loop-step.rest.now in
+          let few = c.count_before.ensures.within in
+          omega (arith, before, took, one_more, said_them, spoken, left, few);
+      rise = subst (λ (ls : List LineEnd). IsTrue (rise_from (c.loop-step.step + 1) ls)) (sym rest) c.count_before.ensures.rest;
+      shown = subst (λ (ls : List LineEnd). IsTrue (list_all (shows_past (length c.args.job.now.steps.now)) ls)) (sym rest)
+          (rest_passes (shows_past (length c.args.job.now.steps.now)) c.loop-step.rest.now c.count_before.result invariant.shown);
+      folder_later = let a = take_faults.folder_later in let b = say_faults.folder_later in let e = invariant.folder_later in omega (arith, a, b, e);
+      say_later = let a = take_faults.say_later in let b = say_faults.say_later in let e = invariant.say_later in omega (arith, a, b, e);
+      text_is = λ path. say_faults.text_is path ∙ take_faults.text_is path ∙ invariant.text_is path;
+    }
+
+pub returns-in_default-say-clause-content : goal.returns-in_default-say-clause-content
+returns-in_default-say-clause-content g c =
+    let job : Job = job_in c.args.job.now in
+    let plan = plan_in c.args.job.now in
+    let all_made : length c.args.job.now.steps.now ≤ c.loop-step.step = c.loop-step-test.false in
+    let none : c.loop-step.rest.now ≡ [] =
+    none_left (length c.args.job.now.steps.now) c.loop-step.rest.now (rises_earlier (length c.args.job.now.steps.now) c.loop-step.step c.loop-step.rest.now all_made c.loop-step.invariant.rise) c.loop-step.invariant.shown in
+    stopped_saying g.W.Shelf.tells g.W.Shelf.world (λ s told f. g.met.W.Shelf.files_are s told f) job c.args.job.now.lines.now plan _ _ (says_done g.W.Shelf.tells g.W.Shelf.world (λ s told f. g.met.W.Shelf.files_are s told f) job c.args.job.now.lines.now plan c.loop-step.step c.loop-step.rest.now done_line _ _ _ _ all_made none refl c.loop-step.invariant.so_far c.in_default-say.ensures.content)
+
+pub returns-clause-content : goal.returns-clause-content
+returns-clause-content g c =
+    let job : Job = job_in c.args.job.now in
+    let plan = plan_in c.args.job.now in
+    let all_made : length c.args.job.now.steps.now ≤ c.loop-step.step = c.loop-step-test.false in
+    let none : c.loop-step.rest.now ≡ [] =
+    none_left (length c.args.job.now.steps.now) c.loop-step.rest.now (rises_earlier (length c.args.job.now.steps.now) c.loop-step.step c.loop-step.rest.now all_made c.loop-step.invariant.rise) c.loop-step.invariant.shown in
+    is_done g.W.Shelf.tells g.W.Shelf.world (λ s told f. g.met.W.Shelf.files_are s told f) job c.args.job.now.lines.now plan _ _ (says_done g.W.Shelf.tells g.W.Shelf.world (λ s told f. g.met.W.Shelf.files_are s told f) job c.args.job.now.lines.now plan c.loop-step.step c.loop-step.rest.now done_line _ _ _ _ all_made none refl c.loop-step.invariant.so_far c.in-Ok-say-2.ensures.content)
+
+-- the calls of a run that stops before its end, and of one that comes to it
+pub returns-in_default-clause-calls : goal.returns-in_default-clause-calls
+returns-in_default-clause-calls g c t counted =
+    let clock = (c.in_default.ensures.content.did t).elsewhere.ticks.clock_is in
+    let attached = c.in-Ok.ensures.calls (c.in_default.ensures.content.before t) in
+    omega (arith, clock, attached)
+
+pub returns-in-Err-clause-calls : goal.returns-in-Err-clause-calls
+returns-in-Err-clause-calls g c t counted =
+    let job : Job = job_in c.args.job.now in
+    let told_before = c.in-Err.ensures.content.before t in
+    let before = c.loop-step.invariant.calls told_before counted in
+    let took = c.in-Err.ensures.calls t
+    (is_counted g.W.Shelf.tells g.W.Shelf.world job c.args.job.now.lines.now c.loop-step.step c.loop-step.rest.now _ _
+    c.loop-step-test.true c.loop-step.invariant.so_far told_before counted) in
+    let one_more = calls_of_one_more job c.loop-step.step c.loop-step-test.true in
+    let no_more = calls_before_all job (c.loop-step.step + 1) in
+    omega (arith, before, took, one_more, no_more)
+
+pub returns-in-Err-say_lines-clause-calls : goal.returns-in-Err-say_lines-clause-calls
+returns-in-Err-say_lines-clause-calls g c t counted =
+    let job : Job = job_in c.args.job.now in
+    let told_take = c.in-Err-say_lines.ensures.content.before t in
+    let told_before = c.in-Ok-take_step.ensures.content.before told_take in
+    let before = c.loop-step.invariant.calls told_before counted in
+    let took = c.in-Ok-take_step.ensures.calls told_take
+    (is_counted g.W.Shelf.tells g.W.Shelf.world job c.args.job.now.lines.now c.loop-step.step c.loop-step.rest.now _ _
+    c.loop-step-test.true c.loop-step.invariant.so_far told_before counted) in
+    let one_more = calls_of_one_more job c.loop-step.step c.loop-step-test.true in
+    let no_more = calls_before_all job (c.loop-step.step + 1) in
+    let said_them = c.in-Err-say_lines.ensures.calls t in
+    let spoken : length c.split_at-in-loop-step.result.0.now ≡ c.count_before.result =
+    ap length c.split_at-in-loop-step.ensures.front ∙ length-take-le c.count_before.result c.loop-step.rest.now c.count_before.ensures.within in
+    let few = c.count_before.ensures.within in
+    omega (arith, before, took, one_more, no_more, said_them, spoken, few)
+
+pub returns-in_default-say-clause-calls : goal.returns-in_default-say-clause-calls
+returns-in_default-say-clause-calls g c t counted =
+    let job : Job = job_in c.args.job.now in
+    let before = c.loop-step.invariant.calls (c.in_default-say.ensures.content.before t) counted in
+    let no_more = calls_before_all job c.loop-step.step in
+    let clock = (c.in_default-say.ensures.content.did t).elsewhere.ticks.clock_is in
+    omega (arith, before, no_more, clock)
+
+pub returns-clause-calls : goal.returns-clause-calls
+returns-clause-calls g c t counted =
+    let job : Job = job_in c.args.job.now in
+    let before = c.loop-step.invariant.calls (c.in-Ok-say-2.ensures.content.before t) counted in
+    let no_more = calls_before_all job c.loop-step.step in
+    let clock = (c.in-Ok-say-2.ensures.content.did t).elsewhere.ticks.clock_is in
+    omega (arith, before, no_more, clock)
