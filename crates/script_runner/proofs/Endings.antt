@@ -1,6 +1,6 @@
 -- The endings of a call of the program.
 use Rattle.std.proofs.Common.{◌≡◌, ◌∙◌, ◌⊎◌, ℕ, ◌+◌, ◌<◌, ◌≤◌, min, true, List, ◌++◌, length, take, refl, sym, ap, subst, inl, inr, arith}
-use Rattle.std.specs.Prelude.{◌≢◌, Option, Some, Ok, Err, nat_lt}
+use Rattle.std.specs.Prelude.{◌≢◌, Option, Some, None, Ok, Err, nat_lt}
 use Rattle.std.proofs.lemmas.Bool.{cases_lt, lt-ltb}
 use Rattle.std.proofs.lemmas.List.{take_all, length-take}
 use Rattle.shelf_model.specs.World.{Moment, World, now, said}
@@ -9,7 +9,8 @@ use Rattle.shelf_model.specs.Faults.{Faults, Rose}
 use Rattle.shelf_model.proofs.Runs.{joins, weakens, at_end}
 use Rattle.blif_reader.specs.Netlist.{Net, IsReading, reading}
 use Rattle.blif_reader.specs.declared.fault.BlifFault.{BlifFault}
-use Rattle.command_words.specs.Readings.{Reading}
+use Rattle.command_words.specs.Readings.{Reading, run, list, gen}
+use Rattle.example_script.specs.Script.{script_of}
 use Rattle.sound_image.specs.Jobs.{Job}
 use Rattle.script_reader.specs.declared.plan.LineEnd.{LineEnd}
 use Rattle.script_reader.specs.Reads.{Refuses}
@@ -21,8 +22,10 @@ use Rattle.script_runner.specs.Fetching.{OnlyFetched}
 use Rattle.script_runner.specs.JobOf.{source_of, job_of}
 use Rattle.script_runner.specs.Entered.{RunsFrom, RunsIn}
 use Rattle.script_runner.specs.Calls.{AreCounted}
-use Rattle.script_runner.specs.Source.{Source, IsSource, folder_of}
-use Rattle.script_runner.specs.Outcome.{SaysLine, EndsSource, Ends, RunsInCalls}
+use Rattle.script_runner.specs.Listed.{ListsIn}
+use Rattle.script_runner.specs.Source.{Source}
+use Rattle.script_runner.specs.Text.{usage_line}
+use Rattle.script_runner.specs.Outcome.{SaysLine, EndsSource, RunsAsked, RunsTexts, Ends, RunsInCalls}
 use Rattle.script_runner.proofs.Saying.{says_nothing}
 use Rattle.script_runner.proofs.EnteredRuns.{earlier}
 
@@ -83,13 +86,13 @@ fetched_line line good status old mid new looked says = record {
 -- a job was run after its texts were fetched
 fetched_runs : (folder : List ℕ) (job : Job) (lines : List LineEnd) (status : ℕ) (old mid new : World) → OnlyFetched old mid
     → RunsIn folder job lines status mid new → RunsIn folder job lines status old new
-fetched_runs folder job lines status old mid new looked run = record {
-  status_is = run.status_is;
+fetched_runs folder job lines status old mid new looked ran = record {
+  status_is = ran.status_is;
   leaves = earlier job lines status (now old) old mid new looked.moments
-      (subst (λ (start : Moment). RunsFrom job lines status start mid new) (still_there old mid looked) run.leaves);
-  texts_are = run.texts_are ∙ looked.texts_are;
-  home_is = run.home_is ∙ looked.home_is;
-  strays_are = λ home. run.strays_are (home ∙ sym looked.home_is) ∙ looked.strays_are;
+      (subst (λ (start : Moment). RunsFrom job lines status start mid new) (still_there old mid looked) ran.leaves);
+  texts_are = ran.texts_are ∙ looked.texts_are;
+  home_is = ran.home_is ∙ looked.home_is;
+  strays_are = λ home. ran.strays_are (home ∙ sym looked.home_is) ∙ looked.strays_are;
 }
 
 -- a source was run after its texts were fetched
@@ -156,24 +159,63 @@ fetched_calls source fetch most old mid new looked clock within (inr (plan, plan
       omega (arith, clock, few, within),
 )
 
--- what a source's run ends with, a call whose words ask for it ends with
-pub ends_asked : (asked : Reading) (source : Source) (status : ℕ) (old new : World) → IsSource old asked source
-    → EndsSource (folder_of asked) source status old new → Ends (Some asked) status old new
-ends_asked asked source status old new is (inl silent) = inr (inl (record {
-  words_are = λ six. absurd (let nine = silent.0 in omega (arith, six, nine));
-  status_is = inr silent.0;
-  fetched = silent.1;
-}))
-ends_asked asked source status old new is (inr (inl refuses)) = inr (inr (inr (inl (record {
-  source = source;
-  asks = record { reading = asked; asked_is = refl; source_is = is };
-  refuses = refuses;
-}))))
-ends_asked asked source status old new is (inr (inr runs)) = inr (inr (inr (inr (inl (record {
-  source = source;
-  asks = record { reading = asked; asked_is = refl; source_is = is };
-  runs = runs;
-})))))
+-- a call ends so whose words have no other reading: those of a run over texts, of a run of a size, and of a list
+same_reading : (a b : Reading) → Some a ≡ Some b → a ≡ b
+same_reading a b same = cc
+
+same_folder : (a b : List ℕ) → Some (list a) ≡ Some (list b) → a ≡ b
+same_folder a b same = cc
+
+pub ends_texts : (folder script : List ℕ) (netlist : Option (List ℕ)) (budget status : ℕ) (old new : World)
+    → RunsTexts (run folder script netlist budget) status old new
+    → Ends (Some (run folder script netlist budget)) status old new
+ends_texts folder script netlist budget status old new runs = record {
+  ran = λ f s n b same. subst (λ (r : Reading). RunsTexts r status old new) (same_reading _ _ same) runs;
+  generated = λ f size b same. absurd cc;
+  listed = λ f same. absurd cc;
+  unread = λ none. absurd cc;
+}
+
+pub ends_size : (folder : List ℕ) (size budget status : ℕ) (old new : World)
+    → RunsAsked (gen folder size budget) status old new → Ends (Some (gen folder size budget)) status old new
+ends_size folder size budget status old new runs = record {
+  ran = λ f s n b same. absurd cc;
+  generated = λ f z b same. subst (λ (r : Reading). RunsAsked r status old new) (same_reading _ _ same) runs;
+  listed = λ f same. absurd cc;
+  unread = λ none. absurd cc;
+}
+
+pub ends_list : (folder : List ℕ) (status : ℕ) (old new : World) → ListsIn folder status old new
+    → Ends (Some (list folder)) status old new
+ends_list folder status old new lists = record {
+  ran = λ f s n b same. absurd cc;
+  generated = λ f size b same. absurd cc;
+  listed = λ f same. inr (subst (λ g. ListsIn g status old new) (same_folder _ _ same) lists);
+  unread = λ none. absurd cc;
+}
+
+-- words that have no reading end with the usage
+pub ends_unread : (asked : Option Reading) (status : ℕ) (old new : World) → asked ≡ None
+    → SaysLine usage_line 2 status old new → Ends asked status old new
+ends_unread asked status old new none says = record {
+  ran = λ f s n b is. absurd cc;
+  generated = λ f size b is. absurd cc;
+  listed = λ f is. absurd cc;
+  unread = λ _. inr says;
+}
+
+-- where there was no memory all words end alike: those of a size have a source
+pub ends_without_memory : (asked : Option Reading) (old new : World) → OnlyFetched old new → Ends asked 9 old new
+ends_without_memory asked old new looked = record {
+  ran = λ f s n b is. inl (refl, looked);
+  generated = λ f size b is. record {
+    source = source_of b (script_of size) None;
+    source_is = refl;
+    ends = inl (refl, looked);
+  };
+  listed = λ f is. inl (refl, looked);
+  unread = λ none. inl (refl, looked);
+}
 
 -- a netlist that is accepted is short
 pub accepted_is_short : (bytes : List ℕ) (net : Net) → IsReading bytes (Ok net) → length bytes ≤ 4194304

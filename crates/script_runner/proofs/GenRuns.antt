@@ -8,7 +8,7 @@ use Rattle.shelf_model.specs.World.{World}
 use Rattle.script_runner.specs.JobOf.{source_of}
 use Rattle.script_runner.specs.Outcome.{EndsSource, Ends, RunsInCalls, MakesFewCalls, texts_calls}
 use Rattle.script_runner.specs.Source.{Source}
-use Rattle.script_runner.proofs.Endings.{ends_asked}
+use Rattle.script_runner.proofs.Endings.{ends_size}
 
 module _ {S : Type 0} (tells : S → Bool) (world : S → World) where
   pub ran_size : (folder : List ℕ) (size budget : ℕ) (script : List ℕ) (status : ℕ) (s t : S) → script ≡ script_of size
@@ -16,8 +16,11 @@ module _ {S : Type 0} (tells : S → Bool) (world : S → World) where
       → Told tells s t (Ends (Some (gen folder size budget)) status (world s) (world t))
   ran_size folder size budget script status s t is runs = record {
     before = runs.before;
-    did = λ tells_t. ends_asked (gen folder size budget) (source_of budget (script_of size) None) status (world s) (world t)
-        refl (subst (λ text. EndsSource folder (source_of budget text None) status (world s) (world t)) is (runs.did tells_t));
+    did = λ tells_t. ends_size folder size budget status (world s) (world t) (record {
+      source = source_of budget (script_of size) None;
+      source_is = refl;
+      ends = subst (λ text. EndsSource folder (source_of budget text None) status (world s) (world t)) is (runs.did tells_t);
+    });
   }
 
 -- its calls are fewer than where texts are fetched

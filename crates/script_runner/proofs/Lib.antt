@@ -15,6 +15,7 @@ pub mod EnteredRuns
 pub mod Endings
 pub mod Sources
 pub mod SourceRuns
+pub mod SilentEndings
 pub mod GenRuns
 pub mod Lives
 pub mod Listings

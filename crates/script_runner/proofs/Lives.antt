@@ -1,6 +1,6 @@
 -- What any list of calls in one folder leaves.
 use Rattle.std.proofs.Common.{◌≡◌, ◌∙◌, ◌⊎◌, ℕ, ◌^◌, ◌<◌, ◌≤◌, Bool, true, false, List, [], ◌∷◌, ◌++◌, length, refl, sym, ap, subst, inl, inr, arith}
-use Rattle.std.specs.Prelude.{IsTrue, Option, Some, nat_lt, bytes_eq}
+use Rattle.std.specs.Prelude.{IsTrue, Option, Some, None, nat_lt, bytes_eq}
 use Rattle.std.proofs.lemmas.List.{append-nil, append_cancel_left}
 use Rattle.std.proofs.lemmas.Slice.Eq.{bytes_eq-Decides}
 use Rattle.shelf_model.specs.declared.file_no.FileNo.{FileNo}
@@ -15,7 +15,7 @@ use Rattle.shelf_model.specs.Faults.{Faults}
 use Rattle.blif_reader.specs.declared.fault.BlifFault.{BlifFault}
 use Rattle.catalogue.specs.Files.{job_file, job_gate, step_gate}
 use Rattle.catalogue.specs.Counts.{present, is_stored, count_in}
-use Rattle.command_words.specs.Readings.{Reading, list, reading_of}
+use Rattle.command_words.specs.Readings.{Reading, run, list, gen, reading_of}
 use Rattle.sound_image.specs.Files.{checkpoint_gate}
 use Rattle.sound_image.specs.Jobs.{Job, step_at}
 use Rattle.sound_image.specs.Entries.{work_of}
@@ -31,27 +31,34 @@ use Rattle.script_runner.specs.JobOf.{job_bytes, job_of}
 use Rattle.script_runner.specs.Entered.{EndsRun, RefusesOther, NamesSpentStep, IsMoment, RunsIn}
 use Rattle.script_runner.specs.Text.{usage_line, netlist_line, refused_line, run_text}
 use Rattle.script_runner.specs.Source.{Source, IsSource, folder_of, Plans, IsFaulty, HasFaultyNetlist}
-use Rattle.script_runner.specs.Outcome.{Asks, Accepts, EndsNetlist, EndsRefused, EndsRan, EndsListed, Ends, StatusHasCause, IsSmall, NoneRose}
+use Rattle.script_runner.specs.Listed.{ListsIn}
+use Rattle.script_runner.specs.Outcome.{Accepts, HasNoMemory, SaysLine, EndsSource, RunsAsked, RunsTexts, EndsRan, Ends, StatusHasCause, IsSmall, NoneRose}
 use Rattle.script_runner.specs.Lives.{Life, SameFiles, IsLeftOf, IsLife, RunsPlan, StaysOut, AreStored, AreLives, LifeKeeps, LivesKeep}
 use Rattle.script_runner.proofs.Sources.{one_some, some_or_none, one_asked, one_planned, planned_or_faulty, netlist_is_good, job_has_texts, same_job, one_accepted}
 
--- words that ask for a plan name no faulty netlist
+-- words that ask for a plan ask for this source
+same_asked : (w : World) (asked : Option Reading) (p : Plan) (r : Reading) (source : Source) → asked ≡ Some r
+    → IsSource w r source → (accepts : Accepts w asked p) → accepts.source ≡ source
+same_asked w asked p r source is source_is accepts =
+    one_asked w asked accepts.source source accepts.asks (record { reading = r; asked_is = is; source_is = source_is })
+
+-- they name no faulty netlist
 no_faulty_netlist : (w : World) (asked : Option Reading) (p : Plan) (r : Reading) (fault : BlifFault) → asked ≡ Some r
-    → HasFaultyNetlist w r fault → Accepts w asked p → ⊥
+    → HasFaultyNetlist w r fault → ¬ (Accepts w asked p)
 no_faulty_netlist w asked p r fault is faulty accepts =
     let readings : accepts.asks.reading ≡ r = one_some accepts.asks.reading r asked accepts.asks.asked_is is in
     netlist_is_good w r accepts.source p fault (subst (λ x. IsSource w x accepts.source) readings accepts.asks.source_is)
     accepts.plans faulty
 
 -- and no faulty script
-no_faulty_script : (w : World) (asked : Option Reading) (p : Plan) (source : Source) (fault : ScriptFault) → Asks w asked source
-    → IsFaulty source fault → Accepts w asked p → ⊥
-no_faulty_script w asked p source fault asks faulty accepts =
-    let sources : accepts.source ≡ source = one_asked w asked accepts.source source accepts.asks asks in
-    planned_or_faulty source p fault (subst (λ s. Plans s p) sources accepts.plans) faulty
+no_faulty_script : (w : World) (asked : Option Reading) (p : Plan) (r : Reading) (source : Source) (fault : ScriptFault)
+    → asked ≡ Some r → IsSource w r source → IsFaulty source fault → ¬ (Accepts w asked p)
+no_faulty_script w asked p r source fault is source_is faulty accepts =
+    planned_or_faulty source p fault (subst (λ s. Plans s p) (same_asked w asked p r source is source_is accepts) accepts.plans)
+    faulty
 
 -- and no list
-no_list : (w : World) (asked : Option Reading) (p : Plan) (path : List ℕ) → asked ≡ Some (list path) → Accepts w asked p → ⊥
+no_list : (w : World) (asked : Option Reading) (p : Plan) (path : List ℕ) → asked ≡ Some (list path) → ¬ (Accepts w asked p)
 no_list w asked p path is accepts =
     subst (λ r. IsSource w r accepts.source) (one_some accepts.asks.reading (list path) asked accepts.asks.asked_is is)
     accepts.asks.source_is
@@ -126,7 +133,7 @@ module _ (source : Source) (plan : Plan) (plans : Plans source plan) (folder : F
 
   -- this job was run
   keeps_run : (path : List ℕ) → RunsIn path (job_of source plan) plan.lines life.status life.old life.new → LifeKeeps source plan folder life
-  keeps_run path run = record {
+  keeps_run path ran = record {
     sound = of_left (IsSound (job_of source plan)) then.folder life.left is.leaves (λ image is_image. (safe image is_image).sound);
     has_old = λ count reaches. of_left (λ r. count ≤ count_in r) then.folder life.left is.leaves (λ image is_image.
         (safe image is_image).has_old count (λ first is_first. reaches first (alike (now life.old).folder folder is.found first is_first)));
@@ -149,7 +156,7 @@ module _ (source : Source) (plan : Plan) (plans : Plans source plan) (folder : F
   }
     where
       moment : IsMoment (job_of source plan) plan.lines (now life.old) then
-      moment = run.leaves.moments.each life.at is.since is.until
+      moment = ran.leaves.moments.each life.at is.since is.until
 
       safe : (image : Image) → IsImage then.folder image → IsSafe (job_of source plan) plan.lines (now life.old).folder moment.front (bytes_in image)
       safe = (moment.running.safe_run found_sound).safe
@@ -165,7 +172,7 @@ module _ (source : Source) (plan : Plan) (plans : Plans source plan) (folder : F
   keeps_other : (other : Source) (p : Plan) (path : List ℕ) → ¬ (job_bytes other ≡ job_bytes source) → AreStored folder
       → ¬ (RunsPlan source plan life)
       → RunsIn path (job_of other p) p.lines life.status life.old life.new → LifeKeeps source plan folder life
-  keeps_other other p path differ stored none run = keeps_images (refuses.moments.each life.at is.since is.until).1 (λ runs. absurd (none runs))
+  keeps_other other p path differ stored none ran = keeps_images (refuses.moments.each life.at is.since is.until).1 (λ runs. absurd (none runs))
     where
       first : Image
       first = chosen (λ _ x. x.bytes) (now life.old).folder
@@ -189,7 +196,7 @@ module _ (source : Source) (plan : Plan) (plans : Plans source plan) (folder : F
           both r q same x y = let e : is_stored r ≡ is_stored q = ap (λ bytes. nat_lt 0 (length bytes)) same in cc
 
       refuses : RefusesOther (job_bytes other) life.status (now life.old) life.old life.new
-      refuses = run.leaves.other (record { stored = stored_here; other = λ same. differ (sym same ∙ job_here) })
+      refuses = ran.leaves.other (record { stored = stored_here; other = λ same. differ (sym same ∙ job_here) })
 
   -- this job or another one
   keeps_ran : RunsPlan source plan life ⊎ StaysOut life ⊎ AreStored folder
@@ -237,45 +244,54 @@ module _ (source : Source) (plan : Plan) (plans : Plans source plan) (folder : F
           not_both : (b : Bool) → b ≡ true → b ≡ false → ⊥
           not_both b x y = cc
 
-  -- diagrams were listed, and no image is new
-  keeps_listed : EndsListed (reading_of life.words) life.status life.old life.new → LifeKeeps source plan folder life
-  keeps_listed listed = keeps_images (listed.lists.leaves.moments.each life.at is.since is.until).images
-      (λ runs. absurd (asks_for_no_list life.old listed.folder runs.accepts.source
-      (subst (λ r. IsSource life.old r runs.accepts.source)
-      (one_some runs.accepts.asks.reading (list listed.folder) (reading_of life.words) runs.accepts.asks.asked_is listed.asked_is)
-      runs.accepts.asks.source_is)))
+  -- the source that the words ask for was run
+  keeps_asked : (r : Reading) → RunsPlan source plan life ⊎ StaysOut life ⊎ AreStored folder → reading_of life.words ≡ Some r
+      → RunsAsked r life.status life.old life.new → LifeKeeps source plan folder life
+  keeps_asked r which asked runs = by_end runs.ends
     where
-      asks_for_no_list : (w : World) (path : List ℕ) (s : Source) → IsSource w (list path) s → ⊥
-      asks_for_no_list w path s none = none
+      by_end : EndsSource (folder_of r) runs.source life.status life.old life.new → LifeKeeps source plan folder life
+      by_end (inl silent) = keeps_silent silent.1
+      by_end (inr (inl refused)) = keeps_saying (refused_line refused.fault) refused.says.only (λ plans_it.
+          no_faulty_script life.old (reading_of life.words) plan r runs.source refused.fault asked runs.source_is refused.faulty
+          plans_it.accepts)
+      by_end (inr (inr ran)) = keeps_ran which (record {
+        source = runs.source;
+        asks = record { reading = r; asked_is = asked; source_is = runs.source_is };
+        runs = ran;
+      })
 
-  -- one call
+  -- one call, by what its words ask for
   pub life_keeps : RunsPlan source plan life ⊎ StaysOut life ⊎ AreStored folder → LifeKeeps source plan folder life
-  life_keeps which = elim is.ends [
-    | inl usage ↦ keeps_saying usage_line usage.says.only
-        (λ runs. some_or_none runs.accepts.asks.reading (reading_of life.words) runs.accepts.asks.asked_is usage.unread)
-    | inr other ↦ elim other [
-      | inl silent ↦ keeps_silent silent.fetched
-      | inr more ↦ elim more [
-        | inl netlist ↦ keeps_saying (netlist_line netlist.fault) netlist.says.only (λ runs. bad_netlist netlist runs)
-        | inr third ↦ elim third [
-          | inl refused ↦ keeps_saying (refused_line refused.refuses.fault) refused.refuses.says.only
-              (λ runs. bad_script refused runs)
-          | inr last ↦ elim last [
-            | inl ran ↦ keeps_ran which ran
-            | inr listed ↦ keeps_listed listed
-          ]
-        ]
-      ]
-    ]
-  ]
+  life_keeps which = by_words (reading_of life.words) refl
     where
-      bad_netlist : EndsNetlist (reading_of life.words) life.status life.old life.new → RunsPlan source plan life → ⊥
-      bad_netlist netlist runs =
-          no_faulty_netlist life.old (reading_of life.words) plan netlist.reading netlist.fault netlist.asked_is netlist.faulty runs.accepts
+      by_texts : (r : Reading) → reading_of life.words ≡ Some r → RunsTexts r life.status life.old life.new
+          → LifeKeeps source plan folder life
+      by_texts r asked (inl silent) = keeps_silent silent.1
+      by_texts r asked (inr (inl silent)) = keeps_silent silent.1
+      by_texts r asked (inr (inr (inl netlist))) = keeps_saying (netlist_line netlist.fault) netlist.says.only (λ runs.
+          no_faulty_netlist life.old (reading_of life.words) plan r netlist.fault asked netlist.faulty runs.accepts)
+      by_texts r asked (inr (inr (inr runs))) = keeps_asked r which asked runs
 
-      bad_script : EndsRefused (reading_of life.words) life.status life.old life.new → RunsPlan source plan life → ⊥
-      bad_script refused runs =
-          no_faulty_script life.old (reading_of life.words) plan refused.source refused.refuses.fault refused.asks refused.refuses.faulty runs.accepts
+      -- diagrams were listed, and no image is new
+      by_list : (path : List ℕ) → reading_of life.words ≡ Some (list path)
+          → HasNoMemory life.status life.old life.new ⊎ ListsIn path life.status life.old life.new
+          → LifeKeeps source plan folder life
+      by_list path asked (inl silent) = keeps_silent silent.1
+      by_list path asked (inr lists) = keeps_images (lists.leaves.moments.each life.at is.since is.until).images
+          (λ runs. absurd (no_list life.old (reading_of life.words) plan path asked runs.accepts))
+
+      by_usage : reading_of life.words ≡ None
+          → HasNoMemory life.status life.old life.new ⊎ SaysLine usage_line 2 life.status life.old life.new
+          → LifeKeeps source plan folder life
+      by_usage unread (inl silent) = keeps_silent silent.1
+      by_usage unread (inr says) = keeps_saying usage_line says.only (λ runs.
+          some_or_none runs.accepts.asks.reading (reading_of life.words) runs.accepts.asks.asked_is unread)
+
+      by_words : (asked : Option Reading) → reading_of life.words ≡ asked → LifeKeeps source plan folder life
+      by_words None is_none = by_usage is_none (is.ends.unread is_none)
+      by_words (Some (run path script netlist budget)) asked = by_texts _ asked (is.ends.ran path script netlist budget asked)
+      by_words (Some (list path)) asked = by_list path asked (is.ends.listed path asked)
+      by_words (Some (gen path size budget)) asked = keeps_asked _ which asked (is.ends.generated path size budget asked)
 
 -- any list of calls, each on what the one before left
 pub lives_keep : (source : Source) (plan : Plan) (folder : Folder) (lives : List Life) → Plans source plan
@@ -293,69 +309,73 @@ pub accepted_runs_end : (asked : Option Reading) (plan : Plan) (status : ℕ) (o
     → ((status ≡ 0) × (said new ≡ said old ++ run_text (job_of accepts.source plan) plan.lines (present (now old).folder)))
     ⊎ ((status ≡ 9) × OnlyFetched old new)
 accepted_runs_end asked plan status old new before after accepts sound small ends causes none =
-    elim ends [
-      | inl usage ↦ absurd (some_or_none accepts.asks.reading asked accepts.asks.asked_is usage.unread)
-      | inr other ↦ elim other [
-        | inl silent ↦ elim silent.status_is [
-          | inl six ↦ absurd (let fault = causes.text_fault six in none.text_same fault.0 fault.2.0 fault.1 fault.2.1 fault.2.2)
-          | inr nine ↦ inr (nine, silent.fetched)
-        ]
+    by_words accepts.asks.reading accepts.asks.asked_is accepts.asks.source_is
+  where
+    job : Job
+    job = job_of accepts.source plan
+
+    Goal : Type 0
+    Goal = ((status ≡ 0) × (said new ≡ said old ++ run_text job plan.lines (present (now old).folder)))
+        ⊎ ((status ≡ 9) × OnlyFetched old new)
+
+    by_run : (path : List ℕ) → RunsIn path job plan.lines status old new → EndsRun status
+        → (status ≡ 0) × (said new ≡ said old ++ run_text job plan.lines (present (now old).folder))
+    by_run path ran which = elim which [
+      | inl zero ↦ (zero, ran.leaves.whole sound zero)
+      | inr rest ↦ elim rest [
+        | inl five ↦ absurd (ran.leaves.goes_on sound (inl five))
         | inr more ↦ elim more [
-          | inl netlist ↦ absurd (no_faulty_netlist old asked plan netlist.reading netlist.fault netlist.asked_is netlist.faulty accepts)
-          | inr third ↦ elim third [
-            | inl refused ↦ absurd (no_faulty_script old asked plan refused.source refused.refuses.fault refused.asks refused.refuses.faulty accepts)
-            | inr last ↦ elim last [
-              | inl ran ↦ inl (by_run ran)
-              | inr listed ↦ absurd (no_list old asked plan listed.folder listed.asked_is accepts)
+          | inl seven ↦ absurd (none.folder_same (causes.folder_fault seven))
+          | inr last ↦ elim last [
+            | inl eight ↦ absurd (none.say_same (causes.say_fault eight))
+            | inr end ↦ elim end [
+              | inl ten ↦ absurd (ran.leaves.goes_on sound (inr ten))
+              | inr eleven ↦ absurd (too_great (ran.leaves.spent eleven))
             ]
           ]
         ]
       ]
     ]
-  where
-    job : Job
-    job = job_of accepts.source plan
-
-    by_run : EndsRan asked status old new → (status ≡ 0) × (said new ≡ said old ++ run_text job plan.lines (present (now old).folder))
-    by_run ran = by_status run run.status_is
       where
-        path : List ℕ
-        path = folder_of ran.asks.reading
+        work : ℕ → ℕ
+        work step = work_of job (step_at job step).step
 
-        there : Accepts old asked ran.runs.plan
-        there = record { source = ran.source; asks = ran.asks; plans = ran.runs.plans }
+        too_great : NamesSpentStep job plan.lines (now old) old new → ⊥
+        too_great names =
+            let great : 2 ^ 35 ≤ work names.step = names.spent.work sound in
+            let less : work names.step < 2 ^ 35 = small names.step names.spent.within in
+            omega (arith, great, less)
 
-        same : (ran.source ≡ accepts.source) × (ran.runs.plan ≡ plan)
-        same = one_accepted old asked ran.runs.plan plan there accepts
+    by_asked : (r : Reading) → asked ≡ Some r → RunsAsked r status old new → Goal
+    by_asked r is runs = by_end runs.ends
+      where
+        sources : accepts.source ≡ runs.source
+        sources = same_asked old asked plan r runs.source is runs.source_is accepts
 
-        run : RunsIn path job plan.lines status old new
-        run = subst (λ (p : Plan). RunsIn path (job_of accepts.source p) p.lines status old new) same.1
-            (subst (λ (s : Source). RunsIn path (job_of s ran.runs.plan) ran.runs.plan.lines status old new) same.0 ran.runs.run)
-
-        by_status : RunsIn path job plan.lines status old new → EndsRun status
-            → (status ≡ 0) × (said new ≡ said old ++ run_text job plan.lines (present (now old).folder))
-        by_status run which = elim which [
-          | inl zero ↦ (zero, run.leaves.whole sound zero)
-          | inr rest ↦ elim rest [
-            | inl five ↦ absurd (run.leaves.goes_on sound (inl five))
-            | inr more ↦ elim more [
-              | inl seven ↦ absurd (none.folder_same (causes.folder_fault seven))
-              | inr last ↦ elim last [
-                | inl eight ↦ absurd (none.say_same (causes.say_fault eight))
-                | inr end ↦ elim end [
-                  | inl ten ↦ absurd (run.leaves.goes_on sound (inr ten))
-                  | inr eleven ↦ absurd (too_great (run.leaves.spent eleven))
-                ]
-              ]
-            ]
-          ]
-        ]
+        by_end : EndsSource (folder_of r) runs.source status old new → Goal
+        by_end (inl silent) = inr silent
+        by_end (inr (inl refused)) =
+            absurd (no_faulty_script old asked plan r runs.source refused.fault is runs.source_is refused.faulty accepts)
+        by_end (inr (inr ran)) = inl (by_run (folder_of r) mine mine.status_is)
           where
-            work : ℕ → ℕ
-            work step = work_of job (step_at job step).step
+            plans : ran.plan ≡ plan
+            plans = one_planned runs.source accepts.source ran.plan plan (ap (λ (s : Source). s.script) (sym sources))
+                (ap (λ (s : Source). s.netlist) (sym sources)) ran.plans accepts.plans
 
-            too_great : NamesSpentStep job plan.lines (now old) old new → ⊥
-            too_great names =
-                let great : 2 ^ 35 ≤ work names.step = names.spent.work sound in
-                let less : work names.step < 2 ^ 35 = small names.step names.spent.within in
-                omega (arith, great, less)
+            mine : RunsIn (folder_of r) job plan.lines status old new
+            mine = subst (λ (p : Plan). RunsIn (folder_of r) (job_of accepts.source p) p.lines status old new) plans
+                (subst (λ (s : Source). RunsIn (folder_of r) (job_of s ran.plan) ran.plan.lines status old new) (sym sources)
+                ran.run)
+
+    by_texts : (r : Reading) → asked ≡ Some r → RunsTexts r status old new → Goal
+    by_texts r is (inl silent) = inr silent
+    by_texts r is (inr (inl unfetched)) =
+        absurd (let fault = causes.text_fault unfetched.0 in none.text_same fault.0 fault.2.0 fault.1 fault.2.1 fault.2.2)
+    by_texts r is (inr (inr (inl netlist))) =
+        absurd (no_faulty_netlist old asked plan r netlist.fault is netlist.faulty accepts)
+    by_texts r is (inr (inr (inr runs))) = by_asked r is runs
+
+    by_words : (r : Reading) → asked ≡ Some r → IsSource old r accepts.source → Goal
+    by_words (run folder script netlist budget) is source_is = by_texts _ is (ends.ran folder script netlist budget is)
+    by_words (list folder) is source_is = absurd source_is
+    by_words (gen folder size budget) is source_is = by_asked _ is (ends.generated folder size budget is)

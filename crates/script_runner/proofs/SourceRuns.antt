@@ -29,7 +29,7 @@ use Rattle.script_runner.specs.Running.{SaysOnly}
 use Rattle.script_runner.specs.Source.{Source, IsNamed, IsSource, Spells, Plans, IsFaulty, HasFaultyText}
 use Rattle.script_runner.specs.Status.{status_of}
 use Rattle.script_runner.specs.Text.{refused_line, netlist_line}
-use Rattle.script_runner.proofs.Endings.{fetched_then, fetched_line, fetched_source, ends_whole, calls_whole, fetched_calls, ends_asked, accepted_is_short}
+use Rattle.script_runner.proofs.Endings.{fetched_then, fetched_line, fetched_source, ends_whole, calls_whole, fetched_calls, ends_texts, accepted_is_short}
 
 -- a netlist that was read is spelled by its text, which is short
 spelled_there : (netlist : Option ReadNetlist) → IsSpelled netlist → Spells (netlist_text netlist) (netlist_in netlist)
@@ -89,7 +89,7 @@ one_of_two P e f (inl is) x y = subst (λ a. P (status_of a)) (sym is) x
 one_of_two P e f (inr is) x y = subst (λ a. P (status_of a)) (sym is) y
 
 -- a line was said where the status is that of its ending
-line_said : (line : List ℕ) (e f : Ending) (old new : World) → (e ≡ f) ⊎ (e ≡ SayFault) → ¬ (status_of f ≡ 8)
+pub line_said : (line : List ℕ) (e f : Ending) (old new : World) → (e ≡ f) ⊎ (e ≡ SayFault) → ¬ (status_of f ≡ 8)
     → SaysOnly line old new → (e ≡ f → said new ≡ said old ++ line)
     → SaysLine line (status_of f) (status_of e) old new
 line_said line e f old new (inl is) other only whole = record {
@@ -220,16 +220,14 @@ module _ {S : Type 0} (tells : S → Bool) (world : S → World) where
     before = λ tells_t. looked.before (says.before tells_t);
     did = λ tells_t.
         let tells_s : IsTrue (tells s) = says.before tells_t in
-        inr (inr (inl (record {
-          reading = run folder script path budget;
-          asked_is = refl;
+        ends_texts folder script path budget (status_of e) (world old) (world t) (inr (inr (inl (record {
           fault = fault;
           faulty = faulty tells_s;
           says = subst (λ l. SaysLine l 4 (status_of e) (world old) (world t)) line_is
               (fetched_line line 4 (status_of e) (world old) (world s) (world t) (looked.did tells_s)
               (line_said line e ending.Netlist (world s) (world t) which (λ x. omega (arith, x)) (says.did tells_t)
               (λ is. whole is tells_t)));
-        })));
+        }))));
   }
 
   -- what was fetched is a source, which was run
@@ -257,10 +255,13 @@ module _ {S : Type 0} (tells : S → Bool) (world : S → World) where
       before = λ tells_t. first.before (second.before (runs.before tells_t));
       did = λ tells_t.
           let here : IsTrue (tells s) = runs.before tells_t in
-          ends_asked (run folder script path budget) (source here) status (world old) (world t) (is_source here)
-          (ends_whole folder budget (text here).text bytes netlist status (world old) (world t) (text here).bytes_are
-          (fetched_source folder (source_of budget bytes netlist) status (world old) (world s) (world t) (looked here)
-          (runs.did tells_t)));
+          ends_texts folder script path budget status (world old) (world t) (inr (inr (inr (record {
+            source = source here;
+            source_is = is_source here;
+            ends = ends_whole folder budget (text here).text bytes netlist status (world old) (world t) (text here).bytes_are
+                (fetched_source folder (source_of budget bytes netlist) status (world old) (world s) (world t) (looked here)
+                (runs.did tells_t));
+          }))));
     }
 
     pub calls_texts : (IsTrue (tells t) → IsTrue (tells s)) → (IsTrue (tells r) → (world r).clock ≤ (world old).clock + fetch_calls 4194304)

@@ -6,7 +6,7 @@ use Rattle.shelf_model.specs.Calls.{Told}
 use Rattle.shelf_model.specs.Faults.{Faults, Rose}
 use Rattle.blif_reader.specs.declared.fault.BlifFault.{BlifFault}
 use Rattle.catalogue.specs.Counts.{present, count_in}
-use Rattle.command_words.specs.Readings.{Reading, list}
+use Rattle.command_words.specs.Readings.{Reading, run, list, gen}
 use Rattle.sound_image.specs.Jobs.{Job, step_at}
 use Rattle.sound_image.specs.Entries.{work_of}
 use Rattle.script_reader.specs.declared.plan.Plan.{Plan}
@@ -50,55 +50,54 @@ pub record RunsSource (folder : List ℕ) (source : Source) (status : ℕ) (old 
   pub plans : Plans source plan
   pub run : RunsIn folder (job_of source plan) plan.lines status old new
 
--- a source was run, or its script refused, or there was no memory and nothing was done
+-- there was no memory: nothing was said and no file touched
+abbrev pub HasNoMemory : ℕ → World → World → Type 0
+HasNoMemory status old new = (status ≡ 9) × OnlyFetched old new
+
+-- a text couldn't be fetched: nothing was said and no file touched
+abbrev pub HasNoText : ℕ → World → World → Type 0
+HasNoText status old new = (status ≡ 6) × OnlyFetched old new
+
+-- there was no memory, or a source's script was refused, or the source was run
 abbrev pub EndsSource : List ℕ → Source → ℕ → World → World → Type 0
 EndsSource folder source status old new =
-    ((status ≡ 9) × OnlyFetched old new) ⊎ RefusesScript source status old new
-    ⊎ RunsSource folder source status old new
+    HasNoMemory status old new ⊎ RefusesScript source status old new ⊎ RunsSource folder source status old new
 
--- the words have no reading, and the usage was said
-pub record EndsUsage (asked : Option Reading) (status : ℕ) (old new : World) : Type 0 where
-  pub unread : asked ≡ None
-  pub says : SaysLine usage_line 2 status old new
+-- a source that words ask for was run so
+pub record RunsAsked (reading : Reading) (status : ℕ) (old new : World) : Type 0 where
+  pub source : Source
+  pub source_is : IsSource old reading source
+  pub ends : EndsSource (folder_of reading) source status old new
 
--- a text that the words name couldn't be fetched, or there was no memory: nothing was said and no file touched
-pub record EndsSilent (asked : Option Reading) (status : ℕ) (old new : World) : Type 0 where
-  pub words_are : status ≡ 6 → (reading : Reading) × (asked ≡ Some reading)
-      × ((path : List ℕ) × NamesText reading path)
-  pub status_is : (status ≡ 6) ⊎ (status ≡ 9)
-  pub fetched : OnlyFetched old new
-
--- the netlist that the words name isn't accepted, and its first fault was said
-pub record EndsNetlist (asked : Option Reading) (status : ℕ) (old new : World) : Type 0 where
-  pub reading : Reading
-  pub asked_is : asked ≡ Some reading
+-- the netlist that words name isn't accepted, and its first fault was said
+pub record RefusesNetlist (reading : Reading) (status : ℕ) (old new : World) : Type 0 where
   pub fault : BlifFault
   pub faulty : HasFaultyNetlist old reading fault
   pub says : SaysLine (netlist_line fault) 4 status old new
 
--- the script isn't accepted, and its first fault was said
-pub record EndsRefused (asked : Option Reading) (status : ℕ) (old new : World) : Type 0 where
-  pub source : Source
-  pub asks : Asks old asked source
-  pub refuses : RefusesScript source status old new
+-- there was no memory, or a text that words name couldn't be fetched, or their netlist was refused, or they ask for a
+-- source, which was run
+abbrev pub RunsTexts : Reading → ℕ → World → World → Type 0
+RunsTexts reading status old new =
+    HasNoMemory status old new ⊎ HasNoText status old new ⊎ RefusesNetlist reading status old new
+    ⊎ RunsAsked reading status old new
 
--- the script is accepted, and its job was run in the folder that the words name
+-- how the program ended, by what its words ask for: a field for each action, and one for words that have no reading
+pub record Ends (asked : Option Reading) (status : ℕ) (old new : World) : Type 0 where
+  pub ran : (folder script : List ℕ) (netlist : Option (List ℕ)) (budget : ℕ)
+      → asked ≡ Some (run folder script netlist budget)
+      → RunsTexts (run folder script netlist budget) status old new
+  pub generated : (folder : List ℕ) (size budget : ℕ) → asked ≡ Some (gen folder size budget)
+      → RunsAsked (gen folder size budget) status old new
+  pub listed : (folder : List ℕ) → asked ≡ Some (list folder)
+      → HasNoMemory status old new ⊎ ListsIn folder status old new
+  pub unread : asked ≡ None → HasNoMemory status old new ⊎ SaysLine usage_line 2 status old new
+
+-- a script is accepted that the words ask for, and its job was run in the folder that they name
 pub record EndsRan (asked : Option Reading) (status : ℕ) (old new : World) : Type 0 where
   pub source : Source
   pub asks : Asks old asked source
   pub runs : RunsSource (folder_of asks.reading) source status old new
-
--- the diagrams of the folder that the words name were listed
-pub record EndsListed (asked : Option Reading) (status : ℕ) (old new : World) : Type 0 where
-  pub folder : List ℕ
-  pub asked_is : asked ≡ Some (list folder)
-  pub lists : ListsIn folder status old new
-
--- the program ended in one of six ways
-abbrev pub Ends : Option Reading → ℕ → World → World → Type 0
-Ends asked status old new =
-    EndsUsage asked status old new ⊎ EndsSilent asked status old new ⊎ EndsNetlist asked status old new
-    ⊎ EndsRefused asked status old new ⊎ EndsRan asked status old new ⊎ EndsListed asked status old new
 
 -- the statuses of the program
 abbrev pub IsStatus : ℕ → Type 0

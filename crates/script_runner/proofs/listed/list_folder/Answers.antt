@@ -1,9 +1,12 @@
-use Rattle.script_runner.proofs.ListEndings.{answers_unlisted, answers_list}
+use Rattle.command_words.specs.Readings.{list}
+use Rattle.std.specs.Prelude.{Some}
+use Rattle.script_runner.proofs.ListEndings.{answers_list}
+use Rattle.script_runner.proofs.SilentEndings.{answers_at_once}
 use Rattle.script_runner.proofs.listed.list_folder.Goals as goal
 
 pub returns-in_default : goal.returns-in_default
 returns-in_default g c = record {
-  answers = answers_unlisted g.W.Shelf.tells g.W.Shelf.world g.W.Shelf.faults c.args.folder.now c.args.station.now;
+  answers = answers_at_once g.W.Shelf.tells g.W.Shelf.world g.W.Shelf.faults (Some (list c.args.folder.now)) c.args.station.now;
 }
 
 pub returns : goal.returns

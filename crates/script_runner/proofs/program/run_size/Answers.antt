@@ -1,8 +1,17 @@
 use Rattle.std.proofs.Common.{◌∙◌}
+use Rattle.std.specs.Prelude.{Some}
+use Rattle.command_words.specs.Readings.{gen}
 use Rattle.script_runner.specs.Status.{status_of}
 use Rattle.script_runner.proofs.GenRuns.{ran_size, calls_size}
 use Rattle.script_runner.proofs.SourceRuns.{words_gen, has_cause}
+use Rattle.script_runner.proofs.SilentEndings.{answers_at_once}
 use Rattle.script_runner.proofs.program.run_size.Goals as goal
+
+pub returns-in_default : goal.returns-in_default
+returns-in_default g c = record {
+  answers = answers_at_once g.W.Shelf.tells g.W.Shelf.world g.W.Shelf.faults
+      (Some (gen c.args.folder.now c.args.size c.args.budget)) c.args.station.now;
+}
 
 pub returns : goal.returns
 returns g c = record {

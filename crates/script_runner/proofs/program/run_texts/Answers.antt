@@ -1,5 +1,5 @@
 use Rattle.std.proofs.Common.{◌≡◌, ◌∙◌, sym, ap, subst, inl, inr, arith, refl}
-use Rattle.std.specs.Prelude.{Err, IsTrue}
+use Rattle.std.specs.Prelude.{Err, IsTrue, Some}
 use Rattle.command_words.specs.Readings.{run}
 use Rattle.command_words.specs.Views.{text_of}
 use Rattle.script_runner.specs.Fetching.{IsText}
@@ -9,8 +9,8 @@ use Rattle.script_runner.specs.Source.{HasFaultyText}
 use Rattle.script_runner.specs.Status.{status_of}
 use Rattle.script_runner.specs.Text.{netlist_line}
 use Rattle.script_runner.specs.declared.ending.Ending.TheVariants as ending
-use Rattle.script_runner.proofs.Endings.{fetched_then}
 use Rattle.script_runner.proofs.SourceRuns.{one_of_two, has_cause, cause_since, rose_later, words_run, faulty_netlist, ran_texts, calls_texts}
+use Rattle.script_runner.proofs.SilentEndings.{fetched_both, answers_no_memory, answers_no_text}
 use Rattle.script_runner.proofs.program.run_texts.Goals as goal
 
 pub returns-in-Err-Faulty : goal.returns-in-Err-Faulty
@@ -39,45 +39,52 @@ returns-in-Err-Faulty g c = record {
   };
 }
 
-pub returns-in-Err-Text-fetch_text : goal.returns-in-Err-Text-fetch_text
-returns-in-Err-Text-fetch_text g c = record {
-  answers = record {
-    content = record {
-      before = λ t. c.in-Ok.ensures.content.before (c.in-Err-Text-fetch_text.ensures.content.before t);
-      did = λ t. inr (inl (record {
-        words_are = λ six. (
-          run c.args.folder.now c.args.script.now (text_of c.args.netlist) c.args.budget,
-          refl,
-          (c.args.script.now, inl refl),
-        );
-        status_is = inl refl;
-        fetched = fetched_then _ _ _ (c.in-Ok.ensures.content.did (c.in-Err-Text-fetch_text.ensures.content.before t))
-            (c.in-Err-Text-fetch_text.ensures.content.did t);
-      }));
-    };
-    calls = λ t.
-        let first = c.in-Ok.ensures.calls (c.in-Err-Text-fetch_text.ensures.content.before t) in
-        let second = c.in-Err-Text-fetch_text.ensures.calls t in
-        inl (omega (arith, first, second));
-    by_words = words_run c.args.folder.now c.args.script.now (text_of c.args.netlist) c.args.budget 6 refl
-        (λ x. omega (arith, x));
-    causes = record {
-      text_fault = λ six. (
-        run c.args.folder.now c.args.script.now (text_of c.args.netlist) c.args.budget,
-        refl,
-        (
-          c.args.script.now,
-          inl refl,
-          rose_later c.args.script.now (g.W.Shelf.faults c.args.station.now)
-              (g.W.Shelf.faults c.fetch_netlist.new.station) (g.W.Shelf.faults c.fetch_text.new.station) c.in-Ok.ensures.faults
-              (c.in-Err-Text-fetch_text.ensures.cause (ap Err c.in-Err-Text-fetch_text.field-0-is)),
-        ),
-      );
-      folder_fault = λ x. absurd (omega (arith, x));
-      say_fault = λ x. absurd (omega (arith, x));
-    };
-  };
+pub returns-in-Err-Memory : goal.returns-in-Err-Memory
+returns-in-Err-Memory g c = record {
+  answers = answers_no_memory g.W.Shelf.tells g.W.Shelf.world g.W.Shelf.faults
+      (Some (run c.args.folder.now c.args.script.now (text_of c.args.netlist) c.args.budget)) c.args.station.now
+      c.fetch_netlist.new.station c.in-Err-Memory.ensures.content
+      (λ t. let few = c.in-Err-Memory.ensures.calls t in omega (arith, few));
 }
+
+pub returns-in-Err-Text : goal.returns-in-Err-Text
+returns-in-Err-Text g c =
+    let named = c.in-Err-Text.ensures.cause (ap Err c.in-Err-Text.field-0-is) in
+    record {
+      answers = answers_no_text g.W.Shelf.tells g.W.Shelf.world g.W.Shelf.faults c.args.folder.now c.args.script.now
+          (text_of c.args.netlist) c.args.budget named.0 c.args.station.now c.fetch_netlist.new.station (inr named.1) named.2
+          c.in-Err-Text.ensures.content
+          (λ t. let few = c.in-Err-Text.ensures.calls t in omega (arith, few));
+    }
+
+pub returns-in-Err-Memory-fetch_text : goal.returns-in-Err-Memory-fetch_text
+returns-in-Err-Memory-fetch_text g c =
+    let said = c.in-Err-Memory-fetch_text.ensures in
+    record {
+      answers = answers_no_memory g.W.Shelf.tells g.W.Shelf.world g.W.Shelf.faults
+          (Some (run c.args.folder.now c.args.script.now (text_of c.args.netlist) c.args.budget)) c.args.station.now
+          c.fetch_text.new.station (fetched_both g.W.Shelf.tells g.W.Shelf.world _ _ _ c.in-Ok.ensures.content said.content)
+          (λ t.
+          let first = c.in-Ok.ensures.calls (said.content.before t) in
+          let second = said.calls t in
+          omega (arith, first, second));
+    }
+
+pub returns-in-Err-Text-fetch_text : goal.returns-in-Err-Text-fetch_text
+returns-in-Err-Text-fetch_text g c =
+    let said = c.in-Err-Text-fetch_text.ensures in
+    record {
+      answers = answers_no_text g.W.Shelf.tells g.W.Shelf.world g.W.Shelf.faults c.args.folder.now c.args.script.now
+          (text_of c.args.netlist) c.args.budget c.args.script.now c.args.station.now c.fetch_text.new.station (inl refl)
+          (rose_later c.args.script.now (g.W.Shelf.faults c.args.station.now)
+          (g.W.Shelf.faults c.fetch_netlist.new.station) (g.W.Shelf.faults c.fetch_text.new.station) c.in-Ok.ensures.faults
+          (said.cause (ap Err c.in-Err-Text-fetch_text.field-0-is)))
+          (fetched_both g.W.Shelf.tells g.W.Shelf.world _ _ _ c.in-Ok.ensures.content said.content)
+          (λ t.
+          let first = c.in-Ok.ensures.calls (said.content.before t) in
+          let second = said.calls t in
+          omega (arith, first, second));
+    }
 
 pub returns : goal.returns
 returns g c =
