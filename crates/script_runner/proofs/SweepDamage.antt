@@ -18,7 +18,7 @@ use Rattle.catalogue.specs.Counts.{present, count_in}
 use Rattle.step_work.specs.Tuples.{sweeps}
 use Rattle.sound_image.specs.Files.{node_file}
 use Rattle.sound_image.specs.Jobs.{no_step}
-use Rattle.step_engine.specs.StepFaults.{IsKindFault, IsDamagedAmong, IsReadingFault, IsMakingFault, IsStepFault}
+use Rattle.step_engine.specs.StepFaults.{MissesNone, MissesNamed, MissesAsked, IsKindFault, IsDamagedAmong, IsReadingFault, IsMakingFault, IsStepFault}
 use Rattle.script_runner.specs.Running.{IsMetDamage}
 
 -- a station with that folder
@@ -26,27 +26,27 @@ abbrev with_folder : Folder → World → World
 with_folder folder w = record w { clock = 0; moment = λ _. record { folder = folder; said = [] } }
 
 -- damage is judged by the folder alone
-among_there : (n : ℕ) (xs : List ℕ) (a b : World) (f : FileNo) (at : ℕ) → (now b).folder ≡ (now a).folder
-    → IsDamagedAmong n xs a f at → IsDamagedAmong n xs b f at
-among_there n [] a b f at same fault = fault
-among_there n (x ∷ xs) a b f at same fault = elim fault [
+among_there : (Misses : List ℕ → ℕ → Type 0) (n : ℕ) (xs : List ℕ) (a b : World) (f : FileNo) (at : ℕ)
+    → (now b).folder ≡ (now a).folder → IsDamagedAmong Misses n xs a f at → IsDamagedAmong Misses n xs b f at
+among_there Misses n [] a b f at same fault = fault
+among_there Misses n (x ∷ xs) a b f at same fault = elim fault [
   | inl one ↦
-      let here : IsDamagedAmong n (x ∷ []) b f at =
-      subst (λ (folder : Folder). IsDamagedAmong n (x ∷ []) (with_folder folder a) f at) (sym same) (inl one) in
+      let here : IsDamagedAmong Misses n (x ∷ []) b f at =
+      subst (λ (folder : Folder). IsDamagedAmong Misses n (x ∷ []) (with_folder folder a) f at) (sym same) (inl one) in
       elim here [ inl first ↦ inl first | inr none ↦ absurd none ]
-  | inr rest ↦ inr (among_there n xs a b f at same rest)
+  | inr rest ↦ inr (among_there Misses n xs a b f at same rest)
 ]
 
-reading_there : (n : ℕ) (xs : List ℕ) (a b : World) (fault : SortFault) → (now b).folder ≡ (now a).folder
-    → IsReadingFault n xs a fault → IsReadingFault n xs b fault
-reading_there n xs a b sort.Shelf same is = tt
-reading_there n xs a b (sort.Damaged f at) same is = among_there n xs a b f at same is
-reading_there n xs a b sort.RunsSpent same is = is
+reading_there : (Misses : List ℕ → ℕ → Type 0) (n : ℕ) (xs : List ℕ) (a b : World) (fault : SortFault)
+    → (now b).folder ≡ (now a).folder → IsReadingFault Misses n xs a fault → IsReadingFault Misses n xs b fault
+reading_there Misses n xs a b sort.Shelf same is = tt
+reading_there Misses n xs a b (sort.Damaged f at) same is = among_there Misses n xs a b f at same is
+reading_there Misses n xs a b sort.RunsSpent same is = is
 
 making_there : (n : ℕ) (xs : List ℕ) (a b : World) (fault : SortFault) → (now b).folder ≡ (now a).folder
     → IsMakingFault n xs a fault → IsMakingFault n xs b fault
 making_there n xs a b sort.Shelf same is = tt
-making_there n xs a b (sort.Damaged f at) same is = among_there n xs a b f at same is
+making_there n xs a b (sort.Damaged f at) same is = among_there MissesAsked n xs a b f at same is
 making_there n xs a b sort.RunsSpent same is = tt
 
 pub fault_there : (n : ℕ) (s : Step) (a b : World) (fault : SortFault) → (now b).folder ≡ (now a).folder
@@ -59,9 +59,9 @@ fault_there n (Ite test if_one if_zero) a b fault same is =
 fault_there n (Quantify kind operand level) a b fault same is = making_there n (operand ∷ []) a b fault same is
 fault_there n (Restrict operand level value) a b fault same is = making_there n (operand ∷ []) a b fault same is
 fault_there n (Drop gone) a b fault same is = is
-fault_there n (Same left right) a b fault same is = reading_there n (left ∷ right ∷ []) a b fault same is
+fault_there n (Same left right) a b fault same is = reading_there MissesNone n (left ∷ right ∷ []) a b fault same is
 fault_there n (Leq left right) a b fault same is = making_there n (left ∷ right ∷ []) a b fault same is
-fault_there n (Eval operand at) a b fault same is = reading_there n (operand ∷ []) a b fault same is
+fault_there n (Eval operand at) a b fault same is = reading_there MissesNamed n (operand ∷ []) a b fault same is
 fault_there n (Size operand) a b fault same is = (
   is.0,
   is.1,
@@ -69,12 +69,12 @@ fault_there n (Size operand) a b fault same is = (
 )
 
 -- a damaged file among those of some steps is that of a step that passes what all of them pass
-among_passes : (P : ℕ → Bool) (n : ℕ) (xs : List ℕ) (world : World) (f : FileNo) (at : ℕ) → IsTrue (list_all P xs)
-    → IsDamagedAmong n xs world f at → (k : ℕ) × (f ≡ node_file k) × IsTrue (P k)
-among_passes P n [] world f at all fault = absurd fault
-among_passes P n (x ∷ xs) world f at all (inl here) = (x, here.0, (and_parts (P x) (list_all P xs) all).0)
-among_passes P n (x ∷ xs) world f at all (inr rest) =
-    among_passes P n xs world f at (and_parts (P x) (list_all P xs) all).1 rest
+among_passes : (Misses : List ℕ → ℕ → Type 0) (P : ℕ → Bool) (n : ℕ) (xs : List ℕ) (world : World) (f : FileNo) (at : ℕ)
+    → IsTrue (list_all P xs) → IsDamagedAmong Misses n xs world f at → (k : ℕ) × (f ≡ node_file k) × IsTrue (P k)
+among_passes Misses P n [] world f at all fault = absurd fault
+among_passes Misses P n (x ∷ xs) world f at all (inl here) = (x, here.0, (and_parts (P x) (list_all P xs) all).0)
+among_passes Misses P n (x ∷ xs) world f at all (inr rest) =
+    among_passes Misses P n xs world f at (and_parts (P x) (list_all P xs) all).1 rest
 
 -- so is one that a step that sweeps names
 pub fault_passes : (P : ℕ → Bool) (n : ℕ) (s : Step) (world : World) (f : FileNo) (at : ℕ) → IsTrue (sweeps s)
@@ -83,20 +83,20 @@ pub fault_passes : (P : ℕ → Bool) (n : ℕ) (s : Step) (world : World) (f : 
 fault_passes P n (Const value) world f at swept all fault = absurd cc
 fault_passes P n (Var level) world f at swept all fault = absurd cc
 fault_passes P n (Pair op left right) world f at swept all fault =
-    among_passes P n (left ∷ right ∷ []) world f at all fault
+    among_passes MissesAsked P n (left ∷ right ∷ []) world f at all fault
 fault_passes P n (Ite test if_one if_zero) world f at swept all fault =
-    among_passes P n (test ∷ if_one ∷ if_zero ∷ []) world f at all fault
+    among_passes MissesAsked P n (test ∷ if_one ∷ if_zero ∷ []) world f at all fault
 fault_passes P n (Quantify kind operand level) world f at swept all fault =
-    among_passes P n (operand ∷ []) world f at all fault
+    among_passes MissesAsked P n (operand ∷ []) world f at all fault
 fault_passes P n (Restrict operand level value) world f at swept all fault =
-    among_passes P n (operand ∷ []) world f at all fault
+    among_passes MissesAsked P n (operand ∷ []) world f at all fault
 fault_passes P n (Drop gone) world f at swept all fault = absurd cc
 fault_passes P n (Same left right) world f at swept all fault =
-    among_passes P n (left ∷ right ∷ []) world f at all fault
+    among_passes MissesNone P n (left ∷ right ∷ []) world f at all fault
 fault_passes P n (Leq left right) world f at swept all fault =
-    among_passes P n (left ∷ right ∷ []) world f at all fault
+    among_passes MissesAsked P n (left ∷ right ∷ []) world f at all fault
 fault_passes P n (Eval operand bits) world f at swept all fault =
-    among_passes P n (operand ∷ []) world f at all fault
+    among_passes MissesNamed P n (operand ∷ []) world f at all fault
 fault_passes P n (Size operand) world f at swept all fault = absurd cc
 
 -- a diagram that is live after some steps is dropped by none of them

@@ -16,7 +16,7 @@ use Rattle.step_work.specs.Tuples.{joins}
 use Rattle.sound_image.specs.Files.{node_file}
 use Rattle.sound_image.specs.Jobs.{Job, table_at}
 use Rattle.step_sweeps.specs.declared.answers.Answered.{Answered}
-use Rattle.step_sweeps.specs.Damage.{IsReadFault, IsImplicationFault}
+use Rattle.step_sweeps.specs.Damage.{IsReadFault, IsImplicationFault, MissesNone, MissesNamed}
 use Rattle.step_engine.specs.Simple.{IsStepOf}
 use Rattle.step_engine.specs.StepFaults.{IsReadingFault, IsStepFault, IsSoundFault, IsOfKind}
 use Rattle.step_engine.proofs.Runs.{sound_fault, of_kind}
@@ -50,19 +50,20 @@ pub leq_kind : (left right : ℕ) (step : Step) → step ≡ Leq left right → 
 leq_kind left right step is e = of_kind step e (ap joins is)
 
 -- where a diagram that is read is damaged
-two_read : (n left right : ℕ) (world : World) (e : SortFault) → IsReadFault n (node_file left) (node_file right) world e
-    → IsReadingFault n (left ∷ right ∷ []) world e
-two_read n left right world sort.Shelf is = tt
-two_read n left right world (sort.Damaged f at) (inl one) = inl one
-two_read n left right world (sort.Damaged f at) (inr two) = inr (inl two)
-two_read n left right world sort.RunsSpent is = is
+two_read : (Misses : List ℕ → ℕ → Type 0) (n left right : ℕ) (world : World) (e : SortFault)
+    → IsReadFault Misses n (node_file left) (node_file right) world e
+    → IsReadingFault Misses n (left ∷ right ∷ []) world e
+two_read Misses n left right world sort.Shelf is = tt
+two_read Misses n left right world (sort.Damaged f at) (inl one) = inl one
+two_read Misses n left right world (sort.Damaged f at) (inr two) = inr (inl two)
+two_read Misses n left right world sort.RunsSpent is = is
 
-one_read : (n of : ℕ) (world : World) (e : SortFault) → IsReadFault n (node_file of) (node_file of) world e
-    → IsReadingFault n (of ∷ []) world e
-one_read n of world sort.Shelf is = tt
-one_read n of world (sort.Damaged f place) (inl one) = inl one
-one_read n of world (sort.Damaged f place) (inr two) = inl two
-one_read n of world sort.RunsSpent is = is
+one_read : (Misses : List ℕ → ℕ → Type 0) (n of : ℕ) (world : World) (e : SortFault)
+    → IsReadFault Misses n (node_file of) (node_file of) world e → IsReadingFault Misses n (of ∷ []) world e
+one_read Misses n of world sort.Shelf is = tt
+one_read Misses n of world (sort.Damaged f place) (inl one) = inl one
+one_read Misses n of world (sort.Damaged f place) (inr two) = inl two
+one_read Misses n of world sort.RunsSpent is = is
 
 implied : (n left right : ℕ) (world : World) (e : SortFault)
     → IsImplicationFault n (node_file left) (node_file right) world e → IsStepFault n (Leq left right) world e
@@ -72,9 +73,9 @@ implied n left right world (sort.Damaged f at) (inr two) = inr (inl two)
 implied n left right world sort.RunsSpent is = tt
 
 pub same_fault : (n left right : ℕ) (step : Step) → step ≡ Same left right → (world : World) (e : SortFault)
-    → IsReadFault n (node_file left) (node_file right) world e → IsStepFault n step world e
+    → IsReadFault MissesNone n (node_file left) (node_file right) world e → IsStepFault n step world e
 same_fault n left right step is world e fault =
-    subst (λ s. IsStepFault n s world e) (sym is) (two_read n left right world e fault)
+    subst (λ s. IsStepFault n s world e) (sym is) (two_read MissesNone n left right world e fault)
 
 pub leq_fault : (n left right : ℕ) (step : Step) → step ≡ Leq left right → (world : World) (e : SortFault)
     → IsImplicationFault n (node_file left) (node_file right) world e → IsStepFault n step world e
@@ -82,9 +83,9 @@ leq_fault n left right step is world e fault =
     subst (λ s. IsStepFault n s world e) (sym is) (implied n left right world e fault)
 
 pub eval_fault : (n of at : ℕ) (step : Step) → step ≡ Eval of at → (world : World) (e : SortFault)
-    → IsReadFault n (node_file of) (node_file of) world e → IsStepFault n step world e
+    → IsReadFault MissesNamed n (node_file of) (node_file of) world e → IsStepFault n step world e
 eval_fault n of at step is world e fault =
-    subst (λ s. IsStepFault n s world e) (sym is) (one_read n of world e fault)
+    subst (λ s. IsStepFault n s world e) (sym is) (one_read MissesNamed n of world e fault)
 
 -- the bits of an evaluation stand in the text
 pub bits_within : (n of at : ℕ) (text : List ℕ) (step : Step) → step ≡ Eval of at → IsTrue (has_bits n text step) → at + n ≤ length text

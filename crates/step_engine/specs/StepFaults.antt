@@ -15,7 +15,8 @@ use Rattle.catalogue.specs.Counts.{present}
 use Rattle.catalogue.specs.Files.{catalogue}
 use Rattle.catalogue.specs.Entries.{IsEntryOf}
 use Rattle.step_work.specs.Tuples.{joins}
-use Rattle.step_sweeps.specs.Damage.{IsDamagedFile}
+use Rattle.step_sweeps.specs.Damage.{IsDamagedBy}
+pub use Rattle.step_sweeps.specs.Damage.{MissesNone, MissesNamed, MissesAsked}
 use Rattle.sound_image.specs.Files.{node_file}
 
 -- the entry of step k is damaged where no entry of that step and of that kind stands whole at its place
@@ -24,22 +25,23 @@ IsKindFault k kind r stream.Shelf = Unit
 IsKindFault k kind r (stream.Damaged f at) = (f ≡ catalogue) × (at ≡ 128 * k)
     × ((e : Entry) → IsEntryOf k r e → e.kind ≢ kind)
 
--- the node file of one of these steps is damaged for n variables
-abbrev pub IsDamagedAmong : ℕ → List ℕ → World → FileNo → ℕ → Type 0
-IsDamagedAmong n [] world f at = ⊥
-IsDamagedAmong n (k ∷ ks) world f at = IsDamagedFile n (node_file k) world f at ⊎ IsDamagedAmong n ks world f at
+-- the node file of one of these steps is damaged for n variables, to a reader that misses nodes in that way
+abbrev pub IsDamagedAmong : (List ℕ → ℕ → Type 0) → ℕ → List ℕ → World → FileNo → ℕ → Type 0
+IsDamagedAmong Misses n [] world f at = ⊥
+IsDamagedAmong Misses n (k ∷ ks) world f at =
+    IsDamagedBy Misses n (node_file k) world f at ⊎ IsDamagedAmong Misses n ks world f at
 
 -- a fault of a step that reads these operands: a call of the folder failed, or one of them is damaged
-abbrev pub IsReadingFault : ℕ → List ℕ → World → SortFault → Type 0
-IsReadingFault n operands world sort.Shelf = Unit
-IsReadingFault n operands world (sort.Damaged f at) = IsDamagedAmong n operands world f at
-IsReadingFault n operands world sort.RunsSpent = ⊥
+abbrev pub IsReadingFault : (List ℕ → ℕ → Type 0) → ℕ → List ℕ → World → SortFault → Type 0
+IsReadingFault Misses n operands world sort.Shelf = Unit
+IsReadingFault Misses n operands world (sort.Damaged f at) = IsDamagedAmong Misses n operands world f at
+IsReadingFault Misses n operands world sort.RunsSpent = ⊥
 
 -- a fault of a step that makes arcs of them: a call of the folder failed, one of them was damaged as the step began, or
 -- the step has no part number left
 abbrev pub IsMakingFault : ℕ → List ℕ → World → SortFault → Type 0
 IsMakingFault n operands world sort.Shelf = Unit
-IsMakingFault n operands world (sort.Damaged f at) = IsDamagedAmong n operands world f at
+IsMakingFault n operands world (sort.Damaged f at) = IsDamagedAmong MissesAsked n operands world f at
 IsMakingFault n operands world sort.RunsSpent = Unit
 
 -- a size finds the entry of its diagram damaged, and where nothing is read a call of the folder failed
@@ -51,9 +53,9 @@ IsStepFault n (Ite test if_one if_zero) world fault = IsMakingFault n (test ∷ 
 IsStepFault n (Quantify kind operand level) world fault = IsMakingFault n (operand ∷ []) world fault
 IsStepFault n (Restrict operand level value) world fault = IsMakingFault n (operand ∷ []) world fault
 IsStepFault n (Drop gone) world fault = fault ≡ sort.Shelf
-IsStepFault n (Same left right) world fault = IsReadingFault n (left ∷ right ∷ []) world fault
+IsStepFault n (Same left right) world fault = IsReadingFault MissesNone n (left ∷ right ∷ []) world fault
 IsStepFault n (Leq left right) world fault = IsMakingFault n (left ∷ right ∷ []) world fault
-IsStepFault n (Eval operand at) world fault = IsReadingFault n (operand ∷ []) world fault
+IsStepFault n (Eval operand at) world fault = IsReadingFault MissesNamed n (operand ∷ []) world fault
 IsStepFault n (Size operand) world fault =
     (found : StreamFault) × (fault ≡ handed_on found) × IsKindFault operand 1 (present (now world).folder) found
 

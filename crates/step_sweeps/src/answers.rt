@@ -11,7 +11,7 @@ ghost use Rattle.step_work.specs.Works.{work_for};
 ghost use Rattle.sweep_core.specs.Sweeps.{IsNoDamage};
 ghost use Rattle.node_file.specs.Canonical.{IsCanonicalFile};
 ghost use Rattle.step_sweeps.specs.Made.{OnlyParts, IsAnswer, IsCounted, Called};
-ghost use Rattle.step_sweeps.specs.Damage.{IsReadFault};
+ghost use Rattle.step_sweeps.specs.Damage.{IsReadFault, MissesNone, MissesNamed};
 
 use rec_words::Rec;
 use restrict_eval::{EvalSweep, SameSweep};
@@ -56,7 +56,7 @@ pub fn compare<S: Shelf>(
 
     // whatever the files hold
     ensures damaged { IfErr result (λ e. IsTrue (S.tells shelf.new) →
-        IsReadFault n left right (S.world shelf.old) e) }
+        IsReadFault MissesNone n left right (S.world shelf.old) e) }
     ensures content { Told S.tells shelf.old shelf.new
         (Ran (OnlyParts number (now (S.world shelf.old))) (S.world shelf.old) (S.world shelf.new)) }
     ensures counted { IfOk result (λ a. IsCounted a.turns a.next) }
@@ -107,7 +107,7 @@ pub fn evaluate<S: Shelf>(
 
     // whatever the file holds
     ensures damaged { IfErr result (λ e. IsTrue (S.tells shelf.new) →
-        IsReadFault n file file (S.world shelf.old) e) }
+        IsReadFault MissesNamed n file file (S.world shelf.old) e) }
     ensures content { Told S.tells shelf.old shelf.new
         (Ran (OnlyParts number (now (S.world shelf.old))) (S.world shelf.old) (S.world shelf.new)) }
     ensures counted { IfOk result (λ a. IsCounted a.turns a.next) }
