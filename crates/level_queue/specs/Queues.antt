@@ -36,6 +36,10 @@ IsRunOf q f = sorters.IsRunOf q.sorter f
 unfoldable pub IsFull : {T : Type 0} → LevelQueue T → Type 0
 IsFull q = sorters.IsFull q.sorter
 
+-- no record stands in its room
+unfoldable pub IsCleared : {T : Type 0} → LevelQueue T → Type 0
+IsCleared q = sorters.IsCleared q.sorter
+
 -- its windows hold what the files of its runs do
 unfoldable pub IsInStep : {T : Type 0} → LevelQueue T → World → Type 0
 IsInStep q world = sorters.IsInStep q.sorter world

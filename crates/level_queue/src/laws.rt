@@ -1,12 +1,15 @@
 //! The laws of queues. Each function does nothing: what it ensures is the law.
-ghost use Rattle.std.specs.Prelude.{◌≡◌, ◌*◌, ◌≤◌, List, length};
+ghost use Rattle.std.specs.Prelude.{◌≡◌, ℕ, ◌*◌, ◌≤◌, List, Option, length};
 ghost use Rattle.shelf_model.specs.declared.file_no.FileNo.{FileNo};
 ghost use Rattle.shelf_model.specs.World.{World, now, file};
 ghost use Rattle.shelf_model.specs.Moments.{Ran, Stays};
 ghost use Rattle.run_tiers.specs.declared.parts.Parts.{Parts};
+ghost use Rattle.run_tiers.specs.declared.run.RunTable.{RunTable};
 ghost use Rattle.run_tiers.specs.Parts.{Took, Spilled};
+ghost use Rattle.run_tiers.specs.Syncs.{AnyFroze};
 ghost use Rattle.level_queue.specs.declared.queue.LevelQueue.{LevelQueue};
 ghost use Rattle.level_queue.specs.Queues.{held, credit, IsRunOf, Serves, Lists};
+ghost use Rattle.level_queue.specs.Tables.{AreFirmTables, ServeTables, TablesList, TablesStay};
 
 use rec_words::Spill;
 
@@ -50,4 +53,28 @@ pub fn parts_serve_on<T>()
 /// What is paid to a queue for calls is at most 64 for each of its items.
 pub fn credit_is_bounded<T>()
     ensures { (q : LevelQueue T) → credit q ≤ 64 * held q }
+{}
+
+/// A queue's list stays where others and sorters are frozen, with parts that can serve it.
+pub fn list_stays_frozen<T: Spill>()
+    ensures { (q : LevelQueue T) (before after : Parts) (old new : World) (xs : List T) →
+        Serves before q → Ran (AnyFroze before after (now old)) old new →
+        Lists T.is_value T.words T.cmp q old xs → Lists T.is_value T.words T.cmp q new xs }
+{}
+
+/// What tables stand for stays where the bytes of their runs do up to where they end, also over a stop.
+pub fn tables_stay<T: Spill>()
+    ensures { (step : ℕ) (tables : List RunTable) (last : Option T) (old new : World) (xs : List T) →
+        TablesStay step tables old new →
+        TablesList T.is_value T.words T.cmp step tables last old xs →
+        TablesList T.is_value T.words T.cmp step tables last new xs }
+{}
+
+/// It stays, and their runs stay their own only images, where queues and sorters are frozen with parts that can serve
+/// them.
+pub fn tables_stay_frozen<T: Spill>()
+    ensures { (tables : List RunTable) (last : Option T) (before after : Parts) (old new : World) (xs : List T) →
+        ServeTables before tables → Ran (AnyFroze before after (now old)) old new →
+        AreFirmTables before.step tables old → TablesList T.is_value T.words T.cmp before.step tables last old xs →
+        AreFirmTables before.step tables new × TablesList T.is_value T.words T.cmp before.step tables last new xs }
 {}
