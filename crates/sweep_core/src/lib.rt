@@ -1,10 +1,12 @@
 //! Sweeps over diagrams, which work in small turns, and their driver.
 #![tactic(auto)]
 
+mod checkpoint;
 mod driver;
 mod sweep;
 mod turn;
 
+pub use checkpoint::Checkpoint;
 pub use driver::{drive, run_to_end};
 pub use sweep::Sweep;
 pub use turn::Turn;
