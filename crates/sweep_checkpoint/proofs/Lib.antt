@@ -1,0 +1,6 @@
+mod Written
+mod Flat
+mod Parts
+mod Saved
+mod Loaded
+mod Dropped

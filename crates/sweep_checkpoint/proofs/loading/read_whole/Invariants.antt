@@ -1,0 +1,22 @@
+use Rattle.std.proofs.Common.{◌≡◌, ◌+◌, ◌-◌, ◌≤◌, length, take, drop}
+use Rattle.std.specs.Prelude.{IsTrue, Ok}
+use Rattle.shelf_model.specs.World.{now, file}
+use Rattle.shelf_model.specs.Calls.{Told}
+use Rattle.shelf_model.specs.Moments.{Ran, Stays}
+use Rattle.shelf_model.specs.Faults.{OnlyFolder}
+use Rattle.sweep_checkpoint.specs.Writes.{pieces}
+use Rattle.sweep_checkpoint.proofs.loading.read_whole.Given as goal
+
+-- so many bytes were read, and the pieces that remain are still to be read
+abbrev pub invariant-loop-done : goal.invariant-loop-done
+invariant-loop-done g l = record {
+  within : l.done ≤ length l.bytes;
+  so_far : Told g.S.Shelf.tells l.fn.shelf l.shelf
+      (Ran (Stays (now (g.S.Shelf.world l.fn.shelf))) (g.S.Shelf.world l.fn.shelf) (g.S.Shelf.world l.shelf));
+  reads : IsTrue (g.S.Shelf.tells l.shelf) → take l.done l.bytes ≡ take l.done (drop l.at (file (g.S.Shelf.world l.fn.shelf) l.f).bytes);
+  calls : IsTrue (g.S.Shelf.tells l.shelf) → (g.S.Shelf.world l.shelf).clock + pieces (length l.bytes - l.done) ≤ (g.S.Shelf.world l.fn.shelf).clock + pieces (length l.bytes);
+  faults : OnlyFolder {T = Unit} (g.S.Shelf.faults l.fn.shelf) (g.S.Shelf.faults l.shelf) (Ok tt);
+}
+
+abbrev pub decreases-loop-done : goal.decreases-loop-done
+decreases-loop-done g l = length l.bytes - l.done

@@ -1,0 +1,8 @@
+pub mod Files
+pub mod Points
+pub mod Rules
+pub mod Gated
+pub mod Writes
+pub mod Saves
+pub mod Loads
+pub mod Retires

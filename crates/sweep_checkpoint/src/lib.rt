@@ -1,0 +1,23 @@
+//! The checkpoints of a step: their bytes, and how they are saved, loaded and given up.
+//!
+//! The checkpoints of a step stand in one file, one behind the other, and a gate counts them by its length. The gate
+//! grows by one byte, which is made sure, after the checkpoint was made sure: so in each image that a stop may leave,
+//! what the gate counts is there whole.
+#![tactic(auto)]
+
+mod blank;
+mod files;
+mod layout;
+mod loading;
+mod point;
+mod retiring;
+mod rules;
+mod saving;
+mod writes;
+
+pub use files::{gate_of, points_of};
+pub use layout::{POINT_SIZE, bytes_of};
+pub use loading::load;
+pub use point::point_of;
+pub use retiring::retire;
+pub use saving::save;

@@ -1,0 +1,65 @@
+//! Saving a checkpoint behind those that are gated.
+ghost use Rattle.std.specs.Prelude.{◌≡◌, ◌+◌, ◌*◌, ◌^◌, ◌≤◌, IsTrue, OnOk, IfErr, length};
+ghost use Rattle.shelf_model.specs.World.{now, file};
+ghost use Rattle.shelf_model.specs.Calls.{Told};
+ghost use Rattle.shelf_model.specs.Moments.{Ran};
+ghost use Rattle.shelf_model.specs.Faults.{OnlyFolder, OnlyShelf};
+ghost use Rattle.sweep_checkpoint.specs.Files.{points_file, gate_file};
+ghost use Rattle.sweep_checkpoint.specs.Points.{point_size};
+ghost use Rattle.sweep_checkpoint.specs.Gated.{present};
+ghost use Rattle.sweep_checkpoint.specs.Saves.{DuringSave, IsSaved, IsSaveFault};
+
+use crate::files::{gate_of, points_of};
+use crate::layout::{POINT_SIZE, bytes_of};
+use crate::writes::{lengthen, replace_from};
+use shelf_model::{Failed, Shelf, StreamFault};
+use sweep_core::Checkpoint;
+
+// The bytes of a checkpoint in a file.
+const SIZE: u64 = POINT_SIZE as u64;
+
+/// Saves a checkpoint behind those of its step that are gated, in place of what stands there, and gates it.
+///
+/// All that it names has to be sure before. After `Shelf` it is gated or it isn't: load before the next one is saved.
+pub fn save<S: Shelf>(point: &Checkpoint, shelf: &mut S) -> Result<(), StreamFault>
+    ensures content { Told S.tells shelf.old shelf.new
+        (Ran (DuringSave point.now (now (S.world shelf.old))) (S.world shelf.old) (S.world shelf.new)) }
+    ensures ok { OnOk result (IsTrue (S.tells shelf.new)
+        → IsSaved point.now (now (S.world shelf.old)).folder (now (S.world shelf.new)).folder) }
+    ensures err { IfErr result (λ fault. IsTrue (S.tells shelf.new)
+        → IsSaveFault point.now.step (now (S.world shelf.old)).folder (now (S.world shelf.new)).folder fault) }
+    ensures calls { IsTrue (S.tells shelf.new)
+        → (S.world shelf.new).clock ≤ (S.world shelf.old).clock + 14 }
+    ensures faults { OnlyShelf (S.faults shelf.old) (S.faults shelf.new) result }
+{
+    let count = shelf.len(gate_of(point.step))?;
+    let size = shelf.len(points_of(point.step))?;
+    if size / SIZE < count {
+        return Err(StreamFault::Damaged {
+            file: points_of(point.step),
+            at: SIZE * count.saturating_sub(1),
+        });
+    }
+    put_behind(point, count, shelf)?;
+    Ok(())
+}
+
+// Puts a checkpoint behind the first ones, of which there are so many, and gates it.
+fn put_behind<S: Shelf>(point: &Checkpoint, count: u64, shelf: &mut S) -> Result<(), Failed>
+    requires gated { IsTrue (S.tells shelf.old)
+        → count ≡ length (file (S.world shelf.old) (gate_file point.now.step)).bytes }
+    requires within { IsTrue (S.tells shelf.old)
+        → point_size * count ≤ length (file (S.world shelf.old) (points_file point.now.step)).bytes }
+    requires small { point_size * count ≤ 2 ^ 50 }
+    ensures content { Told S.tells shelf.old shelf.new
+        (Ran (DuringSave point.now (now (S.world shelf.old))) (S.world shelf.old) (S.world shelf.new)) }
+    ensures ok { OnOk result (IsTrue (S.tells shelf.new)
+        → IsSaved point.now (now (S.world shelf.old)).folder (now (S.world shelf.new)).folder) }
+    ensures calls { IsTrue (S.tells shelf.new)
+        → (S.world shelf.new).clock ≤ (S.world shelf.old).clock + 12 }
+    ensures faults { OnlyFolder (S.faults shelf.old) (S.faults shelf.new) result }
+{
+    // The checkpoint has to be sure before its gate: behind an open gate other bytes would count.
+    replace_from(points_of(point.step), SIZE * count, &bytes_of(point), shelf)?;
+    lengthen(gate_of(point.step), count, shelf)
+}
