@@ -1,6 +1,6 @@
 -- Calls within a turn, one behind the other: what they leave and cost together.
 use Rattle.std.proofs.Common.{◌≡◌, ℕ, ◌+◌, ◌^◌, ◌≤◌, ◌∙◌, Bool, List, refl, subst, sym, ap, inl, inr, arith}
-use Rattle.std.specs.Prelude.{Result, Ok, Err, IsErrAnd, IfErr, OnOk, IsErrOf, IsTrue, ◌⊎◌, ◌≢◌}
+use Rattle.std.specs.Prelude.{Result, Ok, Err, IsErrAnd, IfErr, OnOk, IsErrOf, IsTrue, ◌⊎◌}
 use Rattle.shelf_model.specs.declared.file_no.FileNo.{FileNo}
 use Rattle.shelf_model.specs.declared.sort_fault.SortFault.{SortFault}
 use Rattle.shelf_model.specs.declared.sort_fault.SortFault.TheVariants.{Shelf, Damaged, RunsSpent}
@@ -26,7 +26,6 @@ use Rattle.top_down_sweep.specs.declared.machine.Machine.{Machine}
 use Rattle.top_down_sweep.specs.declared.ask.Ask.{Ask}
 use Rattle.top_down_sweep.specs.declared.place.Place.{Place}
 use Rattle.top_down_sweep.specs.declared.sweep.TopDownSweep.{TopDownSweep}
-use Rattle.node_reading.specs.Reading.{IsFaultOf}
 use Rattle.top_down_sweep.specs.Sweeps.{files_in, task_in, parts_of, IsServed, machine_accounts, Refuses, Refused}
 use Rattle.sweep_core.specs.Sweeps.{IsNoDamage}
 use Rattle.top_down_sweep.specs.declared.operand.Operands.{Operands}
@@ -50,21 +49,10 @@ pub refused_spent : {O T : Type 0} (s : TopDownSweep O) (result : Result T SortF
 refused_spent s result refused spent =
     subst (λ (r : Result _ SortFault). IfErr r (Refused s)) spent refused
 
--- a refusal
-abbrev pub err : {T : Type 0} → SortFault → Result T SortFault
-err e = Err e
-
 -- what holds after a call holds where it succeeded
 pub on_ok : {T : Type 0} {P : Type 0} (result : Result T SortFault) → P → OnOk result P
 on_ok (Ok x) p = p
 on_ok (Err e) p = tt
-
--- damage in a file that is read
-pub damage_refuses : (q : Machine) (e : SortFault) → e ≢ Shelf → IsFaultOf q.operands.first.file e
-    → Refuses q e
-damage_refuses q Shelf other damage = tt
-damage_refuses q (Damaged f at) other damage = inl (inl damage)
-damage_refuses q RunsSpent other damage = absurd damage
 
 -- no damage is said
 no_damage : (q : Machine) (world : World) (e : SortFault) → IsNoDamage e → IsMachineDamage q world e
@@ -185,36 +173,6 @@ module _ {S : Type 0} (tells : S → Bool) (world : S → World) (counts : S →
   then_ok m n a b most parts s t u p q r one two x calls more first second =
       does_ok most parts s u p r two x (then_more m n a b most parts s t u p q r one two calls more
       first second)
-
-  -- a refusal where no call failed
-  pub does_refused : {A B : Type 0} (m a : ℕ) (s t : S) (p q : Machine)
-      (result : Result A SortFault) (e : SortFault) → e ≢ Shelf → Refuses q e
-      → (IsTrue (tells t) → IsMachineDamage q (world t) e)
-      → Does tells world counts m a s t p q result
-      → Does tells world counts m a s t p q (err {T = B} e)
-  does_refused m a s t p q result e other why damage d = record {
-    leaves = record {
-      made = d.leaves.made;
-      making = d.leaves.making;
-      step_is = d.leaves.step_is;
-      later = d.leaves.later;
-      content = d.leaves.content;
-      calls = d.leaves.calls;
-      spent = d.leaves.spent;
-      faults = record {
-        later = d.leaves.faults.later;
-        cause = λ shelf. absurd (other (err_is shelf));
-        say_is = d.leaves.faults.say_is;
-        text_is = d.leaves.faults.text_is;
-      };
-    };
-    same = d.same;
-    refused = why;
-    damage = damage;
-  }
-    where
-      err_is : {X : Type 0} → IsErrOf (err {T = X} e) Shelf → e ≡ Shelf
-      err_is is = cc
 
   -- a write to the two files that are made
   pub own_both : (inner ends : FileNo) (step next n : ℕ) (s t : S)

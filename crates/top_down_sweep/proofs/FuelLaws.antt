@@ -1,7 +1,6 @@
 -- Each ask that is taken with effect leaves fewer behind it.
 use Rattle.std.proofs.Common.{eqb, ◌&&◌, tests, ◌≡◌, ◌≢◌, ℕ, ◌+◌, ◌*◌, ◌^◌, ◌<◌, ◌≤◌, ◌∙◌, Bool, true, false, List, [], ◌∷◌, length, refl, sym, subst, ap, arith}
 use Rattle.std.specs.Prelude.{Option, Some, None, All, IfSome, Result, Ok, Err, IfOk, OnOk, zero, suc}
-use Rattle.std.specs.Option.{option_eq}
 use Rattle.std.specs.Ordering.{nat_cmp, ordering_then, is_lt, MatchOrdering}
 use Rattle.std.specs.Cmp.Lexicographic.{slice_cmp}
 use Rattle.std.specs.declared.cmp.Ordering.{Ordering}
@@ -220,13 +219,19 @@ handle_falls old mid new s asking is rest last load falls =
     rest in
     (omega (arith, after), omega (arith, before, after, behind, nodes, load, falls))
 
+pub fewer_waits : (old new : Machine) (result : Result Unit SortFault)
+    → OnOk result (held old.queue ≡ held new.queue + 1)
+    → OnOk result (held new.queue ≤ held old.queue + 1)
+fewer_waits old new (Err e) fewer = tt
+fewer_waits old new (Ok u) fewer = omega (arith, fewer)
+
 pub no_more_waits : (old new : Machine) (result : Result Unit SortFault)
     → OnOk result (held new.queue ≡ held old.queue)
     → OnOk result (held new.queue ≤ held old.queue + 1)
 no_more_waits old new (Err e) same = tt
 no_more_waits old new (Ok u) same = omega (arith, same)
 
--- what a test of the last ask tells
+-- what a test of two asks tells
 abbrev same_pair : Member → Member → Bool
 same_pair x y = eqb x.low y.low && eqb x.high y.high
 
@@ -241,7 +246,7 @@ pair_low x y same = eqb-true x.low y.low (and_parts (eqb x.low y.low) (eqb x.hig
 pair_high : (x y : Member) → same_pair x y ≡ true → x.high ≡ y.high
 pair_high x y same = eqb-true x.high y.high (and_parts (eqb x.low y.low) (eqb x.high y.high) same).1
 
-alike : (x y : Ask) → same_asks x y ≡ true → x ≡ y
+pub alike : (x y : Ask) → same_asks x y ≡ true → x ≡ y
 alike x y same =
     let first : Bool = same_pair x.members.first y.members.first in
     let second : Bool = same_pair x.members.second y.members.second in
@@ -282,16 +287,12 @@ itself x = λ i. own_number x.key i && (((own_number x.members.first.low i && ow
     (own_number x.members.third.low i && own_number x.members.third.high i))) && own_number
     x.asker i)
 
-pub last_is : (last : Option Ask) (a : Ask) (found : Option Ask) → found ≡ last
-    → option_eq same_asks found (Some a) ≡ true → last ≡ Some a
-last_is last a None is same = absurd (cc)
-last_is last a (Some x) is same = sym is ∙ ap Some (alike x a same)
-
-pub last_differs : (last : Option Ask) (a : Ask) (found : Option Ask) → found ≡ last
-    → option_eq same_asks found (Some a) ≡ false → last ≢ Some a
-last_differs last a found is other same =
-    let here : option_eq same_asks (Some a) (Some a) ≡ false =
-    subst (λ o. option_eq same_asks o (Some a) ≡ false) (is ∙ same) other in
+-- one that differs in a word is another one
+pub differ_in : (last : Option Ask) (x y a : Ask) → last ≡ Some x → y ≡ x → same_asks y a ≡ false
+    → last ≢ Some a
+differ_in last x y a is same other found =
+    let here : same_asks a a ≡ false = subst (λ o. IfSome o (λ z. same_asks z a ≡ false))
+    (sym is ∙ found) (subst (λ z. same_asks z a ≡ false) same other) in
     let no : true ≡ false = sym (itself a) ∙ here in
     absurd (cc)
 

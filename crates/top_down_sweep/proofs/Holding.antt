@@ -1,5 +1,5 @@
 -- What waits, and what was read of the operands, from call to call.
-use Rattle.std.proofs.Common.{◌≡◌, ℕ, ◌≤◌, ◌<◌, ◌∙◌, Bool, true, false, List, [], ◌∷◌, All, length, refl, sym, subst, ap, inl, inr, arith}
+use Rattle.std.proofs.Common.{◌≡◌, ℕ, ◌≤◌, ◌<◌, ◌∙◌, Bool, true, false, List, [], ◌∷◌, All, refl, sym, subst, ap, inl, inr, arith}
 use Rattle.std.specs.Prelude.{◌⊎◌, Option, Some, None, Result, Ok, Err, IfSome, IfOk, IfErr, OnOk, IsTrue, get_or, ◌||◌}
 use Rattle.std.specs.List.Sorted.{IsSorted}
 use Rattle.std.specs.Ordering.{nat_cmp, ordering_then, is_lt, MatchOrdering}
@@ -9,7 +9,7 @@ use Rattle.std.specs.Cmp.{IsTotalOrder, IsStrictWeakOrder}
 use Rattle.std.proofs.lemmas.Cmp.{ranked, then_total, on_total, nat_cmp_total}
 use Rattle.std.proofs.lemmas.List.MinMax.{ranks_by}
 use Rattle.std.proofs.lemmas.List.Elements.{All-tail, All-cons}
-use Rattle.std.proofs.lemmas.List.Sorted.{All-permutation, length_permutation}
+use Rattle.std.proofs.lemmas.List.Sorted.{All-permutation}
 use Rattle.rec_words.specs.Words.{level_of}
 use Rattle.rec_words.specs.declared.node.Node.{Node}
 use Rattle.shelf_model.specs.declared.file_no.FileNo.{FileNo}
@@ -39,14 +39,11 @@ use Rattle.top_down_sweep.specs.declared.ask.Member.{Member}
 use Rattle.top_down_sweep.specs.declared.operand.Operand.{Operand}
 use Rattle.top_down_sweep.specs.declared.operand.Operands.{Operands}
 use Rattle.top_down_sweep.specs.declared.place.Place.{Place}
-use Rattle.top_down_sweep.specs.declared.place.Asking.{Asking}
-use Rattle.top_down_sweep.specs.declared.place.Phase.TheVariants as phases
 use Rattle.top_down_sweep.specs.declared.machine.Machine.{Machine}
 use Rattle.top_down_sweep.specs.declared.start.Files.{Files}
 use Rattle.top_down_sweep.specs.Items.{ask_words, IsAsk, member_cmp, members_cmp, ask_cmp}
-use Rattle.top_down_sweep.specs.Sweeps.{files_in, IsMade, IsServed, IsOperand, AreOperands}
-use Rattle.top_down_sweep.specs.Soundness.{is_none, is_sound}
-use Rattle.top_down_sweep.specs.Waiting.{Waits, is_first_at, IsReadTo, AreReadTo, Fits, IsApart, AreApart, AreReading, HasNoHands, Holds, HoldsSome, HoldsFirst}
+use Rattle.top_down_sweep.specs.Sweeps.{files_in, IsMade, IsServed, IsOperand, AreOperands, IsTakenTo}
+use Rattle.top_down_sweep.specs.Waiting.{Waits, IsReadTo, AreReadTo, Fits, IsApart, AreApart, AreReading, HasNoHands, Holds, HoldsSome, HoldsFirst}
 use Rattle.top_down_sweep.specs.Members.{is_node}
 use Rattle.top_down_sweep.specs.Damage.{IsReadDamage, IsMachineDamage}
 use Rattle.top_down_sweep.specs.Calls.{HoldsAt, HoldsFirstAt}
@@ -101,12 +98,12 @@ operands_still m old new are same apart reading = record {
 }
 
 -- arcs were put
-pub holds_written : (most n : ℕ) (m q : Machine) (old new : World) (asks : List Ask)
+pub holds_written : (n : ℕ) (m q : Machine) (old new : World) (asks : List Ask)
     → q ≡ record m { writer = q.writer; has_one = q.has_one } → files_in q ≡ files_in m
     → AreOperands m.place.variables m.operands
-    → WroteBoth n (inner_file m.writer) (ends_file m.writer) old new → Holds most m old asks
-    → Holds most q new asks
-holds_written most n m q old new asks rest files are wrote hold =
+    → WroteBoth n (inner_file m.writer) (ends_file m.writer) old new → Holds m old asks
+    → Holds q new asks
+holds_written n m q old new asks rest files are wrote hold =
     let same : files_in (record m { writer = q.writer; has_one = q.has_one }) ≡ files_in m =
     ap files_in (sym rest) ∙ files in
     let during = ran_end old new (DuringWrites (inner_file m.writer) (ends_file m.writer) (now old))
@@ -115,10 +112,9 @@ holds_written most n m q old new asks rest files are wrote hold =
     → (file new f).bytes ≡ (file old f).bytes =
     λ f run. ap (λ (x : File). x.bytes) (during.others f (λ is. hold.no_run f (inl is) run)
     (λ is. hold.no_run f (inr is) run)) in
-    subst (λ (p : Machine). Holds most p new asks) (sym rest) (record {
+    subst (λ (p : Machine). Holds p new asks) (sym rest) (record {
       wait = queue_kept IsAsk ask_words ask_cmp m.queue old new asks unwritten hold.wait;
       fit = hold.fit;
-      few = hold.few;
       no_run = λ f made. hold.no_run f (subst (λ fs. IsMade fs f) same made);
       reading = λ apart. (let before : AreApart (files_in m) m.parts.step =
           subst (λ fs. AreApart fs m.parts.step) same apart in
@@ -126,49 +122,19 @@ holds_written most n m q old new asks rest files are wrote hold =
           (hold.reading before));
     })
 
--- a tuple got a number, when none of the asks waits that waited while no tuple had one
-pub holds_numbered : (m q : Machine) (place : Place) (world : World) (asks : List Ask)
-    → q ≡ record m { place = place } → is_first_at place.phase ≡ false
-    → Holds 0 m world asks → Holds 0 q world asks
-holds_numbered m q place world asks rest later hold = subst (λ (p : Machine). Holds 0 p world asks)
-    (sym rest) (record {
-      wait = hold.wait;
-      fit = subst (λ b. All (Fits b m.operands) asks) (sym later) (by (is_first_at m.place.phase) refl);
-      few = λ first. (let no : true ≡ false = sym first ∙ later in absurd (cc));
-      no_run = hold.no_run;
-      reading = hold.reading;
-    })
-  where
-    by : (b : Bool) → is_first_at m.place.phase ≡ b → All (Fits false m.operands) asks
-    by true is = (let none = hold.few is in λ k d within. absurd (omega (arith, none, within)))
-    by false is = subst (λ b. All (Fits b m.operands) asks) is hold.fit
-
--- no more asks wait than more
-pub holds_more : (m : Machine) (world : World) → HoldsSome 0 m world → HoldsSome 1 m world
-holds_more m world (asks, hold) = (
-  asks,
-  record {
-    wait = hold.wait;
-    fit = hold.fit;
-    few = λ first. (let none = hold.few first in omega (arith, none));
-    no_run = hold.no_run;
-    reading = hold.reading;
-  },
-)
-
--- once tuples have numbers it doesn't matter how many wait
-pub holds_later : (most : ℕ) (m : Machine) (world : World) → is_first_at m.place.phase ≡ false
-    → HoldsSome 1 m world → HoldsSome most m world
-holds_later most m world later (asks, hold) = (
-  asks,
-  record {
-    wait = hold.wait;
-    fit = hold.fit;
-    few = λ first. (let no : true ≡ false = sym first ∙ later in absurd (cc));
-    no_run = hold.no_run;
-    reading = hold.reading;
-  },
-)
+-- another place is known
+pub holds_placed : (m q : Machine) (place : Place) (world : World) → q ≡ record m { place = place }
+    → HoldsSome m world → HoldsSome q world
+holds_placed m q place world rest (asks, hold) =
+    subst (λ (p : Machine). HoldsSome p world) (sym rest) (
+      asks,
+      record {
+        wait = hold.wait;
+        fit = hold.fit;
+        no_run = hold.no_run;
+        reading = hold.reading;
+      },
+    )
 
 -- runs of the queue in files that aren't made
 pub runs_apart : (m : Machine) (q : LevelQueue Ask) (after : Parts) → IsServed m
@@ -189,9 +155,9 @@ module _ (m : Machine) (q : LevelQueue Ask) (after : Parts) (old new : World) (s
     (spilled : Spilled m.parts after old new) (took : Took m.parts after)
     (runs : (f : FileNo) → queues.IsRunOf q f
     → queues.IsRunOf m.queue f ⊎ IsTaken m.parts after f) where
-  still_read : (most : ℕ) (asks : List Ask) → Holds most m old asks
+  still_read : (asks : List Ask) → Holds m old asks
       → AreApart (files_in m) after.step → AreReading m.operands new
-  still_read most asks hold apart =
+  still_read asks hold apart =
       let before : AreApart (files_in m) m.parts.step = subst (AreApart (files_in m)) took.step_is
       apart in
       operands_still m old new are (apart_spilled m after old new (serves_past m.parts m.queue served.serves) spilled)
@@ -199,45 +165,39 @@ module _ (m : Machine) (q : LevelQueue Ask) (after : Parts) (old new : World) (s
 
   -- the first ask was taken
   pub holds_taken : (found : Option Ask) (asks : List Ask) → Gives (Waits q new) asks (Ok found)
-      → Holds 1 m old asks → HoldsSome 0 (record m { queue = q; parts = after }) new
+      → Holds m old asks → HoldsSome (record m { queue = q; parts = after }) new
   holds_taken None asks given hold = (
     [],
     record {
       wait = subst (Waits q new) given.0 given.1;
       fit = λ k d within. absurd (omega (arith, within));
-      few = λ first. omega arith;
       no_run = runs_apart m q after served runs hold.no_run;
-      reading = still_read 1 asks hold;
+      reading = still_read asks hold;
     },
   )
   holds_taken (Some a) asks given hold = (
     given.0,
     record {
       wait = given.2;
-      fit = All-tail (Fits (is_first_at m.place.phase) m.operands) a given.0
-          (subst (All (Fits (is_first_at m.place.phase) m.operands)) given.1 hold.fit);
-      few = λ first. (let few = hold.few first in let long : length asks ≡ length (a ∷ given.0) = ap
-          length given.1 in omega (arith, few, long));
+      fit = All-tail (Fits m.operands) a given.0 (subst (All (Fits m.operands)) given.1 hold.fit);
       no_run = runs_apart m q after served runs hold.no_run;
-      reading = still_read 1 asks hold;
+      reading = still_read asks hold;
     },
   )
 
   -- an ask was put
   pub holds_put : (a : Ask) (result : Result Unit SortFault) (asks : List Ask)
-      → Joins (Waits q new) a asks result → Fits (is_first_at m.place.phase) m.operands a
-      → Holds 0 m old asks → OnOk result (HoldsSome 1 (record m { queue = q; parts = after }) new)
+      → Joins (Waits q new) a asks result → Fits m.operands a → Holds m old asks
+      → OnOk result (HoldsSome (record m { queue = q; parts = after }) new)
   holds_put a (Err e) asks joined fits hold = tt
   holds_put a (Ok u) asks joined fits hold = (
     joined.0,
     record {
       wait = joined.2;
-      fit = All-permutation (Fits (is_first_at m.place.phase) m.operands) (a ∷ asks) joined.0
-          joined.1 (All-cons (Fits (is_first_at m.place.phase) m.operands) a asks fits hold.fit);
-      few = λ first. (let few = hold.few first in let long : length joined.0 ≡ length (a ∷ asks) =
-          length_permutation (a ∷ asks) joined.0 joined.1 in omega (arith, few, long));
+      fit = All-permutation (Fits m.operands) (a ∷ asks) joined.0 joined.1
+          (All-cons (Fits m.operands) a asks fits hold.fit);
       no_run = runs_apart m q after served runs hold.no_run;
-      reading = still_read 0 asks hold;
+      reading = still_read asks hold;
     },
   )
 
@@ -245,15 +205,14 @@ module _ (m : Machine) (q : LevelQueue Ask) (after : Parts) (old new : World) (s
 pub holds_shown : (m : Machine) (q : LevelQueue Ask) (old new : World) (found : Option Ask)
     (asks : List Ask) → AreOperands m.place.variables m.operands
     → Shows (Waits q new) asks (Ok found) → Ran (Stays (now old)) old new
-    → ((f : FileNo) → queues.IsRunOf q f → queues.IsRunOf m.queue f) → Holds 1 m old asks
+    → ((f : FileNo) → queues.IsRunOf q f → queues.IsRunOf m.queue f) → Holds m old asks
     → IfSome found (λ a. HoldsFirst a (record m { queue = q }) new)
 holds_shown m q old new None asks are shown ran runs hold = tt
 holds_shown m q old new (Some a) asks are shown ran runs hold = (
   shown.0,
   record {
     wait = subst (Waits q new) shown.1 shown.2;
-    fit = subst (All (Fits (is_first_at m.place.phase) m.operands)) shown.1 hold.fit;
-    few = λ first. subst (λ (xs : List Ask). length xs ≤ 1) shown.1 (hold.few first);
+    fit = subst (All (Fits m.operands)) shown.1 hold.fit;
     no_run = λ f made run. hold.no_run f made (runs f run);
     reading = λ apart. operands_still m old new are (λ f _. looked_same old new ran f) apart
         (hold.reading apart);
@@ -282,6 +241,20 @@ key_from a b none = by (nat_cmp b.key a.key) (ranked b.key a.key (nat_cmp b.key 
     by Equal same none = omega (arith, same)
     by Greater above none = omega (arith, above)
 
+-- an ask of a deeper level than the last one taken comes no earlier
+pub deeper_no_less : (last : Option Ask) (level : ℕ) (a : Ask) → IsTakenTo level last
+    → level < level_of a.key → queues.IsNoLess ask_cmp last a
+deeper_no_less None level a taken deeper = tt
+deeper_no_less (Some l) level a taken deeper =
+    by (nat_cmp a.key l.key) (ranked a.key l.key (nat_cmp a.key l.key) refl)
+  where
+    by : (o : Ordering) → MatchOrdering o (a.key < l.key) (a.key ≡ l.key) (l.key < a.key)
+        → is_lt (ordering_then o (ordering_then (members_cmp a.members l.members)
+        (nat_cmp a.asker l.asker))) ≡ false
+    by Less below = absurd (omega (arith, below, taken, deeper))
+    by Equal same = absurd (omega (arith, same, taken, deeper))
+    by Greater above = refl
+
 -- no key of those that wait is less than the first one's
 keys_from : (a : Ask) (rest : List Ask) → IsSorted ask_cmp (a ∷ rest)
     → All (λ (b : Ask). a.key ≤ b.key) (a ∷ rest)
@@ -304,7 +277,7 @@ pub holds_read : (m : Machine) (o : Operands) (old new : World) (a : Ask)
     → IsReadTo a.key o.second → IsReadTo a.key o.third
     → Ran (Stays (now old)) old new → (AreApart (files_in m) m.parts.step
     → AreReading m.operands old → AreReading o new)
-    → HoldsFirst a m old → HoldsSome 1 (record m { operands = o }) new
+    → HoldsFirst a m old → HoldsSome (record m { operands = o }) new
 holds_read m o old new a files first second third ran on (rest, hold) =
     let keys = keys_from a rest hold.wait.sorter.ascends in (
       a ∷ rest,
@@ -312,12 +285,10 @@ holds_read m o old new a files first second third ran on (rest, hold) =
         wait = queue_kept IsAsk ask_words ask_cmp m.queue old new (a ∷ rest)
             (λ f run. looked_same old new ran f) hold.wait;
         fit = λ k d within. record {
-          sound = (hold.fit k d within).sound;
           first = read_to o.first a.key _ (keys k d within) first;
           second = read_to o.second a.key _ (keys k d within) second;
           third = read_to o.third a.key _ (keys k d within) third;
         };
-        few = hold.few;
         no_run = λ f made. hold.no_run f (subst (λ fs. IsMade fs f) files made);
         reading = λ apart. (let before : AreApart (files_in m) m.parts.step =
             subst (λ fs. AreApart fs m.parts.step) files apart in on before (hold.reading before));
@@ -326,11 +297,11 @@ holds_read m o old new a files first second third ran on (rest, hold) =
 
 -- the first ask that waits fits
 pub first_fits : (a : Ask) (m : Machine) (world : World) → HoldsFirst a m world
-    → Fits (is_first_at m.place.phase) m.operands a
+    → Fits m.operands a
 first_fits a m world (rest, hold) = hold.fit 0 a (omega arith)
 
 pub first_holds : (a : Ask) (m : Machine) (world : World) → HoldsFirst a m world
-    → HoldsSome 1 m world
+    → HoldsSome m world
 first_holds a m world (rest, hold) = (a ∷ rest, hold)
 
 -- what follows of each refusal
@@ -357,7 +328,7 @@ module _ {S : Type 0} (tells : S → Bool) (world : S → World) where
       → Told tells s t (Ran (Stays (now (world s))) (world s) (world t))
       → (IsTrue (tells t) → (asks : List Ask) → Waits m.queue (world s) asks
       → Shows (Waits q (world t)) asks result)
-      → ((f : FileNo) → queues.IsRunOf q f → queues.IsRunOf m.queue f) → HoldsAt tells world 1 s m
+      → ((f : FileNo) → queues.IsRunOf q f → queues.IsRunOf m.queue f) → HoldsAt tells world s m
       → IfOk result (λ found. IfSome found (HoldsFirstAt tells world t (record m { queue = q })))
   shown_at s t m q (Ok None) are did list runs holds = tt
   shown_at s t m q (Ok (Some a)) are did list runs holds = λ told.
@@ -373,7 +344,7 @@ module _ {S : Type 0} (tells : S → Bool) (world : S → World) where
       → ((f : FileNo) → queues.IsRunOf q f → queues.IsRunOf m.queue f ⊎ IsTaken m.parts after f)
       → (IsTrue (tells t) → (asks : List Ask) → Waits m.queue (world s) asks
       → Gives (Waits q (world t)) asks (Ok found))
-      → HoldsAt tells world 1 s m → HoldsAt tells world 0 t (record m { queue = q; parts = after })
+      → HoldsAt tells world s m → HoldsAt tells world t (record m { queue = q; parts = after })
   taken_at s t m q after found served are did took runs list holds = λ told.
       let (asks, hold) = holds (did.before told) in
       holds_taken m q after (world s) (world t) served are (did.did told) took runs found asks
@@ -386,55 +357,47 @@ module _ {S : Type 0} (tells : S → Bool) (world : S → World) where
       → ((f : FileNo) → queues.IsRunOf q f → queues.IsRunOf m.queue f ⊎ IsTaken m.parts after f)
       → (IsTrue (tells t) → (asks : List Ask) → Waits m.queue (world s) asks
       → Joins (Waits q (world t)) a asks result)
-      → (IsTrue (tells s) → Fits (is_first_at m.place.phase) m.operands a)
-      → HoldsAt tells world 0 s m → OnOk result
-      (HoldsAt tells world 1 t (record m { queue = q; parts = after }))
+      → (IsTrue (tells s) → Fits m.operands a)
+      → HoldsAt tells world s m → OnOk result
+      (HoldsAt tells world t (record m { queue = q; parts = after }))
   put_at s t m q after a result served are did took runs list fits holds = on_told
-      (IsTrue (tells t)) (HoldsSome 1 (record m { queue = q; parts = after }) (world t)) result
+      (IsTrue (tells t)) (HoldsSome (record m { queue = q; parts = after }) (world t)) result
       (λ told.
       let (asks, hold) = holds (did.before told) in
       holds_put m q after (world s) (world t) served are (did.did told) took runs a result asks
       (list told asks hold.wait) (fits (did.before told)) hold)
 
   -- an arc was put
-  pub written_at : (most n : ℕ) (s t : S) (m q : Machine)
+  pub written_at : (n : ℕ) (s t : S) (m q : Machine)
       → q ≡ record m { writer = q.writer; has_one = q.has_one } → files_in q ≡ files_in m → AreOperands m.place.variables m.operands
       → Told tells s t (WroteBoth n (inner_file m.writer) (ends_file m.writer) (world s) (world t))
-      → HoldsAt tells world most s m → HoldsAt tells world most t q
-  written_at most n s t m q rest files are did holds = λ told.
+      → HoldsAt tells world s m → HoldsAt tells world t q
+  written_at n s t m q rest files are did holds = λ told.
       let (asks, hold) = holds (did.before told) in
-      (asks, holds_written most n m q (world s) (world t) asks rest files are (did.did told) hold)
-
-  -- no more asks wait than more
-  pub more_at : (s : S) (m : Machine) → HoldsAt tells world 0 s m → HoldsAt tells world 1 s m
-  more_at s m holds told = holds_more m (world s) (holds told)
+      (asks, holds_written n m q (world s) (world t) asks rest files are (did.did told) hold)
 
   -- a tuple got a number
-  pub numbered_at : (s : S) (m q : Machine) (place : Place) → q ≡ record m { place = place }
-      → is_first_at place.phase ≡ false → HoldsAt tells world 0 s m → HoldsAt tells world 0 s q
-  numbered_at s m q place rest later holds told = let (asks, hold) = holds told in
-      (asks, holds_numbered m q place (world s) asks rest later hold)
+  pub placed_at : (s : S) (m q : Machine) (place : Place) → q ≡ record m { place = place }
+      → HoldsAt tells world s m → HoldsAt tells world s q
+  placed_at s m q place rest holds told = holds_placed m q place (world s) rest (holds told)
 
   pub first_at : (s : S) (m : Machine) (a : Ask) → HoldsFirstAt tells world s m a
-      → HoldsAt tells world 1 s m
+      → HoldsAt tells world s m
   first_at s m a first told = first_holds a m (world s) (first told)
 
 -- an ask that is put again fits
 pub again_fits : (m q : Machine) (a b : Ask) → q ≡ record m { queue = q.queue; parts = q.parts }
-    → a.key < b.key → is_sound (is_first_at m.place.phase) b ≡ true
-    → Fits (is_first_at m.place.phase) m.operands a → Fits (is_first_at q.place.phase) q.operands b
-again_fits m q a b rest later sound fits = subst (λ (p : Machine). Fits (is_first_at p.place.phase)
-    p.operands b) (sym rest) (record {
-      sound = sound;
-      first = read_to m.operands.first a.key b.key (omega (arith, later)) fits.first;
-      second = read_to m.operands.second a.key b.key (omega (arith, later)) fits.second;
-      third = read_to m.operands.third a.key b.key (omega (arith, later)) fits.third;
-    })
+    → a.key < b.key → Fits m.operands a → Fits q.operands b
+again_fits m q a b rest later fits = subst (λ (p : Machine). Fits p.operands b) (sym rest) (record {
+  first = read_to m.operands.first a.key b.key (omega (arith, later)) fits.first;
+  second = read_to m.operands.second a.key b.key (omega (arith, later)) fits.second;
+  third = read_to m.operands.third a.key b.key (omega (arith, later)) fits.third;
+})
 
 -- no operand was read past the level of an ask that fits
-pub read_level : (b : Bool) (o : Operands) (a : Ask) (level : ℕ) → level ≡ level_of a.key
-    → Fits b o a → AreReadTo level o
-read_level b o a level is fits = record {
+pub read_level : (o : Operands) (a : Ask) (level : ℕ) → level ≡ level_of a.key
+    → Fits o a → AreReadTo level o
+read_level o a level is fits = record {
   first = by o.first.hand fits.first;
   second = by
       o.second.hand fits.second;
@@ -447,11 +410,10 @@ read_level b o a level is fits = record {
     by (Some x) read = omega (arith, read, is)
 
 -- an ask of a deeper level fits
-pub deeper_fits : (first : Bool) (o : Operands) (level : ℕ) (b : Ask) → level < level_of b.key
-    → AreReadTo level o → is_sound first b ≡ true → Fits first o b
-deeper_fits first o level b deeper read sound =
+pub deeper_fits : (o : Operands) (level : ℕ) (b : Ask) → level < level_of b.key
+    → AreReadTo level o → Fits o b
+deeper_fits o level b deeper read =
     record {
-      sound = sound;
       first = by o.first.hand read.first;
       second = by o.second.hand
           read.second;
@@ -463,11 +425,9 @@ deeper_fits first o level b deeper read sound =
     by None read = tt
     by (Some x) read = omega (arith, read, deeper)
 
--- where no node is at hand each sound ask fits
-pub fresh_fits : (first : Bool) (o : Operands) (b : Ask) → HasNoHands o → is_sound first b ≡ true
-    → Fits first o b
-fresh_fits first o b none sound = record {
-  sound = sound;
+-- where no node is at hand each ask fits
+pub fresh_fits : (o : Operands) (b : Ask) → HasNoHands o → Fits o b
+fresh_fits o b none = record {
   first = by o.first none.first;
   second = by
       o.second none.second;
@@ -476,33 +436,6 @@ fresh_fits first o b none sound = record {
   where
     by : (x : Operand) → x.hand ≡ None → IsReadTo b.key x
     by x is = subst (λ hand. IfSome hand (λ n. n.uid ≤ b.key)) (sym is) tt
-
--- the first ask of those that wait is sound
-pub never_unsound : (m q : Machine) (a : Ask) (s : Asking) (world : World)
-    → m.place.phase ≡ phases.Asking s → q ≡ record m { queue = q.queue } → HoldsFirst a q world
-    → is_sound (is_none s.last) a ≡ false → ⊥
-never_unsound m q a s world is rest first unsound =
-    let phase : q.place.phase ≡ phases.Asking s = ap (λ (p : Machine). p.place.phase) rest ∙ is in
-    let sound : is_sound (is_none s.last) a ≡ true = subst (λ p. is_sound (is_first_at p) a ≡ true)
-    phase (first_fits a q world first).sound in
-    let no : true ≡ false = sym sound ∙ unsound in
-    absurd (cc)
-
--- the place changes, and as before a tuple has a number or none has
-pub holds_placed : (most : ℕ) (m q : Machine) (place : Place) (world : World)
-    → q ≡ record m { place = place } → is_first_at place.phase ≡ is_first_at m.place.phase
-    → HoldsSome most m world → HoldsSome most q world
-holds_placed most m q place world rest same (asks, hold) =
-    subst (λ (p : Machine). HoldsSome most p world) (sym rest) (
-      asks,
-      record {
-        wait = hold.wait;
-        fit = subst (λ b. All (Fits b m.operands) asks) (sym same) hold.fit;
-        few = λ first. hold.few (sym same ∙ first);
-        no_run = hold.no_run;
-        reading = hold.reading;
-      },
-    )
 
 -- the files stay where one operand's stays
 
@@ -544,7 +477,7 @@ pub first_read : (told : Type 0) (m : Machine) (x : Operand) (a : Ask)
     → OnOk result (IsReadTo a.key x) → (told → IsReading m.operands.first.reader old
     → OnOk result (IsReading x.reader new)) → (told → Ran (Stays (now old)) old new)
     → (told → HoldsFirst a m old) → OnOk result
-    (told → HoldsSome 1 (record m { operands = record m.operands { first = x } }) new)
+    (told → HoldsSome (record m { operands = record m.operands { first = x } }) new)
 first_read told m x a (Err e) old new are same to reads ran first = tt
 first_read told m x a (Ok u) old new are same to reads ran first = λ is.
     let fits = first_fits a m old (first is) in
@@ -596,7 +529,7 @@ pub second_read : (told : Type 0) (m : Machine) (x : Operand) (a : Ask)
     → OnOk result (IsReadTo a.key x) → (told → IsReading m.operands.second.reader old
     → OnOk result (IsReading x.reader new)) → (told → Ran (Stays (now old)) old new)
     → (told → HoldsFirst a m old) → OnOk result
-    (told → HoldsSome 1 (record m { operands = record m.operands { second = x } }) new)
+    (told → HoldsSome (record m { operands = record m.operands { second = x } }) new)
 second_read told m x a (Err e) old new are same to reads ran first = tt
 second_read told m x a (Ok u) old new are same to reads ran first = λ is.
     let fits = first_fits a m old (first is) in
@@ -648,7 +581,7 @@ pub third_read : (told : Type 0) (m : Machine) (x : Operand) (a : Ask)
     → OnOk result (IsReadTo a.key x) → (told → IsReading m.operands.third.reader old
     → OnOk result (IsReading x.reader new)) → (told → Ran (Stays (now old)) old new)
     → (told → HoldsFirst a m old) → OnOk result
-    (told → HoldsSome 1 (record m { operands = record m.operands { third = x } }) new)
+    (told → HoldsSome (record m { operands = record m.operands { third = x } }) new)
 third_read told m x a (Err e) old new are same to reads ran first = tt
 third_read told m x a (Ok u) old new are same to reads ran first = λ is.
     let fits = first_fits a m old (first is) in

@@ -1,7 +1,6 @@
 -- The numbers of a level are no more than the arcs to nodes.
-use Rattle.std.proofs.Common.{◌≡◌, ℕ, ◌≤◌, ◌<◌, ◌+◌, ◌*◌, ◌/◌, Bool, true, false, cond, refl, subst, sym, arith}
-use Rattle.std.specs.Prelude.{Option, Some, None, IfSome, ◌==◌, ◌&&◌, nat_lt}
-use Rattle.std.proofs.lemmas.Bool.{and_parts}
+use Rattle.std.proofs.Common.{◌≡◌, ℕ, ◌≤◌, ◌<◌, ◌+◌, ◌*◌, Bool, true, false, cond, subst, sym, arith}
+use Rattle.std.specs.Prelude.{Option, Some, None, IfSome, ◌==◌}
 use Rattle.rec_words.specs.Words.{level_of, node_word, level_numbers}
 use Rattle.arc_file.specs.declared.writer.ArcWriter.{ArcWriter}
 use Rattle.arc_file.specs.Writers.{inner_count}
@@ -12,21 +11,17 @@ use Rattle.top_down_sweep.specs.declared.place.Numbered.{Numbered}
 use Rattle.top_down_sweep.specs.declared.place.Asking.{Asking}
 use Rattle.top_down_sweep.specs.declared.place.Phase.{Phase}
 use Rattle.top_down_sweep.specs.declared.place.Phase.TheVariants as phases
-use Rattle.top_down_sweep.specs.Soundness.{is_none, is_sound, is_asker, nobody, next_number, next_numbered}
+use Rattle.top_down_sweep.specs.Soundness.{is_due, is_asker, next_number, next_numbered}
 use Rattle.top_down_sweep.specs.Sweeps.{IsPhaseAt}
 
--- a node asks, unless it is the first ask
-asker_there : (b c d : Bool) → cond b (true && c) (false && d) ≡ true → b ≡ true
-asker_there true c d is = refl
-asker_there false c d is = is
-
 -- the next number is at most one more, and then an arc to a node is put
-next_fits : (last : Option Numbered) (a : Ask) (count : ℕ) → is_sound (is_none last) a ≡ true → IfSome last (λ x. x.number ≤ count)
+next_fits : (last : Option Numbered) (a : Ask) (count : ℕ) → is_due last a ≡ true
+    → IfSome last (λ x. x.number ≤ count)
     → next_number last (level_of a.key) ≤ count + cond (is_asker a.asker) 1 0
-next_fits None a count sound few = omega arith
-next_fits (Some x) a count sound few =
-    let there : is_asker a.asker ≡ true = asker_there _ (nat_lt (level_of (a.asker / 2)) (level_of a.key)) (a.asker == nobody) (and_parts _ _ sound).1 in
-    subst (λ b. next_number (Some x) (level_of a.key) ≤ count + cond b 1 0) (sym there) (by (level_of x.key == level_of a.key))
+next_fits None a count due few = omega arith
+next_fits (Some x) a count due few =
+    subst (λ b. next_number (Some x) (level_of a.key) ≤ count + cond b 1 0) (sym due)
+    (by (level_of x.key == level_of a.key))
   where
     by : (b : Bool) → cond b (x.number + 1) 0 ≤ count + 1
     by true = omega (arith, few)
@@ -37,10 +32,11 @@ pub last_fits : (w : ArcWriter) (taken : Option Ask) (phase : Phase) (s : Asking
 last_fits w taken phase s is at = subst (IsPhaseAt w taken) is at
 
 -- once the tuple of an ask is numbered
-pub number_fits : (w v : ArcWriter) (taken : Option Ask) (phase : Phase) (s : Asking) (a : Ask) → phase ≡ phases.Asking s → IsPhaseAt w taken phase → is_sound (is_none s.last) a ≡ true
+pub number_fits : (w v : ArcWriter) (taken : Option Ask) (phase : Phase) (s : Asking) (a : Ask)
+    → phase ≡ phases.Asking s → IsPhaseAt w taken phase → is_due s.last a ≡ true
     → inner_count v ≡ inner_count w + cond (is_asker a.asker) 1 0 → (next_numbered s a).number ≤ inner_count v
-number_fits w v taken phase s a is at sound count =
-    let fits = next_fits s.last a (inner_count w) sound (last_fits w taken phase s is at) in
+number_fits w v taken phase s a is at due count =
+    let fits = next_fits s.last a (inner_count w) due (last_fits w taken phase s is at) in
     omega (arith, fits, count)
 
 -- the level of an identifier

@@ -1,6 +1,6 @@
 -- The arcs that were put are in the order of their files.
 use Rattle.std.proofs.Common.{◌≡◌, ℕ, ◌+◌, ◌-◌, ◌*◌, ◌/◌, ◌%◌, ◌^◌, ◌≤◌, ◌<◌, ◌∙◌, Bool, true, false, cond, List, [], ◌∷◌, ◌++◌, All, length, refl, sym, subst, ap, inl, inr, arith, append-nil}
-use Rattle.std.specs.Prelude.{Option, Some, None, IfSome, get_or, ◌==◌, ◌&&◌, not, nat_lt}
+use Rattle.std.specs.Prelude.{Option, Some, None, IfSome, get_or, ◌==◌, nat_lt}
 use Rattle.std.specs.List.Sorted.{IsSorted}
 use Rattle.std.specs.Cmp.{IsStrictWeakOrder}
 use Rattle.std.specs.Ordering.{nat_cmp, bool_cmp, ordering_then, is_lt, MatchOrdering}
@@ -11,7 +11,7 @@ use Rattle.std.proofs.lemmas.Cmp.{ranked}
 use Rattle.std.proofs.lemmas.List.Elements.{All-push, All-weaker}
 use Rattle.std.proofs.lemmas.List.Kept.{IsSortedBy-push}
 use Rattle.std.proofs.lemmas.List.MinMax.{ranks_by}
-use Rattle.std.proofs.lemmas.Bool.{and_parts, eqb-true}
+use Rattle.std.proofs.lemmas.Bool.{eqb-true}
 use Rattle.rec_words.specs.Words.{level_of, node_word, level_numbers, terminal, IsNodeWord, IsTerminal}
 use Rattle.shelf_model.specs.World.{World}
 use Rattle.arc_file.specs.declared.arc.Arc.{Arc}
@@ -237,23 +237,19 @@ put_taken (Some x) taken a inner ends none put = record {
 }
 
 -- a node asks for a deeper one
-asks_deeper : (w key : ℕ) (first : Bool) → asks_above w key first ≡ true → is_asker w ≡ true
-    → level_of (w / 2) < level_of key
-asks_deeper w key first above is =
-    let both : (not first && nat_lt (level_of (w / 2)) (level_of key)) ≡ true =
-    sym (ap (λ b. cond b (not first && nat_lt (level_of (w / 2)) (level_of key))
-    (first && (w == nobody))) is) ∙ above in
+asks_deeper : (w key : ℕ) → asks_above w key ≡ true → is_asker w ≡ true → level_of (w / 2) < level_of key
+asks_deeper w key above is =
     let deeper : nat_lt (level_of (w / 2)) (level_of key) ≡ true =
-    (and_parts (not first) (nat_lt (level_of (w / 2)) (level_of key)) both).1 in
+    sym (ap (λ b. cond b (nat_lt (level_of (w / 2)) (level_of key)) (w == nobody)) is) ∙ above in
     grind (arith, nat_tests)
 
 -- it was answered by a known number
-pub put_known : (last : Option Numbered) (taken : Option Ask) (a : Ask) (first : Bool) (uid : ℕ)
+pub put_known : (last : Option Numbered) (taken : Option Ask) (a : Ask) (uid : ℕ)
     (inner ends : List Arc) → IfSome last (λ x. x.number < level_numbers) → IsNodeWord a.key
-    → asks_above a.asker a.key first ≡ true → IsNoLess ask_cmp taken a → IsKnown last a uid
+    → asks_above a.asker a.key ≡ true → IsNoLess ask_cmp taken a → IsKnown last a uid
     → ArePut last taken inner ends
     → ArePut last (Some a) (inner ++ answer_arcs a.asker uid) ends
-put_known last taken a first uid inner ends few node above none is put =
+put_known last taken a uid inner ends few node above none is put =
     let x : Numbered = is.numbered in
     let here : ArePutTo x taken inner ends = subst (λ o. ArePut o taken inner ends) is.last_is put in
     let small : x.number < level_numbers = subst (λ o. IfSome o (λ y. y.number < level_numbers)) is.last_is few in
@@ -266,7 +262,7 @@ put_known last taken a first uid inner ends few node above none is put =
     (none_before x taken a inner ends none here)) in
     let answered : AreInnerTo (identifier x) a.asker (inner ++ answer_arcs a.asker (identifier x)) =
     answered_to (identifier x) a.asker inner (omega (arith, level, node))
-    (λ asks. subst (λ l. level_of (a.asker / 2) < l) (sym level) (asks_deeper a.asker a.key first above asks))
+    (λ asks. subst (λ l. level_of (a.asker / 2) < l) (sym level) (asks_deeper a.asker a.key above asks))
     (inner_later (identifier x) here.asker a.asker inner upto here.inner_are) in
     let after : ArePutTo x (Some a) (inner ++ answer_arcs a.asker (identifier x)) ends = record {
       last = a;
@@ -295,13 +291,13 @@ number_grows x a few upto = by (level_of x.key == level_of a.key) refl
 
 -- its tuple got a number, and its sides are served
 pub put_new : (s : Asking) (taken : Option Ask) (a : Ask) (uid : ℕ) (low high : Goal) (inner ends : List Arc)
-    → IfSome s.last (λ x. x.number < level_numbers) → IsNodeWord a.key → (first : Bool)
-    → asks_above a.asker a.key first ≡ true → IsNoLess ask_cmp taken a
+    → IfSome s.last (λ x. x.number < level_numbers) → IsNodeWord a.key
+    → asks_above a.asker a.key ≡ true → IsNoLess ask_cmp taken a
     → uid ≡ identifier (next_numbered s a) → level_of uid ≡ level_of a.key
     → ArePut s.last taken inner ends
     → ArePut (Some (next_numbered s a)) (Some a) (inner ++ answer_arcs a.asker (identifier (next_numbered s a)))
     ((ends ++ side_arcs uid false low) ++ side_arcs uid true high)
-put_new s taken a uid low high inner ends few node first above none uid_is level put =
+put_new s taken a uid low high inner ends few node above none uid_is level put =
     let next : ℕ = identifier (next_numbered s a) in
     let deep : level_of next ≡ level_of a.key = sym (ap level_of uid_is) ∙ level in
     let before = by s.last few put in
@@ -311,7 +307,7 @@ put_new s taken a uid low high inner ends few node first above none uid_is level
       asker = a.asker;
       reached = not_before_self a;
       inner_are = answered_to next a.asker inner (omega (arith, deep, node))
-          (λ asks. subst (λ l. level_of (a.asker / 2) < l) (sym deep) (asks_deeper a.asker a.key first above asks))
+          (λ asks. subst (λ l. level_of (a.asker / 2) < l) (sym deep) (asks_deeper a.asker a.key above asks))
           before.0;
       ends_are = subst (λ (v : ℕ). AreEndsTo (side_of v true)
           ((ends ++ side_arcs uid false low) ++ side_arcs uid true high)) uid_is

@@ -29,7 +29,8 @@ pub still_asking : (p q : Machine) (s : _) → p.place.phase ≡ Asking s → q.
 still_asking p q s is same = is_asking q.place.phase s (ap (λ (place : Place). place.phase) same ∙ is)
 
 -- what a folder holds while asks are answered
-pub step_at : (m : Machine) (world : World) → IsAsking m.place.phase → AreInStep m.writer world → HoldsSome 1 m world → IsOrdered m world → IsMachineInStep m world
+pub step_at : (m : Machine) (world : World) → IsAsking m.place.phase → AreInStep m.writer world
+    → HoldsSome m world → IsOrdered m world → IsMachineInStep m world
 step_at m world is writes holds put = by m.place.phase is put
   where
     by : (phase : Phase) → IsAsking phase → IsOrderedAt phase m world → IsStepAt phase m world
@@ -38,9 +39,11 @@ step_at m world is writes holds put = by m.place.phase is put
     by (Ended made) is put = absurd is
 
 -- what it holds before the root is asked for
-pub fresh_step : (m : Machine) (world : World) → m.place.phase ≡ Fresh → IsMachineInStep m world → AreInStep m.writer world × HoldsSome 0 m world × HasNoHands m.operands × HoldsArcs m.writer world [] []
+pub fresh_step : (m : Machine) (world : World) → m.place.phase ≡ Fresh → IsMachineInStep m world
+    → AreInStep m.writer world × HoldsSome m world × HasNoHands m.operands × HoldsArcs m.writer world [] []
 fresh_step m world is step = subst (λ p. IsStepAt p m world) is step
 
 -- and while asks are answered
-pub asking_step : (m : Machine) (world : World) (s : _) → m.place.phase ≡ Asking s → IsMachineInStep m world → AreInStep m.writer world × HoldsSome 1 m world × HoldsPut s m world
+pub asking_step : (m : Machine) (world : World) (s : _) → m.place.phase ≡ Asking s → IsMachineInStep m world
+    → AreInStep m.writer world × HoldsSome m world × HoldsPut s m world
 asking_step m world s is step = subst (λ p. IsStepAt p m world) is step

@@ -51,7 +51,7 @@ module _ {S : Type 0} (tells : S → Bool) (world : S → World) (counts : S →
       → Took m.parts after → PaidParts a (queues.stock m.queue) (queues.stock q) m.parts after
       → OnlySortShelf (counts s) (counts t) result → IfErr result (sorters.IsPushCause after m.queue.sorter)
       → (IsTrue (tells t) → (asks : List Ask) → Waits m.queue (world s) asks → Joins (Waits q (world t)) x asks result)
-      → HoldsAt tells world 0 s m → Does tells world counts n a s t m (record m { queue = q; parts = after }) result
+      → HoldsAt tells world s m → Does tells world counts n a s t m (record m { queue = q; parts = after }) result
   does_put n a s t m q after x result served did paid took spent faults cause list holds =
       does_spilled tells world counts n a s t m q after result served did paid took spent faults
       (push_refuses (record m { queue = q; parts = after }) m.queue result
@@ -69,7 +69,7 @@ module _ {S : Type 0} (tells : S → Bool) (world : S → World) (counts : S →
       → OnlySortShelf (counts s) (counts t) result → queues.Serves after q → queues.HoldsValues IsAsk ask_words q
       → IfErr result (queues.IsQueueCause m.queue q)
       → (IsTrue (tells t) → (asks : List Ask) → Waits m.queue (world s) asks → Gives (Waits q (world t)) asks result)
-      → HoldsAt tells world 1 s m → Does tells world counts n a s t m (record m { queue = q; parts = after }) result
+      → HoldsAt tells world s m → Does tells world counts n a s t m (record m { queue = q; parts = after }) result
   does_taken n a s t m q after result served did paid took spent faults serves values cause list holds =
       does_spilled tells world counts n a s t m q after result served did paid took spent faults
       (queue_refuses (record m { queue = q; parts = after }) m.queue result
@@ -85,7 +85,7 @@ module _ {S : Type 0} (tells : S → Bool) (world : S → World) (counts : S →
       → queues.stock q ≤ queues.stock m.queue → OnlySortShelf (counts s) (counts t) result
       → queues.Serves m.parts q → queues.HoldsValues IsAsk ask_words q → IfErr result (queues.IsQueueCause m.queue q)
       → (IsTrue (tells t) → (asks : List Ask) → Waits m.queue (world s) asks → Shows (Waits q (world t)) asks result)
-      → HoldsAt tells world 1 s m → Does tells world counts n 0 s t m (record m { queue = q }) result
+      → HoldsAt tells world s m → Does tells world counts n 0 s t m (record m { queue = q }) result
   does_shown n s t m q result served did paid stock faults serves values cause list holds =
       does_spilled tells world counts n 0 s t m q m.parts result served
       (told tells s t (Ran (Stays (now (world s))) (world s) (world t)) (Spilled m.parts m.parts (world s) (world t)) did

@@ -1,6 +1,6 @@
 -- The asks that a turn puts are sound.
 use Rattle.std.proofs.Common.{◌≡◌, ◌≢◌, ℕ, ◌+◌, ◌*◌, ◌/◌, ◌≤◌, ◌<◌, ◌∙◌, ◌^◌, Bool, true, false, cond, refl, subst, sym, ap, arith}
-use Rattle.std.specs.Prelude.{◌==◌, ◌&&◌, ◌||◌, not, nat_le, nat_lt, min}
+use Rattle.std.specs.Prelude.{◌==◌, ◌&&◌, ◌||◌, nat_le, nat_lt, min}
 use Rattle.std.proofs.lemmas.Bool.Decides.{nat_tests}
 use Rattle.std.proofs.lemmas.Bool.{and_parts, eqb-true, eq-eqb, le-leb, lt-ltb}
 use Rattle.rec_words.specs.Words.{level_of, terminal, terminal_level, most_variables, IsNodeWord}
@@ -73,21 +73,21 @@ tuple_keyed x k asker is = λ i. any_of _ _ _ (node (which x.first x.second x.th
 
 -- a node asks for a deeper one
 pub node_asks : (s : Source) (k : ℕ) → level_of s.uid < most_variables → level_of s.uid < level_of k
-    → asks_above (asker_word s) k false ≡ true
+    → asks_above (asker_word s) k ≡ true
 node_asks s k node deeper =
     let uid : asker_word s / 2 ≡ s.uid = half s.high in
     let there : is_asker (asker_word s) ≡ true = ap (λ w. nat_lt (level_of w) most_variables) uid
     ∙ lt-ltb _ _ node in
     let above : nat_lt (level_of (asker_word s / 2)) (level_of k) ≡ true = ap
     (λ w. nat_lt (level_of w) (level_of k)) uid ∙ lt-ltb _ _ deeper in
-    (λ i. cond (there i) (not false && above i) (false && (asker_word s == nobody)))
+    (λ i. cond (there i) (above i) (asker_word s == nobody))
   where
     half : (b : Bool) → (2 * s.uid + side_number b) / 2 ≡ s.uid
     half true = omega arith
     half false = omega arith
 
 -- nobody asks for the root
-pub nobody_asks : (k : ℕ) → asks_above nobody k true ≡ true
+pub nobody_asks : (k : ℕ) → asks_above nobody k ≡ true
 nobody_asks k = refl
 
 -- a tuple's ask is of no level above its own
@@ -95,22 +95,20 @@ pub side_deeper : (x : Tuple) (k level : ℕ) → k ≡ least x → level < leve
     → level < level_of k
 side_deeper x k level is deeper = omega (arith, is, deeper)
 
--- a node's ask for a deeper tuple is sound, once tuples have numbers
-pub side_sound : (first : Bool) (s : Source) (x : Tuple) (k asker : ℕ) → first ≡ false → k ≡ least x
+-- a node's ask for a deeper tuple is sound
+pub side_sound : (s : Source) (x : Tuple) (k asker : ℕ) → k ≡ least x
     → asker ≡ asker_word s → level_of s.uid < level_of_tuple x → level_of_tuple x < terminal_level
-    → is_sound first (record { key = k; members = members_of x; asker = asker }) ≡ true
-side_sound first s x k asker later is word deeper node =
-    let above : asks_above asker k first ≡ true = (λ i. asks_above (word i) k (later i)) ∙ node_asks
+    → is_sound (record { key = k; members = members_of x; asker = asker }) ≡ true
+side_sound s x k asker is word deeper node =
+    let above : asks_above asker k ≡ true = ap (λ w. asks_above w k) word ∙ node_asks
     s k (omega (arith, deeper, node)) (side_deeper x k (level_of s.uid) is deeper) in
     (λ i. tuple_keyed x k asker is i && above i)
 
--- nobody's ask for a tuple is sound, while none has a number
-pub root_sound : (first : Bool) (x : Tuple) (k asker : ℕ) → first ≡ true → k ≡ least x
-    → asker ≡ nobody → is_sound first (record { key = k; members = members_of x; asker = asker })
-    ≡ true
-root_sound first x k asker fresh is word =
-    let above : asks_above asker k first ≡ true = (λ i. asks_above (word i) k (fresh i))
-    ∙ nobody_asks k in
+-- so is nobody's ask for a tuple
+pub root_sound : (x : Tuple) (k asker : ℕ) → k ≡ least x → asker ≡ nobody
+    → is_sound (record { key = k; members = members_of x; asker = asker }) ≡ true
+root_sound x k asker is word =
+    let above : asks_above asker k ≡ true = ap (λ w. asks_above w k) word ∙ nobody_asks k in
     (λ i. tuple_keyed x k asker is i && above i)
 
 -- an ask that was sound, with the members that were read, for the node that is read next
@@ -205,8 +203,8 @@ module _ (n : ℕ) (o : Operands) (a : Ask) (k : ℕ) (are : AreOperands n o)
       one (SecondIs waits) = Second (node_from second_read (waits_for second_read waits))
       one (ThirdIs waits) = Third (node_from third_read (waits_for third_read waits))
 
-  pub again_sound : (is_first : Bool) → is_sound is_first a ≡ true
-      → is_sound is_first (record { key = k; members = all_filled o a; asker = a.asker }) ≡ true
-  again_sound is_first sound = λ i. again_keyed i &&
-      ((λ j. cond (is_asker a.asker) (not is_first && nat_lt (level_of (a.asker / 2))
-      (next_level j)) (is_first && (a.asker == nobody))) ∙ (and_parts _ _ sound).1) i
+  pub again_sound : is_sound a ≡ true
+      → is_sound (record { key = k; members = all_filled o a; asker = a.asker }) ≡ true
+  again_sound sound = λ i. again_keyed i &&
+      ((λ j. cond (is_asker a.asker) (nat_lt (level_of (a.asker / 2)) (next_level j))
+      (a.asker == nobody)) ∙ (and_parts _ _ sound).1) i

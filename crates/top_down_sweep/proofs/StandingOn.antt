@@ -243,7 +243,7 @@ module _ {S : Type 0} (tells : S → Bool) (world : S → World) (s t : S) (m : 
   pub shows_undamaged : (result : Result (Option Ask) SortFault)
       → Told tells s t (Ran (Stays (now (world s))) (world s) (world t))
       → (IsTrue (tells t) → (asks : List Ask) → Waits m.queue (world s) asks
-      → Shows (Waits q (world t)) asks result) → HoldsAt tells world 1 s m
+      → Shows (Waits q (world t)) asks result) → HoldsAt tells world s m
       → IfErr result (λ e. IsTrue (tells t) → IsNoDamage e)
   shows_undamaged (Ok found) did list holds = tt
   shows_undamaged (Err e) did list holds = λ told.
@@ -270,7 +270,7 @@ module _ {S : Type 0} (tells : S → Bool) (world : S → World) (s t : S) (m : 
 
     pub takes_undamaged : (e : SortFault)
         → (IsTrue (tells t) → (asks : List Ask) → Waits m.queue (world s) asks
-        → Gives (Waits q (world t)) asks (Err e)) → HoldsAt tells world 1 s m → IsTrue (tells t)
+        → Gives (Waits q (world t)) asks (Err e)) → HoldsAt tells world s m → IsTrue (tells t)
         → IsNoDamage e
     takes_undamaged e list holds told =
         let (asks, hold) = holds (did.before told) in
@@ -295,7 +295,7 @@ module _ {S : Type 0} (tells : S → Bool) (world : S → World) (s t : S) (m : 
 
     pub joins_undamaged : (a : Ask) (result : Result Unit SortFault)
         → (IsTrue (tells t) → (asks : List Ask) → Waits m.queue (world s) asks
-        → Joins (Waits q (world t)) a asks result) → HoldsAt tells world 0 s m
+        → Joins (Waits q (world t)) a asks result) → HoldsAt tells world s m
         → IfErr result (λ e. IsTrue (tells t) → IsNoDamage e)
     joins_undamaged a (Ok u) list holds = tt
     joins_undamaged a (Err e) list holds = λ told.

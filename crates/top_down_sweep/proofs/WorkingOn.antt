@@ -1,10 +1,11 @@
 -- What remains of a task while asks are answered: one law for each kind of turn.
-use Rattle.std.proofs.Common.{◌≡◌, ◌≢◌, ℕ, ◌<◌, ◌+◌, ◌^◌, ◌∙◌, Bool, true, false, List, [], ◌∷◌, ◌++◌, length, refl, sym, subst, ap, inl}
-use Rattle.std.specs.Prelude.{suc, Option, Some, IfSome, map, option_map}
+use Rattle.std.proofs.Common.{◌≡◌, ◌≢◌, ℕ, ◌<◌, ◌+◌, ◌/◌, ◌^◌, ◌∙◌, Bool, true, false, List, [], ◌∷◌, ◌++◌, length, refl, sym, subst, ap, inl, arith}
+use Rattle.std.specs.Prelude.{suc, Option, Some, None, IfSome, map, option_map}
+use Rattle.std.proofs.lemmas.Bool.{lt-ltb}
 use Rattle.std.specs.List.Sorted.{IsPermutation, IsSorted}
 use Rattle.std.proofs.lemmas.List.{same_from_push, append_assoc, map-append}
 use Rattle.std.proofs.lemmas.List.Sorted.{IsPermutation-map, IsPermutation-trans, IsPermutation-append_left, IsPermutation-append_comm}
-use Rattle.rec_words.specs.Words.{level_of, level_numbers}
+use Rattle.rec_words.specs.Words.{level_of, level_numbers, most_variables}
 use Rattle.rec_words.specs.declared.node.Node.{Node}
 use Rattle.shelf_model.specs.World.{World}
 use Rattle.arc_file.specs.declared.arc.Arc.{Arc}
@@ -16,7 +17,7 @@ use Rattle.top_down_laws.specs.Readings as readings
 use Rattle.top_down_laws.specs.Remains as laws
 use Rattle.top_down_laws.specs.Turns.{IsCounted}
 use Rattle.top_down_laws.proofs.TurnCounts.{count_in_any_order, read_is_counted, read_on_is_counted, known_is_counted, new_is_counted}
-use Rattle.top_down_laws.specs.Laws.{IsNext, ReadsNode, ReadsNodes}
+use Rattle.top_down_laws.specs.Laws.{IsNext, ReadsNode, ReadsNodes, IsAskedBy, IsSound}
 use Rattle.top_down_laws.proofs.StartLaws.{in_any_order}
 use Rattle.top_down_laws.proofs.ReadTurns.{wanted_is_read, ask_is_read_on}
 use Rattle.top_down_laws.proofs.KnownTurn.{known_is_answered}
@@ -30,7 +31,7 @@ use Rattle.top_down_sweep.specs.declared.machine.Machine.{Machine}
 use Rattle.top_down_sweep.specs.Items.{ask_cmp}
 use Rattle.top_down_laws.specs.Forms.{least}
 use Rattle.top_down_sweep.specs.Members.{want, all_filled, all_waiting, wants}
-use Rattle.top_down_sweep.specs.Soundness.{identifier, next_numbered}
+use Rattle.top_down_sweep.specs.Soundness.{identifier, is_due, next_numbered}
 use Rattle.top_down_sweep.specs.Meaning.{Task, form_of, waiting_of, numbered_of, place_of, Contents, StandsFor, IsLeft, IsWorking, WorksIn, WorksOn}
 use Rattle.top_down_sweep.specs.Changes.{side_asks, goal_below, HasNext}
 use Rattle.top_down_sweep.proofs.StandingOn.{asks_ascend}
@@ -124,6 +125,23 @@ module _ (t : Task) (s : Asking) (m : Machine) (a : Ask) (world : World) (k : Co
       (waiting_of a ∷ map waiting_of rest) last k.readings k.inner k.ends first_left (waiting_of a)
       (inl refl) in
       subst (λ o. IfSome (option_map waiting_of o) (λ l. l ≢ waiting_of a)) is sound.other refl
+
+  -- and it may come then: once a tuple has a number, a node asks
+  pub always_due : is_due s.last a ≡ false → ⊥
+  always_due undue = by s.last sound.asker undue
+    where
+      sound : IsSound placed.newest last (waiting_of a)
+      sound = asks_are_sound t.n t.rule t.diagrams t.roots t.is_task placed
+          (waiting_of a ∷ map waiting_of rest) last k.readings k.inner k.ends first_left (waiting_of a)
+          (inl refl)
+
+      by : (x : Option Numbered) → IsAskedBy (option_map numbered_of x) (waiting_of a)
+          → is_due x a ≡ false → ⊥
+      by None asked undue = (let no : true ≡ false = undue in absurd (cc))
+      by (Some x) asked undue =
+          let node : level_of (a.asker / 2) < most_variables = omega (arith, asked, sound.key_is) in
+          let no : true ≡ false = sym (lt-ltb _ _ node) ∙ undue in
+          absurd (cc)
 
   -- what it wants can be read
   reads : ReadsNodes t.n t.rule t.diagrams t.roots placed (waiting_of a) (map waiting_of rest) last

@@ -1,5 +1,5 @@
 -- What every call within a turn leaves and costs.
-use Rattle.std.specs.Prelude.{◌≡◌, ℕ, Bool, IsTrue, [], Result, IfErr, Some, true}
+use Rattle.std.specs.Prelude.{◌≡◌, ℕ, Bool, IsTrue, [], Result, IfErr, Some}
 use Rattle.shelf_model.specs.declared.sort_fault.SortFault.{SortFault}
 use Rattle.shelf_model.specs.Faults.{Faults}
 use Rattle.shelf_model.specs.World.{World, file}
@@ -13,7 +13,6 @@ use Rattle.top_down_sweep.specs.declared.place.Phase.TheVariants.{Fresh, Asking,
 use Rattle.top_down_sweep.specs.declared.machine.Machine.{Machine}
 use Rattle.top_down_sweep.specs.declared.sweep.TopDownSweep.{TopDownSweep}
 use Rattle.top_down_sweep.specs.Items.{IsAsk, ask_cmp}
-use Rattle.top_down_sweep.specs.Soundness.{is_sound}
 use Rattle.top_down_sweep.specs.Waiting.{HasNoHands, HoldsSome, HoldsFirst}
 use Rattle.top_down_sweep.specs.Damage.{IsMachineDamage}
 use Rattle.top_down_sweep.specs.Ordered.{AreOrdered, HoldsPut}
@@ -22,9 +21,9 @@ use Rattle.top_down_sweep.specs.Sweeps.{files_in, machine_accounts, IsSoundMachi
 -- its files of arcs end behind the arcs that were put, which are in order, and asks that fit wait;
 -- once it has ended, the files stay whatever a stop leaves, and are arcs in their order
 abbrev pub IsStepAt : Phase → Machine → World → Type 0
-IsStepAt Fresh m world = AreInStep m.writer world × HoldsSome 0 m world × HasNoHands m.operands
+IsStepAt Fresh m world = AreInStep m.writer world × HoldsSome m world × HasNoHands m.operands
     × HoldsArcs m.writer world [] []
-IsStepAt (Asking s) m world = AreInStep m.writer world × HoldsSome 1 m world × HoldsPut s m world
+IsStepAt (Asking s) m world = AreInStep m.writer world × HoldsSome m world × HoldsPut s m world
 IsStepAt (Ended made) m world = IsFirm (file world (inner_file m.writer)) × IsFirm
     (file world (ends_file m.writer)) × AreOrdered made world
 
@@ -40,10 +39,9 @@ pub record IsFit {S : Type 0} (tells : S → Bool) (world : S → World) (shelf 
   pub sound : IsSoundMachine m
   pub at_work : IsTrue (tells shelf) → AreInStep m.writer (world shelf)
 
--- where the folder tells its content, asks that fit wait, and no more than so many while no tuple
--- has a number
-abbrev pub HoldsAt : {S : Type 0} → (S → Bool) → (S → World) → ℕ → S → Machine → Type 0
-HoldsAt tells world most shelf m = IsTrue (tells shelf) → HoldsSome most m (world shelf)
+-- where the folder tells its content, asks that fit wait
+abbrev pub HoldsAt : {S : Type 0} → (S → Bool) → (S → World) → S → Machine → Type 0
+HoldsAt tells world shelf m = IsTrue (tells shelf) → HoldsSome m (world shelf)
 
 -- and that ask is the first of them
 abbrev pub HoldsFirstAt : {S : Type 0} → (S → Bool) → (S → World) → S → Machine → Ask → Type 0
@@ -69,8 +67,3 @@ pub record IsFirst (m : Machine) (a : Ask) : Type 0 where
   pub shown_is : shown m.queue ≡ Some a
   pub value : IsAsk a
   pub no_less : IsNoLess ask_cmp (last_of m.queue) a
-
--- and it is one that may be answered then
-pub record IsShown (is_first : Bool) (m : Machine) (a : Ask) : Type 0 where
-  pub first : IsFirst m a
-  pub sound : is_sound is_first a ≡ true

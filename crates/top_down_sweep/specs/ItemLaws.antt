@@ -64,12 +64,12 @@ same_ask x y same =
 
 -- an ask's words fit 64 bits
 pub ask_fits : (x : Ask) → IsAsk x → All (λ word. word < 2 ^ 64) (ask_words x)
-ask_fits x a zero d b = pointer_fits x.key (inl a.key_is)
-ask_fits x a (suc zero) d b = pointer_fits x.members.first.low a.first_is.low_is
-ask_fits x a (suc (suc zero)) d b = pointer_fits x.members.first.high a.first_is.high_is
-ask_fits x a (suc (suc (suc zero))) d b = pointer_fits x.members.second.low a.second_is.low_is
-ask_fits x a (suc (suc (suc (suc zero)))) d b = pointer_fits x.members.second.high a.second_is.high_is
-ask_fits x a (suc (suc (suc (suc (suc zero))))) d b = pointer_fits x.members.third.low a.third_is.low_is
-ask_fits x a (suc (suc (suc (suc (suc (suc zero)))))) d b = pointer_fits x.members.third.high a.third_is.high_is
-ask_fits x a (suc (suc (suc (suc (suc (suc (suc zero))))))) d b = a.asker_fits
+ask_fits x a zero d b = pointer_fits x.key (inl a.form.key_is)
+ask_fits x a (suc zero) d b = pointer_fits x.members.first.low a.form.first_is.low_is
+ask_fits x a (suc (suc zero)) d b = pointer_fits x.members.first.high a.form.first_is.high_is
+ask_fits x a (suc (suc (suc zero))) d b = pointer_fits x.members.second.low a.form.second_is.low_is
+ask_fits x a (suc (suc (suc (suc zero)))) d b = pointer_fits x.members.second.high a.form.second_is.high_is
+ask_fits x a (suc (suc (suc (suc (suc zero))))) d b = pointer_fits x.members.third.low a.form.third_is.low_is
+ask_fits x a (suc (suc (suc (suc (suc (suc zero)))))) d b = pointer_fits x.members.third.high a.form.third_is.high_is
+ask_fits x a (suc (suc (suc (suc (suc (suc (suc zero))))))) d b = a.form.asker_fits
 ask_fits x a (suc (suc (suc (suc (suc (suc (suc (suc k)))))))) d b = absurd (omega (arith, b))

@@ -1,11 +1,12 @@
 -- Asks, and the records that they are stored as.
-use Rattle.std.specs.Prelude.{ℕ, ◌<◌, ◌^◌, List, [], ◌∷◌}
+use Rattle.std.specs.Prelude.{◌≡◌, ℕ, ◌<◌, ◌^◌, true, List, [], ◌∷◌}
 use Rattle.std.specs.Ordering.{nat_cmp, ordering_then}
 use Rattle.std.specs.declared.cmp.Ordering.{Ordering}
 use Rattle.rec_words.specs.Words.{IsNodeWord, IsPointer}
 use Rattle.top_down_sweep.specs.declared.ask.Member.{Member}
 use Rattle.top_down_sweep.specs.declared.ask.Members.{Members}
 use Rattle.top_down_sweep.specs.declared.ask.Ask.{Ask}
+use Rattle.top_down_sweep.specs.Soundness.{is_sound}
 
 -- the words of an ask: its key, the low and the high pointer of each member, and who asked
 abbrev pub ask_words : Ask → List ℕ
@@ -18,12 +19,17 @@ pub record IsMember (m : Member) : Type 0 where
   pub high_is : IsPointer m.high
 
 -- the key's word is that of a node, and each member's are those of pointers
-pub record IsAsk (a : Ask) : Type 0 where
+pub record IsForm (a : Ask) : Type 0 where
   pub key_is : IsNodeWord a.key
   pub first_is : IsMember a.members.first
   pub second_is : IsMember a.members.second
   pub third_is : IsMember a.members.third
   pub asker_fits : a.asker < 2 ^ 64
+
+-- so it is, and the ask is one that a sweep makes
+pub record IsAsk (a : Ask) : Type 0 where
+  pub form : IsForm a
+  pub sound : is_sound a ≡ true
 
 -- asks ascend by their keys, then by their members, then by who asked
 abbrev pub member_cmp : Member → Member → Ordering

@@ -1,5 +1,5 @@
 -- What an ask keeps beyond its form, and the number of its tuple.
-use Rattle.std.specs.Prelude.{ℕ, ◌+◌, ◌-◌, ◌*◌, ◌/◌, ◌%◌, ◌^◌, ◌==◌, ◌&&◌, ◌||◌, not, nat_lt, nat_le, Bool, true, false, cond, Option, Some, None}
+use Rattle.std.specs.Prelude.{ℕ, ◌+◌, ◌-◌, ◌*◌, ◌/◌, ◌%◌, ◌^◌, ◌==◌, ◌&&◌, ◌||◌, nat_lt, nat_le, Bool, true, false, cond, Option, Some, None}
 use Rattle.rec_words.specs.Words.{level_of, node_word, most_variables}
 use Rattle.top_down_sweep.specs.declared.ask.Member.{Member}
 use Rattle.top_down_sweep.specs.declared.ask.Ask.{Ask}
@@ -29,10 +29,9 @@ asker_of w = record { uid = w / 2; high = w % 2 == 1 }
 abbrev pub is_asker : ℕ → Bool
 is_asker w = nat_lt (level_of (w / 2)) most_variables
 
--- the asker is a node of a level above the key's, or nobody for the first of all asks
-abbrev pub asks_above : ℕ → ℕ → Bool → Bool
-asks_above w key is_first =
-    cond (is_asker w) (not is_first && nat_lt (level_of (w / 2)) (level_of key)) (is_first && (w == nobody))
+-- the asker is a node of a level above the key's, or nobody
+abbrev pub asks_above : ℕ → ℕ → Bool
+asks_above w key = cond (is_asker w) (nat_lt (level_of (w / 2)) (level_of key)) (w == nobody)
 
 -- the member is a pointer from that node on, or both pointers lie deeper than the node
 abbrev pub stands : ℕ → Member → Bool
@@ -44,13 +43,14 @@ abbrev pub is_keyed : Ask → Bool
 is_keyed a = (is_node a.key a.members.first || (is_node a.key a.members.second || is_node a.key a.members.third))
     && (stands a.key a.members.first && (stands a.key a.members.second && stands a.key a.members.third))
 
-abbrev pub is_sound : Bool → Ask → Bool
-is_sound is_first a = is_keyed a && asks_above a.asker a.key is_first
+-- the ask is one that a sweep makes: it is for its key, and is asked from above
+abbrev pub is_sound : Ask → Bool
+is_sound a = is_keyed a && asks_above a.asker a.key
 
--- no tuple has a number yet
-abbrev pub is_none : Option Numbered → Bool
-is_none None = true
-is_none (Some x) = false
+-- such an ask may come then: once a tuple has a number, only nodes ask
+abbrev pub is_due : Option Numbered → Ask → Bool
+is_due None a = true
+is_due (Some x) a = is_asker a.asker
 
 -- that tuple is asked for
 abbrev pub same_member : Member → Member → Bool

@@ -1,5 +1,5 @@
 -- The asks that wait, and what was read of the operands, where a folder tells its content.
-use Rattle.std.specs.Prelude.{◌≡◌, ◌≢◌, ℕ, ◌<◌, ◌≤◌, Bool, true, false, List, ◌∷◌, All, length, None, IfSome}
+use Rattle.std.specs.Prelude.{◌≡◌, ◌≢◌, ℕ, ◌<◌, ◌≤◌, List, ◌∷◌, All, None, IfSome}
 use Rattle.rec_words.specs.Words.{level_of}
 use Rattle.shelf_model.specs.declared.file_no.FileNo.{FileNo}
 use Rattle.shelf_model.specs.World.{World}
@@ -9,31 +9,21 @@ use Rattle.node_reading.specs.Reading.{IsReading}
 use Rattle.top_down_sweep.specs.declared.ask.Ask.{Ask}
 use Rattle.top_down_sweep.specs.declared.operand.Operand.{Operand}
 use Rattle.top_down_sweep.specs.declared.operand.Operands.{Operands}
-use Rattle.top_down_sweep.specs.declared.place.Phase.{Phase}
-use Rattle.top_down_sweep.specs.declared.place.Phase.TheVariants.{Fresh, Asking, Ended}
 use Rattle.top_down_sweep.specs.declared.machine.Machine.{Machine}
 use Rattle.top_down_sweep.specs.declared.start.Files.{Files}
 use Rattle.top_down_sweep.specs.Items.{ask_words, IsAsk, ask_cmp}
-use Rattle.top_down_sweep.specs.Soundness.{is_none, is_sound}
 use Rattle.top_down_sweep.specs.Sweeps.{files_in, IsMade}
 
 -- in that world these asks wait, and they ascend
 abbrev pub Waits : LevelQueue Ask → World → List Ask → Type 0
 Waits q world asks = queues.Lists IsAsk ask_words ask_cmp q world asks
 
--- no tuple has a number yet
-abbrev pub is_first_at : Phase → Bool
-is_first_at Fresh = true
-is_first_at (Asking s) = is_none s.last
-is_first_at (Ended made) = false
-
 -- the node at hand, where there is one, comes no later than that one
 abbrev pub IsReadTo : ℕ → Operand → Type 0
 IsReadTo key o = IfSome o.hand (λ x. x.uid ≤ key)
 
--- the ask may be answered, and no operand was read past its node
-pub record Fits (is_first : Bool) (o : Operands) (a : Ask) : Type 0 where
-  pub sound : is_sound is_first a ≡ true
+-- no operand was read past the ask's node
+pub record Fits (o : Operands) (a : Ask) : Type 0 where
   pub first : IsReadTo a.key o.first
   pub second : IsReadTo a.key o.second
   pub third : IsReadTo a.key o.third
@@ -72,19 +62,18 @@ pub record HasNoHands (o : Operands) : Type 0 where
   pub second : o.second.hand ≡ None
   pub third : o.third.hand ≡ None
 
--- those asks wait, and all fit; no more than so many wait while no tuple has a number; none stands
--- in a file that the sweep makes; and the operands are read as their files say, where they are apart
-pub record Holds (most : ℕ) (m : Machine) (world : World) (asks : List Ask) : Type 0 where
+-- those asks wait, and all fit; none stands in a file that the sweep makes; and the operands are
+-- read as their files say, where they are apart
+pub record Holds (m : Machine) (world : World) (asks : List Ask) : Type 0 where
   pub wait : Waits m.queue world asks
-  pub fit : All (Fits (is_first_at m.place.phase) m.operands) asks
-  pub few : is_first_at m.place.phase ≡ true → length asks ≤ most
+  pub fit : All (Fits m.operands) asks
   pub no_run : (f : FileNo) → IsMade (files_in m) f → ¬ queues.IsRunOf m.queue f
   pub reading : AreApart (files_in m) m.parts.step → AreReading m.operands world
 
 -- some asks wait so
-abbrev pub HoldsSome : ℕ → Machine → World → Type 0
-HoldsSome most m world = (asks : List Ask) × Holds most m world asks
+abbrev pub HoldsSome : Machine → World → Type 0
+HoldsSome m world = (asks : List Ask) × Holds m world asks
 
 -- that ask is the first of those that wait
 abbrev pub HoldsFirst : Ask → Machine → World → Type 0
-HoldsFirst a m world = (rest : List Ask) × Holds 1 m world (a ∷ rest)
+HoldsFirst a m world = (rest : List Ask) × Holds m world (a ∷ rest)

@@ -7,23 +7,23 @@ use crate::ask::{Ask, Members};
 use crate::machine::Machine;
 use crate::members::{key_of, level_at};
 use crate::place::{Asking, Phase};
-use crate::sound::Source;
+use crate::sound::{SoundAsk, Source};
 use arc_file::Arc;
 use rec_words::{Ptr, Uid};
 use shelf_model::{Shelf, SortFault};
 use top_down::{Goal, Tuple};
 
 impl<'r> Machine<'r> {
-    ghost use Rattle.std.specs.Prelude.{ℕ, ◌+◌, Some, OnOk, IfOk, IsTrue, true, false, cond};
+    ghost use Rattle.std.specs.Prelude.{◌+◌, Some, OnOk, IfOk, IsTrue, true, false, cond};
     ghost use Rattle.rec_words.specs.Words.{terminal_level};
     ghost use Rattle.arc_file.specs.Writers.{inner_count, HoldsArcs};
     ghost use Rattle.level_queue.specs.Queues.{shown, last_of, held};
     ghost use Rattle.top_down.specs.Tuples.{level_of_tuple};
     ghost use Rattle.top_down_sweep.specs.Members.{IsResolved};
-    ghost use Rattle.top_down_sweep.specs.Soundness.{is_none, is_sound, is_asker, next_numbered, identifier};
+    ghost use Rattle.top_down_sweep.specs.Soundness.{is_due, is_sound, is_asker, next_numbered, identifier};
     ghost use Rattle.top_down_sweep.specs.Sweeps.{IsTakenTo, IsAsking};
-    ghost use Rattle.top_down_sweep.specs.Waiting.{is_first_at, AreReadTo};
-    ghost use Rattle.top_down_sweep.specs.Calls.{Does, IsFit, IsShown, HoldsAt, HoldsFirstAt};
+    ghost use Rattle.top_down_sweep.specs.Waiting.{AreReadTo};
+    ghost use Rattle.top_down_sweep.specs.Calls.{Does, IsFit, IsFirst, HoldsAt, HoldsFirstAt};
     ghost use Rattle.std.specs.Prelude.{IfErr, ◌++◌, [], ◌∷◌, ◌^◌, List};
     ghost use Rattle.arc_file.specs.declared.arc.Arc.{Arc};
     ghost use Rattle.top_down.specs.Asks.{side_arcs};
@@ -48,14 +48,13 @@ impl<'r> Machine<'r> {
         requires asking { IsAsking self.old.place.phase }
         requires shown { shown self.old.queue ≡ Some ask.now }
         requires later { ask.now.key < key }
-        requires sound { is_sound (is_first_at self.old.place.phase)
-            (record { key = key; members = members; asker = ask.now.asker }) ≡ true }
+        requires sound { is_sound (record { key = key; members = members; asker = ask.now.asker }) ≡ true }
         requires fit { IsFit S.tells S.world shelf.old self.old }
         requires first { HoldsFirstAt S.tells S.world shelf.old self.old ask.now }
         ensures does { Does S.tells S.world S.faults 56 3 shelf.old shelf.new self.old self.new result }
         ensures fit { OnOk result (IsFit S.tells S.world shelf.new self.new) }
         ensures rest { self.new ≡ record self.old { queue = self.new.queue; parts = self.new.parts } }
-        ensures holds { OnOk result (HoldsAt S.tells S.world 1 shelf.new self.new) }
+        ensures holds { OnOk result (HoldsAt S.tells S.world shelf.new self.new) }
         ensures load { OnOk result (held self.new.queue ≡ held self.old.queue) }
         ensures last { OnOk result (last_of self.new.queue ≡ Some ask.now) }
         ensures list { OnOk result (IsTrue (S.tells shelf.new) → (k : Contents) →
@@ -71,7 +70,7 @@ impl<'r> Machine<'r> {
             members,
             asker: ask.asker,
         };
-        self.push(again, shelf)
+        self.push(SoundAsk::new(again), shelf)
     }
 
     /// Takes an ask whose members were all read: the tuple that was numbered last answers it, or the next one.
@@ -84,13 +83,14 @@ impl<'r> Machine<'r> {
         shelf: &mut S,
     ) -> Result<(), SortFault>
         requires phase { self.old.place.phase ≡ Phase.Asking asking.now }
-        requires shown { IsShown (is_none asking.now.last) self.old ask.now }
+        requires shown { IsFirst self.old ask.now }
+        requires due { is_due asking.now.last ask.now ≡ true }
         requires resolved { IsResolved (level_of ask.now.key) members.now }
         requires fit { IsFit S.tells S.world shelf.old self.old }
         requires first { HoldsFirstAt S.tells S.world shelf.old self.old ask.now }
         ensures does { Does S.tells S.world S.faults 105 6 shelf.old shelf.new self.old self.new result }
         ensures fit { OnOk result (IsFit S.tells S.world shelf.new self.new) }
-        ensures holds { OnOk result (HoldsAt S.tells S.world 1 shelf.new self.new) }
+        ensures holds { OnOk result (HoldsAt S.tells S.world shelf.new self.new) }
         ensures phase { OnOk result (IsAsking self.new.place.phase) }
         ensures operands { self.new.operands ≡ self.old.operands }
         ensures load { OnOk result (held self.new.queue ≤ held self.old.queue + 1) }
@@ -121,9 +121,9 @@ impl<'r> Machine<'r> {
         shelf: &mut S,
     ) -> Result<Uid, SortFault>
         requires phase { self.old.place.phase ≡ Phase.Asking asking.now }
-        requires sound { is_sound (is_none asking.now.last) ask.now ≡ true }
+        requires due { is_due asking.now.last ask.now ≡ true }
         requires fit { IsFit S.tells S.world shelf.old self.old }
-        requires holds { HoldsAt S.tells S.world 0 shelf.old self.old }
+        requires holds { HoldsAt S.tells S.world shelf.old self.old }
         ensures does { Does S.tells S.world S.faults 1 0 shelf.old shelf.new self.old self.new result }
         ensures fit { OnOk result (IsFit S.tells S.world shelf.new self.new) }
         ensures rest { self.new ≡ record self.old {
@@ -131,8 +131,7 @@ impl<'r> Machine<'r> {
           writer = self.new.writer;
         } }
         ensures phase { OnOk result (IsAsking self.new.place.phase) }
-        ensures holds { OnOk result (HoldsAt S.tells S.world 0 shelf.new self.new) }
-        ensures numbered { OnOk result (is_first_at self.new.place.phase ≡ false) }
+        ensures holds { OnOk result (HoldsAt S.tells S.world shelf.new self.new) }
         ensures number { IfOk result (λ uid. uid ≡ identifier (next_numbered asking.now ask.now)) }
         ensures level { IfOk result (λ uid. level_of uid ≡ level_of ask.now.key) }
         ensures placed { OnOk result (self.new.place.phase
@@ -167,8 +166,8 @@ impl<'r> Machine<'r> {
         requires fit { IsFit S.tells S.world shelf.old self.old }
         ensures does { Does S.tells S.world S.faults 1 0 shelf.old shelf.new self.old self.new result }
         ensures fit { OnOk result (IsFit S.tells S.world shelf.new self.new) }
-        ensures holds { (most : ℕ) → HoldsAt S.tells S.world most shelf.old self.old →
-            OnOk result (HoldsAt S.tells S.world most shelf.new self.new) }
+        ensures holds { HoldsAt S.tells S.world shelf.old self.old →
+            OnOk result (HoldsAt S.tells S.world shelf.new self.new) }
         ensures rest { self.new ≡ record self.old { writer = self.new.writer } }
         ensures count { OnOk result (inner_count self.new.writer
             ≡ inner_count self.old.writer + cond (is_asker ask.now.asker) 1 0) }
@@ -203,12 +202,11 @@ impl<'r> Machine<'r> {
         requires resolved { IsResolved (level_of uid) members.now }
         requires taken { IsTakenTo (level_of uid) (last_of self.old.queue) }
         requires fit { IsFit S.tells S.world shelf.old self.old }
-        requires numbered { is_first_at self.old.place.phase ≡ false }
         requires read { IsTrue (S.tells shelf.old) → AreReadTo (level_of uid) self.old.operands }
-        requires holds { HoldsAt S.tells S.world 0 shelf.old self.old }
+        requires holds { HoldsAt S.tells S.world shelf.old self.old }
         ensures does { Does S.tells S.world S.faults 48 3 shelf.old shelf.new self.old self.new result }
         ensures fit { OnOk result (IsFit S.tells S.world shelf.new self.new) }
-        ensures holds { OnOk result (HoldsAt S.tells S.world 0 shelf.new self.new) }
+        ensures holds { OnOk result (HoldsAt S.tells S.world shelf.new self.new) }
         ensures place { self.new.place ≡ self.old.place }
         ensures operands { self.new.operands ≡ self.old.operands }
         ensures load { OnOk result (held self.new.queue ≤ held self.old.queue + 1) }
@@ -249,13 +247,12 @@ impl<'r> Machine<'r> {
         requires deeper { level_of source.uid < level_of_tuple tuple.now }
         requires taken { IsTakenTo (level_of source.uid) (last_of self.old.queue) }
         requires fit { IsFit S.tells S.world shelf.old self.old }
-        requires numbered { is_first_at self.old.place.phase ≡ false }
         requires read { IsTrue (S.tells shelf.old) → AreReadTo (level_of source.uid) self.old.operands }
-        requires holds { HoldsAt S.tells S.world 0 shelf.old self.old }
+        requires holds { HoldsAt S.tells S.world shelf.old self.old }
         ensures does { Does S.tells S.world S.faults 48 3 shelf.old shelf.new self.old self.new result }
         ensures fit { OnOk result (IsFit S.tells S.world shelf.new self.new) }
         ensures rest { self.new ≡ record self.old { queue = self.new.queue; parts = self.new.parts } }
-        ensures holds { OnOk result (HoldsAt S.tells S.world 0 shelf.new self.new) }
+        ensures holds { OnOk result (HoldsAt S.tells S.world shelf.new self.new) }
         ensures load { OnOk result (held self.new.queue ≡ held self.old.queue + 1) }
         ensures last { last_of self.new.queue ≡ last_of self.old.queue }
         ensures list { OnOk result (IsTrue (S.tells shelf.new) → (k : Contents) →
@@ -273,6 +270,6 @@ impl<'r> Machine<'r> {
             members: Members::of(tuple),
             asker: source.word(),
         };
-        self.push(ask, shelf)
+        self.push(SoundAsk::new(ask), shelf)
     }
 }

@@ -1,14 +1,15 @@
 //! The calls of the queue.
 use crate::ask::Ask;
 use crate::machine::Machine;
+use crate::sound::SoundAsk;
 use shelf_model::{Shelf, SortFault};
 
 impl<'r> Machine<'r> {
-    ghost use Rattle.std.specs.Prelude.{◌≡◌, ◌+◌, IsTrue, Some, OnOk, IfOk, IfSome};
+    ghost use Rattle.std.specs.Prelude.{◌≡◌, ◌≢◌, ◌+◌, true, false, IsTrue, Some, OnOk, IfOk, IfSome};
     ghost use Rattle.level_queue.specs.Queues.{shown, last_of, held, IsNoLess};
     ghost use Rattle.top_down_sweep.specs.Items.{ask_cmp};
     ghost use Rattle.top_down_sweep.specs.Sweeps.{IsAsking};
-    ghost use Rattle.top_down_sweep.specs.Waiting.{is_first_at, Fits};
+    ghost use Rattle.top_down_sweep.specs.Waiting.{Fits};
     ghost use Rattle.top_down_sweep.specs.Calls.{Does, IsFit, IsFirst, HoldsAt, HoldsFirstAt};
     ghost use Rattle.std.specs.Prelude.{IfErr, [], ◌∷◌};
     ghost use Rattle.sweep_core.specs.Sweeps.{IsNoDamage};
@@ -17,9 +18,12 @@ impl<'r> Machine<'r> {
     ghost use Rattle.top_down_sweep.specs.Ordered.{KeepsArcs};
 
     /// The first ask, which stays.
-    pub(crate) fn first_ask<S: Shelf>(&mut self, shelf: &mut S) -> Result<Option<Ask>, SortFault>
+    pub(crate) fn first_ask<S: Shelf>(
+        &mut self,
+        shelf: &mut S,
+    ) -> Result<Option<SoundAsk>, SortFault>
         requires fit { IsFit S.tells S.world shelf.old self.old }
-        requires holds { HoldsAt S.tells S.world 1 shelf.old self.old }
+        requires holds { HoldsAt S.tells S.world shelf.old self.old }
         ensures does { Does S.tells S.world S.faults 8 0 shelf.old shelf.new self.old self.new result }
         ensures fit { OnOk result (IsFit S.tells S.world shelf.new self.new) }
         ensures holds { IfOk result (λ found. IfSome found (HoldsFirstAt S.tells S.world shelf.new self.new)) }
@@ -41,10 +45,10 @@ impl<'r> Machine<'r> {
         requires asking { IsAsking self.old.place.phase }
         requires shown { shown self.old.queue ≡ Some ask.now }
         requires fit { IsFit S.tells S.world shelf.old self.old }
-        requires holds { HoldsAt S.tells S.world 1 shelf.old self.old }
+        requires holds { HoldsAt S.tells S.world shelf.old self.old }
         ensures does { Does S.tells S.world S.faults 8 0 shelf.old shelf.new self.old self.new result }
         ensures fit { OnOk result (IsFit S.tells S.world shelf.new self.new) }
-        ensures holds { OnOk result (HoldsAt S.tells S.world 0 shelf.new self.new) }
+        ensures holds { OnOk result (HoldsAt S.tells S.world shelf.new self.new) }
         ensures rest { self.new ≡ record self.old { queue = self.new.queue; parts = self.new.parts } }
         ensures load { OnOk result (held self.old.queue ≡ held self.new.queue + 1) }
         ensures last { OnOk result (last_of self.new.queue ≡ Some ask.now) }
@@ -58,15 +62,26 @@ impl<'r> Machine<'r> {
         Ok(())
     }
 
+    /// Whether that ask was taken last.
+    pub(crate) fn took_last(&self, ask: &Ask) -> bool
+        ensures yes { result ≡ true → last_of self.now.queue ≡ Some ask.now }
+        ensures no { result ≡ false → last_of self.now.queue ≢ Some ask.now }
+    {
+        match self.queue.last() {
+            Some(last) => last.ask() == *ask,
+            None => false,
+        }
+    }
+
     /// Puts an ask into the queue.
-    pub(crate) fn push<S: Shelf>(&mut self, ask: Ask, shelf: &mut S) -> Result<(), SortFault>
+    pub(crate) fn push<S: Shelf>(&mut self, ask: SoundAsk, shelf: &mut S) -> Result<(), SortFault>
         requires order { IsNoLess ask_cmp (last_of self.old.queue) ask }
-        requires fits { IsTrue (S.tells shelf.old) → Fits (is_first_at self.old.place.phase) self.old.operands ask }
+        requires fits { IsTrue (S.tells shelf.old) → Fits self.old.operands ask }
         requires fit { IsFit S.tells S.world shelf.old self.old }
-        requires holds { HoldsAt S.tells S.world 0 shelf.old self.old }
+        requires holds { HoldsAt S.tells S.world shelf.old self.old }
         ensures does { Does S.tells S.world S.faults 48 3 shelf.old shelf.new self.old self.new result }
         ensures fit { OnOk result (IsFit S.tells S.world shelf.new self.new) }
-        ensures holds { OnOk result (HoldsAt S.tells S.world 1 shelf.new self.new) }
+        ensures holds { OnOk result (HoldsAt S.tells S.world shelf.new self.new) }
         ensures rest { self.new ≡ record self.old { queue = self.new.queue; parts = self.new.parts } }
         ensures load { OnOk result (held self.new.queue ≡ held self.old.queue + 1) }
         ensures last { last_of self.new.queue ≡ last_of self.old.queue }

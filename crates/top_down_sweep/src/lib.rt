@@ -19,6 +19,7 @@ mod restricted;
 mod sound;
 mod start;
 mod steps;
+mod stored;
 mod sweep;
 mod turning;
 mod writing;

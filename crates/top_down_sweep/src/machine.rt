@@ -1,7 +1,7 @@
 //! What works for a sweep from the root down, whichever operation it is for.
-use crate::ask::Ask;
 use crate::operand::Operands;
 use crate::place::Place;
+use crate::sound::SoundAsk;
 use arc_file::ArcWriter;
 use level_queue::LevelQueue;
 use run_merge::Parts;
@@ -11,7 +11,7 @@ use run_merge::Parts;
 pub(crate) struct Machine<'r> {
     pub(crate) place: Place,
     pub(crate) operands: Operands<'r>,
-    pub(crate) queue: LevelQueue<'r, Ask>,
+    pub(crate) queue: LevelQueue<'r, SoundAsk>,
     pub(crate) writer: ArcWriter<'r>,
     // Whether an arc that was put leads to the truth value 1.
     pub(crate) has_one: bool,

@@ -1,5 +1,5 @@
 //! The operands of a sweep, of each of which one node is at hand.
-ghost use Rattle.std.specs.Prelude.{◌≡◌, ◌≢◌, ℕ};
+ghost use Rattle.std.specs.Prelude.{◌≡◌, ℕ};
 
 use crate::ask::{Ask, Member, Members};
 use node_file::NodeReader;
@@ -74,7 +74,6 @@ impl<'r> Operand<'r> {
     pub(crate) fn damage(&self) -> SortFault
         ensures place { result ≡ SortFault.Damaged self.now.file (left_of self.now.reader * 24) }
         ensures damage { IsFaultOf self.now.file result }
-        ensures cause { result ≢ SortFault.Shelf }
     {
         SortFault::Damaged {
             file: self.file,

@@ -46,14 +46,14 @@ pub(crate) struct Asking {
 
 impl Asking {
     ghost use Rattle.rec_words.specs.Words.{level_numbers};
-    ghost use Rattle.top_down_sweep.specs.Soundness.{is_none, known, next_numbered};
+    ghost use Rattle.top_down_sweep.specs.Soundness.{is_due, known, next_numbered};
 
-    /// Whether no tuple has a number yet.
-    pub(crate) fn is_first(&self) -> bool
-        ensures { result ≡ is_none self.now.last }
+    /// Whether such an ask may come: once a tuple has a number, only nodes ask.
+    pub(crate) fn is_due(&self, ask: &Ask) -> bool
+        ensures { result ≡ is_due self.now.last ask.now }
     {
         match &self.last {
-            Some(_last) => false,
+            Some(_last) => ask.has_source(),
             None => true,
         }
     }

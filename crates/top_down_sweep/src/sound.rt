@@ -2,14 +2,67 @@
 ghost use Rattle.std.specs.Prelude.{◌≡◌, ◌≤◌, ◌/◌, nat_lt};
 ghost use Rattle.std.specs.Option.{SomeIff};
 ghost use Rattle.rec_words.specs.Words.{deepest_level, level_of, IsNodeWord};
-ghost use Rattle.top_down_sweep.specs.Soundness.{asker_word, asker_of, asks_above, stands, is_keyed, is_sound};
+ghost use Rattle.top_down_sweep.specs.Soundness.{asker_word, asker_of, is_asker, asks_above, stands};
+ghost use Rattle.top_down_sweep.specs.Soundness.{is_keyed, is_sound};
 
 use crate::ask::{Ask, Member};
 use crate::members::level_at;
 use rec_words::{Ptr, Uid};
+use std::marker::Model;
 
 /// The asker of the root's ask, which no node asks for.
 pub(crate) const NOBODY: u64 = u64::MAX;
+
+/// An ask that is sound: the key is the least of the members' nodes of its level that weren't read, all else lies
+/// deeper, and the asker is a node of a level above the key's, or nobody. A contract sees the ask.
+#[derive(Clone, Copy, Debug, PartialEq, Eq, PartialOrd, Ord)]
+pub(crate) struct SoundAsk {
+    ask: Ask,
+}
+
+impl Model for SoundAsk {
+    ghost use Rattle.std.specs.Prelude.{◌≡◌, true};
+    ghost use Rattle.top_down_sweep.specs.declared.ask.Ask.{Ask};
+    ghost use Rattle.top_down_sweep.specs.Soundness.{is_sound};
+
+    ghost Value = { Ask };
+
+    ghost view = { λ s. s.ask };
+
+    ghost invariant = { λ s. is_sound s.ask ≡ true };
+
+    ghost inverse = { λ a. record { ask = a } };
+}
+
+impl SoundAsk {
+    ghost use Rattle.std.specs.Prelude.{true};
+
+    /// An ask that is known to be sound.
+    pub(crate) fn new(ask: Ask) -> SoundAsk
+        requires { is_sound ask ≡ true }
+        ensures { result ≡ ask }
+    {
+        SoundAsk { ask }
+    }
+
+    /// The ask, where it is sound.
+    pub(crate) fn of(ask: Ask) -> Option<SoundAsk>
+        ensures { SomeIff result (is_sound ask ≡ true) ask }
+    {
+        if ask.is_sound() {
+            Some(SoundAsk { ask })
+        } else {
+            None
+        }
+    }
+
+    pub(crate) fn ask(self) -> Ask
+        ensures value { result ≡ self }
+        ensures sound { is_sound self ≡ true }
+    {
+        self.ask
+    }
+}
 
 /// A node that asks, on one of its sides.
 #[derive(Clone, Copy, Debug, PartialEq, Eq)]
@@ -40,12 +93,22 @@ impl Source {
 }
 
 impl Ask {
-    /// Whether the key is the least of the members' nodes of its level that weren't read, all else lies deeper, and
-    /// the asker is a node of a level above the key's, or nobody for the first of all asks.
-    pub(crate) fn is_sound(&self, is_first: bool) -> bool
-        ensures { result ≡ is_sound is_first self.now }
+    /// Whether a node asks.
+    pub(crate) fn has_source(&self) -> bool
+        ensures { result ≡ is_asker self.now.asker }
     {
-        self.is_keyed() && asks_above(self.asker, self.key, is_first)
+        match Source::of_word(self.asker) {
+            Some(_source) => true,
+            None => false,
+        }
+    }
+
+    // Whether the key is the least of the members' nodes of its level that weren't read, all else lies deeper, and
+    // the asker is a node of a level above the key's, or nobody.
+    fn is_sound(&self) -> bool
+        ensures { result ≡ is_sound self.now }
+    {
+        self.is_keyed() && asks_above(self.asker, self.key)
     }
 
     // Whether the key is the least of the members' nodes of its level that weren't read, and all else lies deeper.
@@ -76,13 +139,13 @@ impl Member {
     }
 }
 
-// Whether the asker is a node of a level above the key's, or nobody for the first of all asks.
-fn asks_above(asker: u64, key: Uid, is_first: bool) -> bool
-    ensures { result ≡ asks_above asker key is_first }
+// Whether the asker is a node of a level above the key's, or nobody.
+fn asks_above(asker: u64, key: Uid) -> bool
+    ensures { result ≡ asks_above asker key }
 {
     match Source::of_word(asker) {
-        Some(source) => !is_first && level_at(source.uid) < level_at(key),
-        None => is_first && asker == NOBODY,
+        Some(source) => level_at(source.uid) < level_at(key),
+        None => asker == NOBODY,
     }
 }
 

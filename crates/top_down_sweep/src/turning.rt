@@ -6,7 +6,7 @@ use crate::ask::{Ask, Members};
 use crate::machine::Machine;
 use crate::members::{key_of, level_at};
 use crate::place::{Asking, Phase};
-use crate::sound::NOBODY;
+use crate::sound::{NOBODY, SoundAsk};
 use rec_words::{Ptr, Uid};
 use shelf_model::{Shelf, SortFault};
 use sweep_core::Turn;
@@ -19,11 +19,10 @@ impl<'r> Machine<'r> {
     ghost use Rattle.level_queue.specs.Queues.{shown, last_of};
     ghost use Rattle.top_down_sweep.specs.Members.{want};
     ghost use Rattle.sweep_core.specs.Sweeps.{Falls, StaysEnded};
-    ghost use Rattle.top_down_sweep.specs.Soundness.{is_none};
     ghost use Rattle.top_down_sweep.specs.Sweeps.{IsSoundMachine, IsAsking, HasEnded, EndsAt};
     ghost use Rattle.top_down_sweep.specs.Fuel.{unread, weight, machine_fuel};
-    ghost use Rattle.top_down_sweep.specs.Waiting.{is_first_at, HasNoHands};
-    ghost use Rattle.top_down_sweep.specs.Calls.{Does, IsFit, IsShown, IsMachineInStep, HoldsAt, HoldsFirstAt};
+    ghost use Rattle.top_down_sweep.specs.Waiting.{HasNoHands};
+    ghost use Rattle.top_down_sweep.specs.Calls.{Does, IsFit, IsFirst, IsMachineInStep, HoldsAt, HoldsFirstAt};
     ghost use Rattle.std.specs.Prelude.{IfErr, []};
     ghost use Rattle.arc_file.specs.Writers.{HoldsArcs};
     ghost use Rattle.top_down_sweep.specs.Ordered.{HoldsPut, IsOrdered, KeepsArcs};
@@ -70,7 +69,7 @@ impl<'r> Machine<'r> {
     ) -> Result<Turn, SortFault>
         requires phase { self.old.place.phase ≡ Phase.Fresh }
         requires fit { IsFit S.tells S.world shelf.old self.old }
-        requires holds { HoldsAt S.tells S.world 0 shelf.old self.old }
+        requires holds { HoldsAt S.tells S.world shelf.old self.old }
         requires unread { IsTrue (S.tells shelf.old) → HasNoHands self.old.operands }
         requires unwritten { IsTrue (S.tells shelf.old) → HoldsArcs self.old.writer (S.world shelf.old) [] [] }
         ensures does { Does S.tells S.world S.faults 48 3 shelf.old shelf.new self.old self.new result }
@@ -102,12 +101,12 @@ impl<'r> Machine<'r> {
         requires none { last_of self.old.queue ≡ None }
         requires fit { IsFit S.tells S.world shelf.old self.old }
         requires fresh { self.old.place.phase ≡ Phase.Fresh }
-        requires holds { HoldsAt S.tells S.world 0 shelf.old self.old }
+        requires holds { HoldsAt S.tells S.world shelf.old self.old }
         requires unread { IsTrue (S.tells shelf.old) → HasNoHands self.old.operands }
         ensures does { Does S.tells S.world S.faults 48 3 shelf.old shelf.new self.old self.new result }
         ensures fit { OnOk result (IsFit S.tells S.world shelf.new self.new) }
         ensures phase { OnOk result (IsAsking self.new.place.phase) }
-        ensures holds { OnOk result (HoldsAt S.tells S.world 1 shelf.new self.new) }
+        ensures holds { OnOk result (HoldsAt S.tells S.world shelf.new self.new) }
         ensures weight { OnOk result (weight self.new ≡ weight self.old + 1) }
         ensures keeps { OnOk result (IsTrue (S.tells shelf.new) → (t : Task) →
             t.rule.goal t.roots ≡ Goal.Go tuple.now →
@@ -129,7 +128,7 @@ impl<'r> Machine<'r> {
             members: Members::of(tuple),
             asker: NOBODY,
         };
-        self.push(ask, shelf)
+        self.push(SoundAsk::new(ask), shelf)
     }
 
     // Handles the first ask, or ends where there is none.
@@ -141,7 +140,7 @@ impl<'r> Machine<'r> {
     ) -> Result<Turn, SortFault>
         requires phase { self.old.place.phase ≡ Phase.Asking asking.now }
         requires fit { IsFit S.tells S.world shelf.old self.old }
-        requires holds { HoldsAt S.tells S.world 1 shelf.old self.old }
+        requires holds { HoldsAt S.tells S.world shelf.old self.old }
         requires put { IsTrue (S.tells shelf.old) → HoldsPut asking.now self.old (S.world shelf.old) }
         ensures does { Does S.tells S.world S.faults 113 6 shelf.old shelf.new self.old self.new result }
         ensures sound { OnOk result (IsSoundMachine self.new) }
@@ -157,17 +156,15 @@ impl<'r> Machine<'r> {
         ensures undamaged { IfErr result (λ e. IsTrue (S.tells shelf.new) → (t : Task) →
             IsWorking t asking.now self.old (S.world shelf.old) → IsNoDamage e) }
     {
-        let Some(ask) = self.first_ask(shelf)? else {
+        let Some(first) = self.first_ask(shelf)? else {
             return self.end(asking.root.ptr(), shelf);
         };
-        if !ask.is_sound(asking.is_first()) {
-            return Err(self.operands.first.damage());
-        }
-        self.handle(operation, asking, &ask, shelf)?;
+        self.handle(operation, asking, &first.ask(), shelf)?;
         Ok(Turn::More)
     }
 
-    // Reads a node that the first ask wants, or takes the ask. One that was taken before is taken without effect.
+    // Reads a node that the first ask wants, or takes the ask. One that was taken before is taken without effect, and
+    // so is one that may not come then.
     fn handle<O: Operation, S: Shelf>(
         &mut self,
         operation: &O,
@@ -176,13 +173,13 @@ impl<'r> Machine<'r> {
         shelf: &mut S,
     ) -> Result<(), SortFault>
         requires phase { self.old.place.phase ≡ Phase.Asking asking.now }
-        requires shown { IsShown (is_none asking.now.last) self.old ask.now }
+        requires shown { IsFirst self.old ask.now }
         requires fit { IsFit S.tells S.world shelf.old self.old }
         requires first { HoldsFirstAt S.tells S.world shelf.old self.old ask.now }
         ensures does { Does S.tells S.world S.faults 105 6 shelf.old shelf.new self.old self.new result }
         ensures fit { OnOk result (IsFit S.tells S.world shelf.new self.new) }
         ensures phase { OnOk result (IsAsking self.new.place.phase) }
-        ensures holds { OnOk result (HoldsAt S.tells S.world 1 shelf.new self.new) }
+        ensures holds { OnOk result (HoldsAt S.tells S.world shelf.new self.new) }
         ensures falls { OnOk result (weight self.new < weight self.old) }
         ensures keeps { OnOk result (IsTrue (S.tells shelf.new) → (t : Task) → t.rule ≡ O.rule operation.now →
             IsHandling t asking.now ask.now self.old (S.world shelf.old) →
@@ -192,7 +189,10 @@ impl<'r> Machine<'r> {
         ensures undamaged { IfErr result (λ e. IsTrue (S.tells shelf.new) → (t : Task) →
             IsHandling t asking.now ask.now self.old (S.world shelf.old) → IsNoDamage e) }
     {
-        if self.queue.last() == Some(*ask) {
+        if self.took_last(ask) {
+            return self.take(ask, shelf);
+        }
+        if !asking.is_due(ask) {
             return self.take(ask, shelf);
         }
         if self.operands.want(ask) {
@@ -214,7 +214,7 @@ impl<'r> Machine<'r> {
         ensures does { Does S.tells S.world S.faults 1 0 shelf.old shelf.new self.old self.new result }
         ensures fit { OnOk result (IsFit S.tells S.world shelf.new self.new) }
         ensures rest { self.new ≡ record self.old { operands = self.new.operands } }
-        ensures holds { OnOk result (HoldsAt S.tells S.world 1 shelf.new self.new) }
+        ensures holds { OnOk result (HoldsAt S.tells S.world shelf.new self.new) }
         ensures falls { OnOk result (unread self.new.operands < unread self.old.operands) }
         ensures keeps { OnOk result (IsTrue (S.tells shelf.new) → (t : Task) → (s : Asking) →
             IsHandling t s ask.now self.old (S.world shelf.old) →

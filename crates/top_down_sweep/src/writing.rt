@@ -7,7 +7,7 @@ use shelf_model::{Shelf, SortFault};
 use sweep_core::Turn;
 
 impl<'r> Machine<'r> {
-    ghost use Rattle.std.specs.Prelude.{◌≡◌, ℕ, ◌+◌, ◌^◌, ◌≤◌, IsTrue, OnOk, IfOk, length};
+    ghost use Rattle.std.specs.Prelude.{◌≡◌, ◌+◌, ◌^◌, ◌≤◌, IsTrue, OnOk, IfOk, length};
     ghost use Rattle.arc_file.specs.declared.arc.Arc.{Arc};
     ghost use Rattle.std.specs.Prelude.{[], ◌∷◌, List};
     ghost use Rattle.arc_file.specs.Files.{inner_arcs};
@@ -27,8 +27,8 @@ impl<'r> Machine<'r> {
         requires fit { IsFit S.tells S.world shelf.old self.old }
         ensures does { Does S.tells S.world S.faults 1 0 shelf.old shelf.new self.old self.new result }
         ensures fit { OnOk result (IsFit S.tells S.world shelf.new self.new) }
-        ensures holds { (most : ℕ) → HoldsAt S.tells S.world most shelf.old self.old →
-            OnOk result (HoldsAt S.tells S.world most shelf.new self.new) }
+        ensures holds { HoldsAt S.tells S.world shelf.old self.old →
+            OnOk result (HoldsAt S.tells S.world shelf.new self.new) }
         ensures rest { self.new ≡ record self.old { writer = self.new.writer; has_one = self.new.has_one } }
         ensures one { self.new.has_one ≡ (self.old.has_one || leads_to_one arc) }
         ensures count { OnOk result

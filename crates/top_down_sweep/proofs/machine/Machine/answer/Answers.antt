@@ -1,7 +1,7 @@
-use Rattle.std.proofs.Common.{true, ℕ, ◌<◌, ◌^◌, ◌++◌, ◌∙◌, ap, sym, subst, arith, ◌≡◌, false}
+use Rattle.std.proofs.Common.{true, false, ℕ, ◌<◌, ◌^◌, ◌++◌, ◌∙◌, ap, sym, subst, arith, ◌≡◌}
 use Rattle.top_down_laws.specs.Remains.{answer_arcs}
 use Rattle.top_down.specs.Asks.{side_arcs}
-use Rattle.top_down_sweep.specs.Soundness.{is_none, identifier, next_numbered}
+use Rattle.top_down_sweep.specs.Soundness.{identifier, next_numbered}
 use Rattle.top_down_sweep.specs.Ordered.{ArePut}
 use Rattle.top_down_sweep.proofs.Numbers.{last_few}
 use Rattle.top_down_sweep.proofs.Orders.{put_of, put_at, put_known, put_new}
@@ -16,10 +16,10 @@ use Rattle.top_down_sweep.proofs.FormsOf.{is_known, unknown_where}
 use Rattle.top_down_sweep.proofs.TurnKeeps.{known_works, new_works}
 use Rattle.level_queue.specs.Queues.{last_of}
 use Rattle.top_down_sweep.proofs.FuelLaws.{two_more}
-use Rattle.top_down_sweep.proofs.Holding.{first_at, first_fits, more_at, read_level}
+use Rattle.top_down_sweep.proofs.Holding.{first_at, first_fits, read_level}
 use Rattle.std.proofs.lemmas.Result.{on_ok_weaker}
 use Rattle.std.proofs.lemmas.Bool.{and_parts}
-use Rattle.top_down_sweep.specs.Waiting.{is_first_at, AreReadTo}
+use Rattle.top_down_sweep.specs.Waiting.{AreReadTo}
 use Rattle.rec_words.specs.Words.{level_of}
 use Rattle.top_down_sweep.specs.declared.operand.Operands.{Operands}
 use Rattle.top_down_sweep.specs.declared.place.Place.{Place}
@@ -96,9 +96,7 @@ take-requires-clause-holds g c = first_at g.S.Shelf.tells g.S.Shelf.world _ c.ar
     c.args.ask.now c.requires.first
 
 pub returns-in-Some-clause-holds : goal.returns-in-Some-clause-holds
-returns-in-Some-clause-holds g c = on_ok_weaker c.put_inner.result
-    (more_at g.S.Shelf.tells g.S.Shelf.world _ c.put_inner.new.self)
-    (c.put_inner.ensures.holds 0 c.in_ok-take.ensures.holds)
+returns-in-Some-clause-holds g c = c.put_inner.ensures.holds c.in_ok-take.ensures.holds
 
 -- no operand was read past its level
 pub ask_side-requires-clause-read : goal.ask_side-requires-clause-read
@@ -110,7 +108,7 @@ ask_side-requires-clause-read g c told =
     (λ (m : Machine). m.operands) c.number.ensures.rest ∙ ap (λ (m : Machine). m.operands)
     c.take.ensures.rest in
     subst (λ (o : Operands). AreReadTo (level_of c.in_ok-uid.uid) o) (sym same)
-    (read_level _ c.args.self.now.operands c.args.ask.now (level_of c.in_ok-uid.uid)
+    (read_level c.args.self.now.operands c.args.ask.now (level_of c.in_ok-uid.uid)
     c.in_ok-uid.ensures.level fits)
 
 pub ask_side-requires-2-clause-read : goal.ask_side-requires-2-clause-read
@@ -123,16 +121,8 @@ ask_side-requires-2-clause-read g c told =
     ∙ ap (λ (m : Machine). m.operands) c.number.ensures.rest ∙ ap (λ (m : Machine). m.operands)
     c.take.ensures.rest in
     subst (λ (o : Operands). AreReadTo (level_of c.in_ok-uid.uid) o) (sym same)
-    (read_level _ c.args.self.now.operands c.args.ask.now (level_of c.in_ok-uid.uid)
+    (read_level c.args.self.now.operands c.args.ask.now (level_of c.in_ok-uid.uid)
     c.in_ok-uid.ensures.level fits)
-
-pub ask_side-requires-2-clause-numbered : goal.ask_side-requires-2-clause-numbered
-ask_side-requires-2-clause-numbered g c = subst (λ (p : Place). is_first_at p.phase ≡ false)
-    (sym c.ask_side.ensures.place) c.in_ok-uid.ensures.numbered
-
-pub returns-clause-holds : goal.returns-clause-holds
-returns-clause-holds g c = on_ok_weaker c.ask_side-2.result
-    (more_at g.S.Shelf.tells g.S.Shelf.world _ c.ask_side-2.new.self) c.ask_side-2.ensures.holds
 
 -- and at most two were put
 pub returns-clause-load : goal.returns-clause-load
@@ -214,10 +204,10 @@ returns-in-Some-clause-ordered g c = on_ok_weaker c.put_inner.result (λ put tol
       held = put told h.inner h.ends (c.in_ok-take.ensures.arcs mid h.inner h.ends h.held);
       put = subst (λ o. ArePut s.last o (h.inner ++ answer_arcs a.asker c.in-Some.known) h.ends)
           (sym (ap (λ (m : Machine). last_of m.queue) c.put_inner.ensures.rest ∙ c.in_ok-take.ensures.last))
-          (put_known s.last (last_of m.queue) a (is_none s.last) c.in-Some.known h.inner h.ends
+          (put_known s.last (last_of m.queue) a c.in-Some.known h.inner h.ends
           (last_few m.writer _ m.place.phase s c.requires.phase c.requires.fit.sound.phase)
-          c.requires.shown.first.value.key_is (and_parts _ _ c.requires.shown.sound).1
-          c.requires.shown.first.no_less
+          c.requires.shown.value.form.key_is (and_parts _ _ c.requires.shown.value.sound).1
+          c.requires.shown.no_less
           (is_known s.last a c.in-Some.known (sym c.known.ensures ∙ c.in-Some.is)) h.put);
     })) c.put_inner.ensures.arcs
 
@@ -250,6 +240,6 @@ returns-clause-ordered g c = on_ok_weaker c.ask_side-2.result (λ high told orde
           (sym last)
           (put_new s (last_of m.queue) a uid (goal_of false) (goal_of true) h.inner h.ends
           (last_few m.writer _ m.place.phase s c.requires.phase c.requires.fit.sound.phase)
-          c.requires.shown.first.value.key_is (is_none s.last) (and_parts _ _ c.requires.shown.sound).1
-          c.requires.shown.first.no_less c.in_ok-uid.ensures.number c.in_ok-uid.ensures.level h.put);
+          c.requires.shown.value.form.key_is (and_parts _ _ c.requires.shown.value.sound).1
+          c.requires.shown.no_less c.in_ok-uid.ensures.number c.in_ok-uid.ensures.level h.put);
     })) c.ask_side-2.ensures.arcs

@@ -5,8 +5,12 @@ use Rattle.top_down_laws.specs.Forms.{nobody}
 use Rattle.top_down_sweep.specs.declared.place.Phase.TheVariants as phases
 use Rattle.top_down_sweep.specs.declared.place.Place.{Place}
 use Rattle.top_down_sweep.specs.declared.ask.Ask.{Ask}
+use Rattle.top_down_sweep.specs.declared.ask.Members.{Members}
+use Rattle.top_down_sweep.specs.Soundness.{is_sound}
+use Rattle.top_down_sweep.proofs.Holding.{fresh_fits}
+use Rattle.top_down_sweep.proofs.SoundAsks.{root_sound}
 use Rattle.std.specs.Prelude.{None}
-use Rattle.std.proofs.Common.{[], ◌∷◌, refl, ◌∙◌, subst, ap}
+use Rattle.std.proofs.Common.{◌≡◌, true, [], ◌∷◌, refl, ◌∙◌, subst, sym, ap}
 use Rattle.rec_words.specs.Words.{node_word}
 use Rattle.std.proofs.lemmas.Result.{on_ok_weaker}
 use Rattle.top_down_sweep.proofs.TurnKeeps.{asked_works}
@@ -15,6 +19,16 @@ use Rattle.top_down_sweep.proofs.FuelLaws.{weight_put}
 use Rattle.top_down_sweep.proofs.Orders.{put_at}
 use Rattle.top_down_sweep.specs.Ordered.{IsOrderedAt}
 use Rattle.top_down_sweep.proofs.machine.Machine.ask_first.Goals as goal
+
+-- the root's ask is sound
+pub new-requires : goal.new-requires
+new-requires g c = subst (λ (m : Members). is_sound
+    (record { key = c.in-Some.key; members = m; asker = nobody }) ≡ true) (sym c.of-2.ensures)
+    (root_sound c.args.tuple.now _ nobody c.in-Some.ensures.1 refl)
+
+-- it fits, since no node was read
+pub push-requires-clause-fits : goal.push-requires-clause-fits
+push-requires-clause-fits g c told = fresh_fits c.args.self.now.operands _ (c.requires.unread told)
 
 -- one ask more waits
 pub returns-clause-weight : goal.returns-clause-weight
@@ -35,11 +49,11 @@ returns-clause-keeps g c = on_ok_weaker c.push.result (λ joins told t goes stan
     (c.push.ensures.last ∙ c.requires.none) (ap (λ (q : Machine). q.place.phase) c.push.ensures.rest)
     stands (subst (λ (a : Ask). JoinAsks c.push.new.self (g.S.Shelf.world c.push.new.shelf)
     (first_contents t) (a ∷ []))
-    (λ i. record {
+    (c.new.ensures ∙ (λ i. record {
       key = c.in-Some.ensures.1 i;
       members = c.of-2.ensures i;
       asker = nobody;
-    }) (joins told (first_contents t) (stands_placed m (record m { place = place }) place
+    })) (joins told (first_contents t) (stands_placed m (record m { place = place }) place
     (g.S.Shelf.world c.args.shelf.now) (first_contents t) refl stands)))) c.push.ensures.list
 
 -- nothing was put

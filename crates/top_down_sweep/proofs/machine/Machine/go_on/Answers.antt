@@ -3,16 +3,14 @@ use Rattle.node_reading.proofs.NodeReading.{if_handed}
 use Rattle.list_laws.proofs.AnswerLaws.{on_ok_both}
 use Rattle.top_down_sweep.specs.Changes.{ShowsAsk}
 use Rattle.top_down_sweep.proofs.TurnKeeps.{handling, works_remain, ended_remains, fewer_since, ended_left}
-use Rattle.top_down_sweep.proofs.Holding.{never_unsound}
 use Rattle.top_down_sweep.proofs.Phases.{step_at}
 use Rattle.top_down_sweep.proofs.Orders.{put_at, put_kept, put_ordered}
 use Rattle.top_down_sweep.specs.declared.machine.Machine.{Machine}
-use Rattle.std.proofs.Common.{◌≡◌, ◌∙◌, ap, sym, subst, arith, false}
-use Rattle.std.specs.Prelude.{IfSome, true}
-use Rattle.top_down_sweep.specs.Soundness.{is_sound}
+use Rattle.std.proofs.Common.{◌∙◌, ap, sym, subst, arith}
+use Rattle.std.specs.Prelude.{Some, IfSome}
 use Rattle.top_down_sweep.specs.Calls.{IsFirst, HoldsFirstAt}
 use Rattle.top_down_sweep.proofs.FuelLaws.{end_falls, handle_falls}
-use Rattle.top_down_sweep.proofs.Doing.{then_more, then_ok, does_more, does_refused, damage_refuses, refused_second}
+use Rattle.top_down_sweep.proofs.Doing.{then_more, then_ok, refused_second}
 use Rattle.top_down_sweep.proofs.machine.Machine.go_on.Goals as goal
 
 -- there is no ask
@@ -22,29 +20,10 @@ returns-in_default-clause-does g c = then_more g.S.Shelf.tells g.S.Shelf.world g
     c.end.result
     (omega arith) (omega arith) c.first_ask.ensures.does c.end.ensures.does
 
--- the first ask is refused
-pub returns-then-not-is_sound-clause-does : goal.returns-then-not-is_sound-clause-does
-returns-then-not-is_sound-clause-does g c = does_more g.S.Shelf.tells g.S.Shelf.world
-    g.S.Shelf.faults 8 113 0 6 _ _ _ _ _ (omega arith) (omega arith)
-    (does_refused g.S.Shelf.tells g.S.Shelf.world g.S.Shelf.faults 8 0 _ _ c.args.self.now
-    c.first_ask.new.self c.first_ask.result c.damage.result c.damage.ensures.cause
-    (damage_refuses c.first_ask.new.self c.damage.result c.damage.ensures.cause
-    c.damage.ensures.damage)
-    (λ told. absurd (never_unsound c.args.self.now c.first_ask.new.self c.in-Some.ask _ _
-    c.requires.phase c.first_ask.ensures.rest
-    (subst (λ found. IfSome found (HoldsFirstAt g.S.Shelf.tells g.S.Shelf.world
-    c.first_ask.new.shelf c.first_ask.new.self)) c.in-Some.is c.in_ok-ask.ensures.holds told)
-    (subst (λ b. is_sound b c.in-Some.ask ≡ false) c.is_first.ensures
-    (sym c.is_sound.ensures ∙ c.if-not-is_sound.true)))) c.first_ask.ensures.does)
-
--- it is sound
+-- it is shown
 pub handle-requires-clause-shown : goal.handle-requires-clause-shown
-handle-requires-clause-shown g c = record {
-  first = subst (λ found. IfSome found (IsFirst c.first_ask.new.self)) c.in-Some.is
-      c.in_ok-ask.ensures.shown;
-  sound = subst (λ b. is_sound b c.in-Some.ask ≡ true) c.is_first.ensures
-      (sym c.is_sound.ensures ∙ c.if-not-is_sound.false);
-}
+handle-requires-clause-shown g c = subst (λ found. IfSome found (IsFirst c.first_ask.new.self))
+    (c.in-Some.is ∙ ap Some (sym c.ask.ensures.value)) c.in_ok-first.ensures.shown
 
 pub returns-in_err-handle-clause-does : goal.returns-in_err-handle-clause-does
 returns-in_err-handle-clause-does g c = refused_second g.S.Shelf.tells g.S.Shelf.world
@@ -69,13 +48,13 @@ returns-in_default-clause-falls g c = end_falls _ c.end.new.self _ c.end.result 
 pub returns-clause-falls : goal.returns-clause-falls
 returns-clause-falls g c = handle_falls c.args.self.now c.first_ask.new.self c.handle.new.self _
     c.requires.phase c.in_ok-handle.ensures.phase c.first_ask.ensures.rest c.first_ask.ensures.last
-    c.in_ok-ask.ensures.load c.in_ok-handle.ensures.falls
+    c.in_ok-first.ensures.load c.in_ok-handle.ensures.falls
 
--- the first ask is the first of those that wait
+-- it is the first of those that wait
 pub handle-requires-clause-first : goal.handle-requires-clause-first
 handle-requires-clause-first g c = subst (λ found. IfSome found
     (HoldsFirstAt g.S.Shelf.tells g.S.Shelf.world c.first_ask.new.shelf c.first_ask.new.self))
-    c.in-Some.is c.in_ok-ask.ensures.holds
+    (c.in-Some.is ∙ ap Some (sym c.ask.ensures.value)) c.in_ok-first.ensures.holds
 
 pub returns-clause-in_step : goal.returns-clause-in_step
 returns-clause-in_step g c told =
@@ -87,7 +66,7 @@ returns-clause-in_step g c told =
     (g.S.Shelf.world c.first_ask.new.shelf) s
     (ap (λ (m : Machine). m.place.phase) c.first_ask.ensures.rest ∙ c.requires.phase)
     (put_kept s c.args.self.now c.first_ask.new.self (g.S.Shelf.world c.args.shelf.now)
-    (g.S.Shelf.world c.first_ask.new.shelf) c.first_ask.ensures.last (c.in_ok-ask.ensures.arcs mid)
+    (g.S.Shelf.world c.first_ask.new.shelf) c.first_ask.ensures.last (c.in_ok-first.ensures.arcs mid)
     (c.requires.put (c.first_ask.ensures.does.leaves.content.before mid)))))
 
 -- the arcs that were put are in order
@@ -96,7 +75,7 @@ end-requires-clause-ordered g c mid =
     let s = c.args.asking.now in
     put_ordered s c.first_ask.new.self (g.S.Shelf.world c.first_ask.new.shelf)
     (put_kept s c.args.self.now c.first_ask.new.self (g.S.Shelf.world c.args.shelf.now)
-    (g.S.Shelf.world c.first_ask.new.shelf) c.first_ask.ensures.last (c.in_ok-ask.ensures.arcs mid)
+    (g.S.Shelf.world c.first_ask.new.shelf) c.first_ask.ensures.last (c.in_ok-first.ensures.arcs mid)
     (c.requires.put (c.first_ask.ensures.does.leaves.content.before mid)))
 
 -- where no ask is left, what was put is of the task
@@ -106,29 +85,29 @@ returns-in_default-clause-keeps g c = on_ok_both c.end.result (λ phase files to
     c.first_ask.new.self c.end.new.self _ _ _ _ h
     (subst (λ found. ShowsAsk c.first_ask.new.self
     (g.S.Shelf.world c.first_ask.new.shelf) h.contents found) c.in_default.is
-    (c.in_ok-ask.ensures.list (c.end.ensures.does.leaves.content.before told) h.contents h.stands))
+    (c.in_ok-first.ensures.list (c.end.ensures.does.leaves.content.before told) h.contents h.stands))
     c.ptr.ensures.value phase c.end.ensures.one (files told)) c.end.ensures.made c.end.ensures.files
 
 -- and what the handling of the first one leaves remains
 pub returns-clause-keeps : goal.returns-clause-keeps
 returns-clause-keeps g c told t rule h = works_remain t _ c.handle.new.self.place.phase
     c.handle.new.self _ (c.in_ok-handle.ensures.keeps told t rule
-    (handling t c.args.asking.now c.in-Some.ask c.args.self.now c.first_ask.new.self _ _ h
+    (handling t c.args.asking.now c.ask.result c.args.self.now c.first_ask.new.self _ _ h
     c.first_ask.ensures.last
     (subst (λ found. ShowsAsk c.first_ask.new.self (g.S.Shelf.world c.first_ask.new.shelf)
-    h.contents found) c.in-Some.is
-    (c.in_ok-ask.ensures.list (c.handle.ensures.does.leaves.content.before told) h.contents
+    h.contents found) (c.in-Some.is ∙ ap Some (sym c.ask.ensures.value))
+    (c.in_ok-first.ensures.list (c.handle.ensures.does.leaves.content.before told) h.contents
     h.stands)))).0
 
 -- one turn less remains, or none where it ended
 pub returns-clause-fewer : goal.returns-clause-fewer
 returns-clause-fewer g c told t rule h =
     let shown = subst (λ found. ShowsAsk c.first_ask.new.self
-    (g.S.Shelf.world c.first_ask.new.shelf) h.contents found) c.in-Some.is
-    (c.in_ok-ask.ensures.list (c.handle.ensures.does.leaves.content.before told) h.contents
+    (g.S.Shelf.world c.first_ask.new.shelf) h.contents found) (c.in-Some.is ∙ ap Some (sym c.ask.ensures.value))
+    (c.in_ok-first.ensures.list (c.handle.ensures.does.leaves.content.before told) h.contents
     h.stands) in
     let after = c.in_ok-handle.ensures.keeps told t rule
-    (handling t c.args.asking.now c.in-Some.ask c.args.self.now c.first_ask.new.self _ _ h
+    (handling t c.args.asking.now c.ask.result c.args.self.now c.first_ask.new.self _ _ h
     c.first_ask.ensures.last shown) in
     fewer_since t c.args.asking.now c.args.self.now c.first_ask.new.self c.handle.new.self
     (g.S.Shelf.world c.args.shelf.now) (g.S.Shelf.world c.first_ask.new.shelf)
@@ -140,21 +119,12 @@ returns-in_default-clause-fewer g c told t rule h = ended_left t (phases.Asking 
     (g.S.Shelf.world c.end.new.shelf) c.end.result c.end.ensures.turn _ c.end.ensures.made
 
 -- no damage is found
-pub returns-then-not-is_sound-clause-undamaged : goal.returns-then-not-is_sound-clause-undamaged
-returns-then-not-is_sound-clause-undamaged g c = λ told t h.
-    absurd (never_unsound c.args.self.now c.first_ask.new.self c.in-Some.ask _ _
-    c.requires.phase c.first_ask.ensures.rest
-    (subst (λ found. IfSome found (HoldsFirstAt g.S.Shelf.tells g.S.Shelf.world
-    c.first_ask.new.shelf c.first_ask.new.self)) c.in-Some.is c.in_ok-ask.ensures.holds told)
-    (subst (λ b. is_sound b c.in-Some.ask ≡ false) c.is_first.ensures
-    (sym c.is_sound.ensures ∙ c.if-not-is_sound.true)))
-
 pub returns-in_err-handle-clause-undamaged : goal.returns-in_err-handle-clause-undamaged
 returns-in_err-handle-clause-undamaged g c = if_handed _ c.from_residual-in_err-handle.result _
     c.from_residual-in_err-handle.ensures.1 (λ told t h. c.in_err-handle.ensures.undamaged told t
-    (handling t c.args.asking.now c.in-Some.ask c.args.self.now c.first_ask.new.self _ _ h
+    (handling t c.args.asking.now c.ask.result c.args.self.now c.first_ask.new.self _ _ h
     c.first_ask.ensures.last
     (subst (λ found. ShowsAsk c.first_ask.new.self
-    (g.S.Shelf.world c.first_ask.new.shelf) h.contents found) c.in-Some.is
-    (c.in_ok-ask.ensures.list (c.handle.ensures.does.leaves.content.before told) h.contents
+    (g.S.Shelf.world c.first_ask.new.shelf) h.contents found) (c.in-Some.is ∙ ap Some (sym c.ask.ensures.value))
+    (c.in_ok-first.ensures.list (c.handle.ensures.does.leaves.content.before told) h.contents
     h.stands))))

@@ -1,12 +1,11 @@
 use Rattle.list_laws.proofs.AnswerLaws.{on_ok_both}
-use Rattle.top_down_sweep.proofs.Holding.{if_err_map, first_at, more_at}
+use Rattle.top_down_sweep.proofs.Holding.{if_err_map, first_at}
 use Rattle.top_down_sweep.proofs.TurnKeeps.{again_works, advances_at}
 use Rattle.top_down_sweep.proofs.Orders.{put_of, put_at, put_kept, put_later}
 use Rattle.level_queue.specs.Queues.{last_of}
-use Rattle.top_down_sweep.proofs.WorkingOn.{not_last}
+use Rattle.top_down_sweep.proofs.WorkingOn.{not_last, always_due}
 use Rattle.std.proofs.lemmas.Result.{on_ok_weaker}
 use Rattle.top_down_sweep.proofs.SoundAsks.{again_sound}
-use Rattle.top_down_sweep.specs.Waiting.{is_first_at}
 use Rattle.top_down_sweep.specs.Soundness.{is_sound}
 use Rattle.top_down_sweep.specs.declared.ask.Members.{Members}
 use Rattle.std.proofs.Common.{◌≡◌, ◌<◌, ◌^◌, subst, sym, ap, ◌∙◌, arith, true}
@@ -16,7 +15,7 @@ use Rattle.top_down_laws.specs.Forms.{least}
 use Rattle.top_down_sweep.specs.Members.{IsResolved, all_waiting}
 use Rattle.top_down_sweep.proofs.Doing.{does_more, on_ok}
 use Rattle.top_down_sweep.proofs.Phases.{still_asking}
-use Rattle.top_down_sweep.proofs.FuelLaws.{falls_known, falls_taken, first_behind, no_more_waits, last_is, last_differs}
+use Rattle.top_down_sweep.proofs.FuelLaws.{falls_known, falls_taken, first_behind, no_more_waits, fewer_waits}
 use Rattle.top_down_sweep.specs.declared.machine.Machine.{Machine}
 use Rattle.top_down_sweep.proofs.MemberLaws.{next_later, all_resolved}
 use Rattle.top_down_sweep.proofs.machine.Machine.handle.Goals as goal
@@ -32,7 +31,7 @@ ask_again-requires-clause-later g c =
     (subst (λ v. v) (λ j. a.key < least (all_waiting (sym c.level_at.ensures.level j)
     (sym c.filled-members.ensures j)))
     (next_later s.place.variables s.operands a c.requires.fit.sound.operands
-    (and_parts _ _ c.requires.shown.sound).0 node (sym c.want.ensures ∙ c.if-want.false)))
+    (and_parts _ _ c.requires.shown.value.sound).0 node (sym c.want.ensures ∙ c.if-want.false)))
 
 -- and where nothing is, all was read
 pub answer-requires-clause-resolved : goal.answer-requires-clause-resolved
@@ -43,7 +42,7 @@ answer-requires-clause-resolved g c =
     in
     subst (IsResolved _) (sym c.filled-members.ensures)
     (all_resolved s.place.variables s.operands a c.requires.fit.sound.operands
-    (and_parts _ _ c.requires.shown.sound).0 node
+    (and_parts _ _ c.requires.shown.value.sound).0 node
     (λ below. c.in-None.ensures (subst (λ v. v)
     (λ j. least (all_waiting (sym c.level_at.ensures.level j) (sym c.filled-members.ensures j))
     < 2 ^ 63) below)))
@@ -53,11 +52,21 @@ returns-in-Some-clause-does g c = does_more g.S.Shelf.tells g.S.Shelf.world g.S.
     3 6 _ _ _ _ c.ask_again.result (omega arith) (omega arith) c.ask_again.ensures.does
 
 -- the last ask was taken once more
-pub returns-then-eq-clause-falls : goal.returns-then-eq-clause-falls
-returns-then-eq-clause-falls g c = falls_known c.args.self.now c.take.new.self c.args.ask.now
-    c.take.result
-    (last_is _ c.args.ask.now c.last.result c.last.ensures (sym c.eq.ensures ∙ c.if-eq.true))
+pub returns-then-took_last-clause-falls : goal.returns-then-took_last-clause-falls
+returns-then-took_last-clause-falls g c = falls_known c.args.self.now c.take.new.self c.args.ask.now
+    c.take.result (c.took_last.ensures.yes c.if-took_last.true)
     (ap (λ (m : Machine). m.operands) c.take.ensures.rest) c.take.ensures.load c.take.ensures.last
+
+-- one that may not come then was taken
+pub returns-then-not-is_due-clause-falls : goal.returns-then-not-is_due-clause-falls
+returns-then-not-is_due-clause-falls g c = falls_taken c.args.self.now c.take-then-not-is_due.new.self
+    c.args.ask.now c.take-then-not-is_due.result
+    (first_behind c.args.self.now c.args.ask.now c.requires.fit.sound.served c.requires.shown
+    (c.took_last.ensures.no c.if-took_last.false))
+    (ap (λ (m : Machine). m.operands) c.take-then-not-is_due.ensures.rest)
+    (fewer_waits c.args.self.now c.take-then-not-is_due.new.self c.take-then-not-is_due.result
+    c.take-then-not-is_due.ensures.load)
+    c.take-then-not-is_due.ensures.last
 
 pub returns-in-Some-clause-phase : goal.returns-in-Some-clause-phase
 returns-in-Some-clause-phase g c = on_ok c.ask_again.result
@@ -68,9 +77,8 @@ returns-in-Some-clause-phase g c = on_ok c.ask_again.result
 pub returns-in-Some-clause-falls : goal.returns-in-Some-clause-falls
 returns-in-Some-clause-falls g c = falls_taken c.args.self.now c.ask_again.new.self c.args.ask.now
     c.ask_again.result
-    (first_behind c.args.self.now c.args.ask.now c.requires.fit.sound.served c.requires.shown.first
-    (last_differs _ c.args.ask.now c.last.result c.last.ensures
-    (sym c.eq.ensures ∙ c.if-eq.false)))
+    (first_behind c.args.self.now c.args.ask.now c.requires.fit.sound.served c.requires.shown
+    (c.took_last.ensures.no c.if-took_last.false))
     (ap (λ (m : Machine). m.operands) c.ask_again.ensures.rest)
     (no_more_waits c.args.self.now c.ask_again.new.self c.ask_again.result
     c.ask_again.ensures.load) c.ask_again.ensures.last
@@ -79,19 +87,14 @@ returns-in-Some-clause-falls g c = falls_taken c.args.self.now c.ask_again.new.s
 pub returns-in-None-clause-falls : goal.returns-in-None-clause-falls
 returns-in-None-clause-falls g c = falls_taken c.args.self.now c.answer.new.self c.args.ask.now
     c.answer.result
-    (first_behind c.args.self.now c.args.ask.now c.requires.fit.sound.served c.requires.shown.first
-    (last_differs _ c.args.ask.now c.last.result c.last.ensures
-    (sym c.eq.ensures ∙ c.if-eq.false)))
+    (first_behind c.args.self.now c.args.ask.now c.requires.fit.sound.served c.requires.shown
+    (c.took_last.ensures.no c.if-took_last.false))
     c.answer.ensures.operands c.answer.ensures.load c.answer.ensures.last
 
 -- the ask is the first of those that wait
 pub take-requires-clause-holds : goal.take-requires-clause-holds
 take-requires-clause-holds g c = first_at g.S.Shelf.tells g.S.Shelf.world _ c.args.self.now
     c.args.ask.now c.requires.first
-
-pub returns-then-eq-clause-holds : goal.returns-then-eq-clause-holds
-returns-then-eq-clause-holds g c = on_ok_weaker c.take.result
-    (more_at g.S.Shelf.tells g.S.Shelf.world _ c.take.new.self) c.take.ensures.holds
 
 pub read_wanted-requires-clause-wanted : goal.read_wanted-requires-clause-wanted
 read_wanted-requires-clause-wanted g c = sym c.want.ensures ∙ c.if-want.true
@@ -103,22 +106,30 @@ ask_again-requires-clause-sound g c =
     let a = c.args.ask.now in
     let node : IsNodeWord a.key = omega (arith, c.level_at.ensures.level, c.level_at.ensures.below)
     in
-    subst (λ (m : Members). is_sound (is_first_at s.place.phase)
+    subst (λ (m : Members). is_sound
     (record { key = c.in-Some.key; members = m; asker = a.asker }) ≡ true)
     (sym c.filled-members.ensures)
     (again_sound s.place.variables s.operands a c.in-Some.key c.requires.fit.sound.operands
-    (and_parts _ _ c.requires.shown.sound).0 node
+    (and_parts _ _ c.requires.shown.value.sound).0 node
     (c.in-Some.ensures.1 ∙ (λ j. least (all_waiting (c.level_at.ensures.level j)
     (c.filled-members.ensures j)))) (subst (λ k. k < 2 ^ 63) (sym c.in-Some.ensures.1)
-    c.in-Some.ensures.0)
-    (is_first_at s.place.phase) (subst (λ b. is_sound b a ≡ true)
-    (sym (ap is_first_at c.requires.phase)) c.requires.shown.sound))
+    c.in-Some.ensures.0) c.requires.shown.value.sound)
+
+-- the next tuple may be asked for
+pub answer-requires-clause-due : goal.answer-requires-clause-due
+answer-requires-clause-due g c = sym c.is_due.ensures ∙ c.if-not-is_due.false
 
 -- what remains of a task: the ask isn't the one that was taken last
-pub returns-then-eq-clause-keeps : goal.returns-then-eq-clause-keeps
-returns-then-eq-clause-keeps g c = on_ok c.take.result (λ told t rule h. absurd (not_last t
+pub returns-then-took_last-clause-keeps : goal.returns-then-took_last-clause-keeps
+returns-then-took_last-clause-keeps g c = on_ok c.take.result (λ told t rule h. absurd (not_last t
     c.args.asking.now c.args.self.now c.args.ask.now _ h.contents h.rest h.first_is h.stands h.left
-    (last_is _ c.args.ask.now c.last.result c.last.ensures (sym c.eq.ensures ∙ c.if-eq.true))))
+    (c.took_last.ensures.yes c.if-took_last.true)))
+
+-- and it may come then
+pub returns-then-not-is_due-clause-keeps : goal.returns-then-not-is_due-clause-keeps
+returns-then-not-is_due-clause-keeps g c = on_ok c.take-then-not-is_due.result (λ told t rule h. absurd (always_due t
+    c.args.asking.now c.args.self.now c.args.ask.now _ h.contents h.rest h.first_is h.stands h.left
+    (sym c.is_due.ensures ∙ c.if-not-is_due.true)))
 
 pub returns-then-want-clause-keeps : goal.returns-then-want-clause-keeps
 returns-then-want-clause-keeps g c = on_ok_weaker c.read_wanted.result (λ keeps told t rule h.
@@ -143,15 +154,27 @@ returns-in-None-clause-keeps g c = on_ok_weaker c.answer.result (λ keeps told t
     h) c.answer.ensures.keeps
 
 -- the arcs that were put are still in order
-pub returns-then-eq-clause-ordered : goal.returns-then-eq-clause-ordered
-returns-then-eq-clause-ordered g c = on_ok_both c.take.result (λ last keeps told ordered.
+pub returns-then-took_last-clause-ordered : goal.returns-then-took_last-clause-ordered
+returns-then-took_last-clause-ordered g c = on_ok_both c.take.result (λ last keeps told ordered.
     let m = c.args.self.now in
     let s = c.args.asking.now in
     let old = g.S.Shelf.world c.args.shelf.now in
     let new = g.S.Shelf.world c.take.new.shelf in
     put_at c.take.new.self new s (ap (λ (m : Machine). m.place.phase) c.take.ensures.rest ∙ c.requires.phase)
-    (put_later s m c.take.new.self old new c.args.ask.now c.requires.shown.first.no_less last
+    (put_later s m c.take.new.self old new c.args.ask.now c.requires.shown.no_less last
     (keeps told) (put_of m old s c.requires.phase ordered))) c.take.ensures.last c.take.ensures.arcs
+
+pub returns-then-not-is_due-clause-ordered : goal.returns-then-not-is_due-clause-ordered
+returns-then-not-is_due-clause-ordered g c = on_ok_both c.take-then-not-is_due.result (λ last keeps told ordered.
+    let m = c.args.self.now in
+    let s = c.args.asking.now in
+    let old = g.S.Shelf.world c.args.shelf.now in
+    let new = g.S.Shelf.world c.take-then-not-is_due.new.shelf in
+    put_at c.take-then-not-is_due.new.self new s
+    (ap (λ (m : Machine). m.place.phase) c.take-then-not-is_due.ensures.rest ∙ c.requires.phase)
+    (put_later s m c.take-then-not-is_due.new.self old new c.args.ask.now c.requires.shown.no_less last
+    (keeps told) (put_of m old s c.requires.phase ordered))) c.take-then-not-is_due.ensures.last
+    c.take-then-not-is_due.ensures.arcs
 
 pub returns-then-want-clause-ordered : goal.returns-then-want-clause-ordered
 returns-then-want-clause-ordered g c = on_ok_weaker c.read_wanted.result (λ keeps told ordered.
@@ -173,13 +196,19 @@ returns-in-Some-clause-ordered g c = on_ok_both c.ask_again.result (λ last keep
     let new = g.S.Shelf.world c.ask_again.new.shelf in
     put_at c.ask_again.new.self new s
     (ap (λ (m : Machine). m.place.phase) c.ask_again.ensures.rest ∙ c.requires.phase)
-    (put_later s m c.ask_again.new.self old new c.args.ask.now c.requires.shown.first.no_less last
+    (put_later s m c.ask_again.new.self old new c.args.ask.now c.requires.shown.no_less last
     (keeps told) (put_of m old s c.requires.phase ordered))) c.ask_again.ensures.last
     c.ask_again.ensures.arcs
 
 -- where something of a task remains no damage is found
-pub returns-then-eq-clause-undamaged : goal.returns-then-eq-clause-undamaged
-returns-then-eq-clause-undamaged g c = if_err_map c.take.result (λ e none told t h. none told) c.take.ensures.undamaged
+pub returns-then-took_last-clause-undamaged : goal.returns-then-took_last-clause-undamaged
+returns-then-took_last-clause-undamaged g c =
+    if_err_map c.take.result (λ e none told t h. none told) c.take.ensures.undamaged
+
+pub returns-then-not-is_due-clause-undamaged : goal.returns-then-not-is_due-clause-undamaged
+returns-then-not-is_due-clause-undamaged g c =
+    if_err_map c.take-then-not-is_due.result (λ e none told t h. none told)
+    c.take-then-not-is_due.ensures.undamaged
 
 pub returns-then-want-clause-undamaged : goal.returns-then-want-clause-undamaged
 returns-then-want-clause-undamaged g c = if_err_map c.read_wanted.result (λ e none told t h. none told t c.args.asking.now h) c.read_wanted.ensures.undamaged

@@ -5,7 +5,7 @@ use Rattle.top_down_sweep.specs.declared.place.Phase.TheVariants as phases
 use Rattle.top_down_laws.specs.Remains.{answer_arcs}
 use Rattle.std.specs.Prelude.{Some}
 use Rattle.std.proofs.Common.{ℕ, ◌++◌, ◌≡◌, ◌≤◌, ◌<◌, ◌∙◌, ap, sym, subst, arith, refl}
-use Rattle.top_down_sweep.proofs.Holding.{numbered_at}
+use Rattle.top_down_sweep.proofs.Holding.{placed_at}
 use Rattle.rec_words.specs.Words.{level_of, level_numbers}
 use Rattle.arc_file.specs.Writers.{inner_count, HoldsArcs}
 use Rattle.top_down_sweep.specs.declared.place.Numbered.{Numbered}
@@ -19,7 +19,7 @@ returns-clause-fit g c =
     let s = c.args.self.now in
     let fit = c.in_ok-put_inner.ensures.fit in
     let fits = number_fits s.writer c.put_inner.new.self.writer _ s.place.phase c.args.asking.now
-    c.args.ask.now c.requires.phase c.requires.fit.sound.phase c.requires.sound
+    c.args.ask.now c.requires.phase c.requires.fit.sound.phase c.requires.due
     c.in_ok-put_inner.ensures.count in
     record {
       sound = record {
@@ -43,7 +43,7 @@ returns-clause-level g c =
     c.uid-uid.ensures in
     let s = c.args.self.now in
     let fits = number_fits s.writer c.put_inner.new.self.writer _ s.place.phase c.args.asking.now
-    c.args.ask.now c.requires.phase c.requires.fit.sound.phase c.requires.sound
+    c.args.ask.now c.requires.phase c.requires.fit.sound.phase c.requires.due
     c.in_ok-put_inner.ensures.count in
     let few : c.next-next.result.number < level_numbers =
     let number = ap (λ (x : Numbered). x.number) c.next-next.ensures in
@@ -52,10 +52,10 @@ returns-clause-level g c =
     same ∙ level_of_node (level_of c.next-next.result.key) c.next-next.result.number few ∙ ap
     (λ (x : Numbered). level_of x.key) c.next-next.ensures
 
--- asks wait as before, and the first tuple has its number
+-- asks wait as before
 pub returns-clause-holds : goal.returns-clause-holds
-returns-clause-holds g c = numbered_at g.S.Shelf.tells g.S.Shelf.world _ c.put_inner.new.self _ _
-    refl refl (c.in_ok-put_inner.ensures.holds 0 c.requires.holds)
+returns-clause-holds g c = placed_at g.S.Shelf.tells g.S.Shelf.world _ c.put_inner.new.self _ _
+    refl (c.in_ok-put_inner.ensures.holds c.requires.holds)
 
 -- it is the tuple that was numbered last
 pub returns-clause-placed : goal.returns-clause-placed

@@ -21,7 +21,7 @@ returns-clause-does g c = does_wrote g.S.Shelf.tells g.S.Shelf.world g.S.Shelf.f
 
 -- asks wait as before
 pub returns-clause-holds : goal.returns-clause-holds
-returns-clause-holds g c most holds = written_at g.S.Shelf.tells g.S.Shelf.world most 1 _ _
+returns-clause-holds g c holds = written_at g.S.Shelf.tells g.S.Shelf.world 1 _ _
     c.args.self.now _ refl
     (λ j. record {
       first = c.args.self.now.operands.first.file;

@@ -56,7 +56,6 @@ returns-clause-in_step g c told =
         record {
           wait = c.start-3.ensures.list (g.S.Shelf.world c.start-2.new.shelf);
           fit = λ k d within. absurd (omega (arith, within));
-          few = λ first. omega arith;
           no_run = λ f made run. c.start-3.ensures.runs f run;
           reading = λ apart. operands_still m (g.S.Shelf.world c.start.new.shelf) (g.S.Shelf.world c.start-2.new.shelf) c.in_ok-operands.ensures.are
               (λ f is_apart. others_uncut 2 c.args.files.inner c.args.files.ends f _ _ (c.start-2.ensures.content.did told) (λ is. is_apart.not_inner (is ∙ sym files.0)) (λ is. is_apart.not_ends (is ∙ sym files.1)))

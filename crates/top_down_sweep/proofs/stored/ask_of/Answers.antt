@@ -1,11 +1,11 @@
 use Rattle.std.proofs.Common.{rules}
 use Rattle.rec_words.specs.Words.{IsNodeWord}
 use Rattle.top_down_sweep.proofs.ItemForms.{is_member}
-use Rattle.top_down_sweep.proofs.ask.AskSpill.from_rec.Goals as goal
+use Rattle.top_down_sweep.proofs.stored.ask_of.Goals as goal
 
 -- the words are those of a node and of pointers
-pub returns-clause-value : goal.returns-clause-value
-returns-clause-value c =
+pub returns-clause-form : goal.returns-clause-form
+returns-clause-form c =
     let key : IsNodeWord c.in_ok-of.field-0 = search rules in
     record {
       key_is = key;
