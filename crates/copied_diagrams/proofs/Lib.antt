@@ -1,4 +1,3 @@
 pub mod PairTables
 pub mod TrailerFacts
 pub mod PairRuns
-mod PieceRuns

@@ -17,7 +17,7 @@ use Rattle.rec_words.specs.Words.{terminal}
 use Rattle.canon_file.specs.Laws.{HasForm}
 use Rattle.canon_file.proofs.ConstDiagram.{no_node-const}
 use Rattle.canon_file.proofs.ByteLaws.{bytes_unique}
-use Rattle.node_file.specs.Canonical.{IsCanonicalFile}
+use Rattle.node_file.specs.Canonical.{IsCanonicalFile, IsMade}
 use Rattle.node_file.specs.Nodes.{IsTrailerDamage}
 use Rattle.copied_diagrams.specs.declared.operand.Operand.{Operand}
 use Rattle.copied_diagrams.specs.declared.operand.Operand.TheVariants.{Left, Right}
@@ -27,9 +27,9 @@ use Rattle.copied_diagrams.specs.declared.pair.Pair.{Pair}
 use Rattle.copied_diagrams.specs.declared.source.Source.{Source}
 use Rattle.copied_diagrams.specs.declared.way.Way.{Way}
 use Rattle.copied_diagrams.specs.declared.way.Way.TheVariants.{Constant, Copy, CopyInTurns, Complement, Join}
-use Rattle.room_reduction.specs.Complements.{complement, IsWritten}
+use Rattle.room_reduction.specs.Complements.{complement}
 use Rattle.copied_diagrams.specs.Operands.{pair_table, IsResult}
-use Rattle.copied_diagrams.specs.Pairs.{ArePair, IsTrailerOf, AreTrailersOf, IsSourceOf, IsOperandDamage, IsMade, of_operand, nodes_of_both}
+use Rattle.copied_diagrams.specs.Pairs.{ArePair, IsTrailerOf, AreTrailersOf, IsSourceOf, IsOperandDamage, of_operand, nodes_of_both}
 use Rattle.copied_diagrams.specs.Ways.{IsWayBy, IsOneOf, IsOfPair, LeadsTo}
 use Rattle.copied_diagrams.proofs.PairTables.{copy_is, complement_is, constant_is, constant_form}
 use Rattle.copied_diagrams.proofs.TrailerFacts.{long_canonical}
@@ -134,7 +134,7 @@ copy_made n table most pieces s to old new enough copied has =
 pub complement_made : (n : ℕ) (table wanted : List Bool) (most : ℕ) (s : Source) (to : FileNo) (old new : World)
     → wanted ≡ complement table → IsSourceOf n table most s old
     → ((t : List Bool) → IsCanonicalFile n t s.from old → IsTrailerOf n t s.trailer
-    → IsWritten n (complement t) to s.trailer.count new)
+    → IsMade n (complement t) to s.trailer.count new)
     → IsMade n wanted to s.trailer.count new
 complement_made n table wanted most s to old new is has made =
     let other = made table has.of has.trailer in

@@ -3,10 +3,8 @@ use Rattle.std.specs.Prelude.{◌≡◌, ◌⊎◌, ℕ, ◌+◌, ◌≤◌, Lis
 use Rattle.shelf_model.specs.declared.file_no.FileNo.{FileNo}
 use Rattle.shelf_model.specs.declared.fault.StreamFault.{StreamFault}
 use Rattle.shelf_model.specs.declared.fault.StreamFault.TheVariants.{Shelf, Damaged}
-use Rattle.shelf_model.specs.File.{firm_file}
 use Rattle.shelf_model.specs.World.{World, file}
-use Rattle.canon_file.specs.Canon.{canon_nodes, canon_root, canon_bytes}
-use Rattle.canon_file.specs.Laws.{HasForm}
+use Rattle.canon_file.specs.Canon.{canon_nodes, canon_root}
 use Rattle.node_file.specs.Canonical.{IsCanonicalFile}
 use Rattle.node_file.specs.Nodes.{IsTrailerDamage}
 use Rattle.node_file.specs.declared.trailer.Trailer.{Trailer}
@@ -23,12 +21,6 @@ pub record ArePair (n : ℕ) (left right : FileNo) (t u : List Bool) (world : Wo
 -- how many nodes the diagrams of both have
 abbrev pub nodes_of_both : ℕ → List Bool → List Bool → ℕ
 nodes_of_both n t u = length (canon_nodes n t) + length (canon_nodes n u)
-
--- the table has a form, and the file is its canonical one, whatever a stop leaves; the nodes are counted
-pub record IsMade (n : ℕ) (t : List Bool) (f : FileNo) (nodes : ℕ) (world : World) : Type 0 where
-  pub form : HasForm n t
-  pub file_is : file world f ≡ firm_file (canon_bytes n t)
-  pub nodes_are : nodes ≡ length (canon_nodes n t)
 
 -- the file has no trailer for n variables where one had to stand
 abbrev pub IsOperandDamage : ℕ → FileNo → World → StreamFault → Type 0

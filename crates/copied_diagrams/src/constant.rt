@@ -3,8 +3,8 @@ ghost use Rattle.std.specs.Prelude.{◌≡◌, ◌≤◌, IsTrue, OnOk, IfErr, l
 ghost use Rattle.canon_file.specs.Constants.{const_table};
 ghost use Rattle.shelf_model.specs.Calls.{Told};
 ghost use Rattle.shelf_model.specs.Faults.{OnlyShelf};
-ghost use Rattle.room_reduction.specs.Changes.{Changed};
-ghost use Rattle.copied_diagrams.specs.Pairs.{IsMade};
+ghost use Rattle.node_file.specs.Changes.{Changed};
+ghost use Rattle.node_file.specs.Canonical.{IsMade};
 
 use node_file::NodeWriter;
 use rec_words::{Ptr, Rec};

@@ -11,7 +11,7 @@ mod trailers;
 mod way;
 
 pub use constant::make_constant;
-pub use copy::{copy_diagram, copy_file, copy_piece, node_pieces};
+pub use copy::copy_diagram;
 pub use pair::{Pair, read_pair};
 pub use source::Source;
 pub use way::{Way, way_of};

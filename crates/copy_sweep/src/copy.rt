@@ -1,4 +1,4 @@
-use copied_diagrams::copy_piece;
+use node_file::copy_piece;
 use shelf_model::{FileNo, PIECE, Shelf, SortFault};
 use sweep_core::{Sweep, Turn};
 

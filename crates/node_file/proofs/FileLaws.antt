@@ -24,7 +24,7 @@ use Rattle.block_stream.proofs.ItemLaws.{nth_item}
 use Rattle.node_file.specs.Nodes.{HasTrailer, HasNodes, IsTrailerDamage}
 
 -- the bytes of nodes are read back
-records_nodes : (xs : List Node) (rest : List ℕ) → ((x : Node) → Has x xs → IsNode x) → map (item_record node_words) xs ≡ records_of 3 (length xs) (node_bytes xs ++ rest)
+pub records_nodes : (xs : List Node) (rest : List ℕ) → ((x : Node) → Has x xs → IsNode x) → map (item_record node_words) xs ≡ records_of 3 (length xs) (node_bytes xs ++ rest)
 records_nodes [] rest nodes = refl
 records_nodes (x ∷ xs) rest nodes =
     let is : IsNode x = nodes x (inl refl) in

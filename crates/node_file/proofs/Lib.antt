@@ -3,3 +3,6 @@ mod NodeLaws
 pub mod SkipLaws
 pub mod FileLaws
 mod CanonFiles
+pub mod HeldNodes
+pub mod FileChanges
+mod PieceRuns

@@ -1,5 +1,5 @@
 -- The nodes and the trailer in the bytes of a node file, and what of them is damaged.
-use Rattle.std.specs.Prelude.{◌≡◌, ◌⊎◌, ℕ, ◌-◌, ◌*◌, ◌/◌, ◌^◌, ◌<◌, ◌≤◌, ◌==◌, Bool, not, ◌&&◌, nat_lt, List, ◌++◌, length, slice_index}
+use Rattle.std.specs.Prelude.{◌≡◌, ◌⊎◌, ℕ, ◌-◌, ◌*◌, ◌/◌, ◌^◌, ◌<◌, ◌≤◌, ◌==◌, Bool, not, ◌&&◌, nat_lt, List, ◌++◌, length, map, slice_index}
 use Rattle.rec_words.specs.Words.{node_size, level_of, IsTerminal, IsNodeWord}
 use Rattle.rec_words.specs.Records.{node_words}
 use Rattle.rec_words.specs.declared.rec.Rec.{Rec}
@@ -9,8 +9,32 @@ use Rattle.shelf_model.specs.declared.fault.StreamFault.TheVariants.{Shelf, Dama
 use Rattle.canon_file.specs.Members.{Has}
 use Rattle.canon_file.specs.NodeFiles.{IsProper, IsDescending, EndsAt}
 use Rattle.canon_file.specs.Canon.{node_bytes, trailer_bytes}
-use Rattle.block_stream.specs.Records.{record_at}
-use Rattle.block_stream.specs.Reads.{IsRecordOf}
+use Rattle.block_stream.specs.Records.{record_at, record_bytes, records_bytes, records_of}
+use Rattle.block_stream.specs.Items.{item_record}
+use Rattle.block_stream.specs.Reads.{IsRecordOf, DidLoad}
+
+-- how many nodes one call moves at most: so many have room in a piece
+abbrev pub piece_nodes : ℕ
+piece_nodes = 85
+
+-- the records of nodes: of each its identifier, its low and its high pointer
+abbrev pub node_records : List Node → List Rec
+node_records xs = map (item_record node_words) xs
+
+-- the bytes of the node that a record holds, and those of the nodes that records hold
+abbrev pub held_node : Rec → List ℕ
+held_node r = record_bytes 3 r
+
+abbrev pub held_nodes : List Rec → List ℕ
+held_nodes rs = records_bytes 3 rs
+
+-- the records of the first so many nodes in the bytes of a file
+abbrev pub records_in : ℕ → List ℕ → List Rec
+records_in count bytes = records_of 3 count bytes
+
+-- n nodes were read from a place on, where so many were wanted: fewer only where the next one isn't whole
+abbrev pub DidLoadNodes : ℕ → ℕ → ℕ → List Rec → List ℕ → Type 0
+DidLoadNodes place wanted n window bytes = DidLoad 3 place wanted n window bytes
 
 -- the first word of the record at a place
 abbrev pub identifier_at : ℕ → List ℕ → ℕ

@@ -2,12 +2,16 @@
 //! nodes and that of the variables.
 #![tactic(auto)]
 
+mod copy;
 pub mod laws;
 mod node;
 mod reader;
+mod records;
 mod trailer;
 mod writer;
 
+pub use copy::{copy_file, copy_piece, node_pieces};
 pub use reader::NodeReader;
+pub use records::{PIECE_NODES, load_nodes};
 pub use trailer::Trailer;
 pub use writer::NodeWriter;

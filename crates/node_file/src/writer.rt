@@ -8,7 +8,8 @@ ghost use Rattle.rec_words.specs.Words.{node_size};
 ghost use Rattle.canon_file.specs.Canon.{node_bytes, trailer_bytes};
 ghost use Rattle.block_stream.specs.Records.{piece_records, record_bytes};
 ghost use Rattle.block_stream.specs.Reads.{IsDamageOf, IsShort};
-ghost use Rattle.block_stream.specs.Writes.{Wrote, Cut, IsFilling, Fills, InStep, SameFile, count_of, written};
+ghost use Rattle.block_stream.specs.Writes.{Wrote, Cut, IsFilling, IsWriting, Fills, InStep, SameFile, count_of, written};
+ghost use Rattle.node_file.specs.Nodes.{held_node, held_nodes};
 
 use block_stream::{Filling, put_record, settle_records};
 use rec_words::{Node, Ptr, Rec, Spill};
@@ -99,6 +100,48 @@ impl<'r> NodeWriter<'r> {
         put_record(self.window, &mut self.filling, node.to_rec(), shelf)
     }
 
+    /// Puts the node that a record holds behind the others: the record's first three words.
+    pub fn put_held<S: Shelf>(&mut self, node: Rec, shelf: &mut S) -> Result<(), StreamFault>
+        requires in_step { IsTrue (S.tells shelf.old) → InStep (filling_of self.old) (S.world shelf.old) }
+        ensures same { SameFile (filling_of self.old) (filling_of self.new) }
+        ensures variables { self.new.n ≡ self.old.n }
+        ensures count { OnOk result (count_of (filling_of self.new) ≡ count_of (filling_of self.old) + 1) }
+        ensures bound { IsFilling (filling_of self.new) (room_of self.new) }
+        ensures room { room_of self.new ≡ room_of self.old }
+        ensures holds { OnOk result (IsTrue (S.tells shelf.new) → Holds self.new (S.world shelf.new)
+            (written_of self.old (S.world shelf.old) ++ held_node node)) }
+        ensures waits { OnOk result (Fills (room_of self.old) (filling_of self.old) (filling_of self.new)) }
+        ensures calls { IsTrue (S.tells shelf.new) → let w = filling_of self.old in
+            w.waiting < piece_records w.words (room_of self.old) →
+            (S.world shelf.new).clock ≡ (S.world shelf.old).clock }
+        ensures cause { IfErr result (λ e. e ≡ StreamFault.Shelf) }
+        ensures content { Told S.tells shelf.old shelf.new
+            (Wrote 1 (filling_of self.old).file (S.world shelf.old) (S.world shelf.new)) }
+        ensures faults { OnlyShelf (S.faults shelf.old) (S.faults shelf.new) result }
+    {
+        put_record(self.window, &mut self.filling, node, shelf)
+    }
+
+    /// Puts the nodes that records hold behind the others, with one call of the folder for each full piece of 2,048
+    /// bytes.
+    pub fn put_all<S: Shelf>(&mut self, nodes: &[Rec], shelf: &mut S) -> Result<(), StreamFault>
+        requires in_step { IsTrue (S.tells shelf.old) → InStep (filling_of self.old) (S.world shelf.old) }
+        ensures same { SameFile (filling_of self.old) (filling_of self.new) }
+        ensures variables { self.new.n ≡ self.old.n }
+        ensures count { OnOk result
+            (count_of (filling_of self.new) ≡ count_of (filling_of self.old) + length nodes.now) }
+        ensures bound { IsFilling (filling_of self.new) (room_of self.new) }
+        ensures room { room_of self.new ≡ room_of self.old }
+        ensures holds { OnOk result (IsTrue (S.tells shelf.new) → Holds self.new (S.world shelf.new)
+            (written_of self.old (S.world shelf.old) ++ held_nodes nodes.now)) }
+        ensures cause { IfErr result (λ e. e ≡ StreamFault.Shelf) }
+        ensures content { Told S.tells shelf.old shelf.new
+            (Wrote (length nodes.now) (filling_of self.old).file (S.world shelf.old) (S.world shelf.new)) }
+        ensures faults { OnlyShelf (S.faults shelf.old) (S.faults shelf.new) result }
+    {
+        put_window(nodes, self.window, &mut self.filling, shelf)
+    }
+
     /// Makes all that was put stand in the file, whatever a stop leaves.
     pub fn settle<S: Shelf>(&mut self, shelf: &mut S) -> Result<(), StreamFault>
         requires in_step { IsTrue (S.tells shelf.old) → InStep (filling_of self.old) (S.world shelf.old) }
@@ -156,6 +199,32 @@ impl<'r> NodeWriter<'r> {
     {
         finish_window(self.window, self.filling, self.n, root, shelf)
     }
+}
+
+// Puts the nodes that records hold behind one another.
+fn put_window<S: Shelf>(
+    nodes: &[Rec],
+    window: &mut [Rec],
+    filling: &mut Filling,
+    shelf: &mut S,
+) -> Result<(), StreamFault>
+    requires fills { IsFilling filling.old (length window.old) }
+    requires words { filling.old.words ≡ 3 }
+    requires in_step { IsTrue (S.tells shelf.old) → InStep filling.old (S.world shelf.old) }
+    ensures fills { IsFilling filling.new (length window.new) }
+    ensures same { SameFile filling.old filling.new }
+    ensures count { OnOk result (count_of filling.new ≡ count_of filling.old + length nodes.now) }
+    ensures bytes { OnOk result (IsTrue (S.tells shelf.new) → IsWriting filling.new window.new (S.world shelf.new)
+        (written filling.old window.old (S.world shelf.old) ++ held_nodes nodes.now)) }
+    ensures cause { IfErr result (λ e. e ≡ StreamFault.Shelf) }
+    ensures content { Told S.tells shelf.old shelf.new
+        (Wrote (length nodes.now) filling.old.file (S.world shelf.old) (S.world shelf.new)) }
+    ensures faults { OnlyShelf (S.faults shelf.old) (S.faults shelf.new) result }
+{
+    for node in nodes {
+        put_record(window, filling, *node, shelf)?;
+    }
+    Ok(())
 }
 
 // Ends the file of a writer.

@@ -5,8 +5,8 @@ use Rattle.shelf_model.specs.Calls.{Told}
 use Rattle.shelf_model.specs.World.{World}
 use Rattle.shelf_model.proofs.Runs.{told, told_then}
 use Rattle.block_stream.specs.Reads.{Looked}
-use Rattle.room_reduction.specs.Changes.{Changed}
-use Rattle.room_reduction.proofs.FileChanges.{looked_changes, changed_after}
+use Rattle.node_file.specs.Changes.{Changed}
+use Rattle.node_file.proofs.FileChanges.{looked_changes, changed_after}
 
 module _ {S : Type 0} (tells : S → Bool) (world : S → World) (f : FileNo) where
   -- looks are no more changes

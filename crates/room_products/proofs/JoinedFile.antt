@@ -24,7 +24,8 @@ use Rattle.top_down.specs.Tuples.{joined_by}
 use Rattle.top_down.proofs.OperationDiagrams.{product_stands}
 use Rattle.top_down.proofs.TupleLaws.{root-table}
 use Rattle.room_reduction.specs.Sources.{AreSources}
-use Rattle.room_products.specs.Joined.{node_of, arcs_in, AreOfTable, IsJoined}
+use Rattle.node_file.specs.Canonical.{IsMade}
+use Rattle.room_products.specs.Joined.{node_of, arcs_in, AreOfTable}
 
 -- there are two arcs of each source
 arcs_many : (xs : List Node) → length (arcs_of xs) ≡ 2 * length xs
@@ -45,7 +46,7 @@ pub joined_of : (n root word : ℕ) (out : FileNo) (world : World) (sources : Li
     → AreSources n root arcs sources → IfSome done (λ nodes.
     (file world out ≡ firm_file (canon_bytes n t)) × (nodes ≡ length (canon_nodes n t))))
     → IfOk r (λ done. X → (t : List Bool) → AreOfTable n word t sources
-    → IfSome done (λ nodes. IsJoined n t out nodes world))
+    → IfSome done (λ nodes. IsMade n t out nodes world))
 joined_of n root word out world sources X (Err e) variables few same made = tt
 joined_of n root word out world sources X (Ok None) variables few same made = λ told t are. tt
 joined_of n root word out world sources X (Ok (Some nodes)) variables few same made = λ told t has_word.

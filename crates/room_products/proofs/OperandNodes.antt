@@ -14,7 +14,6 @@ use Rattle.run_files.specs.Items.{record_at}
 use Rattle.shelf_model.specs.declared.file_no.FileNo.{FileNo}
 use Rattle.shelf_model.specs.World.{World, file}
 use Rattle.block_stream.specs.Items.{item_record}
-use Rattle.block_stream.specs.Records.{records_of}
 use Rattle.block_stream.proofs.RecordLaws.{length-records_of}
 use Rattle.canon_file.specs.declared.row.Row.{Row}
 use Rattle.canon_file.specs.Canon.{canon_nodes}
@@ -22,8 +21,9 @@ use Rattle.canon_file.specs.NodeFiles.{IsDescending, IsNodeFile}
 use Rattle.canon_file.specs.Laws.{HasForm}
 use Rattle.canon_file.specs.Walks.{row_at}
 use Rattle.canon_file.proofs.FileLaws.{is_node_file}
-use Rattle.room_reduction.specs.Records.{node_records, word}
-use Rattle.room_reduction.proofs.CanonicalFile.{canon_read}
+use Rattle.node_file.specs.Nodes.{node_records, records_in}
+use Rattle.room_reduction.specs.Records.{word}
+use Rattle.node_file.proofs.HeldNodes.{canon_read}
 use Rattle.node_file.specs.Canonical.{IsCanonicalFile}
 use Rattle.top_down.specs.Tuples.{canon_targets}
 use Rattle.room_reduction.proofs.LevelSources.{member_place}
@@ -52,11 +52,11 @@ records_give n t rules r has =
 -- and so do those that hold what is read from a canonical file
 pub read_gives : (n : ℕ) (t : List Bool) (f : FileNo) (world : World) (count : ℕ) (nodes : List Rec)
     → IsCanonicalFile n t f world → count ≡ length (canon_nodes n t) → count ≤ length nodes
-    → HoldNodes count (records_of 3 count (file world f).bytes) nodes → GivesRows (canon_targets n t) (take count nodes)
+    → HoldNodes count (records_in count (file world f).bytes) nodes → GivesRows (canon_targets n t) (take count nodes)
 read_gives n t f world count nodes is_file many room held r has =
     let form : HasForm n t = is_file.form in
     let rules : IsNodeFile n t = is_node_file n t form.few form.whole form.fits in
-    let read : List Rec = records_of 3 count (file world f).bytes in
+    let read : List Rec = records_in count (file world f).bytes in
     let is : read ≡ node_records (canon_nodes n t) = canon_read n t f world count is_file many in
     let gives : GivesRows (canon_targets n t) read =
     subst (GivesRows (canon_targets n t)) (sym is) (records_give n t rules) in

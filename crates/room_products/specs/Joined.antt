@@ -1,12 +1,8 @@
 -- What is made of two diagrams in the room.
-use Rattle.std.specs.Prelude.{◌≡◌, ℕ, Bool, List, length, map}
+use Rattle.std.specs.Prelude.{ℕ, Bool, List, map}
 use Rattle.rec_words.specs.declared.node.Node.{Node}
 use Rattle.rec_words.specs.declared.rec.Rec.{Rec}
-use Rattle.shelf_model.specs.declared.file_no.FileNo.{FileNo}
-use Rattle.shelf_model.specs.File.{firm_file}
-use Rattle.shelf_model.specs.World.{World, file}
-use Rattle.canon_file.specs.Canon.{canon_nodes, canon_bytes}
-use Rattle.canon_file.specs.Laws.{HasForm}
+use Rattle.shelf_model.specs.World.{World}
 use Rattle.arc_file.specs.declared.arc.Arc.{Arc}
 use Rattle.arc_diagrams.specs.Arcs.{arcs_of}
 use Rattle.arc_diagrams.specs.Laws.{IsDiagramOf}
@@ -32,9 +28,3 @@ pub record AreOfTable (n root : ℕ) (table : List Bool) (sources : List Rec) : 
 pub record IsOperandOf (n : ℕ) (t : List Bool) (source : Source) (world : World) : Type 0 where
   pub file_of : IsCanonicalFile n t source.from world
   pub trailer_of : IsTrailerOf n t source.trailer
-
--- the table has a form, and the file is its canonical one, whatever a stop leaves; the nodes are counted
-pub record IsJoined (n : ℕ) (t : List Bool) (f : FileNo) (nodes : ℕ) (world : World) : Type 0 where
-  pub form : HasForm n t
-  pub file_is : file world f ≡ firm_file (canon_bytes n t)
-  pub nodes_are : nodes ≡ length (canon_nodes n t)

@@ -4,10 +4,11 @@ ghost use Rattle.std.specs.Prelude.{IfOk, IfErr, IfSome, IfNone};
 ghost use Rattle.shelf_model.specs.Calls.{Told};
 ghost use Rattle.shelf_model.specs.Faults.{OnlyShelf};
 ghost use Rattle.block_stream.specs.Reads.{Looked};
-ghost use Rattle.room_reduction.specs.Changes.{Changed};
+ghost use Rattle.node_file.specs.Changes.{Changed};
 ghost use Rattle.copied_diagrams.specs.Operands.{pair_table};
 ghost use Rattle.room_reduction.specs.Sources.{sources_in};
-ghost use Rattle.room_products.specs.Joined.{IsOperandOf, IsJoined, AreOfTable};
+ghost use Rattle.node_file.specs.Canonical.{IsMade};
+ghost use Rattle.room_products.specs.Joined.{IsOperandOf, AreOfTable};
 
 use crate::operands::Nodes;
 use crate::tables::{Tabled, join_nodes};
@@ -67,7 +68,7 @@ pub fn join_in_room<S: Shelf>(
     // of canonical files
     ensures made { IfOk result (λ done. IsTrue (S.tells shelf.new) → (t u : List Bool) →
         IsOperandOf n t left (S.world shelf.old) → IsOperandOf n u right (S.world shelf.old) →
-        IfSome done (λ j. IsJoined n (pair_table n op t u) out j.nodes (S.world shelf.new))) }
+        IfSome done (λ j. IsMade n (pair_table n op t u) out j.nodes (S.world shelf.new))) }
 
     // whatever the files hold
     ensures few { IfOk result (λ done. IfSome done (λ j. (0 < j.turns) × ((j.turns < 65536)
@@ -116,7 +117,7 @@ fn join_parts<S: Shelf>(
         + (most / 10 + 1) ≤ length room.old }
     ensures made { IfOk result (λ done. IsTrue (S.tells shelf.new) → (t u : List Bool) →
         IsOperandOf n t left (S.world shelf.old) → IsOperandOf n u right (S.world shelf.old) →
-        IfSome done (λ m. IsJoined n (pair_table n op t u) out m.nodes (S.world shelf.new))) }
+        IfSome done (λ m. IsMade n (pair_table n op t u) out m.nodes (S.world shelf.new))) }
     ensures pairs { IfOk result (λ done. IfSome done (λ m. m.pairs ≤ most)) }
     ensures paid { IfOk result (λ done. IfSome done (λ m. IsTrue (S.tells shelf.new) → (S.world shelf.new).clock
         ≤ (S.world shelf.old).clock + (left.trailer.count + right.trailer.count + (m.pairs + 6)))) }
@@ -212,7 +213,7 @@ fn reduce_joined<S: Shelf>(
     requires window { 8 ≤ length window.old }
     ensures made { IfOk result (λ done. IsTrue (S.tells shelf.new) → (t : List Bool) →
         AreOfTable n tabled.now.root t (sources_in tabled.now.count area.old) →
-        IfSome done (λ m. IsJoined n t out m.nodes (S.world shelf.new))) }
+        IfSome done (λ m. IsMade n t out m.nodes (S.world shelf.new))) }
     ensures pairs { IfOk result (λ done. IfSome done (λ m. m.pairs ≡ tabled.now.count)) }
     ensures not_made { IfOk result (λ done. IfNone done (shelf.new ≡ shelf.old)) }
     ensures cause { IfErr result (λ e. e ≡ StreamFault.Shelf) }

@@ -20,7 +20,8 @@ use Rattle.arc_diagrams.specs.Arcs.{targets_of, IsMet, arcs_of}
 use Rattle.arc_diagrams.specs.Laws.{IsDiagramOf}
 use Rattle.arc_diagrams.proofs.CanonArcs.{arc_to, has_arc_to, canon_is_diagram}
 use Rattle.arc_diagrams.proofs.TargetLaws.{the_target}
-use Rattle.room_reduction.specs.Records.{node_records, word}
+use Rattle.node_file.specs.Nodes.{node_records}
+use Rattle.room_reduction.specs.Records.{word}
 use Rattle.room_reduction.specs.Reading.{HoldNodes}
 use Rattle.room_reduction.specs.Complements.{complement, other_end, other_arc, other_arcs, AreOthers}
 use Rattle.room_reduction.specs.Sources.{AreSources}

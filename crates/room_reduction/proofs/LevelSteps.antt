@@ -16,7 +16,8 @@ use Rattle.arc_diagrams.specs.Arcs.{targets_of, IsMet, IsComplete}
 use Rattle.arc_diagrams.specs.Reduction.{final_pointer, final_rows, final_nodes}
 use Rattle.arc_diagrams.specs.Reducing.{nodes_from}
 use Rattle.arc_diagrams.proofs.Remaining.{nodes_from-level}
-use Rattle.room_reduction.specs.Records.{node_records, word}
+use Rattle.node_file.specs.Nodes.{node_records}
+use Rattle.room_reduction.specs.Records.{word}
 use Rattle.room_reduction.specs.Sources.{AreSources}
 use Rattle.room_reduction.specs.Levels.{KeepsSources, AreKnown, IsLevel, IsDone, nodes_down_to}
 use Rattle.room_reduction.proofs.LevelSources.{member_place}

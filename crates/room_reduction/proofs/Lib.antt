@@ -1,8 +1,5 @@
-pub mod CanonicalFile
 pub mod FirstRecords
 mod FirstPlaces
-pub mod FileChanges
-mod WrittenBytes
 mod ReadPieces
 pub mod FillingLaws
 pub mod FilledLaws
@@ -13,6 +10,7 @@ pub mod PackedSources
 pub mod LevelSources
 mod LevelSteps
 mod PackedNodes
+mod FewerCalls
 mod RoomFile
 mod ComplementLaws
 pub mod ComplementSources

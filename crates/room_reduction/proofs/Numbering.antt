@@ -16,7 +16,8 @@ use Rattle.canon_file.proofs.MemberLaws.{either_bit}
 use Rattle.arc_diagrams.specs.Reducing.{IsRising, distinct_after}
 use Rattle.arc_diagrams.proofs.RowPlaces.{place_at}
 use Rattle.arc_diagrams.proofs.RowLists.{after-new}
-use Rattle.room_reduction.specs.Records.{node_records, node_record, row_in, word}
+use Rattle.node_file.specs.Nodes.{node_records}
+use Rattle.room_reduction.specs.Records.{node_record, row_in, word}
 use Rattle.room_reduction.proofs.FirstPlaces.{numbered_push}
 use Rattle.room_reduction.specs.Levels.{IsNumbering, distinct_rows, last_row}
 use Rattle.room_reduction.proofs.RowOrder.{distinct_rows_ascend}

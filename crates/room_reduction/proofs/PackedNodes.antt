@@ -4,9 +4,9 @@ use Rattle.std.proofs.lemmas.List.{append_assoc, append-nil, ext_get_or, get_or-
 use Rattle.std.proofs.lemmas.Grind.{flat_map-append}
 use Rattle.rec_words.specs.declared.node.Node.{Node}
 use Rattle.rec_words.specs.declared.rec.Rec.{Rec}
-use Rattle.block_stream.specs.Records.{record_bytes, records_bytes}
 use Rattle.run_files.specs.Items.{record_at}
-use Rattle.room_reduction.specs.Records.{node_records, word}
+use Rattle.node_file.specs.Nodes.{node_records, held_node, held_nodes}
+use Rattle.room_reduction.specs.Records.{word}
 use Rattle.packed_records.specs.Packed.{packed}
 use Rattle.packed_records.proofs.PackedLaws.{length-packed}
 
@@ -60,14 +60,14 @@ one_packed old mid new records xs count place is below room long own others befo
 -- one more record is written
 pub one_written : (nodes : List Rec) (place : ℕ) (r : Rec) (before : List ℕ) → place < 4 * length nodes
     → r ≡ record_at (packed nodes) place
-    → (before ++ records_bytes 3 (take place (packed nodes))) ++ record_bytes 3 r
-    ≡ before ++ records_bytes 3 (take (place + 1) (packed nodes))
+    → (before ++ held_nodes (take place (packed nodes))) ++ held_node r
+    ≡ before ++ held_nodes (take (place + 1) (packed nodes))
 one_written nodes place r before room is =
     let many = length-packed nodes in
     let front : List Rec = take place (packed nodes) in
     let next = record_at (packed nodes) place in
-    append_assoc before (records_bytes 3 front) (record_bytes 3 r)
-    ∙ ap (λ bytes. before ++ bytes) (ap (λ x. records_bytes 3 front ++ record_bytes 3 x) is
-    ∙ ap (λ bytes. records_bytes 3 front ++ bytes) (sym (append-nil (record_bytes 3 next)))
-    ∙ sym (ap (records_bytes 3) (take_more (packed nodes) place none (omega (arith, many, room)))
-    ∙ flat_map-append (record_bytes 3) front (next ∷ [])))
+    append_assoc before (held_nodes front) (held_node r)
+    ∙ ap (λ bytes. before ++ bytes) (ap (λ x. held_nodes front ++ held_node x) is
+    ∙ ap (λ bytes. held_nodes front ++ bytes) (sym (append-nil (held_node next)))
+    ∙ sym (ap held_nodes (take_more (packed nodes) place none (omega (arith, many, room)))
+    ∙ flat_map-append held_node front (next ∷ [])))

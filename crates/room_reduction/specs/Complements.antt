@@ -1,13 +1,8 @@
 -- The complement of a table, and the diagram of a table with exchanged truth values.
-use Rattle.std.specs.Prelude.{◌≡◌, ℕ, ◌-◌, ◌<◌, ◌≤◌, ◌==◌, Bool, false, true, not, cond, List, length, map}
+use Rattle.std.specs.Prelude.{◌≡◌, ℕ, ◌-◌, ◌<◌, ◌≤◌, ◌==◌, Bool, false, true, not, cond, List, map}
 use Rattle.rec_words.specs.Words.{terminal}
 use Rattle.rec_words.specs.declared.rec.Rec.{Rec}
-use Rattle.shelf_model.specs.declared.file_no.FileNo.{FileNo}
-use Rattle.shelf_model.specs.File.{firm_file}
-use Rattle.shelf_model.specs.World.{World, file}
 use Rattle.run_files.specs.Items.{record_at}
-use Rattle.canon_file.specs.Canon.{canon_nodes, canon_bytes}
-use Rattle.canon_file.specs.Laws.{HasForm}
 use Rattle.arc_file.specs.declared.arc.Arc.{Arc}
 use Rattle.arc_diagrams.specs.Laws.{IsDiagramOf}
 use Rattle.room_reduction.specs.Records.{word}
@@ -41,9 +36,3 @@ pub record IsOther (r other : Rec) : Type 0 where
 -- so have the first so many of these, the other way round
 abbrev pub AreOthers : ℕ → List Rec → List Rec → Type 0
 AreOthers count nodes others = (k : ℕ) → k < count → IsOther (record_at nodes (count - 1 - k)) (record_at others k)
-
--- the table has a form, and the file is its canonical one, whatever a stop leaves; the nodes are counted
-pub record IsWritten (n : ℕ) (t : List Bool) (f : FileNo) (nodes : ℕ) (world : World) : Type 0 where
-  pub form : HasForm n t
-  pub file_is : file world f ≡ firm_file (canon_bytes n t)
-  pub nodes_are : nodes ≡ length (canon_nodes n t)

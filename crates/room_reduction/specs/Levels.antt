@@ -8,12 +8,12 @@ use Rattle.canon_file.specs.declared.row.Row.{Row}
 use Rattle.canon_file.specs.Pairs.{differs}
 use Rattle.canon_file.specs.Canon.{numbered, canon_nodes, canon_bytes, trailer_bytes}
 use Rattle.canon_file.specs.Laws.{HasForm}
-use Rattle.block_stream.specs.Records.{records_bytes}
 use Rattle.arc_file.specs.declared.arc.Arc.{Arc}
 use Rattle.arc_diagrams.specs.Arcs.{IsComplete}
 use Rattle.arc_diagrams.specs.Reduction.{final_pointer}
 use Rattle.arc_diagrams.specs.Reducing.{nodes_from, distinct_after}
-use Rattle.room_reduction.specs.Records.{node_records, row_in, word}
+use Rattle.node_file.specs.Nodes.{node_records, held_nodes}
+use Rattle.room_reduction.specs.Records.{row_in, word}
 use Rattle.room_reduction.specs.Sources.{AreSources}
 
 -- f gives each truth value back
@@ -102,5 +102,5 @@ pub record IsCounted (n root : ℕ) (arcs : List Arc) (i from count : ℕ) (sour
 -- the first so many records, and a trailer with that root, are the canonical file of the table
 pub record IsReduced (n : ℕ) (t : List Bool) (root count : ℕ) (nodes : List Rec) : Type 0 where
   pub form : HasForm n t
-  pub bytes_are : records_bytes 3 (take count nodes) ++ trailer_bytes root count n ≡ canon_bytes n t
+  pub bytes_are : held_nodes (take count nodes) ++ trailer_bytes root count n ≡ canon_bytes n t
   pub count_is : count ≡ length (canon_nodes n t)

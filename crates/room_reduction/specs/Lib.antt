@@ -1,5 +1,4 @@
 pub mod Records
-pub mod Changes
 pub mod Reading
 pub mod Complements
 pub mod Sources

@@ -4,10 +4,10 @@ ghost use Rattle.shelf_model.specs.Calls.{Told};
 ghost use Rattle.shelf_model.specs.Faults.{OnlyShelf};
 ghost use Rattle.block_stream.specs.Reads.{Looked};
 ghost use Rattle.canon_file.specs.Canon.{canon_nodes, canon_root};
-ghost use Rattle.node_file.specs.Canonical.{IsCanonicalFile};
+ghost use Rattle.node_file.specs.Canonical.{IsCanonicalFile, IsMade};
 ghost use Rattle.packed_records.specs.Packed.{packed};
-ghost use Rattle.room_reduction.specs.Changes.{Changed};
-ghost use Rattle.room_reduction.specs.Complements.{complement, other_end, AreOthers, IsWritten};
+ghost use Rattle.node_file.specs.Changes.{Changed};
+ghost use Rattle.room_reduction.specs.Complements.{complement, other_end, AreOthers};
 
 use crate::levels::reduce_nodes;
 use crate::nodes::write_packed;
@@ -43,7 +43,7 @@ pub fn complement_file<S: Shelf>(
     ensures made { IfOk result (λ made. IsTrue made → IsTrue (S.tells shelf.new) → (t : List Bool) →
         IsCanonicalFile trailer.n t from (S.world shelf.old) →
         trailer.root ≡ canon_root trailer.n t → trailer.count ≡ length (canon_nodes trailer.n t) →
-        IsWritten trailer.n (complement t) to trailer.count (S.world shelf.new)) }
+        IsMade trailer.n (complement t) to trailer.count (S.world shelf.new)) }
     ensures cause { IfErr result (λ e. e ≡ StreamFault.Shelf) }
     ensures left { IfOk result (λ made. ¬ (IsTrue made) → Told S.tells shelf.old shelf.new
         (Looked trailer.count (S.world shelf.old) (S.world shelf.new))) }

@@ -8,7 +8,7 @@ ghost use Rattle.canon_file.specs.Canon.{canon_nodes, canon_bytes};
 ghost use Rattle.arc_file.specs.declared.arc.Arc.{Arc};
 ghost use Rattle.arc_diagrams.specs.Arcs.{IsComplete};
 ghost use Rattle.arc_diagrams.specs.Laws.{IsDiagramOf};
-ghost use Rattle.room_reduction.specs.Changes.{Changed};
+ghost use Rattle.node_file.specs.Changes.{Changed};
 ghost use Rattle.packed_records.specs.Packed.{packed};
 ghost use Rattle.room_reduction.specs.Sources.{AreSources, sources_in};
 ghost use Rattle.room_reduction.specs.Levels.{IsPacked, IsReduced};
@@ -19,11 +19,11 @@ use crate::rows::became;
 use rec_words::{Ptr, Rec};
 use shelf_model::{FileNo, Shelf, StreamFault};
 
-/// How many nodes a diagram has, and the word of its root.
+/// How many nodes a diagram has, and its root.
 #[derive(Clone, Copy)]
 pub(crate) struct Reduced {
     pub(crate) count: usize,
-    pub(crate) root: u64,
+    pub(crate) root: Ptr,
 }
 
 /// Makes the node file of the diagram whose sources stand in the room, so many, and answers how many nodes it has. None
@@ -84,7 +84,8 @@ pub(crate) fn reduce_nodes(
         IsReduced n t r.root r.count (packed nodes.new)) }
 {
     let count = reduce_levels(n, sources, total, firsts, nodes, rows)?;
-    let root = became(sources, total, firsts, 0, root)?;
+    let word = became(sources, total, firsts, 0, root)?;
+    let root = Ptr::from_word(word)?;
     Some(Reduced { count, root })
 }
 

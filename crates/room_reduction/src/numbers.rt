@@ -8,7 +8,8 @@ ghost use Rattle.canon_file.specs.Rows.{row_word};
 ghost use Rattle.canon_file.specs.Pairs.{differs, word_in};
 ghost use Rattle.canon_file.specs.Canon.{numbered};
 ghost use Rattle.arc_diagrams.specs.Reducing.{IsRising};
-ghost use Rattle.room_reduction.specs.Records.{node_records, node_record, row_in, word};
+ghost use Rattle.node_file.specs.Nodes.{node_records};
+ghost use Rattle.room_reduction.specs.Records.{node_record, row_in, word};
 ghost use Rattle.room_reduction.specs.Sources.{sources_in};
 ghost use Rattle.room_reduction.specs.Levels.{KeepsSources, Names, IsNumbering, distinct_rows};
 

@@ -5,19 +5,16 @@ ghost use Rattle.shelf_model.specs.Calls.{Told};
 ghost use Rattle.shelf_model.specs.Faults.{OnlyFolder};
 ghost use Rattle.rec_words.specs.declared.rec.Rec.{Rec};
 ghost use Rattle.run_files.specs.Items.{record_at};
-ghost use Rattle.block_stream.specs.Records.{records_of};
 ghost use Rattle.block_stream.specs.Reads.{Looked};
+ghost use Rattle.node_file.specs.Nodes.{piece_nodes, records_in};
 ghost use Rattle.packed_records.specs.Packed.{packed};
 ghost use Rattle.room_reduction.specs.Records.{word};
 ghost use Rattle.room_reduction.specs.Reading.{HoldNodes};
 
-use block_stream::load;
+use node_file::{PIECE_NODES, load_nodes};
 use packed_records::put_record;
 use rec_words::Rec;
 use shelf_model::{Failed, FileNo, Shelf};
-
-/// How many nodes one call of the folder reads.
-const PIECE_NODES: usize = 85;
 
 /// Reads the first so many records of a file into packed ones, through a window, and answers whether there are as many
 /// and each word has a number.
@@ -30,16 +27,16 @@ pub fn read_nodes<S: Shelf>(
 ) -> Result<bool, Failed>
     requires few { count < 65536 }
     requires room { count ≤ 4 * length nodes.old }
-    requires window { min 85 count ≤ length window.old }
+    requires window { min piece_nodes count ≤ length window.old }
     ensures read { IfOk result (λ whole. IsTrue whole → IsTrue (S.tells shelf.new) →
-        HoldNodes count (records_of 3 count (file (S.world shelf.old) f).bytes) (packed nodes.new)) }
+        HoldNodes count (records_in count (file (S.world shelf.old) f).bytes) (packed nodes.new)) }
     ensures content { Told S.tells shelf.old shelf.new (Looked count (S.world shelf.old) (S.world shelf.new)) }
     ensures faults { OnlyFolder (S.faults shelf.old) (S.faults shelf.new) result }
 {
     let mut done = 0;
     'pieces: while done < count {
         let wanted = PIECE_NODES.min(count - done);
-        let read = load(f, 3, done as u64, wanted, window, shelf)?;
+        let read = load_nodes(f, done as u64, wanted, window, shelf)?;
         if read < wanted || !pack_piece(&window[..wanted], nodes, done) {
             return Ok(false);
         }

@@ -9,7 +9,7 @@ ghost use Rattle.arc_file.specs.declared.arc.Arc.{Arc};
 ghost use Rattle.arc_file.specs.declared.kind.Kind.TheVariants.{Inner, End};
 ghost use Rattle.arc_file.specs.Files.{HasArcs};
 ghost use Rattle.arc_diagrams.specs.Laws.{IsDiagramOf};
-ghost use Rattle.room_reduction.specs.Changes.{Changed};
+ghost use Rattle.node_file.specs.Changes.{Changed};
 
 use crate::filling::read_sources;
 use crate::writing::write_sources;

@@ -5,22 +5,21 @@ ghost use Rattle.shelf_model.specs.World.{file};
 ghost use Rattle.shelf_model.specs.File.{firm_file};
 ghost use Rattle.shelf_model.specs.Calls.{Told};
 ghost use Rattle.shelf_model.specs.Faults.{OnlyShelf};
-ghost use Rattle.block_stream.specs.Records.{records_bytes};
-ghost use Rattle.block_stream.specs.Writes.{Wrote, IsFilling, InStep, IsWriting, SameFile, written};
+ghost use Rattle.block_stream.specs.Writes.{Wrote, InStep, SameFile, count_of};
 ghost use Rattle.canon_file.specs.Canon.{numbered, canon_nodes, canon_bytes};
 ghost use Rattle.arc_file.specs.declared.arc.Arc.{Arc};
 ghost use Rattle.arc_diagrams.specs.Arcs.{IsComplete};
 ghost use Rattle.arc_diagrams.specs.Laws.{IsDiagramOf};
 ghost use Rattle.arc_diagrams.specs.Reduction.{final_rows};
-ghost use Rattle.room_reduction.specs.Changes.{Changed};
-ghost use Rattle.room_reduction.specs.Records.{node_records};
+ghost use Rattle.node_file.specs.Changes.{Changed};
+ghost use Rattle.node_file.specs.Nodes.{node_records, held_nodes};
+ghost use Rattle.node_file.specs.Writers.{Holds, filling_of, written_of};
 ghost use Rattle.room_reduction.specs.Sources.{AreSources, sources_in};
 ghost use Rattle.room_reduction.specs.Levels.{IsDone, IsCounted, nodes_down_to};
 
 use crate::level::{Done, nodes_of_level};
-use crate::nodes::{put_nodes, trailer_with};
 use crate::rows::became;
-use block_stream::{Filling, put_record, settle_records};
+use node_file::NodeWriter;
 use rec_words::{Ptr, Rec};
 use shelf_model::{FileNo, Shelf, StreamFault};
 
@@ -51,17 +50,18 @@ pub(crate) fn write_sources<S: Shelf>(
         (Changed (total + 6) out (S.world shelf.old) (S.world shelf.new)) }
     ensures faults { OnlyShelf (S.faults shelf.old) (S.faults shelf.new) result }
 {
-    let mut filling = Filling::start(out, 3, shelf)?;
-    let made = write_levels(n, sources, total, firsts, rows, window, &mut filling, shelf)?;
+    let mut writer = NodeWriter::start(out, n, window, shelf)?;
+    let made = write_levels(n, sources, total, firsts, rows, &mut writer, shelf)?;
     let Some(count) = made else {
         return Ok(None);
     };
     let Some(word) = became(sources, total, firsts, 0, root.word()) else {
         return Ok(None);
     };
-    let trailer = trailer_with(word, count as u64, n);
-    put_record(window, &mut filling, trailer, shelf)?;
-    settle_records(window, &mut filling, shelf)?;
+    let Some(end) = Ptr::from_word(word) else {
+        return Ok(None);
+    };
+    writer.finish(end, shelf)?;
     Ok(Some(count as u64))
 }
 
@@ -73,30 +73,29 @@ fn write_levels<S: Shelf>(
     total: usize,
     firsts: &[Rec],
     rows: &mut [Rec],
-    window: &mut [Rec],
-    filling: &mut Filling,
+    writer: &mut NodeWriter,
     shelf: &mut S,
 ) -> Result<Option<usize>, StreamFault>
     requires variables { n ≤ 65535 }
     requires many { total ≤ 4 * length sources.old }
     requires few { total ≤ 2 ^ 17 }
-    requires fills { IsFilling filling.old (length window.old) }
-    requires words { filling.old.words ≡ 3 }
-    requires in_step { IsTrue (S.tells shelf.old) → InStep filling.old (S.world shelf.old) }
+    requires in_step { IsTrue (S.tells shelf.old) → InStep (filling_of writer.old) (S.world shelf.old) }
     ensures within { IfOk result (λ found. IfSome found (λ count. count ≤ total)) }
-    ensures fills { IsFilling filling.new (length window.new) }
-    ensures same { SameFile filling.old filling.new }
-    ensures in_step { OnOk result (IsTrue (S.tells shelf.new) → InStep filling.new (S.world shelf.new)) }
+    ensures count { IfOk result (λ found. IfSome found (λ count.
+        count_of (filling_of writer.new) ≡ count_of (filling_of writer.old) + count)) }
+    ensures same { SameFile (filling_of writer.old) (filling_of writer.new) }
+    ensures variables { writer.new.n ≡ writer.old.n }
+    ensures in_step { OnOk result (IsTrue (S.tells shelf.new) → InStep (filling_of writer.new) (S.world shelf.new)) }
     ensures done { IfOk result (λ found. IfSome found (λ count. (root : ℕ) (arcs : List Arc) → IsComplete n root arcs →
         AreSources n root arcs (sources_in total sources.old) →
         IsCounted n root arcs 0 0 count (sources_in total sources.new))) }
     ensures bytes { IfOk result (λ found. IfSome found (λ count. IsTrue (S.tells shelf.new) →
         (root : ℕ) (arcs : List Arc) → IsComplete n root arcs →
-        AreSources n root arcs (sources_in total sources.old) → IsWriting filling.new window.new (S.world shelf.new)
-        (written filling.old window.old (S.world shelf.old) ++ records_bytes 3 (nodes_down_to 0 n arcs)))) }
+        AreSources n root arcs (sources_in total sources.old) → Holds writer.new (S.world shelf.new)
+        (written_of writer.old (S.world shelf.old) ++ held_nodes (nodes_down_to 0 n arcs)))) }
     ensures cause { IfErr result (λ e. e ≡ StreamFault.Shelf) }
     ensures content { Told S.tells shelf.old shelf.new
-        (Wrote total filling.old.file (S.world shelf.old) (S.world shelf.new)) }
+        (Wrote total (filling_of writer.old).file (S.world shelf.old) (S.world shelf.new)) }
     ensures faults { OnlyShelf (S.faults shelf.old) (S.faults shelf.new) result }
 {
     let mut done = Done {
@@ -105,9 +104,7 @@ fn write_levels<S: Shelf>(
     };
     for deeper in 0..n {
         let level = (n - 1 - deeper) as u16;
-        let next = write_level(
-            level, sources, total, firsts, rows, done, window, filling, shelf,
-        )?;
+        let next = write_level(level, sources, total, firsts, rows, done, writer, shelf)?;
         let Some(next) = next else {
             return Ok(None);
         };
@@ -127,41 +124,40 @@ fn write_level<S: Shelf>(
     firsts: &[Rec],
     rows: &mut [Rec],
     done: Done,
-    window: &mut [Rec],
-    filling: &mut Filling,
+    writer: &mut NodeWriter,
     shelf: &mut S,
 ) -> Result<Option<Done>, StreamFault>
     requires level { level ≤ deepest_level }
     requires few { total ≤ 2 ^ 17 }
     requires many { total ≤ 4 * length sources.old }
     requires within { done.from + done.count ≤ total }
-    requires fills { IsFilling filling.old (length window.old) }
-    requires words { filling.old.words ≡ 3 }
-    requires in_step { IsTrue (S.tells shelf.old) → InStep filling.old (S.world shelf.old) }
+    requires in_step { IsTrue (S.tells shelf.old) → InStep (filling_of writer.old) (S.world shelf.old) }
     ensures within { IfOk result (λ found. IfSome found (λ next. (done.count ≤ next.count) ×
         (next.from + next.count ≤ total))) }
-    ensures fills { IsFilling filling.new (length window.new) }
-    ensures same { SameFile filling.old filling.new }
-    ensures in_step { OnOk result (IsTrue (S.tells shelf.new) → InStep filling.new (S.world shelf.new)) }
+    ensures count { IfOk result (λ found. IfSome found (λ next.
+        count_of (filling_of writer.new) + done.count ≡ count_of (filling_of writer.old) + next.count)) }
+    ensures same { SameFile (filling_of writer.old) (filling_of writer.new) }
+    ensures variables { writer.new.n ≡ writer.old.n }
+    ensures in_step { OnOk result (IsTrue (S.tells shelf.new) → InStep (filling_of writer.new) (S.world shelf.new)) }
     ensures done { IfOk result (λ found. IfSome found (λ next. (n root : ℕ) (arcs : List Arc) → n ≤ 65535 → level < n →
         IsComplete n root arcs → IsCounted n root arcs (suc level) done.from done.count (sources_in total sources.old) →
         IsCounted n root arcs level next.from next.count (sources_in total sources.new))) }
     ensures bytes { IfOk result (λ found. IfSome found (λ next. IsTrue (S.tells shelf.new) →
         (n root : ℕ) (arcs : List Arc) → n ≤ 65535 → level < n → IsComplete n root arcs →
         IsDone n root arcs (suc level) done.from (sources_in total sources.old) →
-        IsWriting filling.new window.new (S.world shelf.new) (written filling.old window.old (S.world shelf.old)
-        ++ records_bytes 3 (node_records (numbered level 0 (final_rows n arcs level)))))) }
+        Holds writer.new (S.world shelf.new) (written_of writer.old (S.world shelf.old)
+        ++ held_nodes (node_records (numbered level 0 (final_rows n arcs level)))))) }
     ensures cause { IfErr result (λ e. e ≡ StreamFault.Shelf) }
     ensures content { Told S.tells shelf.old shelf.new
-        (Wrote done.from filling.old.file (S.world shelf.old) (S.world shelf.new)) }
+        (Wrote done.from (filling_of writer.old).file (S.world shelf.old) (S.world shelf.new)) }
     ensures paid { IfOk result (λ found. IfSome found (λ next. Told S.tells shelf.old shelf.new
-        (Wrote (next.count - done.count) filling.old.file (S.world shelf.old) (S.world shelf.new)))) }
+        (Wrote (next.count - done.count) (filling_of writer.old).file (S.world shelf.old) (S.world shelf.new)))) }
     ensures faults { OnlyShelf (S.faults shelf.old) (S.faults shelf.new) result }
 {
     let Some(made) = nodes_of_level(level, sources, total, firsts, rows, done.from) else {
         return Ok(None);
     };
-    put_nodes(&rows[..made.count], window, filling, shelf)?;
+    writer.put_all(&rows[..made.count], shelf)?;
     Ok(Some(Done {
         from: made.from,
         count: done.count + made.count,

@@ -13,7 +13,8 @@ use Rattle.canon_file.specs.Canon.{canon_bytes}
 use Rattle.sweep_core.specs.Accounts.{CanBeTaken, OnlyOwn}
 use Rattle.sweep_core.proofs.Leaving.{taken_before}
 use Rattle.copied_diagrams.specs.declared.source.Source.{Source}
-use Rattle.copied_diagrams.specs.Pairs.{IsMade, IsSourceOf}
+use Rattle.node_file.specs.Canonical.{IsMade}
+use Rattle.copied_diagrams.specs.Pairs.{IsSourceOf}
 use Rattle.copied_diagrams.proofs.TrailerFacts.{long_canonical}
 use Rattle.copy_sweep.specs.declared.copy.CopySweep.{CopySweep}
 use Rattle.copy_sweep.specs.declared.copy.CopyTask.{CopyTask}

@@ -9,19 +9,19 @@ use Rattle.shelf_model.specs.File.{File}
 use Rattle.shelf_model.specs.World.{World}
 use Rattle.block_stream.specs.Reads.{Looked}
 use Rattle.run_tiers.specs.Faults.{OnlySortShelf}
-use Rattle.node_file.specs.Canonical.{IsCanonicalFile}
-use Rattle.room_reduction.specs.Complements.{complement, IsWritten}
-use Rattle.room_reduction.specs.Changes.{Changed}
+use Rattle.node_file.specs.Canonical.{IsCanonicalFile, IsMade}
+use Rattle.room_reduction.specs.Complements.{complement}
+use Rattle.node_file.specs.Changes.{Changed}
 use Rattle.copied_diagrams.specs.declared.pair.Pair.{Pair}
 use Rattle.copied_diagrams.specs.declared.source.Source.{Source}
 use Rattle.copied_diagrams.specs.declared.way.Way.{Way}
 use Rattle.copied_diagrams.specs.declared.way.Way.TheVariants.{Constant, Copy, CopyInTurns, Complement, Join}
 use Rattle.copied_diagrams.specs.Operands.{pair_table}
-use Rattle.copied_diagrams.specs.Pairs.{ArePair, AreTrailersOf, IsMade, IsOf, IsTrailerOf, nodes_of_both}
+use Rattle.copied_diagrams.specs.Pairs.{ArePair, AreTrailersOf, IsOf, IsTrailerOf, nodes_of_both}
 use Rattle.copied_diagrams.specs.Ways.{IsWayOf, IsOneOf, LeadsTo}
 use Rattle.copied_diagrams.proofs.PairRuns.{complement_made, looked_same}
 use Rattle.room_products.specs.declared.join.Joined.{Joined}
-use Rattle.room_products.specs.Joined.{IsOperandOf, IsJoined}
+use Rattle.room_products.specs.Joined.{IsOperandOf}
 use Rattle.step_sweeps.specs.declared.diagram.MadeDiagram.{MadeDiagram}
 use Rattle.step_sweeps.specs.declared.task.Making.{Making}
 use Rattle.top_down_sweep.specs.declared.steps.StepOperation.{StepOperation}
@@ -108,12 +108,12 @@ pair_read tells world op making pair old mid is left right look trailers = recor
 pub complement_is : (n : ℕ) (table : List Bool) (most : ℕ) (source : Source) (to : FileNo) (old new : World)
     → source.trailer.n ≡ n → LeadsTo n table most (Complement source) old
     → ((t : List Bool) → IsCanonicalFile source.trailer.n t source.from old → IsTrailerOf source.trailer.n t source.trailer
-    → IsWritten source.trailer.n (complement t) to source.trailer.count new)
+    → IsMade source.trailer.n (complement t) to source.trailer.count new)
     → IsMade n table to source.trailer.count new
 complement_is n table most source to old new variables leads made =
     complement_made n leads.0 table most source to old new leads.1 leads.2
     (subst (λ k. (t : List Bool) → IsCanonicalFile k t source.from old → IsTrailerOf k t source.trailer
-    → IsWritten k (complement t) to source.trailer.count new) variables made)
+    → IsMade k (complement t) to source.trailer.count new) variables made)
 
 module _ {S : Type 0} (tells : S → Bool) (world : S → World) (counts : S → Faults) (op : Bin) (making : Making)
     (pair : Pair) (old : S) (are : IsPairOf tells world op making pair old) where
@@ -185,7 +185,7 @@ module _ {S : Type 0} (tells : S → Bool) (world : S → World) (counts : S →
       → 0 < j.turns → j.turns ≤ 15 * (pair.left.trailer.count + pair.right.trailer.count + 1)
       → (IsTrue (tells new) → (t u : List Bool) → IsOperandOf making.n t pair.left (world old)
       → IsOperandOf making.n u pair.right (world old)
-      → IsJoined making.n (pair_table making.n op t u) (node_file making.number) j.nodes (world new))
+      → IsMade making.n (pair_table making.n op t u) (node_file making.number) j.nodes (world new))
       → (IsTrue (tells new) → (world new).clock ≤ (world old).clock + (8 * j.turns + 6))
       → Told tells old new (Changed most (node_file making.number) (world old) (world new))
       → OnlySortShelf {T = MadeDiagram} (counts old) (counts new) (Ok m)

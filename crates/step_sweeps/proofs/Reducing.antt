@@ -16,7 +16,7 @@ use Rattle.sweep_core.specs.Sweeps.{IsNoDamage}
 use Rattle.sweep_core.proofs.Leaving.{taken_before}
 use Rattle.canon_file.specs.Canon.{canon_nodes, canon_bytes}
 use Rattle.canon_file.specs.Laws.{HasForm}
-use Rattle.copied_diagrams.specs.Pairs.{IsMade}
+use Rattle.node_file.specs.Canonical.{IsMade}
 use Rattle.arc_file.specs.declared.arc.Arc.{Arc}
 use Rattle.arc_file.specs.declared.unreduced.Unreduced.{Unreduced}
 use Rattle.arc_file.specs.declared.kind.Kind.TheVariants.{Inner, End}

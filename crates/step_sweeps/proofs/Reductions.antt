@@ -16,8 +16,8 @@ use Rattle.sweep_core.specs.Sweeps.{IsNoDamage}
 use Rattle.arc_file.specs.declared.unreduced.Unreduced.{Unreduced}
 use Rattle.arc_file.specs.declared.kind.Kind.TheVariants.{Inner, End}
 use Rattle.arc_file.specs.Files.{HasArcs}
-use Rattle.room_reduction.specs.Changes.{Changed}
-use Rattle.copied_diagrams.specs.Pairs.{IsMade}
+use Rattle.node_file.specs.Changes.{Changed}
+use Rattle.node_file.specs.Canonical.{IsMade}
 use Rattle.top_down_sweep.specs.Ordered.{AreOrdered}
 use Rattle.top_down_sweep.specs.Tasks.{AreArcFiles}
 use Rattle.step_sweeps.specs.declared.arcs.MadeArcs.{MadeArcs}

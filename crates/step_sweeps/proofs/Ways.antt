@@ -22,9 +22,10 @@ use Rattle.run_tiers.proofs.FaultLaws.{sort_shelf_then}
 use Rattle.sweep_core.specs.Sweeps.{IsNoDamage}
 use Rattle.node_file.specs.Nodes.{HasTrailer}
 use Rattle.node_reading.specs.Reading.{IsDamagedNode}
-use Rattle.copied_diagrams.specs.Pairs.{ArePair, IsMade, IsPairDamage}
+use Rattle.node_file.specs.Canonical.{IsMade}
+use Rattle.copied_diagrams.specs.Pairs.{ArePair, IsPairDamage}
 use Rattle.copied_diagrams.proofs.PairRuns.{looked_same, file_before}
-use Rattle.room_reduction.specs.Changes.{Changed}
+use Rattle.node_file.specs.Changes.{Changed}
 use Rattle.top_down_sweep.specs.declared.beginning.OperandFiles.{OperandFiles}
 use Rattle.top_down_sweep.specs.Damage.{IsAbsent}
 use Rattle.step_sweeps.specs.declared.diagram.MadeDiagram.{MadeDiagram}

@@ -8,7 +8,7 @@ use Rattle.shelf_model.specs.Moments.{Ran}
 use Rattle.shelf_model.specs.World.{World, now}
 use Rattle.run_tiers.specs.Faults.{OnlySortShelf}
 use Rattle.sweep_core.specs.Sweeps.{IsNoDamage}
-use Rattle.copied_diagrams.specs.Pairs.{IsMade}
+use Rattle.node_file.specs.Canonical.{IsMade}
 use Rattle.top_down_sweep.specs.Ordered.{AreOrdered}
 use Rattle.top_down_sweep.specs.Tasks.{AreArcFiles}
 use Rattle.step_sweeps.specs.declared.arcs.MadeArcs.{MadeArcs}

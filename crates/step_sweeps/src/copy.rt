@@ -7,8 +7,9 @@ ghost use Rattle.step_sweeps.specs.Pairs.{Leads};
 use crate::MadeDiagram;
 use crate::arcs::FIRST_PART;
 use crate::task::Making;
-use copied_diagrams::{Source, node_pieces};
+use copied_diagrams::Source;
 use copy_sweep::{CopySweep, CopyTask};
+use node_file::node_pieces;
 use shelf_model::{FileNo, Shelf, SortFault};
 use sweep_core::run_to_end;
 

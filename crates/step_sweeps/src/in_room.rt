@@ -2,8 +2,8 @@
 ghost use Rattle.std.specs.Prelude.{◌≡◌, ◌+◌, ◌*◌, ◌/◌, ◌^◌, ◌<◌, ◌≤◌, min, Bool, IsTrue, List, IfOk, IfErr, IfSome, length};
 ghost use Rattle.shelf_model.specs.Calls.{Told};
 ghost use Rattle.shelf_model.specs.Faults.{OnlyShelf};
-ghost use Rattle.room_reduction.specs.Changes.{Changed};
-ghost use Rattle.copied_diagrams.specs.Pairs.{IsMade};
+ghost use Rattle.node_file.specs.Changes.{Changed};
+ghost use Rattle.node_file.specs.Canonical.{IsMade};
 ghost use Rattle.top_down_sweep.specs.Tasks.{AreArcFiles};
 ghost use Rattle.step_sweeps.specs.Made.{HasArcFiles, node_file, arc_count};
 

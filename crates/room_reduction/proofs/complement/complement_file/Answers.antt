@@ -1,6 +1,7 @@
-use Rattle.std.proofs.Common.{◌∙◌, ◌++◌, ◌≤◌, ◌<◌, length, take, ap, sym, subst, arith}
+use Rattle.std.proofs.Common.{◌∙◌, ◌+◌, ◌*◌, ◌++◌, ◌≤◌, ◌<◌, length, take, ap, sym, subst, arith}
 use Rattle.shelf_model.specs.File.{firm_file}
-use Rattle.block_stream.specs.Records.{records_bytes}
+use Rattle.shelf_model.proofs.Runs.{told_then}
+use Rattle.node_file.specs.Nodes.{held_nodes}
 use Rattle.canon_file.specs.Canon.{canon_nodes, trailer_bytes}
 use Rattle.arc_diagrams.specs.Arcs.{arcs_of}
 use Rattle.arc_diagrams.specs.Laws.{IsDiagramOf}
@@ -9,9 +10,25 @@ use Rattle.packed_records.proofs.PackedLaws.{length-packed}
 use Rattle.room_reduction.specs.Reading.{HoldNodes}
 use Rattle.room_reduction.specs.Sources.{AreSources, sources_in}
 use Rattle.room_reduction.specs.Complements.{complement, other_end, other_arcs}
-use Rattle.room_reduction.proofs.CanonicalFile.{canon_read}
+use Rattle.node_file.proofs.FileChanges.{looked_changes, changed_after}
+use Rattle.node_file.proofs.HeldNodes.{canon_read}
 use Rattle.room_reduction.proofs.ComplementSources.{few_others, complement_diagram, complement_sources}
 use Rattle.room_reduction.proofs.complement.complement_file.Goals as goal
+
+-- the nodes are read, and then one file is made
+pub returns-in_err-write_packed-clause-content : goal.returns-in_err-write_packed-clause-content
+returns-in_err-write_packed-clause-content g c =
+    let count = c.args.trailer.count in
+    told_then g.S.Shelf.tells _ _ _ _ _ _ c.read_nodes.ensures.content c.write_packed.ensures.content
+    (λ _ looked changed. changed_after count (count + 4) (2 * count + 4) c.args.to _ _ _ (omega arith)
+    (looked_changes count count c.args.to _ _ (omega arith) looked) changed)
+
+pub returns-clause-content : goal.returns-clause-content
+returns-clause-content g c =
+    let count = c.args.trailer.count in
+    told_then g.S.Shelf.tells _ _ _ _ _ _ c.read_nodes.ensures.content c.write_packed.ensures.content
+    (λ _ looked changed. changed_after count (count + 4) (2 * count + 4) c.args.to _ _ _ (omega arith)
+    (looked_changes count count c.args.to _ _ (omega arith) looked) changed)
 
 -- the file has the nodes of the complement
 pub returns-clause-made : goal.returns-clause-made
@@ -40,7 +57,7 @@ returns-clause-made g c made tells t is root count =
     record {
       form = reduced.form;
       file_is = c.in_ok-write_packed.ensures.made tells
-          ∙ ap firm_file ((λ j. records_bytes 3 (take (sym same j) (packed c.reduce_nodes.new.nodes))
+          ∙ ap firm_file ((λ j. held_nodes (take (sym same j) (packed c.reduce_nodes.new.nodes))
           ++ trailer_bytes root_word (sym same j) n) ∙ reduced.bytes_are);
       nodes_are = sym same ∙ reduced.count_is;
     }

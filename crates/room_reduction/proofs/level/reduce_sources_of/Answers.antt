@@ -2,7 +2,7 @@ use Rattle.std.proofs.Common.{◌∙◌, ◌+◌, ◌≤◌, length, refl, sym, 
 use Rattle.std.proofs.lemmas.Option.{IfSome_then}
 use Rattle.arc_diagrams.specs.Reduction.{final_pointer}
 use Rattle.canon_file.specs.Canon.{numbered}
-use Rattle.room_reduction.specs.Records.{node_records}
+use Rattle.node_file.specs.Nodes.{node_records}
 use Rattle.room_reduction.specs.Sources.{sources_in}
 use Rattle.room_reduction.proofs.PackedSources.{sources_many}
 use Rattle.room_reduction.proofs.LevelSources.{final_keeps_ends, rows_are, row_word_is, level_known}

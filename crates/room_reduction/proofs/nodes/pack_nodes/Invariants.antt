@@ -1,6 +1,6 @@
 use Rattle.std.proofs.Common.{◌≡◌, ◌+◌, ◌++◌, List, take}
 use Rattle.rec_words.specs.declared.node.Node.{Node}
-use Rattle.room_reduction.specs.Records.{node_records}
+use Rattle.node_file.specs.Nodes.{node_records}
 use Rattle.packed_records.specs.Packed.{packed}
 use Rattle.room_reduction.proofs.nodes.pack_nodes.Given as goal
 

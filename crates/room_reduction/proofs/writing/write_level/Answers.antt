@@ -1,6 +1,6 @@
 use Rattle.std.proofs.Common.{suc, length, ap, arith}
 use Rattle.std.proofs.lemmas.List.{length-append, length-take-le}
-use Rattle.room_reduction.specs.Records.{node_records}
+use Rattle.node_file.specs.Nodes.{node_records}
 use Rattle.canon_file.specs.Canon.{numbered}
 use Rattle.arc_diagrams.specs.Reduction.{final_rows}
 use Rattle.room_reduction.specs.Levels.{nodes_down_to}

@@ -1,17 +1,15 @@
 use Rattle.std.proofs.Common.{◌≡◌, ◌∙◌, ◌+◌, ◌-◌, ◌<◌, ◌≤◌, ◌++◌, ℕ, suc, length, refl, rules, sym, ap, subst, arith}
 use Rattle.std.proofs.lemmas.List.{append_assoc, append-nil}
 use Rattle.std.proofs.lemmas.Grind.{flat_map-append}
-use Rattle.shelf_model.specs.declared.file_no.FileNo.{FileNo}
-use Rattle.shelf_model.specs.World.{World}
 use Rattle.shelf_model.proofs.Runs.{told}
-use Rattle.block_stream.specs.Records.{record_bytes, records_bytes}
-use Rattle.block_stream.specs.Writes.{Wrote, written}
 use Rattle.block_stream.proofs.WriteRuns.{wrote_on}
-use Rattle.room_reduction.specs.Records.{node_records}
+use Rattle.node_file.specs.Nodes.{node_records, held_node, held_nodes}
+use Rattle.node_file.specs.Writers.{written_of}
 use Rattle.canon_file.specs.Canon.{numbered}
 use Rattle.arc_diagrams.specs.Reduction.{final_rows}
 use Rattle.room_reduction.specs.Sources.{sources_in}
 use Rattle.room_reduction.specs.Levels.{IsDone, IsCounted, nodes_down_to}
+use Rattle.room_reduction.proofs.FewerCalls.{wrote_within}
 use Rattle.room_reduction.proofs.PackedSources.{sources_many}
 use Rattle.room_reduction.proofs.LevelSteps.{none_done, none_made, nodes_onward}
 use Rattle.room_reduction.proofs.writing.write_levels.Goals as goal
@@ -19,11 +17,12 @@ use Rattle.room_reduction.proofs.writing.write_levels.Goals as goal
 pub loop-deeper-init : goal.loop-deeper-init
 loop-deeper-init g c =
     let n = c.args.n in
-    let begun = written c.args.filling.now c.args.window.now (g.S.Shelf.world c.args.shelf.now) in
+    let begun = written_of c.args.writer.now (g.S.Shelf.world c.args.shelf.now) in
     record {
       within = omega arith;
-      fills = c.requires.fills;
+      counted = omega arith;
       same = record { file_is = refl; words_are = refl };
+      variables = refl;
       in_step = c.requires.in_step;
       done_is = λ root arcs complete are. record {
         done = none_done n root arcs (n - 0) _ _ (omega arith) (sym (sources_many _ _ c.requires.many)) are;
@@ -32,7 +31,7 @@ loop-deeper-init g c =
       bytes = λ tells root arcs complete are. record {
         in_step = c.requires.in_step tells;
         bytes_are = sym (append-nil begun)
-            ∙ ap (λ xs. begun ++ records_bytes 3 xs) (none_made n arcs (n - 0) (omega arith));
+            ∙ ap (λ xs. begun ++ held_nodes xs) (none_made n arcs (n - 0) (omega arith));
       };
       wrote = search rules;
       folder_later = omega arith;
@@ -42,13 +41,6 @@ loop-deeper-init g c =
 
 pub write_level-requires-clause-in_step : goal.write_level-requires-clause-in_step
 write_level-requires-clause-in_step g c = c.loop-deeper.invariant.in_step
-
--- fewer calls are no more
-wrote_within : (m n : ℕ) (f : FileNo) (old new : World) → m ≤ n → Wrote m f old new → Wrote n f old new
-wrote_within m n f old new within wrote = record {
-  run = wrote.run;
-  few = let few = wrote.few in omega (arith, few, within);
-}
 
 pub returns-in_err-next-clause-content : goal.returns-in_err-next-clause-content
 returns-in_err-next-clause-content g c =
@@ -70,6 +62,8 @@ loop-deeper-preserved g c =
     let now = c.in_ok-next.ensures in
     let within = rw c.in-Some.is at now.within in
     let more = within.0 in
+    let counted = known.counted in
+    let one_level = rw c.in-Some.is at now.count in
     let variables = c.requires.variables in
     let test = c.loop-deeper-test.true in
     let level : ℕ = n - 1 - k in
@@ -78,14 +72,15 @@ loop-deeper-preserved g c =
     let below : level < n = omega (arith, test) in
     let sources = sources_in c.args.total c.loop-deeper.sources in
     let later = sources_in c.args.total c.write_level.new.sources in
-    let begun = written c.args.filling.now c.args.window.now (g.S.Shelf.world c.args.shelf.now) in
+    let begun = written_of c.args.writer.now (g.S.Shelf.world c.args.shelf.now) in
     record {
       within = within.1;
-      fills = now.fills;
+      counted = omega (arith, counted, one_level);
       same = record {
         file_is = now.same.file_is ∙ known.same.file_is;
         words_are = now.same.words_are ∙ known.same.words_are;
       };
+      variables = now.variables ∙ known.variables;
       in_step = now.in_step;
       done_is = λ root arcs complete are.
           subst (λ i. IsCounted n root arcs i next.from next.count later) onward
@@ -104,10 +99,10 @@ loop-deeper-preserved g c =
           ∙ ap (λ i. nodes_down_to i n arcs) onward in
           record {
             in_step = put.in_step;
-            bytes_are = put.bytes_are ∙ ap (λ bytes. bytes ++ records_bytes 3 own) before.bytes_are
-                ∙ append_assoc begun (records_bytes 3 front) (records_bytes 3 own)
+            bytes_are = put.bytes_are ∙ ap (λ bytes. bytes ++ held_nodes own) before.bytes_are
+                ∙ append_assoc begun (held_nodes front) (held_nodes own)
                 ∙ ap (λ bytes. begun ++ bytes)
-                (sym (flat_map-append (record_bytes 3) front own) ∙ ap (records_bytes 3) all);
+                (sym (flat_map-append held_node front own) ∙ ap held_nodes all);
           };
       wrote = told g.S.Shelf.tells _ _ _ _
           (wrote_on g.S.Shelf.tells g.S.Shelf.world was.count (next.count - was.count) _ _ _ _ _ known.same.file_is

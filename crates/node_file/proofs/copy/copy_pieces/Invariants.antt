@@ -2,8 +2,8 @@ use Rattle.std.proofs.Common.{◌≡◌, ◌*◌, ◌≤◌, ℕ, List, take}
 use Rattle.std.specs.Prelude.{IsTrue}
 use Rattle.shelf_model.specs.World.{file}
 use Rattle.shelf_model.specs.Calls.{Told, most_piece}
-use Rattle.room_reduction.specs.Changes.{Changed}
-use Rattle.copied_diagrams.proofs.copy.copy_pieces.Given as goal
+use Rattle.node_file.specs.Changes.{Changed}
+use Rattle.node_file.proofs.copy.copy_pieces.Given as goal
 
 -- the pieces before this one stand in the file
 abbrev pub invariant-loop-piece : goal.invariant-loop-piece

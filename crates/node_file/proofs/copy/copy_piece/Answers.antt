@@ -1,5 +1,5 @@
-use Rattle.copied_diagrams.proofs.PieceRuns.{piece_put}
-use Rattle.copied_diagrams.proofs.copy.copy_piece.Goals as goal
+use Rattle.node_file.proofs.PieceRuns.{piece_put}
+use Rattle.node_file.proofs.copy.copy_piece.Goals as goal
 
 pub returns-clause-content : goal.returns-clause-content
 returns-clause-content g c =

@@ -9,7 +9,7 @@ use Rattle.shelf_model.proofs.Changing.{changed_then}
 use Rattle.shelf_model.proofs.Runs.{told, told_then, ran_weakens}
 use Rattle.block_stream.specs.Reads.{Looked}
 use Rattle.block_stream.specs.Writes.{DuringWrite, DuringCut, Wrote, Cut}
-use Rattle.room_reduction.specs.Changes.{Changed}
+use Rattle.node_file.specs.Changes.{Changed}
 
 -- a look changes no file
 pub looked_changes : (m n : ℕ) (f : FileNo) (old new : World) → m ≤ n → Looked m old new → Changed n f old new
@@ -54,11 +54,11 @@ module _ {S : Type 0} (tells : S → Bool) (world : S → World) (f : FileNo) wh
       (wrote_changes n f (world mid) (world new) (subst (λ q. Wrote n q (world mid) (world new)) same two)))
 
   -- a file that was cut, and then written to twice
-  pub cut_and_wrote : (k most : ℕ) (g h : FileNo) (old s t u : S) → k + 2 ≤ most → g ≡ f → h ≡ f
+  pub cut_and_wrote : (k m most : ℕ) (g h : FileNo) (old s t u : S) → k + m + 1 ≤ most → g ≡ f → h ≡ f
       → Told tells old s (Cut 1 f 0 (world old) (world s)) → Told tells s t (Wrote k g (world s) (world t))
-      → Told tells t u (Wrote 1 h (world t) (world u)) → Told tells old u (Changed most f (world old) (world u))
-  cut_and_wrote k most g h old s t u within first second cut one two =
+      → Told tells t u (Wrote m h (world t) (world u)) → Told tells old u (Changed most f (world old) (world u))
+  cut_and_wrote k m most g h old s t u within first second cut one two =
       let begun = told tells old s _ _ cut (λ _ did. cut_changes 1 0 f (world old) (world s) did) in
       let enough : 1 + k ≤ k + 1 = omega arith in
-      let last : k + 1 + 1 ≤ most = omega (arith, within) in
-      then_wrote (k + 1) 1 most h old t u last second (then_wrote 1 k (k + 1) g old s t enough first begun one) two
+      let last : k + 1 + m ≤ most = omega (arith, within) in
+      then_wrote (k + 1) m most h old t u last second (then_wrote 1 k (k + 1) g old s t enough first begun one) two
