@@ -4,6 +4,7 @@ ghost use Rattle.std.specs.Prelude.{◌≡◌, ◌≤◌, length};
 ghost use Rattle.std.specs.List.{position_or_len};
 ghost use Rattle.text_words.specs.Text.{is_feed, is_hash, is_blank, is_inner, code_of};
 
+/// How many bytes stand before the first line feed; all, where there is none.
 #[tactic(auto, using(crate::proofs::Searches::found_first))]
 pub(crate) fn line_len(text: &[u8]) -> usize
     ensures first { result ≡ position_or_len is_feed text.now }
@@ -17,6 +18,7 @@ pub(crate) fn line_len(text: &[u8]) -> usize
     text.len()
 }
 
+/// How many bytes stand before the first number sign; all, where there is none.
 #[tactic(auto, using(crate::proofs::Searches::found_first))]
 fn code_len(line: &[u8]) -> usize
     ensures first { result ≡ position_or_len is_hash line.now }
@@ -44,6 +46,7 @@ pub fn is_blank_byte(b: u8) -> bool
     b == b' ' || b == b'\t' || b == b'\r'
 }
 
+/// How many bytes the word has that a text begins with.
 #[tactic(auto, using(crate::proofs::Searches::found_first))]
 pub(crate) fn word_len(text: &[u8]) -> usize
     ensures first { result ≡ position_or_len is_blank text.now }
@@ -57,12 +60,14 @@ pub(crate) fn word_len(text: &[u8]) -> usize
     text.len()
 }
 
+/// Whether a byte belongs to a word.
 fn is_word_byte(b: u8) -> bool
     ensures { result ≡ is_inner b }
 {
     !is_blank_byte(b)
 }
 
+/// How many separators stand before the first word; all bytes, where there is none.
 #[tactic(auto, using(crate::proofs::Searches::found_first))]
 pub(crate) fn blanks_len(text: &[u8]) -> usize
     ensures first { result ≡ position_or_len is_inner text.now }
