@@ -1,39 +1,35 @@
 -- New walks, and what a walk over all nodes says.
-use Rattle.std.proofs.Common.{◌≡◌, ℕ, zero, suc, ◌+◌, ◌-◌, ◌*◌, ◌<◌, ◌≤◌, ◌==◌, true, false, List, [], ◌∷◌, length, get_or, take, replicate, min, sym, ap, ◌∙◌, subst, arith, ⊎_elim}
+use Rattle.std.proofs.Common.{◌≡◌, ℕ, zero, suc, ◌+◌, ◌-◌, ◌*◌, ◌<◌, ◌≤◌, true, false, List, [], ◌∷◌, length, get_or, take, replicate, min, sym, ap, ◌∙◌, subst, arith, ⊎_elim}
 use Rattle.std.specs.List.{count_by, fold}
 use Rattle.std.proofs.lemmas.List.{get_or-replicate, length-replicate, take_all, get_or-take, length-take}
 use Rattle.std.proofs.Math.ListN.{get_or-eq_default}
 use Rattle.std.proofs.lemmas.List.Folds.{sum_by-replicate}
 use Rattle.std.proofs.lemmas.Bool.{cases_Bool, cases_lt}
+use Rattle.depth_first.specs.declared.state.State.{State}
+use Rattle.depth_first.specs.declared.state.State.TheVariants.{New}
 use Rattle.depth_first.specs.declared.walk.Frame.{Frame}
 use Rattle.depth_first.specs.Graph.{has, edges_of, IsGraph, IsAcyclic, IsTopological, NeverRises, FallsAt, Reaches, directly, through, visit}
-use Rattle.depth_first.specs.Walk.{IsWalk, is_new}
+use Rattle.depth_first.specs.Walk.{IsWalk, is_new, is_done}
 use Rattle.depth_first.proofs.Frames.{has_last, has_still}
 use Rattle.depth_first.proofs.Keeps.{before_or_last}
 use Rattle.depth_first.proofs.Resumes.{visit_seen, visit_new}
 use Rattle.depth_first.proofs.Searches.{has_where}
 
-fits_new : (n s : ℕ) → get_or (replicate n 4294967295) s 0 < 4294967296
-fits_new zero s = omega arith
-fits_new (suc n) zero = omega arith
-fits_new (suc n) (suc s) = fits_new n s
-
 -- where every node is new
-pub new_is_walk : (g : List (List ℕ)) (place order : List ℕ) (stack : List Frame) (n : ℕ) → n ≡ length g → n < 4294967294 → place ≡ replicate n 4294967295 → order ≡ [] → stack ≡ [] → IsWalk g place order stack
-new_is_walk g place order stack n e small p o s =
-    let read : (k : ℕ) → k < length g → get_or place k 0 ≡ 4294967295 = λ k lt. ap (λ xs. get_or xs k 0) p ∙ get_or-replicate n k 4294967295 0 (omega arith) in
-    let counted : count_by is_new (replicate n 4294967295) ≡ n * 1 = sum_by-replicate _ n 4294967295 in
-    let counted2 : count_by is_new place ≡ n * 1 = ap (count_by is_new) p ∙ counted in
+pub new_is_walk : (g : List (List ℕ)) (states : List State) (order : List ℕ) (stack : List Frame) (n : ℕ) → n ≡ length g → n < 4294967294 → states ≡ replicate n New → order ≡ [] → stack ≡ [] → IsWalk g states order stack
+new_is_walk g states order stack n e small p o s =
+    let read : (k : ℕ) → k < length g → get_or states k New ≡ New = λ k lt. ap (λ xs. get_or xs k New) p ∙ get_or-replicate n k New New (omega arith) in
+    let counted : count_by is_new (replicate n New) ≡ n * 1 = sum_by-replicate _ n New in
+    let counted2 : count_by is_new states ≡ n * 1 = ap (count_by is_new) p ∙ counted in
     rw (o, s) (record {
-      size = ap length p ∙ length-replicate n 4294967295 ∙ e;
+      size = ap length p ∙ length-replicate n New ∙ e;
       small = omega arith;
-      fits = λ k. subst (λ xs. get_or xs k 0 < 4294967296) (sym p) (fits_new n k);
       tally = omega arith;
       nodes = λ q lt. absurd (omega arith);
-      places = λ q lt. absurd (omega arith);
-      done = λ k lt. sym (ap (λ v. v == 4294967294) (read k lt));
-      way = λ k lt low. let r : get_or place k 0 ≡ 4294967295 = read k lt in absurd (omega arith);
-      back = λ k lt low. let r : get_or place k 0 ≡ 4294967295 = read k lt in absurd (omega arith);
+      entered = λ q lt. absurd (omega arith);
+      apart = λ p q less lt. absurd (omega arith);
+      done = λ k lt. sym (ap is_done (read k lt));
+      way = λ k lt on. let never : true ≡ false = ap is_new (sym (read k lt) ∙ on) in absurd (cc);
       past = λ q i lt. absurd (omega arith);
       chain = λ q lt. absurd (omega arith);
       links = λ q lt. absurd (omega arith);

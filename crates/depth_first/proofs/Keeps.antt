@@ -1,13 +1,15 @@
 -- What each step of a walk keeps.
-use Rattle.std.proofs.Common.{◌≡◌, ◌≢◌, ◌⊎◌, inl, inr, ℕ, zero, suc, ◌+◌, ◌-◌, ◌<◌, ◌≤◌, true, false, List, [], ◌∷◌, ◌++◌, length, get_or, set, take, sym, ap, ◌∙◌, arith, length-append, length-set, get_or-set_same, get_or-set_other, subst, cond, ⊎_elim}
-use Rattle.std.proofs.lemmas.Bool.{cases_lt, cases_eq, ne_eqb}
+use Rattle.std.proofs.Common.{◌≡◌, ◌≢◌, ◌⊎◌, inl, inr, ℕ, zero, suc, ◌+◌, ◌-◌, ◌<◌, ◌≤◌, true, false, List, [], ◌∷◌, ◌++◌, length, get_or, set, take, sym, ap, ◌∙◌, arith, length-append, length-set, get_or-set_same, get_or-set_other, subst, ⊎_elim}
+use Rattle.std.proofs.lemmas.Bool.{cases_lt, cases_eq}
 use Rattle.std.proofs.lemmas.List.{take-append-le, take_all, get_or_append_left}
 use Rattle.std.proofs.Math.Seq.{get_or-append_seam}
-use Rattle.std.proofs.lemmas.List.Sums.{sum_by-set}
 use Rattle.std.specs.List.{count_by}
+use Rattle.depth_first.specs.declared.state.State.{State}
+use Rattle.depth_first.specs.declared.state.State.TheVariants.{New, OnWay, Done}
 use Rattle.depth_first.specs.declared.walk.Frame.{Frame}
 use Rattle.depth_first.specs.Graph.{has, edges_of, IsTopological, Reaches, directly, through}
-use Rattle.depth_first.specs.Walk.{IsWalk, is_new, is_done, node_at, next_at}
+use Rattle.depth_first.specs.Walk.{IsWalk, IsOnWay, is_new, is_done, node_at, next_at}
+use Rattle.depth_first.proofs.Counts.{count_left, count_entered}
 use Rattle.depth_first.proofs.Frames.{node_front, next_front, node_last, next_last, length_more, has_still, has_last, has_other, has_at}
 
 -- below a number's successor
@@ -29,34 +31,33 @@ topological_push g order s above all k i lt less =
     rw (front, here) (all i (subst (λ t. i < length (edges_of g t)) here less)))
     (before_or_last k (length order) (omega arith))
 
--- places are numbers of 32 bits, and still are where one more is written
-pub fits_set : (place : List ℕ) (k v : ℕ) → ((s : ℕ) → get_or place s 0 < 4294967296)
-    → k < length place → v < 4294967296 → (s : ℕ) → get_or (set place k v) s 0 < 4294967296
-fits_set place k v fits inside small s =
-    ⊎_elim
-    (λ (e : k ≡ s). subst (λ t. get_or (set place k v) t 0 < 4294967296) e
-    (subst (λ n. n < 4294967296) (sym (get_or-set_same place k v 0 inside)) small))
-    (λ (e : k ≡ s → ⊥).
-    subst (λ n. n < 4294967296) (sym (get_or-set_other place k s v 0 (λ f. e (sym f)))) (fits s))
-    (cases_eq k s)
-
-module _ (g : List (List ℕ)) (place order : List ℕ) (fs : List Frame) (f : Frame) (w : IsWalk g place order (fs ++ f ∷ [])) where
+module _ (g : List (List ℕ)) (states : List State) (order : List ℕ) (fs : List Frame) (f : Frame) (w : IsWalk g states order (fs ++ f ∷ [])) where
   -- the last frame of a way: its node is one
   pub last_node : f.node < length g
   last_node =
       let n : length (fs ++ f ∷ []) ≡ length fs + 1 = length_more fs f in
       subst (λ s. s < length g) (node_last fs f) (w.nodes (length fs) (omega arith))
 
-  -- and stands at its place
-  pub last_place : get_or place f.node 0 ≡ length fs
-  last_place =
+  -- and on the way
+  pub last_entered : get_or states f.node New ≡ OnWay
+  last_entered =
       let n : length (fs ++ f ∷ []) ≡ length fs + 1 = length_more fs f in
-      subst (λ s. get_or place s 0 ≡ length fs) (node_last fs f) (w.places (length fs) (omega arith))
+      subst (λ s. get_or states s New ≡ OnWay) (node_last fs f) (w.entered (length fs) (omega arith))
 
-  front_place : (p : ℕ) → p < length fs → get_or place (node_at fs p) 0 ≡ p
-  front_place p lt =
+  front_entered : (p : ℕ) → p < length fs → get_or states (node_at fs p) New ≡ OnWay
+  front_entered p lt =
       let n : length (fs ++ f ∷ []) ≡ length fs + 1 = length_more fs f in
-      subst (λ s. get_or place s 0 ≡ p) (node_front fs (f ∷ []) p lt) (w.places p (omega arith))
+      subst (λ s. get_or states s New ≡ OnWay) (node_front fs (f ∷ []) p lt) (w.entered p (omega arith))
+
+  front_apart : (p q : ℕ) → p < q → q < length fs → node_at fs p ≢ node_at fs q
+  front_apart p q less lt e =
+      let n : length (fs ++ f ∷ []) ≡ length fs + 1 = length_more fs f in
+      w.apart p q less (omega arith) (node_front fs (f ∷ []) p (omega arith) ∙ e ∙ sym (node_front fs (f ∷ []) q lt))
+
+  last_apart : (p : ℕ) → p < length fs → node_at fs p ≢ f.node
+  last_apart p lt e =
+      let n : length (fs ++ f ∷ []) ≡ length fs + 1 = length_more fs f in
+      w.apart p (length fs) lt (omega arith) (node_front fs (f ∷ []) p lt ∙ e ∙ sym (node_last fs f))
 
   front_past : (p i : ℕ) → p < length fs → i < next_at fs p → has order (get_or (edges_of g (node_at fs p)) i 0) ≡ true
   front_past p i lt less =
@@ -84,61 +85,46 @@ module _ (g : List (List ℕ)) (place order : List ℕ) (fs : List Frame) (f : F
       let h : get_or (edges_of g (node_at (fs ++ f ∷ []) p)) (next_at (fs ++ f ∷ []) p) 0 ≡ node_at (fs ++ f ∷ []) (p + 1) = w.links p (omega arith) in
       sym (ap (λ s. get_or (edges_of g s) (next_at fs p) 0) (node_front fs (f ∷ []) p lt)) ∙ sym (ap (λ m. get_or (edges_of g (node_at (fs ++ f ∷ []) p)) m 0) (next_front fs (f ∷ []) p lt)) ∙ h
 
-  front_way : (s : ℕ) → s < length g → s ≢ f.node → get_or place s 0 < 4294967294 → get_or place s 0 < length fs
-  front_way s lt ne low =
+  front_way : (s : ℕ) → s < length g → s ≢ f.node → get_or states s New ≡ OnWay → IsOnWay fs s
+  front_way s lt ne on =
       let n : length (fs ++ f ∷ []) ≡ length fs + 1 = length_more fs f in
-      let q = get_or place s 0 in
-      ⊎_elim (λ (b : q < length fs). b)
-      (λ (e : q ≡ length fs).
-      let same : s ≡ f.node = sym (w.back s lt low) ∙ ap (node_at (fs ++ f ∷ [])) e ∙ node_last fs f in
+      let there : IsOnWay (fs ++ f ∷ []) s = w.way s lt on in
+      ⊎_elim
+      (λ (b : there.0 < length fs). (there.0, b, sym (node_front fs (f ∷ []) there.0 b) ∙ there.2))
+      (λ (e : there.0 ≡ length fs).
+      let same : s ≡ f.node = sym there.2 ∙ ap (node_at (fs ++ f ∷ [])) e ∙ node_last fs f in
       absurd (ne same))
-      (before_or_last q (length fs) (subst (λ m. q < m) n (w.way s lt low)))
-
-  front_back : (s : ℕ) → s < length g → s ≢ f.node → get_or place s 0 < 4294967294 → node_at fs (get_or place s 0) ≡ s
-  front_back s lt ne low = sym (node_front fs (f ∷ []) _ (front_way s lt ne low)) ∙ w.back s lt low
+      (before_or_last there.0 (length fs) (subst (λ m. there.0 < m) n there.1))
 
   -- a node that is left
-  pub leaves : length (edges_of g f.node) ≤ f.next → IsWalk g (set place f.node 4294967294) (order ++ f.node ∷ []) fs
+  pub leaves : length (edges_of g f.node) ≤ f.next → IsWalk g (set states f.node Done) (order ++ f.node ∷ []) fs
   leaves full =
       let n : length (fs ++ f ∷ []) ≡ length fs + 1 = length_more fs f in
       let inside : f.node < length g = last_node in
-      let here : get_or place f.node 0 ≡ length fs = last_place in
-      let size : length place ≡ length g = w.size in
-      let small : length g < 4294967294 = w.small in
-      let tally : count_by is_new place + length (fs ++ f ∷ []) + length order ≡ length g = w.tally in
-      let within : f.node < length place = omega arith in
-      let old_new : is_new (get_or place f.node 0) ≡ false = ne_eqb _ _ (λ e. absurd (omega arith)) in
-      let counted : count_by is_new (set place f.node 4294967294) + cond (is_new (get_or place f.node 0)) 1 0 ≡ count_by is_new place + 0 = sum_by-set (λ x. cond (is_new x) 1 0) place f.node 4294967294 0 within in
-      let counted2 : count_by is_new (set place f.node 4294967294) + 0 ≡ count_by is_new place + 0 = subst (λ b. count_by is_new (set place f.node 4294967294) + cond b 1 0 ≡ count_by is_new place + 0) old_new counted in
+      let size : length states ≡ length g = w.size in
+      let tally : count_by is_new states + length (fs ++ f ∷ []) + length order ≡ length g = w.tally in
+      let within : f.node < length states = omega arith in
+      let counted : count_by is_new (set states f.node Done) ≡ count_by is_new states = count_left states f.node within (ap is_new last_entered) in
       let longer : length (order ++ f.node ∷ []) ≡ length order + 1 = length-append order (f.node ∷ []) in
-      let same : get_or (set place f.node 4294967294) f.node 0 ≡ 4294967294 = get_or-set_same place f.node 4294967294 0 within in
-      let other : (s : ℕ) → s ≢ f.node → get_or (set place f.node 4294967294) s 0 ≡ get_or place s 0 = λ s ne. get_or-set_other place f.node s 4294967294 0 ne in
-      let apart : (s : ℕ) → get_or (set place f.node 4294967294) s 0 < 4294967294 → s ≢ f.node = (λ s low e.
-      let e2 : get_or (set place f.node 4294967294) s 0 ≡ 4294967294 = ap (λ t. get_or (set place f.node 4294967294) t 0) e ∙ same in
-      absurd (omega arith)) in
+      let same : get_or (set states f.node Done) f.node New ≡ Done = get_or-set_same states f.node Done New within in
+      let other : (s : ℕ) → s ≢ f.node → get_or (set states f.node Done) s New ≡ get_or states s New = λ s ne. get_or-set_other states f.node s Done New ne in
+      let not_left : (s : ℕ) → get_or (set states f.node Done) s New ≡ OnWay → s ≢ f.node = (λ s on e.
+      let never : true ≡ false = ap is_done (sym (ap (λ t. get_or (set states f.node Done) t New) e ∙ same) ∙ on) in
+      absurd (cc)) in
       record {
-        size = length-set place f.node 4294967294 ∙ w.size;
+        size = length-set states f.node Done ∙ w.size;
         small = w.small;
-        fits = fits_set place f.node 4294967294 w.fits within (omega arith);
         tally = omega arith;
         nodes = λ p lt. subst (λ s. s < length g) (node_front fs (f ∷ []) p lt) (w.nodes p (omega arith));
-        places = λ p lt.
-            let old : get_or place (node_at fs p) 0 ≡ p = front_place p lt in
-            let ne : node_at fs p ≢ f.node = (λ e. let e2 : get_or place (node_at fs p) 0 ≡ get_or place f.node 0 = ap (λ s. get_or place s 0) e in absurd (omega arith)) in
-            other (node_at fs p) ne ∙ old;
+        entered = λ p lt. other (node_at fs p) (last_apart p lt) ∙ front_entered p lt;
+        apart = front_apart;
         done = λ s lt. ⊎_elim
-            (λ (e : s ≡ f.node). ap (has (order ++ f.node ∷ [])) e ∙ has_last order f.node ∙ sym (ap is_done (ap (λ t. get_or (set place f.node 4294967294) t 0) e ∙ same)))
+            (λ (e : s ≡ f.node). ap (has (order ++ f.node ∷ [])) e ∙ has_last order f.node ∙ sym (ap is_done (ap (λ t. get_or (set states f.node Done) t New) e ∙ same)))
             (λ (ne : s ≢ f.node). has_other order f.node s (λ e. ne (sym e)) ∙ w.done s lt ∙ sym (ap is_done (other s ne)))
             (cases_eq s f.node);
-        way = λ s lt low.
-            let ne : s ≢ f.node = apart s low in
-            let e : get_or (set place f.node 4294967294) s 0 ≡ get_or place s 0 = other s ne in
-            let h : get_or place s 0 < length fs = front_way s lt ne (omega arith) in
-            omega arith;
-        back = λ s lt low.
-            let ne : s ≢ f.node = apart s low in
-            let e : get_or (set place f.node 4294967294) s 0 ≡ get_or place s 0 = other s ne in
-            ap (node_at fs) e ∙ front_back s lt ne (omega arith);
+        way = λ s lt on.
+            let ne : s ≢ f.node = not_left s on in
+            front_way s lt ne (sym (other s ne) ∙ on);
         past = λ p i lt less. has_still order f.node _ (front_past p i lt less);
         chain = λ p lt. front_chain p (omega arith);
         links = λ p lt. front_link p (omega arith) ∙ node_front fs (f ∷ []) (p + 1) lt;
@@ -150,8 +136,8 @@ module _ (g : List (List ℕ)) (place order : List ℕ) (fs : List Frame) (f : F
       }
 
   -- one more edge of the last frame's node was followed, to a node that was left
-  pub follows : (t : ℕ) → t < length g → f.next < length (edges_of g f.node) → get_or (edges_of g f.node) f.next 0 ≡ t → get_or place t 0 ≡ 4294967294
-      → IsWalk g place order (fs ++ record { node = f.node; next = f.next + 1 } ∷ [])
+  pub follows : (t : ℕ) → t < length g → f.next < length (edges_of g f.node) → get_or (edges_of g f.node) f.next 0 ≡ t → get_or states t New ≡ Done
+      → IsWalk g states order (fs ++ record { node = f.node; next = f.next + 1 } ∷ [])
   follows t lt more leads gone =
       let h : Frame = record { node = f.node; next = f.next + 1 } in
       let n : length (fs ++ f ∷ []) ≡ length fs + 1 = length_more fs f in
@@ -160,19 +146,19 @@ module _ (g : List (List ℕ)) (place order : List ℕ) (fs : List Frame) (f : F
       (λ (b : p < length fs). node_front fs (h ∷ []) p b ∙ sym (node_front fs (f ∷ []) p b))
       (λ (e : p ≡ length fs). ap (node_at (fs ++ h ∷ [])) e ∙ node_last fs h ∙ sym (ap (node_at (fs ++ f ∷ [])) e ∙ node_last fs f))
       (before_or_last p (length fs) b)) in
-      let tally : count_by is_new place + length (fs ++ f ∷ []) + length order ≡ length g = w.tally in
+      let tally : count_by is_new states + length (fs ++ f ∷ []) + length order ≡ length g = w.tally in
       record {
         size = w.size;
         small = w.small;
-        fits = w.fits;
         tally = omega arith;
         nodes = λ p lt. subst (λ s. s < length g) (sym (same p (omega arith))) (w.nodes p (omega arith));
-        places = λ p lt. subst (λ s. get_or place s 0 ≡ p) (sym (same p (omega arith))) (w.places p (omega arith));
+        entered = λ p lt. subst (λ s. get_or states s New ≡ OnWay) (sym (same p (omega arith))) (w.entered p (omega arith));
+        apart = λ p q less lt e. w.apart p q less (omega arith) (sym (same p (omega arith)) ∙ e ∙ same q (omega arith));
         done = w.done;
-        way = λ s lt low. let b : get_or place s 0 < length (fs ++ f ∷ []) = w.way s lt low in omega arith;
-        back = λ s lt low.
-            let b : get_or place s 0 < length (fs ++ f ∷ []) = w.way s lt low in
-            same (get_or place s 0) (omega arith) ∙ w.back s lt low;
+        way = λ s lt on.
+            let there : IsOnWay (fs ++ f ∷ []) s = w.way s lt on in
+            let b : there.0 < length (fs ++ f ∷ []) = there.1 in
+            (there.0, omega arith, same there.0 (omega arith) ∙ there.2);
         past = λ p i lt less. ⊎_elim
             (λ (b : p < length fs).
             let below : i < next_at fs p = subst (λ k. i < k) (next_front fs (h ∷ []) p b) less in
@@ -205,58 +191,47 @@ abbrev pub LeadsTo : List (List ℕ) → List Frame → ℕ → Type 0
 LeadsTo g stack t = (p : ℕ) → p + 1 ≡ length stack → (next_at stack p < length (edges_of g (node_at stack p))) × (get_or (edges_of g (node_at stack p)) (next_at stack p) 0 ≡ t)
 
 -- the way goes on to a new node
-pub enters : (g : List (List ℕ)) (place order : List ℕ) (stack : List Frame) (t : ℕ) → IsWalk g place order stack → t < length g → get_or place t 0 ≡ 4294967295 → LeadsTo g stack t
-    → IsWalk g (set place t (length stack)) order (stack ++ record { node = t; next = 0 } ∷ [])
-enters g place order stack t w inside fresh leads =
+pub enters : (g : List (List ℕ)) (states : List State) (order : List ℕ) (stack : List Frame) (t : ℕ) → IsWalk g states order stack → t < length g → get_or states t New ≡ New → LeadsTo g stack t
+    → IsWalk g (set states t OnWay) order (stack ++ record { node = t; next = 0 } ∷ [])
+enters g states order stack t w inside fresh leads =
     let h : Frame = record { node = t; next = 0 } in
     let m : length (stack ++ h ∷ []) ≡ length stack + 1 = length_more stack h in
-    let size : length place ≡ length g = w.size in
-    let small : length g < 4294967294 = w.small in
-    let tally : count_by is_new place + length stack + length order ≡ length g = w.tally in
-    let within : t < length place = omega arith in
-    let few : length stack ≤ length g = omega arith in
-    let new_new : is_new (length stack) ≡ false = ne_eqb _ _ (λ e. absurd (omega arith)) in
-    let new_done : is_done (length stack) ≡ false = ne_eqb _ _ (λ e. absurd (omega arith)) in
-    let old_new : is_new (get_or place t 0) ≡ true = ap is_new fresh in
-    let counted : count_by is_new (set place t (length stack)) + cond (is_new (get_or place t 0)) 1 0 ≡ count_by is_new place + cond (is_new (length stack)) 1 0 = sum_by-set (λ x. cond (is_new x) 1 0) place t (length stack) 0 within in
-    let counted2 : count_by is_new (set place t (length stack)) + 1 ≡ count_by is_new place + cond (is_new (length stack)) 1 0 = subst (λ b. count_by is_new (set place t (length stack)) + cond b 1 0 ≡ count_by is_new place + cond (is_new (length stack)) 1 0) old_new counted in
-    let counted3 : count_by is_new (set place t (length stack)) + 1 ≡ count_by is_new place + 0 = subst (λ b. count_by is_new (set place t (length stack)) + 1 ≡ count_by is_new place + cond b 1 0) new_new counted2 in
-    let same : get_or (set place t (length stack)) t 0 ≡ length stack = get_or-set_same place t (length stack) 0 within in
-    let other : (s : ℕ) → s ≢ t → get_or (set place t (length stack)) s 0 ≡ get_or place s 0 = λ s ne. get_or-set_other place t s (length stack) 0 ne in
-    let at_t : (s : ℕ) → s ≡ t → get_or (set place t (length stack)) s 0 ≡ length stack = (λ s e. ap (λ u. get_or (set place t (length stack)) u 0) e ∙ same) in
+    let size : length states ≡ length g = w.size in
+    let tally : count_by is_new states + length stack + length order ≡ length g = w.tally in
+    let within : t < length states = omega arith in
+    let counted : count_by is_new (set states t OnWay) + 1 ≡ count_by is_new states = count_entered states t within fresh in
+    let same : get_or (set states t OnWay) t New ≡ OnWay = get_or-set_same states t OnWay New within in
+    let other : (s : ℕ) → s ≢ t → get_or (set states t OnWay) s New ≡ get_or states s New = λ s ne. get_or-set_other states t s OnWay New ne in
+    let at_t : (s : ℕ) → s ≡ t → get_or (set states t OnWay) s New ≡ OnWay = (λ s e. ap (λ u. get_or (set states t OnWay) u New) e ∙ same) in
+    let not_there : (p : ℕ) → p < length stack → node_at stack p ≢ t = (λ p b e.
+    let never : false ≡ true = ap is_new (sym (w.entered p b) ∙ ap (λ s. get_or states s New) e ∙ fresh) in
+    absurd (cc)) in
     record {
-      size = length-set place t (length stack) ∙ w.size;
+      size = length-set states t OnWay ∙ w.size;
       small = w.small;
-      fits = fits_set place t (length stack) w.fits within (omega arith);
       tally = omega arith;
       nodes = λ p lt. ⊎_elim
           (λ (b : p < length stack). subst (λ s. s < length g) (sym (node_front stack (h ∷ []) p b)) (w.nodes p b))
           (λ (e : p ≡ length stack). subst (λ s. s < length g) (sym (ap (node_at (stack ++ h ∷ [])) e ∙ node_last stack h)) inside)
           (before_or_last p (length stack) (omega arith));
-      places = λ p lt. ⊎_elim
-          (λ (b : p < length stack).
-          let old : get_or place (node_at stack p) 0 ≡ p = w.places p b in
-          let ne : node_at stack p ≢ t = (λ e. let e2 : get_or place (node_at stack p) 0 ≡ get_or place t 0 = ap (λ s. get_or place s 0) e in absurd (omega arith)) in
-          ap (λ s. get_or (set place t (length stack)) s 0) (node_front stack (h ∷ []) p b) ∙ other (node_at stack p) ne ∙ old)
-          (λ (e : p ≡ length stack). at_t _ (ap (node_at (stack ++ h ∷ [])) e ∙ node_last stack h) ∙ sym e)
+      entered = λ p lt. ⊎_elim
+          (λ (b : p < length stack). ap (λ s. get_or (set states t OnWay) s New) (node_front stack (h ∷ []) p b) ∙ other (node_at stack p) (not_there p b) ∙ w.entered p b)
+          (λ (e : p ≡ length stack). at_t _ (ap (node_at (stack ++ h ∷ [])) e ∙ node_last stack h))
           (before_or_last p (length stack) (omega arith));
+      apart = λ p q less lt e. ⊎_elim
+          (λ (b : q < length stack). w.apart p q less b (sym (node_front stack (h ∷ []) p (omega arith)) ∙ e ∙ node_front stack (h ∷ []) q b))
+          (λ (d : q ≡ length stack). not_there p (omega arith) (sym (node_front stack (h ∷ []) p (omega arith)) ∙ e ∙ ap (node_at (stack ++ h ∷ [])) d ∙ node_last stack h))
+          (before_or_last q (length stack) (omega arith));
       done = λ s lt. ⊎_elim
-          (λ (e : s ≡ t). w.done s lt ∙ ap is_done (ap (λ u. get_or place u 0) e ∙ fresh) ∙ sym (ap is_done (at_t s e) ∙ new_done))
+          (λ (e : s ≡ t). w.done s lt ∙ ap is_done (ap (λ u. get_or states u New) e ∙ fresh) ∙ sym (ap is_done (at_t s e)))
           (λ (ne : s ≢ t). w.done s lt ∙ sym (ap is_done (other s ne)))
           (cases_eq s t);
-      way = λ s lt low. ⊎_elim
-          (λ (e : s ≡ t). let here : get_or (set place t (length stack)) s 0 ≡ length stack = at_t s e in omega arith)
+      way = λ s lt on. ⊎_elim
+          (λ (e : s ≡ t). (length stack, omega arith, node_last stack h ∙ sym e))
           (λ (ne : s ≢ t).
-          let e : get_or (set place t (length stack)) s 0 ≡ get_or place s 0 = other s ne in
-          let b : get_or place s 0 < length stack = w.way s lt (omega arith) in
-          omega arith)
-          (cases_eq s t);
-      back = λ s lt low. ⊎_elim
-          (λ (e : s ≡ t). ap (node_at (stack ++ h ∷ [])) (at_t s e) ∙ node_last stack h ∙ sym e)
-          (λ (ne : s ≢ t).
-          let e : get_or (set place t (length stack)) s 0 ≡ get_or place s 0 = other s ne in
-          let b : get_or place s 0 < length stack = w.way s lt (omega arith) in
-          ap (node_at (stack ++ h ∷ [])) e ∙ node_front stack (h ∷ []) _ b ∙ w.back s lt (omega arith))
+          let there : IsOnWay stack s = w.way s lt (sym (other s ne) ∙ on) in
+          let b : there.0 < length stack = there.1 in
+          (there.0, omega arith, node_front stack (h ∷ []) there.0 b ∙ there.2))
           (cases_eq s t);
       past = λ p i lt less. ⊎_elim
           (λ (b : p < length stack).
@@ -299,20 +274,21 @@ leads_on g fs f t more leads p e =
     )
 
 -- a way reaches what its last node leads to
-climbs : (g : List (List ℕ)) (place order : List ℕ) (stack : List Frame) (t : ℕ) → IsWalk g place order stack → LeadsTo g stack t → (k p : ℕ) → p + k + 1 ≡ length stack → Reaches g (node_at stack p) t
-climbs g place order stack t w leads zero p e =
+climbs : (g : List (List ℕ)) (states : List State) (order : List ℕ) (stack : List Frame) (t : ℕ) → IsWalk g states order stack → LeadsTo g stack t → (k p : ℕ) → p + k + 1 ≡ length stack → Reaches g (node_at stack p) t
+climbs g states order stack t w leads zero p e =
     let l = leads p (omega arith) in
     directly _ _ (subst (λ u. has (edges_of g (node_at stack p)) u ≡ true) l.1 (has_at (edges_of g (node_at stack p)) (next_at stack p) l.0))
-climbs g place order stack t w leads (suc k) p e =
+climbs g states order stack t w leads (suc k) p e =
     let d : p + 1 < length stack = omega arith in
     let l = w.links p d in
     through _ (node_at stack (p + 1)) _ (subst (λ u. has (edges_of g (node_at stack p)) u ≡ true) l (has_at (edges_of g (node_at stack p)) (next_at stack p) (w.chain p d)))
-    (climbs g place order stack t w leads k (p + 1) (omega arith))
+    (climbs g states order stack t w leads k (p + 1) (omega arith))
 
 -- where the last node leads to a node on the way, that node leads to itself
-pub closes : (g : List (List ℕ)) (place order : List ℕ) (stack : List Frame) (t : ℕ) → IsWalk g place order stack → t < length g → get_or place t 0 < 4294967294 → LeadsTo g stack t → Reaches g t t
-closes g place order stack t w inside low leads =
-    let b : get_or place t 0 < length stack = w.way t inside low in
-    let k : ℕ = length stack - (get_or place t 0 + 1) in
-    let e : get_or place t 0 + k + 1 ≡ length stack = omega arith in
-    subst (λ s. Reaches g s t) (w.back t inside low) (climbs g place order stack t w leads k (get_or place t 0) e)
+pub closes : (g : List (List ℕ)) (states : List State) (order : List ℕ) (stack : List Frame) (t : ℕ) → IsWalk g states order stack → t < length g → get_or states t New ≡ OnWay → LeadsTo g stack t → Reaches g t t
+closes g states order stack t w inside on leads =
+    let there : IsOnWay stack t = w.way t inside on in
+    let b : there.0 < length stack = there.1 in
+    let k : ℕ = length stack - (there.0 + 1) in
+    let e : there.0 + k + 1 ≡ length stack = omega arith in
+    subst (λ s. Reaches g s t) there.2 (climbs g states order stack t w leads k there.0 e)

@@ -1,5 +1,5 @@
 -- Graphs: for each node, the nodes that it leads to.
-use Rattle.std.specs.Prelude.{◌≡◌, ℕ, zero, suc, ◌+◌, ◌<◌, ◌≤◌, ◌==◌, Bool, true, List, [], ◌∷◌, ◌++◌, length, take, map, fold, slice_index, if◌then◌else◌}
+use Rattle.std.specs.Prelude.{◌≡◌, ℕ, zero, suc, ◌<◌, ◌≤◌, ◌==◌, Bool, true, List, [], ◌∷◌, ◌++◌, length, take, fold, slice_index, if◌then◌else◌}
 use Rattle.std.specs.List.{slice_index_or, list_any}
 
 -- a list has a number

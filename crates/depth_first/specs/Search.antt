@@ -1,5 +1,5 @@
 -- A search at any moment: which nodes were reached, and whose edges are still to be followed.
-use Rattle.std.specs.Prelude.{◌≡◌, ◌⊎◌, ℕ, ◌+◌, ◌<◌, ◌||◌, Bool, true, false, not, List, [], length, count_by, slice_index}
+use Rattle.std.specs.Prelude.{◌≡◌, ℕ, ◌+◌, ◌<◌, ◌||◌, Bool, true, false, not, List, length, count_by, slice_index}
 use Rattle.std.specs.List.{slice_index_or}
 use Rattle.depth_first.specs.Graph.{has, edges_of, Reaches}
 
@@ -30,3 +30,9 @@ pub record IsSearch (g : List (List ℕ)) (node : ℕ) (reached : List Bool) (la
   pub first : (i : ℕ) → i < length (edges_of g node) → reached_at reached (slice_index (edges_of g node) i) ≡ true
   pub closed : (t i : ℕ) → t < length g → reached_at reached t ≡ true → has later t ≡ false → i < length (edges_of g t)
       → reached_at reached (slice_index (edges_of g t) i) ≡ true
+
+-- the nodes that were reached are those that a node leads to
+pub record AreReached (g : List (List ℕ)) (node : ℕ) (reached : List Bool) : Type 0 where
+  pub size : length reached ≡ length g
+  pub found : (t : ℕ) → t < length g → reached_at reached t ≡ true → Reaches g node t
+  pub all : (t : ℕ) → Reaches g node t → reached_at reached t ≡ true

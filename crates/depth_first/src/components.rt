@@ -7,7 +7,7 @@ use crate::walk::Frame;
 use std::alloc::{AllocError, Global};
 
 /// Tarjan's search: when each node was entered, the earliest node that is known to be reachable from it,
-/// its number, the nodes without a number, and the way from the root.
+/// its number, the nodes without a number, and the way from the root. What is 0 isn't known yet.
 #[derive(Drop)]
 struct Components {
     entered: Vec<u32>,
@@ -19,10 +19,12 @@ struct Components {
     count: u32,
 }
 
+/// The number of a node in a list of numbers.
 fn read(numbers: &Vec<u32>, node: u32) -> u32 {
     numbers.get(node as usize).copied().unwrap_or(0)
 }
 
+/// Writes the number of a node, where it is one of the list.
 fn write(numbers: &mut Vec<u32>, node: u32, number: u32)
     ensures { length numbers.new.items ≡ length numbers.old.items }
 {
@@ -31,6 +33,7 @@ fn write(numbers: &mut Vec<u32>, node: u32, number: u32)
     }
 }
 
+/// Enters a node: it has no number yet, and the way goes on from it. Refuses for want of memory alone.
 fn enter(state: &mut Components, node: u32) -> Result<(), AllocError>
     ensures { length state.new.number.items ≡ length state.old.number.items }
 {
@@ -42,6 +45,7 @@ fn enter(state: &mut Components, node: u32) -> Result<(), AllocError>
     Ok(())
 }
 
+/// A node is known to reach another one that was entered then.
 fn lower(state: &mut Components, node: u32, entry: u32)
     ensures { length state.new.number.items ≡ length state.old.number.items }
 {
@@ -62,6 +66,7 @@ fn close(state: &mut Components, node: u32)
     }
 }
 
+/// Leaves a node: it gets a number with those behind it where it reaches none that was entered before it.
 fn leave(state: &mut Components, node: u32)
     ensures { length state.new.number.items ≡ length state.old.number.items }
 {
@@ -74,6 +79,7 @@ fn leave(state: &mut Components, node: u32)
     }
 }
 
+/// Follows an edge: its target is entered, or is one that was entered before.
 fn follow(state: &mut Components, node: u32, target: u32) -> Result<(), AllocError>
     ensures { length state.new.number.items ≡ length state.old.number.items }
 {
@@ -86,6 +92,7 @@ fn follow(state: &mut Components, node: u32, target: u32) -> Result<(), AllocErr
     Ok(())
 }
 
+/// Follows the next edge of the last node of the way, or leaves that node.
 fn turn(state: &mut Components, edges: &[Vec<u32>], frame: Frame) -> Result<(), AllocError>
     ensures { length state.new.number.items ≡ length state.old.number.items }
 {
@@ -108,6 +115,7 @@ fn turn(state: &mut Components, edges: &[Vec<u32>], frame: Frame) -> Result<(), 
     }
 }
 
+/// Gives numbers to all nodes that a node reaches, itself among them.
 fn enter_root(state: &mut Components, edges: &[Vec<u32>], root: u32) -> Result<(), AllocError>
     ensures { length state.new.number.items ≡ length state.old.number.items }
 {
@@ -124,7 +132,7 @@ fn enter_root(state: &mut Components, edges: &[Vec<u32>], root: u32) -> Result<(
     Ok(())
 }
 
-/// A number for each node.
+/// A number for each node. Refuses for want of memory alone, and leaves nothing then.
 pub(crate) fn component_numbers(alloc: Global, edges: &[Vec<u32>]) -> Result<Vec<u32>, AllocError>
     requires { length edges.now < 4294967294 }
     ensures { IfOk result (λ v. length v.items ≡ length edges.now) }

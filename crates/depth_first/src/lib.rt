@@ -5,6 +5,7 @@
 mod components;
 mod orders;
 mod search;
+mod state;
 mod table;
 mod walk;
 mod walker;

@@ -6,12 +6,13 @@ ghost use Rattle.depth_first.specs.Walk.{IsWalk};
 ghost use Rattle.depth_first.specs.Views.{graph_of};
 
 use crate::components::component_numbers;
-use crate::search::{edges_at, leads_to_itself};
+use crate::search::{edges_at, reached_from};
 use crate::walk::{Walk, new_walk, visit_root};
 use crate::walker::Walker;
 use std::alloc::{AllocError, Global};
 
 /// The nodes that are visited depth first from some nodes in order, each behind those that it leads to.
+/// Refuses for want of memory alone, and leaves nothing then.
 pub fn visit_order(alloc: Global, edges: &[Vec<u32>], roots: &[u32]) -> Result<Vec<u32>, AllocError>
     requires few { length edges.now < 4294967294 }
     requires graph { IsGraph (graph_of edges.now) }
@@ -97,14 +98,16 @@ fn first_of(alloc: Global, edges: &[Vec<u32>], known: u32) -> Result<u32, AllocE
         if falls && falls_at(edges, numbers.as_slice(), node) {
             continue;
         }
-        if leads_to_itself(alloc, edges, node)? {
+        let reached = reached_from(alloc, edges, node)?;
+        if reached[node as usize] {
             return Ok(node);
         }
     }
     Ok(known)
 }
 
-/// The first node that lies on a cycle, or none where there is no cycle.
+/// The first node that lies on a cycle, or none where there is no cycle. Refuses for want of memory alone, and
+/// leaves nothing then.
 pub fn first_cycle(alloc: Global, edges: &[Vec<u32>]) -> Result<Option<u32>, AllocError>
     requires few { length edges.now < 4294967294 }
     requires graph { IsGraph (graph_of edges.now) }

@@ -1,9 +1,9 @@
-//! Whether a node leads to itself.
+//! Which nodes a node leads to.
 
 ghost use Rattle.std.specs.Prelude.{◌≡◌, ℕ, ◌+◌, ◌<◌, ◌≤◌, ◌||◌, ◌^◌, ◌∷◌, ◌++◌, [], List, Bool, true, false, map, length, slice_index, replicate, OnOk, IfOk, count_by};
 ghost use Rattle.std.specs.List.{slice_index_or};
 ghost use Rattle.depth_first.specs.Graph.{IsGraph, Reaches, has, edges_of};
-ghost use Rattle.depth_first.specs.Search.{Spreads, is_unreached};
+ghost use Rattle.depth_first.specs.Search.{Spreads, AreReached, is_unreached};
 ghost use Rattle.depth_first.specs.Views.{graph_of};
 
 use std::alloc::{AllocError, Global};
@@ -36,6 +36,7 @@ fn reach_all(
     Ok(())
 }
 
+/// No node is reached yet.
 fn none_reached(alloc: Global, nodes: usize) -> Result<Vec<bool>, AllocError>
     ensures { IfOk result (λ v. v.items ≡ replicate nodes false) }
 {
@@ -50,16 +51,15 @@ pub(crate) fn edges_at(edges: &[Vec<u32>], node: u32) -> &[u32]
     edges[node as usize].as_slice()
 }
 
-/// Whether a node leads to itself, directly or through others.
-pub(crate) fn leads_to_itself(
+/// Which nodes a node leads to, directly or through others. Refuses for want of memory alone.
+pub(crate) fn reached_from(
     alloc: Global,
     edges: &[Vec<u32>],
     node: u32,
-) -> Result<bool, AllocError>
+) -> Result<Vec<bool>, AllocError>
     requires graph { IsGraph (graph_of edges.now) }
     requires inside { node < length edges.now }
-    ensures yes { IfOk result (λ b. b ≡ true → Reaches (graph_of edges.now) node node) }
-    ensures no { IfOk result (λ b. b ≡ false → Reaches (graph_of edges.now) node node → ⊥) }
+    ensures { IfOk result (λ v. AreReached (graph_of edges.now) node v.items) }
 {
     let mut reached = none_reached(alloc, edges.len())?;
     let mut later = Vec::new(alloc);
@@ -67,5 +67,5 @@ pub(crate) fn leads_to_itself(
     'search: while let Some(next) = later.pop() {
         reach_all(edges_at(edges, next), &mut reached, &mut later)?;
     }
-    Ok(reached[node as usize])
+    Ok(reached)
 }

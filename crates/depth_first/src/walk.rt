@@ -3,13 +3,11 @@
 ghost use Rattle.std.specs.Prelude.{◌≡◌, ◌^◌, ℕ, ◌+◌, ◌-◌, ◌<◌, ◌≤◌, ◌++◌, ◌∷◌, [], List, map, length, take, drop, slice_index, slice_set, replicate, OnOk, IfOk, MatchOption, Some, None};
 ghost use Rattle.depth_first.specs.Graph.{IsGraph, Reaches, edges_of};
 ghost use Rattle.depth_first.specs.Walk.{IsWalk, StepsTo, Visited, WalkOver};
+ghost use Rattle.depth_first.specs.declared.state.State.TheVariants.{New, OnWay, Done};
 ghost use Rattle.depth_first.specs.Views.{graph_of};
 
+use crate::state::{State, is_done};
 use std::alloc::{AllocError, Global};
-
-pub(crate) const NEW: u32 = 4294967295;
-
-const DONE: u32 = 4294967294;
 
 /// A node that was entered, and how many of its edges were followed.
 #[derive(Clone, Copy)]
@@ -21,20 +19,20 @@ pub(crate) struct Frame {
 /// Where each node stands, the nodes that were left in their order, and the way from the root.
 #[derive(Drop)]
 pub(crate) struct Walk {
-    pub place: Vec<u32>,
+    pub states: Vec<State>,
     pub order: Vec<u32>,
     pub stack: Vec<Frame>,
 }
 
 /// The frame's node is left: it joins the order.
 fn leave(walk: &mut Walk, frame: Frame) -> Result<(), AllocError>
-    requires { frame.node < length walk.old.place.items }
-    ensures size { length walk.new.place.items ≡ length walk.old.place.items }
-    ensures place { OnOk result (walk.new.place.items ≡ slice_set walk.old.place.items frame.node 4294967294) }
+    requires { frame.node < length walk.old.states.items }
+    ensures size { length walk.new.states.items ≡ length walk.old.states.items }
+    ensures states { OnOk result (walk.new.states.items ≡ slice_set walk.old.states.items frame.node Done) }
     ensures order { OnOk result (walk.new.order.items ≡ walk.old.order.items ++ frame.node ∷ []) }
     ensures stack { OnOk result (walk.new.stack.items ≡ walk.old.stack.items) }
 {
-    walk.place[frame.node as usize] = DONE;
+    walk.states[frame.node as usize] = State::Done;
     walk.order.push(frame.node)?;
     Ok(())
 }
@@ -42,8 +40,8 @@ fn leave(walk: &mut Walk, frame: Frame) -> Result<(), AllocError>
 /// One more edge of the frame's node was followed.
 fn follow(walk: &mut Walk, frame: Frame) -> Result<(), AllocError>
     requires { frame.next + 1 < 2 ^ 64 }
-    ensures size { length walk.new.place.items ≡ length walk.old.place.items }
-    ensures place { OnOk result (walk.new.place.items ≡ walk.old.place.items) }
+    ensures size { length walk.new.states.items ≡ length walk.old.states.items }
+    ensures states { OnOk result (walk.new.states.items ≡ walk.old.states.items) }
     ensures order { OnOk result (walk.new.order.items ≡ walk.old.order.items) }
     ensures stack { OnOk result (walk.new.stack.items ≡ walk.old.stack.items
         ++ record { node = frame.node; next = frame.next + 1 } ∷ []) }
@@ -57,16 +55,14 @@ fn follow(walk: &mut Walk, frame: Frame) -> Result<(), AllocError>
 
 /// The way goes on to a node, behind the frame's.
 fn enter(walk: &mut Walk, frame: Frame, node: u32) -> Result<(), AllocError>
-    requires inside { node < length walk.old.place.items }
-    requires few { length walk.old.stack.items < 4294967294 }
-    ensures size { length walk.new.place.items ≡ length walk.old.place.items }
-    ensures place { OnOk result (walk.new.place.items ≡ slice_set walk.old.place.items node
-        (length walk.old.stack.items + 1)) }
+    requires { node < length walk.old.states.items }
+    ensures size { length walk.new.states.items ≡ length walk.old.states.items }
+    ensures states { OnOk result (walk.new.states.items ≡ slice_set walk.old.states.items node OnWay) }
     ensures order { OnOk result (walk.new.order.items ≡ walk.old.order.items) }
     ensures stack { OnOk result (walk.new.stack.items ≡
         (walk.old.stack.items ++ frame ∷ []) ++ record { node = node; next = 0 } ∷ []) }
 {
-    walk.place[node as usize] = walk.stack.len() as u32 + 1;
+    walk.states[node as usize] = State::OnWay;
     walk.stack.push(frame)?;
     walk.stack.push(Frame { node, next: 0 })?;
     Ok(())
@@ -79,12 +75,12 @@ pub(crate) fn step(
     frame: Frame,
 ) -> Result<Option<u32>, AllocError>
     requires graph { IsGraph (graph_of edges.now) }
-    requires before { IsWalk (graph_of edges.now) walk.old.place.items walk.old.order.items
+    requires before { IsWalk (graph_of edges.now) walk.old.states.items walk.old.order.items
         (walk.old.stack.items ++ frame ∷ []) }
-    ensures size { length walk.new.place.items ≡ length walk.old.place.items }
+    ensures size { length walk.new.states.items ≡ length walk.old.states.items }
     ensures walked { IfOk result (λ found. MatchOption found
-        (StepsTo (graph_of edges.now) walk.old.place.items walk.old.order.items
-        (walk.old.stack.items ++ frame ∷ []) walk.new.place.items walk.new.order.items walk.new.stack.items)
+        (StepsTo (graph_of edges.now) walk.old.states.items walk.old.order.items
+        (walk.old.stack.items ++ frame ∷ []) walk.new.states.items walk.new.order.items walk.new.stack.items)
         (λ t. (t < length edges.now) × Reaches (graph_of edges.now) t t)) }
 {
     let targets = edges[frame.node as usize].as_slice();
@@ -93,27 +89,29 @@ pub(crate) fn step(
         return Ok(None);
     }
     let target = targets[frame.next];
-    let place = walk.place[target as usize];
-    if place == DONE {
-        follow(walk, frame)?;
-        return Ok(None);
+    let here = walk.states[target as usize];
+    match here {
+        State::Done => {
+            follow(walk, frame)?;
+            Ok(None)
+        }
+        State::New => {
+            enter(walk, frame, target)?;
+            Ok(None)
+        }
+        State::OnWay => Ok(Some(target)),
     }
-    if place == NEW {
-        enter(walk, frame, target)?;
-        return Ok(None);
-    }
-    Ok(Some(target))
 }
 
 /// One step of a walk. The answer is a node that leads to itself.
 fn last_step(edges: &[Vec<u32>], walk: &mut Walk) -> Result<Option<u32>, AllocError>
     requires graph { IsGraph (graph_of edges.now) }
-    requires before { IsWalk (graph_of edges.now) walk.old.place.items walk.old.order.items walk.old.stack.items }
+    requires before { IsWalk (graph_of edges.now) walk.old.states.items walk.old.order.items walk.old.stack.items }
     requires left { 0 < length walk.old.stack.items }
-    ensures size { length walk.new.place.items ≡ length walk.old.place.items }
+    ensures size { length walk.new.states.items ≡ length walk.old.states.items }
     ensures walked { IfOk result (λ found. MatchOption found
-        (StepsTo (graph_of edges.now) walk.old.place.items walk.old.order.items walk.old.stack.items
-        walk.new.place.items walk.new.order.items walk.new.stack.items)
+        (StepsTo (graph_of edges.now) walk.old.states.items walk.old.order.items walk.old.stack.items
+        walk.new.states.items walk.new.order.items walk.new.stack.items)
         (λ t. (t < length edges.now) × Reaches (graph_of edges.now) t t)) }
 {
     match walk.stack.pop() {
@@ -124,13 +122,13 @@ fn last_step(edges: &[Vec<u32>], walk: &mut Walk) -> Result<Option<u32>, AllocEr
 
 /// The way begins at a node.
 fn begin(walk: &mut Walk, node: u32) -> Result<(), AllocError>
-    requires { node < length walk.old.place.items }
-    ensures size { length walk.new.place.items ≡ length walk.old.place.items }
-    ensures place { OnOk result (walk.new.place.items ≡ slice_set walk.old.place.items node 0) }
+    requires { node < length walk.old.states.items }
+    ensures size { length walk.new.states.items ≡ length walk.old.states.items }
+    ensures states { OnOk result (walk.new.states.items ≡ slice_set walk.old.states.items node OnWay) }
     ensures order { OnOk result (walk.new.order.items ≡ walk.old.order.items) }
     ensures stack { OnOk result (walk.new.stack.items ≡ walk.old.stack.items ++ record { node = node; next = 0 } ∷ []) }
 {
-    walk.place[node as usize] = 0;
+    walk.states[node as usize] = State::OnWay;
     walk.stack.push(Frame { node, next: 0 })?;
     Ok(())
 }
@@ -143,15 +141,15 @@ pub(crate) fn visit_root(
 ) -> Result<Option<u32>, AllocError>
     requires graph { IsGraph (graph_of edges.now) }
     requires inside { root < length edges.now }
-    requires before { IsWalk (graph_of edges.now) walk.old.place.items walk.old.order.items walk.old.stack.items }
+    requires before { IsWalk (graph_of edges.now) walk.old.states.items walk.old.order.items walk.old.stack.items }
     requires empty { walk.old.stack.items ≡ [] }
-    ensures size { length walk.new.place.items ≡ length walk.old.place.items }
+    ensures size { length walk.new.states.items ≡ length walk.old.states.items }
     ensures walked { IfOk result (λ found. MatchOption found
-        (Visited (graph_of edges.now) walk.old.order.items root walk.new.place.items walk.new.order.items
+        (Visited (graph_of edges.now) walk.old.order.items root walk.new.states.items walk.new.order.items
         walk.new.stack.items) (λ t. (t < length edges.now) × Reaches (graph_of edges.now) t t)) }
 {
-    let place = walk.place[root as usize];
-    if place == DONE {
+    let state = walk.states[root as usize];
+    if is_done(state) {
         return Ok(None);
     }
     begin(walk, root)?;
@@ -171,12 +169,12 @@ pub(crate) fn visit_roots(
 ) -> Result<Option<u32>, AllocError>
     requires graph { IsGraph (graph_of edges.now) }
     requires inside { (i : ℕ) → i < length roots.now → slice_index roots.now i < length edges.now }
-    requires before { IsWalk (graph_of edges.now) walk.old.place.items walk.old.order.items walk.old.stack.items }
+    requires before { IsWalk (graph_of edges.now) walk.old.states.items walk.old.order.items walk.old.stack.items }
     requires empty { walk.old.stack.items ≡ [] }
     requires none { walk.old.order.items ≡ [] }
-    ensures size { length walk.new.place.items ≡ length walk.old.place.items }
+    ensures size { length walk.new.states.items ≡ length walk.old.states.items }
     ensures walked { IfOk result (λ found. MatchOption found
-        (WalkOver (graph_of edges.now) roots.now walk.new.place.items walk.new.order.items walk.new.stack.items)
+        (WalkOver (graph_of edges.now) roots.now walk.new.states.items walk.new.order.items walk.new.stack.items)
         (λ t. (t < length edges.now) × Reaches (graph_of edges.now) t t)) }
 {
     for root in roots {
@@ -190,12 +188,12 @@ pub(crate) fn visit_roots(
 /// A walk in which every node is new.
 pub(crate) fn new_walk(alloc: Global, nodes: usize) -> Result<Walk, AllocError>
     requires { nodes < 4294967294 }
-    ensures place { IfOk result (λ w. w.place.items ≡ replicate nodes 4294967295) }
+    ensures states { IfOk result (λ w. w.states.items ≡ replicate nodes New) }
     ensures order { IfOk result (λ w. w.order.items ≡ []) }
     ensures stack { IfOk result (λ w. w.stack.items ≡ []) }
 {
     Ok(Walk {
-        place: vec![in alloc; NEW; nodes]?,
+        states: vec![in alloc; State::New; nodes]?,
         order: Vec::new(alloc),
         stack: Vec::new(alloc),
     })

@@ -6,9 +6,11 @@ ghost use Rattle.depth_first.specs.Graph.{IsGraph, IsAcyclic, IsTopological, vis
 ghost use Rattle.depth_first.specs.Rest.{IsAtRest};
 ghost use Rattle.depth_first.specs.Views.{graph_of};
 ghost use Rattle.depth_first.specs.Tables.{IsBlankBut};
+ghost use Rattle.depth_first.specs.declared.state.State.TheVariants.{New};
 
+use crate::state::State;
 use crate::table::make_blank;
-use crate::walk::{NEW, Walk, new_walk, visit_roots};
+use crate::walk::{Walk, new_walk, visit_roots};
 use std::alloc::{AllocError, Global};
 
 /// Tables for walks in graphs of one number of nodes. A walk takes time for what it visits, and not
@@ -22,7 +24,7 @@ pub struct Walker {
 impl Walker {
     ghost use Rattle.depth_first.specs.Walkers.{nodes_of, order_of};
 
-    /// For graphs of this number of nodes.
+    /// Tables for graphs of this number of nodes. Refuses for want of memory alone.
     pub fn new(alloc: Global, nodes: usize) -> Result<Walker, AllocError>
         requires { nodes < 4294967294 }
         ensures { IfOk result (λ w. nodes_of w ≡ nodes) }
@@ -32,8 +34,8 @@ impl Walker {
         })
     }
 
-    /// Visits nodes depth first from some nodes in order. Want of memory leaves no order, and tables
-    /// that serve as before.
+    /// Visits nodes depth first from some nodes in order. Refuses for want of memory alone, which leaves no
+    /// order, and tables that serve as before.
     pub fn visit(&mut self, edges: &[Vec<u32>], roots: &[u32]) -> Result<(), AllocError>
         requires nodes { length edges.now ≡ nodes_of self.old }
         requires graph { IsGraph (graph_of edges.now) }
@@ -59,39 +61,40 @@ impl Walker {
 }
 
 /// Makes the nodes of an order new again.
-fn renew(place: &mut Vec<u32>, order: &mut Vec<u32>)
-    requires others { IsBlankBut order.old.items 4294967295 place.old.items }
+fn renew(states: &mut Vec<State>, order: &mut Vec<u32>)
+    requires others { IsBlankBut order.old.items New states.old.items }
     requires inside { (k : ℕ) → k < length order.old.items
-        → slice_index order.old.items k < length place.old.items }
-    ensures place { place.new.items ≡ replicate (length place.old.items) 4294967295 }
+        → slice_index order.old.items k < length states.old.items }
+    ensures states { states.new.items ≡ replicate (length states.old.items) New }
     ensures order { order.new.items ≡ order.old.items }
 {
-    make_blank(place.as_mut_slice(), order.as_slice(), NEW);
+    make_blank(states.as_mut_slice(), order.as_slice(), State::New);
 }
 
 /// Gives a walk up: every node is new again.
 fn give_up(walk: &mut Walk)
-    requires { length walk.old.place.items < 4294967294 }
-    ensures size { length walk.new.place.items ≡ length walk.old.place.items }
+    requires { length walk.old.states.items < 4294967294 }
+    ensures size { length walk.new.states.items ≡ length walk.old.states.items }
     ensures rest { IsAtRest walk.new }
     ensures order { walk.new.order.items ≡ [] }
 {
-    for node in 0..walk.place.len() {
-        walk.place[node] = NEW;
+    for node in 0..walk.states.len() {
+        walk.states[node] = State::New;
     }
     walk.order.clear();
     walk.stack.clear();
 }
 
 /// Visits roots in order, and makes what was visited new again.
+#[tactic(auto, using(crate::proofs::Roots::others_are_new))]
 fn visit_all(edges: &[Vec<u32>], walk: &mut Walk, roots: &[u32]) -> Result<(), AllocError>
     requires rest { IsAtRest walk.old }
-    requires nodes { length edges.now ≡ length walk.old.place.items }
+    requires nodes { length edges.now ≡ length walk.old.states.items }
     requires graph { IsGraph (graph_of edges.now) }
     requires acyclic { IsAcyclic (graph_of edges.now) }
     requires inside { (i : ℕ) → i < length roots.now → slice_index roots.now i < length edges.now }
     ensures rest { IsAtRest walk.new }
-    ensures size { length walk.new.place.items ≡ length walk.old.place.items }
+    ensures size { length walk.new.states.items ≡ length walk.old.states.items }
     ensures order { OnOk result (walk.new.order.items ≡ visits (graph_of edges.now) roots.now) }
     ensures above { OnOk result (IsTopological (graph_of edges.now) walk.new.order.items) }
     ensures nodes { OnOk result ((k : ℕ) → k < length walk.new.order.items
@@ -101,7 +104,7 @@ fn visit_all(edges: &[Vec<u32>], walk: &mut Walk, roots: &[u32]) -> Result<(), A
     walk.order.clear();
     match visit_roots(edges, walk, roots) {
         Ok(_) => {
-            renew(&mut walk.place, &mut walk.order);
+            renew(&mut walk.states, &mut walk.order);
             Ok(())
         }
         Err(error) => {

@@ -1,4 +1,4 @@
-use Rattle.std.proofs.Common.{◌≡◌, ◌<◌, List, ℕ, length, subst, sym, ap, ⊎_elim, arith, ◌∙◌}
+use Rattle.std.proofs.Common.{◌≡◌, ◌<◌, List, ℕ, length, subst, ⊎_elim, arith}
 use Rattle.depth_first.specs.Graph.{Reaches, NeverRises, FallsAt}
 use Rattle.depth_first.specs.Views.{graph_of}
 use Rattle.depth_first.proofs.Keeps.{before_or_last}

@@ -2,7 +2,7 @@ use Rattle.std.proofs.Common.{◌+◌, length}
 use Rattle.std.specs.List.{count_by}
 use Rattle.depth_first.specs.Search.{IsSearch, is_unreached}
 use Rattle.depth_first.specs.Views.{graph_of}
-use Rattle.depth_first.proofs.search.leads_to_itself.Given as goal
+use Rattle.depth_first.proofs.search.reached_from.Given as goal
 
 -- it is a search from the node
 abbrev pub invariant-search : goal.invariant-search
