@@ -1,16 +1,11 @@
 -- What the parts of a netlist in memory stand for.
-use Rattle.std.specs.Prelude.{ℕ, zero, suc, List, [], ◌∷◌, take, drop, map, Vec, unwrap_or}
-use Rattle.std.specs.declared.alloc.Global.{Global}
+use Rattle.std.specs.Prelude.{ℕ, zero, suc, List, [], ◌∷◌, take, drop, unwrap_or}
 use Rattle.blif_reader.specs.declared.cover.Cover as declared
 use Rattle.blif_reader.specs.declared.cover.Rows.{Rows}
 use Rattle.blif_reader.specs.declared.names.Names.{Names}
 use Rattle.blif_reader.specs.Ends.{words_between}
 use Rattle.blif_reader.specs.Netlist.{Cover}
 use Rattle.blif_reader.specs.Index.{Index, found_in}
-
--- lists of bytes in memory
-abbrev pub lists_of : List (Vec ℕ Global) → List (List ℕ)
-lists_of vs = map (λ v. v.items) vs
 
 -- names in memory
 abbrev pub names_in : Names → List (List ℕ)

@@ -7,7 +7,8 @@ ghost use Rattle.blif_reader.specs.Statements.{statement_of, Follows};
 ghost use Rattle.blif_reader.specs.Netlist.{IsRow, names_of, rows_behind, value_behind, cover_before, covers_of, reads_of, is_names};
 ghost use Rattle.blif_reader.specs.Words.{words_of_uses};
 ghost use Rattle.blif_reader.specs.Ends.{AreEnds, Holds, words_between};
-ghost use Rattle.blif_reader.specs.Views.{names_in, lists_of, rows_of, cover_of, number_in};
+ghost use Rattle.depth_first.specs.Views.{graph_of};
+ghost use Rattle.blif_reader.specs.Views.{names_in, rows_of, cover_of, number_in};
 
 use crate::cover::{Cover, Rows};
 use crate::grammar::Kind;
@@ -122,8 +123,8 @@ fn push_reads(
     edges: &mut Vec<Vec<u32>>,
 ) -> Result<(), AllocError>
     requires { length line.now ≡ 1 }
-    ensures { OnOk result (lists_of edges.new.items
-        ≡ lists_of edges.old.items
+    ensures { OnOk result (graph_of edges.new.items
+        ≡ graph_of edges.old.items
         ++ map (λ words. map (number_in index.now) words) (reads_of (map statement_of line.now))) }
 {
     if names_block(line[0].kind) {
@@ -139,7 +140,7 @@ pub(crate) fn edges(
     inputs: usize,
     statements: &[Statement],
 ) -> Result<Vec<Vec<u32>>, AllocError>
-    ensures { IfOk result (λ v. lists_of v.items
+    ensures { IfOk result (λ v. graph_of v.items
         ≡ replicate inputs []
         ++ map (λ words. map (number_in index.now) words) (reads_of (map statement_of statements.now))) }
 {
