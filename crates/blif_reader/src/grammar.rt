@@ -37,12 +37,15 @@ pub(crate) struct Shape<'a> {
     pub count: usize,
 }
 
+/// Whether a word begins with a full stop, as keywords do.
 fn dotted(word: &[u8]) -> bool
     ensures { result ≡ is_dotted word.now }
 {
     !word.is_empty() && word[0] == b'.'
 }
 
+/// What a line is that begins with this keyword and has so many words. Refuses a word that is none of the
+/// grammar, and a block without an output.
 fn keyword(word: &[u8], count: usize) -> Result<Kind, BlifKind>
     ensures { result ≡ keyword_of word.now count }
 {
@@ -63,12 +66,14 @@ fn keyword(word: &[u8], count: usize) -> Result<Kind, BlifKind>
     }
 }
 
+/// Whether a word has the characters of a row alone: `0`, `1` and `-`.
 fn all_cells(word: &[u8]) -> bool
     ensures { result ≡ list_all is_cell word.now }
 {
     word.iter().all(|b| *b == b'0' || *b == b'1' || *b == b'-')
 }
 
+/// The output that a word names.
 fn digit(word: &[u8]) -> Option<bool>
     ensures { result ≡ digit_of word.now }
 {
@@ -81,6 +86,7 @@ fn digit(word: &[u8]) -> Option<bool>
     }
 }
 
+/// The output of a row of a block with so many inputs, where the words are one.
 fn value_of_row(inputs: usize, shape: &Shape) -> Option<bool>
     ensures { result ≡ row_value inputs (shape_in shape.now) }
 {
@@ -96,6 +102,8 @@ fn value_of_row(inputs: usize, shape: &Shape) -> Option<bool>
     None
 }
 
+/// What a line is that begins with no keyword: a row of the block at hand. Refuses other words, a row without
+/// a block, and one with another output than the rows before it.
 fn row(context: Context, shape: &Shape) -> Result<Kind, BlifKind>
     ensures { result ≡ row_of context (shape_in shape.now) }
 {

@@ -10,6 +10,7 @@ use crate::grammar::Shape;
 use crate::line::Line;
 use text_words::{Lines, Words, is_blank_byte};
 
+/// A text without the separators at its end.
 fn without_blanks(text: &[u8]) -> &[u8]
     ensures { result.now ≡ trimmed text.now }
 {
@@ -20,6 +21,7 @@ fn without_blanks(text: &[u8]) -> &[u8]
     &text[..n]
 }
 
+/// Whether the next line is joined to one with this text.
 fn ends_with_backslash(code: &[u8]) -> bool
     ensures { result ≡ goes_on code.now }
 {

@@ -74,6 +74,7 @@ impl Netlist {
         self.tables.edges[signal as usize].as_slice()
     }
 
+    /// The cover of a block.
     fn cover(&self, signal: u32) -> &Cover
         requires { IsBlock (net_of self.now) signal }
         ensures { cover_of result.now ≡ cover_at (net_of self.now) signal }
@@ -108,6 +109,7 @@ impl Netlist {
     }
 
     /// The signals that are visited depth first from some signals in order: what a block reads before the block.
+    /// Refuses for want of memory alone, and leaves nothing then.
     pub fn visits(&self, alloc: Global, wanted: &[u32]) -> Result<Vec<u32>, AllocError>
         requires { (i : ℕ) → i < length wanted.now → slice_index wanted.now i < length (net_of self.now).names }
         ensures order { IfOk result (λ v. v.items ≡ visits (net_of self.now).edges wanted.now) }
@@ -118,15 +120,15 @@ impl Netlist {
         visit_order(alloc, self.tables.edges.as_slice(), wanted)
     }
 
-    /// Tables for visits of signals, one after the other.
+    /// Tables for visits of signals, one after the other. Refuses for want of memory alone.
     pub fn walker(&self, alloc: Global) -> Result<Walker, AllocError>
         ensures { IfOk result (λ w. nodes_of w ≡ length (net_of self.now).names) }
     {
         Walker::new(alloc, self.tables.edges.len())
     }
 
-    /// Visits signals as `visits` does, with tables that are kept. Want of memory leaves no order,
-    /// and tables that serve as before.
+    /// Visits signals as `visits` does, with tables that are kept. Refuses for want of memory alone, which leaves
+    /// no order, and tables that serve as before.
     pub fn visit(&self, walker: &mut Walker, wanted: &[u32]) -> Result<(), AllocError>
         requires serves { nodes_of walker.old ≡ length (net_of self.now).names }
         requires wanted { (i : ℕ) → i < length wanted.now

@@ -55,6 +55,7 @@ fn build(alloc: Global, statements: &[Statement]) -> Result<Netlist, Refusal>
     settle(alloc, tables)
 }
 
+/// Reads a netlist, or refuses the text by its first fault or for want of memory.
 fn read(alloc: Global, bytes: &[u8]) -> Result<Netlist, Refusal>
     ensures { Answers (IsReading bytes.now) result }
 {
@@ -68,8 +69,8 @@ fn read(alloc: Global, bytes: &[u8]) -> Result<Netlist, Refusal>
     build(alloc, statements.as_slice())
 }
 
-/// Reads a netlist. The answer is the netlist, or the first fault of the text; want of memory is a fault on
-/// line 0.
+/// Reads a netlist. Refuses a text that isn't one: by its first fault, or, where memory ran out, by the kind
+/// `Memory` on line 0. Nothing is left then.
 pub fn read_netlist(alloc: Global, bytes: &[u8]) -> Result<Netlist, BlifFault>
     ensures ok { IfOk result (λ net. IsReading bytes.now (Ok (net_of net))) }
     ensures fault { IfErr result (λ f. IsReading bytes.now (Err f) ⊎ (f ≡ record { line = 0; kind = Memory })) }
