@@ -27,6 +27,13 @@ pub struct NetPlan {
     pub made: Items<u32>,
 }
 
+/// For each signal the number of the step that made it, and whether it is wanted.
+#[derive(Drop)]
+pub(crate) struct Marks {
+    pub made: Vec<u32>,
+    pub kept: Vec<bool>,
+}
+
 /// The numbers of the steps that made some signals.
 fn numbers_of(alloc: Global, signals: &[u32], made: &[u32]) -> Result<Vec<u32>, AllocError>
     requires { (i : ℕ) → i < length signals.now → slice_index signals.now i < length made.now }
@@ -147,8 +154,7 @@ pub(crate) fn plan_visited(
     wanted: &[u32],
     first: u32,
     visited: &[u32],
-    made: &mut Vec<u32>,
-    kept: &mut Vec<bool>,
+    marks: &mut Marks,
 ) -> Result<NetPlan, PlanFault>
     requires sound { IsNet (net_of net.now) }
     requires levels { length levels.now ≡ (net_of net.now).inputs }
@@ -158,7 +164,7 @@ pub(crate) fn plan_visited(
     requires order { visited.now ≡ visits (net_of net.now).edges wanted.now }
     requires inside { (k : ℕ) → k < length visited.now
         → slice_index visited.now k < length (net_of net.now).names }
-    requires blank { AreBlank (length (net_of net.now).names) made.old.items kept.old.items }
+    requires blank { AreBlank (length (net_of net.now).names) marks.old.made.items marks.old.kept.items }
 
     // the plan
     ensures steps { IfOk result (λ plan.
@@ -170,23 +176,31 @@ pub(crate) fn plan_visited(
         → 1048576 < first + length (plan_steps (net_of net.now) levels.now wanted.now first) }
 
     // and what is written of the tables
-    ensures made_size { length made.new.items ≡ length made.old.items }
-    ensures made_others { IsBlankBut visited.now 0 made.new.items }
-    ensures kept_size { length kept.new.items ≡ length kept.old.items }
-    ensures kept_others { IsBlankBut wanted.now false kept.new.items }
+    ensures made_size { length marks.new.made.items ≡ length marks.old.made.items }
+    ensures made_others { IsBlankBut visited.now 0 marks.new.made.items }
+    ensures kept_size { length marks.new.kept.items ≡ length marks.old.kept.items }
+    ensures kept_others { IsBlankBut wanted.now false marks.new.kept.items }
 {
     let mut steps = Vec::new(alloc);
-    push_signals(alloc, first, &mut steps, net, levels, visited, made)?;
-    mark_wanted(wanted, kept);
+    push_signals(
+        alloc,
+        first,
+        &mut steps,
+        net,
+        levels,
+        visited,
+        &mut marks.made,
+    )?;
+    mark_wanted(wanted, &mut marks.kept);
     push_drops(
         first,
         &mut steps,
         visited,
         wanted,
-        kept.as_slice(),
-        made.as_slice(),
+        marks.kept.as_slice(),
+        marks.made.as_slice(),
     )?;
-    let numbers = numbers_of(alloc, wanted, made.as_slice())?;
+    let numbers = numbers_of(alloc, wanted, marks.made.as_slice())?;
     Ok(NetPlan {
         steps: Items::of(steps),
         made: Items::of(numbers),

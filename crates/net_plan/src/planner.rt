@@ -11,7 +11,7 @@ ghost use Rattle.net_plan.specs.WellFormed.{StaysWellFormed};
 ghost use Rattle.net_plan.specs.declared.fault.PlanFault.{PlanFault};
 
 use crate::fault::PlanFault;
-use crate::plan::{NetPlan, plan_visited};
+use crate::plan::{Marks, NetPlan, plan_visited};
 use blif_reader::Netlist;
 use depth_first::{Walker, make_blank};
 use std::alloc::{AllocError, Global};
@@ -21,28 +21,29 @@ use std::alloc::{AllocError, Global};
 #[derive(Drop)]
 pub struct Planner {
     pub(crate) walker: Walker,
-    made: Vec<u32>,
-    kept: Vec<bool>,
-    ghost blank: { AreBlank (nodes_of walker) made.items kept.items },
+    marks: Marks,
+    ghost blank: { AreBlank (nodes_of walker) marks.made.items marks.kept.items },
 }
 
 impl Planner {
     ghost use Rattle.net_plan.specs.Planners.{signals_of};
 
-    /// For a netlist.
+    /// Tables for a netlist, and for others with as many signals. Refuses for want of memory alone.
     pub fn new(alloc: Global, net: &Netlist) -> Result<Planner, AllocError>
         ensures { IfOk result (λ p. signals_of p ≡ length (net_of net.now).names) }
     {
         let signals = net.signal_count() as usize;
         Ok(Planner {
             walker: net.walker(alloc)?,
-            made: vec![in alloc; 0; signals]?,
-            kept: vec![in alloc; false; signals]?,
+            marks: Marks {
+                made: vec![in alloc; 0; signals]?,
+                kept: vec![in alloc; false; signals]?,
+            },
         })
     }
 
-    /// The steps that make the wanted signals, as `plan_signals` gives them. The tables serve for
-    /// further requests, after a refusal too.
+    /// The steps that make the wanted signals, as `plan_signals` gives them, and refused where it refuses them. The
+    /// tables serve for further requests, after a refusal too.
     pub fn plan(
         &mut self,
         alloc: Global,
@@ -76,8 +77,7 @@ impl Planner {
             wanted,
             first,
             &mut self.walker,
-            &mut self.made,
-            &mut self.kept,
+            &mut self.marks,
         )
     }
 }
@@ -90,17 +90,16 @@ fn plan_with(
     wanted: &[u32],
     first: u32,
     walker: &mut Walker,
-    made: &mut Vec<u32>,
-    kept: &mut Vec<bool>,
+    marks: &mut Marks,
 ) -> Result<NetPlan, PlanFault>
     requires serves { nodes_of walker.old ≡ length (net_of net.now).names }
-    requires blank { AreBlank (nodes_of walker.old) made.old.items kept.old.items }
+    requires blank { AreBlank (nodes_of walker.old) marks.old.made.items marks.old.kept.items }
     requires levels { length levels.now ≡ (net_of net.now).inputs }
     requires wanted { (i : ℕ) → i < length wanted.now
         → slice_index wanted.now i < length (net_of net.now).names }
     requires first { first ≤ 1048576 }
     ensures serves { nodes_of walker.new ≡ nodes_of walker.old }
-    ensures blank { AreBlank (nodes_of walker.new) made.new.items kept.new.items }
+    ensures blank { AreBlank (nodes_of walker.new) marks.new.made.items marks.new.kept.items }
     ensures tables { IfOk result (λ plan.
         MakeTables (net_of net.now) levels.now wanted.now first plan.steps plan.made) }
     ensures goes_on { IfOk result (λ plan.
@@ -114,24 +113,18 @@ fn plan_with(
         → 1048576 < first + length (plan_steps (net_of net.now) levels.now wanted.now first) }
 {
     net.visit(walker, wanted)?;
-    let planned = plan_visited(
-        alloc,
-        net,
-        levels,
-        wanted,
-        first,
-        walker.order(),
-        made,
-        kept,
-    );
-    make_blank(made.as_mut_slice(), walker.order(), 0);
-    make_blank(kept.as_mut_slice(), wanted, false);
+    let planned = plan_visited(alloc, net, levels, wanted, first, walker.order(), marks);
+    make_blank(marks.made.as_mut_slice(), walker.order(), 0);
+    make_blank(marks.kept.as_mut_slice(), wanted, false);
     planned
 }
 
 /// The steps that make the wanted signals, numbered from `first` on. Each input is the variable of
 /// its level, and `made[i]` is the number of the step that makes the diagram of the signal
 /// `wanted[i]`. Where a netlist is asked more than once, a `Planner` makes its tables once.
+///
+/// Refuses as `TooManySteps` where the last step would have a number of 1,048,576 or more, and for want of memory.
+/// Nothing is left then.
 pub fn plan_signals(
     alloc: Global,
     net: &Netlist,
