@@ -12,3 +12,4 @@ pub use fault::PlanFault;
 pub use laws::{steps_go_on, values_are_unique, values_exist};
 pub use plan::NetPlan;
 pub use planner::{Planner, plan_signals};
+pub use steps::MOST_STEPS;

@@ -8,7 +8,7 @@ use crate::fault::PlanFault;
 use bool_tables::{Bin, Step};
 
 /// The steps of a plan have numbers below this.
-pub(crate) const MOST_STEPS: usize = 1048576;
+pub const MOST_STEPS: usize = 1_048_576;
 
 pub(crate) const BOTH: Bin = Bin {
     v00: false,
