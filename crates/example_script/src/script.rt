@@ -8,7 +8,8 @@ use crate::lines::{Name, put_line, put_name};
 use std::alloc::{AllocError, Global};
 
 /// The script of that size, 1 to 16: it compares two words of so many bits, once from the first bit on and once from
-/// the last, and asks whether both ways gave the same diagram. Both have `3 * 2^size - 3` nodes.
+/// the last, and asks whether both ways gave the same diagram. Both have `3 * 2^size - 3` nodes. Refuses for want of
+/// memory alone, and leaves nothing then.
 #[tactic(auto, unfolding(crate::specs::Script::script_of))]
 pub fn gen_script(alloc: Global, size: u32) -> Result<Vec<u8>, AllocError>
     requires { (1 ≤ size) × (size ≤ 16) }
