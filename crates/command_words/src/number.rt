@@ -6,6 +6,7 @@ ghost use Rattle.command_words.specs.Numbers.{number_from};
 /// The most digits that a number has.
 const MOST_DIGITS: usize = 7;
 
+/// Whether each byte is a decimal digit.
 fn are_digits(word: &[u8]) -> bool
     ensures { result ≡ all_ascii_digits word.now }
 {

@@ -33,6 +33,7 @@ pub enum Words<'a> {
     },
 }
 
+/// The records of a run's room, where those that are given are a number in range.
 fn budget(given: Option<&str>) -> Option<u32>
     ensures { result ≡ budget_of (text_of given.entry) }
 {
@@ -42,6 +43,7 @@ fn budget(given: Option<&str>) -> Option<u32>
     }
 }
 
+/// A run of a script, where the options are those of one.
 fn run_words<'a>(folder: &'a str, given: &Given<'a>) -> Option<Words<'a>>
     ensures { option_map meaning_of result ≡ run_of folder.entry.now (view_of given.now) }
 {
@@ -60,6 +62,7 @@ fn run_words<'a>(folder: &'a str, given: &Given<'a>) -> Option<Words<'a>>
     }
 }
 
+/// A list, where no option is given.
 fn list_words<'a>(folder: &'a str, given: &Given<'a>) -> Option<Words<'a>>
     ensures { option_map meaning_of result ≡ list_of folder.entry.now (view_of given.now) }
 {
@@ -69,6 +72,7 @@ fn list_words<'a>(folder: &'a str, given: &Given<'a>) -> Option<Words<'a>>
     }
 }
 
+/// A run of the script of a size, where the options are those of one.
 fn gen_words<'a>(folder: &'a str, given: &Given<'a>) -> Option<Words<'a>>
     ensures { option_map meaning_of result ≡ gen_of folder.entry.now (view_of given.now) }
 {
@@ -86,6 +90,7 @@ fn gen_words<'a>(folder: &'a str, given: &Given<'a>) -> Option<Words<'a>>
     }
 }
 
+/// What the action asks for, where there is one and its options are right.
 fn words_given<'a>(given: &Given<'a>) -> Option<Words<'a>>
     ensures { option_map meaning_of result ≡ asked (view_of given.now) }
 {
@@ -107,7 +112,10 @@ fn words_given<'a>(given: &Given<'a>) -> Option<Words<'a>>
 /// They are an action and a folder, and options before, between or behind them, each at most once: `run` needs
 /// `--script`, and may have `--netlist` and `--budget`; `list` has none; `gen` needs `--size`, and may have
 /// `--budget`. Numbers are one to seven digits; a budget is from 16,384 to 4,194,304 records, and 262,144 where
-/// none is given, a size from 1 to 16. `Usage` stands for all other words.
+/// none is given, a size from 1 to 16.
+///
+/// Refuses all other words as `Usage`, and any for want of memory as `Memory`. The words are only lent, and nothing
+/// is left then.
 pub fn read_words(alloc: Global, words: &[String]) -> Result<Words<'_>, WordsFault>
     ensures read { IfOk result (λ w. reading_of (map (λ word. string_bytes word) words.entry.now) ≡ Some
         (meaning_of w)) }
