@@ -42,7 +42,7 @@ pub(crate) fn write_full<F: Write>(file: &mut F, bytes: &[u8]) -> io::Result<()>
     Ok(())
 }
 
-// Whether the same write may go through when it is made again.
+/// Whether the same write may go through when it is made again.
 fn is_passing(e: &io::Error) -> bool {
     e.kind() == ErrorKind::Interrupted || e.kind() == ErrorKind::WouldBlock
 }

@@ -43,6 +43,7 @@ pub(crate) struct Folder<F> {
 }
 
 impl<F: FileExt + OpenFile + Drop> Folder<F> {
+    /// No folder was entered yet. Takes no memory.
     pub(crate) fn new(alloc: Global) -> Folder<F> {
         Folder {
             alloc,
@@ -60,6 +61,9 @@ impl<F: FileExt + OpenFile + Drop> Folder<F> {
     ///
     /// A run that was stopped may have left names unsynced, so none counts as synced at first. The
     /// folder's own name is synced where a job is stored, for that needed a sync.
+    ///
+    /// Refuses where the folder can't be made or is none, where a file that was held open can't be synced, and for
+    /// want of memory. A folder has to be entered again then.
     pub(crate) fn enter<R: Files<File = F>>(&mut self, rt: &R, path: &str) -> io::Result<()> {
         self.is_entered = false;
         self.known = Known::nothing();
@@ -77,6 +81,7 @@ impl<F: FileExt + OpenFile + Drop> Folder<F> {
         Ok(())
     }
 
+    /// The length of a file. Refuses where it can't be opened, or is longer than 2^50 bytes.
     pub(crate) fn len<R: Files<File = F>>(&mut self, rt: &R, f: FileNo) -> io::Result<u64>
         ensures { IfOk result (λ n. n ≤ 2 ^ 50) }
     {
@@ -90,6 +95,7 @@ impl<F: FileExt + OpenFile + Drop> Folder<F> {
         Ok(len)
     }
 
+    /// Reads a file from a byte on. Refuses where it can't be opened or read; the buffer may be written in part then.
     pub(crate) fn read_at<R: Files<File = F>>(
         &mut self,
         rt: &R,
@@ -105,6 +111,8 @@ impl<F: FileExt + OpenFile + Drop> Folder<F> {
         self.handles.all[i].read_at(at, buf)
     }
 
+    /// Writes behind a file's last byte, and makes the file where it isn't there. Refuses where that byte isn't the
+    /// one before `at`, or a call fails; a part of the bytes may be written then.
     pub(crate) fn append<R: Files<File = F>>(
         &mut self,
         rt: &R,
@@ -120,6 +128,7 @@ impl<F: FileExt + OpenFile + Drop> Folder<F> {
         self.handles.all[i].append(at, bytes)
     }
 
+    /// Cuts a file to a length, where it is longer. Refuses where it can't be opened or cut.
     pub(crate) fn cut<R: Files<File = F>>(&mut self, rt: &R, f: FileNo, to: u64) -> io::Result<()> {
         let Some(i) = self.find(rt, f)? else {
             return Ok(());
@@ -143,6 +152,7 @@ impl<F: FileExt + OpenFile + Drop> Folder<F> {
         self.handles.forget(f);
     }
 
+    /// Syncs a file, the folder where a name in it may not be synced, and the folder's own name likewise.
     fn sync_with_names<R: Files<File = F>>(&mut self, rt: &R, f: FileNo) -> io::Result<()> {
         if let Some(i) = self.find(rt, f)? {
             self.handles.all[i].sync()?;
@@ -158,7 +168,7 @@ impl<F: FileExt + OpenFile + Drop> Folder<F> {
         Ok(())
     }
 
-    // Syncs the folder itself, which stays open for the next time.
+    /// Syncs the folder itself, which stays open for the next time.
     fn sync_itself<R: Files<File = F>>(&mut self, rt: &R) -> io::Result<()> {
         let itself = match self.itself.take() {
             Some(itself) => itself,
@@ -169,7 +179,7 @@ impl<F: FileExt + OpenFile + Drop> Folder<F> {
         Ok(())
     }
 
-    // Opens the folder at the end of that way from this one.
+    /// Opens the folder at the end of that way from this one.
     fn open_folder<R: Files<File = F>>(&mut self, rt: &R, way: &str) -> io::Result<F> {
         let path = format!(in self.alloc; "{}{way}", self.path)?;
         let mut how = OpenOptions::new();
@@ -177,7 +187,7 @@ impl<F: FileExt + OpenFile + Drop> Folder<F> {
         self.open(rt, &how, path.as_str())
     }
 
-    // What the folder's names tell. Where they can't be listed, that is nothing: then each file is asked for.
+    /// What the folder's names tell. Where they can't be listed, that is nothing: then each file is asked for.
     fn list<R: Files<File = F>>(&self, rt: &R) -> io::Result<Known> {
         let path = format!(in self.alloc; "{}/", self.path)?;
         match rt.open_dir(path.as_str()) {
@@ -186,8 +196,8 @@ impl<F: FileExt + OpenFile + Drop> Folder<F> {
         }
     }
 
-    // The place of a file's handle, opened where it wasn't open. There is none where the file isn't
-    // there.
+    /// The place of a file's handle, opened where it wasn't open. There is none where the file isn't
+    /// there.
     fn find<R: Files<File = F>>(&mut self, rt: &R, f: FileNo) -> io::Result<Option<usize>>
         ensures { IfOk result (λ found. IfSome found (λ i. i < vec_len self.new.handles.all)) }
     {
@@ -209,9 +219,9 @@ impl<F: FileExt + OpenFile + Drop> Folder<F> {
         }
     }
 
-    // Opens a regular file that was seen at its name. Links aren't followed: one that was put there
-    // since leads to another file. A file's number may change with its first opening for writing,
-    // so the name is looked at once more.
+    /// Opens a regular file that was seen at its name. Links aren't followed: one that was put there
+    /// since leads to another file. A file's number may change with its first opening for writing,
+    /// so the name is looked at once more.
     fn open_seen<R: Files<File = F>>(
         &mut self,
         rt: &R,
@@ -236,10 +246,10 @@ impl<F: FileExt + OpenFile + Drop> Folder<F> {
         }
     }
 
-    // Makes a file that isn't there, and answers the place of its handle.
-    //
-    // With a step's arcs the files are made that it writes after them, so that one sync of the folder covers
-    // all their names. They are empty, as those are that aren't there.
+    /// Makes a file that isn't there, and answers the place of its handle.
+    ///
+    /// With a step's arcs the files are made that it writes after them, so that one sync of the folder covers
+    /// all their names. They are empty, as those are that aren't there.
     fn make<R: Files<File = F>>(&mut self, rt: &R, f: FileNo) -> io::Result<usize>
         ensures { IfOk result (λ i. i < vec_len self.new.handles.all) }
     {
@@ -252,7 +262,7 @@ impl<F: FileExt + OpenFile + Drop> Folder<F> {
         self.make_alone(rt, f)
     }
 
-    // Makes a part of a step that isn't written yet, unless it may be there.
+    /// Makes a part of a step that isn't written yet, unless it may be there.
     fn make_early<R: Files<File = F>>(&mut self, rt: &R, step: u32, part: u64) -> io::Result<()> {
         let f = FileNo { step, part };
         if self.known.is_absent(f) {
@@ -261,6 +271,7 @@ impl<F: FileExt + OpenFile + Drop> Folder<F> {
         Ok(())
     }
 
+    /// Makes one file that isn't there, and answers the place of its handle.
     fn make_alone<R: Files<File = F>>(&mut self, rt: &R, f: FileNo) -> io::Result<usize>
         ensures { IfOk result (λ i. i < vec_len self.new.handles.all) }
     {
@@ -300,7 +311,7 @@ impl<F: FileExt + OpenFile + Drop> Folder<F> {
         how.open(rt, path)
     }
 
-    // Whether the folder stores a job.
+    /// Whether the folder stores a job.
     fn stores_job<R: Files<File = F>>(&self, rt: &R) -> io::Result<bool> {
         let path = self.path_of(JOB_GATE)?;
         match fs::symlink_metadata(rt, path.as_str()) {
@@ -309,6 +320,7 @@ impl<F: FileExt + OpenFile + Drop> Folder<F> {
         }
     }
 
+    /// The path of a file. Refuses where no folder is entered, and for want of memory.
     fn path_of(&self, f: FileNo) -> io::Result<String> {
         if !self.is_entered {
             return Err(io::Error::from(ErrorKind::Other));
@@ -334,7 +346,7 @@ fn make_folder<R: Files>(rt: &R, path: &str) -> io::Result<bool> {
     }
 }
 
-// Whether the process, or the system, may have no more files open.
+/// Whether the process, or the system, may have no more files open.
 fn are_spent(e: &io::Error) -> bool {
     match e.raw_os_error() {
         Some(code) => code == 23 || code == 24,

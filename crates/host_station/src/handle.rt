@@ -60,6 +60,7 @@ impl<F: FileExt + OpenFile + Drop> Handle<F> {
         Ok(())
     }
 
+    /// Cuts the file to a length, where it is longer. Refuses where the system does, and has the old length then.
     pub(crate) fn cut(&mut self, to: u64) -> io::Result<()> {
         if to < self.len {
             self.is_changed = true;
@@ -74,6 +75,7 @@ impl<F: FileExt + OpenFile + Drop> Handle<F> {
         Ok(())
     }
 
+    /// Syncs the file. Refuses where a call fails; what was changed then still counts as changed.
     pub(crate) fn sync(&mut self) -> io::Result<()> {
         if self.older > 0 {
             self.write_again()?;
@@ -84,8 +86,8 @@ impl<F: FileExt + OpenFile + Drop> Handle<F> {
         Ok(())
     }
 
-    // Writes the end again of what stood in the file when it was opened. Where a sync of an earlier
-    // process failed, the system may have dropped that end and take it for written.
+    /// Writes the end again of what stood in the file when it was opened. Where a sync of an earlier
+    /// process failed, the system may have dropped that end and take it for written.
     fn write_again(&self) -> io::Result<()> {
         let mut piece = [0u8; PIECE];
         let len = self.older.min(PIECE as u64) as usize;

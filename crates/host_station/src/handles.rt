@@ -32,6 +32,7 @@ pub(crate) struct Handles<F> {
 }
 
 impl<F: FileExt + OpenFile + Drop> Handles<F> {
+    /// No file is open yet. Takes no memory.
     pub(crate) fn new(alloc: Global) -> Handles<F> {
         Handles {
             all: Vec::new(alloc),
@@ -53,7 +54,7 @@ impl<F: FileExt + OpenFile + Drop> Handles<F> {
         Some(i)
     }
 
-    // Where it stood last, or else where it is found among all.
+    /// Where it stood last, or else where it is found among all.
     fn look_up(&self, f: FileNo) -> Option<usize>
         ensures { IfSome result (λ i. i < vec_len self.now.all) }
     {
@@ -98,7 +99,7 @@ impl<F: FileExt + OpenFile + Drop> Handles<F> {
         Ok(true)
     }
 
-    // The one whose turn it is, where it can be given up as it is. Otherwise they are all looked at.
+    /// The one whose turn it is, where it can be given up as it is. Otherwise they are all looked at.
     fn in_turn(&mut self) -> Option<usize>
         ensures { IfSome result (λ i. i < vec_len self.new.all) }
     {
@@ -113,6 +114,7 @@ impl<F: FileExt + OpenFile + Drop> Handles<F> {
         }
     }
 
+    /// The one of the least rank.
     fn longest_unused(&self) -> Option<usize>
         ensures { IfSome result (λ i. i < vec_len self.now.all) }
     {
@@ -140,16 +142,16 @@ impl<F: FileExt + OpenFile + Drop> Handles<F> {
     }
 }
 
-// Which of the remembered places is a file's. Parts of a step have different ones, and so have the node files of steps
-// that follow one another.
+/// Which of the remembered places is a file's. Parts of a step have different ones, and so have the node files of steps
+/// that follow one another.
 fn turn_of(f: FileNo) -> usize
     ensures { result < 4096 }
 {
     (u64::from(f.step).wrapping_add(f.part) % PLACES as u64) as usize
 }
 
-// The handle with the least rank is given up first, after so many calls. Files that are read in turn would be opened at
-// each call if one of them were given up for the next.
+/// The handle with the least rank is given up first, after so many calls. Files that are read in turn would be opened at
+/// each call if one of them were given up for the next.
 fn rank_of<F>(handle: &Handle<F>, calls: u64) -> (bool, u64) {
     let is_in_use = calls.saturating_sub(handle.used) < CALLS_IN_USE;
     (handle.is_changed || is_in_use, handle.used)

@@ -47,6 +47,7 @@ impl Known {
         Known::nothing()
     }
 
+    /// Takes the files with these names for ones that may be there.
     fn see_names(&mut self, names: &[u8]) {
         for name in names.split(|byte| *byte == 0) {
             if let Some(f) = file_of(name) {
@@ -78,7 +79,7 @@ impl Known {
     }
 }
 
-// The file that has a name.
+/// The file that has a name.
 fn file_of(name: &[u8]) -> Option<FileNo> {
     let name = str::from_utf8(name).ok()?;
     let (step, part) = name.strip_prefix("s")?.split_once('p')?;

@@ -20,6 +20,7 @@ pub(crate) struct OpenText<F> {
 }
 
 impl<F: Read + Seek + FileExt + OpenFile + Drop> OpenText<F> {
+    /// No text was fetched yet. Takes no memory.
     pub(crate) fn new(alloc: Global) -> OpenText<F> {
         OpenText {
             alloc,
@@ -66,7 +67,7 @@ impl<F: Read + Seek + FileExt + OpenFile + Drop> OpenText<F> {
     }
 }
 
-// Goes to a place, unless no file can be so long.
+/// Goes to a place, unless no file can be so long.
 fn has_place<F: Seek>(file: &mut F, at: u64) -> io::Result<bool> {
     match file.seek(SeekFrom::Start(at)) {
         Ok(_) => Ok(true),
