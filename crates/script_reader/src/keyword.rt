@@ -52,6 +52,7 @@ impl Keyword {
     }
 }
 
+/// The operator with these values, the left operand's first.
 fn bin(v00: bool, v01: bool, v10: bool, v11: bool) -> Bin
     ensures { result ≡ op v00 v01 v10 v11 }
 {

@@ -11,6 +11,7 @@ mod places;
 mod plan;
 mod planning;
 mod script;
+mod step;
 
 pub use fault::{ScriptFault, ScriptKind};
 pub use plan::{LineEnd, Plan};

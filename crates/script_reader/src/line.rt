@@ -8,6 +8,7 @@ ghost use Rattle.script_reader.specs.Views.{words_of};
 use crate::keyword::Keyword;
 use text_words::Word;
 
+/// Whether a word is 0 or 1.
 fn is_bit(word: &Word<'_>) -> bool
     ensures { result ≡ is_bit_word (word_of word.now) }
 {

@@ -4,10 +4,10 @@ use crate::fault::{Refusal, ScriptKind};
 use crate::netlists::{NetTables, are_short, every_second, input_names, signals_named, signals_of};
 use crate::places::{bytes_of, places_of};
 use crate::plan::LineEnd;
-use crate::planning::{MOST_STEPS, Named, Planning};
+use crate::planning::{Named, Planning};
 use blif_reader::Netlist;
 use bool_tables::{Planned, Step};
-use net_plan::{NetPlan, PlanFault, Planner};
+use net_plan::{MOST_STEPS, NetPlan, PlanFault, Planner};
 use std::alloc::{AllocError, Global};
 use text_words::Word;
 
@@ -216,24 +216,26 @@ impl<'a> Planning<'a> {
         line: u32,
         names: &[Word<'a>],
         net: &Netlist,
-        levels: &[u32],
-        planner: &mut Planner,
+        tables: &mut NetTables,
         wanted: &[u32],
     ) -> Result<(), Refusal>
         requires few { length names.now < 2 ^ 32 }
-        requires serves { signals_served planner.old ≡ length (net_of net.now).names }
-        requires levels { length levels.now ≡ (net_of net.now).inputs }
+        requires serves { signals_served tables.old.planner ≡ length (net_of net.now).names }
+        requires levels { length tables.old.levels.items ≡ (net_of net.now).inputs }
         requires wanted { (i : ℕ) → i < length wanted.now → slice_index wanted.now i < length (net_of net.now).names }
         ensures read { Leads (state_of self.new) result
-            (nets.plan_signals (state_of self.old) line (words_of names.now) (net_of net.now) levels.now wanted.now) }
-        ensures serves { signals_served planner.new ≡ signals_served planner.old }
+            (nets.plan_signals (state_of self.old) line (words_of names.now) (net_of net.now) tables.old.levels.items
+            wanted.now) }
+        ensures levels { tables.new.levels ≡ tables.old.levels }
+        ensures serves { signals_served tables.new.planner ≡ signals_served tables.old.planner }
     {
         self.test_all_names(alloc, names)?;
         let first = self.steps.len();
         if first > MOST_STEPS {
             return Err(Refusal::Fault(ScriptKind::TooManySteps));
         }
-        match planner.plan(alloc, net, levels, wanted, first as u32) {
+        let levels = tables.levels.as_slice();
+        match tables.planner.plan(alloc, net, levels, wanted, first as u32) {
             Ok(plan) => Ok(self.put_plan(line, names, &plan)?),
             Err(PlanFault::Memory) => Err(Refusal::Memory),
             Err(PlanFault::TooManySteps) => Err(Refusal::Fault(ScriptKind::TooManySteps)),
@@ -269,8 +271,7 @@ impl<'a> Planning<'a> {
             line,
             names.as_slice(),
             net,
-            tables.levels.as_slice(),
-            &mut tables.planner,
+            &mut tables,
             wanted.as_slice(),
         )?;
         *kept = Some(tables);

@@ -1,44 +1,27 @@
 //! The plan as far as the lines that were read ask for.
 
 ghost use Rattle.std.specs.Prelude.{◌≡◌, ◌≤◌, length, Bool, true};
-ghost use Rattle.std.specs.List.{list_all};
 ghost use Rattle.script_reader.specs.Keywords.{word_at, gives_name};
 ghost use Rattle.script_reader.specs.Requests.{planned_of};
 ghost use Rattle.script_reader.specs.Views.{words_of};
-ghost use Rattle.bool_tables.specs.Plans.{is_bit};
 
 use crate::fault::{Refusal, ScriptKind};
 use crate::keyword::{Keyword, read_keyword};
-use crate::line::{is_formed, is_one};
+use crate::line::is_formed;
 use crate::netlists::NetTables;
 use crate::places::{bytes_of, places_of};
 use crate::plan::{LineEnd, Plan};
 use blif_reader::Netlist;
-use bool_tables::{Bin, Items, Planned, Step};
+use bool_tables::{Items, Planned, Step};
+use net_plan::MOST_STEPS;
 use std::alloc::{AllocError, Global};
 use std::collections::BTreeMap;
 use text_words::Word;
 
-/// The most steps of a plan.
-pub(crate) const MOST_STEPS: usize = 1_048_576;
 /// The most variables of a script.
 const MOST_VARIABLES: usize = 65_535;
 /// The most bytes that a name of a diagram may have.
 pub(crate) const MOST_NAME_BYTES: usize = 63;
-
-/// Neither of two operands is 1, or one of them isn't: for one operand twice, its complement.
-const NOT_BOTH: Bin = Bin {
-    v00: true,
-    v01: true,
-    v10: true,
-    v11: false,
-};
-
-fn all_bits(bytes: &[u8]) -> bool
-    ensures { result ≡ list_all is_bit bytes.now }
-{
-    bytes.iter().all(|b| *b == b'0' || *b == b'1')
-}
 
 /// The step of a line, with the name that the line gives.
 #[tactic(auto, using(crate::proofs::Tests::at_word))]
@@ -84,9 +67,9 @@ impl<'a> Planning<'a> {
     ghost use Rattle.std.specs.Str.{bytes_eq};
     ghost use Rattle.std.specs.Map.{update};
     ghost use Rattle.text_words.specs.Left.{word_of};
-    ghost use Rattle.script_reader.specs.Keywords.{wanted, is_one, is_formed};
-    ghost use Rattle.script_reader.specs.Names.{nothing, live, level_of, level_or};
-    ghost use Rattle.script_reader.specs.Requests.{bits_in, bits_at, step_of, new_name, name_fits};
+    ghost use Rattle.script_reader.specs.Keywords.{wanted, is_formed};
+    ghost use Rattle.script_reader.specs.Names.{nothing};
+    ghost use Rattle.script_reader.specs.Requests.{new_name, name_fits};
     ghost use Rattle.script_reader.specs.Requests.{name_behind, with_planned, plan_step};
     ghost use Rattle.script_reader.specs.Script.{begin, plan_vars, keyword_in, plan_words, plan_of};
     ghost use Rattle.script_reader.specs.Views.{texts, state_of, given, Leads, IsKept};
@@ -173,152 +156,6 @@ impl<'a> Planning<'a> {
             Keyword::Inputs => self.take_inputs(alloc, netlist),
             Keyword::Net => self.plan_net(alloc, netlist, kept, line, words),
             _ => self.plan_step(line, keyword, words),
-        }
-    }
-
-    /// The step that made the diagram of a name.
-    fn live(&self, word: &Word<'_>) -> Result<u32, ScriptKind>
-        ensures { result ≡ live (state_of self.now) (word_of word.now) }
-    {
-        let Some(named) = self.named.get(word.bytes) else {
-            return Err(ScriptKind::UnknownName);
-        };
-        if named.dropped {
-            return Err(ScriptKind::Dropped);
-        }
-        Ok(named.step)
-    }
-
-    /// The step that made the diagram of a name, the word of a line at a place.
-    #[tactic(auto, using(crate::proofs::Tests::at_word))]
-    fn live_at(&self, words: &[Word<'_>], k: usize) -> Result<u32, ScriptKind>
-        requires { k < length words.now }
-        ensures { result ≡ live (state_of self.now) (word_at k (words_of words.now)) }
-    {
-        self.live(&words[k])
-    }
-
-    /// The level of a variable with a name.
-    pub(crate) fn level_named(&self, name: &[u8]) -> Result<u32, ScriptKind>
-        ensures { result ≡ level_or ((state_of self.now).level name.now) }
-    {
-        self.levels.get(name).copied().ok_or(ScriptKind::Variable)
-    }
-
-    /// The level of a variable.
-    fn level(&self, word: &Word<'_>) -> Result<u32, ScriptKind>
-        ensures { result ≡ level_of (state_of self.now) (word_of word.now) }
-    {
-        self.level_named(word.bytes)
-    }
-
-    /// The level of a variable, the word of a line at a place.
-    #[tactic(auto, using(crate::proofs::Tests::at_word))]
-    fn level_at(&self, words: &[Word<'_>], k: usize) -> Result<u32, ScriptKind>
-        requires { k < length words.now }
-        ensures { result ≡ level_of (state_of self.now) (word_at k (words_of words.now)) }
-    {
-        self.level(&words[k])
-    }
-
-    /// Whether a word of a line is 1.
-    #[tactic(auto, using(crate::proofs::Tests::at_word))]
-    fn one_at(words: &[Word<'_>], k: usize) -> bool
-        requires { k < length words.now }
-        ensures { result ≡ is_one (word_at k (words_of words.now)) }
-    {
-        is_one(&words[k])
-    }
-
-    /// Where the bits of a word stand: one for each variable.
-    fn bits_in(&self, word: &Word<'_>) -> Result<u32, ScriptKind>
-        ensures { result ≡ bits_in self.now.n (word_of word.now) }
-    {
-        if word.bytes.len() == self.n as usize && all_bits(word.bytes) {
-            Ok(word.at)
-        } else {
-            Err(ScriptKind::Bits)
-        }
-    }
-
-    /// Where the bits of an evaluation stand, the third word of its line; 0 where it is left out.
-    #[tactic(auto, using(crate::proofs::Tests::at_word))]
-    fn bits(&self, words: &[Word<'_>]) -> Result<u32, ScriptKind>
-        ensures { result ≡ bits_at self.now.n (words_of words.now) }
-    {
-        if words.len() == 3 {
-            return self.bits_in(&words[2]);
-        }
-        Ok(0)
-    }
-
-    /// The step that a line with these words asks for.
-    fn step(&self, keyword: Keyword, words: &[Word<'_>]) -> Result<Step, ScriptKind>
-        requires { wanted keyword ≤ length words.now }
-        ensures { result ≡ step_of (state_of self.now) keyword (words_of words.now) }
-    {
-        match keyword {
-            Keyword::Const => Ok(Step::Const {
-                value: Planning::one_at(words, 2),
-            }),
-            Keyword::Var => {
-                let level = self.level_at(words, 2)?;
-                Ok(Step::Var { level })
-            }
-            Keyword::Not => {
-                let of = self.live_at(words, 2)?;
-                Ok(Step::Pair {
-                    op: NOT_BOTH,
-                    left: of,
-                    right: of,
-                })
-            }
-            Keyword::Pair(op) => {
-                let left = self.live_at(words, 2)?;
-                let right = self.live_at(words, 3)?;
-                Ok(Step::Pair { op, left, right })
-            }
-            Keyword::Ite => {
-                let test = self.live_at(words, 2)?;
-                let yes = self.live_at(words, 3)?;
-                let no = self.live_at(words, 4)?;
-                Ok(Step::Ite { test, yes, no })
-            }
-            Keyword::Quantify(kind) => {
-                let of = self.live_at(words, 2)?;
-                let level = self.level_at(words, 3)?;
-                Ok(Step::Quantify { kind, of, level })
-            }
-            Keyword::Restrict => {
-                let of = self.live_at(words, 2)?;
-                let level = self.level_at(words, 3)?;
-                let value = Planning::one_at(words, 4);
-                Ok(Step::Restrict { of, level, value })
-            }
-            Keyword::Drop => {
-                let gone = self.live_at(words, 1)?;
-                Ok(Step::Drop { gone })
-            }
-            Keyword::Same => {
-                let left = self.live_at(words, 1)?;
-                let right = self.live_at(words, 2)?;
-                Ok(Step::Same { left, right })
-            }
-            Keyword::Leq => {
-                let left = self.live_at(words, 1)?;
-                let right = self.live_at(words, 2)?;
-                Ok(Step::Leq { left, right })
-            }
-            Keyword::Eval => {
-                let of = self.live_at(words, 1)?;
-                let at = self.bits(words)?;
-                Ok(Step::Eval { of, at })
-            }
-            Keyword::Size => {
-                let of = self.live_at(words, 1)?;
-                Ok(Step::Size { of })
-            }
-            Keyword::Vars | Keyword::Inputs | Keyword::Net => Err(ScriptKind::Word),
         }
     }
 

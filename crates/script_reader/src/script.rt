@@ -28,8 +28,10 @@ fn words_of<'a>(alloc: Global, line: &Line<'a>) -> Result<Vec<Word<'a>>, AllocEr
     line.words().collect(alloc)
 }
 
-/// The plan of a script, or its first faulty line, where lines may begin with the known words alone. A known word
-/// that is no word of the language is refused as any other: `Word`. The plan keeps nothing of the netlist.
+/// The plan of a script, where lines may begin with the known words alone. The plan keeps nothing of the netlist.
+///
+/// Refuses a script by its first faulty line, and for want of memory on line 0. A known word that is no word of the
+/// language is refused as any other: `Word`. Nothing is left of the plan then.
 pub fn read_script_with<'s, 'n>(
     alloc: Global,
     bytes: &'s [u8],
@@ -95,8 +97,10 @@ fn read_line<'a>(
     planning.plan_line(alloc, known, netlist, kept, line.number, words.as_slice())
 }
 
-/// The plan of a script, or its first faulty line, where lines may begin with the words of all requests. `inputs` and
-/// `net` are refused where no netlist is given: `NoNetlist`.
+/// The plan of a script, where lines may begin with the words of all requests.
+///
+/// Refuses a script by its first faulty line, and for want of memory on line 0. `inputs` and `net` are refused where
+/// no netlist is given: `NoNetlist`. Nothing is left of the plan then.
 pub fn read_script(
     alloc: Global,
     bytes: &[u8],
