@@ -12,4 +12,4 @@ pub use fault::PlanFault;
 pub use laws::{steps_go_on, values_are_unique, values_exist};
 pub use plan::NetPlan;
 pub use planner::{Planner, plan_signals};
-pub use steps::MOST_STEPS;
+pub use steps::{MOST_STEPS, NOT_BOTH};

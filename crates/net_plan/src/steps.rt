@@ -31,7 +31,8 @@ pub(crate) const EITHER: Bin = Bin {
     v11: true,
 };
 
-pub(crate) const NOT_BOTH: Bin = Bin {
+/// Neither of two operands is 1, or one of them isn't: for one operand twice, its complement.
+pub const NOT_BOTH: Bin = Bin {
     v00: true,
     v01: true,
     v10: true,

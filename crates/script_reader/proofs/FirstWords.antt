@@ -1,8 +1,9 @@
 -- The variables of a script are those of its first line with words.
-use Rattle.std.proofs.Common.{◌≡◌, ℕ, Bool, true, false, List, [], ◌∷◌, ◌++◌, length, drop, Option, Some, None, refl, sym, ap, subst, ◌∙◌}
+use Rattle.std.proofs.Common.{◌≡◌, ℕ, ◌+◌, Bool, true, false, List, [], ◌∷◌, ◌++◌, length, drop, Option, Some, None, refl, sym, ap, subst, ◌∙◌}
 use Rattle.std.specs.Prelude.{Result, Ok, Err, not, nat_le, codes, option_map, if◌then◌else◌}
 use Rattle.std.specs.Str.{bytes_eq}
 use Rattle.std.proofs.lemmas.Bool.{and_parts, not-true, true≢false}
+use Rattle.rec_words.specs.Words.{most_variables}
 use Rattle.bool_tables.specs.declared.steps.Bin.{Bin}
 use Rattle.bool_tables.specs.declared.steps.Quant.TheVariants.{Exists, Forall}
 use Rattle.blif_reader.specs.Netlist as blif
@@ -209,7 +210,7 @@ first_line net s t number w words knows r = by r.k r.request (takes net r.k (w �
     vars : plan_vars (begin s) (w ∷ words) ≡ Ok t → Takes net Vars (w ∷ words) → Knows net (w ∷ words) t
     vars e taken =
         then_ok (check kind.Variable (all_differ (texts_of words))) _ t e (λ u differ rest.
-        then_ok (check kind.TooManyVariables (nat_le (length (w ∷ words)) 65536)) _ t rest (λ v few last.
+        then_ok (check kind.TooManyVariables (nat_le (length (w ∷ words)) (most_variables + 1))) _ t rest (λ v few last.
         subst (Knows net (w ∷ words)) (same_ok (with_variables (begin s) (texts_of words)) t last) (record {
           begun = refl;
           level = λ name. ap (λ names. place_of names name) (sym (taken.vars refl));

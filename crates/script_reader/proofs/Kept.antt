@@ -8,6 +8,7 @@ use Rattle.std.specs.Map.{update}
 use Rattle.std.proofs.lemmas.Bool.{and_from, and_parts, le-leb, leb-true, cases_Bool, not-true}
 use Rattle.std.proofs.lemmas.List.{length-append, length-map, length-drop}
 use Rattle.std.proofs.lemmas.List.Elements.{recursion_from_All}
+use Rattle.rec_words.specs.Words.{most_variables}
 use Rattle.bool_tables.specs.Plans.{makes_diagram, is_live, operands, levels_of, has_bits, drops, has_name, may_follow, all_may_follow, IsWellFormed}
 use Rattle.bool_tables.specs.declared.steps.Planned.{Planned}
 use Rattle.bool_tables.specs.declared.steps.Step.{Step}
@@ -48,7 +49,7 @@ place_below (first ∷ names) name level e = by (bytes_eq name first) refl (plac
         omega (arith, place, below before is)
 
 -- variables that are named where there is no step
-variables_stand : (text : List ℕ) (s : State) (names : List (List ℕ)) → Stands text s → s.begun ≡ false → length names ≤ 65535 → Stands text (with_variables (begin s) names)
+variables_stand : (text : List ℕ) (s : State) (names : List (List ℕ)) → Stands text s → s.begun ≡ false → length names ≤ most_variables → Stands text (with_variables (begin s) names)
 variables_stand text s names h fresh few = record {
   few_variables = few;
   few_steps = h.few_steps;
@@ -63,8 +64,8 @@ variables_stand text s names h fresh few = record {
 vars_stand : (text : List ℕ) (s t : State) (words : List Word) → Stands text s → s.begun ≡ false → plan_vars (begin s) words ≡ Ok t → Stands text t
 vars_stand text s t words h fresh e =
     then_ok (check kind.Variable (all_differ (texts_of (drop 1 words)))) _ t e (λ u differ rest.
-    then_ok (check kind.TooManyVariables (nat_le (length words) 65536)) _ t rest (λ v few last.
-    let short : length words ≤ 65536 = leb-true _ _ (passed kind.TooManyVariables _ few) in
+    then_ok (check kind.TooManyVariables (nat_le (length words) (most_variables + 1))) _ t rest (λ v few last.
+    let short : length words ≤ (most_variables + 1) = leb-true _ _ (passed kind.TooManyVariables _ few) in
     subst (Stands text) (same_ok _ _ last) (variables_stand text s (texts_of (drop 1 words)) h fresh
     (omega (arith, short, length-map (drop 1 words) (λ (w : Word). w.bytes), length-drop 1 words)))))
 
@@ -72,7 +73,7 @@ vars_stand text s t words h fresh e =
 inputs_stand : (text : List ℕ) (netlist : Option blif.Net) (s t : State) → IfSome netlist blif.IsNet → Stands text s → s.begun ≡ false → plan_inputs netlist (begin s) ≡ Ok t → Stands text t
 inputs_stand text None s t sound h fresh e = absurd cc
 inputs_stand text (Some net) s t sound h fresh e =
-    let few : net.inputs ≤ 65535 = sound.tables.few_inputs in
+    let few : net.inputs ≤ most_variables = sound.tables.few_inputs in
     subst (Stands text) (same_ok _ _ e) (variables_stand text s (inputs_of net) h fresh (omega (arith, few, inputs_length net sound)))
 
 -- the step of a line is the one that was made

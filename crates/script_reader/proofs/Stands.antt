@@ -5,6 +5,7 @@ use Rattle.std.specs.List.{list_all}
 use Rattle.std.proofs.lemmas.Bool.{and_from, and_parts, lt-ltb, le-leb, ltb-true}
 use Rattle.std.proofs.lemmas.List.{append-nil, length-append}
 use Rattle.std.proofs.lemmas.List.Folds.{list_all-append}
+use Rattle.rec_words.specs.Words.{most_variables}
 use Rattle.bool_tables.specs.Plans.{may_follow, all_may_follow}
 use Rattle.bool_tables.specs.declared.steps.Planned.{Planned}
 use Rattle.script_reader.specs.declared.plan.LineEnd.{LineEnd}
@@ -62,7 +63,7 @@ lines_more steps lines number p h =
 -- what is known before a line: the steps are well formed over the text, the names name live diagrams, levels are those of
 -- variables, there is no step before the first line with words, and the said lines go with the steps
 pub record Stands (text : List ℕ) (s : State) : Type 0 where
-  pub few_variables : s.n ≤ 65535
+  pub few_variables : s.n ≤ most_variables
   pub few_steps : length s.steps ≤ 1048576
   pub fresh : s.begun ≡ false → s.steps ≡ []
   pub levels : (name : List ℕ) (level : ℕ) → s.level name ≡ Some level → level < s.n

@@ -1,6 +1,7 @@
 -- The plan of a script, or its first faulty line and the kind of its fault.
-use Rattle.std.specs.Prelude.{ℕ, true, nat_le, List, [], ◌∷◌, length, drop, Option, Result, Ok, Err}
+use Rattle.std.specs.Prelude.{ℕ, ◌+◌, true, nat_le, List, [], ◌∷◌, length, drop, Option, Result, Ok, Err}
 use Rattle.std.specs.Prelude.{if◌then◌else◌}
+use Rattle.rec_words.specs.Words.{most_variables}
 use Rattle.text_words.specs.Text.{Word, Line, lines_of, words_in}
 use Rattle.blif_reader.specs.Netlist as blif
 use Rattle.script_reader.specs.declared.fault.ScriptKind.{ScriptKind}
@@ -17,11 +18,11 @@ use Rattle.script_reader.specs.Names.{State, nothing, all_differ, with_variables
 use Rattle.script_reader.specs.Nets.{plan_inputs, plan_net}
 use Rattle.script_reader.specs.Requests.{plan_step}
 
--- a line that names the variables: all differ, and they are at most 65,535
+-- a line that names the variables: all differ, and they are no more than a script may have
 abbrev pub plan_vars : State → List Word → Result State ScriptKind
 plan_vars s words =
     check kind.Variable (all_differ (texts_of (drop 1 words))) >>= λ _.
-    check kind.TooManyVariables (nat_le (length words) 65536) >>= λ _.
+    check kind.TooManyVariables (nat_le (length words) (most_variables + 1)) >>= λ _.
     Ok (with_variables s (texts_of (drop 1 words)))
 
 -- a line by its keyword, where its words are as many as they have to be

@@ -15,4 +15,4 @@ mod step;
 
 pub use fault::{ScriptFault, ScriptKind};
 pub use plan::{LineEnd, Plan};
-pub use script::{read_script, read_script_with};
+pub use script::{MOST_BYTES, read_script, read_script_with};

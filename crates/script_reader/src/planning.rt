@@ -14,12 +14,11 @@ use crate::plan::{LineEnd, Plan};
 use blif_reader::Netlist;
 use bool_tables::{Items, Planned, Step};
 use net_plan::MOST_STEPS;
+use rec_words::MOST_VARIABLES;
 use std::alloc::{AllocError, Global};
 use std::collections::BTreeMap;
 use text_words::Word;
 
-/// The most variables of a script.
-const MOST_VARIABLES: usize = 65_535;
 /// The most bytes that a name of a diagram may have.
 pub(crate) const MOST_NAME_BYTES: usize = 63;
 
@@ -110,7 +109,7 @@ impl<'a> Planning<'a> {
         let Some(levels) = places_of(alloc, names.as_slice())? else {
             return Err(Refusal::Fault(ScriptKind::Variable));
         };
-        if words.len() > MOST_VARIABLES + 1 {
+        if words.len() > MOST_VARIABLES as usize + 1 {
             return Err(Refusal::Fault(ScriptKind::TooManyVariables));
         }
         self.n = words.len() as u32 - 1;

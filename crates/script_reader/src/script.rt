@@ -19,7 +19,7 @@ use std::alloc::{AllocError, Global};
 use text_words::{Line, Lines, Word};
 
 /// The most bytes of a script.
-const MOST_BYTES: usize = 1_048_576;
+pub const MOST_BYTES: usize = 1_048_576;
 
 /// The words of a line.
 fn words_of<'a>(alloc: Global, line: &Line<'a>) -> Result<Vec<Word<'a>>, AllocError>

@@ -8,16 +8,9 @@ use crate::fault::ScriptKind;
 use crate::keyword::Keyword;
 use crate::line::is_one;
 use crate::planning::Planning;
-use bool_tables::{Bin, Step};
+use bool_tables::Step;
+use net_plan::NOT_BOTH;
 use text_words::Word;
-
-/// Neither of two operands is 1, or one of them isn't: for one operand twice, its complement.
-const NOT_BOTH: Bin = Bin {
-    v00: true,
-    v01: true,
-    v10: true,
-    v11: false,
-};
 
 /// Whether each byte is the character 0 or 1.
 fn all_bits(bytes: &[u8]) -> bool

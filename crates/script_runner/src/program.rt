@@ -15,11 +15,9 @@ use crate::refusal::say_refusal;
 use crate::run_source::run_source;
 use command_words::{Words, WordsFault, read_words};
 use example_script::gen_script;
+use script_reader::MOST_BYTES;
 use shelf_model::Station;
 use std::alloc::Global;
-
-/// The most bytes that a script has.
-const MOST_SCRIPT: usize = 1_048_576;
 
 /// What is said where the words aren't accepted.
 const USAGE: &[u8] = b"usage: adiar ACTION FOLDER [options]\n";
@@ -49,7 +47,7 @@ fn run_texts<W: Station>(
             );
         }
     };
-    let text = match fetch_text(alloc, script, MOST_SCRIPT, station) {
+    let text = match fetch_text(alloc, script, MOST_BYTES, station) {
         Ok(text) => text,
         Err(FetchFault::Memory) => return Ending::NoMemory,
         Err(FetchFault::Text) => return Ending::TextFault,
