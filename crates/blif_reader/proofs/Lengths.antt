@@ -5,6 +5,7 @@ use Rattle.std.specs.List.{position_from, list_any, All}
 use Rattle.std.proofs.lemmas.List.{length-map, length-replicate, get_or-replicate, get_or_append_left, get_or-append_right, get_or-map}
 use Rattle.std.proofs.lemmas.Bool.{cases_Bool, cases_lt, ltb-false}
 use Rattle.std.specs.Str.{bytes_eq}
+use Rattle.rec_words.specs.Words.{most_variables}
 use Rattle.blif_reader.specs.declared.fault.BlifFault.{BlifFault}
 use Rattle.blif_reader.specs.declared.fault.BlifKind.{BlifKind}
 use Rattle.blif_reader.specs.declared.grammar.Kind.{Kind}
@@ -150,9 +151,9 @@ unpack false false f g (Some n) p k l ss ts e = absurd (cc)
 unpack false false f g None (Some n) k l ss ts e = absurd (cc)
 unpack false false f g None None k l ss ts e = (refl, refl, refl)
 
-sound_ok : (ss ts : List Statement) → sound ss ≡ Ok ts → (length (words_in Inputs ss) ≤ 65535) × (first_missing (words_in Drivers ss) (uses_in Uses ss) ≡ None) × (first_again [] (uses_in Drivers ss) ≡ None)
+sound_ok : (ss ts : List Statement) → sound ss ≡ Ok ts → (length (words_in Inputs ss) ≤ most_variables) × (first_missing (words_in Drivers ss) (uses_in Uses ss) ≡ None) × (first_again [] (uses_in Drivers ss) ≡ None)
 sound_ok ss ts e =
-    let u = unpack (not (list_any lists_inputs ss)) (nat_lt 65535 (length (words_in Inputs ss))) _ _ (first_again [] (uses_in Drivers ss)) (first_missing (words_in Drivers ss) (uses_in Uses ss)) _ _ ss ts e in
+    let u = unpack (not (list_any lists_inputs ss)) (nat_lt most_variables (length (words_in Inputs ss))) _ _ (first_again [] (uses_in Drivers ss)) (first_missing (words_in Drivers ss) (uses_in Uses ss)) _ _ ss ts e in
     (ltb-false _ _ u.0, u.1, u.2)
 
 -- tables of sound statements
@@ -162,7 +163,7 @@ tables_sound ds few follows e =
     let ok = sound_ok ss ss e in
     let n : ℕ = length (words_in Inputs ss) in
     let ns : List (List ℕ) = names_of ss in
-    let inputs : n ≤ 65535 = ok.0 in
+    let inputs : n ≤ most_variables = ok.0 in
     let statements : length ss ≡ length ds = length-map ds _ in
     let a : n ≡ length (uses_in Inputs ss) = length-map (uses_in Inputs ss) _ in
     let b : length (words_in Blocks ss) ≡ length (uses_in Blocks ss) = length-map (uses_in Blocks ss) _ in

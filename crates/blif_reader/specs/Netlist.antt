@@ -1,6 +1,7 @@
 -- What an accepted netlist is: named signals, the inputs first, each block's inputs and cover, and the outputs.
 use Rattle.std.specs.Prelude.{◌≡◌, ℕ, ◌+◌, ◌-◌, ◌<◌, ◌≤◌, ◌^◌, ◌==◌, Bool, true, false, List, [], ◌∷◌, ◌++◌, length, map, replicate, slice_index, nat_lt, not, Option, Some, None, Result, Ok, Err, if◌then◌else◌}
 use Rattle.std.specs.List.{slice_index_or, list_any, list_all, filter, All}
+use Rattle.rec_words.specs.Words.{most_variables}
 use Rattle.depth_first.specs.Graph.{IsGraph, IsAcyclic, IsFirstOnCycle}
 use Rattle.blif_reader.specs.declared.fault.BlifFault.{BlifFault}
 use Rattle.blif_reader.specs.declared.fault.BlifKind.{BlifKind}
@@ -119,7 +120,7 @@ driven_once ss =
 abbrev pub sound : List Statement → Result (List Statement) BlifFault
 sound ss =
     if not (list_any lists_inputs ss) then Err (record { line = 0; kind = fault.NoInputs })
-    else if nat_lt 65535 (length (words_in Inputs ss)) then Err (record { line = 0; kind = fault.TooManyVariables })
+    else if nat_lt most_variables (length (words_in Inputs ss)) then Err (record { line = 0; kind = fault.TooManyVariables })
     else driven_once ss
 
 -- the netlist of statements, or their first fault, but for cycles
@@ -159,7 +160,7 @@ pub record IsRow (inputs : ℕ) (cells : List ℕ) : Type 0 where
 -- its rows have a character for each input
 pub record IsTables (net : Net) : Type 0 where
   pub few : length net.names < 4294967294
-  pub few_inputs : net.inputs ≤ 65535
+  pub few_inputs : net.inputs ≤ most_variables
   pub apart : (s : ℕ) → s < length net.names → place_of net.names (slice_index_or net.names s []) ≡ Some s
   pub signals : length net.edges ≡ length net.names
   pub blocks : net.inputs + length net.covers ≡ length net.names

@@ -20,4 +20,4 @@ mod tables;
 
 pub use fault::{BlifFault, BlifKind};
 pub use netlist::Netlist;
-pub use read::read_netlist;
+pub use read::{MOST_BYTES, read_netlist};

@@ -2,6 +2,7 @@
 
 ghost use Rattle.std.specs.Prelude.{◌≡◌, ℕ, ◌<◌, ◌≤◌, Some, [], List, length, slice_index, IfOk, OnOk, IsErr};
 ghost use Rattle.std.specs.List.{slice_index_or};
+ghost use Rattle.rec_words.specs.Words.{most_variables};
 ghost use Rattle.depth_first.specs.Graph.{IsTopological, visits};
 ghost use Rattle.depth_first.specs.Walkers.{nodes_of, order_of};
 ghost use Rattle.blif_reader.specs.Index.{found_in, place_of};
@@ -30,7 +31,7 @@ impl Netlist {
     /// The number of inputs.
     pub fn input_count(&self) -> u32
         ensures count { result ≡ (net_of self.now).inputs }
-        ensures few { result ≤ 65535 }
+        ensures few { result ≤ most_variables }
     {
         self.tables.inputs
     }

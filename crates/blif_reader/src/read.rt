@@ -19,7 +19,7 @@ use depth_first::first_cycle;
 use std::alloc::Global;
 
 /// A text has at most so many bytes.
-const MOST_BYTES: usize = 4194304;
+pub const MOST_BYTES: usize = 4_194_304;
 
 /// The tables as a netlist, unless a block depends on itself.
 fn settle(alloc: Global, tables: Tables) -> Result<Netlist, Refusal>

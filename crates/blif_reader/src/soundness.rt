@@ -1,7 +1,8 @@
 //! Whether the words of a netlist are driven once each.
 
-ghost use Rattle.std.specs.Prelude.{◌≡◌, ◌<◌, List, map, min, length};
+ghost use Rattle.std.specs.Prelude.{◌≡◌, ◌+◌, ◌<◌, List, map, min, length};
 ghost use Rattle.std.specs.List.{list_any};
+ghost use Rattle.rec_words.specs.Words.{most_variables};
 ghost use Rattle.blif_reader.specs.declared.parts.Part.TheVariants.{Inputs};
 ghost use Rattle.blif_reader.specs.Statements.{Gives, statement_of};
 ghost use Rattle.blif_reader.specs.Parts.{words_in, lists_inputs};
@@ -12,10 +13,11 @@ use crate::grammar::Kind;
 use crate::index::{line_again, line_missing, no_words};
 use crate::parts::{Part, Uses};
 use crate::statement::Statement;
+use rec_words::MOST_VARIABLES;
 use std::alloc::Global;
 
 /// A netlist has at most so many inputs.
-const MOST_INPUTS: usize = 65535;
+const MOST_INPUTS: usize = MOST_VARIABLES as usize;
 
 /// Whether a line lists inputs.
 fn any_inputs(statements: &[Statement]) -> bool
@@ -52,7 +54,7 @@ fn drive(alloc: Global, statements: &[Statement]) -> Result<(), Refusal>
 
 /// How many words are inputs; where there are more than a netlist may have, one more than it may.
 pub(crate) fn count_inputs(statements: &[Statement]) -> usize
-    ensures { result ≡ min (length (words_in Inputs (map statement_of statements.now))) 65536 }
+    ensures { result ≡ min (length (words_in Inputs (map statement_of statements.now))) (most_variables + 1) }
 {
     let mut count = 0;
     for _one in Uses::of(Part::Inputs, statements) {
@@ -70,7 +72,7 @@ pub(crate) fn test_soundness(
     inputs: usize,
     statements: &[Statement],
 ) -> Result<(), Refusal>
-    requires { inputs ≡ min (length (words_in Inputs (map statement_of statements.now))) 65536 }
+    requires { inputs ≡ min (length (words_in Inputs (map statement_of statements.now))) (most_variables + 1) }
     ensures { Gives (λ _. map statement_of statements.now) result (sound (map statement_of statements.now)) }
 {
     if !any_inputs(statements) {

@@ -10,13 +10,10 @@ ghost use Rattle.script_runner.specs.Netlists.{netlist_text, netlist_fault, IsSp
 
 use crate::fetch::{FetchFault, fetch_text};
 use crate::read_netlist::ReadNetlist;
-use blif_reader::{BlifFault, BlifKind, read_netlist};
+use blif_reader::{BlifFault, BlifKind, MOST_BYTES, read_netlist};
 use shelf_model::Station;
 use std::alloc::Global;
 use thiserror::Error;
-
-/// The most bytes that a netlist has.
-const MOST_NETLIST: usize = 4_194_304;
 
 /// Why a netlist can't be had.
 #[derive(Clone, Copy, Debug, PartialEq, Eq, Error)]
@@ -58,7 +55,7 @@ fn fetch_named<W: Station>(
         → (W.world station.new).clock ≤ (W.world station.old).clock + fetch_calls 4194304 }
     ensures faults { OnlyTexts (W.faults station.old) (W.faults station.new) }
 {
-    let text = fetch_text(alloc, path, MOST_NETLIST, station)?;
+    let text = fetch_text(alloc, path, MOST_BYTES, station)?;
     match read_netlist(alloc, &text) {
         Ok(net) => Ok(ReadNetlist { text, net }),
         Err(fault) => match fault.kind {

@@ -1,4 +1,5 @@
 use Rattle.std.proofs.Common.{◌≡◌, ◌+◌, ◌≤◌, length, map}
+use Rattle.rec_words.specs.Words.{most_variables}
 use Rattle.blif_reader.specs.Words.{uses_left}
 use Rattle.blif_reader.specs.declared.parts.Part.TheVariants.{Inputs}
 use Rattle.blif_reader.specs.Statements.{statement_of}
@@ -9,5 +10,5 @@ use Rattle.blif_reader.proofs.soundness.count_inputs.Given as goal
 abbrev pub invariant-loop-one : goal.invariant-loop-one
 invariant-loop-one l = record {
   all : l.count + length (uses_left l._one-iterator) ≡ length (uses_in Inputs (map statement_of l.fn.statements));
-  few : l.count ≤ 65536;
+  few : l.count ≤ most_variables + 1;
 }
