@@ -235,7 +235,10 @@ impl<'a> Planning<'a> {
             return Err(Refusal::Fault(ScriptKind::TooManySteps));
         }
         let levels = tables.levels.as_slice();
-        match tables.planner.plan(alloc, net, levels, wanted, first as u32) {
+        match tables
+            .planner
+            .plan(alloc, net, levels, wanted, first as u32)
+        {
             Ok(plan) => Ok(self.put_plan(line, names, &plan)?),
             Err(PlanFault::Memory) => Err(Refusal::Memory),
             Err(PlanFault::TooManySteps) => Err(Refusal::Fault(ScriptKind::TooManySteps)),
