@@ -8,7 +8,7 @@ ghost use Rattle.shelf_model.specs.Faults.{OnlyFolder};
 ghost use Rattle.catalogue.specs.Files.{job_file};
 ghost use Rattle.catalogue.specs.Writes.{pieces};
 
-use crate::files::JOB;
+use file_numbers::JOB;
 use shelf_model::{Failed, PIECE, Shelf};
 
 // How many bytes from the front on are the same.

@@ -14,10 +14,10 @@ ghost use Rattle.catalogue.specs.Standings.{DuringSyncs, DuringStore, DuringAtta
 
 use crate::compare::shared_with_stored;
 use crate::fault::AttachFault;
-use crate::files::{JOB, JOB_GATE, STEP_GATE};
 use crate::looking::count_at_most;
 use crate::standing::Standing;
 use crate::writes::{lengthen, replace_from};
+use file_numbers::{JOB, JOB_GATE, STEP_GATE};
 use shelf_model::{Failed, Shelf};
 
 /// Attaches a job of that many steps to the folder: stores it where none is stored.

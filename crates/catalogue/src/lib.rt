@@ -7,7 +7,6 @@
 
 mod compare;
 mod fault;
-mod files;
 mod job;
 mod layout;
 mod looking;
@@ -16,9 +15,9 @@ mod steps;
 mod writes;
 
 pub use fault::AttachFault;
-pub use files::{CATALOGUE, JOB, JOB_GATE, STEP_GATE};
+pub use file_numbers::{CATALOGUE, JOB, JOB_GATE, STEP_GATE};
 pub use job::attach;
 pub use layout::{ENTRY_SIZE, Entry};
-pub use looking::look;
+pub use looking::{MOST_STEPS, look};
 pub use standing::Standing;
 pub use steps::{commit, entry};

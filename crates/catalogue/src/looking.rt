@@ -9,14 +9,14 @@ ghost use Rattle.catalogue.specs.Files.{catalogue, step_gate};
 ghost use Rattle.catalogue.specs.Counts.{present};
 ghost use Rattle.catalogue.specs.Standings.{counted_or, standing_found, most_steps, DuringSyncs, IsLooked};
 
-use crate::files::{CATALOGUE, STEP_GATE};
 use crate::job::make_gates_sure;
 use crate::layout::ENTRY_SIZE;
 use crate::standing::Standing;
+use file_numbers::{CATALOGUE, STEP_GATE};
 use shelf_model::{Shelf, StreamFault};
 
-// The most steps that a job has.
-const MOST_STEPS: u32 = 1_048_576;
+/// The most steps that a job has.
+pub const MOST_STEPS: u32 = 1_048_576;
 
 /// Tells how a folder stands, whichever job it stores, and stores nothing: fresh where there is none.
 ///

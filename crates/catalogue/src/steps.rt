@@ -8,9 +8,9 @@ ghost use Rattle.catalogue.specs.Counts.{count_in, present};
 ghost use Rattle.catalogue.specs.Entries.{IsEntry, IsEntryOf, IsEntryFault};
 ghost use Rattle.catalogue.specs.Commits.{IsReady, DuringCommit, IsCommitted};
 
-use crate::files::{CATALOGUE, STEP_GATE};
 use crate::layout::{ENTRY_SIZE, Entry};
 use crate::writes::{lengthen, replace_from};
+use file_numbers::{CATALOGUE, STEP_GATE};
 use shelf_model::{Failed, Shelf, StreamFault};
 
 /// The entry of step `k`, which has to be committed.

@@ -3,6 +3,7 @@ ghost use Rattle.std.specs.Prelude.{◌≡◌, ◌+◌, ◌*◌, ◌≤◌, ◌&
 ghost use Rattle.shelf_model.specs.World.{now};
 ghost use Rattle.shelf_model.specs.Calls.{Told};
 ghost use Rattle.catalogue.specs.Counts.{count_in, present};
+ghost use Rattle.catalogue.specs.Standings.{most_steps};
 ghost use Rattle.diagram_list.specs.Faults.{ListHasCause};
 ghost use Rattle.diagram_list.specs.Listing.{is_named, step_line, listing};
 ghost use Rattle.diagram_list.specs.Lists.{WereRead, IsNext, SaysText, Lists};
@@ -14,7 +15,7 @@ use catalogue::{Entry, entry, look};
 use shelf_model::Station;
 
 /// The most steps of a job, and so the marks that a list needs.
-pub const MOST_STEPS: usize = 1_048_576;
+pub const MOST_STEPS: usize = catalogue::MOST_STEPS as usize;
 
 /// Says a line for each diagram that has a name and that no committed step drops: its name, a blank and its number of
 /// nodes, in the order of the steps.
@@ -26,7 +27,7 @@ pub const MOST_STEPS: usize = 1_048_576;
 /// is found before anything is said. Where a line can't be said (`Say`), a front part of the list was said. The folder
 /// reads as before in each case.
 pub fn list_diagrams<W: Station>(room: &mut [bool], station: &mut W) -> Result<(), ListFault>
-    requires room { 1048576 ≤ length room.old }
+    requires room { most_steps ≤ length room.old }
     ensures content { Told W.tells station.old station.new
         (Lists result (W.world station.old) (W.world station.new)) }
     ensures calls { IsTrue (W.tells station.new) → (W.world station.new).clock

@@ -4,7 +4,7 @@ ghost use Rattle.std.specs.Prelude.{◌^◌, ◌<◌, ◌≤◌, IfOk, IfSome, l
 use crate::handle::{Handle, are_one};
 use crate::handles::Handles;
 use crate::known::Known;
-use catalogue::JOB_GATE;
+use file_numbers::{ENDS_PART, INNER_PART, JOB_GATE, ends_file, node_file};
 use shelf_model::{FileNo, LONGEST};
 use std::alloc::Global;
 use std::fs::{Metadata, OpenFile, OpenOptions};
@@ -12,15 +12,6 @@ use std::io::ErrorKind;
 use std::os::unix::fs::FileExt;
 use std::rt::Files;
 use std::{fs, io};
-
-/// The part of a step that is its node file.
-const NODES: u64 = 0;
-
-/// The part of a step that has its arcs to nodes. A step that sweeps begins with it where it has such arcs.
-const INNER_ARCS: u64 = 3;
-
-/// The part of a step that has its arcs to truth values, which it writes before its node file.
-const END_ARCS: u64 = 4;
 
 /// A real folder, whose file `(step, part)` is `sSTEPpPART`. A file that isn't there is empty, and
 /// nothing but an append makes one. Only regular files are files of the folder.
@@ -253,18 +244,17 @@ impl<F: FileExt + OpenFile + Drop> Folder<F> {
     fn make<R: Files<File = F>>(&mut self, rt: &R, f: FileNo) -> io::Result<usize>
         ensures { IfOk result (λ i. i < vec_len self.new.handles.all) }
     {
-        if f.part == INNER_ARCS {
-            self.make_early(rt, f.step, END_ARCS)?;
+        if f.part == INNER_PART {
+            self.make_early(rt, ends_file(f.step))?;
         }
-        if f.part == INNER_ARCS || f.part == END_ARCS {
-            self.make_early(rt, f.step, NODES)?;
+        if f.part == INNER_PART || f.part == ENDS_PART {
+            self.make_early(rt, node_file(f.step))?;
         }
         self.make_alone(rt, f)
     }
 
     /// Makes a part of a step that isn't written yet, unless it may be there.
-    fn make_early<R: Files<File = F>>(&mut self, rt: &R, step: u32, part: u64) -> io::Result<()> {
-        let f = FileNo { step, part };
+    fn make_early<R: Files<File = F>>(&mut self, rt: &R, f: FileNo) -> io::Result<()> {
         if self.known.is_absent(f) {
             self.make_alone(rt, f)?;
         }

@@ -1,7 +1,7 @@
 //! Which files of a folder are known to be absent.
 ghost use Rattle.std.specs.Prelude.{◌<◌};
 
-use catalogue::JOB;
+use file_numbers::JOB_STEP;
 use shelf_model::FileNo;
 use std::io::Read;
 use std::str;
@@ -58,7 +58,7 @@ impl Known {
 
     /// Takes a file for one that may be there from now on.
     pub(crate) fn see(&mut self, f: FileNo) {
-        if f.step == JOB.step {
+        if f.step == JOB_STEP {
             return;
         }
         if f.step > self.step {
@@ -72,7 +72,7 @@ impl Known {
 
     /// Whether a file is sure not to be there. The files beside the steps' are asked for.
     pub(crate) fn is_absent(&self, f: FileNo) -> bool {
-        if f.step == JOB.step || f.step < self.step {
+        if f.step == JOB_STEP || f.step < self.step {
             return false;
         }
         f.step > self.step || (f.part < PARTS && self.parts >> f.part & 1 == 0)

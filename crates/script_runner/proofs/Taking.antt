@@ -20,7 +20,7 @@ use Rattle.shelf_model.specs.Calls.{Told}
 use Rattle.shelf_model.specs.Moments.{Throughout, Quiet, Ran}
 use Rattle.shelf_model.proofs.Runs.{joins, weakens, ran_weakens, ran_joins, ran_end}
 use Rattle.catalogue.specs.declared.layout.Entry.{Entry}
-use Rattle.catalogue.specs.Files.{job_gate, catalogue, step_gate}
+use Rattle.catalogue.specs.Files.{job_step, job_gate, catalogue, step_gate}
 use Rattle.catalogue.specs.Counts.{HasCount, present, count_in, entry_at}
 use Rattle.catalogue.specs.Entries.{entry_bytes}
 use Rattle.catalogue.specs.Commits.{IsReady, DuringCommit, IsCommitted}
@@ -53,7 +53,7 @@ AllHave job count m = (image : Image) → IsImage m.folder image → HasSteps jo
 
 -- the job's files are as they were
 abbrev JobStays : Folder → Folder → Type 0
-JobStays before after = (f : FileNo) → f.step ≡ 4294967295 → file_in after f ≡ file_in before f
+JobStays before after = (f : FileNo) → f.step ≡ job_step → file_in after f ≡ file_in before f
 
 ready_same : (count : ℕ) (before after : Folder) → JobStays before after → IsReady count before → IsReady count after
 ready_same count before after same ready = record {
@@ -73,7 +73,7 @@ own_file s k f (inl made) = record { step_is = ap (λ (q : FileNo). q.step) made
 own_file s k f (inr taken) = record { step_is = taken.1.step_is; part_is = inr taken.1.from }
 
 -- and is none of the job's
-job_apart : (k : ℕ) (f : FileNo) → k < 4294967295 → f.step ≡ 4294967295 → ¬ (IsOwnFile k f)
+job_apart : (k : ℕ) (f : FileNo) → k < job_step → f.step ≡ job_step → ¬ (IsOwnFile k f)
 job_apart k f early job_step own = let steps : f.step ≡ k = own.step_is in omega (arith, job_step, steps, early)
 
 -- a step that drops a diagram is that drop
@@ -150,7 +150,7 @@ taking_commits steps step e old mid m number so_far during = record {
         record { stored = has.stored; no_fewer = omega (arith, same, low, number); no_more = omega (arith, same, high, number) }
 
 module _ (job : Job) (k : ℕ) (few : AreFew job) (within : k < length job.steps) where
-  early : k < 4294967295
+  early : k < job_step
   early = omega (arith, few, within)
 
   abbrev Takes : World → Moment → Type 0

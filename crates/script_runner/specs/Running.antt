@@ -9,7 +9,7 @@ use Rattle.bool_tables.specs.declared.steps.Step.TheVariants as step
 use Rattle.bool_tables.specs.declared.steps.Planned.{Planned}
 use Rattle.catalogue.specs.declared.layout.Entry.{Entry}
 use Rattle.catalogue.specs.Entries.{IsEntryOf}
-use Rattle.catalogue.specs.Files.{job_file, catalogue, step_gate}
+use Rattle.catalogue.specs.Files.{job_step, job_file, catalogue, step_gate}
 use Rattle.catalogue.specs.Counts.{present, is_stored, count_in}
 use Rattle.sound_image.specs.Files.{node_file}
 use Rattle.shelf_model.specs.declared.sort_fault.SortFault.TheVariants as sort
@@ -87,7 +87,7 @@ WaitsNot lines old front image =
 
 -- a file of one of so many steps, or of the job
 abbrev pub IsJobs : ℕ → FileNo → Type 0
-IsJobs steps f = (f.step < steps) ⊎ (f.step ≡ 4294967295)
+IsJobs steps f = (f.step < steps) ⊎ (f.step ≡ job_step)
 
 -- every file of no step and not of the job is as it was
 abbrev pub OthersAre : ℕ → Folder → Folder → Type 0

@@ -3,6 +3,7 @@ ghost use Rattle.std.specs.Prelude.{◌≡◌, ◌+◌, ◌*◌, ◌≤◌, Some
 ghost use Rattle.shelf_model.specs.World.{now};
 ghost use Rattle.shelf_model.specs.Calls.{Told};
 ghost use Rattle.catalogue.specs.Counts.{count_in, present};
+ghost use Rattle.catalogue.specs.Standings.{most_steps};
 ghost use Rattle.command_words.specs.Readings.{list};
 ghost use Rattle.script_runner.specs.Entered.{EndingHasCause};
 ghost use Rattle.script_runner.specs.Listed.{ListsIn, EndsList};
@@ -29,14 +30,14 @@ pub(crate) fn list_folder<W: Station>(alloc: Global, folder: &str, station: &mut
 
 /// A mark for each step that a job may have.
 fn take_marks(alloc: Global) -> Result<Vec<bool>, AllocError>
-    ensures { IfOk result (λ marks. length marks.items ≡ 1048576) }
+    ensures { IfOk result (λ marks. length marks.items ≡ most_steps) }
 {
     vec![in alloc; false; MOST_STEPS]
 }
 
 /// Enters the folder and lists its diagrams.
 fn list_in<W: Station>(folder: &str, marks: &mut [bool], station: &mut W) -> Ending
-    requires marks { 1048576 ≤ length marks.old }
+    requires marks { most_steps ≤ length marks.old }
     ensures content { Told W.tells station.old station.new
         (ListsIn folder.now (status_of result) (W.world station.old) (W.world station.new)) }
     ensures calls { IsTrue (W.tells station.new) → (W.world station.new).clock

@@ -1,17 +1,17 @@
 -- The files of steps are none of the job's, and those of different kinds differ.
 use Rattle.std.proofs.Common.{◌≡◌, ◌≢◌, ℕ, ◌<◌, ap, arith}
 use Rattle.shelf_model.specs.declared.file_no.FileNo.{FileNo}
-use Rattle.catalogue.specs.Files.{job_file, job_gate, catalogue, step_gate}
+use Rattle.catalogue.specs.Files.{job_step, job_file, job_gate, catalogue, step_gate}
 use Rattle.sound_image.specs.Files.{node_file, checkpoint_gate}
 
 -- a file of a step that isn't the job's
 pub record IsOfStep (f : FileNo) : Type 0 where
-  pub early : f.step ≢ 4294967295
+  pub early : f.step ≢ job_step
 
-pub node_of_step : (s : ℕ) → s < 4294967295 → IsOfStep (node_file s)
+pub node_of_step : (s : ℕ) → s < job_step → IsOfStep (node_file s)
 node_of_step s below = record { early = λ e. omega (arith, e, below) }
 
-pub gate_of_step : (s : ℕ) → s < 4294967295 → IsOfStep (checkpoint_gate s)
+pub gate_of_step : (s : ℕ) → s < job_step → IsOfStep (checkpoint_gate s)
 gate_of_step s below = record { early = λ e. omega (arith, e, below) }
 
 pub not_job_file : (f : FileNo) → IsOfStep f → f ≢ job_file

@@ -11,7 +11,7 @@ use Rattle.shelf_model.specs.World.{Moment}
 use Rattle.shelf_model.proofs.Files.{only_image, same_image, kept_left}
 use Rattle.shelf_model.proofs.Images.{left_of_none}
 use Rattle.catalogue.specs.declared.layout.Entry.{Entry}
-use Rattle.catalogue.specs.Files.{job_file, job_gate, catalogue, step_gate}
+use Rattle.catalogue.specs.Files.{job_step, job_file, job_gate, catalogue, step_gate}
 use Rattle.catalogue.specs.Counts.{is_stored, count_in, entry_at}
 use Rattle.catalogue.specs.Commits.{IsReady, DuringCommit, IsCommitted}
 use Rattle.catalogue.specs.Entries.{entry_bytes}
@@ -32,13 +32,13 @@ use Rattle.sound_image.proofs.Live.{live_below, live_earlier, live_last, live_un
 abbrev pub AreFew : Job → Type 0
 AreFew job = length job.steps ≤ 1048576
 
-early : (job : Job) (s : ℕ) → AreFew job → s < length job.steps → s < 4294967295
+early : (job : Job) (s : ℕ) → AreFew job → s < length job.steps → s < job_step
 early job s few within = omega (arith, few, within)
 
 -- the files of the job stay, and so do those of the diagrams that are live after so many steps; the gates of checkpoints
 -- that are empty stay so
 pub record KeepsHeld (job : Job) (count : ℕ) (old new : Folder) : Type 0 where
-  pub of_job : (f : FileNo) → f.step ≡ 4294967295 → file_in new f ≡ file_in old f
+  pub of_job : (f : FileNo) → f.step ≡ job_step → file_in new f ≡ file_in old f
   pub nodes : (s : ℕ) → IsTrue (is_live (take count job.steps) s) → file_in new (node_file s) ≡ file_in old (node_file s)
   pub gates : (s : ℕ) → s < length job.steps → file_in old (checkpoint_gate s) ≡ no_file → file_in new (checkpoint_gate s) ≡ no_file
 
@@ -76,8 +76,8 @@ holds_while_made job k old new few within holds only = holds_kept job k old new 
   gates = λ s inside empty. only (checkpoint_gate s) (not_gate s) ∙ empty;
 })
   where
-    not_own : (f : FileNo) → f.step ≡ 4294967295 → IsOwnFile k f → ⊥
-    not_own f step_is own = let no : k ≡ 4294967295 = sym own.step_is ∙ step_is in omega (arith, no, early job k few within)
+    not_own : (f : FileNo) → f.step ≡ job_step → IsOwnFile k f → ⊥
+    not_own f step_is own = let no : k ≡ job_step = sym own.step_is ∙ step_is in omega (arith, no, early job k few within)
 
     not_node : (s : ℕ) → s < k → IsOwnFile k (node_file s) → ⊥
     not_node s below own = let same : s ≡ k = own.step_is in omega (arith, same, below)
@@ -98,11 +98,11 @@ holds_while_tidied job k old new few within holds inside tidied = holds_kept job
   gates = λ s below empty. tidied.empty (checkpoint_gate s) empty;
 })
   where
-    not_cut : (f : FileNo) → f.step ≡ 4294967295 → IsCutBy (step_at job k).step k f → ⊥
+    not_cut : (f : FileNo) → f.step ≡ job_step → IsCutBy (step_at job k).step k f → ⊥
     not_cut f step_is (inl (gone, dropped, is)) =
-        let no : gone ≡ 4294967295 = sym (ap (λ (q : FileNo). q.step) is) ∙ step_is in
+        let no : gone ≡ job_step = sym (ap (λ (q : FileNo). q.step) is) ∙ step_is in
         omega (arith, no, early job gone few (inside gone dropped))
-    not_cut f step_is (inr (swept, own)) = let no : k ≡ 4294967295 = sym own.step_is ∙ step_is in omega (arith, no, early job k few within)
+    not_cut f step_is (inr (swept, own)) = let no : k ≡ job_step = sym own.step_is ∙ step_is in omega (arith, no, early job k few within)
 
     not_live : (s : ℕ) → IsTrue (is_live (take (k + 1) job.steps) s) → IsCutBy (step_at job k).step k (node_file s) → ⊥
     not_live s live (inl (gone, dropped, is)) =

@@ -6,6 +6,7 @@ use Rattle.bool_tables.specs.declared.steps.Planned.{Planned}
 use Rattle.bool_tables.specs.Tables.{same_bits, is_leq}
 use Rattle.bool_tables.specs.Steps.{eval_at}
 use Rattle.bool_tables.specs.Plans.{makes_diagram, operands}
+use Rattle.file_numbers.specs.Files.{inner_part}
 use Rattle.catalogue.specs.declared.layout.Entry.{Entry}
 use Rattle.catalogue.specs.Entries.{IsEntry}
 use Rattle.step_work.specs.Works.{work_for}
@@ -76,4 +77,4 @@ pub record IsEntryOfStep (job : Job) (k : ℕ) (e : Entry) : Type 0 where
   pub name_len_is : e.name_len ≡ length (name_of job (step_at job k))
   pub name_is : e.name ≡ name_of job (step_at job k) ++ replicate (63 - length (name_of job (step_at job k))) 0
   pub turns_are : (1 ≤ e.turns) × (e.turns ≤ work_of job (step_at job k).step)
-  pub parts_are : (3 ≤ e.parts) × (e.parts ≤ 2 ^ 32) × (e.parts ≤ 1024 + e.turns / 16)
+  pub parts_are : (inner_part ≤ e.parts) × (e.parts ≤ 2 ^ 32) × (e.parts ≤ 1024 + e.turns / 16)

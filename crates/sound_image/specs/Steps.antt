@@ -6,12 +6,12 @@ use Rattle.shelf_model.specs.declared.file_no.FileNo.{FileNo}
 use Rattle.shelf_model.specs.File.{no_file}
 use Rattle.shelf_model.specs.Folder.{Folder, file_in, OnlyChanges}
 use Rattle.step_work.specs.Tuples.{sweeps}
-use Rattle.sound_image.specs.Files.{node_file}
+use Rattle.sound_image.specs.Files.{nodes_part, checkpoint_part, inner_part, ends_part, node_file}
 
 -- the step's node file, its arcs and its runs
 pub record IsOwnFile (step : ℕ) (f : FileNo) : Type 0 where
   pub step_is : f.step ≡ step
-  pub part_is : (f.part ≡ 0) ⊎ (3 ≤ f.part)
+  pub part_is : (f.part ≡ nodes_part) ⊎ (inner_part ≤ f.part)
 
 -- every other file is as it was
 abbrev pub OnlyOwnFiles : ℕ → Folder → Folder → Type 0
@@ -20,8 +20,8 @@ OnlyOwnFiles step = OnlyChanges (IsOwnFile step)
 -- the step's checkpoints, their gate and its two files of arcs
 pub record IsBehind (step : ℕ) (f : FileNo) : Type 0 where
   pub step_is : f.step ≡ step
-  pub from : 1 ≤ f.part
-  pub until : f.part ≤ 4
+  pub from : checkpoint_part ≤ f.part
+  pub until : f.part ≤ ends_part
 
 -- the file of the diagram that the step drops, or one of these where it sweeps
 abbrev pub IsCutBy : Step → ℕ → FileNo → Type 0

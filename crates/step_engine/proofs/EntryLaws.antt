@@ -18,6 +18,7 @@ use Rattle.shelf_model.specs.Folder.{Folder}
 use Rattle.catalogue.specs.declared.layout.Entry.{Entry}
 use Rattle.catalogue.specs.Counts.{present}
 use Rattle.catalogue.specs.Entries.{IsEntry, IsEntryOf}
+use Rattle.catalogue.specs.Standings.{most_steps}
 use Rattle.sound_image.specs.Jobs.{Job, no_step, step_at, nodes_at}
 use Rattle.sound_image.specs.Entries.{IsEntryOfStep, kind_of, answer_of, bit_of, count_of, name_of, work_of}
 use Rattle.sound_image.specs.Holds.{Holds}
@@ -52,7 +53,7 @@ one_turn_spent = record {
 }
 
 -- the fields of a diagram's entry fit their places
-pub diagram_fits : (k nodes : ℕ) (spent : Spent) (text : List ℕ) (p : Planned) → k < 1048576 → IsTrue (has_name text p) → nodes < 2 ^ 64 → IsSpent spent
+pub diagram_fits : (k nodes : ℕ) (spent : Spent) (text : List ℕ) (p : Planned) → k < most_steps → IsTrue (has_name text p) → nodes < 2 ^ 64 → IsSpent spent
     → IsEntry (diagram_entry text p k nodes spent)
 diagram_fits k nodes spent text p few named small took =
     let within : p.name_at + p.name_len ≤ length text = leb-true (p.name_at + p.name_len) (length text) (and_parts (nat_le (p.name_at + p.name_len) (length text)) (nat_le p.name_len 63) named).0 in
@@ -77,7 +78,7 @@ diagram_fits k nodes spent text p few named small took =
     }
 
 -- and those of the entry of a drop or an answer
-pub nameless_fits : (k kind answer count : ℕ) (spent : Spent) → k < 1048576 → (1 ≤ kind) × (kind ≤ 3)
+pub nameless_fits : (k kind answer count : ℕ) (spent : Spent) → k < most_steps → (1 ≤ kind) × (kind ≤ 3)
     → (answer ≡ 0) ⊎ ((answer ≡ 1) × (kind ≡ 3) × (count ≡ 0)) → count < 2 ^ 64 → IsSpent spent
     → IsEntry (nameless_entry k kind answer count spent)
 nameless_fits k kind answer count spent few kinds says small took = record {
@@ -103,13 +104,13 @@ bit_says true = inr (refl, refl, refl)
 bit_says false = inl refl
 
 -- the entries that can be committed for their steps
-pub for_diagram : (k nodes : ℕ) (spent : Spent) (text : List ℕ) (p : Planned) (e : Entry) → e ≡ diagram_entry text p k nodes spent → k < 1048576
+pub for_diagram : (k nodes : ℕ) (spent : Spent) (text : List ℕ) (p : Planned) (e : Entry) → e ≡ diagram_entry text p k nodes spent → k < most_steps
     → IsTrue (has_name text p) → nodes < 2 ^ 64 → IsSpent spent → kind_of p.step ≡ 1 → IsEntryFor p.step k e
 for_diagram k nodes spent text p e e_is few named small took kind =
     subst (IsEntryFor p.step k) (sym e_is)
     (record { entry_is = diagram_fits k nodes spent text p few named small took; number_is = refl; kind_is = sym kind })
 
-pub for_nameless : (k kind answer count : ℕ) (spent : Spent) (p : Planned) (e : Entry) → e ≡ nameless_entry k kind answer count spent → k < 1048576
+pub for_nameless : (k kind answer count : ℕ) (spent : Spent) (p : Planned) (e : Entry) → e ≡ nameless_entry k kind answer count spent → k < most_steps
     → (1 ≤ kind) × (kind ≤ 3) → (answer ≡ 0) ⊎ ((answer ≡ 1) × (kind ≡ 3) × (count ≡ 0)) → count < 2 ^ 64 → IsSpent spent → kind_of p.step ≡ kind
     → IsEntryFor p.step k e
 for_nameless k kind answer count spent p e e_is few kinds says small took kind_is =
@@ -121,7 +122,7 @@ pub one_within : (job : Job) (step : Step) → 1 ≤ work_of job step
 one_within job step = omega arith
 
 -- a diagram's entry
-pub diagram_entry_is : (job : Job) (k nodes : ℕ) (spent : Spent) (text : List ℕ) (p : Planned) → k < 1048576 → IsTrue (has_name text p) → job.text ≡ text → step_at job k ≡ p
+pub diagram_entry_is : (job : Job) (k nodes : ℕ) (spent : Spent) (text : List ℕ) (p : Planned) → k < most_steps → IsTrue (has_name text p) → job.text ≡ text → step_at job k ≡ p
     → kind_of p.step ≡ 1 → makes_diagram p.step ≡ true → answer_of job p.step ≡ 0 → count_of job k p.step ≡ nodes → nodes < 2 ^ 64
     → IsSpent spent → spent.turns ≤ work_of job p.step → IsEntryOfStep job k (diagram_entry text p k nodes spent)
 diagram_entry_is job k nodes spent text p few named text_is p_is kind diagram answer count small took within_work =
@@ -143,7 +144,7 @@ diagram_entry_is job k nodes spent text p few named text_is p_is kind diagram an
     }
 
 -- the entry of a drop or an answer
-pub nameless_entry_is : (job : Job) (k kind answer count : ℕ) (spent : Spent) (p : Planned) → k < 1048576 → step_at job k ≡ p → kind_of p.step ≡ kind
+pub nameless_entry_is : (job : Job) (k kind answer count : ℕ) (spent : Spent) (p : Planned) → k < most_steps → step_at job k ≡ p → kind_of p.step ≡ kind
     → (1 ≤ kind) × (kind ≤ 3) → (answer ≡ 0) ⊎ ((answer ≡ 1) × (kind ≡ 3) × (count ≡ 0))
     → makes_diagram p.step ≡ false → answer_of job p.step ≡ answer → count_of job k p.step ≡ count → count < 2 ^ 64
     → IsSpent spent → spent.turns ≤ work_of job p.step → IsEntryOfStep job k (nameless_entry k kind answer count spent)
@@ -189,7 +190,7 @@ diagram_kind (Eval operand at) h = cc
 diagram_kind (Size operand) h = cc
 
 -- the entry of a size counts the nodes that its operand's entry counts
-pub size_entry_is : (job : Job) (k operand : ℕ) (p : Planned) (e : Entry) (folder : Folder) → k < 1048576 → step_at job k ≡ p → p.step ≡ Size operand → operand < k
+pub size_entry_is : (job : Job) (k operand : ℕ) (p : Planned) (e : Entry) (folder : Folder) → k < most_steps → step_at job k ≡ p → p.step ≡ Size operand → operand < k
     → Holds job k folder → IsEntryOf operand (present folder) e → e.kind ≡ 1 → IsEntryOfStep job k (nameless_entry k 3 0 e.count one_turn)
 size_entry_is job k operand p e folder few p_is size below holds is kind =
     let of_step : IsEntryOfStep job operand e = held_entry job k operand folder e holds below is in

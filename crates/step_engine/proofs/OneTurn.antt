@@ -1,6 +1,7 @@
 -- The runs of steps that take one turn.
 use Rattle.std.proofs.Common.{◌≡◌, ◌∙◌, ℕ, ◌+◌, ◌*◌, ◌^◌, ◌<◌, ◌≤◌, Bool, true, false, cond, List, refl, sym, ap, subst, inl, arith}
 use Rattle.std.specs.Prelude.{IsTrue, Ok, Err}
+use Rattle.rec_words.specs.Words.{most_variables}
 use Rattle.bool_tables.specs.declared.steps.Step.{Step}
 use Rattle.bool_tables.specs.declared.steps.Step.TheVariants.{Const, Var, Drop, Size}
 use Rattle.bool_tables.specs.declared.steps.Planned.{Planned}
@@ -104,7 +105,7 @@ module _ {S : Type 0} (tells : S → Bool) (world : S → World) (counts : S →
   }
 
 -- a constant, and a variable
-pub constant_simple : (n number : ℕ) (value : Bool) (step : Step) → n ≤ 65535 → step ≡ Const value
+pub constant_simple : (n number : ℕ) (value : Bool) (step : Step) → n ≤ most_variables → step ≡ Const value
     → IsSimple n number step 0 (canon_bytes n (const_table n value))
 constant_simple n number value step few step_is = subst (λ s. IsSimple n number s 0 (canon_bytes n (const_table n value))) (sym step_is) (record {
   not_swept = refl;
@@ -117,7 +118,7 @@ constant_simple n number value step few step_is = subst (λ s. IsSimple n number
   form = λ job text p p_is is. constant_form job number value is.well_formed.few_variables is.within (place_step job number p (Const value) is.step_is p_is);
 })
 
-pub variable_simple : (n number level : ℕ) (step : Step) → n ≤ 65535 → level < n → step ≡ Var level
+pub variable_simple : (n number level : ℕ) (step : Step) → n ≤ most_variables → level < n → step ≡ Var level
     → IsSimple n number step 1 (canon_bytes n (var_table n level))
 variable_simple n number level step few below step_is = subst (λ s. IsSimple n number s 1 (canon_bytes n (var_table n level))) (sym step_is) (record {
   not_swept = refl;

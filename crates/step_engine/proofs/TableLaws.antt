@@ -6,7 +6,7 @@ use Rattle.bool_tables.specs.declared.steps.Planned.{Planned}
 use Rattle.bool_tables.specs.Steps.{step_table, table_of_step, tables_after}
 use Rattle.bool_tables.proofs.Halves.{length-table_with}
 use Rattle.bool_tables.proofs.TableSteps.{tables_keep}
-use Rattle.rec_words.specs.Words.{level_numbers}
+use Rattle.rec_words.specs.Words.{most_variables, level_numbers}
 use Rattle.canon_file.specs.declared.row.Row.{Row}
 use Rattle.canon_file.specs.Canon.{numbered, nodes_of, canon_nodes, canon_bytes}
 use Rattle.canon_file.specs.Laws.{HasForm}
@@ -89,7 +89,7 @@ fits_nodes i (rs ∷ deeper) few =
     (omega (arith, few, all, here_many), fits_nodes (suc i) deeper (omega (arith, few, all, here_many)))
 
 -- the canonical forms of constants and of variables are defined
-pub constant_form : (job : Job) (k : ℕ) (value : Bool) → job.n ≤ 65535 → k < length job.steps → (step_at job k).step ≡ Const value → HasForm job.n (table_at job k)
+pub constant_form : (job : Job) (k : ℕ) (value : Bool) → job.n ≤ most_variables → k < length job.steps → (step_at job k).step ≡ Const value → HasForm job.n (table_at job k)
 unfolding canon_nodes
 constant_form job k value few within step = subst (HasForm job.n) (sym (constant_table job k value within step)) (record {
   few = few;
@@ -98,7 +98,7 @@ constant_form job k value few within step = subst (HasForm job.n) (sym (constant
       (let none = ap length (no_node-const job.n value).nodes in omega (arith, none));
 })
 
-pub variable_form : (job : Job) (k level : ℕ) → job.n ≤ 65535 → k < length job.steps → (step_at job k).step ≡ Var level → level < job.n → HasForm job.n (table_at job k)
+pub variable_form : (job : Job) (k level : ℕ) → job.n ≤ most_variables → k < length job.steps → (step_at job k).step ≡ Var level → level < job.n → HasForm job.n (table_at job k)
 unfolding canon_nodes
 variable_form job k level few within step below = subst (HasForm job.n) (sym (variable_table job k level within step)) (record {
   few = few;

@@ -2,6 +2,7 @@
 use Rattle.std.specs.Prelude.{◌≡◌, ℕ, ◌-◌, Bool, List, ◌++◌, take, drop, replicate}
 use Rattle.bool_tables.specs.declared.steps.Step.{Step}
 use Rattle.bool_tables.specs.declared.steps.Planned.{Planned}
+use Rattle.file_numbers.specs.Files.{inner_part}
 use Rattle.catalogue.specs.declared.layout.Entry.{Entry}
 use Rattle.catalogue.specs.Entries.{IsEntry}
 use Rattle.sound_image.specs.Entries.{kind_of, bit_of}
@@ -22,7 +23,7 @@ diagram_entry text p number nodes spent = record {
 
 -- one turn, and no part
 abbrev pub one_turn : Spent
-one_turn = record { turns = 1; parts = 3 }
+one_turn = record { turns = 1; parts = inner_part }
 
 -- an entry of that kind with no name
 abbrev pub nameless_entry : ℕ → ℕ → ℕ → ℕ → Spent → Entry

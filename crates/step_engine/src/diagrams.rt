@@ -5,6 +5,7 @@ ghost use Rattle.shelf_model.specs.World.{now, file};
 ghost use Rattle.shelf_model.specs.Calls.{Told};
 ghost use Rattle.shelf_model.specs.Moments.{Ran};
 ghost use Rattle.shelf_model.specs.Faults.{OnlyShelf};
+ghost use Rattle.rec_words.specs.Words.{most_variables};
 ghost use Rattle.canon_file.specs.Canon.{canon_bytes};
 ghost use Rattle.canon_file.specs.Constants.{const_table};
 ghost use Rattle.canon_file.specs.Variables.{var_table, var_node};
@@ -46,7 +47,7 @@ pub(crate) fn write_variable<S: Shelf>(
     shelf: &mut S,
 ) -> Result<u64, StreamFault>
     requires enough { 8 ≤ length window.old }
-    requires few { n ≤ 65535 }
+    requires few { n ≤ most_variables }
     requires below { level < n }
     ensures count { IfOk result (λ count. count ≡ 1) }
     ensures made { OnOk result (IsTrue (S.tells shelf.new) →
@@ -65,7 +66,7 @@ pub(crate) fn write_variable<S: Shelf>(
 
 /// The one node of a variable: the first of its level.
 fn variable_node(level: u16) -> Node
-    requires level { level ≤ 65534 }
+    requires level { level < most_variables }
     ensures { result ≡ var_node level }
 {
     let Some(uid) = Uid::of(Ptr::of_row(level, 0)) else {

@@ -11,9 +11,9 @@ ghost use Rattle.sound_image.specs.Files.{node_file};
 ghost use Rattle.sound_image.specs.Steps.{IsBehind};
 ghost use Rattle.step_engine.specs.OneFile.{OnlyTidied};
 
-use crate::sweeping::node_file;
 use bool_tables::{Planned, Step};
 use catalogue::Entry;
+use file_numbers::{CHECKPOINT_PART, FIRST_RUN_PART, node_file};
 use shelf_model::{Failed, FileNo, Shelf};
 
 /// Empties what a step leaves behind, once it is committed: the file of the diagram that it drops, or, where it swept,
@@ -48,7 +48,7 @@ fn empty_parts<S: Shelf>(step: Step, number: u32, shelf: &mut S) -> Result<(), F
         IsBehind number f → (file (S.world shelf.new) f).bytes ≡ []) }
     ensures faults { OnlyFolder (S.faults shelf.old) (S.faults shelf.new) result }
 {
-    for part in 1..5u64 {
+    for part in CHECKPOINT_PART..FIRST_RUN_PART {
         shelf.cut(FileNo { step: number, part }, 0)?;
     }
     Ok(())

@@ -5,6 +5,7 @@ ghost use Rattle.step_engine.specs.StepEntries.{diagram_entry, nameless_entry, a
 
 use bool_tables::Planned;
 use catalogue::Entry;
+use file_numbers::INNER_PART;
 
 /// What a step took: its turns, and the next part number.
 #[derive(Clone, Copy, Debug, PartialEq, Eq)]
@@ -14,8 +15,11 @@ pub(crate) struct Spent {
 }
 
 impl Spent {
-    /// One turn and no part. The parts before the third are the node file, the checkpoints and their gate.
-    pub(crate) const ONE_TURN: Spent = Spent { turns: 1, parts: 3 };
+    /// One turn, and no part of those that are taken while a step sweeps.
+    pub(crate) const ONE_TURN: Spent = Spent {
+        turns: 1,
+        parts: INNER_PART,
+    };
 }
 
 /// The entry of a diagram with so many nodes.

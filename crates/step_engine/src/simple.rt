@@ -11,6 +11,7 @@ use crate::entries::{Spent, diagram_entry, nameless_entry};
 use crate::kinds::entry_of_kind;
 use bool_tables::Planned;
 use catalogue::Entry;
+use file_numbers::NODES_PART;
 use rec_words::Rec;
 use shelf_model::{FileNo, Shelf, SortFault};
 
@@ -31,7 +32,7 @@ pub(crate) fn run_constant<S: Shelf>(
 {
     let file = FileNo {
         step: number,
-        part: 0,
+        part: NODES_PART,
     };
     let nodes = write_constant(file, n, value, room, shelf)?;
     Ok(diagram_entry(text, planned, number, nodes, Spent::ONE_TURN))
@@ -54,7 +55,7 @@ pub(crate) fn run_variable<S: Shelf>(
 {
     let file = FileNo {
         step: number,
-        part: 0,
+        part: NODES_PART,
     };
     let nodes = write_variable(file, n, level as u16, room, shelf)?;
     Ok(diagram_entry(text, planned, number, nodes, Spent::ONE_TURN))

@@ -10,6 +10,7 @@ ghost use Rattle.step_engine.specs.Running.{RunsStep};
 use crate::entries::{Spent, answer_entry, diagram_entry};
 use bool_tables::{Planned, Step};
 use catalogue::Entry;
+use file_numbers::{NODES_PART, node_file};
 use rec_words::Rec;
 use shelf_model::{FileNo, Shelf, SortFault};
 use step_sweeps::{StepOperation, compare, evaluate, imply, make_diagram};
@@ -45,13 +46,6 @@ pub(crate) fn sweeping_of(step: Step) -> Option<Sweeping>
         }),
         _ => None,
     }
-}
-
-/// The node file of a step.
-pub(crate) fn node_file(step: u32) -> FileNo
-    ensures { result ≡ record { step = step; part = 0 } }
-{
-    FileNo { step, part: 0 }
 }
 
 fn files_of(first: u32, second: u32, third: u32) -> OperandFiles
@@ -112,11 +106,11 @@ pub(crate) fn run_comparison<S: Shelf>(
 {
     let left = FileNo {
         step: left,
-        part: 0,
+        part: NODES_PART,
     };
     let right = FileNo {
         step: right,
-        part: 0,
+        part: NODES_PART,
     };
     let answered = compare(n, left, right, number, room, shelf)?;
     let spent = Spent {
@@ -144,11 +138,11 @@ pub(crate) fn run_implication<S: Shelf>(
 {
     let left = FileNo {
         step: left,
-        part: 0,
+        part: NODES_PART,
     };
     let right = FileNo {
         step: right,
-        part: 0,
+        part: NODES_PART,
     };
     let answered = imply(n, left, right, number, room, shelf)?;
     let spent = Spent {
@@ -174,7 +168,10 @@ pub(crate) fn run_evaluation<S: Shelf>(
     requires room { 16384 ≤ length room.old }
     ensures runs { RunsStep S.tells S.world S.faults n text.now number planned.now shelf.old shelf.new result }
 {
-    let file = FileNo { step: of, part: 0 };
+    let file = FileNo {
+        step: of,
+        part: NODES_PART,
+    };
     let answered = evaluate(n, file, text, at, number, room, shelf)?;
     let spent = Spent {
         turns: answered.turns,

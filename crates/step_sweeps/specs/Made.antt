@@ -1,6 +1,6 @@
 -- What a step that sweeps makes, leaves and costs.
 use Rattle.std.specs.Prelude.{◌≡◌, ◌⊎◌, ℕ, ◌+◌, ◌-◌, ◌*◌, ◌/◌, ◌^◌, ◌<◌, ◌≤◌, Bool, IsTrue}
-use Rattle.shelf_model.specs.declared.file_no.FileNo.{FileNo}
+pub use Rattle.file_numbers.specs.Files.{inner_part, node_file, inner_file, ends_file}
 use Rattle.shelf_model.specs.Moments.{OnlyChanged}
 use Rattle.shelf_model.specs.World.{Moment, World}
 use Rattle.arc_file.specs.declared.unreduced.Unreduced.{Unreduced}
@@ -11,23 +11,13 @@ use Rattle.top_down_sweep.specs.declared.steps.StepOperation.{StepOperation}
 use Rattle.step_sweeps.specs.declared.answers.Answered.{Answered}
 use Rattle.step_sweeps.specs.Given.{Tables, made_by, tuples_by, arcs_turns}
 
--- the node file of a step, and its two files of arcs
-abbrev pub node_file : ℕ → FileNo
-node_file number = record { step = number; part = 0 }
-
-abbrev pub inner_file : ℕ → FileNo
-inner_file number = record { step = number; part = 3 }
-
-abbrev pub ends_file : ℕ → FileNo
-ends_file number = record { step = number; part = 4 }
-
--- at a moment every file is as it was, but those of the step from part 3 on
+-- at a moment every file is as it was, but the step's arcs and runs
 abbrev pub OnlyParts : ℕ → Moment → Moment → Type 0
-OnlyParts number = OnlyChanged (CanBeTaken number 3)
+OnlyParts number = OnlyChanged (CanBeTaken number inner_part)
 
--- at a moment every file is as it was, but the step's node file and those from part 3 on
+-- at a moment every file is as it was, but the step's node file, its arcs and its runs
 abbrev pub OnlyStepFiles : ℕ → Moment → Moment → Type 0
-OnlyStepFiles number = OnlyChanged (λ q. (q ≡ node_file number) ⊎ CanBeTaken number 3 q)
+OnlyStepFiles number = OnlyChanged (λ q. (q ≡ node_file number) ⊎ CanBeTaken number inner_part q)
 
 -- so many turns, 224 calls of the folder each and some, and parts of which each takes 12 of 256
 pub record Spends {S : Type 0} (tells : S → Bool) (world : S → World) (turns some first next : ℕ)
@@ -59,10 +49,10 @@ pub record AreArcsOf (operation : StepOperation) (n : ℕ) (g : Tables) (m : Mad
   pub few_sources : sources ≤ tuples_by operation n g
   pub few : m.turns ≤ arcs_turns operation n g
 
--- at least one turn was made, and parts were taken from the third on, few for so many turns
+-- at least one turn was made, and parts were taken from that of the first arcs on, few for so many turns
 pub record IsCounted (turns next : ℕ) : Type 0 where
   pub some : 0 < turns
-  pub from : 3 ≤ next
+  pub from : inner_part ≤ next
   pub below : next ≤ 2 ^ 32
   pub few : next ≤ 1024 + turns / 16
 

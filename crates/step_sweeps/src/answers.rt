@@ -13,14 +13,12 @@ ghost use Rattle.node_file.specs.Canonical.{IsCanonicalFile};
 ghost use Rattle.step_sweeps.specs.Made.{OnlyParts, IsAnswer, IsCounted, Called};
 ghost use Rattle.step_sweeps.specs.Damage.{IsReadFault, MissesNone, MissesNamed};
 
+use file_numbers::INNER_PART;
 use rec_words::Rec;
 use restrict_eval::{EvalSweep, SameSweep};
 use run_merge::Parts;
 use shelf_model::{FileNo, Shelf, SortFault};
 use sweep_core::run_to_end;
-
-/// The next part number of a step that took none.
-const FIRST_PART: u64 = 3;
 
 /// What a step answers, the turns that it took, as many as 64 bits count, and the next part number of its step.
 #[derive(Clone, Copy, Debug, PartialEq, Eq)]
@@ -66,7 +64,7 @@ pub fn compare<S: Shelf>(
 {
     let parts = Parts {
         step: number,
-        next: FIRST_PART,
+        next: INNER_PART,
     };
     let mut sweep = SameSweep::start(n, left, right, parts, room, shelf)?;
     let turns = run_to_end(&mut sweep, shelf)?;
@@ -76,7 +74,7 @@ pub fn compare<S: Shelf>(
     Ok(Answered {
         answer,
         turns,
-        next: FIRST_PART,
+        next: INNER_PART,
     })
 }
 
@@ -117,7 +115,7 @@ pub fn evaluate<S: Shelf>(
 {
     let parts = Parts {
         step: number,
-        next: FIRST_PART,
+        next: INNER_PART,
     };
     let mut sweep = EvalSweep::start(n, file, text, at, parts, room, shelf)?;
     let turns = run_to_end(&mut sweep, shelf)?;
@@ -127,6 +125,6 @@ pub fn evaluate<S: Shelf>(
     Ok(Answered {
         answer,
         turns,
-        next: FIRST_PART,
+        next: INNER_PART,
     })
 }

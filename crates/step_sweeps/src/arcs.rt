@@ -14,16 +14,13 @@ ghost use Rattle.step_sweeps.specs.Damage.{IsArcsFault};
 
 use crate::StepOperation;
 use arc_file::Unreduced;
+use file_numbers::INNER_PART;
 use rec_words::Rec;
 use run_merge::Parts;
 use shelf_model::{Shelf, SortFault};
 use sweep_core::run_to_end;
 use table_work::TableSweep;
 use top_down_sweep::OperandFiles;
-
-/// The part number of the first file of arcs: the parts before it are a step's node file, its checkpoints and their
-/// gate.
-pub(crate) const FIRST_PART: u64 = 3;
 
 /// The arcs of a diagram that isn't reduced, the turns that made them, and the part numbers that weren't taken.
 #[derive(Clone, Copy)]
@@ -73,7 +70,7 @@ pub(crate) fn make_arcs<S: Shelf>(
 {
     let parts = Parts {
         step: number,
-        next: FIRST_PART,
+        next: INNER_PART,
     };
     let mut sweep = TableSweep::begin(operation, n, operands, parts, room, shelf)?;
     let turns = run_to_end(&mut sweep, shelf)?;

@@ -5,10 +5,10 @@ ghost use Rattle.step_sweeps.specs.Makes.{Makes};
 ghost use Rattle.step_sweeps.specs.Pairs.{Leads};
 
 use crate::MadeDiagram;
-use crate::arcs::FIRST_PART;
 use crate::task::Making;
 use copied_diagrams::Source;
 use copy_sweep::{CopySweep, CopyTask};
+use file_numbers::{INNER_PART, NODES_PART};
 use node_file::node_pieces;
 use shelf_model::{FileNo, Shelf, SortFault};
 use sweep_core::run_to_end;
@@ -28,7 +28,7 @@ pub(crate) fn copy_in_turns<S: Shelf>(
         from: source.from,
         to: FileNo {
             step: making.number,
-            part: 0,
+            part: NODES_PART,
         },
         pieces: node_pieces(source.trailer.count),
     };
@@ -37,6 +37,6 @@ pub(crate) fn copy_in_turns<S: Shelf>(
     Ok(MadeDiagram {
         nodes: source.trailer.count,
         turns,
-        next: FIRST_PART,
+        next: INNER_PART,
     })
 }

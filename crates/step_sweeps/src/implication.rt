@@ -13,15 +13,13 @@ ghost use Rattle.step_sweeps.specs.Made.{OnlyParts, IsAnswer, IsCounted, Called}
 ghost use Rattle.step_sweeps.specs.Damage.{IsImplicationFault};
 
 use crate::Answered;
-use crate::arcs::FIRST_PART;
+use crate::reduction::PARTS;
+use file_numbers::INNER_PART;
 use product_sweep::LeqSweep;
 use rec_words::Rec;
 use run_merge::Parts;
 use shelf_model::{FileNo, Shelf, SortFault};
 use sweep_core::run_to_end;
-
-/// How many part numbers a step has.
-const PARTS: u64 = 1 << 32;
 
 /// Whether the left function implies the right one everywhere, of the files of two diagrams of `n` variables: the arcs
 /// of "left and not right" are made, in parts 3 and 4 of the step, until one leads to 1.
@@ -62,7 +60,7 @@ pub fn imply<S: Shelf>(
 {
     let parts = Parts {
         step: number,
-        next: FIRST_PART,
+        next: INNER_PART,
     };
     let mut sweep = LeqSweep::start(n, left, right, parts, room, shelf)?;
     let turns = run_to_end(&mut sweep, shelf)?;

@@ -9,6 +9,7 @@ ghost use Rattle.step_sweeps.specs.Made.{HasArcFiles, node_file, arc_count};
 
 use arc_diagrams::laws::reducing_gives_the_canonical_form;
 use arc_file::Unreduced;
+use file_numbers::NODES_PART;
 use rec_words::Rec;
 use room_reduction::reduce_in_room;
 use shelf_model::{FileNo, Shelf, StreamFault};
@@ -52,7 +53,7 @@ pub(crate) fn reduce_few<S: Shelf>(
     }
     let out = FileNo {
         step: number,
-        part: 0,
+        part: NODES_PART,
     };
     let Some(nodes) = reduce_in_room(n, arcs, out, room, shelf)? else {
         return Ok(None);

@@ -5,11 +5,11 @@ ghost use Rattle.step_sweeps.specs.Makes.{Makes};
 ghost use Rattle.step_sweeps.specs.Pairs.{IsPairOf};
 
 use crate::MadeDiagram;
-use crate::arcs::FIRST_PART;
 use crate::swept::sweep_diagram;
 use crate::task::Making;
 use bool_tables::Bin;
 use copied_diagrams::Pair;
+use file_numbers::{INNER_PART, NODES_PART};
 use rec_words::Rec;
 use room_products::join_in_room;
 use shelf_model::{FileNo, Shelf, SortFault};
@@ -34,14 +34,14 @@ pub(crate) fn join<S: Shelf>(
 {
     let out = FileNo {
         step: making.number,
-        part: 0,
+        part: NODES_PART,
     };
     let tried = join_in_room(op, making.n, pair.left, pair.right, out, room, shelf)?;
     if let Some(joined) = tried {
         return Ok(MadeDiagram {
             nodes: joined.nodes,
             turns: before.saturating_add(joined.turns),
-            next: FIRST_PART,
+            next: INNER_PART,
         });
     }
     let nodes = pair

@@ -7,6 +7,7 @@ use crate::MadeDiagram;
 use crate::arcs::MadeArcs;
 use crate::in_room::reduce_few;
 use arc_diagrams::laws::reducing_gives_the_canonical_form;
+use file_numbers::NODES_PART;
 use rec_words::Rec;
 use reduce_sweep::ReduceSweep;
 use shelf_model::{FileNo, Shelf, SortFault};
@@ -69,7 +70,7 @@ fn sweep_arcs<S: Shelf>(
     reducing_gives_the_canonical_form();
     let out = FileNo {
         step: number,
-        part: 0,
+        part: NODES_PART,
     };
     let mut sweep = ReduceSweep::start(n, made.arcs, out, made.parts, room, shelf)?;
     let turns = run_to_end(&mut sweep, shelf)?;

@@ -7,11 +7,11 @@ ghost use Rattle.step_sweeps.specs.Makes.{Makes};
 ghost use Rattle.step_sweeps.specs.Pairs.{IsPairOf, Leads};
 
 use crate::MadeDiagram;
-use crate::arcs::FIRST_PART;
 use crate::joining::join;
 use crate::task::Making;
 use bool_tables::Bin;
 use copied_diagrams::{Pair, Source, copy_diagram, make_constant};
+use file_numbers::{INNER_PART, NODES_PART};
 use rec_words::Rec;
 use room_reduction::complement_file;
 use shelf_model::{FileNo, Shelf, SortFault};
@@ -31,7 +31,7 @@ pub(crate) fn constant<S: Shelf>(
 {
     let out = FileNo {
         step: making.number,
-        part: 0,
+        part: NODES_PART,
     };
     make_constant(value, making.n, out, room, shelf)?;
     Ok(made_at_once(0))
@@ -51,7 +51,7 @@ pub(crate) fn copy<S: Shelf>(
 {
     let out = FileNo {
         step: making.number,
-        part: 0,
+        part: NODES_PART,
     };
     let count = source.trailer.count;
     copy_diagram(source, out, shelf)?;
@@ -80,7 +80,7 @@ pub(crate) fn complement<S: Shelf>(
 {
     let out = FileNo {
         step: making.number,
-        part: 0,
+        part: NODES_PART,
     };
     let count = source.trailer.count;
     if complement_file(source.from, out, source.trailer, room, shelf)? {
@@ -98,6 +98,6 @@ fn made_at_once(nodes: u64) -> MadeDiagram
     MadeDiagram {
         nodes,
         turns: nodes + 1,
-        next: FIRST_PART,
+        next: INNER_PART,
     }
 }
