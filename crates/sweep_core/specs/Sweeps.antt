@@ -2,7 +2,7 @@
 use Rattle.std.specs.Prelude.{◌≡◌, ℕ, ◌+◌, ◌<◌, ◌≤◌, Result, Ok, Err}
 use Rattle.shelf_model.specs.declared.sort_fault.SortFault.{SortFault}
 use Rattle.shelf_model.specs.declared.sort_fault.SortFault.TheVariants.{Shelf, Damaged, RunsSpent}
-use Rattle.shelf_model.specs.File.{File, firm_file}
+pub use Rattle.run_tiers.specs.Syncs.{IsFirm}
 use Rattle.sweep_core.specs.declared.turn.Turn.{Turn}
 use Rattle.sweep_core.specs.declared.turn.Turn.TheVariants.{More, Ended}
 
@@ -23,10 +23,6 @@ abbrev pub AtEnd : Result Turn SortFault → Type 0 → Type 0
 AtEnd (Ok More) P = Unit
 AtEnd (Ok Ended) P = P
 AtEnd (Err e) P = Unit
-
--- all that stands in the file stands there whatever a stop leaves
-abbrev pub IsFirm : File → Type 0
-IsFirm file = file ≡ firm_file file.bytes
 
 -- a sweep that had ended answers so, and it and the station are as they were
 pub record StaysEnded {S P : Type 0} (before after : S) (old new : P) (result : Result Turn SortFault) : Type 0 where
