@@ -6,7 +6,7 @@ use Rattle.canon_file.specs.declared.row.Row.{Row}
 use Rattle.top_down.specs.declared.tuple.Goal.{Goal}
 use Rattle.top_down.specs.declared.tuple.Goal.TheVariants.{End, Go}
 use Rattle.top_down.specs.Tuples.{Targets}
-use Rattle.room_reduction.specs.Records.{word}
+use Rattle.room_reduction.specs.Records.{uid_in, low_in, high_in}
 
 -- the truth value in which a pair ends
 abbrev pub end_in : Goal → Option Bool
@@ -15,7 +15,7 @@ end_in (Go x) = None
 
 -- the records are those of nodes that have these pointers
 abbrev pub GivesRows : (ℕ → Row) → List Rec → Type 0
-GivesRows targets nodes = (r : Rec) → Has r nodes → targets (word 0 r) ≡ record { low = word 1 r; high = word 2 r }
+GivesRows targets nodes = (r : Rec) → Has r nodes → targets (uid_in r) ≡ record { low = low_in r; high = high_in r }
 
 -- so are those of both diagrams
 pub record GiveRows (targets : Targets) (left right : List Rec) : Type 0 where

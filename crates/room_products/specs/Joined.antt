@@ -9,12 +9,12 @@ use Rattle.arc_diagrams.specs.Laws.{IsDiagramOf}
 use Rattle.copied_diagrams.specs.declared.source.Source.{Source}
 use Rattle.node_file.specs.Canonical.{IsCanonicalFile}
 use Rattle.copied_diagrams.specs.Pairs.{IsTrailerOf}
-use Rattle.room_reduction.specs.Records.{word}
+use Rattle.room_reduction.specs.Records.{uid_in, low_in, high_in}
 use Rattle.room_reduction.specs.Sources.{AreSources}
 
 -- the node of a source's record, and the arcs of such records
 abbrev pub node_of : Rec → Node
-node_of r = record { uid = word 0 r; low = word 1 r; high = word 2 r }
+node_of r = record { uid = uid_in r; low = low_in r; high = high_in r }
 
 abbrev pub arcs_in : List Rec → List Arc
 arcs_in sources = arcs_of (map node_of sources)

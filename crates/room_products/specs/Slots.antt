@@ -8,6 +8,7 @@ use Rattle.top_down.specs.Operations.{two}
 use Rattle.top_down.specs.Tuples.{level_of_tuple}
 use Rattle.top_down.specs.Rules.{Rule, IsAsked}
 use Rattle.room_reduction.specs.Records.{word}
+use Rattle.room_products.specs.Level.{level_in}
 
 -- the pair of the slot at a place, and its identifier
 abbrev pub pair_at : List Rec → ℕ → Tuple
@@ -18,7 +19,7 @@ id_at slots k = word 2 (record_at slots k)
 
 -- how many identifiers of a level are used
 abbrev pub used_at : List Rec → ℕ → ℕ
-used_at firsts level = word 3 (record_at firsts level)
+used_at firsts level = (level_in (record_at firsts level)).used
 
 -- the first so many slots hold pairs that are asked for, each once with an identifier of its level
 pub record AreSlots (n : ℕ) (rule : Rule) (slots firsts : List Rec) (count : ℕ) : Type 0 where

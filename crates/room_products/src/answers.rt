@@ -10,7 +10,7 @@ ghost use Rattle.room_products.specs.Slots.{KeepsSlots};
 ghost use Rattle.room_products.specs.Joining.{IsAnswer, IsJoining};
 
 use crate::goals::{ZERO, end_of};
-use crate::slots::{add_slot, look_up};
+use crate::slots::{ID, add_slot, look_up};
 use bool_tables::Bin;
 use packed_records::word_at;
 use rec_words::Rec;
@@ -50,7 +50,7 @@ pub(crate) fn answer_pair(
     }
     let looked = look_up(first, second, slots, count, buckets);
     if let Some(place) = looked.slot {
-        let word = word_at(slots, place, 2);
+        let word = word_at(slots, place, ID);
         return Some(Answer { word, count });
     }
     let word = add_slot(first, second, looked.bucket, slots, count, firsts, buckets)?;

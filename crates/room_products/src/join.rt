@@ -10,12 +10,12 @@ ghost use Rattle.room_reduction.specs.Sources.{sources_in};
 ghost use Rattle.node_file.specs.Canonical.{IsMade};
 ghost use Rattle.room_products.specs.Joined.{IsOperandOf, AreOfTable};
 
-use crate::operands::Nodes;
+use crate::operands::{Nodes, Operands};
 use crate::tables::{Tabled, join_nodes};
 use bool_tables::Bin;
-use copied_diagrams::Source;
+use copied_diagrams::{Pair, Source};
 use rec_words::{Ptr, Rec};
-use room_reduction::{read_nodes, reduce_sources};
+use room_reduction::{Index, read_nodes, reduce_sources};
 use shelf_model::{FileNo, Shelf, StreamFault};
 
 /// The records through which nodes are read and written: no fewer than a piece has.
@@ -87,7 +87,7 @@ pub fn join_in_room<S: Shelf>(
     let Some(most) = most_pairs(n, left_nodes, right_nodes, room.len()) else {
         return Ok(None);
     };
-    let made = join_parts(op, n, left, right, most, out, room, shelf)?;
+    let made = join_parts(op, n, Pair { left, right }, most, out, room, shelf)?;
     let Some(made) = made else {
         return Ok(None);
     };
@@ -102,115 +102,104 @@ pub fn join_in_room<S: Shelf>(
 fn join_parts<S: Shelf>(
     op: Bin,
     n: u32,
-    left: Source,
-    right: Source,
+    pair: Pair,
     most: usize,
     out: FileNo,
     room: &mut [Rec],
     shelf: &mut S,
 ) -> Result<Option<Made>, StreamFault>
     requires variables { n ≤ 65535 }
-    requires left_few { left.trailer.count < 65536 }
-    requires right_few { right.trailer.count < 65536 }
+    requires left_few { pair.left.trailer.count < 65536 }
+    requires right_few { pair.right.trailer.count < 65536 }
     requires most { most < 131072 }
-    requires fits { n + 2 * (most / 4) + 128 + (left.trailer.count / 4 + 1) + (right.trailer.count / 4 + 1)
+    requires fits { n + 2 * (most / 4) + 128 + (pair.left.trailer.count / 4 + 1) + (pair.right.trailer.count / 4 + 1)
         + (most / 10 + 1) ≤ length room.old }
     ensures made { IfOk result (λ done. IsTrue (S.tells shelf.new) → (t u : List Bool) →
-        IsOperandOf n t left (S.world shelf.old) → IsOperandOf n u right (S.world shelf.old) →
+        IsOperandOf n t pair.left (S.world shelf.old) → IsOperandOf n u pair.right (S.world shelf.old) →
         IfSome done (λ m. IsMade n (pair_table n op t u) out m.nodes (S.world shelf.new))) }
     ensures pairs { IfOk result (λ done. IfSome done (λ m. m.pairs ≤ most)) }
     ensures paid { IfOk result (λ done. IfSome done (λ m. IsTrue (S.tells shelf.new) → (S.world shelf.new).clock
-        ≤ (S.world shelf.old).clock + (left.trailer.count + right.trailer.count + (m.pairs + 6)))) }
+        ≤ (S.world shelf.old).clock + (pair.left.trailer.count + pair.right.trailer.count + (m.pairs + 6)))) }
     ensures not_made { IfOk result (λ done. IfNone done (Told S.tells shelf.old shelf.new
-        (Looked (left.trailer.count + right.trailer.count) (S.world shelf.old) (S.world shelf.new)))) }
+        (Looked (pair.left.trailer.count + pair.right.trailer.count) (S.world shelf.old) (S.world shelf.new)))) }
     ensures cause { IfErr result (λ e. e ≡ StreamFault.Shelf) }
-    ensures content { Told S.tells shelf.old shelf.new (Changed (left.trailer.count + right.trailer.count + (most + 6))
-        out (S.world shelf.old) (S.world shelf.new)) }
+    ensures content { Told S.tells shelf.old shelf.new
+        (Changed (pair.left.trailer.count + pair.right.trailer.count + (most + 6)) out (S.world shelf.old)
+        (S.world shelf.new)) }
     ensures faults { OnlyShelf (S.faults shelf.old) (S.faults shelf.new) result }
 {
-    let (firsts, rest) = room.split_at_mut(n as usize);
-    let (window, area) = rest.split_at_mut(WINDOW);
-    let joined = join_operands(op, left, right, most, firsts, window, area, shelf)?;
+    let (firsts, area) = room.split_at_mut(n as usize);
+    let joined = join_operands(op, pair, most, firsts, area, shelf)?;
     let Some(joined) = joined else {
         return Ok(None);
     };
-    reduce_joined(n, &joined, firsts, area, window, out, shelf)
+    reduce_joined(n, &joined, firsts, area, out, shelf)
 }
 
 // Reads both operands, and puts the sources of the operator's diagram into the front of the area. The slots, the
-// operands' nodes and the buckets stand behind them.
+// operands' nodes, the buckets and a window stand behind them.
 fn join_operands<S: Shelf>(
     op: Bin,
-    left: Source,
-    right: Source,
+    pair: Pair,
     most: usize,
     firsts: &mut [Rec],
-    window: &mut [Rec],
     area: &mut [Rec],
     shelf: &mut S,
 ) -> Result<Option<Tabled>, StreamFault>
-    requires left_few { left.trailer.count < 65536 }
-    requires right_few { right.trailer.count < 65536 }
-    requires window { 128 ≤ length window.old }
-    requires fits { 2 * (most / 4) + (left.trailer.count / 4 + 1) + (right.trailer.count / 4 + 1) + (most / 10 + 1)
-        ≤ length area.old }
+    requires left_few { pair.left.trailer.count < 65536 }
+    requires right_few { pair.right.trailer.count < 65536 }
+    requires fits { 2 * (most / 4) + (pair.left.trailer.count / 4 + 1) + (pair.right.trailer.count / 4 + 1)
+        + (most / 10 + 1) + 128 ≤ length area.old }
     ensures joined { IfOk result (λ found. IsTrue (S.tells shelf.new) → (n : ℕ) (t u : List Bool) → n ≤ 65535 →
-        IsOperandOf n t left (S.world shelf.old) → IsOperandOf n u right (S.world shelf.old) →
+        IsOperandOf n t pair.left (S.world shelf.old) → IsOperandOf n u pair.right (S.world shelf.old) →
         IfSome found (λ j. AreOfTable n j.root (pair_table n op t u) (sources_in j.count area.new))) }
     ensures few { IfOk result (λ found. IfSome found (λ j. j.count ≤ 4 * (most / 4))) }
     ensures cause { IfErr result (λ e. e ≡ StreamFault.Shelf) }
     ensures content { Told S.tells shelf.old shelf.new
-        (Looked (left.trailer.count + right.trailer.count) (S.world shelf.old) (S.world shelf.new)) }
+        (Looked (pair.left.trailer.count + pair.right.trailer.count) (S.world shelf.old) (S.world shelf.new)) }
     ensures faults { OnlyShelf (S.faults shelf.old) (S.faults shelf.new) result }
 {
+    let (left, right) = (pair.left, pair.right);
     let (left_count, right_count) = (left.trailer.count as usize, right.trailer.count as usize);
     let (first, second) = (left.trailer.root.word(), right.trailer.root.word());
     let (sources, rest) = area.split_at_mut(most / 4);
     let (slots, rest) = rest.split_at_mut(most / 4);
     let (lefts, rest) = rest.split_at_mut(left_count / 4 + 1);
     let (rights, rest) = rest.split_at_mut(right_count / 4 + 1);
-    let (buckets, _spare) = rest.split_at_mut(most / 10 + 1);
+    let (buckets, rest) = rest.split_at_mut(most / 10 + 1);
+    let (window, _spare) = rest.split_at_mut(WINDOW);
     if !read_nodes(left.from, left_count, lefts, window, shelf)? {
         return Ok(None);
     }
     if !read_nodes(right.from, right_count, rights, window, shelf)? {
         return Ok(None);
     }
-    let left_nodes = Nodes {
-        records: lefts,
-        count: left_count,
-    };
-    let right_nodes = Nodes {
-        records: rights,
-        count: right_count,
-    };
-    Ok(join_nodes(
+    let operands = Operands {
         op,
-        first,
-        second,
-        left_nodes,
-        right_nodes,
-        firsts,
-        buckets,
-        slots,
-        sources,
-    ))
+        left: Nodes {
+            records: lefts,
+            count: left_count,
+        },
+        right: Nodes {
+            records: rights,
+            count: right_count,
+        },
+    };
+    Ok(join_nodes(operands, first, second, firsts, buckets, slots, sources))
 }
 
-// Makes the node file of the diagram whose sources stand in the front of an area, and answers what was made. Its nodes
-// and the rows of a level stand behind them.
+// Makes the node file of the diagram whose sources stand in the front of an area, and answers what was made. Its nodes,
+// a window and the rows of a level stand behind them.
 fn reduce_joined<S: Shelf>(
     n: u32,
     tabled: &Tabled,
     firsts: &[Rec],
     area: &mut [Rec],
-    window: &mut [Rec],
     out: FileNo,
     shelf: &mut S,
 ) -> Result<Option<Made>, StreamFault>
     requires variables { n ≤ 65535 }
     requires few { tabled.now.count ≤ 2 ^ 17 }
-    requires window { 8 ≤ length window.old }
     ensures made { IfOk result (λ done. IsTrue (S.tells shelf.new) → (t : List Bool) →
         AreOfTable n tabled.now.root t (sources_in tabled.now.count area.old) →
         IfSome done (λ m. IsMade n t out m.nodes (S.world shelf.new))) }
@@ -226,14 +215,15 @@ fn reduce_joined<S: Shelf>(
     };
     let count = tabled.count;
     let packed = count / 4 + 1;
-    if 2 * packed > area.len() {
+    if packed > area.len() {
         return Ok(None);
     }
     let (sources, rest) = area.split_at_mut(packed);
-    let (nodes, rows) = rest.split_at_mut(packed);
-    let made = reduce_sources(
-        n, root, sources, count, firsts, nodes, rows, window, out, shelf,
-    )?;
+    let index = Index {
+        levels: firsts,
+        total: count,
+    };
+    let made = reduce_sources(n, root, sources, index, rest, out, shelf)?;
     let Some(nodes) = made else {
         return Ok(None);
     };

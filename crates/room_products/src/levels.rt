@@ -5,28 +5,19 @@ ghost use Rattle.top_down.specs.Operations.{product_rule};
 ghost use Rattle.top_down.specs.Tuples.{Targets};
 ghost use Rattle.top_down.specs.Rules.{IsRule};
 ghost use Rattle.packed_records.specs.Packed.{packed};
-ghost use Rattle.room_products.specs.Goals.{GiveRows};
-ghost use Rattle.room_products.specs.Operands.{nodes_of};
+ghost use Rattle.room_products.specs.Operands.{GiveRowsOf};
 ghost use Rattle.room_products.specs.Joining.{IsJoining};
 
-use crate::operands::Nodes;
-use crate::sources::join_slot;
-use bool_tables::Bin;
+use crate::level::Level;
+use crate::operands::Operands;
+use crate::slots::NEXT;
+use crate::sources::{Progress, join_slot};
 use packed_records::number_at;
 use rec_words::Rec;
 
-/// How many slots are used, and how many sources are done.
-#[derive(Clone, Copy)]
-pub(crate) struct Progress {
-    pub(crate) count: usize,
-    pub(crate) done: usize,
-}
-
 /// Answers the pairs of the slots, from the first level down, each with its source.
 pub(crate) fn join_levels(
-    op: Bin,
-    left: Nodes,
-    right: Nodes,
+    operands: Operands,
     firsts: &mut [Rec],
     buckets: &mut [Rec],
     slots: &mut [Rec],
@@ -38,25 +29,23 @@ pub(crate) fn join_levels(
     ensures within { IfSome result (λ p. p.count ≤ 4 * length slots.new) }
     ensures done { IfSome result (λ p. p.done ≤ 4 * length sources.new) }
     ensures joined { IfSome result (λ p. (n root : ℕ) (roots : Tuple) (targets : Targets) → n ≤ 65535 →
-        IsRule n (product_rule op) targets → GiveRows targets (nodes_of left.entry) (nodes_of right.entry) →
-        IsJoining n root roots (product_rule op) targets [] (packed slots.old) firsts.old begun.count
+        IsRule n (product_rule operands.entry.op) targets → GiveRowsOf targets operands.entry →
+        IsJoining n root roots (product_rule operands.entry.op) targets [] (packed slots.old) firsts.old begun.count
         (packed sources.old) begun.done →
-        IsJoining n root roots (product_rule op) targets [] (packed slots.new) firsts.new p.count (packed sources.new)
-        p.done) }
+        IsJoining n root roots (product_rule operands.entry.op) targets [] (packed slots.new) firsts.new p.count
+        (packed sources.new) p.done) }
 {
     let mut now = begun;
     for level in 0..firsts.len() {
-        now = join_level(op, level, left, right, firsts, buckets, slots, sources, now)?;
+        now = join_level(operands, level, firsts, buckets, slots, sources, now)?;
     }
     Some(now)
 }
 
 // Answers the pairs that wait on a level.
 fn join_level(
-    op: Bin,
+    operands: Operands,
     level: usize,
-    left: Nodes,
-    right: Nodes,
     firsts: &mut [Rec],
     buckets: &mut [Rec],
     slots: &mut [Rec],
@@ -69,15 +58,17 @@ fn join_level(
     ensures within { IfSome result (λ p. p.count ≤ 4 * length slots.new) }
     ensures done { IfSome result (λ p. p.done ≤ 4 * length sources.new) }
     ensures joined { IfSome result (λ p. (n root : ℕ) (roots : Tuple) (targets : Targets) → n ≤ 65535 →
-        IsRule n (product_rule op) targets → GiveRows targets (nodes_of left.entry) (nodes_of right.entry) →
-        IsJoining n root roots (product_rule op) targets [] (packed slots.old) firsts.old begun.count
+        IsRule n (product_rule operands.entry.op) targets → GiveRowsOf targets operands.entry →
+        IsJoining n root roots (product_rule operands.entry.op) targets [] (packed slots.old) firsts.old begun.count
         (packed sources.old) begun.done →
-        IsJoining n root roots (product_rule op) targets [] (packed slots.new) firsts.new p.count (packed sources.new)
-        p.done) }
+        IsJoining n root roots (product_rule operands.entry.op) targets [] (packed slots.new) firsts.new p.count
+        (packed sources.new) p.done) }
 {
     let mut now = begun;
-    let mut next = firsts[level].w[1];
-    firsts[level].w[0] = begun.done as u64;
+    let mut known = Level::of(&firsts[level]);
+    let mut next = known.first_slot;
+    known.begin = begun.done as u64;
+    firsts[level] = known.to_rec();
     for _source in begun.done..4 * sources.len() {
         if next == 0 {
             return Some(now);
@@ -87,14 +78,12 @@ fn join_level(
             return None;
         }
         let place = place as usize;
-        let count = join_slot(
-            op, place, left, right, firsts, buckets, slots, now.count, sources, now.done,
-        )?;
+        let count = join_slot(operands, place, firsts, buckets, slots, sources, now)?;
         now = Progress {
             count,
             done: now.done + 1,
         };
-        next = u64::from(number_at(slots, place, 3));
+        next = u64::from(number_at(slots, place, NEXT));
     }
     if next == 0 { Some(now) } else { None }
 }

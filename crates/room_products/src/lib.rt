@@ -6,6 +6,7 @@ mod answers;
 mod checks;
 mod goals;
 mod join;
+mod level;
 mod levels;
 mod operands;
 mod slots;

@@ -6,8 +6,19 @@ ghost use Rattle.top_down.specs.Rules.{Rule, IsAsked};
 ghost use Rattle.packed_records.specs.Packed.{packed};
 ghost use Rattle.room_products.specs.Slots.{pair_at, id_at, used_at, AreSlots, KeepsSlots};
 
+use crate::level::{Level, used_of};
 use packed_records::{number_at, put_number, put_record, word_at};
 use rec_words::{LEVEL_NUMBERS, Rec};
+
+/// The columns of a slot: its pair of pointers, its identifier, and the place behind that of the next slot that waits
+/// on its level, or 0.
+pub(crate) const FIRST: usize = 0;
+
+pub(crate) const SECOND: usize = 1;
+
+pub(crate) const ID: usize = 2;
+
+pub(crate) const NEXT: usize = 3;
 
 /// How many buckets are looked at for a pair, one behind the other.
 const PROBES: usize = 16;
@@ -43,7 +54,7 @@ pub(crate) fn look_up(
         let Some(place) = held_in(bucket, slots, count, buckets) else {
             return Looked { slot: None, bucket };
         };
-        if word_at(slots, place, 0) == first && word_at(slots, place, 1) == second {
+        if word_at(slots, place, FIRST) == first && word_at(slots, place, SECOND) == second {
             return Looked {
                 slot: Some(place),
                 bucket,
@@ -106,7 +117,7 @@ pub(crate) fn add_slot(
         return None;
     }
     let level = level as usize;
-    let used = firsts[level].w[3];
+    let used = used_of(&firsts[level]);
     if used >= MOST {
         return None;
     }
@@ -128,8 +139,7 @@ fn fill_bucket(bucket: usize, place: usize, buckets: &mut [Rec])
     }
 }
 
-// Puts the slot at a place behind those that wait on a level: word 1 of the level's record has the place behind the
-// first of them, word 2 that behind the last, and the last number of a slot that behind the next one.
+// Puts the slot at a place behind those that wait on a level, and counts its identifier.
 fn link_slot(level: usize, place: usize, slots: &mut [Rec], firsts: &mut [Rec])
     requires level { level < length firsts.old }
     requires place { place < 2 ^ 32 - 1 }
@@ -140,22 +150,20 @@ fn link_slot(level: usize, place: usize, slots: &mut [Rec], firsts: &mut [Rec])
     ensures others { (i : ℕ) → i ≢ level → used_at firsts.new i ≡ used_at firsts.old i }
 {
     let behind = place as u64 + 1;
-    let begin = firsts[level];
-    let last = begin.w[2];
+    let known = Level::of(&firsts[level]);
+    let used = used_of(&firsts[level]);
+    let last = known.last_slot;
     if last > 0 && last <= 4 * slots.len() as u64 {
-        put_number(slots, last as usize - 1, 3, behind as u32);
+        put_number(slots, last as usize - 1, NEXT, behind as u32);
     }
-    let first = if last > 0 { begin.w[1] } else { behind };
-    firsts[level] = Rec {
-        w: [
-            begin.w[0],
-            first,
-            behind,
-            begin.w[3] + 1,
-            begin.w[4],
-            begin.w[5],
-            0,
-            0,
-        ],
+    let first_slot = if last > 0 { known.first_slot } else { behind };
+    let linked = Level {
+        begin: known.begin,
+        first_slot,
+        last_slot: behind,
+        used: used + 1,
+        left_nodes: known.left_nodes,
+        right_nodes: known.right_nodes,
     };
+    firsts[level] = linked.to_rec();
 }

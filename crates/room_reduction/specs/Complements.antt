@@ -5,7 +5,7 @@ use Rattle.rec_words.specs.declared.rec.Rec.{Rec}
 use Rattle.run_files.specs.Items.{record_at}
 use Rattle.arc_file.specs.declared.arc.Arc.{Arc}
 use Rattle.arc_diagrams.specs.Laws.{IsDiagramOf}
-use Rattle.room_reduction.specs.Records.{word}
+use Rattle.room_reduction.specs.Records.{uid_in, low_in, high_in}
 
 -- the table with the other value at each place
 abbrev pub complement : List Bool → List Bool
@@ -29,9 +29,9 @@ GivesComplement n = (root : ℕ) (arcs : List Arc) (t : List Bool) → n ≤ 655
 
 -- the record has the words of another one, with its truth values exchanged
 pub record IsOther (r other : Rec) : Type 0 where
-  pub uid : word 0 other ≡ word 0 r
-  pub low : word 1 other ≡ other_end (word 1 r)
-  pub high : word 2 other ≡ other_end (word 2 r)
+  pub uid : uid_in other ≡ uid_in r
+  pub low : low_in other ≡ other_end (low_in r)
+  pub high : high_in other ≡ other_end (high_in r)
 
 -- so have the first so many of these, the other way round
 abbrev pub AreOthers : ℕ → List Rec → List Rec → Type 0

@@ -10,18 +10,18 @@ use Rattle.block_stream.specs.Items.{AreAhead}
 use Rattle.arc_file.specs.declared.arc.Arc.{Arc}
 use Rattle.arc_file.specs.Arcs.{arc_words, IsArc}
 use Rattle.arc_diagrams.specs.Arcs.{IsMet}
-use Rattle.room_reduction.specs.Records.{word}
+use Rattle.room_reduction.specs.Records.{uid_in, low_in, high_in}
 
 -- the target of a source on a side, in its record
 abbrev pub word_on : Bool → Rec → ℕ
-word_on false r = word 1 r
-word_on true r = word 2 r
+word_on false r = low_in r
+word_on true r = high_in r
 
 -- the arc's source is one of the first so many, and has on the arc's side the target of an arc that leads on from there
 pub record IsPut (all : List Arc) (sources : List Rec) (count : ℕ) (a : Arc) : Type 0 where
   pub place : ℕ
   pub within : place < count
-  pub source_is : word 0 (record_at sources place) ≡ a.source
+  pub source_is : uid_in (record_at sources place) ≡ a.source
   pub one : Arc
   pub has : Has one all
   pub same_source : one.source ≡ a.source
@@ -31,9 +31,9 @@ pub record IsPut (all : List Arc) (sources : List Rec) (count : ℕ) (a : Arc) :
 -- the first so many records are sources that are met, in ascending order; each arc is put into its source's record, but
 -- for those that are left
 pub record AreMet (n root : ℕ) (all left : List Arc) (sources : List Rec) (count : ℕ) : Type 0 where
-  pub ascend : (j k : ℕ) → j < k → k < count → word 0 (record_at sources j) < word 0 (record_at sources k)
-  pub met : (k : ℕ) → k < count → IsMet root all (word 0 (record_at sources k))
-  pub levels : (k : ℕ) → k < count → level_of (word 0 (record_at sources k)) < n
+  pub ascend : (j k : ℕ) → j < k → k < count → uid_in (record_at sources j) < uid_in (record_at sources k)
+  pub met : (k : ℕ) → k < count → IsMet root all (uid_in (record_at sources k))
+  pub levels : (k : ℕ) → k < count → level_of (uid_in (record_at sources k)) < n
   pub known : (a : Arc) → Has a left → Has a all
   pub each : (a : Arc) → Has a all → Has a left ⊎ IsPut all sources count a
 

@@ -13,7 +13,7 @@ use Rattle.arc_diagrams.specs.Arcs.{IsComplete}
 use Rattle.arc_diagrams.specs.Reduction.{final_pointer}
 use Rattle.arc_diagrams.specs.Reducing.{nodes_from, distinct_after}
 use Rattle.node_file.specs.Nodes.{node_records, held_nodes}
-use Rattle.room_reduction.specs.Records.{row_in, word}
+use Rattle.room_reduction.specs.Records.{row_in, word, uid_in, low_in, high_in, became_in}
 use Rattle.room_reduction.specs.Sources.{AreSources}
 
 -- f gives each truth value back
@@ -22,7 +22,7 @@ KeepsEnds f = (w : ℕ) → IsTerminal w → f w ≡ w
 
 -- the record of the source at a place says what f gives of its identifier
 abbrev pub IsKnown : (ℕ → ℕ) → List Rec → ℕ → Type 0
-IsKnown f sources k = word 3 (record_at sources k) ≡ f (word 0 (record_at sources k))
+IsKnown f sources k = became_in (record_at sources k) ≡ f (uid_in (record_at sources k))
 
 -- so do those from a place on
 abbrev pub AreKnown : (ℕ → ℕ) → ℕ → List Rec → Type 0
@@ -30,8 +30,8 @@ AreKnown f from sources = (k : ℕ) → from ≤ k → k < length sources → Is
 
 -- the record is the row of the source at a place: what f gives of its two targets, and the place
 pub record IsRowOf (f : ℕ → ℕ) (place : ℕ) (sources : List Rec) (r : Rec) : Type 0 where
-  pub low : word 0 r ≡ f (word 1 (record_at sources place))
-  pub high : word 1 r ≡ f (word 2 (record_at sources place))
+  pub low : word 0 r ≡ f (low_in (record_at sources place))
+  pub high : word 1 r ≡ f (high_in (record_at sources place))
   pub place_is : word 2 r ≡ place
 
 -- the records are the rows of the sources from a place on
@@ -41,9 +41,9 @@ AreRowsOf f from sources rows = (k : ℕ) → k < length rows → IsRowOf f (fro
 -- identifiers and targets are as they were
 pub record KeepsSources (old new : List Rec) : Type 0 where
   pub many : length new ≡ length old
-  pub source : (k : ℕ) → word 0 (record_at new k) ≡ word 0 (record_at old k)
-  pub low : (k : ℕ) → word 1 (record_at new k) ≡ word 1 (record_at old k)
-  pub high : (k : ℕ) → word 2 (record_at new k) ≡ word 2 (record_at old k)
+  pub source : (k : ℕ) → uid_in (record_at new k) ≡ uid_in (record_at old k)
+  pub low : (k : ℕ) → low_in (record_at new k) ≡ low_in (record_at old k)
+  pub high : (k : ℕ) → high_in (record_at new k) ≡ high_in (record_at old k)
 
 -- the sources of these rows say what f gives, and so do those that said it before
 pub record Names (f : ℕ → ℕ) (rows old new : List Rec) : Type 0 where
@@ -74,16 +74,16 @@ pub record IsLevel (n root : ℕ) (arcs : List Arc) (level from end : ℕ) (sour
   pub complete : IsComplete n root arcs
   pub sources_are : AreSources n root arcs sources
   pub known : AreKnown (final_pointer n arcs) end sources
-  pub own : (k : ℕ) → from ≤ k → k < end → level_of (word 0 (record_at sources k)) ≡ level
-  pub before : (k : ℕ) → k < from → level_of (word 0 (record_at sources k)) < level
-  pub behind : (k : ℕ) → end ≤ k → k < length sources → level < level_of (word 0 (record_at sources k))
+  pub own : (k : ℕ) → from ≤ k → k < end → level_of (uid_in (record_at sources k)) ≡ level
+  pub before : (k : ℕ) → k < from → level_of (uid_in (record_at sources k)) < level
+  pub behind : (k : ℕ) → end ≤ k → k < length sources → level < level_of (uid_in (record_at sources k))
 
 -- level i and each deeper one are done: their sources are those from a place on and say their final pointers
 pub record IsDone (n root : ℕ) (arcs : List Arc) (i from : ℕ) (sources : List Rec) : Type 0 where
   pub sources_are : AreSources n root arcs sources
   pub known : AreKnown (final_pointer n arcs) from sources
-  pub before : (k : ℕ) → k < from → level_of (word 0 (record_at sources k)) < i
-  pub behind : (k : ℕ) → from ≤ k → k < length sources → i ≤ level_of (word 0 (record_at sources k))
+  pub before : (k : ℕ) → k < from → level_of (uid_in (record_at sources k)) < i
+  pub behind : (k : ℕ) → from ≤ k → k < length sources → i ≤ level_of (uid_in (record_at sources k))
 
 -- the records of the nodes of level i and of each deeper one
 abbrev pub nodes_down_to : ℕ → ℕ → List Arc → List Rec

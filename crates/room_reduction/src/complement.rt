@@ -9,9 +9,11 @@ ghost use Rattle.packed_records.specs.Packed.{packed};
 ghost use Rattle.node_file.specs.Changes.{Changed};
 ghost use Rattle.room_reduction.specs.Complements.{complement, other_end, AreOthers};
 
+use crate::index::{Index, put_begin};
 use crate::levels::reduce_nodes;
 use crate::nodes::write_packed;
 use crate::reading::read_nodes;
+use crate::sources::{HIGH, LOW, UID};
 use node_file::Trailer;
 use packed_records::{put_record, word_at};
 use rec_words::{LEVEL_NUMBERS, Rec};
@@ -63,7 +65,11 @@ pub fn complement_file<S: Shelf>(
         return Ok(false);
     }
     let root = exchanged(trailer.root.word());
-    let Some(reduced) = reduce_nodes(n, root, sources, count, firsts, nodes, rows) else {
+    let index = Index {
+        levels: firsts,
+        total: count,
+    };
+    let Some(reduced) = reduce_nodes(n, root, sources, index, nodes, rows) else {
         return Ok(false);
     };
     if reduced.count != count {
@@ -98,9 +104,9 @@ fn exchange_nodes(nodes: &[Rec], count: usize, sources: &mut [Rec], firsts: &mut
 {
     for place in 0..count {
         let node = count - 1 - place;
-        let uid = word_at(nodes, node, 0);
-        let first = word_at(nodes, node, 1);
-        let second = word_at(nodes, node, 2);
+        let uid = word_at(nodes, node, UID);
+        let first = word_at(nodes, node, LOW);
+        let second = word_at(nodes, node, HIGH);
         let low = exchanged(first);
         let high = exchanged(second);
         if !put_record(sources, place, [uid, low, high, 0]) {
@@ -128,6 +134,9 @@ fn exchanged(word: u64) -> u64
 fn keep_level(source: u64, place: usize, firsts: &mut [Rec]) {
     let level = (source / LEVEL_NUMBERS) as usize;
     if level < firsts.len() {
-        firsts[level].w[0] = (place as u64).wrapping_sub(source % LEVEL_NUMBERS);
+        put_begin(
+            &mut firsts[level],
+            (place as u64).wrapping_sub(source % LEVEL_NUMBERS),
+        );
     }
 }

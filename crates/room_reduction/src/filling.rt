@@ -11,16 +11,24 @@ ghost use Rattle.arc_file.specs.Files.{HasArcs, BeginWith};
 ghost use Rattle.arc_diagrams.specs.Arcs.{IsComplete, IsMet};
 ghost use Rattle.packed_records.specs.Packed.{packed};
 ghost use Rattle.run_files.specs.Items.{record_at};
-ghost use Rattle.room_reduction.specs.Records.{word};
+ghost use Rattle.room_reduction.specs.Records.{uid_in};
 ghost use Rattle.room_reduction.specs.Sources.{sources_in, AreSources};
 ghost use Rattle.room_reduction.specs.Filling.{word_on, AreMet, StillGives, GivesNext};
 
-use crate::sources::find;
+use crate::index::{Index, put_begin};
+use crate::sources::{HIGH, LOW, UID, find};
 use arc_file::{Arc, Unreduced};
 use block_stream::Forward;
 use packed_records::{put_record, put_word, word_at};
 use rec_words::{LEVEL_NUMBERS, Ptr, Rec};
 use shelf_model::{FileNo, Shelf, StreamFault};
+
+/// The arcs of a file: which file, and how many they are.
+#[derive(Clone, Copy)]
+struct ArcsOf {
+    file: FileNo,
+    count: u64,
+}
 
 /// Puts the sources of a diagram into the room, each with its two targets, and answers how many there are. None is
 /// answered where the two files aren't those of a diagram's arcs, or have more sources than there are records.
@@ -49,57 +57,46 @@ pub(crate) fn read_sources<S: Shelf>(
     let Some(begun) = meet(n, root, sources, 0, firsts) else {
         return Ok(None);
     };
-    let inner = read_arcs(
-        n,
-        made.inner,
-        made.inner_count,
-        sources,
-        begun,
-        firsts,
-        window,
-        shelf,
-    )?;
+    let of_inner = ArcsOf {
+        file: made.inner,
+        count: made.inner_count,
+    };
+    let inner = read_arcs(n, of_inner, sources, begun, firsts, window, shelf)?;
     let Some(found) = inner else {
         return Ok(None);
     };
-    read_arcs(
-        n,
-        made.ends,
-        made.ends_count,
-        sources,
-        found,
-        firsts,
-        window,
-        shelf,
-    )
+    let of_ends = ArcsOf {
+        file: made.ends,
+        count: made.ends_count,
+    };
+    read_arcs(n, of_ends, sources, found, firsts, window, shelf)
 }
 
 // Goes on with the arcs of a file, where so many sources were found, and answers how many are found then.
 fn read_arcs<S: Shelf>(
     n: u32,
-    f: FileNo,
-    count: u64,
+    from: ArcsOf,
     sources: &mut [Rec],
     before: usize,
     firsts: &mut [Rec],
     window: &mut [Rec],
     shelf: &mut S,
 ) -> Result<Option<usize>, StreamFault>
-    requires few { count ≤ 2 ^ 18 }
+    requires few { from.count ≤ 2 ^ 18 }
     requires window { 8 ≤ length window.old }
     requires within { before ≤ 4 * length sources.old }
     ensures within { IfOk result (λ found. IfSome found (λ k. k ≤ 4 * length sources.new)) }
     ensures read { IfOk result (λ found. IsTrue (S.tells shelf.new) → (root : ℕ) (all these left : List Arc) →
-        BeginWith these count (file (S.world shelf.old) f).bytes →
+        BeginWith these from.count (file (S.world shelf.old) from.file).bytes →
         AreMet n root all (these ++ left) (packed sources.old) before →
         IfSome found (AreMet n root all left (packed sources.new))) }
     ensures cause { IfErr result (λ e. e ≡ StreamFault.Shelf) }
-    ensures content { Told S.tells shelf.old shelf.new (Looked count (S.world shelf.old) (S.world shelf.new)) }
+    ensures content { Told S.tells shelf.old shelf.new (Looked from.count (S.world shelf.old) (S.world shelf.new)) }
     ensures faults { OnlyShelf (S.faults shelf.old) (S.faults shelf.new) result }
 {
-    let mut arcs = Forward::<Arc>::start(f, 0, count, window);
+    let mut arcs = Forward::<Arc>::start(from.file, 0, from.count, window);
     let mut found = before;
-    for _arc in 0..count {
+    for _arc in 0..from.count {
         let Some(arc) = next_arc(&mut arcs, shelf)? else {
             return Ok(None);
         };
@@ -165,7 +162,7 @@ fn meet(
         return Some(found);
     }
     let source = pointer.word();
-    if found > 0 && word_at(sources, found - 1, 0) == source {
+    if found > 0 && word_at(sources, found - 1, UID) == source {
         return Some(found);
     }
     if add_source(n, source, sources, found, firsts) {
@@ -186,11 +183,11 @@ fn add_source(n: u32, source: u64, sources: &mut [Rec], found: usize, firsts: &m
     if found >= 4 * sources.len() || level >= u64::from(n) || level >= firsts.len() as u64 {
         return false;
     }
-    if found > 0 && word_at(sources, found - 1, 0) >= source {
+    if found > 0 && word_at(sources, found - 1, UID) >= source {
         return false;
     }
-    if found == 0 || word_at(sources, found - 1, 0) / LEVEL_NUMBERS != level {
-        firsts[level as usize].w[0] = found as u64;
+    if found == 0 || word_at(sources, found - 1, UID) / LEVEL_NUMBERS != level {
+        put_begin(&mut firsts[level as usize], found as u64);
     }
     let none = Ptr::terminal(false).word();
     put_record(sources, found, [source, none, none, 0])
@@ -202,7 +199,11 @@ fn put_target(arc: Arc, sources: &mut [Rec], found: usize, firsts: &[Rec]) -> bo
     ensures { IsTrue result → (n root : ℕ) (all left : List Arc) →
         AreMet n root all (arc ∷ left) (packed sources.old) found → AreMet n root all left (packed sources.new) found }
 {
-    let Some(place) = find(sources, found, firsts, arc.source.ptr().word()) else {
+    let index = Index {
+        levels: firsts,
+        total: found,
+    };
+    let Some(place) = find(sources, index, arc.source.ptr().word()) else {
         return false;
     };
     put_target_on(arc.high, arc.target.word(), sources, place)
@@ -211,13 +212,13 @@ fn put_target(arc: Arc, sources: &mut [Rec], found: usize, firsts: &[Rec]) -> bo
 // Puts a target on one side into the record of a source.
 fn put_target_on(high: bool, target: u64, sources: &mut [Rec], place: usize) -> bool
     requires place { place < 4 * length sources.old }
-    ensures source { word 0 (record_at (packed sources.new) place) ≡ word 0 (record_at (packed sources.old) place) }
+    ensures source { uid_in (record_at (packed sources.new) place) ≡ uid_in (record_at (packed sources.old) place) }
     ensures target { IsTrue result → word_on high (record_at (packed sources.new) place) ≡ target }
     ensures other { word_on (not high) (record_at (packed sources.new) place)
         ≡ word_on (not high) (record_at (packed sources.old) place) }
     ensures others { (k : ℕ) → k ≢ place →
         record_at (packed sources.new) k ≡ record_at (packed sources.old) k }
 {
-    let column = if high { 2 } else { 1 };
+    let column = if high { HIGH } else { LOW };
     put_word(sources, place, column, target)
 }

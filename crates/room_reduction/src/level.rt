@@ -7,15 +7,17 @@ ghost use Rattle.arc_file.specs.declared.arc.Arc.{Arc};
 ghost use Rattle.arc_diagrams.specs.Arcs.{IsComplete};
 ghost use Rattle.arc_diagrams.specs.Reduction.{final_pointer, final_rows};
 ghost use Rattle.node_file.specs.Nodes.{node_records};
-ghost use Rattle.room_reduction.specs.Records.{word};
+ghost use Rattle.room_reduction.specs.Records.{uid_in};
 ghost use Rattle.packed_records.specs.Packed.{packed};
 ghost use Rattle.room_reduction.specs.Sources.{sources_in};
+ghost use Rattle.room_reduction.specs.Index.{sources_of};
 ghost use Rattle.room_reduction.specs.Levels.{KeepsSources, AreKnown, IsLevel, IsDone, IsPacked};
 
+use crate::Index;
 use crate::nodes::pack_nodes;
 use crate::numbers::number_rows;
 use crate::rows::{are_rising, collect_rows};
-use crate::sources::source_word;
+use crate::sources::{UID, source_word};
 use rec_words::{LEVEL_NUMBERS, Rec};
 
 /// Where the sources that are done begin, and how many nodes they have.
@@ -37,24 +39,23 @@ pub(crate) struct Made {
 pub(crate) fn reduce_level(
     level: u16,
     sources: &mut [Rec],
-    total: usize,
-    firsts: &[Rec],
+    index: Index,
     nodes: &mut [Rec],
     rows: &mut [Rec],
     done: Done,
 ) -> Option<Done>
     requires level { level ≤ deepest_level }
-    requires few { total ≤ 2 ^ 17 }
-    requires many { total ≤ 4 * length sources.old }
-    requires within { done.from + done.count ≤ total }
-    ensures within { IfSome result (λ next. next.from + next.count ≤ total) }
+    requires few { index.total ≤ 2 ^ 17 }
+    requires many { index.total ≤ 4 * length sources.old }
+    requires within { done.from + done.count ≤ index.total }
+    ensures within { IfSome result (λ next. next.from + next.count ≤ index.entry.total) }
     ensures room { IfSome result (λ next. next.count ≤ 4 * length nodes.new) }
     ensures done { IfSome result (λ next. (n root : ℕ) (arcs : List Arc) → n ≤ 65535 → level < n →
         IsComplete n root arcs →
-        IsPacked n root arcs (suc level) done.from done.count (sources_in total sources.old) (packed nodes.old) →
-        IsPacked n root arcs level next.from next.count (sources_in total sources.new) (packed nodes.new)) }
+        IsPacked n root arcs (suc level) done.from done.count (sources_of index.entry sources.old) (packed nodes.old) →
+        IsPacked n root arcs level next.from next.count (sources_of index.entry sources.new) (packed nodes.new)) }
 {
-    let made = nodes_of_level(level, sources, total, firsts, rows, done.from)?;
+    let made = nodes_of_level(level, sources, index, rows, done.from)?;
     if !pack_nodes(&rows[..made.count], nodes, done.count) {
         return None;
     }
@@ -69,32 +70,31 @@ pub(crate) fn reduce_level(
 pub(crate) fn nodes_of_level(
     level: u16,
     sources: &mut [Rec],
-    total: usize,
-    firsts: &[Rec],
+    index: Index,
     rows: &mut [Rec],
     end: usize,
 ) -> Option<Made>
     requires level { level ≤ deepest_level }
-    requires few { total ≤ 2 ^ 17 }
-    requires many { total ≤ 4 * length sources.old }
-    requires within { end ≤ total }
+    requires few { index.total ≤ 2 ^ 17 }
+    requires many { index.total ≤ 4 * length sources.old }
+    requires within { end ≤ index.total }
     ensures within { IfSome result (λ made. made.from + made.count ≤ end) }
     ensures room { IfSome result (λ made. made.count ≤ length rows.new) }
     ensures done { IfSome result (λ made. (n root : ℕ) (arcs : List Arc) → n ≤ 65535 → level < n →
         IsComplete n root arcs →
-        IsDone n root arcs (suc level) end (sources_in total sources.old) →
-        IsDone n root arcs level made.from (sources_in total sources.new)) }
+        IsDone n root arcs (suc level) end (sources_of index.entry sources.old) →
+        IsDone n root arcs level made.from (sources_of index.entry sources.new)) }
     ensures nodes { IfSome result (λ made. (n root : ℕ) (arcs : List Arc) → n ≤ 65535 → level < n →
         IsComplete n root arcs →
-        IsDone n root arcs (suc level) end (sources_in total sources.old) →
+        IsDone n root arcs (suc level) end (sources_of index.entry sources.old) →
         take made.count rows.new ≡ node_records (numbered level 0 (final_rows n arcs level))) }
 {
-    let from = level_start(sources, total, end, u64::from(level));
+    let from = level_start(sources, index.total, end, u64::from(level));
     if end - from > rows.len() {
         return None;
     }
     let own = &mut rows[..end - from];
-    let count = reduce_sources_of(level, sources, total, firsts, from, own)?;
+    let count = reduce_sources_of(level, sources, index, from, own)?;
     Some(Made { from, count })
 }
 
@@ -104,12 +104,13 @@ fn level_start(sources: &[Rec], total: usize, end: usize, level: u64) -> usize
     requires within { end ≤ total }
     ensures order { result ≤ end }
     ensures own { (k : ℕ) → result ≤ k → k < end →
-        level_of (word 0 (record_at (sources_in total sources.now) k)) ≡ level }
-    ensures other { 0 < result → level_of (word 0 (record_at (sources_in total sources.now) (result - 1))) ≢ level }
+        level_of (uid_in (record_at (sources_in total sources.now) k)) ≡ level }
+    ensures other { 0 < result →
+        level_of (uid_in (record_at (sources_in total sources.now) (result - 1))) ≢ level }
 {
     let mut from = end;
     'sources: while from > 0 {
-        if source_word(sources, total, from - 1, 0) / LEVEL_NUMBERS != level {
+        if source_word(sources, total, from - 1, UID) / LEVEL_NUMBERS != level {
             return from;
         }
         from -= 1;
@@ -122,31 +123,30 @@ fn level_start(sources: &[Rec], total: usize, end: usize, level: u64) -> usize
 fn reduce_sources_of(
     level: u16,
     sources: &mut [Rec],
-    total: usize,
-    firsts: &[Rec],
+    index: Index,
     from: usize,
     rows: &mut [Rec],
 ) -> Option<usize>
     requires level { level ≤ deepest_level }
     requires few { length rows.old ≤ 2 ^ 17 }
-    requires many { total ≤ 4 * length sources.old }
-    requires within { from + length rows.old ≤ total }
+    requires many { index.total ≤ 4 * length sources.old }
+    requires within { from + length rows.old ≤ index.total }
     ensures within { IfSome result (λ count. count ≤ length rows.old) }
-    ensures same { KeepsSources (sources_in total sources.old) (sources_in total sources.new) }
+    ensures same { KeepsSources (sources_of index.entry sources.old) (sources_of index.entry sources.new) }
     ensures nodes { IfSome result (λ count. (n root : ℕ) (arcs : List Arc) →
-        IsLevel n root arcs level from (from + length rows.old) (sources_in total sources.old) →
+        IsLevel n root arcs level from (from + length rows.old) (sources_of index.entry sources.old) →
         take count rows.new ≡ node_records (numbered level 0 (final_rows n arcs level))) }
     ensures known { IfSome result (λ count. (n root : ℕ) (arcs : List Arc) →
-        IsLevel n root arcs level from (from + length rows.old) (sources_in total sources.old) →
-        AreKnown (final_pointer n arcs) from (sources_in total sources.new)) }
+        IsLevel n root arcs level from (from + length rows.old) (sources_of index.entry sources.old) →
+        AreKnown (final_pointer n arcs) from (sources_of index.entry sources.new)) }
 {
     let end = from + rows.len();
-    if !collect_rows(sources, total, firsts, from, end, rows) {
+    if !collect_rows(sources, index, from, end, rows) {
         return None;
     }
     rows.sort_unstable();
     if !are_rising(rows) {
         return None;
     }
-    number_rows(level, rows, sources, total)
+    number_rows(level, rows, sources, index.total)
 }

@@ -4,6 +4,7 @@
 
 mod complement;
 mod filling;
+mod index;
 pub mod laws;
 mod level;
 mod levels;
@@ -16,7 +17,8 @@ mod sources;
 mod writing;
 
 pub use complement::complement_file;
+pub use index::{Index, begin_of};
 pub use levels::reduce_sources;
 pub use reading::read_nodes;
 pub use reduce::reduce_in_room;
-pub use sources::{find, source_word};
+pub use sources::{HIGH, LOW, UID, find, source_word};

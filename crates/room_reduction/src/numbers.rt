@@ -9,11 +9,11 @@ ghost use Rattle.canon_file.specs.Pairs.{differs, word_in};
 ghost use Rattle.canon_file.specs.Canon.{numbered};
 ghost use Rattle.arc_diagrams.specs.Reducing.{IsRising};
 ghost use Rattle.node_file.specs.Nodes.{node_records};
-ghost use Rattle.room_reduction.specs.Records.{node_record, row_in, word};
+ghost use Rattle.room_reduction.specs.Records.{node_record, row_in, uid_in, became_in, word};
 ghost use Rattle.room_reduction.specs.Sources.{sources_in};
 ghost use Rattle.room_reduction.specs.Levels.{KeepsSources, Names, IsNumbering, distinct_rows};
 
-use crate::sources::put_source_word;
+use crate::sources::{BECAME, put_source_word};
 use rec_words::{Ptr, Rec};
 
 /// How many rows of a level have a number, and the last of them.
@@ -41,7 +41,7 @@ pub(crate) fn number_rows(
         take count rows.new ≡ node_records (numbered level 0 (distinct_rows rows.old))) }
     ensures names { IfSome result (λ count. IsRising (map row_in rows.old) → (f : ℕ → ℕ) →
         ((r : Rec) → Has r rows.old → word_in level (distinct_rows rows.old) (row_in r)
-        ≡ f (word 0 (record_at (sources_in total sources.old) (word 2 r)))) →
+        ≡ f (uid_in (record_at (sources_in total sources.old) (word 2 r)))) →
         Names f rows.old (sources_in total sources.old) (sources_in total sources.new)) }
 {
     let mut done = Numbered {
@@ -120,12 +120,13 @@ fn name_of(level: u16, row: &Rec, done: Numbered) -> u64
 fn name_source(place: u64, name: u64, sources: &mut [Rec], total: usize) -> bool
     requires many { total ≤ 4 * length sources.old }
     ensures same { KeepsSources (sources_in total sources.old) (sources_in total sources.new) }
-    ensures name { IsTrue result → word 3 (record_at (sources_in total sources.new) place) ≡ name }
+    ensures name { IsTrue result → became_in (record_at (sources_in total sources.new) place) ≡ name }
     ensures others { (k : ℕ) → k ≢ place →
-        word 3 (record_at (sources_in total sources.new) k) ≡ word 3 (record_at (sources_in total sources.old) k) }
+        became_in (record_at (sources_in total sources.new) k)
+        ≡ became_in (record_at (sources_in total sources.old) k) }
 {
     if place >= total as u64 {
         return false;
     }
-    put_source_word(sources, total, place as usize, 3, name)
+    put_source_word(sources, total, place as usize, BECAME, name)
 }

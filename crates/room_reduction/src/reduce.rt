@@ -12,13 +12,11 @@ ghost use Rattle.arc_diagrams.specs.Laws.{IsDiagramOf};
 ghost use Rattle.node_file.specs.Changes.{Changed};
 
 use crate::filling::read_sources;
+use crate::index::{Index, WINDOW};
 use crate::writing::write_sources;
 use arc_file::Unreduced;
 use rec_words::Rec;
 use shelf_model::{FileNo, Shelf, StreamFault};
-
-/// The records through which files are read and written: as many as a piece has arcs.
-const WINDOW: usize = 128;
 
 /// Up to so many variables, and for each source so many more, the room is used: a level takes time there whether it has
 /// sources or not, and none in a sweep.
@@ -65,14 +63,15 @@ pub fn reduce_in_room<S: Shelf>(
     }
     let (firsts, rest) = room.split_at_mut(n as usize);
     let (sources, rest) = rest.split_at_mut(packed);
-    let (window, rows) = rest.split_at_mut(WINDOW);
-    let Some(count) = read_sources(n, made, sources, firsts, window, shelf)? else {
+    let Some(count) = read_sources(n, made, sources, firsts, rest, shelf)? else {
         return Ok(None);
     };
     if count > most {
         return Ok(None);
     }
-    write_sources(
-        n, made.root, sources, count, firsts, rows, window, out, shelf,
-    )
+    let index = Index {
+        levels: firsts,
+        total: count,
+    };
+    write_sources(n, made.root, sources, index, rest, out, shelf)
 }

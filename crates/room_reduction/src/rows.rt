@@ -3,66 +3,54 @@ ghost use Rattle.std.specs.Prelude.{◌≡◌, ℕ, ◌+◌, ◌*◌, ◌<◌, �
 ghost use Rattle.canon_file.specs.Rows.{row_before};
 ghost use Rattle.arc_diagrams.specs.Reducing.{IsRising};
 ghost use Rattle.room_reduction.specs.Records.{row_in};
-ghost use Rattle.room_reduction.specs.Sources.{sources_in};
+ghost use Rattle.room_reduction.specs.Index.{sources_of};
 ghost use Rattle.room_reduction.specs.Levels.{KeepsEnds, AreKnown, IsRowOf, AreRowsOf};
 
-use crate::sources::{find, source_word};
+use crate::Index;
+use crate::sources::{BECAME, HIGH, LOW, find, source_word};
 use rec_words::{Ptr, Rec};
 
 /// What a pointer became: a truth value stays, and the record of a source says it, where that stands at a place or
 /// behind it.
-pub(crate) fn became(
-    sources: &[Rec],
-    count: usize,
-    firsts: &[Rec],
-    from: usize,
-    word: u64,
-) -> Option<u64>
-    requires many { count ≤ 4 * length sources.now }
-    ensures { IfSome result (λ w. (f : ℕ → ℕ) → KeepsEnds f → AreKnown f from (sources_in count sources.now) →
+pub(crate) fn became(sources: &[Rec], index: Index, from: usize, word: u64) -> Option<u64>
+    requires many { index.total ≤ 4 * length sources.now }
+    ensures { IfSome result (λ w. (f : ℕ → ℕ) → KeepsEnds f → AreKnown f from (sources_of index.entry sources.now) →
         w ≡ f word) }
 {
     match Ptr::from_word(word)?.value() {
         Some(_value) => Some(word),
-        None => pointer_of(sources, count, firsts, from, word),
+        None => pointer_of(sources, index, from, word),
     }
 }
 
 // What the record of a source says.
-fn pointer_of(
-    sources: &[Rec],
-    count: usize,
-    firsts: &[Rec],
-    from: usize,
-    source: u64,
-) -> Option<u64>
-    requires many { count ≤ 4 * length sources.now }
-    ensures { IfSome result (λ w. (f : ℕ → ℕ) → AreKnown f from (sources_in count sources.now) → w ≡ f source) }
+fn pointer_of(sources: &[Rec], index: Index, from: usize, source: u64) -> Option<u64>
+    requires many { index.total ≤ 4 * length sources.now }
+    ensures { IfSome result (λ w. (f : ℕ → ℕ) → AreKnown f from (sources_of index.entry sources.now) → w ≡ f source) }
 {
-    let place = find(sources, count, firsts, source)?;
+    let place = find(sources, index, source)?;
     if place < from {
         return None;
     }
-    Some(source_word(sources, count, place, 3))
+    Some(source_word(sources, index.total, place, BECAME))
 }
 
 /// Puts the row of each source between two places into the rows, where those behind them say what they became.
 pub(crate) fn collect_rows(
     sources: &[Rec],
-    count: usize,
-    firsts: &[Rec],
+    index: Index,
     from: usize,
     end: usize,
     rows: &mut [Rec],
 ) -> bool
     requires as_many { from + length rows.old ≡ end }
-    requires many { count ≤ 4 * length sources.now }
-    requires within { end ≤ count }
-    ensures { IsTrue result → (f : ℕ → ℕ) → KeepsEnds f → AreKnown f end (sources_in count sources.now) →
-        AreRowsOf f from (sources_in count sources.now) rows.new }
+    requires many { index.total ≤ 4 * length sources.now }
+    requires within { end ≤ index.total }
+    ensures { IsTrue result → (f : ℕ → ℕ) → KeepsEnds f → AreKnown f end (sources_of index.entry sources.now) →
+        AreRowsOf f from (sources_of index.entry sources.now) rows.new }
 {
     for place in 0..rows.len() {
-        let Some(row) = row_at(sources, count, firsts, from + place, end) else {
+        let Some(row) = row_at(sources, index, from + place, end) else {
             return false;
         };
         rows[place] = row;
@@ -71,16 +59,16 @@ pub(crate) fn collect_rows(
 }
 
 // The row of the source at a place.
-fn row_at(sources: &[Rec], count: usize, firsts: &[Rec], place: usize, end: usize) -> Option<Rec>
-    requires many { count ≤ 4 * length sources.now }
-    requires within { place < count }
-    ensures { IfSome result (λ r. (f : ℕ → ℕ) → KeepsEnds f → AreKnown f end (sources_in count sources.now) →
-        IsRowOf f place (sources_in count sources.now) r) }
+fn row_at(sources: &[Rec], index: Index, place: usize, end: usize) -> Option<Rec>
+    requires many { index.total ≤ 4 * length sources.now }
+    requires within { place < index.total }
+    ensures { IfSome result (λ r. (f : ℕ → ℕ) → KeepsEnds f → AreKnown f end (sources_of index.entry sources.now) →
+        IsRowOf f place (sources_of index.entry sources.now) r) }
 {
-    let low_source = source_word(sources, count, place, 1);
-    let high_source = source_word(sources, count, place, 2);
-    let low = became(sources, count, firsts, end, low_source)?;
-    let high = became(sources, count, firsts, end, high_source)?;
+    let low_source = source_word(sources, index.total, place, LOW);
+    let high_source = source_word(sources, index.total, place, HIGH);
+    let low = became(sources, index, end, low_source)?;
+    let high = became(sources, index, end, high_source)?;
     Some(Rec {
         w: [low, high, place as u64, 0, 0, 0, 0, 0],
     })

@@ -1,11 +1,23 @@
 //! The sources of a diagram, as packed records in the room.
 ghost use Rattle.std.specs.Prelude.{◌≡◌, ◌≢◌, ℕ, ◌*◌, ◌<◌, ◌≤◌, IsTrue, IfSome, length};
 ghost use Rattle.run_files.specs.Items.{record_at};
-ghost use Rattle.room_reduction.specs.Records.{word};
+ghost use Rattle.room_reduction.specs.Records.{word, uid_in};
 ghost use Rattle.room_reduction.specs.Sources.{sources_in};
+ghost use Rattle.room_reduction.specs.Index.{sources_of};
 
+use crate::index::{Index, begin_of};
 use packed_records::{put_word, word_at};
 use rec_words::{LEVEL_NUMBERS, Rec};
+
+/// The columns of the packed record of a source or of a node: its identifier, and the pointers on its two sides.
+pub const UID: usize = 0;
+
+pub const LOW: usize = 1;
+
+pub const HIGH: usize = 2;
+
+/// The column in which a source says what it became.
+pub(crate) const BECAME: usize = 3;
 
 /// The word of a column in the source at a place, of so many.
 pub fn source_word(sources: &[Rec], count: usize, place: usize, column: usize) -> u64
@@ -41,20 +53,21 @@ pub(crate) fn put_source_word(
 
 /// The place of a source among so many, where it is found: of its level the place is kept where its first number would
 /// stand, if that is right. A level of which none is kept is looked for by halves: the sources ascend.
-pub fn find(sources: &[Rec], count: usize, firsts: &[Rec], source: u64) -> Option<usize>
-    requires many { count ≤ 4 * length sources.now }
-    ensures { IfSome result (λ k. (k < count) × (word 0 (record_at (sources_in count sources.now) k) ≡ source)) }
+pub fn find(sources: &[Rec], index: Index, source: u64) -> Option<usize>
+    requires many { index.total ≤ 4 * length sources.now }
+    ensures { IfSome result (λ k. (k < index.entry.total) ×
+        (uid_in (record_at (sources_of index.entry sources.now) k) ≡ source)) }
 {
     let level = (source / LEVEL_NUMBERS) as usize;
-    if level >= firsts.len() {
-        return search(sources, count, source);
+    if level >= index.levels.len() {
+        return search(sources, index.total, source);
     }
-    let place = firsts[level].w[0].wrapping_add(source % LEVEL_NUMBERS);
-    if place >= count as u64 {
+    let place = begin_of(&index.levels[level]).wrapping_add(source % LEVEL_NUMBERS);
+    if place >= index.total as u64 {
         return None;
     }
     let place = place as usize;
-    if source_word(sources, count, place, 0) != source {
+    if source_word(sources, index.total, place, UID) != source {
         return None;
     }
     Some(place)
@@ -63,13 +76,13 @@ pub fn find(sources: &[Rec], count: usize, firsts: &[Rec], source: u64) -> Optio
 // The place of a source among so many that ascend.
 fn search(sources: &[Rec], count: usize, source: u64) -> Option<usize>
     requires many { count ≤ 4 * length sources.now }
-    ensures { IfSome result (λ k. (k < count) × (word 0 (record_at (sources_in count sources.now) k) ≡ source)) }
+    ensures { IfSome result (λ k. (k < count) × (uid_in (record_at (sources_in count sources.now) k) ≡ source)) }
 {
     let mut from = 0;
     let mut to = count;
     'halves: while from < to {
         let middle = from + (to - from) / 2;
-        let there = source_word(sources, count, middle, 0);
+        let there = source_word(sources, count, middle, UID);
         if there == source {
             return Some(middle);
         }

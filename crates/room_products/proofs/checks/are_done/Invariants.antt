@@ -7,5 +7,5 @@ use Rattle.room_products.proofs.checks.are_done.Given as goal
 
 -- each slot so far has its source
 abbrev pub invariant-loop-place : goal.invariant-loop-place
-invariant-loop-place l = (k : ℕ) → k < l.place → (j : ℕ) × (j < l.count)
-    × (word 0 (record_at (sources_in l.count l.sources) j) ≡ id_at (sources_in l.count l.slots) k)
+invariant-loop-place l = (k : ℕ) → k < l.place → (j : ℕ) × (j < l.index.total)
+    × (word 0 (record_at (sources_in l.index.total l.sources) j) ≡ id_at (sources_in l.index.total l.slots) k)

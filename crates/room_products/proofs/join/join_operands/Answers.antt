@@ -33,11 +33,11 @@ returns-clause-joined g c told n t u few left right =
     (product_table n op t u form_t form_u _ _ first_is second_is)
     (made n (targets_of_two n t u) few (product_rules n op t u form_t form_u _ _ first_is second_is)
     (record {
-      first = read_gives n t c.args.left.from _ c.args.left.trailer.count (packed c.read_nodes.new.nodes) left.file_of
+      first = read_gives n t c.args.pair.left.from _ c.args.pair.left.trailer.count (packed c.read_nodes.new.nodes) left.file_of
           left.trailer_of.count_is (omega (arith, lefts, lefts_long, length-packed c.read_nodes.new.nodes))
           (c.in_ok-read_nodes.ensures.read c.if-not-branch.false mid);
-      second = read_gives n u c.args.right.from _ c.args.right.trailer.count (packed c.read_nodes-2.new.nodes)
-          (file_before n _ u c.args.right.from _ _ looked right.file_of) right.trailer_of.count_is
+      second = read_gives n u c.args.pair.right.from _ c.args.pair.right.trailer.count (packed c.read_nodes-2.new.nodes)
+          (file_before n _ u c.args.pair.right.from _ _ looked right.file_of) right.trailer_of.count_is
           (omega (arith, rights, rights_long, length-packed c.read_nodes-2.new.nodes))
           (c.in_ok-read_nodes-2.ensures.read c.if-not-branch-2.false told);
     })

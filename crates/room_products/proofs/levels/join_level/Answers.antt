@@ -1,6 +1,8 @@
-use Rattle.std.proofs.Common.{arith, []}
+use Rattle.std.proofs.Common.{◌∙◌, ap, arith, []}
 use Rattle.top_down.specs.Operations.{product_rule}
 use Rattle.packed_records.specs.Packed.{packed}
+use Rattle.room_products.specs.Level.{level_in}
+use Rattle.room_products.specs.declared.level.Level.{Level}
 use Rattle.room_products.proofs.MarkedLevels.{joining_marked}
 use Rattle.room_products.proofs.levels.join_level.Goals as goal
 
@@ -9,8 +11,9 @@ loop-source-init c = record {
   within = c.requires.within;
   done_within = c.requires.done;
   joined = λ n root roots targets top rule rows joining.
-      joining_marked c.args.firsts.now c.args.level c.args.begun.done c.requires.level n root roots
-      (product_rule c.args.op) targets [] (packed c.args.slots.now) c.args.begun.count (packed c.args.sources.now)
+      joining_marked c.args.firsts.now c.args.level c.to_rec.result c.requires.level
+      (ap (λ r. (level_in r).used) c.to_rec.ensures ∙ ap (λ (x : Level). x.used) c.of-known.ensures) n root roots
+      (product_rule c.args.operands.op) targets [] (packed c.args.slots.now) c.args.begun.count (packed c.args.sources.now)
       c.args.begun.done joining;
 }
 

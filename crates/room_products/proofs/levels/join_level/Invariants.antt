@@ -3,9 +3,8 @@ use Rattle.top_down.specs.declared.tuple.Tuple.{Tuple}
 use Rattle.top_down.specs.Operations.{product_rule}
 use Rattle.top_down.specs.Tuples.{Targets}
 use Rattle.top_down.specs.Rules.{IsRule}
-use Rattle.room_products.specs.Goals.{GiveRows}
 use Rattle.packed_records.specs.Packed.{packed}
-use Rattle.room_products.specs.Operands.{nodes_of}
+use Rattle.room_products.specs.Operands.{GiveRowsOf}
 use Rattle.room_products.specs.Joining.{IsJoining}
 use Rattle.room_products.proofs.levels.join_level.Given as goal
 
@@ -14,10 +13,10 @@ abbrev pub invariant-loop-source : goal.invariant-loop-source
 invariant-loop-source l = record {
   within : l.now.count ≤ 4 * length l.slots;
   done_within : l.now.done ≤ 4 * length l.sources;
-  joined : (n root : ℕ) (roots : Tuple) (targets : Targets) → n ≤ 65535 → IsRule n (product_rule l.fn.op) targets →
-      GiveRows targets (nodes_of l.fn.left) (nodes_of l.fn.right) →
-      IsJoining n root roots (product_rule l.fn.op) targets [] (packed l.fn.slots) l.fn.firsts l.fn.begun.count
+  joined : (n root : ℕ) (roots : Tuple) (targets : Targets) → n ≤ 65535 → IsRule n (product_rule l.fn.operands.op) targets →
+      GiveRowsOf targets l.fn.operands →
+      IsJoining n root roots (product_rule l.fn.operands.op) targets [] (packed l.fn.slots) l.fn.firsts l.fn.begun.count
       (packed l.fn.sources) l.fn.begun.done →
-      IsJoining n root roots (product_rule l.fn.op) targets [] (packed l.slots) l.firsts l.now.count (packed l.sources)
+      IsJoining n root roots (product_rule l.fn.operands.op) targets [] (packed l.slots) l.firsts l.now.count (packed l.sources)
       l.now.done;
 }

@@ -1,4 +1,4 @@
-use Rattle.std.proofs.Common.{◌∙◌, ◌/◌, refl, ap, arith}
+use Rattle.std.proofs.Common.{◌∙◌, ◌+◌, ◌*◌, ◌/◌, refl, ap, arith}
 use Rattle.rec_words.specs.Words.{level_numbers}
 use Rattle.packed_records.specs.Packed.{packed}
 use Rattle.packed_records.proofs.PackedLaws.{length-packed}
@@ -33,7 +33,10 @@ returns-clause-added c n rule asked low are =
     ∙ level_of_two c.args.first c.args.second (omega (arith, least, shallow)) in
     let free = c.if-count-min.false in
     let room = c.min.ensures in
+    let used = c.used_of-used.ensures in
+    let more = c.if-used-ge-MOST.false in
     more_slots n rule (packed old) (packed new) c.args.firsts.now c.link_slot.new.firsts count level pair kept
     (linked.pairs count ∙ ap (λ r. two (word 0 r) (word 1 r)) (put.own refl))
-    (linked.ids count ∙ ap (word 2) (put.own refl)) level_is c.if-used-ge-MOST.false linked.used linked.others
+    (linked.ids count ∙ ap (word 2) (put.own refl) ∙ ap (λ k. level * level_numbers + k) used) level_is
+    (omega (arith, more, used)) linked.used linked.others
     (omega (arith, free, room, length-packed old)) asked low are

@@ -15,13 +15,13 @@ returns-clause-joined c n root roots targets top rule rows joining =
     λ side j. pair_on targets (level_of (c.word_at-source.ensures j)) side (c.word_at-first.ensures j)
     (c.word_at-second.ensures j) in
     let put = c.if-not-put_source.ensures in
-    let unused = c.if-place-count.false in
+    let unused = c.if-place-begun.false in
     let source = c.word_at-source.ensures in
     let room = put.within refl in
-    slot_joined c.args.op n root roots targets (packed c.args.slots.now) (packed c.answer_pair.new.slots)
+    slot_joined c.args.operands.op n root roots targets (packed c.args.slots.now) (packed c.answer_pair.new.slots)
     (packed c.answer_pair-2.new.slots) c.args.firsts.now c.answer_pair.new.firsts c.answer_pair-2.new.firsts
-    c.args.count c.in_ok-low.low.count c.in_ok-high.high.count (packed c.args.sources.now)
-    (packed c.put_source.new.sources) c.args.done c.args.place c.in_ok-low.low.word c.in_ok-high.high.word _ _ top rule
+    c.args.begun.count c.in_ok-low.low.count c.in_ok-high.high.count (packed c.args.sources.now)
+    (packed c.put_source.new.sources) c.args.begun.done c.args.place c.in_ok-low.low.word c.in_ok-high.high.word _ _ top rule
     (omega (arith, unused)) ((λ j. two (lefts.0 j) (rights.0 j)) ∙ leads false)
     ((λ j. two (lefts.1 j) (rights.1 j)) ∙ leads true)
     c.in_ok-low.ensures.kept c.in_ok-high.ensures.kept c.in_ok-low.ensures.answered c.in_ok-high.ensures.answered

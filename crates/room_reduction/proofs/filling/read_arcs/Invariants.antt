@@ -13,11 +13,11 @@ use Rattle.room_reduction.proofs.filling.read_arcs.Given as goal
 abbrev pub invariant-loop-arc : goal.invariant-loop-arc
 invariant-loop-arc g l = record {
   within : l.found ≤ 4 * length l.sources;
-  same_file : (reading_of l.arcs).file ≡ l.fn.f;
+  same_file : (reading_of l.arcs).file ≡ l.fn.from.file;
   taken : IsTrue (g.S.Shelf.tells l.shelf) → (root : ℕ) (all these left : List Arc) →
-      BeginWith these l.count (file (g.S.Shelf.world l.fn.shelf) l.fn.f).bytes →
+      BeginWith these l.fn.from.count (file (g.S.Shelf.world l.fn.shelf) l.fn.from.file).bytes →
       AreMet l.n root all (these ++ left) (packed l.fn.sources) l.before →
-      AreTaken l.n root all left l.count l._arc l.arcs (file (g.S.Shelf.world l.fn.shelf) l.fn.f).bytes
+      AreTaken l.n root all left l.fn.from.count l._arc l.arcs (file (g.S.Shelf.world l.fn.shelf) l.fn.from.file).bytes
       (packed l.sources) l.found;
   looked : Told g.S.Shelf.tells l.fn.shelf l.shelf
       (Looked l._arc (g.S.Shelf.world l.fn.shelf) (g.S.Shelf.world l.shelf));

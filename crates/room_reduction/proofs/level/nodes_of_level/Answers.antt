@@ -19,14 +19,14 @@ whole c =
 
 -- the sources of the level end where the deeper ones begin
 is : (c : goal.In_ok-count) (n root : ℕ) (arcs : List Arc) → n ≤ 65535 → IsComplete n root arcs
-    → IsDone n root arcs (suc c.args.level) c.args.end (sources_in c.args.total c.args.sources.now)
+    → IsDone n root arcs (suc c.args.level) c.args.end (sources_in c.args.index.total c.args.sources.now)
     → IsLevel n root arcs c.args.level c.level_start-from.result
     (c.level_start-from.result + length (take (c.args.end - c.level_start-from.result) c.args.rows.now))
-    (sources_in c.args.total c.args.sources.now)
+    (sources_in c.args.index.total c.args.sources.now)
 is c n root arcs few complete done =
-    let sources = sources_in c.args.total c.args.sources.now in
+    let sources = sources_in c.args.index.total c.args.sources.now in
     let start = c.level_start-from.ensures in
-    let all = sources_many c.args.total c.args.sources.now c.requires.many in
+    let all = sources_many c.args.index.total c.args.sources.now c.requires.many in
     let room = c.requires.within in
     subst (λ e. IsLevel n root arcs c.args.level c.level_start-from.result e sources) (whole c)
     (is_level n root arcs c.args.level c.level_start-from.result c.args.end sources few complete

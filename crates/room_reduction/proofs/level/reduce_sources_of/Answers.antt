@@ -11,8 +11,8 @@ use Rattle.room_reduction.proofs.level.reduce_sources_of.Goals as goal
 pub returns-clause-nodes : goal.returns-clause-nodes
 returns-clause-nodes c =
     let room = c.requires.within in
-    let sources = sources_in c.args.total c.args.sources.now in
-    let all = sources_many c.args.total c.args.sources.now c.requires.many in
+    let sources = sources_in c.args.index.total c.args.sources.now in
+    let all = sources_many c.args.index.total c.args.sources.now c.requires.many in
     let within : c.args.from + length c.args.rows.now ≤ length sources = omega (arith, room, all) in
     IfSome_then c.number_rows.result c.number_rows.ensures.nodes (λ count made n root arcs is.
     let rows = c.if-not-collect_rows.ensures refl (final_pointer n arcs)
@@ -25,8 +25,8 @@ returns-clause-nodes c =
 pub returns-clause-known : goal.returns-clause-known
 returns-clause-known c =
     let room = c.requires.within in
-    let sources = sources_in c.args.total c.args.sources.now in
-    let all = sources_many c.args.total c.args.sources.now c.requires.many in
+    let sources = sources_in c.args.index.total c.args.sources.now in
+    let all = sources_many c.args.index.total c.args.sources.now c.requires.many in
     let within : c.args.from + length c.args.rows.now ≤ length sources = omega (arith, room, all) in
     IfSome_then c.number_rows.result c.number_rows.ensures.names (λ count names n root arcs is.
     let rising = c.if-not-are_rising.ensures refl in
@@ -35,7 +35,7 @@ returns-clause-known c =
     (final_keeps_ends n root arcs is.few is.complete) is.known in
     level_known n root arcs c.args.level c.args.from _ sources c.collect_rows.new.rows
     c.sort_unstable.new.self is many within rows c.sort_unstable.ensures.permutation
-    (sources_in c.args.total c.number_rows.new.sources) c.number_rows.ensures.same
+    (sources_in c.args.index.total c.number_rows.new.sources) c.number_rows.ensures.same
     (names rising (final_pointer n arcs)
     (row_word_is n root arcs c.args.level c.args.from _ sources c.collect_rows.new.rows
     c.sort_unstable.new.self is many within rows c.sort_unstable.ensures.permutation rising)))

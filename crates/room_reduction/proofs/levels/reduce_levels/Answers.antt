@@ -26,7 +26,7 @@ returns-clause-done c root arcs complete are =
     let last = c.if-done-gt0.false in
     let top : n - c.loop-deeper.deeper ≡ 0 = omega (arith, all) in
     let first : done.from ≡ 0 = omega (arith, last) in
-    let sources = sources_in c.args.total c.loop-deeper.sources in
+    let sources = sources_in c.args.index.total c.loop-deeper.sources in
     let nodes = packed c.loop-deeper.nodes in
     subst (λ i. IsPacked n root arcs i 0 done.count sources nodes) top
     (subst (λ from. IsPacked n root arcs (n - c.loop-deeper.deeper) from done.count sources nodes) first

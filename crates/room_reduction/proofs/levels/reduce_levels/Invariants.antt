@@ -9,10 +9,10 @@ use Rattle.room_reduction.proofs.levels.reduce_levels.Given as goal
 -- the deeper levels are done
 abbrev pub invariant-loop-deeper : goal.invariant-loop-deeper
 invariant-loop-deeper l = record {
-  within : l.done.from + l.done.count ≤ l.total;
+  within : l.done.from + l.done.count ≤ l.index.total;
   room : l.done.count ≤ 4 * length l.nodes;
   done_is : (root : ℕ) (arcs : List Arc) → IsComplete l.n root arcs
-      → AreSources l.n root arcs (sources_in l.total l.fn.sources)
-      → IsPacked l.n root arcs (l.n - l.deeper) l.done.from l.done.count (sources_in l.total l.sources)
+      → AreSources l.n root arcs (sources_in l.index.total l.fn.sources)
+      → IsPacked l.n root arcs (l.n - l.deeper) l.done.from l.done.count (sources_in l.index.total l.sources)
       (packed l.nodes);
 }

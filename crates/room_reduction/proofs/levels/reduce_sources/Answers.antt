@@ -10,5 +10,5 @@ returns-clause-made g c tells arcs t few stands are =
     let n = c.args.n in
     let root = sym c.word.ensures.value in
     let made = c.in-Some.ensures.made arcs t few (subst (λ w. IsDiagramOf n w arcs t) root stands)
-    (subst (λ w. AreSources n w arcs (sources_in c.args.total c.args.sources.now)) root are) in
+    (subst (λ w. AreSources n w arcs (sources_in c.args.index.total c.args.sources.now)) root are) in
     (c.in_ok-write_packed.ensures.made tells ∙ ap firm_file made.bytes_are, made.count_is)

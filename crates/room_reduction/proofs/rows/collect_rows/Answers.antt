@@ -10,7 +10,7 @@ use Rattle.room_reduction.proofs.rows.collect_rows.Goals as goal
 pub loop-place-preserved : goal.loop-place-preserved
 loop-place-preserved c =
     let none : Rec = record { w = [] } in
-    let sources = sources_in c.args.count c.args.sources.now in
+    let sources = sources_in c.args.index.total c.args.sources.now in
     let rows = c.loop-place.rows in
     let place = c.loop-place.place in
     let row = c.in-Some.row in

@@ -7,6 +7,6 @@ use Rattle.room_reduction.proofs.rows.collect_rows.Given as goal
 -- the sources so far have their rows
 abbrev pub invariant-loop-place : goal.invariant-loop-place
 invariant-loop-place l = record {
-  rows_are : (f : ℕ → ℕ) → KeepsEnds f → AreKnown f l.end (sources_in l.count l.sources) → (k : ℕ) → k < l.place
-      → IsRowOf f (l.from + k) (sources_in l.count l.sources) (record_at l.rows k);
+  rows_are : (f : ℕ → ℕ) → KeepsEnds f → AreKnown f l.end (sources_in l.index.total l.sources) → (k : ℕ) → k < l.place
+      → IsRowOf f (l.from + k) (sources_in l.index.total l.sources) (record_at l.rows k);
 }

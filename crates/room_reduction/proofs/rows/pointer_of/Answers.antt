@@ -5,7 +5,7 @@ use Rattle.room_reduction.proofs.rows.pointer_of.Goals as goal
 
 pub returns : goal.returns
 returns c f known =
-    let count = c.args.count in
+    let count = c.args.index.total in
     let place = c.in_ok-place.place in
     let (within, is) = c.in_ok-place.ensures in
     let all = sources_many count c.args.sources.now c.requires.many in

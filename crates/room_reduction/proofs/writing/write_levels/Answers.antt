@@ -1,4 +1,4 @@
-use Rattle.std.proofs.Common.{◌≡◌, ◌∙◌, ◌+◌, ◌-◌, ◌<◌, ◌≤◌, ◌++◌, ℕ, suc, length, refl, rules, sym, ap, subst, arith}
+use Rattle.std.proofs.Common.{◌≡◌, ◌∙◌, ◌+◌, ◌-◌, ◌<◌, ◌++◌, ℕ, suc, length, refl, rules, sym, ap, subst, arith}
 use Rattle.std.proofs.lemmas.List.{append_assoc, append-nil}
 use Rattle.std.proofs.lemmas.Grind.{flat_map-append}
 use Rattle.shelf_model.proofs.Runs.{told}
@@ -50,7 +50,7 @@ returns-in_err-next-clause-content g c =
     told g.S.Shelf.tells _ _ _ _
     (wrote_on g.S.Shelf.tells g.S.Shelf.world done.count done.from _ _ _ _ _ known.same.file_is known.wrote
     c.write_level.ensures.content)
-    (λ _ did. wrote_within (done.count + done.from) c.args.total _ _ _ (omega (arith, room)) did)
+    (λ _ did. wrote_within (done.count + done.from) c.args.index.total _ _ _ (omega (arith, room)) did)
 
 pub loop-deeper-preserved : goal.loop-deeper-preserved
 loop-deeper-preserved g c =
@@ -70,8 +70,8 @@ loop-deeper-preserved g c =
     let step : n - k ≡ suc level = omega (arith, test) in
     let onward : level ≡ n - (k + 1) = omega (arith, test) in
     let below : level < n = omega (arith, test) in
-    let sources = sources_in c.args.total c.loop-deeper.sources in
-    let later = sources_in c.args.total c.write_level.new.sources in
+    let sources = sources_in c.args.index.total c.loop-deeper.sources in
+    let later = sources_in c.args.index.total c.write_level.new.sources in
     let begun = written_of c.args.writer.now (g.S.Shelf.world c.args.shelf.now) in
     record {
       within = within.1;

@@ -12,16 +12,16 @@ use Rattle.room_reduction.proofs.writing.write_levels.Given as goal
 -- the deeper levels are done and written
 abbrev pub invariant-loop-deeper : goal.invariant-loop-deeper
 invariant-loop-deeper g l = record {
-  within : l.done.from + l.done.count ≤ l.total;
+  within : l.done.from + l.done.count ≤ l.index.total;
   counted : count_of (filling_of l.writer) ≡ count_of (filling_of l.fn.writer) + l.done.count;
   same : SameFile (filling_of l.fn.writer) (filling_of l.writer);
   variables : l.writer.n ≡ l.fn.writer.n;
   in_step : IsTrue (g.S.Shelf.tells l.shelf) → InStep (filling_of l.writer) (g.S.Shelf.world l.shelf);
   done_is : (root : ℕ) (arcs : List Arc) → IsComplete l.n root arcs
-      → AreSources l.n root arcs (sources_in l.total l.fn.sources)
-      → IsCounted l.n root arcs (l.n - l.deeper) l.done.from l.done.count (sources_in l.total l.sources);
+      → AreSources l.n root arcs (sources_in l.index.total l.fn.sources)
+      → IsCounted l.n root arcs (l.n - l.deeper) l.done.from l.done.count (sources_in l.index.total l.sources);
   bytes : IsTrue (g.S.Shelf.tells l.shelf) → (root : ℕ) (arcs : List Arc) → IsComplete l.n root arcs
-      → AreSources l.n root arcs (sources_in l.total l.fn.sources)
+      → AreSources l.n root arcs (sources_in l.index.total l.fn.sources)
       → Holds l.writer (g.S.Shelf.world l.shelf)
       (written_of l.fn.writer (g.S.Shelf.world l.fn.shelf)
       ++ held_nodes (nodes_down_to (l.n - l.deeper) l.n arcs));

@@ -15,7 +15,7 @@ use Rattle.room_reduction.proofs.writing.write_sources.Goals as goal
 -- the file was cut, and then written to
 pub returns-in_err-finish-clause-content : goal.returns-in_err-finish-clause-content
 returns-in_err-finish-clause-content g c =
-    let many = c.args.total in
+    let many = c.args.index.total in
     let begun = c.in_ok-writer.ensures.file in
     cut_and_wrote g.S.Shelf.tells g.S.Shelf.world c.args.out many 3 (many + 6) _ _ _ _ _ _ (omega arith) begun
     (c.in_ok-made.ensures.same.file_is ∙ begun) c.start.ensures.content c.write_levels.ensures.content
@@ -23,7 +23,7 @@ returns-in_err-finish-clause-content g c =
 
 pub returns-clause-content : goal.returns-clause-content
 returns-clause-content g c =
-    let many = c.args.total in
+    let many = c.args.index.total in
     let begun = c.in_ok-writer.ensures.file in
     cut_and_wrote g.S.Shelf.tells g.S.Shelf.world c.args.out many 3 (many + 6) _ _ _ _ _ _ (omega arith) begun
     (c.in_ok-made.ensures.same.file_is ∙ begun) c.start.ensures.content c.write_levels.ensures.content
