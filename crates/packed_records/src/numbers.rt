@@ -39,7 +39,6 @@ fn put_in_quarter(words: &mut [u64; 8], quarter: usize, column: usize, number: u
 pub fn put_number(room: &mut [Rec], place: usize, column: usize, number: u32)
     requires place { place < 4 * length room.old }
     requires column { column < 4 }
-    ensures len { length room.new ≡ length room.old }
     ensures own { number_in room.new place column ≡ number }
     ensures columns { (c : ℕ) → c < 4 → c ≢ column → number_in room.new place c ≡ number_in room.old place c }
     ensures others { (k c : ℕ) → c < 4 → k ≢ place → number_in room.new k c ≡ number_in room.old k c }

@@ -20,7 +20,6 @@ pub fn word_at(room: &[Rec], place: usize, column: usize) -> u64
 pub fn put_word(room: &mut [Rec], place: usize, column: usize, word: u64) -> bool
     requires place { place < 4 * length room.old }
     requires column { column < 4 }
-    ensures len { length room.new ≡ length room.old }
     ensures own { IsTrue result → slice_index (record_at (packed room.new) place).w column ≡ word }
     ensures columns { (c : ℕ) → c ≢ column →
         slice_index (record_at (packed room.new) place).w c ≡ slice_index (record_at (packed room.old) place).w c }
@@ -36,7 +35,6 @@ pub fn put_word(room: &mut [Rec], place: usize, column: usize, word: u64) -> boo
 /// Puts four words into the packed record at a place, where numbers stand for them.
 pub fn put_record(room: &mut [Rec], place: usize, words: [u64; 4]) -> bool
     requires place { place < 4 * length room.old }
-    ensures len { length room.new ≡ length room.old }
     ensures own { IsTrue result → record_at (packed room.new) place
         ≡ record {
           w = slice_index words 0 ∷ slice_index words 1 ∷ slice_index words 2 ∷ slice_index words 3

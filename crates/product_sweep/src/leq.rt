@@ -51,8 +51,8 @@ impl<'r> LeqSweep<'r> {
         requires past_made { 3 ≤ parts.next }
         ensures ready { IfOk result IsReady }
         ensures in_step { IfOk result (λ s. IsTrue (S.tells shelf.new) → IsInStep s (S.world shelf.new)) }
-        ensures begun { IfOk result (λ s. Begun S.tells S.world (files_from (operand_files f g g) parts) (after_two parts)
-            shelf.old shelf.new (product_in s)) }
+        ensures begun { IfOk result (λ s. Begun S.tells S.world (files_from (operand_files f g g) parts)
+            (after_two parts) shelf.old shelf.new (product_in s)) }
         ensures variables { IfOk result (λ s. variables_of (product_in s) ≡ n) }
         ensures leaves { Starts S.tells S.world S.faults n (files_from (operand_files f g g) parts) parts
             shelf.old shelf.new result }

@@ -63,8 +63,8 @@ impl<'r> TableSweep<'r, Choice> {
 }
 
 impl<'r> TableSweep<'r, Quantified> {
-    /// Begins the quantifier over the variable of a level, on the file of a diagram of `n` variables. The next two parts
-    /// are its files of arcs, and those behind them are for its queue.
+    /// Begins the quantifier over the variable of a level, on the file of a diagram of `n` variables. The next two
+    /// parts are its files of arcs, and those behind them are for its queue.
     pub fn start<S: Shelf>(
         kind: Quant,
         n: u32,

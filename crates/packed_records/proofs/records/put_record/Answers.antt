@@ -33,10 +33,10 @@ returns-then-put_word-3-clause-own c fits =
             omega (
               arith,
               c.requires.place,
-              first.len,
-              second.len,
-              third.len,
-              fourth.len,
+              c.put_word.auto.room,
+              v.put_word-then-put_word.auto.room,
+              w.put_word-then-put_word-2.auto.room,
+              c.put_word-then-put_word-3.auto.room,
               ap (length {A = Rec}) v.room-is,
               ap (length {A = Rec}) w.room-is,
             ) in

@@ -13,7 +13,7 @@ returns-clause-pairs c k = elim c.if-last-gt0.branch [
   | then-last-gt0+then-last-slots w ↦
       let put = w.put_number.ensures in
       let last = c.of-known.result.last_slot - 1 in
-      let same = words_linked c.args.slots.now w.put_number.new.room last put.len
+      let same = words_linked c.args.slots.now w.put_number.new.room last w.put_number.auto.room
       (omega (arith, w.if-last-gt0.true, w.if-last-slots.true)) put.columns put.others k in
       ap (λ s. pair_at (packed s) k) w.slots-is ∙ (λ j. two (same 0 (omega arith) j) (same 1 (omega arith) j))
   | else-last-gt0 w ↦ ap (λ s. pair_at (packed s) k) w.slots-is
@@ -25,7 +25,7 @@ returns-clause-ids c k = elim c.if-last-gt0.branch [
       let put = w.put_number.ensures in
       let last = c.of-known.result.last_slot - 1 in
       ap (λ s. id_at (packed s) k) w.slots-is
-      ∙ words_linked c.args.slots.now w.put_number.new.room last put.len
+      ∙ words_linked c.args.slots.now w.put_number.new.room last w.put_number.auto.room
       (omega (arith, w.if-last-gt0.true, w.if-last-slots.true)) put.columns put.others k 2 (omega arith)
   | else-last-gt0 w ↦ ap (λ s. id_at (packed s) k) w.slots-is
 ]

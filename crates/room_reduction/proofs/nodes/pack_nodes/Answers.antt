@@ -16,5 +16,5 @@ loop-place-preserved c =
     record {
       behind = λ xs is.
           one_packed c.args.nodes.now c.loop-place.nodes c.put_record.new.room c.args.records.now xs count place is
-          below room put.len (put.own c.if-not-put_record.false) put.others (known.behind xs is);
+          below room c.put_record.auto.room (put.own c.if-not-put_record.false) put.others (known.behind xs is);
     }
