@@ -10,8 +10,8 @@ ghost use Rattle.room_reduction.specs.Sources.{sources_in};
 ghost use Rattle.node_file.specs.Canonical.{IsMade};
 ghost use Rattle.room_products.specs.Joined.{IsOperandOf, AreOfTable};
 
-use crate::operands::{Nodes, Operands};
-use crate::tables::{Tabled, join_nodes};
+use crate::operands::Nodes;
+use crate::tables::{Asked, Tabled, join_nodes};
 use bool_tables::Bin;
 use copied_diagrams::{Pair, Source};
 use rec_words::{Ptr, Rec};
@@ -174,18 +174,24 @@ fn join_operands<S: Shelf>(
     if !read_nodes(right.from, right_count, rights, window, shelf)? {
         return Ok(None);
     }
-    let operands = Operands {
-        op,
-        left: Nodes {
-            records: lefts,
-            count: left_count,
-        },
-        right: Nodes {
-            records: rights,
-            count: right_count,
-        },
+    let left_nodes = Nodes {
+        records: lefts,
+        count: left_count,
     };
-    Ok(join_nodes(operands, first, second, firsts, buckets, slots, sources))
+    let right_nodes = Nodes {
+        records: rights,
+        count: right_count,
+    };
+    let asked = Asked { op, first, second };
+    Ok(join_nodes(
+        asked,
+        left_nodes,
+        right_nodes,
+        firsts,
+        buckets,
+        slots,
+        sources,
+    ))
 }
 
 // Makes the node file of the diagram whose sources stand in the front of an area, and answers what was made. Its nodes,

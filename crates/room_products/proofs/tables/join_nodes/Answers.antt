@@ -10,11 +10,11 @@ use Rattle.room_products.proofs.tables.join_nodes.Goals as goal
 -- the sources of all slots are those of a diagram of the table
 pub returns-clause-joined : goal.returns-clause-joined
 returns-clause-joined c n targets few laws given asked =
-    let rule = product_rule c.args.operands.op in
-    let roots = two c.args.first c.args.second in
+    let rule = product_rule c.args.asked.op in
+    let roots = two c.args.asked.first c.args.asked.second in
     let root = c.in_ok-root.root in
     let none = sym (ap is_some c.end_of.ensures) ∙ sym c.is_some.ensures ∙ c.if-is_some.false in
-    let low = roots_low c.args.operands.op n targets roots laws asked none in
+    let low = roots_low c.args.asked.op n targets roots laws asked none in
     let are = c.in_ok-root.ensures.added n rule (roots_asked n rule targets roots laws asked) low
     (no_slots n rule (packed c.args.slots.now) c.index_nodes.new.firsts) in
     let begun = first_joining n root roots rule targets (packed c.add_slot.new.slots) c.add_slot.new.firsts
