@@ -1,10 +1,11 @@
 // What no clause says: the bytes of a worked checkpoint, which words a rule looks at, and what a stop leaves.
+use file_numbers::{checkpoint_file, checkpoint_gate};
 use run_tiers::Run;
 use shelf_memory::{Bench, Choice};
 use shelf_model::{FileNo, Shelf, StreamFault};
 use std::alloc::Global;
 use std::test::Fail;
-use sweep_checkpoint::{POINT_SIZE, bytes_of, gate_of, load, point_of, points_of, retire, save};
+use sweep_checkpoint::{POINT_SIZE, bytes_of, load, point_of, retire, save};
 use sweep_core::Checkpoint;
 
 const NO_RUN: Run = Run {
@@ -158,10 +159,16 @@ fn names_the_place(alloc: Global) -> Result<bool, Fail> {
         at: 16_384,
     });
     let other = load(7, BUDGET + 1, &mut bench) == damaged;
-    bench.cut(points_of(7), 20_000)?;
+    bench.cut(checkpoint_file(7), 20_000)?;
     let short = load(7, BUDGET, &mut bench) == damaged;
     let refused = save(&sample(), &mut bench).is_err();
-    Ok(none && found && other && short && refused && bench.file(gate_of(7)) == [0, 0].as_slice())
+    Ok(
+        none && found
+            && other
+            && short
+            && refused
+            && bench.file(checkpoint_gate(7)) == [0, 0].as_slice(),
+    )
 }
 
 #[test]

@@ -16,7 +16,8 @@ use Rattle.shelf_model.proofs.Changing.{changes_none, changes_more, told_changed
 use Rattle.shelf_model.proofs.Runs.{told, ran_call}
 use Rattle.sweep_core.specs.declared.checkpoint.Checkpoint.{Checkpoint}
 use Rattle.sweep_checkpoint.specs.Rules.{tables_in_use}
-use Rattle.sweep_checkpoint.specs.Retires.{NamedAmong, NamedIn, Names, IsBetween, WasTaken, IsDropped, IsGivenUp, Emptied, first_run}
+use Rattle.file_numbers.specs.Files.{first_run_part}
+use Rattle.sweep_checkpoint.specs.Retires.{NamedAmong, NamedIn, Names, IsBetween, WasTaken, IsDropped, IsGivenUp, Emptied}
 
 -- an item that has it
 pub any_one : {X : Type 0} (P : X → Type 0) (xs : List X) (k : ℕ) (x : X) → k < length xs → get_or xs k x ≡ x → P x → Any P xs
@@ -72,7 +73,7 @@ module _ {S : Type 0} (tells : S → Bool) (world : S → World) (c : Checkpoint
   these = IsDropped c (λ p. p ≡ part)
 
   -- the file of the part is cut
-  pub cut_one : (f : FileNo) (result : Result Unit Failed) (old s : S) → f.step ≡ c.step → f.part ≡ part → first_run ≤ part → ¬ (Names c part)
+  pub cut_one : (f : FileNo) (result : Result Unit Failed) (old s : S) → f.step ≡ c.step → f.part ≡ part → first_run_part ≤ part → ¬ (Names c part)
       → Told tells old s (WasCut f 0 result (world old) (world s)) → Told tells old s (Ran (OnlyChanged these (now (world old))) (world old) (world s))
   cut_one f result old s steps parts from unnamed call = told tells old s _ _ call (λ _ did.
       ran_call (world old) (world s) (OnlyChanged these (now (world old))) did.shelf (changes_none these (now (world old)).folder)
@@ -99,8 +100,8 @@ module _ {S : Type 0} (tells : S → Bool) (world : S → World) (c : Checkpoint
   emptied_one f (Err e) old s steps parts call = tt
 
   -- the part is no run, or it is named
-  pub none_early : part < first_run → (f : FileNo) → ¬ (these f)
-  none_early early f is = let from : first_run ≤ f.part = is.from in let same : f.part ≡ part = is.one_of in omega arith
+  pub none_early : part < first_run_part → (f : FileNo) → ¬ (these f)
+  none_early early f is = let from : first_run_part ≤ f.part = is.from in let same : f.part ≡ part = is.one_of in omega arith
 
   pub none_named : Names c part → (f : FileNo) → ¬ (these f)
   none_named named f is = is.unnamed (subst (Names c) (sym is.one_of) named)
@@ -131,7 +132,7 @@ between_more c first part f dropped =
     ]
 
 -- the runs of the older checkpoint, and then the parts taken since
-module _ {S : Type 0} (tells : S → Bool) (world : S → World) (older newer : Checkpoint) (tables : List (List Run)) (first : ℕ) (is_tables : tables ≡ tables_in_use older) (is_first : first ≡ max first_run older.next_part) where
+module _ {S : Type 0} (tells : S → Bool) (world : S → World) (older newer : Checkpoint) (tables : List (List Run)) (first : ℕ) (is_tables : tables ≡ tables_in_use older) (is_first : first ≡ max first_run_part older.next_part) where
   abbrev pub of_tables : FileNo → Type 0
   of_tables = IsDropped newer (λ p. NamedIn p tables)
 

@@ -18,7 +18,7 @@ use Rattle.shelf_model.proofs.Images.{sync_images}
 use Rattle.shelf_model.proofs.Numbers.{cases_file}
 use Rattle.shelf_model.proofs.Runs.{told, told_then, ran_call, ran_on, ran_joins, ran_weakens, ran_end}
 use Rattle.sweep_core.specs.declared.checkpoint.Checkpoint.{Checkpoint}
-use Rattle.sweep_checkpoint.specs.Files.{points_file, gate_file}
+use Rattle.file_numbers.specs.Files.{checkpoint_file, checkpoint_gate}
 use Rattle.sweep_checkpoint.specs.Rules.{IsPointOf}
 use Rattle.sweep_checkpoint.specs.Gated.{present, gated_count, last_of}
 use Rattle.sweep_checkpoint.specs.Saves.{IsGateSure}
@@ -37,11 +37,11 @@ synced_reads f q (Ok x) old new did = elim (cases_file q f) [
 synced_reads f q (Err e) old new did = ap (λ (m : Moment). (file_in m.folder q).bytes) did.failed
 
 -- the gate is made sure
-load_synced : (step : ℕ) (result : Result Unit Failed) (w v : World) → AreFiles (now w).folder → Synced (gate_file step) result w v → DuringLoad step (now w) (now v)
+load_synced : (step : ℕ) (result : Result Unit Failed) (w v : World) → AreFiles (now w).folder → Synced (checkpoint_gate step) result w v → DuringLoad step (now w) (now v)
 load_synced step result w v are_files did = record {
   others = did.others;
-  reads = λ q. synced_reads (gate_file step) q result w v did;
-  images = λ image is_image. sync_images (gate_file step) result w v image are_files did is_image;
+  reads = λ q. synced_reads (checkpoint_gate step) q result w v did;
+  images = λ image is_image. sync_images (checkpoint_gate step) result w v image are_files did is_image;
 }
 
 -- the files stay
@@ -57,10 +57,10 @@ pub record IsCounted (step count : ℕ) (folder : Folder) : Type 0 where
   pub sure : IsGateSure step folder
   pub count_is : count ≡ gated_count step (present folder)
 
-pub counted : (step count : ℕ) (w v u : World) → Synced (gate_file step) (Ok tt) w v → Measured (gate_file step) (Ok count) v u → IsCounted step count (now u).folder
+pub counted : (step count : ℕ) (w v u : World) → Synced (checkpoint_gate step) (Ok tt) w v → Measured (checkpoint_gate step) (Ok count) v u → IsCounted step count (now u).folder
 counted step count w v u synced measured =
-    let is : file v (gate_file step) ≡ firm_file (file w (gate_file step)).bytes = synced.ok in
-    let same : file u (gate_file step) ≡ file v (gate_file step) = ap (λ (m : Moment). file_in m.folder (gate_file step)) measured.same in
+    let is : file v (checkpoint_gate step) ≡ firm_file (file w (checkpoint_gate step)).bytes = synced.ok in
+    let same : file u (checkpoint_gate step) ≡ file v (checkpoint_gate step) = ap (λ (m : Moment). file_in m.folder (checkpoint_gate step)) measured.same in
     record {
       sure = same ∙ is ∙ ap (λ (x : File). firm_file x.bytes) (sym is) ∙ ap (λ (x : File). firm_file x.bytes) (sym same);
       count_is = measured.ok ∙ ap (λ (x : File). length x.bytes) (sym same);
@@ -73,33 +73,33 @@ counted_stays step count old new same is = subst (IsCounted step count) (sym sam
 pub loaded_none : (step budget count : ℕ) (folder : Folder) → count ≡ 0 → IsCounted step count folder → IsLoaded step budget folder None
 loaded_none step budget count folder none is = record {
   sure = is.sure;
-  last = subst (λ k. Tells step budget (last_of k (present folder (points_file step))) None) (sym none ∙ is.count_is) tt;
+  last = subst (λ k. Tells step budget (last_of k (present folder (checkpoint_file step))) None) (sym none ∙ is.count_is) tt;
 }
 
 -- the last one was read
 pub loaded_some : (step budget count at : ℕ) (folder : Folder) (c : Checkpoint) → count ≢ 0 → at ≡ 16384 * (count - 1) → IsCounted step count folder
-    → IsPointAt step budget at (present folder (points_file step)) c → IsLoaded step budget folder (Some c)
+    → IsPointAt step budget at (present folder (checkpoint_file step)) c → IsLoaded step budget folder (Some c)
 loaded_some step budget count at folder c some place is found = record {
   sure = is.sure;
   last =
       let next : suc (count - 1) ≡ count = omega (arith, some) in
-      subst (λ k. Tells step budget (last_of k (present folder (points_file step))) (Some c)) (next ∙ is.count_is)
-      (subst (λ p. IsPointOf step budget (take 16384 (drop p (present folder (points_file step)))) c) place found);
+      subst (λ k. Tells step budget (last_of k (present folder (checkpoint_file step))) (Some c)) (next ∙ is.count_is)
+      (subst (λ p. IsPointOf step budget (take 16384 (drop p (present folder (checkpoint_file step)))) c) place found);
 }
 
 -- it breaks a rule
 pub load_fault : (step budget count at : ℕ) (old mid : FileNo → List ℕ) (fault : StreamFault) → count ≢ 0 → at ≡ 16384 * (count - 1) → ((q : FileNo) → mid q ≡ old q) → count ≡ gated_count step mid
-    → IsPointFault step budget at (mid (points_file step)) fault → IsLoadFault step budget old fault
+    → IsPointFault step budget at (mid (checkpoint_file step)) fault → IsLoadFault step budget old fault
 load_fault step budget count at old mid Shelf some place same is found = tt
 load_fault step budget count at old mid (Damaged f p) some place same is found =
-    let gate : count ≡ gated_count step old = is ∙ ap length (same (gate_file step)) in
+    let gate : count ≡ gated_count step old = is ∙ ap length (same (checkpoint_gate step)) in
     let next : gated_count step old ≡ suc (count - 1) = sym gate ∙ (let e : count ≡ suc (count - 1) = omega (arith, some) in e) in
-    let bytes : List ℕ = bytes_at at (mid (points_file step)) in (
+    let bytes : List ℕ = bytes_at at (mid (checkpoint_file step)) in (
       found.0,
       found.1 ∙ place ∙ ap (λ k. 16384 * (k - 1)) gate,
       (
         bytes,
-        ap (λ k. last_of k (old (points_file step))) next ∙ (λ i. Some (take 16384 (drop (sym place i) (sym (same (points_file step)) i)))),
+        ap (λ k. last_of k (old (checkpoint_file step))) next ∙ (λ i. Some (take 16384 (drop (sym place i) (sym (same (checkpoint_file step)) i)))),
         found.2,
       ),
     )
@@ -137,7 +137,7 @@ read_piece source bytes before after at done next got from within room whole so_
 
 module _ {S : Type 0} (tells : S → Bool) (world : S → World) (step : ℕ) where
   -- the gate is made sure, the first call
-  pub synced_first : (f : FileNo) (result : Result Unit Failed) (old s : S) → f ≡ gate_file step → ((x : S) → IsTrue (tells x) → AreFiles (now (world x)).folder)
+  pub synced_first : (f : FileNo) (result : Result Unit Failed) (old s : S) → f ≡ checkpoint_gate step → ((x : S) → IsTrue (tells x) → AreFiles (now (world x)).folder)
       → Told tells old s (Synced f result (world old) (world s)) → Told tells old s (Ran (DuringLoad step (now (world old))) (world old) (world s))
   synced_first f result old s gate files call = told tells old s _ _ call (λ tells_old did.
       ran_call (world old) (world s) (DuringLoad step (now (world old))) did.shelf (load_here step (now (world old)))
@@ -159,29 +159,29 @@ module _ {S : Type 0} (tells : S → Bool) (world : S → World) (step : ℕ) wh
       (load_stays step (now (world old)) (now (world s)) (now (world t)) (ap (λ (m : Moment). m.folder) did.same) (ran_end (world old) (world s) (DuringLoad step (now (world old))) run)))
 
   -- the gate is sure and counted
-  counted_so_far : (f : FileNo) (count : ℕ) (old s t : S) → f ≡ gate_file step → Told tells old s (Synced f (Ok tt) (world old) (world s)) → Told tells s t (Measured f (Ok count) (world s) (world t))
+  counted_so_far : (f : FileNo) (count : ℕ) (old s t : S) → f ≡ checkpoint_gate step → Told tells old s (Synced f (Ok tt) (world old) (world s)) → Told tells s t (Measured f (Ok count) (world s) (world t))
       → IsTrue (tells t) → IsCounted step count (now (world t)).folder
   counted_so_far f count old s t gate synced measured tells_new =
       counted step count (world old) (world s) (world t) (subst (λ q. Synced q (Ok tt) (world old) (world s)) gate (synced.did (measured.before tells_new)))
       (subst (λ q. Measured q (Ok count) (world s) (world t)) gate (measured.did tells_new))
 
-  pub load_none : (budget : ℕ) (f : FileNo) (count : ℕ) (old s t : S) → f ≡ gate_file step → count ≡ 0 → Told tells old s (Synced f (Ok tt) (world old) (world s))
+  pub load_none : (budget : ℕ) (f : FileNo) (count : ℕ) (old s t : S) → f ≡ checkpoint_gate step → count ≡ 0 → Told tells old s (Synced f (Ok tt) (world old) (world s))
       → Told tells s t (Measured f (Ok count) (world s) (world t)) → IsTrue (tells t) → IsLoaded step budget (now (world t)).folder None
   load_none budget f count old s t gate none synced measured tells_new = loaded_none step budget count (now (world t)).folder none (counted_so_far f count old s t gate synced measured tells_new)
 
-  pub load_some : (budget : ℕ) (f : FileNo) (count at : ℕ) (c : Checkpoint) (old s t u : S) → f ≡ gate_file step → count ≢ 0 → at ≡ 16384 * (count - 1) → Told tells old s (Synced f (Ok tt) (world old) (world s))
+  pub load_some : (budget : ℕ) (f : FileNo) (count at : ℕ) (c : Checkpoint) (old s t u : S) → f ≡ checkpoint_gate step → count ≢ 0 → at ≡ 16384 * (count - 1) → Told tells old s (Synced f (Ok tt) (world old) (world s))
       → Told tells s t (Measured f (Ok count) (world s) (world t)) → Told tells t u (Ran (Stays (now (world t))) (world t) (world u))
-      → (IsTrue (tells u) → IsPointAt step budget at (file (world t) (points_file step)).bytes c) → IsTrue (tells u) → IsLoaded step budget (now (world u)).folder (Some c)
+      → (IsTrue (tells u) → IsPointAt step budget at (file (world t) (checkpoint_file step)).bytes c) → IsTrue (tells u) → IsLoaded step budget (now (world u)).folder (Some c)
   load_some budget f count at c old s t u gate some place synced measured reads found tells_new =
       let stays : (now (world u)).folder ≡ (now (world t)).folder = ran_end (world t) (world u) (Stays (now (world t))) (reads.did tells_new) in
       let is : IsCounted step count (now (world t)).folder = counted_so_far f count old s t gate synced measured (reads.before tells_new) in
       loaded_some step budget count at (now (world u)).folder c some place (counted_stays step count (now (world t)).folder (now (world u)).folder stays is)
-      (subst (λ d. IsPointAt step budget at (file_in d (points_file step)).bytes c) (sym stays) (found tells_new))
+      (subst (λ d. IsPointAt step budget at (file_in d (checkpoint_file step)).bytes c) (sym stays) (found tells_new))
 
-  pub load_fails : (budget : ℕ) (f : FileNo) (count at : ℕ) (fault : StreamFault) (old s t u : S) → f ≡ gate_file step → count ≢ 0 → at ≡ 16384 * (count - 1) → ((x : S) → IsTrue (tells x) → AreFiles (now (world x)).folder)
+  pub load_fails : (budget : ℕ) (f : FileNo) (count at : ℕ) (fault : StreamFault) (old s t u : S) → f ≡ checkpoint_gate step → count ≢ 0 → at ≡ 16384 * (count - 1) → ((x : S) → IsTrue (tells x) → AreFiles (now (world x)).folder)
       → Told tells old s (Synced f (Ok tt) (world old) (world s))
       → Told tells s t (Measured f (Ok count) (world s) (world t)) → Told tells t u (Ran (Stays (now (world t))) (world t) (world u))
-      → (IsTrue (tells u) → IsPointFault step budget at (file (world t) (points_file step)).bytes fault) → IsTrue (tells u) → IsLoadFault step budget (present (now (world old)).folder) fault
+      → (IsTrue (tells u) → IsPointFault step budget at (file (world t) (checkpoint_file step)).bytes fault) → IsTrue (tells u) → IsLoadFault step budget (present (now (world old)).folder) fault
   load_fails budget f count at fault old s t u gate some place files synced measured reads found tells_new =
       let tells_mid : IsTrue (tells t) = reads.before tells_new in
       let run = (asked_on f (Ok count) old s t (synced_first f (Ok tt) old s gate files synced) measured).did tells_mid in
@@ -194,13 +194,13 @@ read_all : (source read : List ℕ) (at : ℕ) (whole : Bool) → length read �
 read_all source read at whole long is did = subst (ReadWhole source at read) is did ∙ ap (λ n. take n (drop at source)) long
 
 -- the file ends before
-pub short_fault : (step budget at : ℕ) (source read : List ℕ) (f : FileNo) (whole : Bool) → f ≡ points_file step → length read ≡ 16384 → whole ≡ false → ReadWhole source at read whole → IsPointFault step budget at source (Damaged f at)
+pub short_fault : (step budget at : ℕ) (source read : List ℕ) (f : FileNo) (whole : Bool) → f ≡ checkpoint_file step → length read ≡ 16384 → whole ≡ false → ReadWhole source at read whole → IsPointFault step budget at source (Damaged f at)
 short_fault step budget at source read f whole points long is did =
     let short : length source < at + length read = subst (ReadWhole source at read) is did in
     (points, refl, none_short step budget at source (omega (arith, short, long)))
 
 -- the bytes are no checkpoint
-pub rule_fault : (step budget at : ℕ) (source read : List ℕ) (f : FileNo) (whole : Bool) → f ≡ points_file step → length read ≡ 16384 → whole ≡ true → ReadWhole source at read whole
+pub rule_fault : (step budget at : ℕ) (source read : List ℕ) (f : FileNo) (whole : Bool) → f ≡ checkpoint_file step → length read ≡ 16384 → whole ≡ true → ReadWhole source at read whole
     → ((c : Checkpoint) → IsPointOf step budget read c → None ≡ Some c) → IsPointFault step budget at source (Damaged f at)
 rule_fault step budget at source read f whole points long is did only =
     (points, refl, none_there step budget (bytes_at at source) read (read_all source read at whole long is did) only)

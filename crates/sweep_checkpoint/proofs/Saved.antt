@@ -17,17 +17,17 @@ use Rattle.shelf_model.proofs.Maps.{bytes_in-insert}
 use Rattle.shelf_model.proofs.Numbers.{other_part}
 use Rattle.shelf_model.proofs.Runs.{told, told_then, run_on, ran_call, ran_on, ran_joins, ran_weakens, ran_end}
 use Rattle.sweep_core.specs.declared.checkpoint.Checkpoint.{Checkpoint}
-use Rattle.sweep_checkpoint.specs.Files.{points_file, gate_file}
+use Rattle.file_numbers.specs.Files.{checkpoint_file, checkpoint_gate}
 use Rattle.sweep_checkpoint.specs.Points.{point_bytes}
 use Rattle.sweep_checkpoint.specs.Gated.{present, gated_count, last_of}
 use Rattle.sweep_checkpoint.specs.Writes.{Growing, Replacing}
 use Rattle.sweep_checkpoint.specs.Saves.{gated_size, IsGateSure, IsLast, IsLastBefore, DuringSave, IsSaved}
 
-pub points_not_gate : (step : ℕ) → points_file step ≢ gate_file step
-points_not_gate step = other_part (points_file step) (gate_file step) (λ e. omega (arith, e))
+pub points_not_gate : (step : ℕ) → checkpoint_file step ≢ checkpoint_gate step
+points_not_gate step = other_part (checkpoint_file step) (checkpoint_gate step) (λ e. omega (arith, e))
 
-pub gate_not_points : (step : ℕ) → gate_file step ≢ points_file step
-gate_not_points step = other_part (gate_file step) (points_file step) (λ e. omega (arith, e))
+pub gate_not_points : (step : ℕ) → checkpoint_gate step ≢ checkpoint_file step
+gate_not_points step = other_part (checkpoint_gate step) (checkpoint_file step) (λ e. omega (arith, e))
 
 -- a file that is sure is in each image as it is read
 pub sure_bytes : (f : FileNo) (bytes : List ℕ) (folder : Folder) (image : Image) → file_in folder f ≡ firm_file bytes → IsImage folder image → bytes_in image f ≡ bytes
@@ -80,18 +80,18 @@ old_left at old new left is_file covers kept is_left =
     ]
 
 -- where the gated checkpoints agree with what a stop might have left before, the last one is one of before
-was_last : (step : ℕ) (old : Folder) (image : Image) (before : List ℕ) → AreFiles old → IsGateSure step old → length (bytes_in image (gate_file step)) ≡ gated_count step (present old)
-    → IsLeft (file_in old (points_file step)) before → take (gated_size step old) (bytes_in image (points_file step)) ≡ take (gated_size step old) before → IsLastBefore step old (bytes_in image)
+was_last : (step : ℕ) (old : Folder) (image : Image) (before : List ℕ) → AreFiles old → IsGateSure step old → length (bytes_in image (checkpoint_gate step)) ≡ gated_count step (present old)
+    → IsLeft (file_in old (checkpoint_file step)) before → take (gated_size step old) (bytes_in image (checkpoint_file step)) ≡ take (gated_size step old) before → IsLastBefore step old (bytes_in image)
 was_last step old image before are_files sure count is_left same =
     let n : ℕ = gated_count step (present old) in
-    let image_before : Image = insert (chosen (λ _ x. x.bytes) old) (points_file step) before in
-    let is_image : IsImage old image_before = one_left old (points_file step) before are_files is_left in
-    let gate : bytes_in image_before (gate_file step) ≡ (file_in old (gate_file step)).bytes = sure_bytes (gate_file step) (file_in old (gate_file step)).bytes old image_before sure is_image in
-    let points : bytes_in image_before (points_file step) ≡ before = bytes_in-insert (chosen (λ _ x. x.bytes) old) (points_file step) before in
+    let image_before : Image = insert (chosen (λ _ x. x.bytes) old) (checkpoint_file step) before in
+    let is_image : IsImage old image_before = one_left old (checkpoint_file step) before are_files is_left in
+    let gate : bytes_in image_before (checkpoint_gate step) ≡ (file_in old (checkpoint_gate step)).bytes = sure_bytes (checkpoint_gate step) (file_in old (checkpoint_gate step)).bytes old image_before sure is_image in
+    let points : bytes_in image_before (checkpoint_file step) ≡ before = bytes_in-insert (chosen (λ _ x. x.bytes) old) (checkpoint_file step) before in
     record {
       before = image_before;
       is_image = is_image;
-      same = ap (λ k. last_of k (bytes_in image (points_file step))) count ∙ last_of-take n (bytes_in image (points_file step)) before same
+      same = ap (λ k. last_of k (bytes_in image (checkpoint_file step))) count ∙ last_of-take n (bytes_in image (checkpoint_file step)) before same
           ∙ (λ i. last_of (length (sym gate i)) (sym points i));
     }
 
@@ -102,7 +102,7 @@ during_here c m = record {
   kept = λ front short kept. kept;
   reads = refl;
   gate_kept = λ front kept. kept;
-  gate_reads = ([], sym (append-nil (file_in m.folder (gate_file c.step)).bytes));
+  gate_reads = ([], sym (append-nil (file_in m.folder (checkpoint_gate c.step)).bytes));
   images = λ sure image is_image. inl (record { before = image; is_image = is_image; same = refl });
 }
 
@@ -110,74 +110,74 @@ during_here c m = record {
 pub record CanSave (c : Checkpoint) (n : ℕ) (old : Folder) : Type 0 where
   pub are_files : AreFiles old
   pub count : n ≡ gated_count c.step (present old)
-  pub covers : 16384 * n ≤ length (file_in old (points_file c.step)).bytes
+  pub covers : 16384 * n ≤ length (file_in old (checkpoint_file c.step)).bytes
 
 -- while the checkpoint is put behind the gated ones
-placing : (c : Checkpoint) (n : ℕ) (old m : Moment) → CanSave c n old.folder → Replacing (points_file c.step) (16384 * n) 16384 old m → DuringSave c old m
+placing : (c : Checkpoint) (n : ℕ) (old m : Moment) → CanSave c n old.folder → Replacing (checkpoint_file c.step) (16384 * n) 16384 old m → DuringSave c old m
 placing c n old m can replacing =
     let size : 16384 * n ≡ gated_size c.step old.folder = ap (λ k. 16384 * k) can.count in
-    let gate : file_in m.folder (gate_file c.step) ≡ file_in old.folder (gate_file c.step) = replacing.others (gate_file c.step) (gate_not_points c.step) in
+    let gate : file_in m.folder (checkpoint_gate c.step) ≡ file_in old.folder (checkpoint_gate c.step) = replacing.others (checkpoint_gate c.step) (gate_not_points c.step) in
     record {
       others = λ q not_points not_gate. replacing.others q not_points;
       kept = λ front short kept. replacing.kept front (omega (arith, short, size)) kept;
-      reads = ap (λ k. take k (file_in m.folder (points_file c.step)).bytes) (sym size) ∙ replacing.reads ∙ ap (λ k. take k (file_in old.folder (points_file c.step)).bytes) size;
+      reads = ap (λ k. take k (file_in m.folder (checkpoint_file c.step)).bytes) (sym size) ∙ replacing.reads ∙ ap (λ k. take k (file_in old.folder (checkpoint_file c.step)).bytes) size;
       gate_kept = λ front kept. subst (IsKept front) (sym gate) kept;
-      gate_reads = ([], ap (λ (x : File). x.bytes) gate ∙ sym (append-nil (file_in old.folder (gate_file c.step)).bytes));
+      gate_reads = ([], ap (λ (x : File). x.bytes) gate ∙ sym (append-nil (file_in old.folder (checkpoint_gate c.step)).bytes));
       images = λ sure image is_image.
-          let left = old_left (16384 * n) (file_in old.folder (points_file c.step)) (file_in m.folder (points_file c.step)) (bytes_in image (points_file c.step)) (can.are_files (points_file c.step)) can.covers replacing.kept (is_image (points_file c.step)) in
-          let counted : length (bytes_in image (gate_file c.step)) ≡ gated_count c.step (present old.folder) =
-          ap length (sure_bytes (gate_file c.step) (file_in old.folder (gate_file c.step)).bytes m.folder image (gate ∙ sure) is_image) in
+          let left = old_left (16384 * n) (file_in old.folder (checkpoint_file c.step)) (file_in m.folder (checkpoint_file c.step)) (bytes_in image (checkpoint_file c.step)) (can.are_files (checkpoint_file c.step)) can.covers replacing.kept (is_image (checkpoint_file c.step)) in
+          let counted : length (bytes_in image (checkpoint_gate c.step)) ≡ gated_count c.step (present old.folder) =
+          ap length (sure_bytes (checkpoint_gate c.step) (file_in old.folder (checkpoint_gate c.step)).bytes m.folder image (gate ∙ sure) is_image) in
           inl (was_last c.step old.folder image left.0 can.are_files sure counted left.1
-          (ap (λ k. take k (bytes_in image (points_file c.step))) (sym size) ∙ left.2 ∙ ap (λ k. take k left.0) size));
+          (ap (λ k. take k (bytes_in image (checkpoint_file c.step))) (sym size) ∙ left.2 ∙ ap (λ k. take k left.0) size));
     }
 
 -- the checkpoint is sure in its place, and the gate is as before
 pub record IsPlaced (c : Checkpoint) (n : ℕ) (old m : Moment) : Type 0 where
   pub can : CanSave c n old.folder
   pub whole : length (point_bytes c) ≡ 16384
-  pub replacing : Replacing (points_file c.step) (16384 * n) 16384 old m
-  pub points_are : file_in m.folder (points_file c.step) ≡ firm_file (take (16384 * n) (file_in old.folder (points_file c.step)).bytes ++ point_bytes c)
+  pub replacing : Replacing (checkpoint_file c.step) (16384 * n) 16384 old m
+  pub points_are : file_in m.folder (checkpoint_file c.step) ≡ firm_file (take (16384 * n) (file_in old.folder (checkpoint_file c.step)).bytes ++ point_bytes c)
 
-opening_image : (c : Checkpoint) (n : ℕ) (old mid m : Moment) (image : Image) → IsPlaced c n old mid → Growing (gate_file c.step) 1 mid m → IsGateSure c.step old.folder → IsImage m.folder image
+opening_image : (c : Checkpoint) (n : ℕ) (old mid m : Moment) (image : Image) → IsPlaced c n old mid → Growing (checkpoint_gate c.step) 1 mid m → IsGateSure c.step old.folder → IsImage m.folder image
     → IsLastBefore c.step old.folder (bytes_in image) ⊎ IsLast c (bytes_in image)
 opening_image c n old mid m image placed growing sure is_image =
-    let before : List ℕ = (file_in old.folder (points_file c.step)).bytes in
-    let gate_bytes : List ℕ = (file_in old.folder (gate_file c.step)).bytes in
+    let before : List ℕ = (file_in old.folder (checkpoint_file c.step)).bytes in
+    let gate_bytes : List ℕ = (file_in old.folder (checkpoint_gate c.step)).bytes in
     let count : n ≡ length gate_bytes = placed.can.count in
-    let points : bytes_in image (points_file c.step) ≡ take (16384 * n) before ++ point_bytes c =
-    sure_bytes (points_file c.step) (take (16384 * n) before ++ point_bytes c) m.folder image (growing.others (points_file c.step) (points_not_gate c.step) ∙ placed.points_are) is_image in
-    let stood : file_in mid.folder (gate_file c.step) ≡ firm_file gate_bytes = placed.replacing.others (gate_file c.step) (gate_not_points c.step) ∙ sure in
-    let kept : IsKept gate_bytes (file_in m.folder (gate_file c.step)) = growing.kept gate_bytes (subst (IsKept gate_bytes) (sym stood) (kept_all gate_bytes)) in
-    let left : IsLeft (file_in m.folder (gate_file c.step)) (bytes_in image (gate_file c.step)) = is_image (gate_file c.step) in
-    let firm : length gate_bytes ≤ (file_in m.folder (gate_file c.step)).firm = kept.sure in
-    let no_shorter : (file_in m.folder (gate_file c.step)).firm ≤ length (bytes_in image (gate_file c.step)) = left.no_shorter in
-    let no_longer : length (bytes_in image (gate_file c.step)) ≤ (file_in m.folder (gate_file c.step)).reach = left.no_longer in
-    let reach : (file_in m.folder (gate_file c.step)).reach ≤ max (file_in mid.folder (gate_file c.step)).reach (length (file_in mid.folder (gate_file c.step)).bytes + 1) = growing.reach in
-    let reach_was : (file_in mid.folder (gate_file c.step)).reach ≡ length gate_bytes = ap (λ (x : File). x.reach) stood in
-    let length_was : length (file_in mid.folder (gate_file c.step)).bytes ≡ length gate_bytes = ap (λ (x : File). length x.bytes) stood in
-    elim (cases_lt (length gate_bytes) (length (bytes_in image (gate_file c.step)))) [
+    let points : bytes_in image (checkpoint_file c.step) ≡ take (16384 * n) before ++ point_bytes c =
+    sure_bytes (checkpoint_file c.step) (take (16384 * n) before ++ point_bytes c) m.folder image (growing.others (checkpoint_file c.step) (points_not_gate c.step) ∙ placed.points_are) is_image in
+    let stood : file_in mid.folder (checkpoint_gate c.step) ≡ firm_file gate_bytes = placed.replacing.others (checkpoint_gate c.step) (gate_not_points c.step) ∙ sure in
+    let kept : IsKept gate_bytes (file_in m.folder (checkpoint_gate c.step)) = growing.kept gate_bytes (subst (IsKept gate_bytes) (sym stood) (kept_all gate_bytes)) in
+    let left : IsLeft (file_in m.folder (checkpoint_gate c.step)) (bytes_in image (checkpoint_gate c.step)) = is_image (checkpoint_gate c.step) in
+    let firm : length gate_bytes ≤ (file_in m.folder (checkpoint_gate c.step)).firm = kept.sure in
+    let no_shorter : (file_in m.folder (checkpoint_gate c.step)).firm ≤ length (bytes_in image (checkpoint_gate c.step)) = left.no_shorter in
+    let no_longer : length (bytes_in image (checkpoint_gate c.step)) ≤ (file_in m.folder (checkpoint_gate c.step)).reach = left.no_longer in
+    let reach : (file_in m.folder (checkpoint_gate c.step)).reach ≤ max (file_in mid.folder (checkpoint_gate c.step)).reach (length (file_in mid.folder (checkpoint_gate c.step)).bytes + 1) = growing.reach in
+    let reach_was : (file_in mid.folder (checkpoint_gate c.step)).reach ≡ length gate_bytes = ap (λ (x : File). x.reach) stood in
+    let length_was : length (file_in mid.folder (checkpoint_gate c.step)).bytes ≡ length gate_bytes = ap (λ (x : File). length x.bytes) stood in
+    elim (cases_lt (length gate_bytes) (length (bytes_in image (checkpoint_gate c.step)))) [
       | inl more ↦
-          let next : length (bytes_in image (gate_file c.step)) ≡ suc n = omega (arith, more, count, no_longer, reach, reach_was, length_was) in
-          inr (ap (last_of (length (bytes_in image (gate_file c.step)))) points ∙ last_of-behind n (length (bytes_in image (gate_file c.step))) before (point_bytes c) next placed.can.covers placed.whole)
+          let next : length (bytes_in image (checkpoint_gate c.step)) ≡ suc n = omega (arith, more, count, no_longer, reach, reach_was, length_was) in
+          inr (ap (last_of (length (bytes_in image (checkpoint_gate c.step)))) points ∙ last_of-behind n (length (bytes_in image (checkpoint_gate c.step))) before (point_bytes c) next placed.can.covers placed.whole)
       | inr same ↦
-          let counted : length (bytes_in image (gate_file c.step)) ≡ length gate_bytes = omega (arith, same, firm, no_shorter) in
-          let front : take (16384 * n) (bytes_in image (points_file c.step)) ≡ take (16384 * n) before =
+          let counted : length (bytes_in image (checkpoint_gate c.step)) ≡ length gate_bytes = omega (arith, same, firm, no_shorter) in
+          let front : take (16384 * n) (bytes_in image (checkpoint_file c.step)) ≡ take (16384 * n) before =
           ap (take (16384 * n)) points ∙ take_at (take (16384 * n) before) (point_bytes c) (16384 * n) (length-take-le (16384 * n) before placed.can.covers) in
-          inl (was_last c.step old.folder image before placed.can.are_files sure counted (standing_left (file_in old.folder (points_file c.step)) (placed.can.are_files (points_file c.step)))
-          (subst (λ k. take (16384 * k) (bytes_in image (points_file c.step)) ≡ take (16384 * k) before) count front))
+          inl (was_last c.step old.folder image before placed.can.are_files sure counted (standing_left (file_in old.folder (checkpoint_file c.step)) (placed.can.are_files (checkpoint_file c.step)))
+          (subst (λ k. take (16384 * k) (bytes_in image (checkpoint_file c.step)) ≡ take (16384 * k) before) count front))
     ]
 
 -- while the gate grows
-opening : (c : Checkpoint) (n : ℕ) (old mid m : Moment) → IsPlaced c n old mid → Growing (gate_file c.step) 1 mid m → DuringSave c old m
+opening : (c : Checkpoint) (n : ℕ) (old mid m : Moment) → IsPlaced c n old mid → Growing (checkpoint_gate c.step) 1 mid m → DuringSave c old m
 opening c n old mid m placed growing =
     let size : 16384 * n ≡ gated_size c.step old.folder = ap (λ k. 16384 * k) placed.can.count in
-    let points : file_in m.folder (points_file c.step) ≡ file_in mid.folder (points_file c.step) = growing.others (points_file c.step) (points_not_gate c.step) in
-    let gate : file_in mid.folder (gate_file c.step) ≡ file_in old.folder (gate_file c.step) = placed.replacing.others (gate_file c.step) (gate_not_points c.step) in
+    let points : file_in m.folder (checkpoint_file c.step) ≡ file_in mid.folder (checkpoint_file c.step) = growing.others (checkpoint_file c.step) (points_not_gate c.step) in
+    let gate : file_in mid.folder (checkpoint_gate c.step) ≡ file_in old.folder (checkpoint_gate c.step) = placed.replacing.others (checkpoint_gate c.step) (gate_not_points c.step) in
     record {
       others = λ q not_points not_gate. growing.others q not_gate ∙ placed.replacing.others q not_points;
       kept = λ front short kept. subst (IsKept front) (sym points) (placed.replacing.kept front (omega (arith, short, size)) kept);
       reads = ap (λ (x : File). take (gated_size c.step old.folder) x.bytes) points
-          ∙ ap (λ k. take k (file_in mid.folder (points_file c.step)).bytes) (sym size) ∙ placed.replacing.reads ∙ ap (λ k. take k (file_in old.folder (points_file c.step)).bytes) size;
+          ∙ ap (λ k. take k (file_in mid.folder (checkpoint_file c.step)).bytes) (sym size) ∙ placed.replacing.reads ∙ ap (λ k. take k (file_in old.folder (checkpoint_file c.step)).bytes) size;
       gate_kept = λ front kept. growing.kept front (subst (IsKept front) (sym gate) kept);
       gate_reads = (growing.reads.0, growing.reads.1 ∙ ap (λ (x : File). x.bytes ++ growing.reads.0) gate);
       images = λ sure image is_image. opening_image c n old mid m image placed growing sure is_image;
@@ -185,20 +185,20 @@ opening c n old mid m placed growing =
 
 -- a checkpoint is the last one where the files are so
 last_read : (c : Checkpoint) (n : ℕ) (before : List ℕ) (r : FileNo → List ℕ) → length (point_bytes c) ≡ 16384 → 16384 * n ≤ length before
-    → r (points_file c.step) ≡ take (16384 * n) before ++ point_bytes c → length (r (gate_file c.step)) ≡ suc n → IsLast c r
-last_read c n before r whole covers points count = ap (last_of (length (r (gate_file c.step)))) points ∙ last_of-behind n (length (r (gate_file c.step))) before (point_bytes c) count covers whole
+    → r (checkpoint_file c.step) ≡ take (16384 * n) before ++ point_bytes c → length (r (checkpoint_gate c.step)) ≡ suc n → IsLast c r
+last_read c n before r whole covers points count = ap (last_of (length (r (checkpoint_gate c.step)))) points ∙ last_of-behind n (length (r (checkpoint_gate c.step))) before (point_bytes c) count covers whole
 
 -- the gate is sure with one byte more
-saved : (c : Checkpoint) (n : ℕ) (old mid m : Moment) → IsPlaced c n old mid → Growing (gate_file c.step) 1 mid m
-    → file_in m.folder (gate_file c.step) ≡ firm_file ((file_in mid.folder (gate_file c.step)).bytes ++ 0 ∷ []) → IsSaved c old.folder m.folder
+saved : (c : Checkpoint) (n : ℕ) (old mid m : Moment) → IsPlaced c n old mid → Growing (checkpoint_gate c.step) 1 mid m
+    → file_in m.folder (checkpoint_gate c.step) ≡ firm_file ((file_in mid.folder (checkpoint_gate c.step)).bytes ++ 0 ∷ []) → IsSaved c old.folder m.folder
 saved c n old mid m placed growing gate =
-    let before : List ℕ = (file_in old.folder (points_file c.step)).bytes in
-    let gate_bytes : List ℕ = (file_in old.folder (gate_file c.step)).bytes in
+    let before : List ℕ = (file_in old.folder (checkpoint_file c.step)).bytes in
+    let gate_bytes : List ℕ = (file_in old.folder (checkpoint_gate c.step)).bytes in
     let count : n ≡ length gate_bytes = placed.can.count in
     let covers : 16384 * n ≤ length before = placed.can.covers in
-    let points : file_in m.folder (points_file c.step) ≡ firm_file (take (16384 * n) before ++ point_bytes c) = growing.others (points_file c.step) (points_not_gate c.step) ∙ placed.points_are in
-    let gate_is : file_in m.folder (gate_file c.step) ≡ firm_file (gate_bytes ++ 0 ∷ []) =
-    gate ∙ ap (λ (x : File). firm_file (x.bytes ++ 0 ∷ [])) (placed.replacing.others (gate_file c.step) (gate_not_points c.step)) in
+    let points : file_in m.folder (checkpoint_file c.step) ≡ firm_file (take (16384 * n) before ++ point_bytes c) = growing.others (checkpoint_file c.step) (points_not_gate c.step) ∙ placed.points_are in
+    let gate_is : file_in m.folder (checkpoint_gate c.step) ≡ firm_file (gate_bytes ++ 0 ∷ []) =
+    gate ∙ ap (λ (x : File). firm_file (x.bytes ++ 0 ∷ [])) (placed.replacing.others (checkpoint_gate c.step) (gate_not_points c.step)) in
     let longer : length (gate_bytes ++ 0 ∷ []) ≡ length gate_bytes + 1 = length-append gate_bytes (0 ∷ []) in
     let next : length (gate_bytes ++ 0 ∷ []) ≡ suc n = omega (arith, longer, count) in
     record {
@@ -207,20 +207,20 @@ saved c n old mid m placed growing gate =
       gate_is = gate_is;
       reads = last_read c n before (present m.folder) placed.whole covers (ap (λ (x : File). x.bytes) points) (ap (λ (x : File). length x.bytes) gate_is ∙ next);
       images = λ image is_image. last_read c n before (bytes_in image) placed.whole covers
-          (sure_bytes (points_file c.step) (take (16384 * n) before ++ point_bytes c) m.folder image points is_image)
-          (ap length (sure_bytes (gate_file c.step) (gate_bytes ++ 0 ∷ []) m.folder image gate_is is_image) ∙ next);
+          (sure_bytes (checkpoint_file c.step) (take (16384 * n) before ++ point_bytes c) m.folder image points is_image)
+          (ap length (sure_bytes (checkpoint_gate c.step) (gate_bytes ++ 0 ∷ []) m.folder image gate_is is_image) ∙ next);
     }
 
 module _ {S : Type 0} (tells : S → Bool) (world : S → World) (c : Checkpoint) where
   -- the files are such that a checkpoint can be put behind n others
   pub can_save : (n : ℕ) (old : S) → ((x : S) → IsTrue (tells x) → AreFiles (now (world x)).folder)
-      → (IsTrue (tells old) → n ≡ length (file (world old) (gate_file c.step)).bytes)
-      → (IsTrue (tells old) → 16384 * n ≤ length (file (world old) (points_file c.step)).bytes)
+      → (IsTrue (tells old) → n ≡ length (file (world old) (checkpoint_gate c.step)).bytes)
+      → (IsTrue (tells old) → 16384 * n ≤ length (file (world old) (checkpoint_file c.step)).bytes)
       → IsTrue (tells old) → CanSave c n (now (world old)).folder
   can_save n old files count covers tells_old = record { are_files = files old tells_old; count = count tells_old; covers = covers tells_old }
 
   -- the checkpoint is put in its place
-  pub placed_so_far : (f : FileNo) (n size : ℕ) (bytes : List ℕ) (old s : S) → f ≡ points_file c.step → size ≡ 16384 * n → bytes ≡ point_bytes c → length bytes ≡ 16384 → (IsTrue (tells old) → CanSave c n (now (world old)).folder)
+  pub placed_so_far : (f : FileNo) (n size : ℕ) (bytes : List ℕ) (old s : S) → f ≡ checkpoint_file c.step → size ≡ 16384 * n → bytes ≡ point_bytes c → length bytes ≡ 16384 → (IsTrue (tells old) → CanSave c n (now (world old)).folder)
       → Told tells old s (Ran (Replacing f size (length bytes) (now (world old))) (world old) (world s))
       → (IsTrue (tells s) → file (world s) f ≡ firm_file (take size (file (world old) f).bytes ++ bytes))
       → Told tells old s (Ran (DuringSave c (now (world old))) (world old) (world s) × IsPlaced c n (now (world old)) (now (world s)))
@@ -228,10 +228,10 @@ module _ {S : Type 0} (tells : S → Bool) (world : S → World) (c : Checkpoint
     before = put.before;
     did = λ tells_new.
         let begins : CanSave c n (now (world old)).folder = can (put.before tells_new) in
-        let P : Moment → Type 0 = Replacing (points_file c.step) (16384 * n) 16384 (now (world old)) in
+        let P : Moment → Type 0 = Replacing (checkpoint_file c.step) (16384 * n) 16384 (now (world old)) in
         let run : Ran P (world old) (world s) =
-        subst (λ k. Ran (Replacing (points_file c.step) (16384 * n) k (now (world old))) (world old) (world s)) whole
-        (subst (λ k. Ran (Replacing (points_file c.step) k (length bytes) (now (world old))) (world old) (world s)) at
+        subst (λ k. Ran (Replacing (checkpoint_file c.step) (16384 * n) k (now (world old))) (world old) (world s)) whole
+        (subst (λ k. Ran (Replacing (checkpoint_file c.step) k (length bytes) (now (world old))) (world old) (world s)) at
         (subst (λ q. Ran (Replacing q size (length bytes) (now (world old))) (world old) (world s)) points (put.did tells_new))) in (
           ran_weakens (world old) (world s) P (DuringSave c (now (world old))) (λ m replacing. placing c n (now (world old)) m begins replacing) run,
           record {
@@ -239,39 +239,39 @@ module _ {S : Type 0} (tells : S → Bool) (world : S → World) (c : Checkpoint
             whole = ap length (sym same) ∙ whole;
             replacing = ran_end (world old) (world s) P run;
             points_are = subst (λ q. file (world s) q ≡ firm_file (take size (file (world old) q).bytes ++ bytes)) points (is tells_new)
-                ∙ (λ i. firm_file (take (at i) (file (world old) (points_file c.step)).bytes ++ same i));
+                ∙ (λ i. firm_file (take (at i) (file (world old) (checkpoint_file c.step)).bytes ++ same i));
           },
         );
   }
 
   -- a part of it
-  pub torn_so_far : (f : FileNo) (n size : ℕ) (bytes : List ℕ) (old s : S) → f ≡ points_file c.step → size ≡ 16384 * n → length bytes ≡ 16384 → (IsTrue (tells old) → CanSave c n (now (world old)).folder)
+  pub torn_so_far : (f : FileNo) (n size : ℕ) (bytes : List ℕ) (old s : S) → f ≡ checkpoint_file c.step → size ≡ 16384 * n → length bytes ≡ 16384 → (IsTrue (tells old) → CanSave c n (now (world old)).folder)
       → Told tells old s (Ran (Replacing f size (length bytes) (now (world old))) (world old) (world s))
       → Told tells old s (Ran (DuringSave c (now (world old))) (world old) (world s))
   torn_so_far f n size bytes old s points at whole can put = record {
     before = put.before;
     did = λ tells_new.
         let begins : CanSave c n (now (world old)).folder = can (put.before tells_new) in
-        let P : Moment → Type 0 = Replacing (points_file c.step) (16384 * n) 16384 (now (world old)) in
+        let P : Moment → Type 0 = Replacing (checkpoint_file c.step) (16384 * n) 16384 (now (world old)) in
         ran_weakens (world old) (world s) P (DuringSave c (now (world old))) (λ m replacing. placing c n (now (world old)) m begins replacing)
-        (subst (λ k. Ran (Replacing (points_file c.step) (16384 * n) k (now (world old))) (world old) (world s)) whole
-        (subst (λ k. Ran (Replacing (points_file c.step) k (length bytes) (now (world old))) (world old) (world s)) at
+        (subst (λ k. Ran (Replacing (checkpoint_file c.step) (16384 * n) k (now (world old))) (world old) (world s)) whole
+        (subst (λ k. Ran (Replacing (checkpoint_file c.step) k (length bytes) (now (world old))) (world old) (world s)) at
         (subst (λ q. Ran (Replacing q size (length bytes) (now (world old))) (world old) (world s)) points (put.did tells_new))));
   }
 
   -- and the gate grows
-  pub saves : (f : FileNo) (n : ℕ) (old s t : S) → f ≡ gate_file c.step
+  pub saves : (f : FileNo) (n : ℕ) (old s t : S) → f ≡ checkpoint_gate c.step
       → Told tells old s (Ran (DuringSave c (now (world old))) (world old) (world s) × IsPlaced c n (now (world old)) (now (world s)))
       → Told tells s t (Ran (Growing f 1 (now (world s))) (world s) (world t))
-      → Told tells old t (Ran (DuringSave c (now (world old))) (world old) (world t) × Growing (gate_file c.step) 1 (now (world s)) (now (world t)))
+      → Told tells old t (Ran (DuringSave c (now (world old))) (world old) (world t) × Growing (checkpoint_gate c.step) 1 (now (world s)) (now (world t)))
   saves f n old s t gate so_far grows =
-      run_on tells world (DuringSave c (now (world old))) (Growing (gate_file c.step) 1 (now (world s)))
-      (λ w. IsPlaced c n (now (world old)) (now (world s))) (λ w. Growing (gate_file c.step) 1 (now (world s)) (now w)) old s t so_far
+      run_on tells world (DuringSave c (now (world old))) (Growing (checkpoint_gate c.step) 1 (now (world s)))
+      (λ w. IsPlaced c n (now (world old)) (now (world s))) (λ w. Growing (checkpoint_gate c.step) 1 (now (world s)) (now w)) old s t so_far
       (subst (λ q. Told tells s t (Ran (Growing q 1 (now (world s))) (world s) (world t))) gate grows)
       (λ tells_old placed m growing. opening c n (now (world old)) (now (world s)) m placed growing)
       (λ tells_old placed growing. growing)
 
-  pub save_ok : (f : FileNo) (n : ℕ) (result : Result Unit Failed) (old s t : S) → f ≡ gate_file c.step
+  pub save_ok : (f : FileNo) (n : ℕ) (result : Result Unit Failed) (old s t : S) → f ≡ checkpoint_gate c.step
       → Told tells old s (Ran (DuringSave c (now (world old))) (world old) (world s) × IsPlaced c n (now (world old)) (now (world s)))
       → Told tells s t (Ran (Growing f 1 (now (world s))) (world s) (world t))
       → OnOk result (IsTrue (tells t) → file (world t) f ≡ firm_file ((file (world s) f).bytes ++ 0 ∷ []))

@@ -2,7 +2,7 @@
 use Rattle.std.specs.Prelude.{ℕ, zero, suc, ◌*◌, ◌-◌, List, length, take, drop, Option, Some, None}
 use Rattle.shelf_model.specs.declared.file_no.FileNo.{FileNo}
 use Rattle.shelf_model.specs.Folder.{Folder, file_in}
-use Rattle.sweep_checkpoint.specs.Files.{points_file, gate_file}
+use Rattle.file_numbers.specs.Files.{checkpoint_file, checkpoint_gate}
 use Rattle.sweep_checkpoint.specs.Points.{point_size}
 
 -- what a read gives of each file of a folder
@@ -11,7 +11,7 @@ present folder f = (file_in folder f).bytes
 
 -- how many checkpoints of the step are gated
 abbrev pub gated_count : ℕ → (FileNo → List ℕ) → ℕ
-gated_count step r = length (r (gate_file step))
+gated_count step r = length (r (checkpoint_gate step))
 
 -- the last of the first n checkpoints, or fewer bytes where the file ends
 abbrev pub last_of : ℕ → List ℕ → Option (List ℕ)
@@ -20,7 +20,7 @@ last_of (suc n) bytes = Some (take point_size (drop (point_size * n) bytes))
 
 -- the bytes of the last checkpoint of the step that is gated
 abbrev pub last_gated : ℕ → (FileNo → List ℕ) → Option (List ℕ)
-last_gated step r = last_of (gated_count step r) (r (points_file step))
+last_gated step r = last_of (gated_count step r) (r (checkpoint_file step))
 
 -- where it stands in its file
 abbrev pub gated_place : ℕ → (FileNo → List ℕ) → ℕ

@@ -1,4 +1,3 @@
-pub mod Files
 pub mod Points
 pub mod Rules
 pub mod Gated

@@ -7,7 +7,7 @@ use Rattle.shelf_model.specs.Folder.{Folder, file_in}
 use Rattle.shelf_model.specs.World.{Moment}
 use Rattle.shelf_model.specs.Moments.{OnlyOldImages}
 use Rattle.sweep_core.specs.declared.checkpoint.Checkpoint.{Checkpoint}
-use Rattle.sweep_checkpoint.specs.Files.{points_file, gate_file}
+use Rattle.file_numbers.specs.Files.{checkpoint_file, checkpoint_gate}
 use Rattle.sweep_checkpoint.specs.Points.{point_size}
 use Rattle.sweep_checkpoint.specs.Rules.{IsPointOf}
 use Rattle.sweep_checkpoint.specs.Gated.{present, gated_place, last_gated}
@@ -15,7 +15,7 @@ use Rattle.sweep_checkpoint.specs.Saves.{IsGateSure}
 
 -- while the gate is made sure: other files stay, reads give what they gave, and no image is new
 pub record DuringLoad (step : ℕ) (old m : Moment) : Type 0 where
-  pub others : (q : FileNo) → q ≢ gate_file step → file_in m.folder q ≡ file_in old.folder q
+  pub others : (q : FileNo) → q ≢ checkpoint_gate step → file_in m.folder q ≡ file_in old.folder q
   pub reads : (q : FileNo) → (file_in m.folder q).bytes ≡ (file_in old.folder q).bytes
   pub images : OnlyOldImages old m
 
@@ -34,7 +34,7 @@ pub record IsLoaded (step budget : ℕ) (folder : Folder) (found : Option Checkp
 -- damage is at the place of the last gated checkpoint, where its bytes are none that keeps the rules
 abbrev pub IsLoadFault : ℕ → ℕ → (FileNo → List ℕ) → StreamFault → Type 0
 IsLoadFault step budget r Shelf = Unit
-IsLoadFault step budget r (Damaged f at) = (f ≡ points_file step) × (at ≡ gated_place step r)
+IsLoadFault step budget r (Damaged f at) = (f ≡ checkpoint_file step) × (at ≡ gated_place step r)
     × ((bytes : List ℕ) × (last_gated step r ≡ Some bytes) × ((c : Checkpoint) → ¬ (IsPointOf step budget bytes c)))
 
 -- the bytes of a checkpoint at a place, or fewer where the file ends
@@ -48,7 +48,7 @@ IsPointAt step budget at bytes c = IsPointOf step budget (bytes_at at bytes) c
 -- none does
 abbrev pub IsPointFault : ℕ → ℕ → ℕ → List ℕ → StreamFault → Type 0
 IsPointFault step budget at bytes Shelf = Unit
-IsPointFault step budget at bytes (Damaged f place) = (f ≡ points_file step) × (place ≡ at)
+IsPointFault step budget at bytes (Damaged f place) = (f ≡ checkpoint_file step) × (place ≡ at)
     × ((c : Checkpoint) → ¬ (IsPointOf step budget (bytes_at at bytes) c))
 
 -- so many bytes from a place on were read, where the file has them

@@ -4,12 +4,9 @@ use Rattle.std.specs.List.{Any}
 use Rattle.run_tiers.specs.declared.run.Run.{Run}
 use Rattle.shelf_model.specs.declared.file_no.FileNo.{FileNo}
 use Rattle.shelf_model.specs.World.{World, file}
+use Rattle.file_numbers.specs.Files.{first_run_part}
 use Rattle.sweep_core.specs.declared.checkpoint.Checkpoint.{Checkpoint}
 use Rattle.sweep_checkpoint.specs.Rules.{tables_in_use}
-
--- the first part of a step that is a run, where the step writes arcs
-abbrev pub first_run : ℕ
-first_run = 5
 
 -- a slot of the table names the part
 abbrev pub NamedAmong : ℕ → List Run → Type 0
@@ -30,18 +27,18 @@ pub record IsBetween (first next part : ℕ) : Type 0 where
 
 -- the first part that was taken since the older checkpoint
 abbrev pub first_taken : Option Checkpoint → ℕ
-first_taken None = first_run
-first_taken (Some c) = max first_run c.next_part
+first_taken None = first_run_part
+first_taken (Some c) = max first_run_part c.next_part
 
 -- the older one names the part, or it was taken since
 abbrev pub WasTaken : Option Checkpoint → Checkpoint → ℕ → Type 0
-WasTaken None new part = IsBetween first_run new.next_part part
-WasTaken (Some old) new part = Names old part ⊎ IsBetween (max first_run old.next_part) new.next_part part
+WasTaken None new part = IsBetween first_run_part new.next_part part
+WasTaken (Some old) new part = Names old part ⊎ IsBetween (max first_run_part old.next_part) new.next_part part
 
 -- a file of the checkpoint's step, of one of these parts, behind the arcs, that it doesn't name
 pub record IsDropped (c : Checkpoint) (these : ℕ → Type 0) (f : FileNo) : Type 0 where
   pub step_is : f.step ≡ c.step
-  pub from : first_run ≤ f.part
+  pub from : first_run_part ≤ f.part
   pub one_of : these f.part
   pub unnamed : ¬ (Names c f.part)
 

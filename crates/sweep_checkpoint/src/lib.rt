@@ -6,7 +6,6 @@
 #![tactic(auto)]
 
 mod blank;
-mod files;
 mod layout;
 mod loading;
 mod point;
@@ -15,7 +14,6 @@ mod rules;
 mod saving;
 mod writes;
 
-pub use files::{gate_of, points_of};
 pub use layout::{POINT_SIZE, bytes_of};
 pub use loading::load;
 pub use point::point_of;

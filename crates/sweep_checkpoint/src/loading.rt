@@ -4,16 +4,16 @@ ghost use Rattle.shelf_model.specs.World.{now, file};
 ghost use Rattle.shelf_model.specs.Calls.{Told};
 ghost use Rattle.shelf_model.specs.Moments.{Ran, Stays};
 ghost use Rattle.shelf_model.specs.Faults.{OnlyFolder, OnlyShelf};
-ghost use Rattle.sweep_checkpoint.specs.Files.{points_file, gate_file};
+ghost use Rattle.file_numbers.specs.Files.{checkpoint_file, checkpoint_gate};
 ghost use Rattle.sweep_checkpoint.specs.Points.{point_size};
 ghost use Rattle.sweep_checkpoint.specs.Gated.{present};
 ghost use Rattle.sweep_checkpoint.specs.Writes.{pieces};
 ghost use Rattle.sweep_checkpoint.specs.Loads.{DuringLoad, IsLoaded, IsLoadFault, ReadWhole, IsPointAt, IsPointFault};
 
 use crate::blank::blank;
-use crate::files::{gate_of, points_of};
 use crate::layout::POINT_SIZE;
 use crate::point::point_of;
+use file_numbers::{checkpoint_file, checkpoint_gate};
 use shelf_model::{Failed, FileNo, PIECE, Shelf, StreamFault};
 use sweep_core::Checkpoint;
 
@@ -38,7 +38,7 @@ pub fn load<S: Shelf>(
         → (S.world shelf.new).clock ≤ (S.world shelf.old).clock + 10 }
     ensures faults { OnlyShelf (S.faults shelf.old) (S.faults shelf.new) result }
 {
-    let gate = gate_of(step);
+    let gate = checkpoint_gate(step);
     // Until the gate is made sure, an image may have another length of it than a read gives.
     shelf.sync(gate)?;
     let count = shelf.len(gate)?;
@@ -62,14 +62,14 @@ fn read_point<S: Shelf>(
     ensures content { Told S.tells shelf.old shelf.new
         (Ran (Stays (now (S.world shelf.old))) (S.world shelf.old) (S.world shelf.new)) }
     ensures ok { IfOk result (λ point. IsTrue (S.tells shelf.new)
-        → IsPointAt step budget at (file (S.world shelf.old) (points_file step)).bytes point) }
+        → IsPointAt step budget at (file (S.world shelf.old) (checkpoint_file step)).bytes point) }
     ensures err { IfErr result (λ fault. IsTrue (S.tells shelf.new)
-        → IsPointFault step budget at (file (S.world shelf.old) (points_file step)).bytes fault) }
+        → IsPointFault step budget at (file (S.world shelf.old) (checkpoint_file step)).bytes fault) }
     ensures calls { IsTrue (S.tells shelf.new)
         → (S.world shelf.new).clock ≤ (S.world shelf.old).clock + 8 }
     ensures faults { OnlyShelf (S.faults shelf.old) (S.faults shelf.new) result }
 {
-    let points = points_of(step);
+    let points = checkpoint_file(step);
     let damaged = StreamFault::Damaged { file: points, at };
     let mut bytes = blank();
     let whole = read_whole(points, at, &mut bytes, shelf)?;

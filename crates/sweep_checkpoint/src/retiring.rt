@@ -8,12 +8,10 @@ ghost use Rattle.shelf_model.specs.Faults.{OnlyFolder, OnlyShelf};
 ghost use Rattle.sweep_checkpoint.specs.Rules.{tables_in_use};
 ghost use Rattle.sweep_checkpoint.specs.Retires.{NamedIn, NamedAmong, IsGivenUp, IsDropped, IsBetween, Emptied, first_taken};
 
+use file_numbers::FIRST_RUN_PART;
 use run_tiers::Run;
 use shelf_model::{Failed, FileNo, Shelf, StreamFault};
 use sweep_core::Checkpoint;
-
-// The first part that is a run of a step that writes arcs.
-const FIRST_RUN: u64 = 5;
 
 /// Cuts the runs that the older checkpoint names, or whose parts were taken since, and that the new one doesn't name.
 ///
@@ -34,11 +32,11 @@ pub fn retire<S: Shelf>(
     ensures faults { OnlyShelf (S.faults shelf.old) (S.faults shelf.new) result }
 {
     let Some(point) = older else {
-        give_up_taken(FIRST_RUN, newer, shelf)?;
+        give_up_taken(FIRST_RUN_PART, newer, shelf)?;
         return Ok(());
     };
     give_up_tables(tables_of(point), newer, shelf)?;
-    give_up_taken(FIRST_RUN.max(point.next_part), newer, shelf)?;
+    give_up_taken(FIRST_RUN_PART.max(point.next_part), newer, shelf)?;
     Ok(())
 }
 
@@ -92,7 +90,7 @@ fn give_up<S: Shelf>(part: u64, new: &Checkpoint, shelf: &mut S) -> Result<(), F
         → (S.world shelf.new).clock ≤ (S.world shelf.old).clock + 1 }
     ensures faults { OnlyFolder (S.faults shelf.old) (S.faults shelf.new) result }
 {
-    if part < FIRST_RUN {
+    if part < FIRST_RUN_PART {
         return Ok(());
     }
     if is_named_in(tables_of(new), part) {

@@ -4,14 +4,14 @@ ghost use Rattle.shelf_model.specs.World.{now, file};
 ghost use Rattle.shelf_model.specs.Calls.{Told};
 ghost use Rattle.shelf_model.specs.Moments.{Ran};
 ghost use Rattle.shelf_model.specs.Faults.{OnlyFolder, OnlyShelf};
-ghost use Rattle.sweep_checkpoint.specs.Files.{points_file, gate_file};
+ghost use Rattle.file_numbers.specs.Files.{checkpoint_file, checkpoint_gate};
 ghost use Rattle.sweep_checkpoint.specs.Points.{point_size};
 ghost use Rattle.sweep_checkpoint.specs.Gated.{present};
 ghost use Rattle.sweep_checkpoint.specs.Saves.{DuringSave, IsSaved, IsSaveFault};
 
-use crate::files::{gate_of, points_of};
 use crate::layout::{POINT_SIZE, bytes_of};
 use crate::writes::{lengthen, replace_from};
+use file_numbers::{checkpoint_file, checkpoint_gate};
 use shelf_model::{Failed, Shelf, StreamFault};
 use sweep_core::Checkpoint;
 
@@ -32,11 +32,11 @@ pub fn save<S: Shelf>(point: &Checkpoint, shelf: &mut S) -> Result<(), StreamFau
         → (S.world shelf.new).clock ≤ (S.world shelf.old).clock + 14 }
     ensures faults { OnlyShelf (S.faults shelf.old) (S.faults shelf.new) result }
 {
-    let count = shelf.len(gate_of(point.step))?;
-    let size = shelf.len(points_of(point.step))?;
+    let count = shelf.len(checkpoint_gate(point.step))?;
+    let size = shelf.len(checkpoint_file(point.step))?;
     if size / SIZE < count {
         return Err(StreamFault::Damaged {
-            file: points_of(point.step),
+            file: checkpoint_file(point.step),
             at: SIZE * count.saturating_sub(1),
         });
     }
@@ -47,9 +47,9 @@ pub fn save<S: Shelf>(point: &Checkpoint, shelf: &mut S) -> Result<(), StreamFau
 // Puts a checkpoint behind the first ones, of which there are so many, and gates it.
 fn put_behind<S: Shelf>(point: &Checkpoint, count: u64, shelf: &mut S) -> Result<(), Failed>
     requires gated { IsTrue (S.tells shelf.old)
-        → count ≡ length (file (S.world shelf.old) (gate_file point.now.step)).bytes }
+        → count ≡ length (file (S.world shelf.old) (checkpoint_gate point.now.step)).bytes }
     requires within { IsTrue (S.tells shelf.old)
-        → point_size * count ≤ length (file (S.world shelf.old) (points_file point.now.step)).bytes }
+        → point_size * count ≤ length (file (S.world shelf.old) (checkpoint_file point.now.step)).bytes }
     requires small { point_size * count ≤ 2 ^ 50 }
     ensures content { Told S.tells shelf.old shelf.new
         (Ran (DuringSave point.now (now (S.world shelf.old))) (S.world shelf.old) (S.world shelf.new)) }
@@ -60,6 +60,7 @@ fn put_behind<S: Shelf>(point: &Checkpoint, count: u64, shelf: &mut S) -> Result
     ensures faults { OnlyFolder (S.faults shelf.old) (S.faults shelf.new) result }
 {
     // The checkpoint has to be sure before its gate: behind an open gate other bytes would count.
-    replace_from(points_of(point.step), SIZE * count, &bytes_of(point), shelf)?;
-    lengthen(gate_of(point.step), count, shelf)
+    let at = SIZE * count;
+    replace_from(checkpoint_file(point.step), at, &bytes_of(point), shelf)?;
+    lengthen(checkpoint_gate(point.step), count, shelf)
 }
