@@ -8,7 +8,6 @@ use Rattle.shelf_model.specs.File.{no_file, IsLeft}
 use Rattle.shelf_model.specs.Folder.{Folder, Image, IsImage, file_in, bytes_in}
 use Rattle.shelf_model.proofs.Files.{only_image}
 use Rattle.shelf_model.proofs.Images.{chosen, standing_image}
-use Rattle.shelf_model.proofs.Lives.{next_life}
 use Rattle.shelf_model.specs.World.{Moment, World, now, said}
 use Rattle.shelf_model.specs.Moments.{OnlyOldImages}
 use Rattle.shelf_model.specs.Faults.{Faults}
@@ -78,8 +77,7 @@ new_folder_is_sound job folder empty image is_image =
 -- what holds of each image of a folder holds of each image of what is left of it
 of_left : (P : (FileNo → List ℕ) → Type 0) (folder left : Folder) → IsLeftOf folder left → ((image : Image) → IsImage folder image → P (bytes_in image))
     → (image : Image) → IsImage left image → P (bytes_in image)
-of_left P folder left (inl same) all image is_image = all image (λ f. subst (λ x. IsLeft x (bytes_in image f)) (same f) (is_image f))
-of_left P folder left (inr cut) all image is_image = next_life P left cut.0 image cut.2 (all cut.0 cut.1) is_image
+of_left P folder left leaves all image is_image = all image (leaves image is_image)
 
 -- the images of a folder that another one is like
 alike : (a b : Folder) → SameFiles a b → (image : Image) → IsImage a image → IsImage b image

@@ -2,7 +2,6 @@
 -- by a power cut.
 use Rattle.std.specs.Prelude.{◌≡◌, ◌⊎◌, ℕ, ◌<◌, ◌≤◌, IsTrue, List, [], ◌∷◌, ◌++◌}
 use Rattle.shelf_model.specs.declared.file_no.FileNo.{FileNo}
-use Rattle.shelf_model.specs.File.{firm_file}
 use Rattle.shelf_model.specs.Folder.{Folder, Image, file_in, bytes_in, IsImage, AreFiles}
 use Rattle.shelf_model.specs.World.{World, now, said}
 use Rattle.catalogue.specs.Counts.{present, is_stored, count_in}
@@ -17,8 +16,7 @@ use Rattle.sound_image.specs.Jobs.{Job}
 use Rattle.script_runner.specs.JobOf.{job_of}
 use Rattle.script_runner.specs.Outcome.{Accepts, EndsRan, Ends}
 
--- a call of the program, the moment at which it was ended, what it had said by then, and the folder
--- that was left
+-- a call of the program, the moment at which it was ended, what it had said by then, and the folder that was left
 pub record Life : Type 0 where
   pub words : List (List ℕ)
   pub status : ℕ
@@ -32,16 +30,12 @@ pub record Life : Type 0 where
 abbrev pub SameFiles : Folder → Folder → Type 0
 SameFiles a b = (f : FileNo) → file_in a f ≡ file_in b f
 
--- the folder was left as it stood, what was pending with it, or as one of its images, with nothing
--- pending
+-- what was left of the folder: whatever a stop may leave of it, a stop could leave of that folder
 abbrev pub IsLeftOf : Folder → Folder → Type 0
-IsLeftOf folder left =
-    SameFiles left folder
-    ⊎ ((image : Image) × IsImage folder image
-    × ((f : FileNo) → file_in left f ≡ firm_file (bytes_in image f)))
+IsLeftOf folder left = (image : Image) → IsImage left image → IsImage folder image
 
--- the call found that folder, in which every file is one that can be, and was ended at a moment of
--- it, which is its last where it came to its end
+-- the call found that folder, in which every file is one that can be, and was ended at a moment of it: its last where
+-- it came to its end, and the one after the append or the cut within which it was ended
 pub record IsLife (folder : Folder) (life : Life) : Type 0 where
   pub found : SameFiles (now life.old).folder folder
   pub files : AreFiles (now life.old).folder

@@ -25,9 +25,10 @@ ghost use Rattle.script_runner.specs.Lives.{Life, AreLives, LivesKeep};
 use script_reader::laws::net_lines_make_their_signals;
 
 /// Over any list of calls in one folder, each of which finds what the one before left: a call is ended by its
-/// status, by a kill, which leaves what is pending, or by a power cut, which leaves an image. The words are those
-/// of one job, or any others once every image stores that job, or run no job. Every image that is left is sound for
-/// the job, and has each step that all images had and each whose line was said.
+/// status, by a kill, between two calls of the folder or within one, or by a power cut, and leaves any folder of which
+/// a stop may leave only what it could leave at that moment. The words are those of one job, or any others once every
+/// image stores that job, or run no job. Every image that is left is sound for the job, and has each step that all
+/// images had and each whose line was said.
 pub fn lives_keep()
     ensures keeps { (source : Source) (plan : Plan) (folder : Folder) (lives : List Life)
         → Plans source plan → AreSound (job_of source plan) folder → AreLives source plan folder lives
