@@ -160,7 +160,7 @@ fetched_calls source fetch most old mid new looked clock within (inr (plan, plan
 )
 
 -- a call ends so whose words have no other reading: those of a run over texts, of a run of a size, and of a list
-same_reading : (a b : Reading) → Some a ≡ Some b → a ≡ b
+pub same_reading : (a b : Reading) → Some a ≡ Some b → a ≡ b
 same_reading a b same = cc
 
 same_folder : (a b : List ℕ) → Some (list a) ≡ Some (list b) → a ≡ b

@@ -48,6 +48,7 @@ module _ {S : Type 0} (tells : S → Bool) (world : S → World) (counts : S →
     calls = λ tells_t. inr (inr ((folder, refl), calls tells_t));
     by_words = by_list folder (status_of end) ends;
     causes = has_cause (Some (list folder)) end (counts s) (counts t) not_six cause;
+    in_order = λ _ six. absurd (not_six six);
   }
     where
       not_six : status_of end ≡ 6 → ⊥

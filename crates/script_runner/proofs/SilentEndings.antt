@@ -11,12 +11,12 @@ use Rattle.script_runner.specs.declared.ending.Ending.TheVariants as ending
 use Rattle.script_runner.specs.declared.ending.Ending.TheVariants.{SayFault}
 use Rattle.script_runner.specs.Entered.{EndingHasCause}
 use Rattle.script_runner.specs.Fetching.{OnlyFetched}
-use Rattle.script_runner.specs.Outcome.{SaysLine, ByWords, IsStatus, Answers, texts_calls}
+use Rattle.script_runner.specs.Outcome.{SaysLine, ByWords, IsStatus, PassesNetlist, Answers, texts_calls}
 use Rattle.script_runner.specs.Running.{SaysOnly}
 use Rattle.script_runner.specs.Source.{NamesText}
 use Rattle.script_runner.specs.Status.{status_of}
 use Rattle.script_runner.specs.Text.{usage_line}
-use Rattle.script_runner.proofs.Endings.{fetched_then, ends_texts, ends_unread, ends_without_memory}
+use Rattle.script_runner.proofs.Endings.{fetched_then, same_reading, ends_texts, ends_unread, ends_without_memory}
 use Rattle.script_runner.proofs.SourceRuns.{one_of_two, line_said, has_cause, words_run}
 
 -- nothing was called
@@ -68,6 +68,7 @@ module _ {S : Type 0} (tells : S → Bool) (world : S → World) (counts : S →
       folder_fault = λ seven. absurd (omega (arith, seven));
       say_fault = λ eight. absurd (omega (arith, eight));
     };
+    in_order = λ _ six. absurd (omega (arith, six));
   }
 
   -- and nothing was called
@@ -81,8 +82,9 @@ module _ {S : Type 0} (tells : S → Bool) (world : S → World) (counts : S →
       → NamesText (run folder script netlist budget) path → Rose ((counts s).text path) ((counts t).text path)
       → Told tells s t (OnlyFetched (world s) (world t))
       → (IsTrue (tells t) → (world t).clock ≤ (world s).clock + texts_calls)
+      → (IsTrue (tells t) → PassesNetlist (run folder script netlist budget) (world s) (counts s) (counts t))
       → Answers tells world counts (Some (run folder script netlist budget)) 6 s t
-  answers_no_text folder script netlist budget path s t names rose looked calls = record {
+  answers_no_text folder script netlist budget path s t names rose looked calls passes = record {
     content = record {
       before = looked.before;
       did = λ tells_t. ends_texts folder script netlist budget 6 (world s) (world t) (inr (inl (refl, looked.did tells_t)));
@@ -94,6 +96,8 @@ module _ {S : Type 0} (tells : S → Bool) (world : S → World) (counts : S →
       folder_fault = λ seven. absurd (omega (arith, seven));
       say_fault = λ eight. absurd (omega (arith, eight));
     };
+    in_order = λ tells_t six reading is. subst (λ r. PassesNetlist r (world s) (counts s) (counts t))
+        (same_reading (run folder script netlist budget) reading is) (passes tells_t);
   }
 
   -- the words have no reading, and the usage was said
@@ -114,4 +118,6 @@ module _ {S : Type 0} (tells : S → Bool) (world : S → World) (counts : S →
     by_words = by_usage asked e none which;
     causes = has_cause asked e (counts s) (counts t)
         (one_of_two (λ s. ¬ (s ≡ 6)) e ending.Usage which (λ x. omega (arith, x)) (λ x. omega (arith, x))) cause;
+    in_order = λ _ six. absurd (one_of_two (λ s. ¬ (s ≡ 6)) e ending.Usage which (λ x. omega (arith, x))
+        (λ x. omega (arith, x)) six);
   }

@@ -5,15 +5,18 @@ use Rattle.std.proofs.lemmas.List.{take_at, drop_at, length-append}
 use Rattle.byteorder.specs.Endian.{big_bytes, big_number}
 use Rattle.byteorder.specs.Numbers.{length-bytes_high_first, big_number-reads_back}
 use Rattle.shelf_model.specs.World.{World}
-use Rattle.blif_reader.specs.Netlist.{Net, Settles, reading}
+use Rattle.blif_reader.specs.Answers.{net_of}
+use Rattle.blif_reader.specs.Netlist.{Net, Settles, IsReading, reading}
 use Rattle.blif_reader.specs.declared.fault.BlifFault.{BlifFault}
 use Rattle.command_words.specs.Readings.{Reading, run, list, gen}
 use Rattle.script_reader.specs.declared.fault.ScriptFault.{ScriptFault}
 use Rattle.script_reader.specs.declared.plan.Plan.{Plan}
 use Rattle.script_reader.specs.Reads.{Reads}
 use Rattle.script_reader.proofs.PlanReads.{one_plan, plan_or_refusal, text_is_short}
+use Rattle.script_runner.specs.declared.read_netlist.ReadNetlist.{ReadNetlist}
+use Rattle.script_runner.specs.Netlists.{netlist_text, IsSpelled}
 use Rattle.script_runner.specs.JobOf.{netlist_size, netlist_bytes, job_bytes, job_of, IsShort}
-use Rattle.script_runner.specs.Source.{Source, IsNamed, IsSource, Spells, Plans, IsFaulty, HasFaultyNetlist}
+use Rattle.script_runner.specs.Source.{Source, IsNamed, IsSource, Spells, Plans, IsFaulty, HasFaultyText, HasFaultyNetlist}
 use Rattle.script_runner.specs.Outcome.{Asks, Accepts}
 use Rattle.script_runner.proofs.Endings.{accepted_is_short}
 
@@ -92,6 +95,16 @@ netlist_is_good w (run folder script (Some path) budget) s p fault is plans faul
 netlist_is_good w (run folder script None budget) s p fault is plans faulty = absurd faulty
 netlist_is_good w (list folder) s p fault is plans faulty = absurd faulty
 netlist_is_good w (gen folder size budget) s p fault is plans faulty = absurd faulty
+
+-- nor is a netlist that was read
+pub read_is_good : (w : World) (path : Option (List ℕ)) (given : Option ReadNetlist) (fault : BlifFault)
+    → IsNamed w path (netlist_text given) → IsSpelled given → HasFaultyText w path fault → ⊥
+read_is_good w None given fault named spelled faulty = faulty
+read_is_good w (Some path) None fault named spelled faulty = absurd (let none = named.1 in cc)
+read_is_good w (Some path) (Some given) fault named spelled faulty =
+    let bytes : named.0 ≡ faulty.0 = one_some named.0 faulty.0 (w.texts path) named.2 faulty.1 in
+    let text : given.text.items ≡ faulty.0 = one_some given.text.items faulty.0 (Some given.text.items) refl (named.1 ∙ ap Some bytes) in
+    settled_or_not (reading faulty.0) (net_of given.net) fault (subst (λ b. IsReading b (Ok (net_of given.net))) text spelled) faulty.2
 
 -- the netlist of a source that is planned is short
 spelled_is_short : (text : Option (List ℕ)) (net : Option Net) → Spells text net → IsShort text

@@ -11,7 +11,7 @@ use Rattle.sound_image.specs.Jobs.{Job, step_at}
 use Rattle.sound_image.specs.Entries.{work_of}
 use Rattle.script_reader.specs.declared.plan.Plan.{Plan}
 use Rattle.script_reader.specs.declared.fault.ScriptFault.{ScriptFault}
-use Rattle.script_runner.specs.Source.{Source, IsSource, folder_of, NamesText, Plans, IsFaulty, HasFaultyNetlist}
+use Rattle.script_runner.specs.Source.{Source, IsSource, folder_of, NamesText, NamesNetlist, Plans, IsFaulty, HasFaultyNetlist}
 use Rattle.script_runner.specs.Text.{usage_line, refused_line, netlist_line}
 use Rattle.script_runner.specs.Fetching.{OnlyFetched}
 use Rattle.script_runner.specs.Running.{SaysOnly}
@@ -125,6 +125,17 @@ pub record StatusHasCause (asked : Option Reading) (status : ℕ) (old new : Fau
   pub folder_fault : status ≡ 7 → Rose old.folder new.folder
   pub say_fault : status ≡ 8 → Rose old.say new.say
 
+-- the netlist that words name couldn't be fetched, for the count of its path rose, or its text isn't refused
+abbrev pub PassesNetlist : Reading → World → Faults → Faults → Type 0
+PassesNetlist reading w old new =
+    ((path : List ℕ) × NamesNetlist reading path × Rose (old.text path) (new.text path))
+    ⊎ ((fault : BlifFault) → ¬ (HasFaultyNetlist w reading fault))
+
+-- a netlist that is refused is told before a script that can't be fetched: 6 comes only where the netlist was passed
+abbrev pub NetlistIsFirst : Option Reading → ℕ → World → Faults → Faults → Type 0
+NetlistIsFirst asked status w old new =
+    status ≡ 6 → (reading : Reading) → asked ≡ Some reading → PassesNetlist reading w old new
+
 -- each step's work is below 2^35 turns
 abbrev pub IsSmall : Job → Type 0
 IsSmall job = (k : ℕ) → k < length job.steps → work_of job (step_at job k).step < 2 ^ 35
@@ -164,3 +175,4 @@ pub record Answers {S : Type 0} (tells : S → Bool) (world : S → World) (coun
   pub calls : IsTrue (tells after) → MakesFewCalls asked (world before) (world after)
   pub by_words : ByWords asked status
   pub causes : StatusHasCause asked status (counts before) (counts after)
+  pub in_order : IsTrue (tells after) → NetlistIsFirst asked status (world before) (counts before) (counts after)

@@ -39,6 +39,12 @@ NamesText (run folder script netlist budget) path = (path ≡ script) ⊎ (netli
 NamesText (list folder) path = ⊥
 NamesText (gen folder size budget) path = ⊥
 
+-- the path is that of the netlist that words name
+abbrev pub NamesNetlist : Reading → List ℕ → Type 0
+NamesNetlist (run folder script netlist budget) path = netlist ≡ Some path
+NamesNetlist (list folder) path = ⊥
+NamesNetlist (gen folder size budget) path = ⊥
+
 -- a text spells a netlist, which is sound
 pub record IsSpelling (text : List ℕ) (net : Net) : Type 0 where
   pub reads : IsReading text (Ok net)

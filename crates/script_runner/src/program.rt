@@ -3,7 +3,7 @@ ghost use Rattle.std.specs.Prelude.{◌≤◌, Some, map, string_bytes, IsTrue};
 ghost use Rattle.shelf_model.specs.Calls.{Told};
 ghost use Rattle.command_words.specs.Readings.{reading_of, run, gen};
 ghost use Rattle.command_words.specs.Views.{text_of};
-ghost use Rattle.script_runner.specs.Outcome.{Ends, ByWords, StatusHasCause, MakesFewCalls, Answers};
+ghost use Rattle.script_runner.specs.Outcome.{Ends, ByWords, StatusHasCause, MakesFewCalls, NetlistIsFirst, Answers};
 ghost use Rattle.script_runner.specs.Status.{status_of};
 
 use crate::ending::Ending;
@@ -132,6 +132,8 @@ pub fn adiar<W: Station>(alloc: Global, words: &[String], station: &mut W) -> u8
     ensures by_words { ByWords (reading_of (map string_bytes words.now)) result }
     ensures causes { StatusHasCause (reading_of (map string_bytes words.now)) result (W.faults station.old)
         (W.faults station.new) }
+    ensures in_order { IsTrue (W.tells station.new) → NetlistIsFirst (reading_of (map string_bytes words.now)) result
+        (W.world station.old) (W.faults station.old) (W.faults station.new) }
 {
     answer(alloc, words, station).status()
 }

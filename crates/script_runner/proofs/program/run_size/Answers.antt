@@ -23,5 +23,6 @@ returns g c = record {
     by_words = words_gen c.args.folder.now c.args.size c.args.budget (status_of c.run_source.result)
         c.run_source.ensures.which.known c.run_source.ensures.which.not_usage;
     causes = has_cause _ c.run_source.result _ _ c.run_source.ensures.which.not_text c.run_source.ensures.cause;
+    in_order = λ _ six. absurd (c.run_source.ensures.which.not_text six);
   };
 }

@@ -10,6 +10,7 @@ use Rattle.script_runner.specs.Status.{status_of}
 use Rattle.script_runner.specs.Text.{netlist_line}
 use Rattle.script_runner.specs.declared.ending.Ending.TheVariants as ending
 use Rattle.script_runner.proofs.SourceRuns.{one_of_two, has_cause, cause_since, rose_later, words_run, faulty_netlist, ran_texts, calls_texts}
+use Rattle.script_runner.proofs.Sources.{read_is_good}
 use Rattle.script_runner.proofs.SilentEndings.{fetched_both, answers_no_memory, answers_no_text}
 use Rattle.script_runner.proofs.program.run_texts.Goals as goal
 
@@ -36,6 +37,8 @@ returns-in-Err-Faulty g c = record {
         (one_of_two (λ s. ¬ (s ≡ 6)) c.say_refusal.result ending.Netlist c.say_refusal.ensures.which
         (λ x. omega (arith, x)) (λ x. omega (arith, x)))
         (cause_since c.say_refusal.result _ _ _ c.in-Err-Faulty.ensures.faults c.say_refusal.ensures.cause);
+    in_order = λ _ six. absurd (one_of_two (λ s. ¬ (s ≡ 6)) c.say_refusal.result ending.Netlist
+        c.say_refusal.ensures.which (λ x. omega (arith, x)) (λ x. omega (arith, x)) six);
   };
 }
 
@@ -54,7 +57,8 @@ returns-in-Err-Text g c =
       answers = answers_no_text g.W.Shelf.tells g.W.Shelf.world g.W.Shelf.faults c.args.folder.now c.args.script.now
           (text_of c.args.netlist) c.args.budget named.0 c.args.station.now c.fetch_netlist.new.station (inr named.1) named.2
           c.in-Err-Text.ensures.content
-          (λ t. let few = c.in-Err-Text.ensures.calls t in omega (arith, few));
+          (λ t. let few = c.in-Err-Text.ensures.calls t in omega (arith, few))
+          (λ _. inl (named.0, named.1, named.2));
     }
 
 pub returns-in-Err-Memory-fetch_text : goal.returns-in-Err-Memory-fetch_text
@@ -83,7 +87,9 @@ returns-in-Err-Text-fetch_text g c =
           (λ t.
           let first = c.in-Ok.ensures.calls (said.content.before t) in
           let second = said.calls t in
-          omega (arith, first, second));
+          omega (arith, first, second))
+          (λ t. inr (λ fault. read_is_good (g.W.Shelf.world c.args.station.now) (text_of c.args.netlist) c.in-Ok.netlist fault
+          (c.in-Ok.ensures.there (said.content.before t)) c.in-Ok.ensures.spelled));
     }
 
 pub returns : goal.returns
@@ -110,5 +116,6 @@ returns g c =
             (cause_since c.run_source.result (g.W.Shelf.faults c.fetch_netlist.new.station)
             (g.W.Shelf.faults c.fetch_text.new.station) (g.W.Shelf.faults c.run_source.new.station)
             c.in-Ok-fetch_text.ensures.faults c.run_source.ensures.cause));
+        in_order = λ _ six. absurd (c.run_source.ensures.which.not_text six);
       };
     }
