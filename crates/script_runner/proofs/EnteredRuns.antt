@@ -26,7 +26,7 @@ use Rattle.script_runner.specs.Calls.{most_calls, AreCounted}
 use Rattle.script_runner.specs.Text.{run_text, other_job_line, damaged_line, runs_spent_line}
 use Rattle.script_runner.specs.Shapes.{IsShape, AreWhole, IsRefusal}
 use Rattle.script_runner.specs.Running.{SaysFront, IsSaying, SaysOnly, HasSaid, IsRunning, StaysThere, IsOther, HasOtherJob, RefusesFolder, IsStill, MeetsDamage, MeetsSpent, RunsSteps}
-use Rattle.script_runner.specs.Entered.{EndsRun, Refused, RefusesOther, IsSpentTail, IsMoment, RunsFrom, RunsIn}
+use Rattle.script_runner.specs.Entered.{EndsRun, Refused, RefusesOther, IsFound, IsTrueLine, BeginsTrueLine, StopsSaying, IsSpentTail, IsMoment, RunsFrom, RunsIn}
 use Rattle.script_runner.proofs.Shown.{says_no_shape}
 use Rattle.script_runner.proofs.Saying.{says_nothing}
 use Rattle.script_runner.proofs.SweepDamage.{met_since, met_until}
@@ -138,6 +138,31 @@ going_moment job lines start m going = record {
 before : (P : Moment → Type 0) (start : Moment) (old mid new : World) → Throughout old mid (λ m. m ≡ start) → P start → Throughout mid new P → Throughout old new P
 before P start old mid new stay here after = joins old mid new P (weakens old mid (λ m. m ≡ start) P (λ m same. subst P (sym same) here) stay) after
 
+-- what was found since a later moment was found since an earlier one
+found_since : (job : Job) (text : List ℕ) (f : FileNo) (at : ℕ) (start : Moment) (old mid new : World)
+    → Throughout old mid (λ m. m ≡ start) → IsFound job text f at start mid new → IsFound job text f at start old new
+found_since job text f at start old mid new stay (inl first) =
+    inl (first.0, first.1, before (OnlyOldImages start) start old mid new stay (λ image is_image. is_image) first.2)
+found_since job text f at start old mid new stay (inr met) =
+    inr (met_since job.n job.steps f at start.folder old mid new stay.later met)
+
+true_since : (job : Job) (start : Moment) (old mid new : World) (text line : List ℕ) → Throughout old mid (λ m. m ≡ start)
+    → IsTrueLine job start mid new text line → IsTrueLine job start old new text line
+true_since job start old mid new text line stay (inl other) = inl other
+true_since job start old mid new text line stay (inr (inl damaged)) =
+    inr (inl (damaged.0, damaged.1, damaged.2, found_since job text damaged.0 damaged.1 start old mid new stay damaged.3))
+true_since job start old mid new text line stay (inr (inr spent)) = inr (inr spent)
+
+begins_since : (job : Job) (lines : List LineEnd) (start : Moment) (old mid new : World) (text tail : List ℕ)
+    → Throughout old mid (λ m. m ≡ start) → (tail ≡ []) ⊎ BeginsTrueLine job lines start mid new text tail
+    → (tail ≡ []) ⊎ BeginsTrueLine job lines start old new text tail
+begins_since job lines start old mid new text tail stay (inl none) = inl none
+begins_since job lines start old mid new text tail stay (inr begins) = inr (record {
+  whole = begins.whole;
+  rest = begins.rest;
+  line_is = true_since job start old mid new text (tail ++ begins.rest) stay begins.line_is;
+})
+
 pub earlier : (job : Job) (lines : List LineEnd) (status : ℕ) (start : Moment) (old mid new : World) → Throughout old mid (λ m. m ≡ start)
     → RunsFrom job lines status start mid new → RunsFrom job lines status start old new
 earlier job lines status start old mid new stay run = record {
@@ -166,10 +191,7 @@ earlier job lines status start old mid new stay run = record {
         before = names.before;
         said_is = names.said_is;
         whole = names.whole;
-        place = elim names.place [
-          | inl first ↦ inl (first.0, first.1, before (OnlyOldImages start) start old mid new stay (λ image is_image. is_image) first.2)
-          | inr met ↦ inr (met_since job.n job.steps names.file names.at start.folder old mid new stay.later met)
-        ];
+        place = found_since job names.before names.file names.at start old mid new stay names.place;
       };
   spent = λ eleven.
       let names = run.spent eleven in
@@ -179,6 +201,16 @@ earlier job lines status start old mid new stay run = record {
         said_is = names.said_is;
         whole = names.whole;
         spent = names.spent;
+      };
+  quiet = run.quiet;
+  unsaid = λ eight.
+      let stops = run.unsaid eight in
+      record {
+        before = stops.before;
+        tail = stops.tail;
+        said_is = stops.said_is;
+        shape = stops.shape;
+        tail_is = begins_since job lines start old mid new stops.before stops.tail stay stops.tail_is;
       };
 }
 
@@ -209,6 +241,12 @@ nothing_ran job lines w = record {
   only_other = λ x. absurd (omega (arith, x));
   damaged = λ x. absurd (omega (arith, x));
   spent = λ x. absurd (omega (arith, x));
+  quiet = λ x. record {
+    front = [];
+    said_is = sym (append-nil (said w));
+    holds = says_no_shape job.steps lines (present (now w).folder) (present (now w).folder);
+  };
+  unsaid = λ x. absurd (omega (arith, x));
 }
 
 -- the steps were run
@@ -228,8 +266,19 @@ ran_from job lines finish old new quiet run = record {
   only_other = λ five. absurd (not_refused finish none (inl five));
   damaged = λ ten. absurd (not_refused finish none (inr ten));
   spent = λ eleven. absurd (not_spent finish quiet eleven);
+  quiet = λ seven. record { front = end.front; said_is = end.said_is; holds = end.holds.shape };
+  unsaid = λ eight. record {
+    before = end.front;
+    tail = [];
+    said_is = end.said_is ∙ ap (λ b. said old ++ b) (sym (append-nil end.front));
+    shape = end.holds.shape;
+    tail_is = inl refl;
+  };
 }
   where
+    end : HasSaid (IsRunning job lines (now old).folder) (now old) (now new)
+    end = at_end old new (HasSaid (IsRunning job lines (now old).folder) (now old)) run.moments
+
     none : ¬ (RefusesFolder finish)
     none = goes_on_quietly finish quiet
 
@@ -261,6 +310,35 @@ moments_said job lines line front old mid new run says refusal said_mid whole ta
   where
     end : HasSaid (IsRunning job lines (now old).folder) (now old) (now mid)
     end = at_end old mid (HasSaid (IsRunning job lines (now old).folder) (now old)) run
+
+-- and at the end a front part of the line of a status that is so
+stops_said : (job : Job) (lines : List LineEnd) (line text : List ℕ) (old mid new : World)
+    → Throughout old mid (HasSaid (IsRunning job lines (now old).folder) (now old)) → SaysOnly line mid new
+    → said mid ≡ said old ++ text → AreWhole job.steps lines (present (now old).folder) (present (now mid).folder) text
+    → IsTrueLine job (now old) old new text line → StopsSaying job lines (now old) old new
+stops_said job lines line text old mid new run says said_mid whole line_is = record {
+  before = text;
+  tail = saying.says.front;
+  said_is = saying.says.said_is ∙ ap (λ b. b ++ saying.says.front) said_mid ∙ append_assoc (said old) text saying.says.front;
+  shape = running.shape;
+  tail_is = inr (record {
+    whole = subst (λ (folder : Folder). AreWhole job.steps lines (present (now old).folder) (present folder) text)
+        (sym saying.folder_is) whole;
+    rest = saying.says.rest;
+    line_is = subst (IsTrueLine job (now old) old new text) saying.says.text_is line_is;
+  });
+}
+  where
+    end : HasSaid (IsRunning job lines (now old).folder) (now old) (now mid)
+    end = at_end old mid (HasSaid (IsRunning job lines (now old).folder) (now old)) run
+
+    saying : IsSaying line (now mid) (now new)
+    saying = at_end mid new (IsSaying line (now mid)) says.moments
+
+    running : IsRunning job lines (now old).folder text (now new).folder
+    running = subst (IsRunning job lines (now old).folder text) (sym saying.folder_is)
+        (subst (λ f. IsRunning job lines (now old).folder f (now mid).folder)
+        (append_cancel_left (said old) end.front text (sym end.said_is ∙ said_mid)) end.holds)
 
 -- no image is new while a line is said
 images_said : (line : List ℕ) (start : Moment) (old mid new : World) → Throughout old mid (OnlyOldImages start) → SaysOnly line mid new → Throughout old new (OnlyOldImages start)
@@ -296,6 +374,9 @@ refused_other job lines at status old mid new which run says whole = record {
   only_other = λ five. has.is_other;
   damaged = λ ten. absurd (elim which [ inl x ↦ omega (arith, x, ten) | inr x ↦ omega (arith, x, ten) ]);
   spent = λ eleven. absurd (elim which [ inl x ↦ omega (arith, x, eleven) | inr x ↦ omega (arith, x, eleven) ]);
+  quiet = λ seven. absurd (elim which [ inl x ↦ omega (arith, x, seven) | inr x ↦ omega (arith, x, seven) ]);
+  unsaid = λ eight. stops_said job lines (other_job_line at) [] old mid new run.moments says
+      (end.said_is ∙ sym (append-nil (said old))) (inl refl) (inl (at, refl, refl, has));
 }
   where
     has : HasOtherJob job.bytes at (present (now old).folder)
@@ -327,21 +408,28 @@ refused_damage job lines f at status old mid new which run says whole = record {
     said_is = whole ten ∙ ap (λ b. b ++ damaged_line f at) meets.said_is ∙ append_assoc (said old) meets.front (damaged_line f at);
     whole = subst (λ (folder : Folder). AreWhole job.steps lines (present (now old).folder) (present folder) meets.front)
         (sym (at_end mid new (IsSaying (damaged_line f at) (now mid)) says.moments).folder_is) meets.whole;
-    place = elim meets.place [
-      | inl first ↦ inl (
-        first.0,
-        append_cancel_left (said old) meets.front []
-            (sym meets.said_is ∙ (at_end old mid (IsStill (now old)) first.1).said_is ∙ sym (append-nil (said old))),
-        images_said (damaged_line f at) (now old) old mid new (weakens old mid (IsStill (now old)) (OnlyOldImages (now old)) (λ m still. still.images) first.1) says,
-      )
-      | inr met ↦ inr (met_until job.n job.steps f at (now old).folder old mid new _ says.moments met)
-    ];
+    place = found;
   };
   spent = λ eleven. absurd (elim which [ inl x ↦ omega (arith, x, eleven) | inr x ↦ omega (arith, x, eleven) ]);
+  quiet = λ seven. absurd (elim which [ inl x ↦ omega (arith, x, seven) | inr x ↦ omega (arith, x, seven) ]);
+  unsaid = λ eight. stops_said job lines (damaged_line f at) meets.front old mid new run.moments says meets.said_is
+      meets.whole (inr (inl (f, at, refl, found)));
 }
   where
     meets : MeetsDamage job lines f at old mid
     meets = run.damaged f at refl
+
+    found : IsFound job meets.front f at (now old) old new
+    found = elim meets.place [
+      | inl first ↦ inl (
+        first.0,
+        append_cancel_left (said old) meets.front []
+            (sym meets.said_is ∙ (at_end old mid (IsStill (now old)) first.1).said_is ∙ sym (append-nil (said old))),
+        images_said (damaged_line f at) (now old) old mid new
+            (weakens old mid (IsStill (now old)) (OnlyOldImages (now old)) (λ m still. still.images) first.1) says,
+      )
+      | inr met ↦ inr (met_until job.n job.steps f at (now old).folder old mid new _ says.moments met)
+    ]
 
     not_other : ((a : ℕ) × (Damaged f at ≡ OtherJob a)) ⊎ (Damaged f at ≡ FolderFault) → ⊥
     not_other (inl x) = let other = x.1 in cc
@@ -377,6 +465,9 @@ stopped_spent job lines step status old mid new which run says whole = record {
         (sym (at_end mid new (IsSaying (runs_spent_line step) (now mid)) says.moments).folder_is) meets.whole;
     spent = meets.spent;
   };
+  quiet = λ seven. absurd (elim which [ inl x ↦ omega (arith, x, seven) | inr x ↦ omega (arith, x, seven) ]);
+  unsaid = λ eight. stops_said job lines (runs_spent_line step) meets.front old mid new run.moments says meets.said_is
+      (inr meets.whole) (inr (inr (step, refl, meets.spent)));
 }
   where
     meets : MeetsSpent job lines step old mid

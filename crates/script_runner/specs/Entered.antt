@@ -12,7 +12,7 @@ use Rattle.script_reader.specs.declared.plan.LineEnd.{LineEnd}
 use Rattle.script_runner.specs.declared.ending.Ending.{Ending}
 use Rattle.script_runner.specs.declared.ending.Ending.TheVariants.{FolderFault, SayFault}
 use Rattle.script_runner.specs.Text.{run_text, other_job_line, damaged_line, runs_spent_line}
-use Rattle.script_runner.specs.Shapes.{IsShape, AreWhole, IsWholeShape, IsTail}
+use Rattle.script_runner.specs.Shapes.{IsShape, IsShapeFront, AreWhole, IsWholeShape, IsTail}
 use Rattle.script_runner.specs.Running.{SaysFront, IsRunning, HasSaid, IsOther, HasOtherJob, IsDamage, IsMetDamage, IsSpentStep, AreEmptied}
 
 -- the statuses of a run that was done, refused its folder, met a fault of the folder or of saying, or had no part
@@ -34,17 +34,21 @@ pub record RefusesOther (job : List ℕ) (status : ℕ) (start : Moment) (old ne
   pub status_is : (status ≡ 5) ⊎ (status ≡ 7) ⊎ (status ≡ 8)
   pub whole : status ≡ 5 → said new ≡ start.said ++ other_job_line at
 
--- a damaged place was named behind whole lines: it was met before anything was done, or where an entry was read, or
--- where a step swept over a folder in which it was damaged when that step began
+-- a place is damaged: that was met before anything was done or said, or where an entry was read, or where a step swept
+-- over a folder in which it was damaged when that step began
+abbrev pub IsFound : Job → List ℕ → FileNo → ℕ → Moment → World → World → Type 0
+IsFound job before file at start old new =
+    (IsDamage (length job.steps) file at (present start.folder) × (before ≡ []) × Throughout old new (OnlyOldImages start))
+    ⊎ IsMetDamage job.n job.steps file at start.folder old new
+
+-- a damaged place was named behind whole lines
 pub record NamesDamage (job : Job) (lines : List LineEnd) (start : Moment) (old new : World) : Type 0 where
   pub file : FileNo
   pub at : ℕ
   pub before : List ℕ
   pub said_is : said new ≡ start.said ++ (before ++ damaged_line file at)
   pub whole : AreWhole job.steps lines (present start.folder) (present (now new).folder) before
-  pub place : (IsDamage (length job.steps) file at (present start.folder) × (before ≡ [])
-      × Throughout old new (OnlyOldImages start))
-      ⊎ IsMetDamage job.n job.steps file at start.folder old new
+  pub place : IsFound job before file at start old new
 
 -- a step without a part number was named behind whole lines
 pub record NamesSpentStep (job : Job) (lines : List LineEnd) (start : Moment) (old new : World) : Type 0 where
@@ -53,6 +57,29 @@ pub record NamesSpentStep (job : Job) (lines : List LineEnd) (start : Moment) (o
   pub said_is : said new ≡ start.said ++ (before ++ runs_spent_line step)
   pub whole : IsShape job.steps lines (present start.folder) (present (now new).folder) before
   pub spent : IsSpentStep job start.folder step
+
+-- the line of a status that is so, behind what was said before it: another job is stored, and nothing was said, or a
+-- place is damaged, or a step has no part number left
+abbrev pub IsTrueLine : Job → Moment → World → World → List ℕ → List ℕ → Type 0
+IsTrueLine job start old new before line =
+    ((at : ℕ) × (line ≡ other_job_line at) × (before ≡ []) × HasOtherJob job.bytes at (present start.folder))
+    ⊎ (((file : FileNo) × (at : ℕ) × (line ≡ damaged_line file at) × IsFound job before file at start old new)
+    ⊎ ((step : ℕ) × (line ≡ runs_spent_line step) × IsSpentStep job start.folder step))
+
+-- a front part of such a line, behind whole lines
+pub record BeginsTrueLine (job : Job) (lines : List LineEnd) (start : Moment) (old new : World) (before tail : List ℕ)
+    : Type 0 where
+  pub whole : AreWhole job.steps lines (present start.folder) (present (now new).folder) before
+  pub rest : List ℕ
+  pub line_is : IsTrueLine job start old new before (tail ++ rest)
+
+-- what was said is a front part of the run's lines, or whole ones and a front part of the line of a status that is so
+pub record StopsSaying (job : Job) (lines : List LineEnd) (start : Moment) (old new : World) : Type 0 where
+  pub before : List ℕ
+  pub tail : List ℕ
+  pub said_is : said new ≡ start.said ++ (before ++ tail)
+  pub shape : IsShapeFront job.steps lines (present start.folder) (present (now new).folder) before
+  pub tail_is : (tail ≡ []) ⊎ BeginsTrueLine job lines start old new before tail
 
 -- a front part of the line of a step of great work that has no part number left
 pub record IsSpentTail (job : Job) (tail : List ℕ) : Type 0 where
@@ -95,6 +122,10 @@ pub record RunsFrom (job : Job) (lines : List LineEnd) (status : ℕ) (start : M
   pub damaged : status ≡ 10 → NamesDamage job lines start old new
   -- and with 11 a step that has no part number left
   pub spent : status ≡ 11 → NamesSpentStep job lines start old new
+  -- with 7 the line of no status was begun, and with 8 none but of one that is so
+  pub quiet : status ≡ 7
+      → HasSaid (λ text folder. IsShapeFront job.steps lines (present start.folder) (present folder) text) start (now new)
+  pub unsaid : status ≡ 8 → StopsSaying job lines start old new
 
 -- a job was run in the folder of that path
 pub record RunsIn (folder : List ℕ) (job : Job) (lines : List LineEnd) (status : ℕ) (old new : World) : Type 0 where
