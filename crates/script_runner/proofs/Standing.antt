@@ -19,10 +19,9 @@ pub record IsStanding (job : List ℕ) (steps : ℕ) (s : Standing) (r : FileNo 
   pub few : s.done ≤ steps
   pub same : IsTrue (is_stored r) → r job_file ≡ job
 
--- the folder is damaged, and stores this job
+-- the folder stores this job, and is damaged
 pub record IsDamaged (job : List ℕ) (steps : ℕ) (f : FileNo) (at : ℕ) (r : FileNo → List ℕ) : Type 0 where
   pub damage : IsDamage steps f at r
-  pub stored : IsTrue (is_stored r)
   pub same : r job_file ≡ job
 
 -- what each answer says
@@ -42,7 +41,10 @@ counted_says job steps r stored same =
 
     by_size : length (r step_gate) ≤ steps → (b : Bool) → nat_lt (length (r catalogue)) (128 * length (r step_gate)) ≡ b
         → Says job steps r (cond b (Err (Damaged catalogue (128 * (length (r catalogue) / 128)))) (Ok (record { fresh = false; done = length (r step_gate) })))
-    by_size short true e = record { damage = inr (refl, refl, lacks (length (r catalogue)) (length (r step_gate)) e); stored = stored; same = same }
+    by_size short true e = record {
+      damage = record { stored = stored; place = inr (refl, refl, lacks (length (r catalogue)) (length (r step_gate)) e) };
+      same = same;
+    }
       where
         lacks : (a b : ℕ) → nat_lt a (128 * b) ≡ true → a < 128 * b
         lacks a b h = search (arith, h)
@@ -51,7 +53,10 @@ counted_says job steps r stored same =
     by_gate : (b : Bool) → nat_lt steps (length (r step_gate)) ≡ b
         → Says job steps r (cond b (Err (Damaged step_gate steps))
         (cond (nat_lt (length (r catalogue)) (128 * length (r step_gate))) (Err (Damaged catalogue (128 * (length (r catalogue) / 128)))) (Ok (record { fresh = false; done = length (r step_gate) }))))
-    by_gate true e = record { damage = inl (refl, refl, longer steps (length (r step_gate)) e); stored = stored; same = same }
+    by_gate true e = record {
+      damage = record { stored = stored; place = inl (refl, refl, longer steps (length (r step_gate)) e) };
+      same = same;
+    }
       where
         longer : (a b : ℕ) → nat_lt a b ≡ true → a < b
         longer a b h = search (arith, h)

@@ -198,12 +198,12 @@ module _ (job : Job) (lines : List LineEnd) (plan : IsPlan job lines) (old new :
   by_damage f at damage = record {
     moments = (attaching job lines plan old files new run).moments;
     stays = (attaching job lines plan old files new run).stays;
-    goes_on = λ sound _. let shows = present_shows job old files sound damage.stored in
+    goes_on = λ sound _. let shows = present_shows job old files sound damage.damage.stored in
         let r : FileNo → List ℕ = shows.0 in
         let counted : count_in r ≡ length (r step_gate) = ap (λ b. cond b (length (r step_gate)) 0) shows.1.stored in
         let gate : length (r step_gate) ≡ length (present (now old).folder step_gate) = ap length (shows.2 step_gate) in
         let size : length (r catalogue) ≡ length (present (now old).folder catalogue) = ap length (shows.2 catalogue) in
-        elim damage.damage [
+        elim damage.damage.place [
           | inl longer ↦ let few_shown = shows.1.few in let more = longer.2 in omega (arith, few_shown, more, counted, gate)
           | inr lacks ↦ no_lack (count_in r) (r catalogue) (λ k within. whole_entry r k (shows.1.entries k within))
               (let short = lacks.2 in omega (arith, short, counted, gate, size))
@@ -224,7 +224,7 @@ module _ (job : Job) (lines : List LineEnd) (plan : IsPlan job lines) (old new :
           place = inl (
             subst (λ k. IsDamage (length job.steps) g k (present (now old).folder)) places
                 (subst (λ h. IsDamage (length job.steps) h at (present (now old).folder)) files_are damage.damage),
-            stands_still job old new damage.stored run,
+            stands_still job old new damage.damage.stored run,
           );
         };
     spent = λ k e. cc;

@@ -133,13 +133,13 @@ pub record HasOtherJob (job : List ℕ) (at : ℕ) (r : FileNo → List ℕ) : T
   pub is_other : IsOther job r
   pub place : at ≡ common_prefix_len nat_eq (r job_file) job
 
--- the step gate counts more than the steps, or the catalogue lacks an entry that it counts: its
+-- a job is stored, and the step gate counts more than the steps, or the catalogue lacks an entry that it counts: its
 -- first entry that isn't whole
-abbrev pub IsDamage : ℕ → FileNo → ℕ → (FileNo → List ℕ) → Type 0
-IsDamage steps f at r =
-    ((f ≡ step_gate) × (at ≡ steps) × (steps < length (r step_gate)))
-    ⊎ ((f ≡ catalogue) × (at ≡ 128 * (length (r catalogue) / 128))
-    × (length (r catalogue) < 128 * length (r step_gate)))
+pub record IsDamage (steps : ℕ) (f : FileNo) (at : ℕ) (r : FileNo → List ℕ) : Type 0 where
+  pub stored : IsTrue (is_stored r)
+  pub place : ((f ≡ step_gate) × (at ≡ steps) × (steps < length (r step_gate)))
+      ⊎ ((f ≡ catalogue) × (at ≡ 128 * (length (r catalogue) / 128))
+      × (length (r catalogue) < 128 * length (r step_gate)))
 
 -- no entry of a committed step, of the kind of that step, stands whole at its place
 pub record IsEntryDamage (steps : List Planned) (f : FileNo) (at : ℕ) (r : FileNo → List ℕ) : Type 0 where
