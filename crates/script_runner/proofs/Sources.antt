@@ -15,7 +15,7 @@ use Rattle.script_reader.specs.Reads.{Reads}
 use Rattle.script_reader.proofs.PlanReads.{one_plan, plan_or_refusal, text_is_short}
 use Rattle.script_runner.specs.declared.read_netlist.ReadNetlist.{ReadNetlist}
 use Rattle.script_runner.specs.Netlists.{netlist_text, IsSpelled}
-use Rattle.script_runner.specs.JobOf.{netlist_size, netlist_bytes, job_bytes, job_of, IsShort}
+use Rattle.script_runner.specs.JobOf.{netlist_size, netlist_bytes, room_in, job_bytes, job_of, IsShort}
 use Rattle.script_runner.specs.Source.{Source, IsNamed, IsSource, Spells, Plans, IsFaulty, HasFaultyText, HasFaultyNetlist}
 use Rattle.script_runner.specs.Outcome.{Asks, Accepts}
 use Rattle.script_runner.proofs.Endings.{accepted_is_short}
@@ -145,6 +145,14 @@ same_netlist None None x y sizes bytes = refl
 same_netlist None (Some b) x y sizes bytes = absurd (no_netlist b y sizes)
 same_netlist (Some a) None x y sizes bytes = absurd (no_netlist a x (sym sizes))
 same_netlist (Some a) (Some b) x y sizes bytes = ap Some bytes
+
+-- a job's bytes have the records of its room
+pub room_of_job : (s : Source) → s.budget < 2 ^ 32 → room_in (job_bytes s) ≡ s.budget
+unfolding room_in job_bytes
+room_of_job s small =
+    let rest : List ℕ = big_bytes 4 (length s.script) ++ netlist_size s.netlist ++ s.script ++ netlist_bytes s.netlist in
+    ap (big_number 4) (drop_at (codes "ADIARJ01") (big_bytes 4 s.budget ++ rest) 8 refl)
+    ∙ big_number-reads_back 4 s.budget rest (omega (arith, small))
 
 -- a job is of one script and one netlist
 pub job_has_texts : (a b : Source) (p q : Plan) → Plans a p → Plans b q → job_bytes a ≡ job_bytes b

@@ -1,6 +1,6 @@
 -- The job of a source, and the one that a run is given.
-use Rattle.std.specs.Prelude.{ℕ, ◌≤◌, List, [], ◌++◌, length, replicate, codes, Option, Some, None}
-use Rattle.byteorder.specs.Endian.{big_bytes}
+use Rattle.std.specs.Prelude.{ℕ, ◌≤◌, List, [], ◌++◌, length, drop, replicate, codes, Option, Some, None}
+use Rattle.byteorder.specs.Endian.{big_bytes, big_number}
 use Rattle.sound_image.specs.Jobs.{Job}
 use Rattle.script_reader.specs.declared.plan.Plan.{Plan}
 use Rattle.script_runner.specs.Source.{Source}
@@ -30,6 +30,10 @@ unfoldable pub job_bytes : Source → List ℕ
 job_bytes s =
     codes "ADIARJ01" ++ big_bytes 4 s.budget ++ big_bytes 4 (length s.script) ++ netlist_size s.netlist
     ++ s.script ++ netlist_bytes s.netlist
+
+-- the records of the run's room, as the bytes of its job have them
+unfoldable pub room_in : List ℕ → ℕ
+room_in bytes = big_number 4 (drop 8 bytes)
 
 -- the job of a source whose script asks for this plan
 abbrev pub job_of : Source → Plan → Job

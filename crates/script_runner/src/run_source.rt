@@ -4,7 +4,7 @@ ghost use Rattle.shelf_model.specs.World.{now};
 ghost use Rattle.shelf_model.specs.Calls.{Told};
 ghost use Rattle.script_runner.specs.Calls.{most_calls, AreCounted};
 ghost use Rattle.script_runner.specs.Entered.{RunsIn, EndsRun, EndingHasCause};
-ghost use Rattle.script_runner.specs.JobOf.{source_of, job_in};
+ghost use Rattle.script_runner.specs.JobOf.{source_of, room_in, job_in};
 ghost use Rattle.command_words.specs.Views.{text_of};
 ghost use Rattle.script_reader.specs.Views.{given};
 ghost use Rattle.script_runner.specs.Netlists.{netlist_in, netlist_text, IsSpelled};
@@ -83,8 +83,9 @@ fn take_room(alloc: Global, budget: u32) -> Result<Vec<Rec>, AllocError>
     vec![in alloc; Rec { w: [0; 8] }; budget as usize]
 }
 
-/// Enters the folder and runs the job there.
+/// Enters the folder and runs the job there, in the room that the job asks for.
 fn run_in<W: Station>(folder: &str, job: &Job, room: &mut [Rec], station: &mut W) -> Ending
+    requires own { length room.old ≡ room_in job.now.bytes.now }
     requires room { (16384 ≤ length room.old) × (length room.old ≤ 4194304) }
     ensures content { Told W.tells station.old station.new
         (RunsIn folder.now (job_in job.now) job.now.lines.now (status_of result)

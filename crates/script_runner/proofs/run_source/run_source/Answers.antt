@@ -1,14 +1,15 @@
-use Rattle.std.proofs.Common.{◌≡◌, ◌∙◌, ap, inl, inr, arith, refl}
+use Rattle.std.proofs.Common.{◌≡◌, ◌∙◌, length, sym, ap, inl, inr, arith, refl}
 use Rattle.script_reader.proofs.PlanReads.{text_is_short}
 use Rattle.script_reader.specs.Views.{given}
 use Rattle.shelf_model.specs.World.{now}
-use Rattle.script_runner.specs.JobOf.{source_of, job_bytes}
+use Rattle.script_runner.specs.JobOf.{source_of, room_in, job_bytes}
 use Rattle.script_runner.specs.Netlists.{netlist_text}
 use Rattle.script_runner.specs.Outcome.{IsStatus}
 use Rattle.script_runner.specs.Source.{Source, Plans}
 use Rattle.script_runner.specs.Status.{status_of}
 use Rattle.script_runner.specs.declared.ending.Ending.TheVariants as ending
 use Rattle.script_runner.proofs.Endings.{not_memory}
+use Rattle.script_runner.proofs.Sources.{room_of_job}
 use Rattle.script_runner.proofs.SourceRuns.{short_there, plans_of, faulty_of, calls_of, one_of_two, refused_source, ran_source}
 use Rattle.script_runner.proofs.run_source.run_source.Goals as goal
 
@@ -42,6 +43,15 @@ job_bytes-requires-clause-short g c =
 pub job_bytes-requires-clause-short_netlist : goal.job_bytes-requires-clause-short_netlist
 job_bytes-requires-clause-short_netlist g c =
     short_there c.args.netlist.now _ c.text_in-text.ensures c.requires.spelled
+
+pub run_in-requires-clause-own : goal.run_in-requires-clause-own
+run_in-requires-clause-own g c =
+    let source : Source = source_of c.args.budget c.args.script.now (netlist_text c.args.netlist.now) in
+    let few = c.requires.budget.1 in
+    ap length c.deref_mut.ensures.value ∙ c.in-Ok-take_room.ensures
+    ∙ sym (ap room_in (c.deref.ensures.value ∙ c.in-Ok-job_bytes.ensures
+    ∙ ap (λ text. job_bytes (source_of c.args.budget c.args.script.now text)) c.text_in-text.ensures)
+    ∙ room_of_job source (omega (arith, few)))
 
 pub returns-clause-content : goal.returns-clause-content
 returns-clause-content g c =
