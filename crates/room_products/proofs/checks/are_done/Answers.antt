@@ -5,7 +5,8 @@ use Rattle.room_products.proofs.checks.are_done.Goals as goal
 
 pub loop-place-preserved : goal.loop-place-preserved
 loop-place-preserved c =
-    found_more (sources_in c.args.index.total c.args.slots.now) (sources_in c.args.index.total c.args.sources.now) c.args.index.total
+    found_more (sources_in c.args.index.total c.args.slots.now)
+    (sources_in c.args.index.total c.args.sources.now) c.args.index.total
     c.loop-place.place c.source_word.result c.find.result c.if-is_none.ensures c.source_word.ensures c.find.ensures
     c.loop-place.invariant
 

@@ -33,8 +33,8 @@ returns-clause-joined g c told n t u few left right =
     (product_table n op t u form_t form_u _ _ first_is second_is)
     (made n (targets_of_two n t u) few (product_rules n op t u form_t form_u _ _ first_is second_is)
     (record {
-      first = read_gives n t c.args.pair.left.from _ c.args.pair.left.trailer.count (packed c.read_nodes.new.nodes) left.file_of
-          left.trailer_of.count_is (omega (arith, lefts, lefts_long, length-packed c.read_nodes.new.nodes))
+      first = read_gives n t c.args.pair.left.from _ c.args.pair.left.trailer.count (packed c.read_nodes.new.nodes)
+          left.file_of left.trailer_of.count_is (omega (arith, lefts, lefts_long, length-packed c.read_nodes.new.nodes))
           (c.in_ok-read_nodes.ensures.read c.if-not-branch.false mid);
       second = read_gives n u c.args.pair.right.from _ c.args.pair.right.trailer.count (packed c.read_nodes-2.new.nodes)
           (file_before n _ u c.args.pair.right.from _ _ looked right.file_of) right.trailer_of.count_is

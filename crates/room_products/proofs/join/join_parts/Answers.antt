@@ -23,16 +23,19 @@ pub returns-clause-content : goal.returns-clause-content
 returns-clause-content g c =
     let few : c.in-Some.joined.count ≤ 4 * (c.args.most / 4) =
     subst (λ o. IfSome o (λ j. j.count ≤ 4 * (c.args.most / 4))) c.in-Some.is c.in_ok-joined.ensures.few in
-    told_after g.S.Shelf.tells g.S.Shelf.world c.args.out (c.args.pair.left.trailer.count + c.args.pair.right.trailer.count)
+    told_after g.S.Shelf.tells g.S.Shelf.world c.args.out
+    (c.args.pair.left.trailer.count + c.args.pair.right.trailer.count)
     (c.in-Some.joined.count + 6) _ _ _ _ (omega (arith, few)) c.join_operands.ensures.content
     c.reduce_joined.ensures.content
 
 pub returns-in_default-clause-content : goal.returns-in_default-clause-content
 returns-in_default-clause-content g c =
-    told_looked g.S.Shelf.tells g.S.Shelf.world c.args.out (c.args.pair.left.trailer.count + c.args.pair.right.trailer.count)
+    told_looked g.S.Shelf.tells g.S.Shelf.world c.args.out
+    (c.args.pair.left.trailer.count + c.args.pair.right.trailer.count)
     _ _ _ (omega arith) c.join_operands.ensures.content
 
 pub returns-in_err-joined-clause-content : goal.returns-in_err-joined-clause-content
 returns-in_err-joined-clause-content g c =
-    told_looked g.S.Shelf.tells g.S.Shelf.world c.args.out (c.args.pair.left.trailer.count + c.args.pair.right.trailer.count)
+    told_looked g.S.Shelf.tells g.S.Shelf.world c.args.out
+    (c.args.pair.left.trailer.count + c.args.pair.right.trailer.count)
     _ _ _ (omega arith) c.join_operands.ensures.content

@@ -13,8 +13,8 @@ loop-source-init c = record {
   joined = λ n root roots targets top rule rows joining.
       joining_marked c.args.firsts.now c.args.level c.to_rec.result c.requires.level
       (ap (λ r. (level_in r).used) c.to_rec.ensures ∙ ap (λ (x : Level). x.used) c.of-known.ensures) n root roots
-      (product_rule c.args.operands.op) targets [] (packed c.args.slots.now) c.args.begun.count (packed c.args.sources.now)
-      c.args.begun.done joining;
+      (product_rule c.args.operands.op) targets [] (packed c.args.slots.now) c.args.begun.count
+      (packed c.args.sources.now) c.args.begun.done joining;
 }
 
 pub loop-source-preserved : goal.loop-source-preserved

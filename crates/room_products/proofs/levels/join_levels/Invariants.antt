@@ -13,10 +13,12 @@ abbrev pub invariant-loop-level : goal.invariant-loop-level
 invariant-loop-level l = record {
   within : l.now.count ≤ 4 * length l.slots;
   done_within : l.now.done ≤ 4 * length l.sources;
-  joined : (n root : ℕ) (roots : Tuple) (targets : Targets) → n ≤ 65535 → IsRule n (product_rule l.fn.operands.op) targets →
+  joined : (n root : ℕ) (roots : Tuple) (targets : Targets) → n ≤ 65535 →
+      IsRule n (product_rule l.fn.operands.op) targets →
       GiveRowsOf targets l.fn.operands →
       IsJoining n root roots (product_rule l.fn.operands.op) targets [] (packed l.fn.slots) l.fn.firsts l.fn.begun.count
       (packed l.fn.sources) l.fn.begun.done →
-      IsJoining n root roots (product_rule l.fn.operands.op) targets [] (packed l.slots) l.firsts l.now.count (packed l.sources)
+      IsJoining n root roots (product_rule l.fn.operands.op) targets [] (packed l.slots) l.firsts l.now.count
+      (packed l.sources)
       l.now.done;
 }

@@ -12,7 +12,8 @@ pub returns-clause-kept : goal.returns-clause-kept
 returns-clause-kept c =
     let put = c.if-not-put_record.ensures in
     let linked = c.link_slot.ensures in
-    slots_added c.args.slots.now c.put_record.new.room c.link_slot.new.slots c.args.count c.put_record.auto.room c.link_slot.auto.slots
+    slots_added c.args.slots.now c.put_record.new.room c.link_slot.new.slots c.args.count c.put_record.auto.room
+    c.link_slot.auto.slots
     put.others linked.pairs linked.ids
 
 -- and the new one has the next identifier of its level
@@ -25,7 +26,8 @@ returns-clause-added c n rule asked low are =
     let count = c.args.count in
     let pair = two c.args.first c.args.second in
     let level = c.min-level.result / level_numbers in
-    let kept = slots_added old c.put_record.new.room new count c.put_record.auto.room c.link_slot.auto.slots put.others linked.pairs
+    let kept = slots_added old c.put_record.new.room new count c.put_record.auto.room c.link_slot.auto.slots
+    put.others linked.pairs
     linked.ids in
     let least = c.min-level.ensures in
     let shallow = c.if-level-gt65534.false in

@@ -21,7 +21,8 @@ returns-clause-joined c n root roots targets top rule rows joining =
     slot_joined c.args.operands.op n root roots targets (packed c.args.slots.now) (packed c.answer_pair.new.slots)
     (packed c.answer_pair-2.new.slots) c.args.firsts.now c.answer_pair.new.firsts c.answer_pair-2.new.firsts
     c.args.begun.count c.in_ok-low.low.count c.in_ok-high.high.count (packed c.args.sources.now)
-    (packed c.put_source.new.sources) c.args.begun.done c.args.place c.in_ok-low.low.word c.in_ok-high.high.word _ _ top rule
+    (packed c.put_source.new.sources) c.args.begun.done c.args.place c.in_ok-low.low.word c.in_ok-high.high.word _ _ top
+    rule
     (omega (arith, unused)) ((λ j. two (lefts.0 j) (rights.0 j)) ∙ leads false)
     ((λ j. two (lefts.1 j) (rights.1 j)) ∙ leads true)
     c.in_ok-low.ensures.kept c.in_ok-high.ensures.kept c.in_ok-low.ensures.answered c.in_ok-high.ensures.answered
