@@ -1,0 +1,4 @@
+mod Placing
+mod Missing
+mod Gathered
+mod Written

@@ -1,0 +1,4 @@
+pub mod Places
+pub mod Singles
+pub mod Joined
+pub mod Items
