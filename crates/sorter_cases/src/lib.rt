@@ -2,6 +2,8 @@
 #![tactic(auto)]
 
 #[cfg(test)]
+mod lives;
+#[cfg(test)]
 mod parts;
 #[cfg(test)]
 mod queues;
