@@ -12,7 +12,6 @@ use Rattle.shelf_model.specs.Moments.{Throughout, OnlyOldImages}
 use Rattle.shelf_model.proofs.Runs.{stands, one_call, joins, weakens, at_end, told, told_then}
 use Rattle.catalogue.specs.Files.{job_file}
 use Rattle.catalogue.specs.Counts.{present, count_in}
-use Rattle.bool_tables.specs.declared.steps.Planned.{Planned}
 use Rattle.sound_image.specs.Jobs.{Job}
 use Rattle.sound_image.specs.Holds.{AreSound}
 use Rattle.script_reader.specs.declared.plan.LineEnd.{LineEnd}

@@ -20,3 +20,4 @@ pub mod GenRuns
 pub mod Lives
 pub mod Listings
 pub mod ListEndings
+pub mod FinishedFiles

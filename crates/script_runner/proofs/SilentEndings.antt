@@ -5,7 +5,7 @@ use Rattle.shelf_model.specs.Calls.{Told}
 use Rattle.shelf_model.specs.Faults.{Faults, Rose}
 use Rattle.shelf_model.specs.World.{Moment, World, now, said}
 use Rattle.shelf_model.proofs.Runs.{stands}
-use Rattle.command_words.specs.Readings.{Reading, run, list}
+use Rattle.command_words.specs.Readings.{Reading, run}
 use Rattle.script_runner.specs.declared.ending.Ending.{Ending}
 use Rattle.script_runner.specs.declared.ending.Ending.TheVariants as ending
 use Rattle.script_runner.specs.declared.ending.Ending.TheVariants.{SayFault}

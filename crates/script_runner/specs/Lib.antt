@@ -14,3 +14,4 @@ pub mod Entered
 pub mod Listed
 pub mod Outcome
 pub mod Lives
+pub mod Finished

@@ -1,16 +1,18 @@
 //! Laws of the program, each the contract of a function that does nothing.
-ghost use Rattle.std.specs.Prelude.{Ok, ◌≡◌, ◌⊎◌, ◌≤◌, ◌++◌, ℕ, List, Option, Some, length};
+ghost use Rattle.std.specs.Prelude.{Ok, ◌≡◌, ◌↔◌, ◌⊎◌, ◌≤◌, ◌++◌, ℕ, IsTrue, List, Option, Some, length};
+ghost use Rattle.bool_tables.specs.Plans.{is_live};
 ghost use Rattle.bool_tables.specs.Steps.{plan_tables, table_of_step};
 ghost use Rattle.blif_reader.specs.Netlist.{Net, IsReading};
 ghost use Rattle.script_reader.specs.Signals.{MakesSignals};
 ghost use Rattle.shelf_model.specs.declared.file_no.FileNo.{FileNo};
 ghost use Rattle.shelf_model.specs.File.{no_file};
-ghost use Rattle.shelf_model.specs.Folder.{Folder, file_in};
+ghost use Rattle.shelf_model.specs.Folder.{Folder, Image, bytes_in, file_in};
 ghost use Rattle.shelf_model.specs.World.{World, now, said};
 ghost use Rattle.shelf_model.specs.Faults.{Faults};
 ghost use Rattle.catalogue.specs.Counts.{present, count_in};
 ghost use Rattle.catalogue.specs.Standings.{most_steps};
 ghost use Rattle.command_words.specs.Readings.{Reading, list};
+ghost use Rattle.sound_image.specs.Files.{node_file};
 ghost use Rattle.sound_image.specs.Jobs.{Job, table_at};
 ghost use Rattle.sound_image.specs.Holds.{AreSound};
 ghost use Rattle.script_reader.specs.declared.plan.Plan.{Plan};
@@ -21,7 +23,9 @@ ghost use Rattle.script_runner.specs.Listed.{diagram_lines};
 ghost use Rattle.script_runner.specs.Source.{Source, Plans};
 ghost use Rattle.script_runner.specs.Outcome.{Accepts, Ends, ByWords, StatusHasCause, NoneRose, IsSmall};
 ghost use Rattle.script_runner.specs.Lives.{Life, AreLives, LivesKeep};
+ghost use Rattle.script_runner.specs.Finished.{IsDiagramOf, IsFinished};
 
+use canon_file::laws::{bytes_are_unique, nodes_stand_for_the_table};
 use script_reader::laws::net_lines_make_their_signals;
 
 /// Over any list of calls in one folder, each of which finds what the one before left: a call is ended by its
@@ -75,3 +79,17 @@ pub fn lists_end()
         × (said new ≡ said old ++ diagram_lines job (count_in (present (now old).folder))))
         ⊎ ((status ≡ 9) × OnlyFetched old new) }
 {}
+
+/// Where a run of a job ended with 0, in a folder that was sound for it, each image has for each diagram that no step
+/// drops a file of nodes and a trailer, from whose root each assignment leads to the value of the step's table. Two
+/// such files over as many variables, of one job or of two, have equal bytes exactly where their tables are equal.
+pub fn finished_files_are_their_functions()
+    ensures means { (job : Job) (image : Image) → IsFinished job image → (s : ℕ) → IsTrue (is_live job.steps s)
+        → IsDiagramOf job.n (table_at job s) (bytes_in image (node_file s)) }
+    ensures equal { (job other : Job) (image second : Image) → IsFinished job image → IsFinished other second
+        → other.n ≡ job.n → (s k : ℕ) → IsTrue (is_live job.steps s) → IsTrue (is_live other.steps k)
+        → (bytes_in image (node_file s) ≡ bytes_in second (node_file k)) ↔ (table_at job s ≡ table_at other k) }
+{
+    nodes_stand_for_the_table();
+    bytes_are_unique();
+}

@@ -1,6 +1,6 @@
 use Rattle.std.proofs.Common.{◌∙◌, arith}
 use Rattle.sound_image.specs.Jobs.{Job}
-use Rattle.script_runner.specs.declared.finish.Finish.TheVariants.{Done, OtherJob, FolderFault, SayFault, Damaged, RunsSpent}
+use Rattle.script_runner.specs.declared.finish.Finish.TheVariants.{Done, FolderFault, SayFault}
 use Rattle.script_runner.specs.declared.ending.Ending.TheVariants as ending
 use Rattle.script_runner.specs.JobOf.{job_in}
 use Rattle.script_runner.proofs.EnteredRuns.{enter_failed, entered_runs, entered_other, entered_damage, entered_spent, entered_calls, said_or, whole_line}
