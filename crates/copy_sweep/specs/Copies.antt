@@ -1,5 +1,5 @@
 -- What is seen of a copy under way, and what a turn of it does.
-use Rattle.std.specs.Prelude.{◌≡◌, ◌≢◌, ℕ, ◌+◌, ◌-◌, ◌*◌, ◌^◌, ◌<◌, ◌≤◌, min, Bool, IsTrue, List, take, Result, OnOk, IfErr}
+use Rattle.std.specs.Prelude.{◌≡◌, ◌≢◌, ℕ, ◌+◌, ◌-◌, ◌*◌, ◌^◌, ◌<◌, ◌≤◌, min, Bool, IsTrue, List, length, take, Result, OnOk, IfErr}
 use Rattle.shelf_model.specs.declared.file_no.FileNo.{FileNo}
 use Rattle.shelf_model.specs.declared.sort_fault.SortFault.{SortFault}
 use Rattle.shelf_model.specs.declared.sort_fault.SortFault.TheVariants.{Shelf}
@@ -35,15 +35,22 @@ pub record IsReady (s : CopySweep) : Type 0 where
   pub few : s.task.pieces * most_piece ≤ longest
   pub within : s.turns ≤ s.task.pieces + 1
 
--- a piece stands for each turn, and once one turn more was made they stand there whatever a stop leaves
+-- where the file that is read has more, what was copied ends where the next piece is put; and once a turn more was
+-- made than there are pieces, it stands there whatever a stop leaves
 pub record IsInStep (s : CopySweep) (world : World) : Type 0 where
-  pub bytes_are : (file world s.task.to).bytes
-      ≡ take (min s.turns s.task.pieces * most_piece) (file world s.task.from).bytes
+  pub at_end : s.turns < s.task.pieces → s.turns * most_piece < length (file world s.task.from).bytes
+      → length (file world s.task.to).bytes ≡ s.turns * most_piece
   pub firm : s.task.pieces < s.turns → IsFirm (file world s.task.to)
 
--- these bytes are copied
-abbrev pub Copies : CopySweep → World → List ℕ → Type 0
-Copies s world bytes = (file world s.task.from).bytes ≡ bytes
+-- a piece stands for each turn
+abbrev pub HasCopied : CopySweep → World → Type 0
+HasCopied s world = (file world s.task.to).bytes
+    ≡ take (min s.turns s.task.pieces * most_piece) (file world s.task.from).bytes
+
+-- these bytes are copied, and a piece of them stands for each turn
+pub record Copies (s : CopySweep) (world : World) (bytes : List ℕ) : Type 0 where
+  pub bytes_are : (file world s.task.from).bytes ≡ bytes
+  pub copied : HasCopied s world
 
 -- the folder failed, which is the only cause of a refusal
 abbrev pub IsFailure : SortFault → Type 0
@@ -54,6 +61,7 @@ pub record Turned {S : Type 0} (tells : S → Bool) (world : S → World) (count
     (before after : S) (old new : CopySweep) (result : Result Turn SortFault) : Type 0 where
   pub ready : OnOk result (IsReady new)
   pub in_step : OnOk result (IsTrue (tells after) → IsInStep new (world after))
+  pub trusts : OnOk result (IsTrue (tells after) → HasCopied old (world before) → HasCopied new (world after))
   pub falls : Falls (fuel_of old) (fuel_of new) result
   pub firm : AtEnd result (IsTrue (tells after) → (f : FileNo) → f ≡ new.task.to → IsFirm (file (world after) f))
   pub keeps : OnOk result (IsTrue (tells after) → (bytes : List ℕ) → Copies old (world before) bytes →

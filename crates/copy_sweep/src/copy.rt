@@ -27,7 +27,7 @@ impl CopySweep {
     ghost use Rattle.block_stream.specs.Writes.{Cut};
     ghost use Rattle.run_tiers.specs.Faults.{OnlySortShelf};
     ghost use Rattle.sweep_core.specs.Sweeps.{StaysEnded};
-    ghost use Rattle.copy_sweep.specs.Copies.{IsReady, IsInStep, IsFailure, fuel_of, Turned};
+    ghost use Rattle.copy_sweep.specs.Copies.{IsReady, IsInStep, HasCopied, IsFailure, fuel_of, Turned};
 
     /// Begins a copy: the file that is made is cut to nothing.
     pub fn start<S: Shelf>(task: CopyTask, shelf: &mut S) -> Result<CopySweep, SortFault>
@@ -36,6 +36,7 @@ impl CopySweep {
         ensures begun { IfOk result (λ sweep. sweep ≡ record { task = task; turns = 0 }) }
         ensures ready { IfOk result IsReady }
         ensures in_step { IfOk result (λ sweep. IsTrue (S.tells shelf.new) → IsInStep sweep (S.world shelf.new)) }
+        ensures trusts { IfOk result (λ sweep. IsTrue (S.tells shelf.new) → HasCopied sweep (S.world shelf.new)) }
         ensures cause { IfErr result IsFailure }
         ensures content { Told S.tells shelf.old shelf.new (Cut 1 task.to 0 (S.world shelf.old) (S.world shelf.new)) }
         ensures faults { OnlySortShelf (S.faults shelf.old) (S.faults shelf.new) result }
@@ -77,7 +78,7 @@ impl CopySweep {
 impl<'r> Sweep<'r> for CopySweep {
     ghost use Rattle.std.specs.Prelude.{ℕ, List};
     ghost use Rattle.copy_sweep.specs.declared.copy.CopyTask.{CopyTask};
-    ghost use Rattle.copy_sweep.specs.Copies.{accounts, fuel_of, left_of, Copies, IsReady, IsInStep, IsFailure};
+    ghost use Rattle.copy_sweep.specs.Copies.{accounts, fuel_of, left_of, Copies, IsReady, IsInStep, HasCopied, IsFailure};
 
     ghost Job = { List ℕ };
 
@@ -98,6 +99,10 @@ impl<'r> Sweep<'r> for CopySweep {
     ghost ready = { IsReady };
 
     ghost in_step = { IsInStep };
+
+    ghost trusts = { HasCopied };
+
+    ghost trusted = { λ sweep world bytes copies. copies.copied };
 
     fn turn<S: Shelf>(&mut self, shelf: &mut S) -> Result<Turn, SortFault> {
         if self.turns < self.task.pieces {

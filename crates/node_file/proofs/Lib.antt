@@ -5,4 +5,4 @@ pub mod FileLaws
 mod CanonFiles
 pub mod HeldNodes
 pub mod FileChanges
-mod PieceRuns
+pub mod PieceRuns

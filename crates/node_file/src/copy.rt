@@ -1,5 +1,5 @@
 //! The copy of a node file, piece by piece: its nodes and its trailer as they stand.
-ghost use Rattle.std.specs.Prelude.{◌≡◌, ◌≢◌, ◌+◌, ◌*◌, ◌^◌, ◌<◌, ◌≤◌, [], IsTrue, OnOk, take};
+ghost use Rattle.std.specs.Prelude.{◌≡◌, ◌≢◌, ◌+◌, ◌*◌, ◌^◌, ◌<◌, ◌≤◌, [], ◌++◌, IsTrue, OnOk, length, take, drop};
 ghost use Rattle.shelf_model.specs.File.{firm_file};
 ghost use Rattle.shelf_model.specs.World.{file};
 ghost use Rattle.shelf_model.specs.Calls.{Told, longest, most_piece};
@@ -58,14 +58,14 @@ fn copy_pieces<S: Shelf>(from: FileNo, to: FileNo, pieces: u64, shelf: &mut S) -
     Ok(())
 }
 
-/// Puts the piece of a file from a place on behind the pieces before it, which stand in another one. Behind the file's
-/// end there is none.
+/// Puts the piece of a file from a place on behind what stands in another one, which ends at that place. Behind the
+/// file's end there is none.
 pub fn copy_piece<S: Shelf>(from: FileNo, to: FileNo, at: u64, shelf: &mut S) -> Result<(), Failed>
     requires apart { from ≢ to }
-    requires before { IsTrue (S.tells shelf.old) →
-        (file (S.world shelf.old) to).bytes ≡ take at (file (S.world shelf.old) from).bytes }
-    ensures made { OnOk result (IsTrue (S.tells shelf.new) → (file (S.world shelf.new) to).bytes
-        ≡ take (at + most_piece) (file (S.world shelf.old) from).bytes) }
+    requires at_end { IsTrue (S.tells shelf.old) → at < length (file (S.world shelf.old) from).bytes →
+        length (file (S.world shelf.old) to).bytes ≡ at }
+    ensures put { OnOk result (IsTrue (S.tells shelf.new) → (file (S.world shelf.new) to).bytes
+        ≡ (file (S.world shelf.old) to).bytes ++ take most_piece (drop at (file (S.world shelf.old) from).bytes)) }
     ensures content { Told S.tells shelf.old shelf.new
         (Wrote 2 to (S.world shelf.old) (S.world shelf.new)) }
     ensures faults { OnlyFolder (S.faults shelf.old) (S.faults shelf.new) result }

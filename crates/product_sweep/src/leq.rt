@@ -148,6 +148,10 @@ impl<'r> Sweep<'r> for LeqSweep<'r> {
 
     ghost in_step = { IsInStep };
 
+    ghost trusts = { λ s world. Unit };
+
+    ghost trusted = { λ s world job remains. tt };
+
     fn turn<S: Shelf>(&mut self, shelf: &mut S) -> Result<Turn, SortFault> {
         match self.phase {
             LeqPhase::Making => self.make(shelf),

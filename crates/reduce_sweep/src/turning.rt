@@ -199,6 +199,10 @@ impl<'r> Sweep<'r> for ReduceSweep<'r> {
 
     ghost in_step = { IsInStep };
 
+    ghost trusts = { λ s world. Unit };
+
+    ghost trusted = { λ s world job remains. tt };
+
     fn turn<S: Shelf>(&mut self, shelf: &mut S) -> Result<Turn, SortFault> {
         ReduceSweep::turn(self, shelf)
     }

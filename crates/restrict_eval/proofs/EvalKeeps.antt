@@ -1,12 +1,12 @@
 -- What a turn of an evaluation keeps.
 use Rattle.std.proofs.Common.{◌≡◌, ◌⊎◌, ℕ, ◌+◌, ◌-◌, ◌*◌, ◌<◌, ◌≤◌, ◌^◌, ◌∙◌, Bool, List, [], ◌∷◌, ◌++◌, length, drop, take, length-drop, length-take-le, refl, rules, sym, subst, ap, inl, inr, arith, true≢false, append_assoc}
-use Rattle.std.specs.Prelude.{Result, Ok, Err, Some, None, IsTrue, OnOk, IfOk, IsSome, ◌==◌}
+use Rattle.std.specs.Prelude.{Result, Ok, Err, Some, None, is_some, IsTrue, OnOk, IfOk, IsSome, ◌==◌}
 use Rattle.bool_tables.specs.Tables.{value_at, place_of_bits}
 use Rattle.bool_tables.specs.Steps.{bits_at, eval_at}
 use Rattle.rec_words.specs.Words.{IsTerminal, IsPointer}
 use Rattle.rec_words.specs.declared.node.Node.{Node}
 use Rattle.shelf_model.specs.declared.sort_fault.SortFault.{SortFault}
-use Rattle.shelf_model.specs.declared.sort_fault.SortFault.TheVariants.{Damaged}
+use Rattle.shelf_model.specs.declared.sort_fault.SortFault.TheVariants.{Shelf, Damaged, RunsSpent}
 use Rattle.shelf_model.specs.Faults.{Faults}
 use Rattle.shelf_model.specs.World.{World}
 use Rattle.list_laws.specs.Members.{Has}
@@ -20,7 +20,7 @@ use Rattle.arc_diagrams.proofs.CanonArcs.{canon_stands}
 use Rattle.node_file.specs.declared.reader.NodeReader.{NodeReader}
 use Rattle.node_file.specs.declared.trailer.Trailer.{Trailer}
 use Rattle.node_file.specs.Readers.{file_of, trailer_of, left_of, given_of, AreLeft}
-use Rattle.sweep_core.specs.Sweeps.{AtEnd}
+use Rattle.sweep_core.specs.Sweeps.{AtEnd, IsNoDamage}
 use Rattle.sweep_core.specs.declared.turn.Turn.{Turn}
 use Rattle.sweep_core.specs.declared.turn.Turn.TheVariants.{More, Ended}
 use Rattle.restrict_eval.specs.declared.following.Following.{Following}
@@ -31,12 +31,13 @@ use Rattle.std.proofs.lemmas.Bool.{cases_lt}
 use Rattle.std.proofs.lemmas.List.{length-map, append-nil}
 use Rattle.restrict_eval.specs.declared.following.Following.TheVariants.{To, Past, Answered}
 use Rattle.restrict_eval.specs.declared.eval.EvalSweep.{EvalSweep}
-use Rattle.node_reading.specs.Reading.{bytes_of, count_of, GivesNode}
+use Rattle.node_reading.specs.Reading.{bytes_of, count_of, GivesNode, IsNodeFault}
 use Rattle.restrict_eval.specs.Missing.{IsMissedAt}
 use Rattle.restrict_eval.specs.Turns.{AnswersAtEnd, Turns}
 use Rattle.top_down_laws.specs.Readings.{IsIn}
-use Rattle.restrict_eval.specs.Eval.{bits_of, fuel_at, answer_at, answer_of, parts_of, task_of, side_by, IsReady, IsInStep, IsPlaceAt, IsOn, IsOnWay, IsFollowed, IsPath, IsPassed, OneTable, RemainsOf, evaluations}
-use Rattle.restrict_eval.proofs.Looking.{faults_ok, looked_leaves, still_leaves}
+use Rattle.restrict_eval.specs.Eval.{bits_of, fuel_at, answer_at, answer_of, parts_of, task_of, side_by, IsReady, IsInStep, HasCome, IsPlaceAt, IsOn, IsOnWay, IsFollowed, IsPath, IsPassed, OneTable, RemainsOf, IsDamage, evaluations}
+use Rattle.node_reading.proofs.NodeReading.{node_fault_after}
+use Rattle.restrict_eval.proofs.Looking.{faults_ok, faults_err, looked_leaves, still_leaves}
 use Rattle.restrict_eval.proofs.Canonical.{canonical_stays}
 use Rattle.restrict_eval.proofs.PathLaws.{root_one, walk_stays, before_above, side_one, side_walks}
 use Rattle.restrict_eval.proofs.MissingLaws.{node_word, path_found, path_on, path_past, passed_on, missed_first, missed_beside}
@@ -62,6 +63,19 @@ task_come s new state files trailers = λ i. record {
   parts = s.parts;
 }
 
+-- a node of the file that is damaged is damage of the evaluation
+node_damage : (e : SortFault) (s : EvalSweep) (world : World) → IsNodeFault s.nodes world e → IsDamage s world e
+node_damage Shelf s world fault = tt
+node_damage (Damaged f at) s world fault = inl fault
+node_damage RunsSpent s world fault = fault
+
+-- where something of an evaluation that hasn't ended remains, nodes are left
+left_nodes : (state : Following) (r : NodeReader) (bytes : List ℕ) (nodes : List Node) (bits : List Bool) (value : Bool)
+    → answer_at state ≡ None → IsFollowed state r bytes nodes bits value → (rest : List Node) × AreLeft r bytes rest
+left_nodes (To next) r bytes nodes bits value none followed = (followed.but.rest, followed.but.left)
+left_nodes (Past q) r bytes nodes bits value none followed = absurd followed
+left_nodes (Answered b) r bytes nodes bits value none followed = absurd (true≢false (ap is_some none))
+
 -- the value that the path has to lead to
 abbrev pub value_of : EvalSweep → OneTable → Bool
 value_of s d = value_at d.table (place_of_bits (bits_of s))
@@ -72,13 +86,16 @@ module _ {S : Type 0} (tells : S → Bool) (world : S → World) (counts : S →
     pub goes_on : (x : Node) (state old_state : Following) → s.state ≡ old_state → fuel_at old_state (left_of s.nodes) ≡ left_of s.nodes + 1 → fuel_at state (left_of new) ≡ left_of new + 1 → answer_at state ≡ None
         → GivesNode tells world counts before after s.nodes new (Ok (Some x))
         → IsPlaceAt state (trailer_of s.nodes).count
-        → (IsTrue (tells after) → IsInStep s (world before) → IsOn state (trailer_of s.nodes).root (left_of new) (given_of new) (bytes_of s.nodes (world before)))
+        → (IsTrue (tells after) → IsInStep s (world before) → HasCome s (world before) → IsOn state (trailer_of s.nodes).root (left_of new) (given_of new) (bytes_of s.nodes (world before)))
         → (IsTrue (tells after) → (d : OneTable) → RemainsOf s (world before) d
         → IsFollowed state new (bytes_of s.nodes (world before)) (canon_nodes d.n d.table) (bits_of s) (value_of s d))
         → Turns evaluations tells world counts before after s (come_to s new state) (Ok More)
     goes_on x state old_state was fuel_was fuel none gives place on followed =
         let fewer : left_of s.nodes ≡ left_of new + 1 = gives.rises.1 in
         let spent : fuel_at s.state (left_of s.nodes) ≡ left_of s.nodes + 1 = ap (λ st. fuel_at st (left_of s.nodes)) was ∙ fuel_was in
+        let comes : IsTrue (tells after) → HasCome s (world before) → HasCome (come_to s new state) (world after) =
+        λ told come. subst (λ (t : Trailer). IsOn state t.root (left_of new) (given_of new) (bytes_of new (world after))) (sym gives.trailer_is)
+        (subst (λ bytes. IsOn state (trailer_of s.nodes).root (left_of new) (given_of new) bytes) (sym (gives.same told)) (on told (step (gives.content.before told)) come)) in
         record {
           ready = record {
             begun = gives.begun;
@@ -86,11 +103,8 @@ module _ {S : Type 0} (tells : S → Bool) (world : S → World) (counts : S →
             bits = subst (λ (t : Trailer). s.at + t.n ≤ length s.text.now) (sym gives.trailer_is) ready.bits;
             place = subst (λ (t : Trailer). IsPlaceAt state t.count) (sym gives.trailer_is) place;
           };
-          in_step = λ told. record {
-            reads = gives.reads told;
-            on = subst (λ (t : Trailer). IsOn state t.root (left_of new) (given_of new) (bytes_of new (world after))) (sym gives.trailer_is)
-                (subst (λ bytes. IsOn state (trailer_of s.nodes).root (left_of new) (given_of new) bytes) (sym (gives.same told)) (on told (step (gives.content.before told))));
-          };
+          in_step = λ told. gives.reads told;
+          trusts = comes;
           falls = (omega (arith, fuel), omega (arith, fewer, spent, fuel));
           ends = none;
           keeps = λ told d remains. record {
@@ -98,6 +112,7 @@ module _ {S : Type 0} (tells : S → Bool) (world : S → World) (counts : S →
             followed = subst (λ (t : Trailer). IsFollowed state new (bytes_of new (world after)) (canon_nodes d.n d.table) (bits_at t.n s.text.now s.at)
                 (value_at d.table (place_of_bits (bits_at t.n s.text.now s.at)))) (sym gives.trailer_is)
                 (subst (λ bytes. IsFollowed state new bytes (canon_nodes d.n d.table) (bits_of s) (value_of s d)) (sym (gives.same told)) (followed told d remains));
+            come = comes told remains.come;
           };
           undamaged = tt;
           damage = tt;
@@ -108,20 +123,42 @@ module _ {S : Type 0} (tells : S → Bool) (world : S → World) (counts : S →
 
     -- no node is left, and one is missing at a place
     pub misses : (at : ℕ) → GivesNode tells world counts before after s.nodes new (Ok None)
-        → (IsTrue (tells after) → IsInStep s (world before) → IsMissedAt (bytes_of s.nodes (world before)) at)
+        → (IsTrue (tells after) → IsInStep s (world before) → HasCome s (world before) → IsMissedAt (bytes_of s.nodes (world before)) at)
         → (IsTrue (tells after) → (d : OneTable) → ¬ RemainsOf s (world before) d)
         → Turns evaluations tells world counts before after s (come_to s new s.state) (Err (Damaged s.file at))
     misses at gives missed none = record {
       ready = tt;
       in_step = tt;
+      trusts = tt;
       falls = tt;
       ends = tt;
       keeps = tt;
       undamaged = λ told d remains. none told d remains;
-      damage = λ told. inr (ready.file_is ∙ sym gives.file_is, subst (λ bytes. IsMissedAt bytes at) (sym (gives.same told)) (missed told (step (gives.content.before told))));
+      damage = λ told come. inr (ready.file_is ∙ sym gives.file_is, subst (λ bytes. IsMissedAt bytes at) (sym (gives.same told)) (missed told (step (gives.content.before told)) come));
       refused = ready.file_is;
       leaves = looked_leaves tells world counts parts_of before after s _ (Err (Damaged s.file at)) refl gives.content
           (record { later = gives.faults.later; cause = λ is. cc; say_is = gives.faults.say_is; text_is = gives.faults.text_is });
+      same = task_come s new s.state gives.file_is gives.trailer_is;
+    }
+
+    -- no node was given
+    pub refuses : (e : SortFault) (old_state : Following) → s.state ≡ old_state → answer_at old_state ≡ None
+        → GivesNode tells world counts before after s.nodes new (Err e)
+        → Turns evaluations tells world counts before after s (come_to s new s.state) (Err e)
+    refuses e old_state was none gives = record {
+      ready = tt;
+      in_step = tt;
+      trusts = tt;
+      falls = tt;
+      ends = tt;
+      keeps = tt;
+      undamaged = λ told d remains.
+          let left = left_nodes s.state s.nodes (bytes_of s.nodes (world before)) (canon_nodes d.n d.table) (bits_of s) (value_of s d) (ap answer_at was ∙ none) remains.followed in
+          subst IsNoDamage (sym (gives.items told left.0 left.1)) tt;
+      damage = λ told come. node_damage e (come_to s new s.state) (world after)
+          (node_fault_after s.nodes new (world before) (world after) e gives.file_is gives.trailer_is (gives.same told) (gives.damage told));
+      refused = gives.refused;
+      leaves = looked_leaves tells world counts parts_of before after s _ (Err e) refl gives.content (faults_err (counts before) (counts after) e gives.faults);
       same = task_come s new s.state gives.file_is gives.trailer_is;
     }
 
@@ -132,9 +169,9 @@ module _ {S : Type 0} (tells : S → Bool) (world : S → World) (counts : S →
         let bytes : List ℕ = bytes_of s.nodes (world before) in
         subst (λ st. Turns evaluations tells world counts before after s (come_to s new st) (Ok More)) (sym was)
         (goes_on x (Past q) (Past q) was refl refl refl gives (subst (λ st. IsPlaceAt st (trailer_of s.nodes).count) was ready.place)
-        (λ told now. passed_on (trailer_of new).n (left_of new) q (given_of s.nodes) (given_of new) bytes x (gives.value told) gives.rises.2 gives.rises.3
+        (λ told now come. passed_on (trailer_of new).n (left_of new) q (given_of s.nodes) (given_of new) bytes x (gives.value told) gives.rises.2 gives.rises.3
         (subst (λ l. IsPassed l (given_of s.nodes) bytes q) gives.rises.1
-        (subst (λ st. IsOn st (trailer_of s.nodes).root (left_of s.nodes) (given_of s.nodes) bytes) was now.on)))
+        (subst (λ st. IsOn st (trailer_of s.nodes).root (left_of s.nodes) (given_of s.nodes) bytes) was come)))
         (λ told d remains. absurd (subst (λ st. IsFollowed st s.nodes bytes (canon_nodes d.n d.table) (bits_of s) (value_of s d)) was remains.followed)))
 
     -- no node is left behind it
@@ -143,14 +180,14 @@ module _ {S : Type 0} (tells : S → Bool) (world : S → World) (counts : S →
     misses_beside q was gives =
         let bytes : List ℕ = bytes_of s.nodes (world before) in
         misses (q * 24) gives
-        (λ told now. missed_beside q (given_of s.nodes) bytes
+        (λ told now come. missed_beside q (given_of s.nodes) bytes
         (subst (λ l. IsPassed l (given_of s.nodes) bytes q) gives.rises.0
-        (subst (λ st. IsOn st (trailer_of s.nodes).root (left_of s.nodes) (given_of s.nodes) bytes) was now.on)))
+        (subst (λ st. IsOn st (trailer_of s.nodes).root (left_of s.nodes) (given_of s.nodes) bytes) was come)))
         (λ told d remains. subst (λ st. IsFollowed st s.nodes bytes (canon_nodes d.n d.table) (bits_of s) (value_of s d)) was remains.followed)
 
     module _ (next : Next) (was : s.state ≡ To next) (other : ¬ IsTerminal next.pointer) where
-      path : (now : IsInStep s (world before)) → IsPath (trailer_of s.nodes).root (left_of s.nodes) (bytes_of s.nodes (world before)) next.pointer
-      path now = subst (λ st. IsOn st (trailer_of s.nodes).root (left_of s.nodes) (given_of s.nodes) (bytes_of s.nodes (world before))) was now.on
+      path : HasCome s (world before) → IsPath (trailer_of s.nodes).root (left_of s.nodes) (bytes_of s.nodes (world before)) next.pointer
+      path come = subst (λ st. IsOn st (trailer_of s.nodes).root (left_of s.nodes) (given_of s.nodes) (bytes_of s.nodes (world before))) was come
 
       way : (d : OneTable) → RemainsOf s (world before) d → IsOnWay s.nodes (bytes_of s.nodes (world before)) (canon_nodes d.n d.table) (bits_of s) (value_of s d) next.pointer
       way d remains = subst (λ st. IsFollowed st s.nodes (bytes_of s.nodes (world before)) (canon_nodes d.n d.table) (bits_of s) (value_of s d)) was remains.followed
@@ -159,9 +196,9 @@ module _ {S : Type 0} (tells : S → Bool) (world : S → World) (counts : S →
       pub misses_first : GivesNode tells world counts before after s.nodes new (Ok None) → Turns evaluations tells world counts before after s (come_to s new s.state) (Err (Damaged s.file 0))
       misses_first gives =
           misses 0 gives
-          (λ told now. missed_first (trailer_of s.nodes).n (trailer_of s.nodes).root next.pointer (bytes_of s.nodes (world before)) now.reads.trailer
-          (node_word next.pointer (path now).pointer other)
-          (subst (λ l. IsPath (trailer_of s.nodes).root l (bytes_of s.nodes (world before)) next.pointer) gives.rises.0 (path now)))
+          (λ told now come. missed_first (trailer_of s.nodes).n (trailer_of s.nodes).root next.pointer (bytes_of s.nodes (world before)) now.trailer
+          (node_word next.pointer (path come).pointer other)
+          (subst (λ l. IsPath (trailer_of s.nodes).root l (bytes_of s.nodes (world before)) next.pointer) gives.rises.0 (path come)))
           (λ told d remains. let w = way d remains in
           elim w.next [ inl end ↦ other end | inr one ↦ subst (Has one.0) (gives.items told w.but.rest w.but.left) one.1 ])
 
@@ -171,14 +208,14 @@ module _ {S : Type 0} (tells : S → Bool) (world : S → World) (counts : S →
         among now =
             let fewer : left_of s.nodes ≡ left_of new + 1 = gives.rises.1 in
             let within : left_of s.nodes ≤ (trailer_of s.nodes).count = s.nodes.within in
-            let count : (trailer_of s.nodes).count ≡ count_of (bytes_of s.nodes (world before)) = now.reads.count in
+            let count : (trailer_of s.nodes).count ≡ count_of (bytes_of s.nodes (world before)) = now.count in
             omega (arith, fewer, within, count)
 
         stands : IsTrue (tells after) → IsNodeAt (trailer_of s.nodes).n (left_of new) (bytes_of s.nodes (world before)) x
         stands told = subst (λ (t : Trailer). IsNodeAt t.n (left_of new) (bytes_of s.nodes (world before)) x) gives.trailer_is (gives.value told)
 
-        path_here : (now : IsInStep s (world before)) → IsPath (trailer_of s.nodes).root (left_of new + 1) (bytes_of s.nodes (world before)) next.pointer
-        path_here now = subst (λ l. IsPath (trailer_of s.nodes).root l (bytes_of s.nodes (world before)) next.pointer) gives.rises.1 (path now)
+        path_here : HasCome s (world before) → IsPath (trailer_of s.nodes).root (left_of new + 1) (bytes_of s.nodes (world before)) next.pointer
+        path_here come = subst (λ l. IsPath (trailer_of s.nodes).root l (bytes_of s.nodes (world before)) next.pointer) gives.rises.1 (path come)
 
         -- what is left but this node
         left_but : (d : OneTable) (nodes given rest : List Node) → nodes ≡ rest ++ given
@@ -192,7 +229,7 @@ module _ {S : Type 0} (tells : S → Bool) (world : S → World) (counts : S →
         pub node_below : x.uid < next.pointer → Turns evaluations tells world counts before after s (come_to s new (To next)) (Ok More)
         node_below less =
             goes_on x (To next) (To next) was refl refl refl gives tt
-            (λ told now. path_on (trailer_of s.nodes).n (left_of new) (trailer_of s.nodes).root next.pointer (bytes_of s.nodes (world before)) x (stands told) (among now) (path_here now) now.reads.trailer less)
+            (λ told now come. path_on (trailer_of s.nodes).n (left_of new) (trailer_of s.nodes).root next.pointer (bytes_of s.nodes (world before)) x (stands told) (among now) (path_here come) now.trailer less)
             (λ told d remains.
             let w = way d remains in
             let g = gives.items told w.but.rest w.but.left in
@@ -214,8 +251,8 @@ module _ {S : Type 0} (tells : S → Bool) (world : S → World) (counts : S →
             let fewer : left_of s.nodes ≡ left_of new + 1 = gives.rises.1 in
             let within : left_of s.nodes ≤ (trailer_of s.nodes).count = s.nodes.within in
             goes_on x (Past (left_of new)) (To next) was refl refl refl gives (omega (arith, fewer, within))
-            (λ told now. path_past (trailer_of s.nodes).n (left_of new) (trailer_of s.nodes).root next.pointer (bytes_of s.nodes (world before)) x (stands told) (among now) (path_here now) now.reads.trailer
-            (given_of new) gives.rises.3 (node_word next.pointer (path now).pointer other) greater)
+            (λ told now come. path_past (trailer_of s.nodes).n (left_of new) (trailer_of s.nodes).root next.pointer (bytes_of s.nodes (world before)) x (stands told) (among now) (path_here come) now.trailer
+            (given_of new) gives.rises.3 (node_word next.pointer (path come).pointer other) greater)
             (λ told d remains.
             let w = way d remains in
             let g = gives.items told w.but.rest w.but.left in
@@ -231,7 +268,7 @@ module _ {S : Type 0} (tells : S → Bool) (world : S → World) (counts : S →
         pub node_found : x.uid ≡ next.pointer → Turns evaluations tells world counts before after s (come_to s new (To (record { pointer = side_by (bits_of s) x }))) (Ok More)
         node_found same =
             goes_on x (To (record { pointer = side_by (bits_of s) x })) (To next) was refl refl refl gives tt
-            (λ told now. path_found (trailer_of s.nodes).n (left_of new) (trailer_of s.nodes).root next.pointer (bytes_of s.nodes (world before)) x (stands told) (among now) (path_here now) (bits_of s) same)
+            (λ told now come. path_found (trailer_of s.nodes).n (left_of new) (trailer_of s.nodes).root next.pointer (bytes_of s.nodes (world before)) x (stands told) (among now) (path_here come) (bits_of s) same)
             (λ told d remains.
             let w = way d remains in
             let g = gives.items told w.but.rest w.but.left in
@@ -266,7 +303,8 @@ module _ {S : Type 0} (tells : S → Bool) (world : S → World) (counts : S →
       → IsTerminal next.pointer → value ≡ (next.pointer == 2 ^ 63 + 1) → Turns evaluations tells world counts at at s (come_to s s.nodes (Answered value)) (Ok Ended)
   value_found at s next value was ready step end is = record {
     ready = record { begun = ready.begun; file_is = ready.file_is; bits = ready.bits; place = tt };
-    in_step = λ told. record { reads = (step told).reads; on = tt };
+    in_step = step;
+    trusts = λ told come. tt;
     falls = refl;
     ends = search rules;
     keeps = λ told d remains.
@@ -278,6 +316,7 @@ module _ {S : Type 0} (tells : S → Bool) (world : S → World) (counts : S →
         record {
           file_is = remains.file_is;
           followed = is ∙ ap (λ p. p == 2 ^ 63 + 1) (sym stays ∙ w.walks) ∙ value-terminal (value_of s d);
+          come = tt;
         };
     undamaged = tt;
     damage = tt;

@@ -167,6 +167,7 @@ module _ {S : Type 0} (tells : S → Bool) (world : S → World) (counts : S →
   trailers_differ at s level ready step differ = record {
     ready = record { left_begun = ready.left_begun; right_begun = ready.right_begun };
     in_step = λ told. let now = step told in record { left_reads = now.left_reads; right_reads = now.right_reads };
+    trusts = λ told trusts. tt;
     falls = refl;
     ends = search rules;
     keeps = λ told d remains. record {
@@ -201,6 +202,7 @@ module _ {S : Type 0} (tells : S → Bool) (world : S → World) (counts : S →
           record {
             ready = record { left_begun = gives.begun; right_begun = ready.right_begun };
             in_step = λ told. record { left_reads = gives.reads told; right_reads = other_reads s.right (λ is. (step is).right_reads) gives.content told };
+            trusts = λ told trusts. tt;
             falls = (omega arith, omega (arith, fewer, fuel));
             ends = refl;
             keeps = λ told d remains.
@@ -227,6 +229,7 @@ module _ {S : Type 0} (tells : S → Bool) (world : S → World) (counts : S →
       left_ends level trailers gives = record {
         ready = record { left_begun = gives.begun; right_begun = ready.right_begun };
         in_step = λ told. record { left_reads = gives.reads told; right_reads = other_reads s.right (λ is. (step is).right_reads) gives.content told };
+        trusts = λ told trusts. tt;
         falls = refl;
         ends = search rules;
         keeps = λ told d remains.
@@ -250,13 +253,14 @@ module _ {S : Type 0} (tells : S → Bool) (world : S → World) (counts : S →
       left_refused e level gives = record {
         ready = tt;
         in_step = tt;
+        trusts = tt;
         falls = tt;
         ends = tt;
         keeps = tt;
         undamaged = λ told d remains.
             let at = subst (λ st. AreCompared st d s.left s.right (world before)) level remains.compared in
             subst IsNoDamage (sym (gives.items told at.1.rest at.1.left)) tt;
-        damage = λ told. left_damage e (record { left = new; right = s.right; state = s.state; parts = s.parts }) (world after) (node_fault_after s.left new (world before) (world after) e gives.file_is gives.trailer_is (gives.same told) (gives.damage told));
+        damage = λ told trusts. left_damage e (record { left = new; right = s.right; state = s.state; parts = s.parts }) (world after) (node_fault_after s.left new (world before) (world after) e gives.file_is gives.trailer_is (gives.same told) (gives.damage told));
         refused = first_fault (file_of s.left) (file_of s.right) e gives.refused;
         leaves = looked_leaves tells world counts parts_of before after s _ (Err e) refl gives.content (faults_err (counts before) (counts after) e gives.faults);
         same = task_left s new s.state gives.file_is gives.trailer_is;
@@ -272,6 +276,7 @@ module _ {S : Type 0} (tells : S → Bool) (world : S → World) (counts : S →
           record {
             ready = record { left_begun = ready.left_begun; right_begun = gives.begun };
             in_step = λ told. record { left_reads = other_reads s.left (λ is. (step is).left_reads) gives.content told; right_reads = gives.reads told };
+            trusts = λ told trusts. tt;
             falls = (omega arith, omega (arith, fewer, fuel));
             ends = refl;
             keeps = λ told d remains.
@@ -306,6 +311,7 @@ module _ {S : Type 0} (tells : S → Bool) (world : S → World) (counts : S →
       right_differs x found ahead differ gives = record {
         ready = record { left_begun = ready.left_begun; right_begun = gives.begun };
         in_step = λ told. record { left_reads = other_reads s.left (λ is. (step is).left_reads) gives.content told; right_reads = gives.reads told };
+        trusts = λ told trusts. tt;
         falls = refl;
         ends = search rules;
         keeps = λ told d remains.
@@ -328,13 +334,14 @@ module _ {S : Type 0} (tells : S → Bool) (world : S → World) (counts : S →
       right_refused x e ahead gives = record {
         ready = tt;
         in_step = tt;
+        trusts = tt;
         falls = tt;
         ends = tt;
         keeps = tt;
         undamaged = λ told d remains.
             let at = subst (λ st. AreCompared st d s.left s.right (world before)) ahead remains.compared in
             subst IsNoDamage (sym (gives.items told at.2.rest at.2.left)) tt;
-        damage = λ told. right_damage e (record { left = s.left; right = new; state = s.state; parts = s.parts }) (world after) (node_fault_after s.right new (world before) (world after) e gives.file_is gives.trailer_is (gives.same told) (gives.damage told));
+        damage = λ told trusts. right_damage e (record { left = s.left; right = new; state = s.state; parts = s.parts }) (world after) (node_fault_after s.right new (world before) (world after) e gives.file_is gives.trailer_is (gives.same told) (gives.damage told));
         refused = second_fault (file_of s.left) (file_of s.right) e gives.refused;
         leaves = looked_leaves tells world counts parts_of before after s _ (Err e) refl gives.content (faults_err (counts before) (counts after) e gives.faults);
         same = task_right s new s.state gives.file_is gives.trailer_is;

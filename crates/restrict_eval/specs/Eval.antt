@@ -113,9 +113,12 @@ IsOn (Past q) root left given bytes = IsPassed left given bytes q
 IsOn (Answered b) root left given bytes = Unit
 
 -- what it has read is as its file says
-pub record IsInStep (s : EvalSweep) (world : World) : Type 0 where
-  pub reads : IsReading s.nodes world
-  pub on : IsOn s.state (trailer_of s.nodes).root (left_of s.nodes) (given_of s.nodes) (bytes_of s.nodes world)
+abbrev pub IsInStep : EvalSweep → World → Type 0
+IsInStep s world = IsReading s.nodes world
+
+-- and the nodes that were read have led to where it is
+abbrev pub HasCome : EvalSweep → World → Type 0
+HasCome s world = IsOn s.state (trailer_of s.nodes).root (left_of s.nodes) (given_of s.nodes) (bytes_of s.nodes world)
 
 -- a table of n variables
 pub record OneTable : Type 0 where
@@ -140,6 +143,7 @@ pub record RemainsOf (s : EvalSweep) (world : World) (d : OneTable) : Type 0 whe
   pub file_is : IsCanonical d.n d.table s.nodes world
   pub followed : IsFollowed s.state s.nodes (bytes_of s.nodes world) (canon_nodes d.n d.table) (bits_of s)
       (value_at d.table (place_of_bits (bits_of s)))
+  pub come : HasCome s world
 
 -- a node of the file is damaged, or one is missing beside it
 abbrev pub IsDamage : EvalSweep → World → SortFault → Type 0
@@ -161,6 +165,7 @@ evaluations = record {
   answer = answer_of;
   ready = IsReady;
   in_step = IsInStep;
+  trusts = HasCome;
   damaged = IsDamage;
   refuses = λ s. IsFaultOf (file_of s.nodes);
   parts = parts_of;

@@ -116,6 +116,7 @@ comparisons = record {
   answer = answer_of;
   ready = IsReady;
   in_step = IsInStep;
+  trusts = λ s world. Unit;
   damaged = IsDamage;
   refuses = λ s. IsFaultOfEither (file_of s.left) (file_of s.right);
   parts = parts_of;

@@ -18,6 +18,7 @@ pub record Kind (P : Type 0) : Type 1 where
   pub answer : P → Option Bool
   pub ready : P → Type 0
   pub in_step : P → World → Type 0
+  pub trusts : P → World → Type 0
   pub damaged : P → World → SortFault → Type 0
   pub refuses : P → SortFault → Type 0
   pub parts : P → Parts
@@ -35,13 +36,15 @@ pub record Turns {S P : Type 0} (kind : Kind P) (tells : S → Bool) (world : S 
     (before after : S) (old new : P) (result : Result Turn SortFault) : Type 0 where
   pub ready : OnOk result (kind.ready new)
   pub in_step : OnOk result (IsTrue (tells after) → kind.in_step new (world after))
+  pub trusts : OnOk result (IsTrue (tells after) → kind.trusts old (world before) → kind.trusts new (world after))
   pub falls : Falls (kind.fuel old) (kind.fuel new) result
   pub ends : IfOk result (λ turn. AnswersAtEnd turn (kind.answer new))
   pub keeps : OnOk result (IsTrue (tells after) → (d : kind.Job) → kind.remains old (world before) d →
       kind.remains new (world after) d)
   pub undamaged : IfErr result (λ e. IsTrue (tells after) → (d : kind.Job) → kind.remains old (world before) d →
       IsNoDamage e)
-  pub damage : IfErr result (λ e. IsTrue (tells after) → kind.damaged new (world after) e)
+  pub damage : IfErr result (λ e. IsTrue (tells after) → kind.trusts old (world before) →
+      kind.damaged new (world after) e)
   pub refused : IfErr result (kind.refuses old)
   pub leaves : Leaves tells world counts (reading_accounts kind.parts) 1 0 before after old new result
   pub same : kind.task new ≡ kind.task old

@@ -42,7 +42,7 @@ impl<'r> EvalSweep<'r> {
     ghost use Rattle.sweep_core.specs.Sweeps.{Falls, AtEnd, StaysEnded, IsNoDamage};
     ghost use Rattle.node_reading.specs.Reading.{count_of, IsTrailerFault, IsFaultOf};
     ghost use Rattle.restrict_eval.specs.Turns.{AnswersAtEnd, Turns};
-    ghost use Rattle.restrict_eval.specs.Eval.{accounts, parts_of, bits_of, answer_of, turns_left, task_of, side_by, IsReady, IsInStep, OneTable, RemainsOf, IsDamage, evaluations};
+    ghost use Rattle.restrict_eval.specs.Eval.{accounts, parts_of, bits_of, answer_of, turns_left, task_of, side_by, IsReady, IsInStep, HasCome, OneTable, RemainsOf, IsDamage, evaluations};
 
     /// Begins the evaluation of the node file of a diagram of `n` variables. The bits of the assignment are the `n`
     /// bytes of the text from `at` on, each `0` or `1`.
@@ -59,6 +59,7 @@ impl<'r> EvalSweep<'r> {
         requires bits { at + n ≤ length text.now }
         ensures ready { IfOk result IsReady }
         ensures in_step { IfOk result (λ s. IsTrue (S.tells shelf.new) → IsInStep s (S.world shelf.new)) }
+        ensures trusts { IfOk result (λ s. IsTrue (S.tells shelf.new) → HasCome s (S.world shelf.new)) }
         ensures file { IfOk result (λ s. file_of s.nodes ≡ f) }
         ensures variables { IfOk result (λ s. (trailer_of s.nodes).n ≡ n) }
         ensures bits { IfOk result (λ s. (s.text.now ≡ text.entry.now) × (s.at ≡ at)) }
@@ -129,7 +130,10 @@ impl<'r> EvalSweep<'r> {
         ensures answers { AtEnd result (IsTrue (S.tells shelf.new) → (d : OneTable) →
             RemainsOf self.old (S.world shelf.old) d →
             answer_of self.new ≡ Some (eval_at d.n self.old.text.now d.table self.old.at)) }
-        ensures damage { IfErr result (λ e. IsTrue (S.tells shelf.new) → IsDamage self.new (S.world shelf.new) e) }
+        ensures trusts { OnOk result (IsTrue (S.tells shelf.new) →
+            HasCome self.old (S.world shelf.old) → HasCome self.new (S.world shelf.new)) }
+        ensures damage { IfErr result (λ e. IsTrue (S.tells shelf.new) → HasCome self.old (S.world shelf.old) →
+            IsDamage self.new (S.world shelf.new) e) }
         ensures undamaged { IfErr result (λ e. IsTrue (S.tells shelf.new) → (d : OneTable) →
             RemainsOf self.old (S.world shelf.old) d → IsNoDamage e) }
 
@@ -233,7 +237,7 @@ fn level_at(node: &Node) -> usize
 }
 
 impl<'r> Sweep<'r> for EvalSweep<'r> {
-    ghost use Rattle.restrict_eval.specs.Eval.{accounts, turns_left, Evaluated, task_of, IsReady, IsInStep, OneTable, RemainsOf, IsDamage};
+    ghost use Rattle.restrict_eval.specs.Eval.{accounts, turns_left, Evaluated, task_of, IsReady, IsInStep, HasCome, OneTable, RemainsOf, IsDamage};
 
     ghost Job = { OneTable };
 
@@ -254,6 +258,10 @@ impl<'r> Sweep<'r> for EvalSweep<'r> {
     ghost ready = { IsReady };
 
     ghost in_step = { IsInStep };
+
+    ghost trusts = { HasCome };
+
+    ghost trusted = { λ s world d remains. remains.come };
 
     fn turn<S: Shelf>(&mut self, shelf: &mut S) -> Result<Turn, SortFault> {
         EvalSweep::turn(self, shelf)

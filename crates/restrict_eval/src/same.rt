@@ -193,6 +193,10 @@ impl<'r> Sweep<'r> for SameSweep<'r> {
 
     ghost in_step = { IsInStep };
 
+    ghost trusts = { λ s world. Unit };
+
+    ghost trusted = { λ s world d remains. tt };
+
     fn turn<S: Shelf>(&mut self, shelf: &mut S) -> Result<Turn, SortFault> {
         SameSweep::turn(self, shelf)
     }

@@ -18,7 +18,7 @@ use Rattle.copied_diagrams.specs.Pairs.{IsSourceOf}
 use Rattle.copied_diagrams.proofs.TrailerFacts.{long_canonical}
 use Rattle.copy_sweep.specs.declared.copy.CopySweep.{CopySweep}
 use Rattle.copy_sweep.specs.declared.copy.CopyTask.{CopyTask}
-use Rattle.copy_sweep.specs.Copies.{fuel_of, Copies, IsInStep}
+use Rattle.copy_sweep.specs.Copies.{fuel_of, Copies, IsInStep, HasCopied}
 use Rattle.copy_sweep.proofs.Copying.{all_copied}
 use Rattle.step_sweeps.specs.Made.{node_file, OnlyStepFiles}
 use Rattle.step_sweeps.proofs.Running.{cut_changes, runs_on}
@@ -52,14 +52,17 @@ pub copied_whole : (n number : ℕ) (table : List Bool) (most pieces : ℕ) (sou
     (old mid new : World) → source.from.step < number
     → (source.trailer.count + 1) * node_size ≤ pieces * most_piece
     → s ≡ record { task = copy_of source number pieces; turns = 0 } → Cut 1 (node_file number) 0 old mid
-    → fuel_of t ≡ 0 → t.task ≡ s.task → IsInStep t new
+    → HasCopied s mid → fuel_of t ≡ 0 → t.task ≡ s.task → IsInStep t new
     → ((bytes : List ℕ) → Copies s mid bytes → Copies t new bytes)
     → IsSourceOf n table most source old → IsMade n table (node_file number) source.trailer.count new
-copied_whole n number table most pieces source s t old mid new earlier enough begun cut none same step keeps is =
+copied_whole n number table most pieces source s t old mid new earlier enough begun cut has none same step keeps is =
     let stays = (ran_end old mid (DuringCut (node_file number) 0 (now old)) cut.run).others source.from
     (apart number source.from earlier) in
-    let copies : Copies s mid (canon_bytes n table) =
-    ap (λ (x : CopySweep). (file mid x.task.from).bytes) begun ∙ ap (λ (x : File). x.bytes) stays ∙ is.of.bytes_are in
+    let copies : Copies s mid (canon_bytes n table) = record {
+      bytes_are = ap (λ (x : CopySweep). (file mid x.task.from).bytes) begun ∙ ap (λ (x : File). x.bytes) stays
+          ∙ is.of.bytes_are;
+      copied = has;
+    } in
     let task : t.task ≡ copy_of source number pieces = same ∙ ap (λ (x : CopySweep). x.task) begun in
     let done = all_copied t new (canon_bytes n table) none step (keeps (canon_bytes n table) copies) in
     let long = long_canonical n table in

@@ -29,7 +29,10 @@ pub fn drive<'r, P: Sweep<'r>, S: Shelf>(
         P.remains sweep.old (S.world shelf.old) job → P.remains sweep.new (S.world shelf.new) job) }
     ensures fewer { IsTrue (S.tells shelf.new) → (job : P.Job) → P.remains sweep.old (S.world shelf.old) job →
         MovesOn turns (P.left sweep.old (S.world shelf.old) job) (P.left sweep.new (S.world shelf.new) job) result }
-    ensures damage { IfErr result (λ e. IsTrue (S.tells shelf.new) → P.damaged sweep.new (S.world shelf.new) e) }
+    ensures trusts { OnOk result (IsTrue (S.tells shelf.new) →
+        P.trusts sweep.old (S.world shelf.old) → P.trusts sweep.new (S.world shelf.new)) }
+    ensures damage { IfErr result (λ e. IsTrue (S.tells shelf.new) →
+        P.trusts sweep.old (S.world shelf.old) → P.damaged sweep.new (S.world shelf.new) e) }
     ensures undamaged { IfErr result (λ e. IsTrue (S.tells shelf.new) → (job : P.Job) →
         P.remains sweep.old (S.world shelf.old) job → IsNoDamage e) }
 
@@ -65,7 +68,10 @@ pub fn run_to_end<'r, P: Sweep<'r>, S: Shelf>(
     // what remains
     ensures keeps { OnOk result (IsTrue (S.tells shelf.new) → (job : P.Job) →
         P.remains sweep.old (S.world shelf.old) job → P.remains sweep.new (S.world shelf.new) job) }
-    ensures damage { IfErr result (λ e. IsTrue (S.tells shelf.new) → P.damaged sweep.new (S.world shelf.new) e) }
+    ensures trusts { OnOk result (IsTrue (S.tells shelf.new) →
+        P.trusts sweep.old (S.world shelf.old) → P.trusts sweep.new (S.world shelf.new)) }
+    ensures damage { IfErr result (λ e. IsTrue (S.tells shelf.new) →
+        P.trusts sweep.old (S.world shelf.old) → P.damaged sweep.new (S.world shelf.new) e) }
     ensures undamaged { IfErr result (λ e. IsTrue (S.tells shelf.new) → (job : P.Job) →
         P.remains sweep.old (S.world shelf.old) job → IsNoDamage e) }
 

@@ -40,8 +40,14 @@ pub trait Sweep<'r>: Sized {
     /// What is true of the sweep between turns, whatever the folder holds.
     ghost ready: { Self → Type 0 };
 
-    /// Its files hold what it takes them to hold.
+    /// What it knows of its files is as they say: how long those are that it writes, and what was read of others.
     ghost in_step: { Self → World → Type 0 };
+
+    /// What stands in its files is what its turns put there.
+    ghost trusts: { Self → World → Type 0 };
+
+    /// So it is where something remains of a job.
+    ghost trusted: { (s : Self) (world : World) (job : Job) → remains s world job → trusts s world };
 
     /// Handles one item, or ends the sweep: then all that it made is synced. Once it has ended, each further
     /// turn answers so and does nothing.
@@ -60,7 +66,10 @@ pub trait Sweep<'r>: Sized {
             remains self.old (S.world shelf.old) job → remains self.new (S.world shelf.new) job) }
         ensures fewer { IsTrue (S.tells shelf.new) → (job : Job) → remains self.old (S.world shelf.old) job →
             MovesOn 1 (left self.old (S.world shelf.old) job) (left self.new (S.world shelf.new) job) result }
-        ensures damage { IfErr result (λ e. IsTrue (S.tells shelf.new) → damaged self.new (S.world shelf.new) e) }
+        ensures trusts { OnOk result (IsTrue (S.tells shelf.new) →
+            trusts self.old (S.world shelf.old) → trusts self.new (S.world shelf.new)) }
+        ensures damage { IfErr result (λ e. IsTrue (S.tells shelf.new) →
+            trusts self.old (S.world shelf.old) → damaged self.new (S.world shelf.new) e) }
         ensures undamaged { IfErr result (λ e. IsTrue (S.tells shelf.new) → (job : Job) →
             remains self.old (S.world shelf.old) job → IsNoDamage e) }
 

@@ -98,6 +98,10 @@ impl<'r, O: Operation> Sweep<'r> for TableSweep<'r, O> {
 
     ghost in_step = { λ s world. IsInStep (sweep_of s) world };
 
+    ghost trusts = { λ s world. Unit };
+
+    ghost trusted = { λ s world job remains. tt };
+
     fn turn<S: Shelf>(&mut self, shelf: &mut S) -> Result<Turn, SortFault> {
         TopDownSweep::turn(&mut self.sweep, shelf)
     }

@@ -173,6 +173,10 @@ impl<'r, O: Operation> Sweep<'r> for TopDownSweep<'r, O> {
 
     ghost in_step = { IsInStep };
 
+    ghost trusts = { λ s world. Unit };
+
+    ghost trusted = { λ s world job remains. tt };
+
     fn turn<S: Shelf>(&mut self, shelf: &mut S) -> Result<Turn, SortFault> {
         TopDownSweep::turn(self, shelf)
     }

@@ -43,7 +43,7 @@ returns-in_err-turns-clause-damaged g c =
     (ap (λ (t : Compared). t.second_variables) same ∙ c.in_ok-sweep.ensures.variables.1)
     (earlier_same c.args.number c.args.left old new c.requires.earlier.0 ran)
     (earlier_same c.args.number c.args.right old new c.requires.earlier.1 ran)
-    (c.in_err-turns.ensures.damage told))
+    (c.in_err-turns.ensures.damage told tt))
 
 -- it has ended with the answer that remained
 pub returns-clause-answer : goal.returns-clause-answer

@@ -31,7 +31,8 @@ returns-in_err-turns-clause-damaged g c =
     (ap (λ (t : Evaluated). t.variables) same ∙ c.in_ok-sweep.ensures.variables)
     (earlier_same c.args.number c.args.file old new c.requires.earlier
     ((returns-in_err-turns-clause-content g c).did told))
-    (c.in_err-turns.ensures.damage told))
+    (c.in_err-turns.ensures.damage told
+    (c.in_ok-sweep.ensures.trusts (c.in_err-turns.ensures.leaves.content.before told))))
 
 -- it has ended with the answer that remained
 pub returns-clause-answer : goal.returns-clause-answer

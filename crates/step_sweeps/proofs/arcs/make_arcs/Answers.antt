@@ -87,7 +87,7 @@ returns-in_err-turns-clause-damaged g c = on_fault c.from_residual-in_err-turns.
     c.in_err-turns.field-0.0 (ap (λ (t : SweepTask). t.files) same ∙ begun.files_are)
     (ap (λ (t : SweepTask). t.variables) same ∙ c.in_ok-sweep.ensures.starts.variables)
     (c.run_to_end.ensures.leaves.step_is ∙ ap (λ (p : Parts). p.step) begun.parts_are) c.requires.earlier
-    ((returns-in_err-turns-clause-content g c).did told) (c.in_err-turns.ensures.damage told))
+    ((returns-in_err-turns-clause-content g c).did told) (c.in_err-turns.ensures.damage told tt))
 
 pub returns-in_err-turns-clause-faults : goal.returns-in_err-turns-clause-faults
 returns-in_err-turns-clause-faults g c = sort_shelf_on _ _ c.in_err-turns.field-0.0

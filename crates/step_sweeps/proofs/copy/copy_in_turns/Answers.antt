@@ -21,7 +21,8 @@ returns-in_err-turns g c =
     let said = c.in_err-turns.ensures in record {
       makes = handed g.S.Shelf.tells g.S.Shelf.world g.S.Shelf.faults c.args.making 0 (λ g. 0) 7 _ _
           c.in_err-turns.field-0.0 c.from_residual-in_err-turns.result c.from_residual-in_err-turns.ensures.1
-          (failed g.S.Shelf.tells g.S.Shelf.world g.S.Shelf.faults c.args.making 0 (λ g. 0) 7 _ _ _ said.damage
+          (failed g.S.Shelf.tells g.S.Shelf.world g.S.Shelf.faults c.args.making 0 (λ g. 0) 7 _ _ _
+          (λ told. said.damage told (c.in_ok-sweep.ensures.trusts (said.leaves.content.before told)))
           (λ told tables given.
           let left = ap left_of c.in_ok-sweep.ensures.begun in
           let no_more = c.node_pieces.ensures.no_more in
@@ -30,7 +31,7 @@ returns-in_err-turns g c =
           c.run_to_end.new.shelf c.in_ok-sweep.sweep c.run_to_end.new.sweep 1 _
           (c.args.source.trailer.count + 2) said.leaves.content.before
           (λ begun. let few = (c.start.ensures.content.did begun).few in omega (arith, few))
-          (said.few told _ refl).1 (omega (arith, left, no_more)) told in
+          (said.few told _ (record { bytes_are = refl; copied = c.in_ok-sweep.ensures.trusts (said.leaves.content.before told) })).1 (omega (arith, left, no_more)) told in
           omega (arith, calls, few))
           (copy_changes g.S.Shelf.tells g.S.Shelf.world c.args.making.number c.in_ok-sweep.sweep _ _ _
           (ap (λ (s : CopySweep). s.task.to) c.in_ok-sweep.ensures.begun) c.start.ensures.content said.leaves.content)
@@ -49,14 +50,16 @@ returns g c =
           let leads = c.requires.leads (c.start.ensures.content.before begun) tables given in (
             copied_whole c.args.making.n c.args.making.number _ _ c.node_pieces.result c.args.source c.in_ok-sweep.sweep
                 c.run_to_end.new.sweep _ _ _ c.requires.earlier c.node_pieces.ensures.enough c.in_ok-sweep.ensures.begun
-                (c.start.ensures.content.did begun) said.ended c.run_to_end.ensures.same (said.in_step told)
+                (c.start.ensures.content.did begun)
+                (c.in_ok-sweep.ensures.trusts begun) said.ended c.run_to_end.ensures.same (said.in_step told)
                 (said.keeps told) leads,
             leads.few,
           ))
           (λ told.
           let left = ap left_of c.in_ok-sweep.ensures.begun in
           let no_more = c.node_pieces.ensures.no_more in
-          let few = said.few told _ refl in
+          let few = said.few told _
+          (record { bytes_are = refl; copied = c.in_ok-sweep.ensures.trusts (said.leaves.content.before told) }) in
           let turns = few.0 in (
             omega (arith, turns, left, no_more),
             few_calls g.S.Shelf.tells g.S.Shelf.world accounts _ _ _ _ _ 1 _ _ said.leaves.content.before

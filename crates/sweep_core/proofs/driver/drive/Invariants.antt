@@ -10,6 +10,8 @@ abbrev pub invariant-loop-turn : goal.invariant-loop-turn
 invariant-loop-turn g l = record {
   ready : g.P.Sweep.ready l.sweep;
   in_step : IsTrue (g.S.Shelf.tells l.shelf) → g.P.Sweep.in_step l.sweep (g.S.Shelf.world l.shelf);
+  trusts : IsTrue (g.S.Shelf.tells l.shelf) → g.P.Sweep.trusts l.fn.sweep (g.S.Shelf.world l.fn.shelf)
+      → g.P.Sweep.trusts l.sweep (g.S.Shelf.world l.shelf);
   fell : g.P.Sweep.fuel l.sweep + l._turn ≤ g.P.Sweep.fuel l.fn.sweep;
   keeps : IsTrue (g.S.Shelf.tells l.shelf) → (job : g.P.Sweep.Job) → g.P.Sweep.remains l.fn.sweep (g.S.Shelf.world l.fn.shelf) job → g.P.Sweep.remains l.sweep (g.S.Shelf.world l.shelf) job;
   fewer : IsTrue (g.S.Shelf.tells l.shelf) → (job : g.P.Sweep.Job) → g.P.Sweep.remains l.fn.sweep (g.S.Shelf.world l.fn.shelf) job

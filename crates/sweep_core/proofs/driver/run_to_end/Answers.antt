@@ -13,6 +13,7 @@ pub turns-preserved : goal.turns-preserved
 turns-preserved g c = record {
   ready = search rules;
   in_step = search rules;
+  trusts = search rules;
   keeps = search rules;
   same = search rules;
   so_far =

@@ -7,6 +7,8 @@ abbrev pub invariant-turns : goal.invariant-turns
 invariant-turns g l = record {
   ready : g.P.Sweep.ready l.sweep;
   in_step : IsTrue (g.S.Shelf.tells l.shelf) → g.P.Sweep.in_step l.sweep (g.S.Shelf.world l.shelf);
+  trusts : IsTrue (g.S.Shelf.tells l.shelf) → g.P.Sweep.trusts l.fn.sweep (g.S.Shelf.world l.fn.shelf)
+      → g.P.Sweep.trusts l.sweep (g.S.Shelf.world l.shelf);
   keeps : IsTrue (g.S.Shelf.tells l.shelf) → (job : g.P.Sweep.Job)
       → g.P.Sweep.remains l.fn.sweep (g.S.Shelf.world l.fn.shelf) job
       → g.P.Sweep.remains l.sweep (g.S.Shelf.world l.shelf) job;

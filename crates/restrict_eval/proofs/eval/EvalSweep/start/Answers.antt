@@ -10,18 +10,20 @@ use Rattle.restrict_eval.proofs.Canonical.{begins_canonical}
 use Rattle.restrict_eval.proofs.EvalKeeps.{bits_long, begins_path, begins_way}
 use Rattle.restrict_eval.proofs.eval.EvalSweep.start.Goals as goal
 
--- nothing was read, and the path leads to the root
+-- nothing was read
 pub returns-clause-in_step : goal.returns-clause-in_step
 returns-clause-in_step g c = λ told.
     let old = g.S.Shelf.world c.args.shelf.now in
     let new = g.S.Shelf.world c.start.new.shelf in
     let same = looked_same 2 c.args.f c.args.f old new (c.start.ensures.content.did told) refl in
-    let reads = starts_reading c.in_ok-nodes.nodes c.args.f c.args.n old new c.in_ok-nodes.ensures.file c.in_ok-nodes.ensures.variables c.in_ok-nodes.ensures.reads
-    (c.in_ok-nodes.ensures.trailer told) same in
-    record {
-      reads = reads;
-      on = begins_path c.in_ok-nodes.nodes c.trailer-root.result.root _ (ap (λ (t : Trailer). t.root) c.trailer-root.ensures) c.in_ok-nodes.ensures.root c.in_ok-nodes.ensures.place reads.count;
-    }
+    starts_reading c.in_ok-nodes.nodes c.args.f c.args.n old new c.in_ok-nodes.ensures.file c.in_ok-nodes.ensures.variables c.in_ok-nodes.ensures.reads
+    (c.in_ok-nodes.ensures.trailer told) same
+
+-- and the path leads to the root
+pub returns-clause-trusts : goal.returns-clause-trusts
+returns-clause-trusts g c = λ told.
+    begins_path c.in_ok-nodes.nodes c.trailer-root.result.root _ (ap (λ (t : Trailer). t.root) c.trailer-root.ensures)
+    c.in_ok-nodes.ensures.root c.in_ok-nodes.ensures.place (returns-clause-in_step g c told).count
 
 -- the path from the root of a canonical file leads to the table's value
 pub returns-clause-remains : goal.returns-clause-remains
@@ -41,4 +43,5 @@ returns-clause-remains g c = λ told t canon.
       file_is = canonical;
       followed = begins_way n t c.in_ok-nodes.nodes (file old c.args.f).bytes _ bits c.trailer-root.result.root canon.form root long nodes.1
           (ap (λ f. (file new f).bytes) c.in_ok-nodes.ensures.file ∙ same);
+      come = returns-clause-trusts g c told;
     }
