@@ -1,5 +1,4 @@
 pub mod Fields
-mod Written
 pub mod Counted
 pub mod Places
 mod Shared

@@ -1,15 +1,16 @@
 -- What is known of a folder that was looked at.
-use Rattle.std.proofs.Common.{◌≡◌, ◌≢◌, ℕ, ◌<◌, ◌≤◌, true, false, cond, List, length, refl, sym, ap, subst, ◌∙◌, arith}
+use Rattle.std.proofs.Common.{◌≡◌, ◌≢◌, ℕ, ◌<◌, ◌≤◌, true, false, cond, List, length, refl, sym, ap, subst, arith}
 use Rattle.std.specs.Prelude.{Result, Ok, Err, IfOk}
 use Rattle.shelf_model.specs.declared.file_no.FileNo.{FileNo}
 use Rattle.shelf_model.specs.declared.fault.StreamFault.{StreamFault}
 use Rattle.shelf_model.specs.declared.fault.StreamFault.TheVariants.{Shelf, Damaged}
-use Rattle.shelf_model.specs.Folder.{Folder, Image, file_in, bytes_in, IsImage}
+use Rattle.shelf_model.specs.Folder.{Folder, file_in, bytes_in}
+use Rattle.file_writes.proofs.Sure.{sure_bytes}
 use Rattle.catalogue.specs.declared.standing.Standing.{Standing}
 use Rattle.catalogue.specs.Files.{job_gate, catalogue, step_gate}
 use Rattle.catalogue.specs.Counts.{present, is_stored}
 use Rattle.catalogue.specs.Standings.{counted_or, most_steps, AreGatesSure, ShowsStanding, IsLooked}
-use Rattle.catalogue.proofs.Counted.{has_count, sure_length}
+use Rattle.catalogue.proofs.Counted.{has_count}
 use Rattle.catalogue.proofs.Stored.{not_stored}
 use Rattle.catalogue.proofs.Resumed.{counted_ok}
 
@@ -28,7 +29,7 @@ pub looked_fresh : (folder : Folder) → AreGatesSure folder → length (file_in
 looked_fresh folder sure none = record {
   reads = shows_none (present folder) (omega arith);
   covers = omega arith;
-  images = λ image is_image. shows_none (bytes_in image) (let gate : length (bytes_in image job_gate) ≡ length (file_in folder job_gate).bytes = ap length (sure_length job_gate (file_in folder job_gate).bytes folder image sure.job is_image) in omega arith);
+  images = λ image is_image. shows_none (bytes_in image) (let gate : length (bytes_in image job_gate) ≡ length (file_in folder job_gate).bytes = ap length (sure_bytes job_gate (file_in folder job_gate).bytes folder image sure.job is_image) in omega arith);
 }
 
 -- and one with a job, whose steps were counted
@@ -41,8 +42,8 @@ looked_counted folder s sure stored answer =
       reads = shows_count done (present folder) stored refl;
       covers = both.1;
       images = λ image is_image.
-          let gate : length (bytes_in image job_gate) ≡ length (file_in folder job_gate).bytes = ap length (sure_length job_gate (file_in folder job_gate).bytes folder image sure.job is_image) in
-          let steps : length (bytes_in image step_gate) ≡ done = ap length (sure_length step_gate (file_in folder step_gate).bytes folder image sure.steps is_image) in
+          let gate : length (bytes_in image job_gate) ≡ length (file_in folder job_gate).bytes = ap length (sure_bytes job_gate (file_in folder job_gate).bytes folder image sure.job is_image) in
+          let steps : length (bytes_in image step_gate) ≡ done = ap length (sure_bytes step_gate (file_in folder step_gate).bytes folder image sure.steps is_image) in
           shows_count done (bytes_in image) (omega arith) steps;
     })
 

@@ -10,6 +10,7 @@ use Rattle.shelf_model.specs.Folder.{Folder, file_in}
 use Rattle.shelf_model.specs.World.{Moment, World, now, file}
 use Rattle.shelf_model.specs.Calls.{Synced, Measured}
 use Rattle.shelf_model.specs.Moments.{Stays}
+use Rattle.file_writes.proofs.Sure.{synced_reads}
 use Rattle.catalogue.specs.declared.fault.AttachFault.{AttachFault}
 use Rattle.catalogue.specs.declared.fault.AttachFault.TheVariants.{Shelf, Damaged, OtherJob}
 use Rattle.catalogue.specs.declared.standing.Standing.{Standing}
@@ -17,7 +18,6 @@ use Rattle.catalogue.specs.Files.{job_file, job_gate, catalogue, step_gate}
 use Rattle.catalogue.specs.Counts.{present, is_stored}
 use Rattle.catalogue.specs.Standings.{standing_of, counted_standing, counted_or, AreGatesSure, IsAttached}
 use Rattle.catalogue.proofs.Shared.{same_from_shared, shared_self}
-use Rattle.catalogue.proofs.Synced.{synced_reads}
 use Rattle.catalogue.proofs.Stored.{attached, job_gate_not_job_file, step_gate_not_job_file, catalogue_not_job_file}
 
 -- the answer where a job is stored

@@ -13,10 +13,11 @@ use Rattle.shelf_model.proofs.Numbers.{other_part}
 use Rattle.shelf_model.proofs.Runs.{run_on, ran_weakens, ran_end}
 use Rattle.catalogue.specs.Files.{job_file, job_gate, catalogue, step_gate}
 use Rattle.catalogue.specs.Counts.{is_stored}
-use Rattle.catalogue.specs.Writes.{Replacing, Lengthening}
+use Rattle.file_writes.specs.Writes.{Growing, Replacing}
+use Rattle.file_writes.proofs.Sure.{sure_bytes}
 use Rattle.catalogue.specs.Commits.{IsReady}
 use Rattle.catalogue.specs.Standings.{IsStored, IsUnstored, OnlyJobFiles, DuringStore, IsAttached}
-use Rattle.catalogue.proofs.Counted.{has_count, sure_length, ready_counts, job_gate_not_step_gate}
+use Rattle.catalogue.proofs.Counted.{has_count, ready_counts, job_gate_not_step_gate}
 
 pub job_gate_not_job_file : job_gate ≢ job_file
 job_gate_not_job_file = other_part job_gate job_file (λ e. omega (arith, e))
@@ -40,7 +41,7 @@ not_stored r short = le-ltb 0 (length (r job_gate)) short
 -- where the job gate is empty for sure, no image has a job
 unstored_image : (most : ℕ) (folder : Folder) (image : Image) → file_in folder job_gate ≡ firm_file [] → (file_in folder step_gate).reach ≤ most → IsImage folder image → IsUnstored most (bytes_in image)
 unstored_image most folder image gate reach is_image = record {
-  unstored = let none : length (bytes_in image job_gate) ≡ 0 = ap length (sure_length job_gate [] folder image gate is_image) in not_stored (bytes_in image) (omega arith);
+  unstored = let none : length (bytes_in image job_gate) ≡ 0 = ap length (sure_bytes job_gate [] folder image gate is_image) in not_stored (bytes_in image) (omega arith);
   gate = let left : IsLeft (file_in folder step_gate) (bytes_in image step_gate) = is_image step_gate in
       let no_longer : length (bytes_in image step_gate) ≤ (file_in folder step_gate).reach = left.no_longer in
       omega arith;
@@ -75,23 +76,23 @@ writing job most n old mid m cleared replacing = record {
 }
 
 -- while the job gate grows
-opening_image : (job : List ℕ) (most : ℕ) (old mid m : Moment) (image : Image) → IsWritten job old mid → Lengthening job_gate 0 mid m → IsImage m.folder image
+opening_image : (job : List ℕ) (most : ℕ) (old mid m : Moment) (image : Image) → IsWritten job old mid → Growing job_gate 1 mid m → IsImage m.folder image
     → IsUnstored most (bytes_in image) ⊎ IsStored job 0 (bytes_in image)
-opening_image job most old mid m image written lengthening is_image =
-    let steps : bytes_in image step_gate ≡ [] = sure_length step_gate [] m.folder image (lengthening.others step_gate step_gate_not_job_gate ∙ written.cleared.steps) is_image in
+opening_image job most old mid m image written growing is_image =
+    let steps : bytes_in image step_gate ≡ [] = sure_bytes step_gate [] m.folder image (growing.others step_gate step_gate_not_job_gate ∙ written.cleared.steps) is_image in
     let none : length (bytes_in image step_gate) ≡ 0 = ap length steps in
     elim (cases_lt 0 (length (bytes_in image job_gate))) [
       | inl stored ↦ inr (record {
-        job_is = sure_length job_file job m.folder image (lengthening.others job_file job_file_not_job_gate ∙ written.job_is) is_image;
+        job_is = sure_bytes job_file job m.folder image (growing.others job_file job_file_not_job_gate ∙ written.job_is) is_image;
         counts = has_count 0 (bytes_in image) stored none;
       })
       | inr short ↦ inl (record { unstored = not_stored (bytes_in image) short; gate = omega arith })
     ]
 
-opening : (job : List ℕ) (most : ℕ) (old mid m : Moment) → IsWritten job old mid → Lengthening job_gate 0 mid m → DuringStore job most old m
-opening job most old mid m written lengthening = record {
-  others = λ q not_job not_gate not_steps. lengthening.others q not_gate ∙ written.cleared.others q not_job not_gate not_steps;
-  images = λ image is_image. opening_image job most old mid m image written lengthening is_image;
+opening : (job : List ℕ) (most : ℕ) (old mid m : Moment) → IsWritten job old mid → Growing job_gate 1 mid m → DuringStore job most old m
+opening job most old mid m written growing = record {
+  others = λ q not_job not_gate not_steps. growing.others q not_gate ∙ written.cleared.others q not_job not_gate not_steps;
+  images = λ image is_image. opening_image job most old mid m image written growing is_image;
 }
 
 -- a folder whose job is sure and that is ready for step n has both in every image
@@ -99,20 +100,20 @@ pub attached : (job : List ℕ) (n : ℕ) (folder : Folder) → IsReady n folder
 attached job n folder ready job_is = record {
   ready = ready;
   job_is = job_is;
-  images = λ image is_image. record { job_is = sure_length job_file job folder image job_is is_image; counts = ready_counts n folder image ready is_image };
+  images = λ image is_image. record { job_is = sure_bytes job_file job folder image job_is is_image; counts = ready_counts n folder image ready is_image };
 }
 
 -- the job gate is sure with one byte
-stored_whole : (job : List ℕ) (old mid m : Moment) → IsWritten job old mid → Lengthening job_gate 0 mid m → file_in m.folder job_gate ≡ firm_file ((file_in mid.folder job_gate).bytes ++ 0 ∷ []) → IsAttached job 0 m.folder
-stored_whole job old mid m written lengthening gate =
-    let steps : file_in m.folder step_gate ≡ firm_file [] = lengthening.others step_gate step_gate_not_job_gate ∙ written.cleared.steps in
+stored_whole : (job : List ℕ) (old mid m : Moment) → IsWritten job old mid → Growing job_gate 1 mid m → file_in m.folder job_gate ≡ firm_file ((file_in mid.folder job_gate).bytes ++ 0 ∷ []) → IsAttached job 0 m.folder
+stored_whole job old mid m written growing gate =
+    let steps : file_in m.folder step_gate ≡ firm_file [] = growing.others step_gate step_gate_not_job_gate ∙ written.cleared.steps in
     let gate_is : file_in m.folder job_gate ≡ firm_file (0 ∷ []) = gate ∙ ap (λ (x : File). firm_file (x.bytes ++ 0 ∷ [])) written.cleared.gate in
     attached job 0 m.folder (record {
       stored = let firm : (file_in m.folder job_gate).firm ≡ 1 = ap (λ (x : File). x.firm) gate_is in omega arith;
       gate = steps ∙ ap (λ (x : File). firm_file x.bytes) (sym steps);
       count = ap (λ (x : File). length x.bytes) steps;
       covers = omega arith;
-    }) (lengthening.others job_file job_file_not_job_gate ∙ written.job_is)
+    }) (growing.others job_file job_file_not_job_gate ∙ written.job_is)
 
 -- the run up to the emptied gate of steps
 pub cleared_so_far : {S : Type 0} (tells : S → Bool) (world : S → World) (job : List ℕ) (old s : S) → (IsTrue (tells old) → file (world old) job_gate ≡ firm_file [])
@@ -159,23 +160,23 @@ written_so_far tells world job P old t so_far is = record {
 pub stores : {S : Type 0} (tells : S → Bool) (world : S → World) (job : List ℕ) (most : ℕ) (old s t : S)
     → Told tells old s (Ran (DuringStore job most (now (world old))) (world old) (world s) × IsCleared (now (world old)) (now (world s)))
     → (IsTrue (tells s) → file (world s) job_file ≡ firm_file job)
-    → Told tells s t (Ran (Lengthening job_gate 0 (now (world s))) (world s) (world t))
-    → Told tells old t (Ran (DuringStore job most (now (world old))) (world old) (world t) × Lengthening job_gate 0 (now (world s)) (now (world t)))
+    → Told tells s t (Ran (Growing job_gate 1 (now (world s))) (world s) (world t))
+    → Told tells old t (Ran (DuringStore job most (now (world old))) (world old) (world t) × Growing job_gate 1 (now (world s)) (now (world t)))
 stores tells world job most old s t so_far is grows =
-    run_on tells world (DuringStore job most (now (world old))) (Lengthening job_gate 0 (now (world s)))
-    (λ w. IsWritten job (now (world old)) (now (world s))) (λ w. Lengthening job_gate 0 (now (world s)) (now w)) old s t
+    run_on tells world (DuringStore job most (now (world old))) (Growing job_gate 1 (now (world s)))
+    (λ w. IsWritten job (now (world old)) (now (world s))) (λ w. Growing job_gate 1 (now (world s)) (now w)) old s t
     (written_so_far tells world job (Ran (DuringStore job most (now (world old))) (world old) (world s)) old s so_far is) grows
-    (λ tells_old written m lengthening. opening job most (now (world old)) (now (world s)) m written lengthening)
-    (λ tells_old written lengthening. lengthening)
+    (λ tells_old written m growing. opening job most (now (world old)) (now (world s)) m written growing)
+    (λ tells_old written growing. growing)
 
 pub store_ok : {S : Type 0} (tells : S → Bool) (world : S → World) (job : List ℕ) (P : Type 0) (result : Result Unit Failed) (old s t : S)
     → Told tells old s (P × IsCleared (now (world old)) (now (world s))) → (IsTrue (tells s) → file (world s) job_file ≡ firm_file job)
-    → Told tells s t (Ran (Lengthening job_gate 0 (now (world s))) (world s) (world t))
+    → Told tells s t (Ran (Growing job_gate 1 (now (world s))) (world s) (world t))
     → OnOk result (IsTrue (tells t) → file (world t) job_gate ≡ firm_file ((file (world s) job_gate).bytes ++ 0 ∷ []))
     → OnOk result (IsTrue (tells t) → IsAttached job 0 (now (world t)).folder)
 store_ok tells world job P (Ok x) old s t so_far is grows gate = λ tells_new.
     let tells_mid : IsTrue (tells s) = grows.before tells_new in
     let written = written_so_far tells world job P old s so_far is in
     stored_whole job (now (world old)) (now (world s)) (now (world t)) (written.did tells_mid).1
-    (ran_end (world s) (world t) (Lengthening job_gate 0 (now (world s))) (grows.did tells_new)) (gate tells_new)
+    (ran_end (world s) (world t) (Growing job_gate 1 (now (world s))) (grows.did tells_new)) (gate tells_new)
 store_ok tells world job P (Err e) old s t so_far is grows gate = tt

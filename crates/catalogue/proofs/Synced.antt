@@ -1,6 +1,6 @@
 -- What holds while the files of a job are made sure and read.
 use Rattle.std.proofs.Common.{◌≡◌, ◌≢◌, ℕ, Bool, List, length, refl, sym, ap, subst, ◌∙◌, inl, inr, arith}
-use Rattle.std.specs.Prelude.{IsTrue, Result, Ok, Err}
+use Rattle.std.specs.Prelude.{IsTrue, Result}
 use Rattle.shelf_model.specs.declared.file_no.FileNo.{FileNo}
 use Rattle.shelf_model.specs.declared.fault.Failed.{Failed}
 use Rattle.shelf_model.specs.File.{File}
@@ -9,8 +9,8 @@ use Rattle.shelf_model.specs.World.{Moment, World, now, file}
 use Rattle.shelf_model.specs.Calls.{Told, Synced, Measured}
 use Rattle.shelf_model.specs.Moments.{Ran, Stays}
 use Rattle.shelf_model.proofs.Images.{sync_images}
-use Rattle.shelf_model.proofs.Numbers.{cases_file}
 use Rattle.shelf_model.proofs.Runs.{told, told_then, ran_call, ran_on, ran_joins, ran_weakens, ran_end}
+use Rattle.file_writes.proofs.Sure.{synced_reads}
 use Rattle.catalogue.specs.Files.{job_file, job_gate, step_gate}
 use Rattle.catalogue.specs.Counts.{present}
 use Rattle.catalogue.specs.Standings.{DuringSyncs, DuringStore, DuringAttach, AreGatesSure, IsBeginning}
@@ -32,14 +32,6 @@ is_step_gate = record { one_of = λ q not_job not_gate not_steps. not_steps }
 -- nothing was made sure yet
 pub syncs_here : (m : Moment) → DuringSyncs m m
 syncs_here m = record { others = λ q not_job not_gate not_steps. refl; reads = λ q. refl; images = λ image is_image. is_image }
-
--- a sync leaves what reads give
-pub synced_reads : (f q : FileNo) (result : Result Unit Failed) (old new : World) → Synced f result old new → (file new q).bytes ≡ (file old q).bytes
-synced_reads f q (Ok x) old new did = elim (cases_file q f) [
-  | inl same ↦ ap (λ g. (file new g).bytes) same ∙ ap (λ (y : File). y.bytes) did.ok ∙ ap (λ g. (file old g).bytes) (sym same)
-  | inr differ ↦ ap (λ (y : File). y.bytes) (did.others q differ)
-]
-synced_reads f q (Err e) old new did = ap (λ (m : Moment). (file_in m.folder q).bytes) did.failed
 
 -- one file more is made sure
 syncs_on : (f : FileNo) (result : Result Unit Failed) (w v u : World) → IsJobFile f → AreFiles (now v).folder → DuringSyncs (now w) (now v) → Synced f result v u → DuringSyncs (now w) (now u)

@@ -6,7 +6,7 @@ ghost use Rattle.shelf_model.specs.Calls.{Told};
 ghost use Rattle.shelf_model.specs.Moments.{Ran, Stays};
 ghost use Rattle.shelf_model.specs.Faults.{OnlyFolder};
 ghost use Rattle.catalogue.specs.Files.{job_file};
-ghost use Rattle.catalogue.specs.Writes.{pieces};
+ghost use Rattle.file_writes.specs.Writes.{pieces};
 
 use file_numbers::JOB;
 use shelf_model::{Failed, PIECE, Shelf};

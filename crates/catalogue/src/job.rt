@@ -7,7 +7,7 @@ ghost use Rattle.shelf_model.specs.Moments.{Ran, Stays};
 ghost use Rattle.shelf_model.specs.Faults.{OnlyFolder};
 ghost use Rattle.catalogue.specs.Files.{job_gate, catalogue, step_gate};
 ghost use Rattle.catalogue.specs.Counts.{present};
-ghost use Rattle.catalogue.specs.Writes.{pieces};
+ghost use Rattle.file_writes.specs.Writes.{pieces};
 ghost use Rattle.catalogue.specs.Faults.{OnlyAttach};
 ghost use Rattle.catalogue.specs.Standings.{standing_of, counted_standing, AreGatesSure, IsAttached};
 ghost use Rattle.catalogue.specs.Standings.{DuringSyncs, DuringStore, DuringAttach};
@@ -16,8 +16,8 @@ use crate::compare::shared_with_stored;
 use crate::fault::AttachFault;
 use crate::looking::count_at_most;
 use crate::standing::Standing;
-use crate::writes::{lengthen, replace_from};
 use file_numbers::{JOB, JOB_GATE, STEP_GATE};
+use file_writes::{lengthen, replace_from};
 use shelf_model::{Failed, Shelf};
 
 /// Attaches a job of that many steps to the folder: stores it where none is stored.

@@ -12,7 +12,6 @@ mod layout;
 mod looking;
 mod standing;
 mod steps;
-mod writes;
 
 pub use fault::AttachFault;
 pub use file_numbers::{CATALOGUE, JOB, JOB_GATE, STEP_GATE};

@@ -9,8 +9,8 @@ ghost use Rattle.catalogue.specs.Entries.{IsEntry, IsEntryOf, IsEntryFault};
 ghost use Rattle.catalogue.specs.Commits.{IsReady, DuringCommit, IsCommitted};
 
 use crate::layout::{ENTRY_SIZE, Entry};
-use crate::writes::{lengthen, replace_from};
 use file_numbers::{CATALOGUE, STEP_GATE};
+use file_writes::{lengthen, replace_from};
 use shelf_model::{Failed, Shelf, StreamFault};
 
 /// The entry of step `k`, which has to be committed.

@@ -7,7 +7,7 @@ use Rattle.shelf_model.specs.World.{World, now}
 use Rattle.shelf_model.specs.declared.fault.Failed.{Failed}
 use Rattle.shelf_model.specs.Calls.{Told, Fetched}
 use Rattle.shelf_model.proofs.Runs.{goes_on, at_end, told_then}
-use Rattle.catalogue.specs.Writes.{pieces}
+use Rattle.file_writes.specs.Writes.{pieces}
 use Rattle.script_runner.specs.Calls.{fetch_calls}
 use Rattle.script_runner.specs.Fetching.{OnlyFetched, IsText}
 

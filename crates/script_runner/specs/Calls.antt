@@ -2,7 +2,7 @@
 use Rattle.std.specs.Prelude.{◌≡◌, ◌⊎◌, ℕ, ◌+◌, ◌*◌, ◌<◌, false, cond, length, sum_by}
 use Rattle.bool_tables.specs.declared.steps.Planned.{Planned}
 use Rattle.shelf_model.specs.Folder.{Folder}
-use Rattle.catalogue.specs.Writes.{pieces}
+use Rattle.file_writes.specs.Writes.{pieces}
 use Rattle.step_work.specs.Tuples.{sweeps}
 use Rattle.sound_image.specs.Jobs.{Job, step_at}
 use Rattle.sound_image.specs.Entries.{work_of}

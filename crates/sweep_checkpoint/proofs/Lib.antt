@@ -1,4 +1,3 @@
-mod Written
 mod Flat
 mod Parts
 mod Saved

@@ -1,6 +1,6 @@
 -- What holds while the last checkpoint is loaded.
-use Rattle.std.proofs.Common.{◌≡◌, ◌≢◌, ℕ, suc, ◌+◌, ◌-◌, ◌*◌, ◌<◌, ◌≤◌, min, Bool, true, false, List, [], ◌++◌, length, take, drop, refl, sym, ap, subst, ◌∙◌, inl, inr, arith}
-use Rattle.std.specs.Prelude.{IsTrue, Result, Ok, Err, Some, None}
+use Rattle.std.proofs.Common.{◌≡◌, ◌≢◌, ℕ, suc, ◌+◌, ◌-◌, ◌*◌, ◌<◌, ◌≤◌, min, Bool, true, false, List, [], ◌++◌, length, take, drop, refl, sym, ap, subst, ◌∙◌, arith}
+use Rattle.std.specs.Prelude.{IsTrue, Result, Ok, Some, None}
 use Rattle.std.proofs.Math.Seq.{take-add}
 use borrow.Rule.Slice.PartMut.{put_mid}
 use Rattle.std.proofs.lemmas.Slice.{take-put_mid}
@@ -15,9 +15,9 @@ use Rattle.shelf_model.specs.World.{Moment, World, now, file}
 use Rattle.shelf_model.specs.Calls.{Told, Synced, Measured, DidRead, Copied}
 use Rattle.shelf_model.specs.Moments.{Ran, Stays}
 use Rattle.shelf_model.proofs.Images.{sync_images}
-use Rattle.shelf_model.proofs.Numbers.{cases_file}
 use Rattle.shelf_model.proofs.Runs.{told, told_then, ran_call, ran_on, ran_joins, ran_weakens, ran_end}
 use Rattle.sweep_core.specs.declared.checkpoint.Checkpoint.{Checkpoint}
+use Rattle.file_writes.proofs.Sure.{synced_reads}
 use Rattle.file_numbers.specs.Files.{checkpoint_file, checkpoint_gate}
 use Rattle.sweep_checkpoint.specs.Rules.{IsPointOf}
 use Rattle.sweep_checkpoint.specs.Gated.{present, gated_count, last_of}
@@ -27,14 +27,6 @@ use Rattle.sweep_checkpoint.specs.Loads.{DuringLoad, Tells, IsLoaded, IsLoadFaul
 -- nothing was done yet
 load_here : (step : ℕ) (m : Moment) → DuringLoad step m m
 load_here step m = record { others = λ q differ. refl; reads = λ q. refl; images = λ image is_image. is_image }
-
--- a sync leaves what reads give
-synced_reads : (f q : FileNo) (result : Result Unit Failed) (old new : World) → Synced f result old new → (file new q).bytes ≡ (file old q).bytes
-synced_reads f q (Ok x) old new did = elim (cases_file q f) [
-  | inl same ↦ ap (λ g. (file new g).bytes) same ∙ ap (λ (y : File). y.bytes) did.ok ∙ ap (λ g. (file old g).bytes) (sym same)
-  | inr differ ↦ ap (λ (y : File). y.bytes) (did.others q differ)
-]
-synced_reads f q (Err e) old new did = ap (λ (m : Moment). (file_in m.folder q).bytes) did.failed
 
 -- the gate is made sure
 load_synced : (step : ℕ) (result : Result Unit Failed) (w v : World) → AreFiles (now w).folder → Synced (checkpoint_gate step) result w v → DuringLoad step (now w) (now v)

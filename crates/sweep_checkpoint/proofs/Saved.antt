@@ -1,5 +1,5 @@
 -- The images of a folder while a checkpoint is saved.
-use Rattle.std.proofs.Common.{◌≡◌, ◌≢◌, ◌⊎◌, ℕ, zero, suc, ◌+◌, ◌*◌, ◌≤◌, min, max, Bool, List, [], ◌∷◌, ◌++◌, length, take, drop, refl, sym, ap, subst, ◌∙◌, inl, inr, arith}
+use Rattle.std.proofs.Common.{◌≡◌, ◌≢◌, ◌⊎◌, ℕ, zero, suc, ◌+◌, ◌*◌, ◌≤◌, min, Bool, List, [], ◌∷◌, ◌++◌, length, take, drop, refl, sym, ap, subst, ◌∙◌, inl, inr, arith}
 use Rattle.std.specs.Prelude.{IsTrue, Result, Ok, Err, Some, OnOk}
 use Rattle.std.proofs.lemmas.Bool.{cases_lt}
 use Rattle.std.proofs.lemmas.List.{append-nil, length-take, length-take-le, length-append, take_all, take_at, drop_at, take-take, drop-take}
@@ -11,7 +11,7 @@ use Rattle.shelf_model.specs.World.{Moment, World, now, file}
 use Rattle.shelf_model.specs.Calls.{Told, Measured}
 use Rattle.shelf_model.specs.Moments.{Ran}
 use Rattle.std.specs.FinMap.{insert}
-use Rattle.shelf_model.proofs.Files.{only_image, same_image, kept_all, kept_left}
+use Rattle.shelf_model.proofs.Files.{kept_left}
 use Rattle.shelf_model.proofs.Images.{chosen, standing_left, one_left}
 use Rattle.shelf_model.proofs.Maps.{bytes_in-insert}
 use Rattle.shelf_model.proofs.Numbers.{other_part}
@@ -20,7 +20,8 @@ use Rattle.sweep_core.specs.declared.checkpoint.Checkpoint.{Checkpoint}
 use Rattle.file_numbers.specs.Files.{checkpoint_file, checkpoint_gate}
 use Rattle.sweep_checkpoint.specs.Points.{point_bytes}
 use Rattle.sweep_checkpoint.specs.Gated.{present, gated_count, last_of}
-use Rattle.sweep_checkpoint.specs.Writes.{Growing, Replacing}
+use Rattle.file_writes.specs.Writes.{Growing, Replacing}
+use Rattle.file_writes.proofs.Sure.{GrewAtMost, sure_bytes, grown_image}
 use Rattle.sweep_checkpoint.specs.Saves.{gated_size, IsGateSure, IsLast, IsLastBefore, DuringSave, IsSaved}
 
 pub points_not_gate : (step : ℕ) → checkpoint_file step ≢ checkpoint_gate step
@@ -28,10 +29,6 @@ points_not_gate step = other_part (checkpoint_file step) (checkpoint_gate step) 
 
 pub gate_not_points : (step : ℕ) → checkpoint_gate step ≢ checkpoint_file step
 gate_not_points step = other_part (checkpoint_gate step) (checkpoint_file step) (λ e. omega (arith, e))
-
--- a file that is sure is in each image as it is read
-pub sure_bytes : (f : FileNo) (bytes : List ℕ) (folder : Folder) (image : Image) → file_in folder f ≡ firm_file bytes → IsImage folder image → bytes_in image f ≡ bytes
-sure_bytes f bytes folder image sure is_image = only_image bytes (bytes_in image f) (same_image folder image f (firm_file bytes) sure is_image)
 
 -- the last of n checkpoints stands in the first n ones
 pub last_of-take : (n : ℕ) (xs ys : List ℕ) → take (16384 * n) xs ≡ take (16384 * n) ys → last_of n xs ≡ last_of n ys
@@ -147,20 +144,15 @@ opening_image c n old mid m image placed growing sure is_image =
     let points : bytes_in image (checkpoint_file c.step) ≡ take (16384 * n) before ++ point_bytes c =
     sure_bytes (checkpoint_file c.step) (take (16384 * n) before ++ point_bytes c) m.folder image (growing.others (checkpoint_file c.step) (points_not_gate c.step) ∙ placed.points_are) is_image in
     let stood : file_in mid.folder (checkpoint_gate c.step) ≡ firm_file gate_bytes = placed.replacing.others (checkpoint_gate c.step) (gate_not_points c.step) ∙ sure in
-    let kept : IsKept gate_bytes (file_in m.folder (checkpoint_gate c.step)) = growing.kept gate_bytes (subst (IsKept gate_bytes) (sym stood) (kept_all gate_bytes)) in
-    let left : IsLeft (file_in m.folder (checkpoint_gate c.step)) (bytes_in image (checkpoint_gate c.step)) = is_image (checkpoint_gate c.step) in
-    let firm : length gate_bytes ≤ (file_in m.folder (checkpoint_gate c.step)).firm = kept.sure in
-    let no_shorter : (file_in m.folder (checkpoint_gate c.step)).firm ≤ length (bytes_in image (checkpoint_gate c.step)) = left.no_shorter in
-    let no_longer : length (bytes_in image (checkpoint_gate c.step)) ≤ (file_in m.folder (checkpoint_gate c.step)).reach = left.no_longer in
-    let reach : (file_in m.folder (checkpoint_gate c.step)).reach ≤ max (file_in mid.folder (checkpoint_gate c.step)).reach (length (file_in mid.folder (checkpoint_gate c.step)).bytes + 1) = growing.reach in
-    let reach_was : (file_in mid.folder (checkpoint_gate c.step)).reach ≡ length gate_bytes = ap (λ (x : File). x.reach) stood in
-    let length_was : length (file_in mid.folder (checkpoint_gate c.step)).bytes ≡ length gate_bytes = ap (λ (x : File). length x.bytes) stood in
+    let grew : GrewAtMost 1 (length gate_bytes) (length (bytes_in image (checkpoint_gate c.step))) = grown_image (checkpoint_gate c.step) 1 gate_bytes mid m image stood growing is_image in
+    let no_shorter : length gate_bytes ≤ length (bytes_in image (checkpoint_gate c.step)) = grew.no_shorter in
+    let no_longer : length (bytes_in image (checkpoint_gate c.step)) ≤ length gate_bytes + 1 = grew.no_longer in
     elim (cases_lt (length gate_bytes) (length (bytes_in image (checkpoint_gate c.step)))) [
       | inl more ↦
-          let next : length (bytes_in image (checkpoint_gate c.step)) ≡ suc n = omega (arith, more, count, no_longer, reach, reach_was, length_was) in
+          let next : length (bytes_in image (checkpoint_gate c.step)) ≡ suc n = omega (arith, more, count, no_longer) in
           inr (ap (last_of (length (bytes_in image (checkpoint_gate c.step)))) points ∙ last_of-behind n (length (bytes_in image (checkpoint_gate c.step))) before (point_bytes c) next placed.can.covers placed.whole)
       | inr same ↦
-          let counted : length (bytes_in image (checkpoint_gate c.step)) ≡ length gate_bytes = omega (arith, same, firm, no_shorter) in
+          let counted : length (bytes_in image (checkpoint_gate c.step)) ≡ length gate_bytes = omega (arith, same, no_shorter) in
           let front : take (16384 * n) (bytes_in image (checkpoint_file c.step)) ≡ take (16384 * n) before =
           ap (take (16384 * n)) points ∙ take_at (take (16384 * n) before) (point_bytes c) (16384 * n) (length-take-le (16384 * n) before placed.can.covers) in
           inl (was_last c.step old.folder image before placed.can.are_files sure counted (standing_left (file_in old.folder (checkpoint_file c.step)) (placed.can.are_files (checkpoint_file c.step)))

@@ -1,7 +1,6 @@
 pub mod Points
 pub mod Rules
 pub mod Gated
-pub mod Writes
 pub mod Saves
 pub mod Loads
 pub mod Retires

@@ -12,7 +12,6 @@ mod point;
 mod retiring;
 mod rules;
 mod saving;
-mod writes;
 
 pub use layout::{POINT_SIZE, bytes_of};
 pub use loading::load;

@@ -7,7 +7,7 @@ ghost use Rattle.shelf_model.specs.Faults.{OnlyFolder, OnlyShelf};
 ghost use Rattle.file_numbers.specs.Files.{checkpoint_file, checkpoint_gate};
 ghost use Rattle.sweep_checkpoint.specs.Points.{point_size};
 ghost use Rattle.sweep_checkpoint.specs.Gated.{present};
-ghost use Rattle.sweep_checkpoint.specs.Writes.{pieces};
+ghost use Rattle.file_writes.specs.Writes.{pieces};
 ghost use Rattle.sweep_checkpoint.specs.Loads.{DuringLoad, IsLoaded, IsLoadFault, ReadWhole, IsPointAt, IsPointFault};
 
 use crate::blank::blank;

@@ -10,8 +10,8 @@ ghost use Rattle.sweep_checkpoint.specs.Gated.{present};
 ghost use Rattle.sweep_checkpoint.specs.Saves.{DuringSave, IsSaved, IsSaveFault};
 
 use crate::layout::{POINT_SIZE, bytes_of};
-use crate::writes::{lengthen, replace_from};
 use file_numbers::{checkpoint_file, checkpoint_gate};
+use file_writes::{lengthen, replace_from};
 use shelf_model::{Failed, Shelf, StreamFault};
 use sweep_core::Checkpoint;
 

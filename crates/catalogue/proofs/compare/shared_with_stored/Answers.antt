@@ -4,7 +4,7 @@ use Rattle.shelf_model.specs.Moments.{Stays}
 use Rattle.shelf_model.proofs.Runs.{ran_end, ran_on}
 use Rattle.std.proofs.lemmas.List.{length-take}
 use Rattle.catalogue.specs.Files.{job_file}
-use Rattle.catalogue.specs.Writes.{pieces}
+use Rattle.file_writes.specs.Writes.{pieces}
 use Rattle.catalogue.proofs.Shared.{read_piece, ends_within, goes_further, ends_there}
 use Rattle.catalogue.proofs.compare.shared_with_stored.Goals as goal
 

@@ -5,7 +5,7 @@ use Rattle.shelf_model.specs.Calls.{Told}
 use Rattle.shelf_model.specs.Moments.{Ran, Stays}
 use Rattle.shelf_model.specs.Faults.{OnlyFolder}
 use Rattle.catalogue.specs.Files.{job_file}
-use Rattle.catalogue.specs.Writes.{pieces}
+use Rattle.file_writes.specs.Writes.{pieces}
 use Rattle.catalogue.proofs.compare.shared_with_stored.Given as goal
 
 -- the bytes so far are the same, and the pieces that remain are still to be read

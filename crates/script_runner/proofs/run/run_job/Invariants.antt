@@ -4,7 +4,7 @@ use Rattle.std.specs.List.{list_all}
 use Rattle.shelf_model.specs.World.{now}
 use Rattle.shelf_model.specs.Calls.{Told}
 use Rattle.script_reader.specs.Lines.{rise_from, shows_past}
-use Rattle.catalogue.specs.Writes.{pieces}
+use Rattle.file_writes.specs.Writes.{pieces}
 use Rattle.script_runner.specs.Calls.{AreCounted}
 use Rattle.script_runner.specs.JobOf.{job_in}
 use Rattle.script_runner.proofs.Turns.{Turn, calls_before}

@@ -4,7 +4,7 @@ use Rattle.shelf_model.specs.World.{now, file}
 use Rattle.shelf_model.specs.Calls.{Told}
 use Rattle.shelf_model.specs.Moments.{Ran, Stays}
 use Rattle.shelf_model.specs.Faults.{OnlyFolder}
-use Rattle.sweep_checkpoint.specs.Writes.{pieces}
+use Rattle.file_writes.specs.Writes.{pieces}
 use Rattle.sweep_checkpoint.proofs.loading.read_whole.Given as goal
 
 -- so many bytes were read, and the pieces that remain are still to be read

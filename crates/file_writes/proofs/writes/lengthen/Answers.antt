@@ -1,5 +1,5 @@
-use Rattle.sweep_checkpoint.proofs.Written.{grown_once, grown_sure}
-use Rattle.sweep_checkpoint.proofs.writes.lengthen.Goals as goal
+use Rattle.file_writes.proofs.Written.{grown_once, grown_sure}
+use Rattle.file_writes.proofs.writes.lengthen.Goals as goal
 
 pub returns-in_err-append-clause-content : goal.returns-in_err-append-clause-content
 returns-in_err-append-clause-content g c = grown_once g.S.Shelf.tells g.S.Shelf.world c.args.gate _ _ _ _ c.in_err-append.ensures.content

@@ -1,7 +1,7 @@
 use Rattle.std.proofs.Common.{length}
 use Rattle.shelf_model.proofs.Runs.{told}
-use Rattle.sweep_checkpoint.proofs.Written.{replaced_so_far, replaced, not_cut}
-use Rattle.sweep_checkpoint.proofs.writes.replace_from.Goals as goal
+use Rattle.file_writes.proofs.Written.{replaced_so_far, replaced, not_cut}
+use Rattle.file_writes.proofs.writes.replace_from.Goals as goal
 
 pub returns-in_err-append_all-clause-content : goal.returns-in_err-append_all-clause-content
 returns-in_err-append_all-clause-content g c =

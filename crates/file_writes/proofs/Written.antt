@@ -12,7 +12,8 @@ use Rattle.shelf_model.specs.Calls.{Told, Appended, WasCut, Synced}
 use Rattle.shelf_model.specs.Moments.{Ran}
 use Rattle.shelf_model.proofs.Files.{kept_append, kept_cut, kept_sync, append_failed, same_files}
 use Rattle.shelf_model.proofs.Runs.{told, told_then, ran_call, ran_on, ran_joins, ran_weakens, ran_end}
-use Rattle.sweep_checkpoint.specs.Writes.{Growing, Replacing}
+use Rattle.file_writes.specs.Writes.{Growing, Replacing}
+use Rattle.file_writes.proofs.Sure.{synced_reads}
 
 -- how far an append reaches, whatever the answer
 append_reach : (f : FileNo) (piece : List ℕ) (result : Result Unit Failed) (old new : World) → Appended f piece result old new
@@ -22,6 +23,11 @@ append_reach f piece (Err e) old new did = elim (append_failed f piece e old new
   | inl torn ↦ let reach : (file new f).reach ≡ max (file old f).reach (length (file old f).bytes + length piece) = torn.reach_is in omega arith
   | inr same ↦ let reach : (file new f).reach ≡ (file old f).reach = ap (λ (y : File). y.reach) (same_files f old new same) in omega arith
 ]
+
+-- a sync reaches no further than the file did
+synced_reach : (f : FileNo) (most : ℕ) (result : Result Unit Failed) (w v u : World) → length (file v f).bytes ≤ most → (file v f).reach ≤ max (file w f).reach most → Synced f result v u → (file u f).reach ≤ max (file w f).reach most
+synced_reach f most (Ok x) w v u long before did = let reach : (file u f).reach ≡ length (file v f).bytes = ap (λ (y : File). y.reach) did.ok in omega arith
+synced_reach f most (Err e) w v u long before did = let reach : (file u f).reach ≡ (file v f).reach = ap (λ (y : File). y.reach) (same_files f v u did.failed) in omega arith
 
 -- nothing was put at the end yet
 pub growing_here : (f : FileNo) (n : ℕ) (m : Moment) → Growing f n m m
@@ -122,18 +128,10 @@ replacing_grows f at n w v m within cut growing = record {
 replacing_synced : (f : FileNo) (at n : ℕ) (result : Result Unit Failed) (w v u : World) → length (file v f).bytes ≤ at + n → Replacing f at n (now w) (now v) → Synced f result v u → Replacing f at n (now w) (now u)
 replacing_synced f at n result w v u long so_far did = record {
   others = λ q differ. did.others q differ ∙ so_far.others q differ;
-  reads = ap (take at) (synced_reads f result v u did) ∙ so_far.reads;
+  reads = ap (take at) (synced_reads f f result v u did) ∙ so_far.reads;
   kept = λ front behind kept. kept_sync f result v u front did (so_far.kept front behind kept);
-  reach = let before : (file v f).reach ≤ max (file w f).reach (at + n) = so_far.reach in synced_reach f at n result w v u long before did;
+  reach = let before : (file v f).reach ≤ max (file w f).reach (at + n) = so_far.reach in synced_reach f (at + n) result w v u long before did;
 }
-  where
-    synced_reads : (f : FileNo) (result : Result Unit Failed) (v u : World) → Synced f result v u → (file u f).bytes ≡ (file v f).bytes
-    synced_reads f (Ok x) v u did = ap (λ (y : File). y.bytes) did.ok
-    synced_reads f (Err e) v u did = ap (λ (y : File). y.bytes) (same_files f v u did.failed)
-
-    synced_reach : (f : FileNo) (at n : ℕ) (result : Result Unit Failed) (w v u : World) → length (file v f).bytes ≤ at + n → (file v f).reach ≤ max (file w f).reach (at + n) → Synced f result v u → (file u f).reach ≤ max (file w f).reach (at + n)
-    synced_reach f at n (Ok x) w v u long before did = let reach : (file u f).reach ≡ length (file v f).bytes = ap (λ (y : File). y.reach) did.ok in omega arith
-    synced_reach f at n (Err e) w v u long before did = let reach : (file u f).reach ≡ (file v f).reach = ap (λ (y : File). y.reach) (same_files f v u did.failed) in omega arith
 
 -- a cut that failed
 cut_reads : (f : FileNo) (at : ℕ) (e : Failed) (w v : World) → WasCut f at (Err e) w v → take at (file v f).bytes ≡ take at (file w f).bytes
@@ -195,18 +193,10 @@ replaced tells world f at bytes result old s t u within cut grown put synced =
 growing_synced : (f : FileNo) (n : ℕ) (result : Result Unit Failed) (w v u : World) → length (file v f).bytes ≤ length (file w f).bytes + n → Growing f n (now w) (now v) → Synced f result v u → Growing f n (now w) (now u)
 growing_synced f n result w v u long so_far did = record {
   others = λ q differ. did.others q differ ∙ so_far.others q differ;
-  reads = (so_far.reads.0, synced_bytes f result v u did ∙ so_far.reads.1);
+  reads = (so_far.reads.0, synced_reads f f result v u did ∙ so_far.reads.1);
   kept = λ front kept. kept_sync f result v u front did (so_far.kept front kept);
-  reach = let before : (file v f).reach ≤ max (file w f).reach (length (file w f).bytes + n) = so_far.reach in synced_reach f n result w v u long before did;
+  reach = let before : (file v f).reach ≤ max (file w f).reach (length (file w f).bytes + n) = so_far.reach in synced_reach f (length (file w f).bytes + n) result w v u long before did;
 }
-  where
-    synced_bytes : (f : FileNo) (result : Result Unit Failed) (v u : World) → Synced f result v u → (file u f).bytes ≡ (file v f).bytes
-    synced_bytes f (Ok x) v u did = ap (λ (y : File). y.bytes) did.ok
-    synced_bytes f (Err e) v u did = ap (λ (y : File). y.bytes) (same_files f v u did.failed)
-
-    synced_reach : (f : FileNo) (n : ℕ) (result : Result Unit Failed) (w v u : World) → length (file v f).bytes ≤ length (file w f).bytes + n → (file v f).reach ≤ max (file w f).reach (length (file w f).bytes + n) → Synced f result v u → (file u f).reach ≤ max (file w f).reach (length (file w f).bytes + n)
-    synced_reach f n (Ok x) w v u long before did = let reach : (file u f).reach ≡ length (file v f).bytes = ap (λ (y : File). y.reach) did.ok in omega arith
-    synced_reach f n (Err e) w v u long before did = let reach : (file u f).reach ≡ (file v f).reach = ap (λ (y : File). y.reach) (same_files f v u did.failed) in omega arith
 
 -- one piece is put at the end
 grown : (f : FileNo) (piece : List ℕ) (result : Result Unit Failed) (w v : World) → Appended f piece result w v → Growing f (length piece) (now w) (now v)

@@ -1,8 +1,8 @@
 use Rattle.std.proofs.Common.{◌≡◌, ◌+◌, ◌-◌, ◌≤◌, length, rules, arith}
 use Rattle.shelf_model.proofs.Runs.{told}
-use Rattle.catalogue.specs.Writes.{pieces}
-use Rattle.catalogue.proofs.Written.{grow_on}
-use Rattle.catalogue.proofs.writes.append_all.Goals as goal
+use Rattle.file_writes.specs.Writes.{pieces}
+use Rattle.file_writes.proofs.Written.{grow_on}
+use Rattle.file_writes.proofs.writes.append_all.Goals as goal
 use Rattle.std.proofs.lemmas.Grind.{common_steps}
 
 pub returns-in_err-append-clause-content : goal.returns-in_err-append-clause-content

@@ -5,12 +5,14 @@ ghost use Rattle.shelf_model.specs.World.{now, file};
 ghost use Rattle.shelf_model.specs.Calls.{Told};
 ghost use Rattle.shelf_model.specs.Moments.{Ran};
 ghost use Rattle.shelf_model.specs.Faults.{OnlyFolder};
-ghost use Rattle.catalogue.specs.Writes.{pieces, Growing, Replacing, Lengthening};
+ghost use Rattle.file_writes.specs.Writes.{pieces, Growing, Replacing};
 
 use shelf_model::{Failed, FileNo, PIECE, Shelf};
 
-// Puts bytes at the end of a file, whose length is `at`.
-fn append_all<S: Shelf>(f: FileNo, at: u64, bytes: &[u8], shelf: &mut S) -> Result<(), Failed>
+/// Puts bytes at the end of a file, whose length is `at`. They aren't made sure.
+///
+/// After `Failed` some of them, or none, stand there.
+pub fn append_all<S: Shelf>(f: FileNo, at: u64, bytes: &[u8], shelf: &mut S) -> Result<(), Failed>
     requires small { at + length bytes.now < 2 ^ 64 }
     requires at_end { IsTrue (S.tells shelf.old) → at ≡ length (file (S.world shelf.old) f).bytes }
     ensures content { Told S.tells shelf.old shelf.new
@@ -32,12 +34,10 @@ fn append_all<S: Shelf>(f: FileNo, at: u64, bytes: &[u8], shelf: &mut S) -> Resu
 }
 
 /// Replaces what stands from byte `at` on by these bytes, and makes the file sure.
-pub(crate) fn replace_from<S: Shelf>(
-    f: FileNo,
-    at: u64,
-    bytes: &[u8],
-    shelf: &mut S,
-) -> Result<(), Failed>
+///
+/// After `Failed` the file may be cut at that place or not, with some of the bytes behind it. What it kept before that
+/// place it keeps.
+pub fn replace_from<S: Shelf>(f: FileNo, at: u64, bytes: &[u8], shelf: &mut S) -> Result<(), Failed>
     requires small { at + length bytes.now < 2 ^ 64 }
     requires within { IsTrue (S.tells shelf.old) → at ≤ length (file (S.world shelf.old) f).bytes }
     ensures content { Told S.tells shelf.old shelf.new
@@ -56,14 +56,13 @@ pub(crate) fn replace_from<S: Shelf>(
 }
 
 /// Lengthens a gate of `at` bytes by one byte, and makes it sure.
-pub(crate) fn lengthen<S: Shelf>(gate: FileNo, at: u64, shelf: &mut S) -> Result<(), Failed>
-    requires sure { IsTrue (S.tells shelf.old)
-        → file (S.world shelf.old) gate ≡ firm_file (file (S.world shelf.old) gate).bytes }
+///
+/// All that the gate counts has to be sure before. After `Failed` it has grown or it hasn't.
+pub fn lengthen<S: Shelf>(gate: FileNo, at: u64, shelf: &mut S) -> Result<(), Failed>
     requires at_end { IsTrue (S.tells shelf.old)
         → at ≡ length (file (S.world shelf.old) gate).bytes }
     ensures content { Told S.tells shelf.old shelf.new
-        (Ran (Lengthening gate at (now (S.world shelf.old)))
-        (S.world shelf.old) (S.world shelf.new)) }
+        (Ran (Growing gate 1 (now (S.world shelf.old))) (S.world shelf.old) (S.world shelf.new)) }
     ensures ok { OnOk result (IsTrue (S.tells shelf.new)
         → file (S.world shelf.new) gate
         ≡ firm_file ((file (S.world shelf.old) gate).bytes ++ 0 ∷ [])) }

@@ -4,8 +4,8 @@ use Rattle.shelf_model.specs.World.{now, file}
 use Rattle.shelf_model.specs.Calls.{Told}
 use Rattle.shelf_model.specs.Moments.{Ran}
 use Rattle.shelf_model.specs.Faults.{OnlyFolder}
-use Rattle.catalogue.specs.Writes.{pieces, Growing}
-use Rattle.catalogue.proofs.writes.append_all.Given as goal
+use Rattle.file_writes.specs.Writes.{pieces, Growing}
+use Rattle.file_writes.proofs.writes.append_all.Given as goal
 
 -- so many bytes stand at the end, and the pieces that remain are still to be put there
 abbrev pub invariant-loop-done : goal.invariant-loop-done
