@@ -1,12 +1,8 @@
 -- What the files say of a job and its committed steps. A folder and an image are taken by the bytes of each file.
 use Rattle.std.specs.Prelude.{◌≡◌, ℕ, ◌*◌, Bool, IsTrue, List, length, take, drop, nat_lt, if◌then◌else◌}
 use Rattle.shelf_model.specs.declared.file_no.FileNo.{FileNo}
-use Rattle.shelf_model.specs.Folder.{Folder, file_in}
+pub use Rattle.file_writes.specs.Present.{present}
 use Rattle.catalogue.specs.Files.{entry_size, job_gate, catalogue, step_gate}
-
--- what a read gives of each file of a folder
-abbrev pub present : Folder → FileNo → List ℕ
-present folder f = (file_in folder f).bytes
 
 -- a job is stored exactly where its gate isn't empty
 abbrev pub is_stored : (FileNo → List ℕ) → Bool

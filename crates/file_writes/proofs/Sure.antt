@@ -5,14 +5,15 @@ use Rattle.shelf_model.specs.declared.file_no.FileNo.{FileNo}
 use Rattle.shelf_model.specs.declared.fault.Failed.{Failed}
 use Rattle.shelf_model.specs.File.{File, firm_file, IsLeft, IsKept}
 use Rattle.shelf_model.specs.Folder.{Folder, Image, file_in, bytes_in, IsImage}
-use Rattle.shelf_model.specs.World.{Moment, World, file}
+use Rattle.shelf_model.specs.World.{Moment, World, now, file}
 use Rattle.shelf_model.specs.Calls.{Synced}
 use Rattle.shelf_model.proofs.Files.{only_image, same_image, kept_all}
 use Rattle.shelf_model.proofs.Numbers.{cases_file}
+use Rattle.file_writes.specs.Present.{present}
 use Rattle.file_writes.specs.Writes.{Growing}
 
 -- a sync leaves what reads give
-pub synced_reads : (f q : FileNo) (result : Result Unit Failed) (old new : World) → Synced f result old new → (file new q).bytes ≡ (file old q).bytes
+pub synced_reads : (f q : FileNo) (result : Result Unit Failed) (old new : World) → Synced f result old new → present (now new).folder q ≡ present (now old).folder q
 synced_reads f q (Ok x) old new did = elim (cases_file q f) [
   | inl same ↦ ap (λ g. (file new g).bytes) same ∙ ap (λ (y : File). y.bytes) did.ok ∙ ap (λ g. (file old g).bytes) (sym same)
   | inr differ ↦ ap (λ (y : File). y.bytes) (did.others q differ)

@@ -1,13 +1,9 @@
 -- Which checkpoint of a step counts. A folder and an image are taken by the bytes of each file.
 use Rattle.std.specs.Prelude.{ℕ, zero, suc, ◌*◌, ◌-◌, List, length, take, drop, Option, Some, None}
 use Rattle.shelf_model.specs.declared.file_no.FileNo.{FileNo}
-use Rattle.shelf_model.specs.Folder.{Folder, file_in}
+pub use Rattle.file_writes.specs.Present.{present}
 use Rattle.file_numbers.specs.Files.{checkpoint_file, checkpoint_gate}
 use Rattle.sweep_checkpoint.specs.Points.{point_size}
-
--- what a read gives of each file of a folder
-abbrev pub present : Folder → FileNo → List ℕ
-present folder f = (file_in folder f).bytes
 
 -- how many checkpoints of the step are gated
 abbrev pub gated_count : ℕ → (FileNo → List ℕ) → ℕ
