@@ -16,19 +16,15 @@ use Rattle.top_down.specs.declared.tuple.Goal.{Goal}
 use Rattle.top_down.specs.declared.tuple.Goal.TheVariants.{End, Go}
 use Rattle.top_down.specs.Tuples.{Targets, AreFrom, level_of_tuple}
 use Rattle.top_down.specs.Rules.{Rule, IsAsked, IsRule, below_on}
+use Rattle.top_down.specs.Verdicts.{asked_tuples}
 use Rattle.top_down_laws.specs.Readings.{Diagrams, targets_in}
 use Rattle.top_down_laws.specs.Remains.{IsMet}
 use Rattle.top_down_laws.specs.Remains.IsMet.{AtRoot, Below}
 use Rattle.met_tuples.specs.Few.{MeetsFew}
 
--- the tuple that is asked for, where one is
-abbrev pub asked_of : Goal → List Tuple
-asked_of (End value) = []
-asked_of (Go x) = x ∷ []
-
 -- the tuples that are asked for, where the goal of each tuple of pieces is given
 abbrev pub asked_among : (List (List Bool) → Goal) → List (List (List Bool)) → List Tuple
-asked_among goal tuples = flat_map (λ l. asked_of (goal l)) tuples
+asked_among goal tuples = flat_map (λ l. asked_tuples (goal l)) tuples
 
 -- they are no more than the tuples of pieces
 length-asked_among : (goal : List (List Bool) → Goal) (tuples : List (List (List Bool)))
@@ -37,7 +33,7 @@ length-asked_among goal [] = omega arith
 length-asked_among goal (l ∷ tuples) = by (goal l) (length-asked_among goal tuples)
   where
     by : (g : Goal) → length (asked_among goal tuples) ≤ length tuples
-        → length (asked_of g ++ asked_among goal tuples) ≤ suc (length tuples)
+        → length (asked_tuples g ++ asked_among goal tuples) ≤ suc (length tuples)
     by (End value) rest = omega arith
     by (Go x) rest = omega arith
 
@@ -54,7 +50,7 @@ has_flat_map f x y (z ∷ xs) (inr member) there =
 has_asked : (goal : List (List Bool) → Goal) (l : List (List Bool)) (x : Tuple) (tuples : List (List (List Bool)))
     → Has l tuples → goal l ≡ Go x → Has x (asked_among goal tuples)
 has_asked goal l x tuples member goes =
-    has_flat_map (λ m. asked_of (goal m)) l x tuples member (subst (λ g. Has x (asked_of g)) (sym goes) (inl refl))
+    has_flat_map (λ m. asked_tuples (goal m)) l x tuples member (subst (λ g. Has x (asked_tuples g)) (sym goes) (inl refl))
 
 -- one that passes the test is among the members
 any_has : {X : Type 0} (test : X → Bool) (xs : List X) → list_any test xs ≡ true

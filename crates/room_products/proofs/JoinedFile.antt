@@ -1,10 +1,9 @@
 -- The file that is made of the sources, and the table whose canonical one it is.
-use Rattle.std.proofs.Common.{◌≡◌, ◌∙◌, ℕ, ◌*◌, ◌^◌, ◌≤◌, Bool, List, [], ◌∷◌, length, refl, sym, subst, arith}
+use Rattle.std.proofs.Common.{◌≡◌, ◌∙◌, ℕ, ◌*◌, ◌^◌, ◌≤◌, Bool, List, [], length, sym, subst, arith}
 use Rattle.std.specs.Prelude.{map, Result, Ok, Err, Option, Some, None, IfOk, IfSome}
 use Rattle.std.proofs.lemmas.List.{length-map}
 use Rattle.bool_tables.specs.Steps.{op_value}
 use Rattle.bool_tables.specs.declared.steps.Bin.{Bin}
-use Rattle.rec_words.specs.declared.node.Node.{Node}
 use Rattle.rec_words.specs.declared.rec.Rec.{Rec}
 use Rattle.shelf_model.specs.declared.fault.StreamFault.{StreamFault}
 use Rattle.shelf_model.specs.declared.file_no.FileNo.{FileNo}
@@ -13,7 +12,6 @@ use Rattle.shelf_model.specs.World.{World, file}
 use Rattle.canon_file.specs.Canon.{canon_nodes, canon_root, canon_bytes}
 use Rattle.canon_file.specs.Laws.{HasForm}
 use Rattle.arc_file.specs.declared.arc.Arc.{Arc}
-use Rattle.arc_diagrams.specs.Arcs.{arcs_of}
 use Rattle.arc_diagrams.specs.Laws.{IsDiagramOf}
 use Rattle.arc_diagrams.proofs.ReduceLaws.{reduces}
 use Rattle.copied_diagrams.specs.Operands.{pair_table}
@@ -24,13 +22,9 @@ use Rattle.top_down.specs.Tuples.{joined_by}
 use Rattle.top_down.proofs.OperationDiagrams.{product_stands}
 use Rattle.top_down.proofs.TupleLaws.{root-table}
 use Rattle.room_reduction.specs.Sources.{AreSources}
+use Rattle.room_reduction.proofs.ComplementSources.{arcs_many}
 use Rattle.node_file.specs.Canonical.{IsMade}
 use Rattle.room_products.specs.Joined.{node_of, arcs_in, AreOfTable}
-
--- there are two arcs of each source
-arcs_many : (xs : List Node) → length (arcs_of xs) ≡ 2 * length xs
-arcs_many [] = refl
-arcs_many (x ∷ xs) = let later = arcs_many xs in omega (arith, later)
 
 -- so few sources have no more arcs than a diagram that is reduced may have
 few_arcs : (sources : List Rec) → length sources ≤ 2 ^ 17 → length (arcs_in sources) ≤ 2 ^ 47
