@@ -246,7 +246,7 @@ read_used bytes head carry runs d read head_d carry_d runs_d = used_from d bytes
 })
 
 -- six words are these
-pub six_words : (head : List ℕ) → length head ≡ 6 → get_or head 0 0 ∷ get_or head 1 0 ∷ get_or head 2 0 ∷ get_or head 3 0 ∷ get_or head 4 0 ∷ get_or head 5 0 ∷ [] ≡ head
+six_words : (head : List ℕ) → length head ≡ 6 → get_or head 0 0 ∷ get_or head 1 0 ∷ get_or head 2 0 ∷ get_or head 3 0 ∷ get_or head 4 0 ∷ get_or head 5 0 ∷ [] ≡ head
 six_words [] six = absurd (omega arith)
 six_words (a ∷ []) six = absurd (omega arith)
 six_words (a ∷ b ∷ []) six = absurd (omega arith)
@@ -255,3 +255,22 @@ six_words (a ∷ b ∷ d ∷ e ∷ []) six = absurd (omega arith)
 six_words (a ∷ b ∷ d ∷ e ∷ f ∷ []) six = absurd (omega arith)
 six_words (a ∷ b ∷ d ∷ e ∷ f ∷ g ∷ []) six = refl
 six_words (a ∷ b ∷ d ∷ e ∷ f ∷ g ∷ h ∷ more) six = absurd (omega arith)
+
+-- the checkpoint of a step and a budget that six words, the words of a sweep and tables are
+abbrev pub point_from : ℕ → ℕ → List ℕ → List ℕ → List (List Run) → Checkpoint
+point_from step budget head carry runs = record {
+  step = step;
+  sweep = get_or head 1 0;
+  turns = get_or head 2 0;
+  next_part = get_or head 3 0;
+  budget = budget;
+  tables = get_or head 5 0;
+  carry = carry;
+  runs = runs;
+}
+
+-- they are its words, where two of them are the step and the budget
+pub head_from : (step budget : ℕ) (head carry : List ℕ) (runs : List (List Run)) → length head ≡ 6 → get_or head 0 0 ≡ step → get_or head 4 0 ≡ budget
+    → head_words (point_from step budget head carry runs) ≡ head
+head_from step budget head carry runs six step_is budget_is =
+    (λ i. sym step_is i ∷ get_or head 1 0 ∷ get_or head 2 0 ∷ get_or head 3 0 ∷ sym budget_is i ∷ get_or head 5 0 ∷ []) ∙ six_words head six

@@ -1,10 +1,10 @@
-use Rattle.std.proofs.Common.{◌≡◌, ℕ, List, [], ◌∷◌, take, get_or, true, refl, sym, ap, subst, ◌∙◌, inl, inr, arith}
+use Rattle.std.proofs.Common.{◌≡◌, ℕ, List, take, get_or, true, refl, sym, ap, subst, ◌∙◌, inl, inr, arith}
 use Rattle.std.specs.Prelude.{All, Some}
 use Rattle.std.proofs.lemmas.Bool.{false≢true}
 use Rattle.sweep_core.specs.declared.checkpoint.Checkpoint.{Checkpoint}
 use Rattle.sweep_checkpoint.specs.Points.{head_words}
 use Rattle.sweep_checkpoint.specs.Rules.{IsSlot}
-use Rattle.sweep_checkpoint.proofs.Parts.{IsReadFrom, same_head, same_point, read_fits, read_used, six_words}
+use Rattle.sweep_checkpoint.proofs.Parts.{IsReadFrom, same_head, same_point, read_fits, read_used, point_from, head_from}
 use Rattle.sweep_checkpoint.proofs.point.point_of.Goals as goal
 use Rattle.sweep_checkpoint.proofs.point.point_of.Goals.{then-number-from-via-then-number-from, then-number-from-via-else-number-from+then-records-from}
 
@@ -59,19 +59,9 @@ returns-then-keeps_tables-clause-found c =
       tables = c.read_tables.ensures.tables;
       runs_are = c.read_tables.ensures.bytes;
     } in
-    let point : Checkpoint = record {
-      step = c.args.step;
-      sweep = get_or head 1 0;
-      turns = get_or head 2 0;
-      next_part = get_or head 3 0;
-      budget = c.args.budget;
-      tables = get_or head 5 0;
-      carry = c.read_words-2.new.words;
-      runs = c.read_tables.new.tables;
-    } in
-    let number : get_or head 0 0 ≡ c.args.step = c.if-number-from.false ∙ c.from.ensures in
-    let records : get_or head 4 0 ≡ c.args.budget = c.if-records-from.false ∙ c.from-else-number-from.ensures in
-    let words : head_words point ≡ head = (λ i. sym number i ∷ get_or head 1 0 ∷ get_or head 2 0 ∷ get_or head 3 0 ∷ sym records i ∷ get_or head 5 0 ∷ []) ∙ six_words head c.read_words.auto.words in
+    let point : Checkpoint = point_from c.args.step c.args.budget head c.read_words-2.new.words c.read_tables.new.tables in
+    let words : head_words point ≡ head = head_from c.args.step c.args.budget head c.read_words-2.new.words c.read_tables.new.tables c.read_words.auto.words
+    (c.if-number-from.false ∙ c.from.ensures) (c.if-records-from.false ∙ c.from-else-number-from.ensures) in
     record {
       whole = c.told-bytes;
       used = read_used c.args.bytes.now head c.read_words-2.new.words c.read_tables.new.tables point read words refl refl;
@@ -101,19 +91,9 @@ returns-then-keeps_tables-clause-only c = λ other is.
       tables = c.read_tables.ensures.tables;
       runs_are = c.read_tables.ensures.bytes;
     } in
-    let point : Checkpoint = record {
-      step = c.args.step;
-      sweep = get_or head 1 0;
-      turns = get_or head 2 0;
-      next_part = get_or head 3 0;
-      budget = c.args.budget;
-      tables = get_or head 5 0;
-      carry = c.read_words-2.new.words;
-      runs = c.read_tables.new.tables;
-    } in
-    let number : get_or head 0 0 ≡ c.args.step = c.if-number-from.false ∙ c.from.ensures in
-    let records : get_or head 4 0 ≡ c.args.budget = c.if-records-from.false ∙ c.from-else-number-from.ensures in
-    let words : head_words point ≡ head = (λ i. sym number i ∷ get_or head 1 0 ∷ get_or head 2 0 ∷ get_or head 3 0 ∷ sym records i ∷ get_or head 5 0 ∷ []) ∙ six_words head c.read_words.auto.words in
+    let point : Checkpoint = point_from c.args.step c.args.budget head c.read_words-2.new.words c.read_tables.new.tables in
+    let words : head_words point ≡ head = head_from c.args.step c.args.budget head c.read_words-2.new.words c.read_tables.new.tables c.read_words.auto.words
+    (c.if-number-from.false ∙ c.from.ensures) (c.if-records-from.false ∙ c.from-else-number-from.ensures) in
     ap Some (same_point c.args.bytes.now head c.read_words-2.new.words c.read_tables.new.tables other point read words refl refl is.fits is.used)
 
 pub returns-else-keeps_tables-clause-only : goal.returns-else-keeps_tables-clause-only
@@ -130,19 +110,9 @@ returns-else-keeps_tables-clause-only c = λ other is.
       tables = c.read_tables.ensures.tables;
       runs_are = c.read_tables.ensures.bytes;
     } in
-    let point : Checkpoint = record {
-      step = c.args.step;
-      sweep = get_or head 1 0;
-      turns = get_or head 2 0;
-      next_part = get_or head 3 0;
-      budget = c.args.budget;
-      tables = get_or head 5 0;
-      carry = c.read_words-2.new.words;
-      runs = c.read_tables.new.tables;
-    } in
-    let number : get_or head 0 0 ≡ c.args.step = c.if-number-from.false ∙ c.from.ensures in
-    let records : get_or head 4 0 ≡ c.args.budget = c.if-records-from.false ∙ c.from-else-number-from.ensures in
-    let words : head_words point ≡ head = (λ i. sym number i ∷ get_or head 1 0 ∷ get_or head 2 0 ∷ get_or head 3 0 ∷ sym records i ∷ get_or head 5 0 ∷ []) ∙ six_words head c.read_words.auto.words in
+    let point : Checkpoint = point_from c.args.step c.args.budget head c.read_words-2.new.words c.read_tables.new.tables in
+    let words : head_words point ≡ head = head_from c.args.step c.args.budget head c.read_words-2.new.words c.read_tables.new.tables c.read_words.auto.words
+    (c.if-number-from.false ∙ c.from.ensures) (c.if-records-from.false ∙ c.from-else-number-from.ensures) in
     let same : point ≡ other = same_point c.args.bytes.now head c.read_words-2.new.words c.read_tables.new.tables other point read words refl refl is.fits is.used in
     let yes : c.keeps_tables.result ≡ true = c.keeps_tables.ensures.1 (subst (λ (p : Checkpoint). All (All (IsSlot p.next_part)) (take p.tables p.runs)) (sym same) is.rules.runs) in
     absurd (false≢true (sym c.if-keeps_tables.false ∙ yes))
