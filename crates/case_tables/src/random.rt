@@ -25,14 +25,15 @@ impl Random {
         more ^ (more >> 31)
     }
 
+    /// One of the two truth values.
+    pub fn bit(&mut self) -> bool {
+        self.next() % 2 == 0
+    }
+
     /// All places of a table, or those of some variables as chance has it.
     pub fn variables(&mut self) -> usize {
         let some = self.next() as usize;
-        if self.next() % 2 == 0 {
-            some
-        } else {
-            usize::MAX
-        }
+        if self.bit() { some } else { usize::MAX }
     }
 
     /// A table of n variables that depends on these alone, each a bit of its places.
@@ -49,7 +50,7 @@ impl Random {
         for place in 0..1usize << n {
             let value = match table.as_slice().get(place & variables) {
                 Some(value) => *value,
-                None => self.next() % 2 == 0,
+                None => self.bit(),
             };
             table.push(value)?;
         }

@@ -1,6 +1,6 @@
 //! Diagrams of tables that aren't reduced: their nodes may be equal, and may have equal children.
-use crate::random::Random;
 use arc_file::Arc;
+use case_tables::Random;
 use rec_words::{Ptr, Uid};
 use std::alloc::Global;
 use std::test::Fail;

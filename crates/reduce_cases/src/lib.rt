@@ -4,8 +4,6 @@
 #[cfg(test)]
 mod diagrams;
 #[cfg(test)]
-mod random;
-#[cfg(test)]
 mod reducing;
 #[cfg(test)]
 mod refusals;

@@ -1,7 +1,7 @@
 //! Reductions that are refused.
 use crate::diagrams::{Sharing, diagram_of};
-use crate::random::Random;
 use crate::reducing::{ENDS, INNER, LEAST_ROOM, OUT, reduce, write_arcs};
+use case_tables::Random;
 use rec_words::Rec;
 use shelf_memory::Bench;
 use shelf_model::{FileNo, SortFault};

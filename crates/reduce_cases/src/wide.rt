@@ -2,9 +2,9 @@
 ghost use Rattle.std.specs.Prelude.{◌≡◌, ◌^◌, IfOk, length};
 
 use crate::diagrams::{Sharing, diagram_of};
-use crate::random::Random;
 use crate::reducing::{LEAST_ROOM, OUT, reduce_and_tell, write_arcs};
 use canon_file::plain_canon;
+use case_tables::Random;
 use rec_words::Rec;
 use shelf_memory::Bench;
 use std::alloc::{AllocError, Global};
