@@ -3,7 +3,7 @@ pub mod Counted
 pub mod Places
 mod Shared
 pub mod Stored
-mod Synced
+pub mod Synced
 mod Resumed
 mod Looked
 mod Laws

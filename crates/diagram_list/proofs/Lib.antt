@@ -1,4 +1,5 @@
 pub mod Steps
+pub mod SayingLaws
 mod Saying
 mod Loops
 mod Listed

@@ -4,37 +4,30 @@ use Rattle.std.specs.Prelude.{Result, Ok, Err}
 use Rattle.shelf_model.specs.declared.file_no.FileNo.{FileNo}
 use Rattle.shelf_model.specs.declared.fault.StreamFault.{StreamFault}
 use Rattle.shelf_model.specs.declared.fault.StreamFault.TheVariants as stream
-use Rattle.shelf_model.specs.Folder.{file_in, IsImage}
 use Rattle.shelf_model.specs.World.{Moment, World, now, said}
 use Rattle.shelf_model.specs.Moments.{Throughout, Quiet, Stays, Ran}
 use Rattle.shelf_model.proofs.Runs.{joins, weakens, ran_end}
 use Rattle.catalogue.specs.declared.standing.Standing.{Standing}
 use Rattle.catalogue.specs.Counts.{present, count_in}
 use Rattle.catalogue.specs.Standings.{standing_found, DuringSyncs}
+use Rattle.catalogue.proofs.Synced.{syncs_stay}
 use Rattle.diagram_list.specs.declared.fault.ListFault.{ListFault}
 use Rattle.diagram_list.specs.declared.fault.ListFault.TheVariants.{Damaged}
 use Rattle.diagram_list.specs.Faults.{list_fault}
 use Rattle.diagram_list.specs.Listing.{listing}
-use Rattle.diagram_list.specs.Lists.{StandWhole, WereRead, LacksEntry, IsSaying, SamePlace, SaysText, DuringList, Lists}
-use Rattle.diagram_list.proofs.Saying.{front_none, place_of, place_then}
+use Rattle.diagram_list.specs.Saying.{IsSaying, StaysThere}
+use Rattle.diagram_list.specs.Lists.{StandWhole, WereRead, LacksEntry, SaysText, DuringList, Lists}
+use Rattle.diagram_list.proofs.SayingLaws.{says_nothing, stays_on_shelf, stays_then}
 
 -- what is read of a folder while files are made sure
 reads_same : (old m : Moment) → DuringSyncs old m → present m.folder ≡ present old.folder
 reads_same old m syncs = λ i q. syncs.reads q i
 
--- a moment behind files that were made sure, at which the files are as they were then
-syncs_stay : (old mid m : Moment) → DuringSyncs old mid → m.folder ≡ mid.folder → DuringSyncs old m
-syncs_stay old mid m syncs stays = record {
-  others = λ q not_job not_gate not_steps. ap (λ folder. file_in folder q) stays ∙ syncs.others q not_job not_gate not_steps;
-  reads = λ q. ap (λ folder. (file_in folder q).bytes) stays ∙ syncs.reads q;
-  images = λ image is_image. syncs.images image (subst (λ folder. IsImage folder image) stays is_image);
-}
-
 -- the folder was looked at, and nothing was said
 looking : (text : List ℕ) (old mid : World) → Ran (DuringSyncs (now old)) old mid → Throughout old mid (DuringList text (now old))
 looking text old mid run =
     weakens old mid (Quiet (now old).said (DuringSyncs (now old))) (DuringList text (now old))
-    (λ m quiet. record { says = front_none text (now old).said m.said quiet.said_is; files = quiet.holds }) run.moments
+    (λ m quiet. record { says = says_nothing (now old).said text m.said quiet.said_is; files = quiet.holds }) run.moments
 
 -- and then its entries were read
 pub looked : (text : List ℕ) (old mid new : World) → Ran (DuringSyncs (now old)) old mid → Ran (Stays (now mid)) mid new → Throughout old new (DuringList text (now old))
@@ -43,8 +36,8 @@ looked text old mid new run reads =
     joins old mid new (DuringList text (now old)) (looking text old mid run)
     (weakens mid new (Quiet (now mid).said (Stays (now mid))) (DuringList text (now old))
     (λ m quiet. record {
-      says = front_none text (now old).said m.said (quiet.said_is ∙ run.station.said_is);
-      files = syncs_stay (now old) (now mid) m syncs quiet.holds;
+      says = says_nothing (now old).said text m.said (quiet.said_is ∙ run.station.said_is);
+      files = syncs_stay (now old) (now mid) m quiet.holds syncs;
     }) reads.moments)
 
 -- the folder couldn't be looked at, or is damaged
@@ -53,7 +46,7 @@ pub lists_not : (fault : StreamFault) (old new : World) → Ran (DuringSyncs (no
     → Lists (Err (list_fault fault)) old new
 lists_not fault old new run answer = record {
   moments = looking (listing (present (now old).folder)) old new run;
-  place = place_of old new run.station;
+  place = stays_on_shelf old new run.station;
   ok = tt;
   whole = tt;
   damaged = λ file at same. record { place = inl (found fault answer file at same); said_is = run.station.said_is };
@@ -72,7 +65,7 @@ pub lists_none : (fault : StreamFault) (n : ℕ) (old mid new : World) → Ran (
     → n ≡ count_in (present (now mid).folder) → LacksEntry n (present (now mid).folder) fault → Lists (Err (list_fault fault)) old new
 lists_none fault n old mid new run reads counts lacks = record {
   moments = looked (listing (present (now old).folder)) old mid new run reads;
-  place = place_then old mid new (place_of old mid run.station) (place_of mid new reads.station);
+  place = stays_then old mid new (stays_on_shelf old mid run.station) (stays_on_shelf mid new reads.station);
   ok = tt;
   whole = tt;
   damaged = λ file at same. record {
@@ -111,12 +104,12 @@ lists_said result n marks old mid late new run reads counts read says =
     (weakens late new (IsSaying (listing (present (now old).folder)) (now late)) (DuringList (listing (present (now old).folder)) (now old))
     (λ m saying. record {
       says = record { front = saying.says.front; rest = saying.says.rest; text_is = saying.says.text_is; said_is = saying.says.said_is ∙ ap (λ b. b ++ saying.says.front) before };
-      files = syncs_stay (now old) (now mid) m syncs (saying.folder_is ∙ stays);
+      files = syncs_stay (now old) (now mid) m (saying.folder_is ∙ stays) syncs;
     }) line.moments) in
-    let place : SamePlace old new = place_then old late new (place_then old mid late (place_of old mid run.station) (place_of mid late reads.station)) line.place in
+    let place : StaysThere old new = stays_then old late new (stays_then old mid late (stays_on_shelf old mid run.station) (stays_on_shelf mid late reads.station)) line.place in
     by_result result whole_run place line stand before
   where
-    by_result : (result : Result Unit ListFault) → Throughout old new (DuringList (listing (present (now old).folder)) (now old)) → SamePlace old new
+    by_result : (result : Result Unit ListFault) → Throughout old new (DuringList (listing (present (now old).folder)) (now old)) → StaysThere old new
         → SaysText (listing (present (now old).folder)) result late new → StandWhole (count_in (present (now old).folder)) (present (now old).folder) → said late ≡ said old → Lists result old new
     by_result (Ok x) run place line stand before = record {
       moments = run;

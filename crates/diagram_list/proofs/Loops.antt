@@ -8,7 +8,8 @@ use Rattle.shelf_model.proofs.Runs.{at_end}
 use Rattle.catalogue.specs.Counts.{present, count_in}
 use Rattle.diagram_list.specs.declared.fault.ListFault.{ListFault}
 use Rattle.diagram_list.specs.Listing.{is_dropped, step_line, first_steps, listing}
-use Rattle.diagram_list.specs.Lists.{WereRead, IsNext, IsSaying, SaysText}
+use Rattle.diagram_list.specs.Saying.{IsSaying}
+use Rattle.diagram_list.specs.Lists.{WereRead, IsNext, SaysText}
 use Rattle.diagram_list.proofs.Steps.{lines_more, lines_first}
 use Rattle.diagram_list.proofs.Saying.{says_then, says_longer}
 

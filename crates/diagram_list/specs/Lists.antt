@@ -1,5 +1,5 @@
 -- What listing a folder's diagrams leaves.
-use Rattle.std.specs.Prelude.{◌≡◌, ◌⊎◌, ℕ, ◌<◌, Bool, false, IsTrue, List, ◌++◌, length, slice_index_or, Result, Err, OnOk, IfErr}
+use Rattle.std.specs.Prelude.{◌≡◌, ◌⊎◌, ℕ, ◌<◌, Bool, false, List, ◌++◌, length, slice_index_or, Result, Err, OnOk, IfErr}
 use Rattle.shelf_model.specs.declared.file_no.FileNo.{FileNo}
 use Rattle.shelf_model.specs.declared.fault.StreamFault.{StreamFault}
 use Rattle.shelf_model.specs.declared.fault.StreamFault.TheVariants as stream
@@ -10,6 +10,7 @@ use Rattle.catalogue.specs.Entries.{IsEntryOf, IsEntryFault}
 use Rattle.catalogue.specs.Standings.{standing_found, DuringSyncs}
 use Rattle.diagram_list.specs.declared.fault.ListFault.{ListFault}
 use Rattle.diagram_list.specs.declared.fault.ListFault.TheVariants.{Damaged}
+use Rattle.diagram_list.specs.Saying.{SaysFront, IsSaying, StaysThere}
 use Rattle.diagram_list.specs.Listing.{entry_in, is_dropped, listing}
 
 -- the entries of the first n steps stand whole at their places
@@ -37,25 +38,6 @@ pub record LacksEntry (n : ℕ) (r : FileNo → List ℕ) (fault : StreamFault) 
   pub within : step < n
   pub lacks : IsEntryFault step r fault
 
--- after what was said before, a front part of the text was said
-pub record FrontSaid (text before bytes : List ℕ) : Type 0 where
-  pub front : List ℕ
-  pub rest : List ℕ
-  pub text_is : text ≡ front ++ rest
-  pub said_is : bytes ≡ before ++ front
-
--- a moment at which a front part of the text was said, and the files are as they were
-pub record IsSaying (text : List ℕ) (old m : Moment) : Type 0 where
-  pub says : FrontSaid text old.said m.said
-  pub folder_is : m.folder ≡ old.folder
-
--- but for its files and what was said the station is as it was; it strays no more where it is inside its folder
-pub record SamePlace (old new : World) : Type 0 where
-  pub texts_are : new.texts ≡ old.texts
-  pub home_is : new.home ≡ old.home
-  pub inside_is : new.inside ≡ old.inside
-  pub strays_are : IsTrue old.inside → new.strays ≡ old.strays
-
 -- damage was answered
 abbrev pub IsDamage : ListFault → Type 0
 IsDamage fault = (file : FileNo) × (at : ℕ) × (fault ≡ Damaged file at)
@@ -63,13 +45,13 @@ IsDamage fault = (file : FileNo) × (at : ℕ) × (fault ≡ Damaged file at)
 -- a text was said whole, or a front part of it where the answer is a fault, which is no damage
 pub record SaysText (text : List ℕ) (result : Result Unit ListFault) (old new : World) : Type 0 where
   pub moments : Throughout old new (IsSaying text (now old))
-  pub place : SamePlace old new
+  pub place : StaysThere old new
   pub ok : OnOk result (said new ≡ said old ++ text)
   pub err : IfErr result (λ fault. ¬ (IsDamage fault))
 
 -- a moment of a list: a front part of its lines was said, reads give what they gave, and no image is new
 pub record DuringList (text : List ℕ) (old m : Moment) : Type 0 where
-  pub says : FrontSaid text old.said m.said
+  pub says : SaysFront old.said text m.said
   pub files : DuringSyncs old m
 
 -- a damaged place: the gate counts too much, the catalogue ends too soon, or a committed step has no whole entry
@@ -85,7 +67,7 @@ pub record NamesDamage (file : FileNo) (at : ℕ) (old new : World) : Type 0 whe
 -- a list was said, of the committed steps whose entries all stand, or a front part of it
 pub record Lists (result : Result Unit ListFault) (old new : World) : Type 0 where
   pub moments : Throughout old new (DuringList (listing (present (now old).folder)) (now old))
-  pub place : SamePlace old new
+  pub place : StaysThere old new
   pub ok : OnOk result (said new ≡ said old ++ listing (present (now old).folder))
   pub whole : OnOk result (StandWhole (count_in (present (now old).folder)) (present (now old).folder))
   pub damaged : IfErr result (λ fault. (file : FileNo) (at : ℕ) → fault ≡ Damaged file at → NamesDamage file at old new)

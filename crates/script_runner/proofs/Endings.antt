@@ -17,7 +17,8 @@ use Rattle.script_reader.specs.Reads.{Refuses}
 use Rattle.script_reader.specs.declared.fault.ScriptFault.{ScriptFault}
 use Rattle.script_reader.specs.declared.fault.ScriptKind.TheVariants as kind
 use Rattle.script_reader.proofs.PlanReads.{text_is_short, too_long}
-use Rattle.script_runner.specs.Running.{IsSaying, SaysOnly}
+use Rattle.diagram_list.specs.Saying.{IsSaying}
+use Rattle.script_runner.specs.Running.{SaysOnly}
 use Rattle.script_runner.specs.Fetching.{OnlyFetched}
 use Rattle.script_runner.specs.JobOf.{source_of, job_of}
 use Rattle.script_runner.specs.Entered.{RunsFrom, RunsIn}
@@ -26,7 +27,7 @@ use Rattle.script_runner.specs.Listed.{ListsIn}
 use Rattle.script_runner.specs.Source.{Source}
 use Rattle.script_runner.specs.Text.{usage_line}
 use Rattle.script_runner.specs.Outcome.{SaysLine, EndsSource, RunsAsked, RunsTexts, Ends, RunsInCalls}
-use Rattle.script_runner.proofs.Saying.{says_nothing}
+use Rattle.diagram_list.proofs.SayingLaws.{says_nothing}
 use Rattle.script_runner.proofs.EnteredRuns.{earlier}
 
 -- the bytes that were read are the whole text where they are few
@@ -67,7 +68,7 @@ pub fetched_says : (line : List ℕ) (old mid new : World) → OnlyFetched old m
 fetched_says line old mid new looked says = record {
   moments = joins old mid new (IsSaying line (now old))
       (weakens old mid (λ m. m ≡ now old) (IsSaying line (now old))
-      (λ m same. subst (IsSaying line (now old)) (sym same) (record { says = says_nothing (said old) line; folder_is = refl })) looked.moments)
+      (λ m same. subst (IsSaying line (now old)) (sym same) (record { says = says_nothing (said old) line (said old) refl; folder_is = refl })) looked.moments)
       (subst (λ (start : Moment). Throughout mid new (IsSaying line start)) (still_there old mid looked) says.moments);
   texts_are = says.texts_are ∙ looked.texts_are;
   home_is = says.home_is ∙ looked.home_is;

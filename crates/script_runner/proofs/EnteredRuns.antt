@@ -24,10 +24,12 @@ use Rattle.script_runner.specs.Said.{whole_lines, said_count}
 use Rattle.script_runner.specs.Calls.{most_calls, AreCounted}
 use Rattle.script_runner.specs.Text.{run_text, other_job_line, damaged_line, runs_spent_line}
 use Rattle.script_runner.specs.Shapes.{IsShape, AreWhole, IsRefusal}
-use Rattle.script_runner.specs.Running.{SaysFront, IsSaying, SaysOnly, HasSaid, IsRunning, StaysThere, IsOther, HasOtherJob, RefusesFolder, IsStill, MeetsDamage, MeetsSpent, RunsSteps}
+use Rattle.diagram_list.specs.Saying.{SaysFront, IsSaying, StaysThere}
+use Rattle.script_runner.specs.Running.{SaysOnly, HasSaid, IsRunning, IsOther, HasOtherJob, RefusesFolder, IsStill, MeetsDamage, MeetsSpent, RunsSteps}
 use Rattle.script_runner.specs.Entered.{EndsRun, Refused, RefusesOther, IsFound, IsTrueLine, BeginsTrueLine, StopsSaying, IsSpentTail, IsMoment, RunsFrom, RunsIn}
 use Rattle.script_runner.proofs.Shown.{says_no_shape}
-use Rattle.script_runner.proofs.Saying.{says_nothing}
+use Rattle.diagram_list.proofs.SayingLaws.{says_nothing}
+use Rattle.script_runner.proofs.Saying.{stays_and_says}
 use Rattle.script_runner.proofs.SweepDamage.{met_since, met_until}
 
 -- the status of a run
@@ -177,7 +179,7 @@ earlier job lines status start old mid new stay run = record {
         at = refuses.at;
         place = refuses.place;
         moments = before (λ m. SaysFront start.said (other_job_line refuses.at) m.said × OnlyOldImages start m) start old mid new stay
-            (says_nothing start.said (other_job_line refuses.at), λ image is_image. is_image) refuses.moments;
+            (says_nothing start.said (other_job_line refuses.at) start.said refl, λ image is_image. is_image) refuses.moments;
         status_is = refuses.status_is;
         whole = refuses.whole;
       };
@@ -220,7 +222,7 @@ stood job old new other still = record {
   place = record { is_other = other; place = refl };
   moments = weakens old new (IsStill (now old)) (λ m. SaysFront (said old) (other_job_line (common_prefix_len nat_eq (present (now old).folder job_file) job)) m.said × OnlyOldImages (now old) m)
       (λ m is_still. (
-        subst (SaysFront (said old) (other_job_line (common_prefix_len nat_eq (present (now old).folder job_file) job))) (sym is_still.said_is) (says_nothing (said old) (other_job_line (common_prefix_len nat_eq (present (now old).folder job_file) job))),
+        says_nothing (said old) (other_job_line (common_prefix_len nat_eq (present (now old).folder job_file) job)) m.said is_still.said_is,
         is_still.images,
       )) still;
   status_is = inr (inl refl);
@@ -362,7 +364,7 @@ refused_other job lines at status old mid new which run says whole = record {
     place = has;
     moments = joins old mid new (λ m. SaysFront (said old) (other_job_line at) m.said × OnlyOldImages (now old) m)
         (weakens old mid (IsStill (now old)) (λ m. SaysFront (said old) (other_job_line at) m.said × OnlyOldImages (now old) m)
-        (λ m is_still. (subst (SaysFront (said old) (other_job_line at)) (sym is_still.said_is) (says_nothing (said old) (other_job_line at)), is_still.images)) still)
+        (λ m is_still. (says_nothing (said old) (other_job_line at) m.said is_still.said_is, is_still.images)) still)
         (weakens mid new (IsSaying (other_job_line at) (now mid)) (λ m. SaysFront (said old) (other_job_line at) m.said × OnlyOldImages (now old) m) (λ m saying. (
           subst (λ bytes. SaysFront bytes (other_job_line at) m.said) end.said_is saying.says,
           subst (λ (folder : Folder). (image : Image) → IsImage folder image → IsImage (now old).folder image) (sym saying.folder_is) end.images,
@@ -508,14 +510,6 @@ not_entered folder job lines result old new entered = record {
   strays_are = λ home. entered.at_home home;
 }
 
-stays_then : (text : List ℕ) (old mid new : World) → StaysThere old mid → SaysOnly text mid new → StaysThere old new
-stays_then text old mid new stays says = record {
-  texts_are = says.texts_are ∙ stays.texts_are;
-  home_is = says.home_is ∙ stays.home_is;
-  inside_is = says.inside_is ∙ stays.inside_is;
-  strays_are = λ inside. says.strays_are ∙ stays.strays_are inside;
-}
-
 -- the ending of a line of refusal, and its status
 pub said_or : (good end : Ending) → (end ≡ good) ⊎ (end ≡ ending.SayFault) → SaidOr (status_of good) (status_of end)
 said_or good end (inl same) = inl (ap status_of same)
@@ -550,7 +544,7 @@ module _ {S : Type 0} (tells : S → Bool) (world : S → World) where
         let r : RunsSteps job lines (OtherJob at) (world s) (world t) = run.did tells_t in
         let only : SaysOnly (other_job_line at) (world t) (world u) = subst (λ l. SaysOnly l (world t) (world u)) line_is (says.did tells_u) in
         enters_then folder job lines status x (world old) (world s) (world u) (elim which [ inl a ↦ inr (inl a) | inr a ↦ inr (inr (inr (inl a))) ]) (entered.did tells_s)
-        (stays_then (other_job_line at) (world s) (world t) (world u) r.stays only)
+        (stays_and_says (other_job_line at) (world s) (world t) (world u) r.stays only)
         (refused_other job lines at status (world s) (world t) (world u) which r only (λ five. whole five tells_u ∙ ap (λ l. said (world t) ++ l) line_is));
   }
 
@@ -566,7 +560,7 @@ module _ {S : Type 0} (tells : S → Bool) (world : S → World) where
         let r : RunsSteps job lines (Damaged f at) (world s) (world t) = run.did tells_t in
         let only : SaysOnly (damaged_line f at) (world t) (world u) = subst (λ l. SaysOnly l (world t) (world u)) line_is (says.did tells_u) in
         enters_then folder job lines status x (world old) (world s) (world u) (elim which [ inl a ↦ inr (inr (inr (inr (inl a)))) | inr a ↦ inr (inr (inr (inl a))) ]) (entered.did tells_s)
-        (stays_then (damaged_line f at) (world s) (world t) (world u) r.stays only)
+        (stays_and_says (damaged_line f at) (world s) (world t) (world u) r.stays only)
         (refused_damage job lines f at status (world s) (world t) (world u) which r only (λ ten. whole ten tells_u ∙ ap (λ l. said (world t) ++ l) line_is));
   }
 
@@ -588,7 +582,7 @@ module _ {S : Type 0} (tells : S → Bool) (world : S → World) where
         subst (λ l. SaysOnly l (world t) (world u)) line_is (says.did tells_u) in
         enters_then folder job lines status x (world old) (world s) (world u)
         (elim which [ inl a ↦ inr (inr (inr (inr (inr a)))) | inr a ↦ inr (inr (inr (inl a))) ]) (entered.did tells_s)
-        (stays_then (runs_spent_line step) (world s) (world t) (world u) r.stays only)
+        (stays_and_says (runs_spent_line step) (world s) (world t) (world u) r.stays only)
         (stopped_spent job lines step status (world s) (world t) (world u) which r only
         (λ eleven. whole eleven tells_u ∙ ap (λ l. said (world t) ++ l) line_is));
   }

@@ -28,7 +28,7 @@ use Rattle.diagram_list.specs.declared.fault.ListFault.{ListFault}
 use Rattle.diagram_list.specs.declared.fault.ListFault.TheVariants.{Shelf, Say, Damaged}
 use Rattle.diagram_list.specs.Listing.{entry_in, first_steps, is_dropped, step_line, listing}
 use Rattle.diagram_list.specs.Listing as found
-use Rattle.diagram_list.specs.Lists.{StandWhole, SamePlace, DuringList, IsDamagedPlace, NamesDamage, Lists}
+use Rattle.diagram_list.specs.Lists.{StandWhole, DuringList, IsDamagedPlace, NamesDamage, Lists}
 use Rattle.diagram_list.proofs.Steps.{read_is}
 use Rattle.sound_image.specs.Jobs.{Job, no_step, step_at}
 use Rattle.sound_image.specs.Entries.{kind_of, count_of, name_of, IsEntryOfStep}
@@ -36,7 +36,9 @@ use Rattle.sound_image.specs.Sound.{ShowsSteps, IsShown}
 use Rattle.sound_image.specs.Holds.{AreSound}
 use Rattle.sound_image.proofs.AttachLaws.{standing}
 use Rattle.script_runner.specs.Text.{damaged_line}
-use Rattle.script_runner.specs.Running.{IsSaying, SaysOnly}
+use Rattle.diagram_list.specs.Saying.{IsSaying, StaysThere}
+use Rattle.script_runner.specs.Running.{SaysOnly}
+use Rattle.script_runner.proofs.Saying.{stays_and_says}
 use Rattle.script_runner.specs.Listed.{EndsList, diagram_line, diagram_lines, IsListing, NamesPlace, ListsFrom, ListsIn}
 
 -- what is read of a sound folder shows the job
@@ -325,7 +327,7 @@ earlier_list status old mid new stay lists = record {
   lines_are = lists.lines_are;
 }
 
-enters_list : (folder : List ℕ) (status : ℕ) (x : Unit) (old mid new : World) → EndsList status → Entered folder (Ok x) old mid → SamePlace mid new
+enters_list : (folder : List ℕ) (status : ℕ) (x : Unit) (old mid new : World) → EndsList status → Entered folder (Ok x) old mid → StaysThere mid new
     → ListsFrom status (now mid) mid new → ListsIn folder status old new
 enters_list folder status x old mid new ends entered place lists = record {
   status_is = ends;
@@ -334,15 +336,6 @@ enters_list folder status x old mid new ends entered place lists = record {
   texts_are = place.texts_are ∙ entered.texts_are;
   home_is = place.home_is ∙ entered.home_is;
   strays_are = λ home. place.strays_are (entered.ok home) ∙ entered.at_home home;
-}
-
--- a line was said behind a list
-place_said : (line : List ℕ) (old mid new : World) → SamePlace old mid → SaysOnly line mid new → SamePlace old new
-place_said line old mid new place says = record {
-  texts_are = says.texts_are ∙ place.texts_are;
-  home_is = says.home_is ∙ place.home_is;
-  inside_is = says.inside_is ∙ place.inside_is;
-  strays_are = λ inside. says.strays_are ∙ place.strays_are inside;
 }
 
 -- the fault that was answered
@@ -390,7 +383,7 @@ module _ {S : Type 0} (tells : S → Bool) (world : S → World) (law : (s : S) 
         let l = list.did tells_t in
         let only : SaysOnly (damaged_line file at) (world t) (world u) = subst (λ text. SaysOnly text (world t) (world u)) line_is (says.did tells_u) in
         enters_list folder status x (world old) (world s) (world u) (elim which [ inl a ↦ inr (inr (inr a)) | inr a ↦ inr (inr (inl a)) ]) e
-        (place_said (damaged_line file at) (world s) (world t) (world u) l.place only)
+        (stays_and_says (damaged_line file at) (world s) (world t) (world u) l.place only)
         (lists_damage file at status (world s) (world t) (world u) (files_entered folder x old s tells_old e) which l only
         (λ ten. whole ten tells_u ∙ ap (λ text. said (world t) ++ text) line_is));
   }

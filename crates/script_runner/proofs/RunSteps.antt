@@ -11,7 +11,6 @@ use Rattle.shelf_model.specs.declared.file_no.FileNo.{FileNo}
 use Rattle.shelf_model.specs.File.{IsKept}
 use Rattle.shelf_model.specs.Folder.{Folder, Image, file_in, bytes_in, IsImage, AreFiles}
 use Rattle.shelf_model.specs.World.{Moment, World, now, said}
-use Rattle.shelf_model.specs.Calls.{SameStation}
 use Rattle.shelf_model.specs.Moments.{Throughout, Quiet, Ran, Stays}
 use Rattle.shelf_model.proofs.Files.{kept_left}
 use Rattle.shelf_model.proofs.Images.{chosen, standing_image, all_kept}
@@ -25,7 +24,7 @@ use Rattle.catalogue.proofs.Counted.{ready_counts}
 use Rattle.sound_image.specs.Files.{node_file}
 use Rattle.sound_image.specs.Jobs.{Job, no_step}
 use Rattle.sound_image.specs.Entries.{IsEntryOfStep}
-use Rattle.sound_image.specs.Holds.{Holds, AreSound}
+use Rattle.sound_image.specs.Holds.{Holds, AreSound, HaveAtLeast}
 use Rattle.sound_image.proofs.HoldsLaws.{holds_sound, holds_count}
 use Rattle.sound_image.proofs.AttachLaws.{standing, sound_while_attached, count_while_attached}
 use Rattle.sound_image.proofs.Live.{live_below}
@@ -38,7 +37,9 @@ use Rattle.script_runner.specs.JobOf.{job_in}
 use Rattle.script_runner.specs.Text.{said_line, done_line, ended_before, lines_from_step, banner_line, start_line, resume_line, run_text}
 use Rattle.script_runner.specs.Shapes.{AreShown, IsShape, IsShapeFront}
 use Rattle.script_runner.specs.Said.{whole_lines, acknowledged, said_count, no_line}
-use Rattle.script_runner.specs.Running.{ReachesCount, IsSafe, Begins, AllBegin, WaitsNot, OthersAre, IsRunning, HasSaid, StaysThere, AreEmptied, IsEntryDamage, IsMetDamage, stood_after}
+use Rattle.diagram_list.specs.Saying.{StaysThere}
+use Rattle.diagram_list.proofs.SayingLaws.{stays_then, stays_on_shelf}
+use Rattle.script_runner.specs.Running.{IsSafe, Begins, AllBegin, WaitsNot, OthersAre, IsRunning, HasSaid, AreEmptied, IsEntryDamage, IsMetDamage, stood_after}
 use Rattle.script_runner.specs.StepRuns.{CountsAbout, IsTaking, HasEntry, HasSteps, HoldsStep, NoneDrops, KeepsDiagrams, TakesStep}
 use Rattle.script_runner.proofs.LineOrder.{none_before, ended_rises}
 use Rattle.script_runner.proofs.SweepDamage.{fault_passes, live_not_dropped}
@@ -79,17 +80,6 @@ pub record Ongoing (job : Job) (lines : List LineEnd) (old new : World) : Type 0
   pub moments : Throughout old new (IsGoing job lines old)
   pub stays : StaysThere old new
 
-pub stays_then : (old mid new : World) → StaysThere old mid → StaysThere mid new → StaysThere old new
-stays_then old mid new first second = record {
-  texts_are = second.texts_are ∙ first.texts_are;
-  home_is = second.home_is ∙ first.home_is;
-  inside_is = second.inside_is ∙ first.inside_is;
-  strays_are = λ inside. second.strays_are (subst IsTrue (sym first.inside_is) inside) ∙ first.strays_are inside;
-}
-
-pub stays_on_shelf : (old new : World) → SameStation old new → StaysThere old new
-stays_on_shelf old new same = record { texts_are = same.texts_are; home_is = same.home_is; inside_is = same.inside_is; strays_are = same.strays_are }
-
 -- a sound run so far: this was said since, that remains, and so many steps are held
 pub record Sounds (job : Job) (lines : List LineEnd) (count : ℕ) (since todo : List ℕ) (old new : World) : Type 0 where
   pub text_is : text_at job lines old ≡ since ++ todo
@@ -126,7 +116,7 @@ pub record AtStep (job : Job) (lines : List LineEnd) (step : ℕ) (rest : List L
   pub sound : AreSound job (now old).folder → Sounds job lines step (banner_at lines old ++ body) (remains job rest) old new
 
 -- every image of a folder reaches no more than reads show
-pub reaches_present : (folder : Folder) (count : ℕ) → AreFiles folder → ReachesCount count folder → count ≤ count_in (present folder)
+pub reaches_present : (folder : Folder) (count : ℕ) → AreFiles folder → HaveAtLeast count folder → count ≤ count_in (present folder)
 reaches_present folder count files reaches =
     let image : Image = chosen (λ _ x. x.bytes) folder in
     subst (λ c. count ≤ c) (same_count (bytes_in image) (present folder) (standing folder files job_gate) (standing folder files step_gate))

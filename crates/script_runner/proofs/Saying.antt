@@ -8,7 +8,9 @@ use Rattle.shelf_model.specs.declared.fault.Failed.{Failed}
 use Rattle.shelf_model.specs.World.{World, now, said}
 use Rattle.shelf_model.specs.Calls.{Told, Said, Elsewhere}
 use Rattle.shelf_model.proofs.Runs.{stands, goes_on, at_end, told, told_then, told_here}
-use Rattle.script_runner.specs.Running.{SaysFront, IsSaying, SaysOnly}
+use Rattle.diagram_list.specs.Saying.{SaysFront, IsSaying, StaysThere}
+use Rattle.script_runner.specs.Running.{SaysOnly}
+use Rattle.diagram_list.proofs.SayingLaws.{says_nothing, stays_then}
 
 -- a text that is a list of lines, up to a line, that line, and the rest
 pub text_at : {X : Type 0} (f : X → List ℕ) (xs : List X) (i : ℕ) (d : X) → i < length xs
@@ -16,10 +18,6 @@ pub text_at : {X : Type 0} (f : X → List ℕ) (xs : List X) (i : ℕ) (d : X) 
 text_at f xs i d within =
     ap (flat_map f) (sym (take-append-drop i xs)) ∙ flat_map-append f (take i xs) (drop i xs)
     ∙ ap (λ ys. flat_map f (take i xs) ++ flat_map f ys) (drop_more xs i d within)
-
--- nothing was said yet
-pub says_nothing : (before text : List ℕ) → SaysFront before text before
-says_nothing before text = record { front = []; rest = text; text_is = refl; said_is = sym (append-nil before) }
 
 -- after what was done, a front part of the next piece
 pub says_more : (before text done front rest bytes : List ℕ) → text ≡ done ++ (front ++ rest) → bytes ≡ (before ++ done) ++ front → SaysFront before text bytes
@@ -29,6 +27,14 @@ says_more before text done front rest bytes parts saying = record {
   text_is = parts ∙ sym (append_assoc done front rest);
   said_is = saying ∙ append_assoc before done front;
 }
+
+-- a station that says a text stays where it is
+pub says_there : (text : List ℕ) (old new : World) → SaysOnly text old new → StaysThere old new
+says_there text old new says = record { texts_are = says.texts_are; home_is = says.home_is; inside_is = says.inside_is; strays_are = λ inside. says.strays_are }
+
+-- and so it does behind other calls
+pub stays_and_says : (text : List ℕ) (old mid new : World) → StaysThere old mid → SaysOnly text mid new → StaysThere old new
+stays_and_says text old mid new stays says = stays_then old mid new stays (says_there text mid new says)
 
 -- the run so far, and what it said
 abbrev pub SoFar : (text done : List ℕ) (old new : World) → Type 0
@@ -65,7 +71,7 @@ pub one_piece : (piece : List ℕ) (result : Result Unit Failed) (old new : Worl
 one_piece piece result old new did =
     said_piece piece [] piece [] result old old new (sym (append-nil piece)) (
       record {
-        moments = stands old (IsSaying piece (now old)) (record { says = says_nothing (said old) piece; folder_is = refl });
+        moments = stands old (IsSaying piece (now old)) (record { says = says_nothing (said old) piece (said old) refl; folder_is = refl });
         texts_are = refl;
         home_is = refl;
         inside_is = refl;
@@ -78,7 +84,7 @@ module _ {S : Type 0} (tells : S → Bool) (world : S → World) where
   pub saying_at_first : (text : List ℕ) (s : S) → Told tells s s (SoFar text [] (world s) (world s))
   saying_at_first text s = told_here tells s _ (λ _. (
     record {
-      moments = stands (world s) (IsSaying text (now (world s))) (record { says = says_nothing (said (world s)) text; folder_is = refl });
+      moments = stands (world s) (IsSaying text (now (world s))) (record { says = says_nothing (said (world s)) text (said (world s)) refl; folder_is = refl });
       texts_are = refl;
       home_is = refl;
       inside_is = refl;

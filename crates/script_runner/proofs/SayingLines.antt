@@ -26,33 +26,17 @@ use Rattle.script_runner.specs.declared.finish.Finish.{Finish}
 use Rattle.script_runner.specs.declared.finish.Finish.TheVariants.{Done, OtherJob, FolderFault, SayFault, Damaged, RunsSpent}
 use Rattle.script_runner.specs.Text.{answer_line, said_line}
 use Rattle.script_runner.specs.Shapes.{AreShown}
-use Rattle.script_runner.specs.Running.{SaysFront, IsSaying, SaysOnly, StaysThere, IsEntryDamage, RefusesFolder}
+use Rattle.diagram_list.specs.Saying.{SaysFront, IsSaying, StaysThere}
+use Rattle.script_runner.specs.Running.{SaysOnly, IsEntryDamage, RefusesFolder}
 use Rattle.script_runner.specs.StepRuns.{SpeaksLines, SpokeWhole, SpokeAll, StopsBehind, IsSayStop, SaysRight, SaysLines, IsReadFault}
 use Rattle.script_runner.proofs.Shown.{shown_then, one_shown}
-use Rattle.script_runner.proofs.Saying.{says_nothing, one_piece}
-use Rattle.script_runner.proofs.RunSteps.{stays_then, stays_on_shelf, present_count}
+use Rattle.diagram_list.proofs.SayingLaws.{says_nothing, longer_front, later_front, stays_then, stays_on_shelf}
+use Rattle.script_runner.proofs.Saying.{one_piece, stays_and_says}
+use Rattle.script_runner.proofs.RunSteps.{present_count}
 
 -- the text of lines
 abbrev text_of : Job → List LineEnd → List ℕ
 text_of job lines = flat_map (said_line job) lines
-
--- a front of a text is one of a longer text
-longer_front : (before text more bytes : List ℕ) → SaysFront before text bytes → SaysFront before (text ++ more) bytes
-longer_front before text more bytes says = record {
-  front = says.front;
-  rest = says.rest ++ more;
-  text_is = ap (λ t. t ++ more) says.text_is ∙ append_assoc says.front says.rest more;
-  said_is = says.said_is;
-}
-
--- a front of what follows a text that was said
-later_front : (before text more mid bytes : List ℕ) → mid ≡ before ++ text → SaysFront mid more bytes → SaysFront before (text ++ more) bytes
-later_front before text more mid bytes so_far says = record {
-  front = text ++ says.front;
-  rest = says.rest;
-  text_is = ap (λ t. text ++ t) says.text_is ∙ sym (append_assoc text says.front says.rest);
-  said_is = says.said_is ∙ ap (λ b. b ++ says.front) so_far ∙ append_assoc before text says.front;
-}
 
 -- none of the lines was said
 speaks_none : (steps : List Planned) (lines : List LineEnd) (r : FileNo → List ℕ) (before : List ℕ) → SpeaksLines steps lines r before before
@@ -138,7 +122,7 @@ says_no_line steps count e w = record {
   stops = tt;
   damaged = tt;
   holds = λ job plan same holds entry. record {
-    fronts = stands w (λ m. SaysFront (said w) [] m.said) (says_nothing (said w) []);
+    fronts = stands w (λ m. SaysFront (said w) [] m.said) (says_nothing (said w) [] (said w) refl);
     ok = sym (append-nil (said w));
     err = tt;
   };
@@ -307,7 +291,7 @@ module _ {S : Type 0} (tells : S → Bool) (world : S → World) (law : (s : S) 
           );
           holds = λ job plan steps_are holds entry. record {
             fronts = weakens (world old) (world s) (Quiet (said (world old)) (Stays (now (world old)))) (λ m. SaysFront (said (world old)) (text_of job (line ∷ [])) m.said)
-                (λ m quiet. subst (SaysFront (said (world old)) (text_of job (line ∷ []))) (sym quiet.said_is) (says_nothing (said (world old)) (text_of job (line ∷ [])))) ran.moments;
+                (λ m quiet. says_nothing (said (world old)) (text_of job (line ∷ [])) m.said quiet.said_is) ran.moments;
             ok = tt;
             err = read_is_sound job (made.number + 1) line.shows (now (world old)).folder holds below finish
                 (subst (λ (xs : List Planned). IsReadFault line.shows (kind_of (get_or xs line.shows no_step).step) (present (now (world old)).folder) finish) (sym steps_are) (fault tells_s));
@@ -332,12 +316,7 @@ module _ {S : Type 0} (tells : S → Bool) (world : S → World) (law : (s : S) 
         (weakens (world s) (world t) (IsSaying piece (now (world s))) (Stays (now (world s))) (λ m saying. saying.folder_is) (only tells_t).0.moments)
 
     all_stays : IsTrue (tells t) → StaysThere (world old) (world t)
-    all_stays tells_t = stays_then (world old) (world s) (world t) (stays_on_shelf (world old) (world s) (ran tells_t).station) (record {
-      texts_are = (only tells_t).0.texts_are;
-      home_is = (only tells_t).0.home_is;
-      inside_is = (only tells_t).0.inside_is;
-      strays_are = λ _. (only tells_t).0.strays_are;
-    })
+    all_stays tells_t = stays_and_says piece (world old) (world s) (world t) (stays_on_shelf (world old) (world s) (ran tells_t).station) (only tells_t).0
 
     the_text : (tells_t : IsTrue (tells t)) (job : Job) → job.steps ≡ steps → Holds job (made.number + 1) (now (world old)).folder → IsEntryOfStep job made.number made
         → piece ≡ text_of job (line ∷ [])
@@ -350,7 +329,7 @@ module _ {S : Type 0} (tells : S → Bool) (world : S → World) (law : (s : S) 
     all_fronts tells_t text same = subst (λ x. Throughout (world old) (world t) (λ m. SaysFront (said (world old)) x m.said)) same
         (joins (world old) (world s) (world t) (λ m. SaysFront (said (world old)) piece m.said)
         (weakens (world old) (world s) (Quiet (said (world old)) (Stays (now (world old)))) (λ m. SaysFront (said (world old)) piece m.said)
-        (λ m quiet. subst (SaysFront (said (world old)) piece) (sym quiet.said_is) (says_nothing (said (world old)) piece)) (ran tells_t).moments)
+        (λ m quiet. says_nothing (said (world old)) piece m.said quiet.said_is) (ran tells_t).moments)
         (subst (λ before. Throughout (world s) (world t) (λ m. SaysFront before piece m.said)) (ran tells_t).station.said_is
         (weakens (world s) (world t) (IsSaying piece (now (world s))) (λ m. SaysFront (said (world s)) piece m.said) (λ m saying. saying.says) (only tells_t).0.moments)))
 

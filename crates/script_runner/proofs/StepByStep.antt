@@ -33,14 +33,15 @@ use Rattle.script_runner.specs.declared.finish.Finish.{Finish}
 use Rattle.script_runner.specs.Text.{said_line, done_line, ended_before, lines_from_step}
 use Rattle.script_runner.specs.Shapes.{AreShown, IsShape, IsWholeShape}
 use Rattle.script_runner.specs.Said.{whole_lines, said_count, no_line}
-use Rattle.script_runner.specs.Running.{SaysFront, IsSaying, SaysOnly, HasSaid, StaysThere, AreEmptied}
+use Rattle.diagram_list.specs.Saying.{SaysFront, IsSaying, StaysThere}
+use Rattle.script_runner.specs.Running.{SaysOnly, HasSaid, AreEmptied}
 use Rattle.script_runner.specs.StepRuns.{SpeaksLines, SpokeWhole, SpokeAll, SaysRight, SaysLines}
 use Rattle.script_runner.proofs.Tests.{each_passes}
 use Rattle.script_runner.proofs.LineOrder.{ended_is, ended_rises}
 use Rattle.script_runner.proofs.Shown.{shown_then}
 use Rattle.script_runner.proofs.SaidLaws.{whole_lines-append, whole_lines-front, lines_are, said_below}
 use Rattle.script_runner.proofs.Standing.{IsStanding}
-use Rattle.script_runner.proofs.Saying.{one_piece}
+use Rattle.script_runner.proofs.Saying.{one_piece, says_there}
 use Rattle.script_runner.proofs.RunSteps.{HasMade, done_at, banner_at, text_at, remains, IsPlan, Ongoing, AtStep, PartSaid, SaysPart, banner_is_one, none_waits, attaching, attach_waits, saying, since, feeds}
 
 -- a front of lines comes before a step, so each of them does
@@ -56,7 +57,7 @@ front_each step count lines front i within inside =
 piece_stays : (piece : List ℕ) (mid new : World) → SaysOnly piece mid new → Throughout mid new (Stays (now mid)) × StaysThere mid new
 piece_stays piece mid new says = (
   weakens mid new (IsSaying piece (now mid)) (Stays (now mid)) (λ m saying. saying.folder_is) says.moments,
-  record { texts_are = says.texts_are; home_is = says.home_is; inside_is = says.inside_is; strays_are = λ _. says.strays_are },
+  says_there piece mid new says,
 )
 
 piece_fronts : (piece : List ℕ) (mid new : World) → SaysOnly piece mid new → Throughout mid new (λ m. SaysFront (said mid) piece m.said)

@@ -13,7 +13,8 @@ use Rattle.script_runner.specs.declared.ending.Ending.{Ending}
 use Rattle.script_runner.specs.declared.ending.Ending.TheVariants.{FolderFault, SayFault}
 use Rattle.script_runner.specs.Text.{run_text, other_job_line, damaged_line, runs_spent_line}
 use Rattle.script_runner.specs.Shapes.{IsShape, IsShapeFront, AreWhole, IsWholeShape, IsTail}
-use Rattle.script_runner.specs.Running.{SaysFront, IsRunning, HasSaid, IsOther, HasOtherJob, IsDamage, IsMetDamage, IsSpentStep, AreEmptied}
+use Rattle.diagram_list.specs.Saying.{SaysFront}
+use Rattle.script_runner.specs.Running.{IsRunning, HasSaid, IsOther, HasOtherJob, IsDamage, IsMetDamage, IsSpentStep, AreEmptied}
 
 -- the statuses of a run that was done, refused its folder, met a fault of the folder or of saying, or had no part
 -- number left

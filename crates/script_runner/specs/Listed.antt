@@ -13,7 +13,7 @@ use Rattle.sound_image.specs.Jobs.{Job, step_at}
 use Rattle.sound_image.specs.Entries.{name_of, count_of}
 use Rattle.sound_image.specs.Holds.{AreSound}
 use Rattle.script_runner.specs.Text.{damaged_line}
-use Rattle.script_runner.specs.Running.{SaysFront}
+use Rattle.diagram_list.specs.Saying.{SaysFront}
 
 -- the statuses of a list that was said, met a fault of the folder or of saying, or damage
 abbrev pub EndsList : ℕ → Type 0

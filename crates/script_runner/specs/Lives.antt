@@ -5,12 +5,11 @@ use Rattle.shelf_model.specs.declared.file_no.FileNo.{FileNo}
 use Rattle.shelf_model.specs.Folder.{Folder, Image, file_in, bytes_in, IsImage, AreFiles}
 use Rattle.shelf_model.specs.World.{World, now, said}
 use Rattle.catalogue.specs.Counts.{present, is_stored, count_in}
-use Rattle.sound_image.specs.Holds.{AreSound}
+use Rattle.sound_image.specs.Holds.{AreSound, HaveAtLeast}
 use Rattle.command_words.specs.Readings.{reading_of}
 use Rattle.script_reader.specs.declared.plan.Plan.{Plan}
 use Rattle.script_runner.specs.Source.{Source}
 use Rattle.script_runner.specs.Said.{whole_lines, said_count}
-use Rattle.script_runner.specs.Running.{ReachesCount}
 use Rattle.script_runner.specs.Entered.{IsSpentTail}
 use Rattle.sound_image.specs.Jobs.{Job}
 use Rattle.script_runner.specs.JobOf.{job_of}
@@ -86,7 +85,7 @@ pub record HasSaidLines (job : Job) (plan : Plan) (folder : Folder) (life : Life
 -- line it said, and stores the job where it said its banner
 pub record LifeKeeps (source : Source) (plan : Plan) (folder : Folder) (life : Life) : Type 0 where
   pub sound : AreSound (job_of source plan) life.left
-  pub has_old : (count : ℕ) → ReachesCount count folder → ReachesCount count life.left
+  pub has_old : (count : ℕ) → HaveAtLeast count folder → HaveAtLeast count life.left
   pub still_stored : AreStored folder → AreStored life.left
   pub has_said : RunsPlan source plan life → HasSaidLines (job_of source plan) plan folder life
 

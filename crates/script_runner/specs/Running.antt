@@ -11,6 +11,7 @@ use Rattle.catalogue.specs.declared.layout.Entry.{Entry}
 use Rattle.catalogue.specs.Entries.{IsEntryOf}
 use Rattle.catalogue.specs.Files.{job_step, job_file, catalogue, step_gate}
 use Rattle.catalogue.specs.Counts.{present, is_stored, count_in}
+use Rattle.diagram_list.specs.Saying.{IsSaying, StaysThere}
 use Rattle.sound_image.specs.Files.{node_file}
 use Rattle.shelf_model.specs.declared.sort_fault.SortFault.TheVariants as sort
 use Rattle.step_engine.specs.StepFaults.{IsStepFault}
@@ -18,25 +19,13 @@ use Rattle.step_work.specs.Tuples.{joins, sweeps}
 use Rattle.sound_image.specs.Jobs.{Job, no_step, step_at}
 use Rattle.sound_image.specs.Entries.{kind_of, work_of}
 use Rattle.sound_image.specs.Sound.{IsSound}
-use Rattle.sound_image.specs.Holds.{AreSound, HaveCount}
+use Rattle.sound_image.specs.Holds.{AreSound, HaveCount, HaveAtLeast}
 use Rattle.script_reader.specs.declared.plan.LineEnd.{LineEnd}
 use Rattle.script_runner.specs.declared.finish.Finish.{Finish}
 use Rattle.script_runner.specs.declared.finish.Finish.TheVariants.{Done, OtherJob, FolderFault, SayFault, Damaged, RunsSpent}
 use Rattle.script_runner.specs.Text.{ended_before, run_text}
 use Rattle.script_runner.specs.Shapes.{IsShape, IsShapeFront, AreWhole, IsWholeShape}
 use Rattle.script_runner.specs.Said.{whole_lines, acknowledged, said_count}
-
--- after what was said before, a front part of the text was said
-pub record SaysFront (before text bytes : List ℕ) : Type 0 where
-  pub front : List ℕ
-  pub rest : List ℕ
-  pub text_is : text ≡ front ++ rest
-  pub said_is : bytes ≡ before ++ front
-
--- a moment at which a front part of the text was said, and the files are as they were
-pub record IsSaying (text : List ℕ) (old m : Moment) : Type 0 where
-  pub says : SaysFront old.said text m.said
-  pub folder_is : m.folder ≡ old.folder
 
 -- a run of calls that said a front part of the text and did nothing else
 pub record SaysOnly (text : List ℕ) (old new : World) : Type 0 where
@@ -46,11 +35,6 @@ pub record SaysOnly (text : List ℕ) (old new : World) : Type 0 where
   pub inside_is : new.inside ≡ old.inside
   pub strays_are : new.strays ≡ old.strays
 
--- every image of the folder has at least that count
-abbrev pub ReachesCount : ℕ → Folder → Type 0
-ReachesCount count folder = (image : Image) → IsImage folder image
-    → count ≤ count_in (bytes_in image)
-
 -- an image that a stop may leave where these bytes were said since a run of the job began in the
 -- old folder: it is sound, has each step whose line was said and as many as each image of the old
 -- folder, and stores the job where the banner was said
@@ -58,7 +42,7 @@ pub record IsSafe (job : Job) (lines : List LineEnd) (old : Folder) (bytes : Lis
     (r : FileNo → List ℕ) : Type 0 where
   pub sound : IsSound job r
   pub has_said : said_count (count_in (present old)) lines bytes ≤ count_in r
-  pub has_old : (count : ℕ) → ReachesCount count old → count ≤ count_in r
+  pub has_old : (count : ℕ) → HaveAtLeast count old → count ≤ count_in r
   pub stored : 0 < whole_lines bytes → IsTrue (is_stored r)
 
 -- a job is stored, so many steps are counted at least, and the catalogue begins with these bytes
@@ -115,13 +99,6 @@ pub record HasSaid (P : List ℕ → Folder → Type 0) (old m : Moment) : Type 
   pub front : List ℕ
   pub said_is : m.said ≡ old.said ++ front
   pub holds : P front m.folder
-
--- the texts and the folder's path stay, and in its folder the station strays nowhere
-pub record StaysThere (old new : World) : Type 0 where
-  pub texts_are : new.texts ≡ old.texts
-  pub home_is : new.home ≡ old.home
-  pub inside_is : new.inside ≡ old.inside
-  pub strays_are : IsTrue old.inside → new.strays ≡ old.strays
 
 -- another job is stored
 pub record IsOther (job : List ℕ) (r : FileNo → List ℕ) : Type 0 where

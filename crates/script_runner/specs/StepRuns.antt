@@ -29,7 +29,8 @@ use Rattle.script_runner.specs.declared.finish.Finish.{Finish}
 use Rattle.script_runner.specs.declared.finish.Finish.TheVariants.{Done, OtherJob, FolderFault, SayFault, Damaged, RunsSpent}
 use Rattle.script_runner.specs.Text.{said_line}
 use Rattle.script_runner.specs.Shapes.{AreShown}
-use Rattle.script_runner.specs.Running.{SaysFront, StaysThere, OthersAre, AreEmptied, IsEntryDamage, IsMetDamage, RefusesFolder, IsStop}
+use Rattle.diagram_list.specs.Saying.{SaysFront, StaysThere}
+use Rattle.script_runner.specs.Running.{OthersAre, AreEmptied, IsEntryDamage, IsMetDamage, RefusesFolder, IsStop}
 
 -- the image is sound, and has so many steps of the stored job at least
 pub record HasSteps (job : Job) (count : ℕ) (r : FileNo → List ℕ) : Type 0 where

@@ -11,15 +11,11 @@ use Rattle.catalogue.specs.Counts.{present, is_stored, count_in}
 use Rattle.catalogue.specs.Standings.{DuringAttach, IsAttached}
 use Rattle.sound_image.specs.Files.{checkpoint_gate}
 use Rattle.sound_image.specs.Jobs.{Job}
-use Rattle.sound_image.specs.Holds.{Holds, AreSound}
+use Rattle.sound_image.specs.Holds.{Holds, AreSound, HaveAtLeast}
 use Rattle.sound_image.proofs.Numbers.{IsOfStep, gate_of_step, not_job_file, not_job_gate, not_step_gate}
 use Rattle.sound_image.proofs.HoldsLaws.{held}
 use Rattle.sound_image.proofs.StepLaws.{AreFew}
 use Rattle.sound_image.proofs.Live.{live_below}
-
--- every image of the folder has at least that count
-abbrev pub HaveAtLeast : ℕ → Folder → Type 0
-HaveAtLeast least folder = (image : Image) → IsImage folder image → least ≤ count_in (bytes_in image)
 
 -- what is read now is an image
 pub standing : (folder : Folder) (files : AreFiles folder) (f : FileNo) → bytes_in (chosen (λ _ x. x.bytes) folder) f ≡ present folder f

@@ -45,3 +45,7 @@ AreSound job folder = (image : Image) → IsImage folder image → IsSound job (
 -- each image of the folder has that count
 abbrev pub HaveCount : ℕ → Folder → Type 0
 HaveCount count folder = (image : Image) → IsImage folder image → count_in (bytes_in image) ≡ count
+
+-- each image of the folder has at least that count
+abbrev pub HaveAtLeast : ℕ → Folder → Type 0
+HaveAtLeast least folder = (image : Image) → IsImage folder image → least ≤ count_in (bytes_in image)
