@@ -55,7 +55,7 @@ on_ok (Ok x) p = p
 on_ok (Err e) p = tt
 
 -- no damage is said
-no_damage : (q : Machine) (world : World) (e : SortFault) → IsNoDamage e → IsMachineDamage q world e
+pub no_damage : (q : Machine) (world : World) (e : SortFault) → IsNoDamage e → IsMachineDamage q world e
 no_damage q world Shelf none = tt
 no_damage q world (Damaged f at) none = absurd none
 no_damage q world RunsSpent none = tt
@@ -103,7 +103,6 @@ module _ {S : Type 0} (tells : S → Bool) (world : S → World) (counts : S →
         y.leaves;
     same = task_then p q r x.same y.same;
     refused = y.refused;
-    damage = y.damage;
   }
 
   -- a call costs no more than what is more
@@ -115,7 +114,6 @@ module _ {S : Type 0} (tells : S → Bool) (world : S → World) (counts : S →
         x.leaves;
     same = x.same;
     refused = x.refused;
-    damage = x.damage;
   }
 
   -- what is answered instead where nothing failed
@@ -126,7 +124,6 @@ module _ {S : Type 0} (tells : S → Bool) (world : S → World) (counts : S →
     leaves = leaves_ok tells world counts machine_accounts m a s t p q result x d.leaves;
     same = d.same;
     refused = tt;
-    damage = tt;
   }
 
   -- a refusal that is handed on
@@ -140,8 +137,6 @@ module _ {S : Type 0} (tells : S → Bool) (world : S → World) (counts : S →
         d.leaves;
     same = d.same;
     refused = subst (λ r. IfErr r (Refuses q)) (was ∙ ap Err (sym is)) d.refused;
-    damage = subst (λ r. IfErr r (λ e. IsTrue (tells t) → IsMachineDamage q (world t) e))
-        (was ∙ ap Err (sym is)) d.damage;
   }
 
   -- two calls, of which the second one was refused, and two that succeeded
@@ -226,15 +221,8 @@ module _ {S : Type 0} (tells : S → Bool) (world : S → World) (counts : S →
       variables_are = variables;
     };
     refused = by result cause;
-    damage = none result cause;
   }
     where
-      none : {X : Type 0} (r : Result X SortFault) → IfErr r (λ e. e ≡ Shelf)
-          → IfErr r (λ e. IsTrue (tells t) → IsMachineDamage
-          (record p { place = place; writer = w; has_one = one }) (world t) e)
-      none (Ok x) is = tt
-      none (Err e) is = λ told. no_damage _ _ e (subst IsNoDamage (sym is) tt)
-
       by : {X : Type 0} (r : Result X SortFault) → IfErr r (λ e. e ≡ Shelf)
           → IfErr r (Refuses (record p { place = place; writer = w; has_one = one }))
       by (Ok x) is = tt
@@ -249,9 +237,8 @@ module _ {S : Type 0} (tells : S → Bool) (world : S → World) (counts : S →
       → Took p.parts parts → PaidParts a (queues.stock p.queue) (queues.stock q) p.parts parts
       → OnlySortShelf (counts s) (counts t) result
       → IfErr result (Refuses (record p { queue = q; parts = parts }))
-      → IfErr result (λ e. IsTrue (tells t) → IsNoDamage e)
       → Does tells world counts m a s t p (record p { queue = q; parts = parts }) result
-  does_spilled m a s t p q parts result served did paid took spent faults refused undamaged =
+  does_spilled m a s t p q parts result served did paid took spent faults refused =
       record {
         leaves = record {
           made = λ f mine. mine;
@@ -266,23 +253,15 @@ module _ {S : Type 0} (tells : S → Bool) (world : S → World) (counts : S →
         };
         same = record { files_are = refl; variables_are = refl };
         refused = refused;
-        damage = none result undamaged;
       }
-    where
-      none : {X : Type 0} (r : Result X SortFault) → IfErr r (λ e. IsTrue (tells t) → IsNoDamage e)
-          → IfErr r (λ e. IsTrue (tells t) → IsMachineDamage (record p { queue = q; parts = parts })
-          (world t) e)
-      none (Ok x) is = tt
-      none (Err e) is = λ told. no_damage _ _ e (is told)
 
   -- an operand was looked at
   pub does_looked : {T : Type 0} (n : ℕ) (s t : S) (p : Machine) (o : Operands)
       (result : Result T SortFault) → files_in (record p { operands = o }) ≡ files_in p
       → Told tells s t (Looked n (world s) (world t)) → OnlySortShelf (counts s) (counts t) result
       → IfErr result (Refuses (record p { operands = o }))
-      → IfErr result (λ e. IsTrue (tells t) → IsMachineDamage (record p { operands = o }) (world t)
-      e) → Does tells world counts n 0 s t p (record p { operands = o }) result
-  does_looked n s t p o result files did faults refused damage = record {
+      → Does tells world counts n 0 s t p (record p { operands = o }) result
+  does_looked n s t p o result files did faults refused = record {
     leaves = record {
       made = λ f mine. mine;
       making = λ f mine. mine;
@@ -297,5 +276,4 @@ module _ {S : Type 0} (tells : S → Bool) (world : S → World) (counts : S →
     };
     same = record { files_are = files; variables_are = refl };
     refused = refused;
-    damage = damage;
   }

@@ -46,7 +46,7 @@ use Rattle.top_down_sweep.specs.Sweeps.{files_in, IsMade, IsServed, IsOperand, A
 use Rattle.top_down_sweep.specs.Waiting.{Waits, IsReadTo, AreReadTo, Fits, IsApart, AreApart, AreReading, HasNoHands, Holds, HoldsSome, HoldsFirst}
 use Rattle.top_down_sweep.specs.Members.{is_node}
 use Rattle.top_down_sweep.specs.Damage.{IsReadDamage, IsMachineDamage}
-use Rattle.top_down_sweep.specs.Calls.{HoldsAt, HoldsFirstAt}
+use Rattle.top_down_sweep.specs.Calls.{KeepsAsks}
 use Rattle.top_down_sweep.proofs.OwnRuns.{serves_past}
 
 -- each file apart from what is written stays
@@ -315,12 +315,6 @@ third_wanted true c d first second any = absurd (cc)
 third_wanted false true d first second any = absurd (cc)
 third_wanted false false d first second any = any
 
--- what follows of a call where a folder tells its content
-pub on_told : {A : Type 0} (T P : Type 0) (result : Result A SortFault) → (T → OnOk result P)
-    → OnOk result (T → P)
-on_told T P (Ok x) f = f
-on_told T P (Err e) f = tt
-
 module _ {S : Type 0} (tells : S → Bool) (world : S → World) where
   -- the first ask was shown
   pub shown_at : (s t : S) (m : Machine) (q : LevelQueue Ask)
@@ -328,14 +322,15 @@ module _ {S : Type 0} (tells : S → Bool) (world : S → World) where
       → Told tells s t (Ran (Stays (now (world s))) (world s) (world t))
       → (IsTrue (tells t) → (asks : List Ask) → Waits m.queue (world s) asks
       → Shows (Waits q (world t)) asks result)
-      → ((f : FileNo) → queues.IsRunOf q f → queues.IsRunOf m.queue f) → HoldsAt tells world s m
-      → IfOk result (λ found. IfSome found (HoldsFirstAt tells world t (record m { queue = q })))
-  shown_at s t m q (Ok None) are did list runs holds = tt
-  shown_at s t m q (Ok (Some a)) are did list runs holds = λ told.
-      let (asks, hold) = holds (did.before told) in
+      → ((f : FileNo) → queues.IsRunOf q f → queues.IsRunOf m.queue f)
+      → IfOk result (λ found. IfSome found (λ a. IsTrue (tells t) → HoldsSome m (world s)
+      → HoldsFirst a (record m { queue = q }) (world t)))
+  shown_at s t m q (Ok None) are did list runs = tt
+  shown_at s t m q (Ok (Some a)) are did list runs = λ told holds.
+      let (asks, hold) = holds in
       holds_shown m q (world s) (world t) (Some a) asks are (list told asks hold.wait)
       (did.did told) runs hold
-  shown_at s t m q (Err e) are did list runs holds = tt
+  shown_at s t m q (Err e) are did list runs = tt
 
   -- it was taken
   pub taken_at : (s t : S) (m : Machine) (q : LevelQueue Ask) (after : Parts) (found : Option Ask)
@@ -344,9 +339,9 @@ module _ {S : Type 0} (tells : S → Bool) (world : S → World) where
       → ((f : FileNo) → queues.IsRunOf q f → queues.IsRunOf m.queue f ⊎ IsTaken m.parts after f)
       → (IsTrue (tells t) → (asks : List Ask) → Waits m.queue (world s) asks
       → Gives (Waits q (world t)) asks (Ok found))
-      → HoldsAt tells world s m → HoldsAt tells world t (record m { queue = q; parts = after })
-  taken_at s t m q after found served are did took runs list holds = λ told.
-      let (asks, hold) = holds (did.before told) in
+      → IsTrue (tells t) → KeepsAsks m (world s) (record m { queue = q; parts = after }) (world t)
+  taken_at s t m q after found served are did took runs list told holds =
+      let (asks, hold) = holds in
       holds_taken m q after (world s) (world t) served are (did.did told) took runs found asks
       (list told asks hold.wait) hold
 
@@ -357,33 +352,22 @@ module _ {S : Type 0} (tells : S → Bool) (world : S → World) where
       → ((f : FileNo) → queues.IsRunOf q f → queues.IsRunOf m.queue f ⊎ IsTaken m.parts after f)
       → (IsTrue (tells t) → (asks : List Ask) → Waits m.queue (world s) asks
       → Joins (Waits q (world t)) a asks result)
-      → (IsTrue (tells s) → Fits m.operands a)
-      → HoldsAt tells world s m → OnOk result
-      (HoldsAt tells world t (record m { queue = q; parts = after }))
-  put_at s t m q after a result served are did took runs list fits holds = on_told
-      (IsTrue (tells t)) (HoldsSome (record m { queue = q; parts = after }) (world t)) result
-      (λ told.
-      let (asks, hold) = holds (did.before told) in
-      holds_put m q after (world s) (world t) served are (did.did told) took runs a result asks
-      (list told asks hold.wait) (fits (did.before told)) hold)
+      → OnOk result (IsTrue (tells t) → Fits m.operands a
+      → KeepsAsks m (world s) (record m { queue = q; parts = after }) (world t))
+  put_at s t m q after a (Err e) served are did took runs list = tt
+  put_at s t m q after a (Ok u) served are did took runs list = λ told fits holds.
+      let (asks, hold) = holds in
+      holds_put m q after (world s) (world t) served are (did.did told) took runs a (Ok u) asks
+      (list told asks hold.wait) fits hold
 
   -- an arc was put
   pub written_at : (n : ℕ) (s t : S) (m q : Machine)
       → q ≡ record m { writer = q.writer; has_one = q.has_one } → files_in q ≡ files_in m → AreOperands m.place.variables m.operands
       → Told tells s t (WroteBoth n (inner_file m.writer) (ends_file m.writer) (world s) (world t))
-      → HoldsAt tells world s m → HoldsAt tells world t q
-  written_at n s t m q rest files are did holds = λ told.
-      let (asks, hold) = holds (did.before told) in
+      → IsTrue (tells t) → KeepsAsks m (world s) q (world t)
+  written_at n s t m q rest files are did told holds =
+      let (asks, hold) = holds in
       (asks, holds_written n m q (world s) (world t) asks rest files are (did.did told) hold)
-
-  -- a tuple got a number
-  pub placed_at : (s : S) (m q : Machine) (place : Place) → q ≡ record m { place = place }
-      → HoldsAt tells world s m → HoldsAt tells world s q
-  placed_at s m q place rest holds told = holds_placed m q place (world s) rest (holds told)
-
-  pub first_at : (s : S) (m : Machine) (a : Ask) → HoldsFirstAt tells world s m a
-      → HoldsAt tells world s m
-  first_at s m a first told = first_holds a m (world s) (first told)
 
 -- an ask that is put again fits
 pub again_fits : (m q : Machine) (a b : Ask) → q ≡ record m { queue = q.queue; parts = q.parts }
@@ -476,11 +460,11 @@ pub first_read : (told : Type 0) (m : Machine) (x : Operand) (a : Ask)
     → x.file ≡ m.operands.first.file
     → OnOk result (IsReadTo a.key x) → (told → IsReading m.operands.first.reader old
     → OnOk result (IsReading x.reader new)) → (told → Ran (Stays (now old)) old new)
-    → (told → HoldsFirst a m old) → OnOk result
-    (told → HoldsSome (record m { operands = record m.operands { first = x } }) new)
-first_read told m x a (Err e) old new are same to reads ran first = tt
-first_read told m x a (Ok u) old new are same to reads ran first = λ is.
-    let fits = first_fits a m old (first is) in
+    → OnOk result (told → HoldsFirst a m old
+    → HoldsSome (record m { operands = record m.operands { first = x } }) new)
+first_read told m x a (Err e) old new are same to reads ran = tt
+first_read told m x a (Ok u) old new are same to reads ran = λ is first.
+    let fits = first_fits a m old first in
     holds_read m (record m.operands { first = x }) old new a (first_files m x same) to fits.second
     fits.third (ran is)
     (λ apart reading. record {
@@ -489,7 +473,7 @@ first_read told m x a (Ok u) old new are same to reads ran first = λ is.
           (looked_same old new (ran is) m.operands.second.file) reading.second;
       third = operand_still _ m.operands.third old new are.third
           (looked_same old new (ran is) m.operands.third.file) reading.third;
-    }) (first is)
+    }) first
 
 pub second_files : (m : Machine) (x : Operand) → x.file ≡ m.operands.second.file
     → files_in (record m { operands = record m.operands { second = x } }) ≡ files_in m
@@ -528,11 +512,11 @@ pub second_read : (told : Type 0) (m : Machine) (x : Operand) (a : Ask)
     → x.file ≡ m.operands.second.file
     → OnOk result (IsReadTo a.key x) → (told → IsReading m.operands.second.reader old
     → OnOk result (IsReading x.reader new)) → (told → Ran (Stays (now old)) old new)
-    → (told → HoldsFirst a m old) → OnOk result
-    (told → HoldsSome (record m { operands = record m.operands { second = x } }) new)
-second_read told m x a (Err e) old new are same to reads ran first = tt
-second_read told m x a (Ok u) old new are same to reads ran first = λ is.
-    let fits = first_fits a m old (first is) in
+    → OnOk result (told → HoldsFirst a m old
+    → HoldsSome (record m { operands = record m.operands { second = x } }) new)
+second_read told m x a (Err e) old new are same to reads ran = tt
+second_read told m x a (Ok u) old new are same to reads ran = λ is first.
+    let fits = first_fits a m old first in
     holds_read m (record m.operands { second = x }) old new a (second_files m x same) fits.first to
     fits.third (ran is)
     (λ apart reading. record {
@@ -541,7 +525,7 @@ second_read told m x a (Ok u) old new are same to reads ran first = λ is.
       second = reads is reading.second;
       third = operand_still _ m.operands.third old new are.third
           (looked_same old new (ran is) m.operands.third.file) reading.third;
-    }) (first is)
+    }) first
 
 pub third_files : (m : Machine) (x : Operand) → x.file ≡ m.operands.third.file
     → files_in (record m { operands = record m.operands { third = x } }) ≡ files_in m
@@ -580,11 +564,11 @@ pub third_read : (told : Type 0) (m : Machine) (x : Operand) (a : Ask)
     → x.file ≡ m.operands.third.file
     → OnOk result (IsReadTo a.key x) → (told → IsReading m.operands.third.reader old
     → OnOk result (IsReading x.reader new)) → (told → Ran (Stays (now old)) old new)
-    → (told → HoldsFirst a m old) → OnOk result
-    (told → HoldsSome (record m { operands = record m.operands { third = x } }) new)
-third_read told m x a (Err e) old new are same to reads ran first = tt
-third_read told m x a (Ok u) old new are same to reads ran first = λ is.
-    let fits = first_fits a m old (first is) in
+    → OnOk result (told → HoldsFirst a m old
+    → HoldsSome (record m { operands = record m.operands { third = x } }) new)
+third_read told m x a (Err e) old new are same to reads ran = tt
+third_read told m x a (Ok u) old new are same to reads ran = λ is first.
+    let fits = first_fits a m old first in
     holds_read m (record m.operands { third = x }) old new a (third_files m x same) fits.first
     fits.second to (ran is)
     (λ apart reading. record {
@@ -593,4 +577,4 @@ third_read told m x a (Ok u) old new are same to reads ran first = λ is.
       second = operand_still _ m.operands.second old new are.second
           (looked_same old new (ran is) m.operands.second.file) reading.second;
       third = reads is reading.third;
-    }) (first is)
+    }) first

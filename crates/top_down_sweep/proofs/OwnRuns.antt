@@ -1,15 +1,13 @@
 -- What refuses a call of the queue: a file of its runs, whose parts were taken, or no part number.
-use Rattle.std.proofs.Common.{◌≤◌, List, inl, inr}
-use Rattle.std.specs.Prelude.{Option, Result, Ok, Err, IfErr}
+use Rattle.std.proofs.Common.{◌≤◌, inl, inr}
+use Rattle.std.specs.Prelude.{Result, Ok, Err, IfErr}
 use Rattle.shelf_model.specs.declared.sort_fault.SortFault.{SortFault}
 use Rattle.shelf_model.specs.declared.sort_fault.SortFault.TheVariants.{Shelf, Damaged, RunsSpent}
 use Rattle.run_tiers.specs.declared.parts.Parts.{Parts}
-use Rattle.run_merge.specs.Lists.{Joins, Shows, Gives}
 use Rattle.run_merge.specs.Sorters as sorters
 use Rattle.run_merge.proofs.RunFiles.{push_taken, read_taken, first_taken}
 use Rattle.level_queue.specs.declared.queue.LevelQueue.{LevelQueue}
 use Rattle.level_queue.specs.Queues as queues
-use Rattle.sweep_core.specs.Sweeps.{IsNoDamage}
 use Rattle.top_down_sweep.specs.declared.ask.Ask.{Ask}
 use Rattle.top_down_sweep.specs.declared.machine.Machine.{Machine}
 use Rattle.top_down_sweep.specs.Items.{ask_words, IsAsk}
@@ -41,31 +39,3 @@ queue_refuses m old (Err (Damaged f at)) before serves values cause = inr (elim 
   | inr first ↦ first_taken IsAsk ask_words m.parts m.queue.sorter f at serves values.sorter first
 ])
 queue_refuses m old (Err RunsSpent) before serves values cause = absurd cause
-
--- no damage is said where it is known what waits
-pub joins_undamaged : {T : Type 0} (P : List T → Type 0) (x : T) (xs : List T) (result : Result Unit SortFault)
-    → Joins P x xs result → IfErr result IsNoDamage
-joins_undamaged P x xs (Ok u) joins = tt
-joins_undamaged P x xs (Err Shelf) joins = tt
-joins_undamaged P x xs (Err (Damaged f at)) joins = joins
-joins_undamaged P x xs (Err RunsSpent) joins = tt
-
-pub shows_undamaged : {T : Type 0} (P : List T → Type 0) (xs : List T) (result : Result (Option T) SortFault)
-    → Shows P xs result → IfErr result IsNoDamage
-shows_undamaged P xs (Ok found) shows = tt
-shows_undamaged P xs (Err Shelf) shows = tt
-shows_undamaged P xs (Err (Damaged f at)) shows = shows
-shows_undamaged P xs (Err RunsSpent) shows = tt
-
-pub gives_undamaged : {T : Type 0} (P : List T → Type 0) (xs : List T) (result : Result (Option T) SortFault)
-    → Gives P xs result → IfErr result IsNoDamage
-gives_undamaged P xs (Ok found) gives = tt
-gives_undamaged P xs (Err Shelf) gives = tt
-gives_undamaged P xs (Err (Damaged f at)) gives = gives
-gives_undamaged P xs (Err RunsSpent) gives = tt
-
--- what follows of a refusal where a folder tells its content
-pub told_err : {A : Type 0} (T : Type 0) (P : SortFault → Type 0) (result : Result A SortFault) → (T → IfErr result P)
-    → IfErr result (λ e. T → P e)
-told_err T P (Ok x) f = tt
-told_err T P (Err e) f = f

@@ -1,5 +1,5 @@
 -- What a call of the queue leaves and costs, and why it is refused.
-use Rattle.std.proofs.Common.{◌≡◌, ℕ, ◌≤◌, ◌∙◌, Bool, List, refl, ap, arith}
+use Rattle.std.proofs.Common.{◌≡◌, ℕ, ◌≤◌, ◌∙◌, Bool, refl, ap, arith}
 use Rattle.std.specs.Prelude.{Option, Result, IfErr, IsTrue, length}
 use Rattle.shelf_model.specs.declared.file_no.FileNo.{FileNo}
 use Rattle.shelf_model.specs.declared.sort_fault.SortFault.{SortFault}
@@ -14,21 +14,18 @@ use Rattle.arc_file.specs.Writers.{inner_file, ends_file, AreInStep}
 use Rattle.run_tiers.specs.declared.parts.Parts.{Parts}
 use Rattle.run_tiers.specs.Faults.{OnlySortShelf}
 use Rattle.run_tiers.specs.Parts.{Took, OnlyTaken, Spilled, Paid, PaidParts}
-use Rattle.run_merge.specs.Lists.{Joins, Shows, Gives}
 use Rattle.run_merge.specs.Sorters as sorters
 use Rattle.level_queue.specs.declared.queue.LevelQueue.{LevelQueue}
 use Rattle.level_queue.specs.Queues as queues
 use Rattle.level_queue.proofs.QueueLaws.{queue_serves_on}
 use Rattle.sweep_core.specs.Accounts.{CanBeTaken}
-use Rattle.sweep_core.specs.Sweeps.{IsNoDamage}
 use Rattle.top_down_sweep.specs.declared.ask.Ask.{Ask}
 use Rattle.top_down_sweep.specs.declared.machine.Machine.{Machine}
 use Rattle.top_down_sweep.specs.Items.{ask_words, IsAsk}
 use Rattle.top_down_sweep.specs.Sweeps.{IsServed}
-use Rattle.top_down_sweep.specs.Waiting.{Waits}
-use Rattle.top_down_sweep.specs.Calls.{Does, HoldsAt}
+use Rattle.top_down_sweep.specs.Calls.{Does}
 use Rattle.top_down_sweep.proofs.Doing.{does_spilled}
-use Rattle.top_down_sweep.proofs.OwnRuns.{push_refuses, queue_refuses, joins_undamaged, shows_undamaged, gives_undamaged, told_err}
+use Rattle.top_down_sweep.proofs.OwnRuns.{push_refuses, queue_refuses}
 
 -- the files of arcs stay where parts were taken
 pub spilled_at_work : (m : Machine) (after : Parts) (old new : World) → IsServed m → Spilled m.parts after old new
@@ -44,21 +41,17 @@ spilled_at_work m after old new served spilled step = record {
 
 module _ {S : Type 0} (tells : S → Bool) (world : S → World) (counts : S → Faults) where
   -- an ask was put, or that was refused
-  pub does_put : (n a : ℕ) (s t : S) (m : Machine) (q : LevelQueue Ask) (after : Parts) (x : Ask)
+  pub does_put : (n a : ℕ) (s t : S) (m : Machine) (q : LevelQueue Ask) (after : Parts)
       (result : Result Unit SortFault) → IsServed m
       → Told tells s t (Spilled m.parts after (world s) (world t))
       → (IsTrue (tells t) → Paid n (queues.credit m.queue) (queues.credit q) (world s) (world t))
       → Took m.parts after → PaidParts a (queues.stock m.queue) (queues.stock q) m.parts after
       → OnlySortShelf (counts s) (counts t) result → IfErr result (sorters.IsPushCause after m.queue.sorter)
-      → (IsTrue (tells t) → (asks : List Ask) → Waits m.queue (world s) asks → Joins (Waits q (world t)) x asks result)
-      → HoldsAt tells world s m → Does tells world counts n a s t m (record m { queue = q; parts = after }) result
-  does_put n a s t m q after x result served did paid took spent faults cause list holds =
+      → Does tells world counts n a s t m (record m { queue = q; parts = after }) result
+  does_put n a s t m q after result served did paid took spent faults cause =
       does_spilled tells world counts n a s t m q after result served did paid took spent faults
       (push_refuses (record m { queue = q; parts = after }) m.queue result
       (queue_serves_on m.queue m.parts after served.serves took) cause)
-      (told_err (IsTrue (tells t)) IsNoDamage result (λ is_told.
-      let (asks, hold) = holds (did.before is_told) in
-      joins_undamaged (Waits q (world t)) x asks result (list is_told asks hold.wait)))
 
   -- the first ask was taken, or that was refused
   pub does_taken : (n a : ℕ) (s t : S) (m : Machine) (q : LevelQueue Ask) (after : Parts)
@@ -68,15 +61,11 @@ module _ {S : Type 0} (tells : S → Bool) (world : S → World) (counts : S →
       → Took m.parts after → PaidParts a (queues.stock m.queue) (queues.stock q) m.parts after
       → OnlySortShelf (counts s) (counts t) result → queues.Serves after q → queues.HoldsValues IsAsk ask_words q
       → IfErr result (queues.IsQueueCause m.queue q)
-      → (IsTrue (tells t) → (asks : List Ask) → Waits m.queue (world s) asks → Gives (Waits q (world t)) asks result)
-      → HoldsAt tells world s m → Does tells world counts n a s t m (record m { queue = q; parts = after }) result
-  does_taken n a s t m q after result served did paid took spent faults serves values cause list holds =
+      → Does tells world counts n a s t m (record m { queue = q; parts = after }) result
+  does_taken n a s t m q after result served did paid took spent faults serves values cause =
       does_spilled tells world counts n a s t m q after result served did paid took spent faults
       (queue_refuses (record m { queue = q; parts = after }) m.queue result
       (queue_serves_on m.queue m.parts after served.serves took) serves values cause)
-      (told_err (IsTrue (tells t)) IsNoDamage result (λ is_told.
-      let (asks, hold) = holds (did.before is_told) in
-      gives_undamaged (Waits q (world t)) asks result (list is_told asks hold.wait)))
 
   -- it was shown, or that was refused
   pub does_shown : (n : ℕ) (s t : S) (m : Machine) (q : LevelQueue Ask) (result : Result (Option Ask) SortFault)
@@ -84,15 +73,11 @@ module _ {S : Type 0} (tells : S → Bool) (world : S → World) (counts : S →
       → (IsTrue (tells t) → Paid n (queues.credit m.queue) (queues.credit q) (world s) (world t))
       → queues.stock q ≤ queues.stock m.queue → OnlySortShelf (counts s) (counts t) result
       → queues.Serves m.parts q → queues.HoldsValues IsAsk ask_words q → IfErr result (queues.IsQueueCause m.queue q)
-      → (IsTrue (tells t) → (asks : List Ask) → Waits m.queue (world s) asks → Shows (Waits q (world t)) asks result)
-      → HoldsAt tells world s m → Does tells world counts n 0 s t m (record m { queue = q }) result
-  does_shown n s t m q result served did paid stock faults serves values cause list holds =
+      → Does tells world counts n 0 s t m (record m { queue = q }) result
+  does_shown n s t m q result served did paid stock faults serves values cause =
       does_spilled tells world counts n 0 s t m q m.parts result served
       (told tells s t (Ran (Stays (now (world s))) (world s) (world t)) (Spilled m.parts m.parts (world s) (world t)) did
       (λ _ ran. ran_weakens (world s) (world t) (Stays (now (world s))) (OnlyTaken m.parts m.parts (now (world s)))
       (λ k same f untaken. ap (λ (d : Folder). file_in d f) same) ran)) paid
       (record { step_is = refl; later = omega arith }) (omega (arith, stock)) faults
       (queue_refuses (record m { queue = q }) m.queue result served.serves serves values cause)
-      (told_err (IsTrue (tells t)) IsNoDamage result (λ is_told.
-      let (asks, hold) = holds (did.before is_told) in
-      shows_undamaged (Waits q (world t)) asks result (list is_told asks hold.wait)))

@@ -35,8 +35,7 @@ use Rattle.top_down_sweep.specs.declared.place.Place.{Place}
 use Rattle.top_down_sweep.specs.declared.machine.Machine.{Machine}
 use Rattle.top_down_sweep.specs.Items.{ask_words, IsAsk, ask_cmp}
 use Rattle.top_down_sweep.specs.Sweeps.{files_in, IsMade, IsServed, IsOperand, AreOperands}
-use Rattle.top_down_sweep.specs.Waiting.{Waits, AreApart}
-use Rattle.top_down_sweep.specs.Calls.{HoldsAt}
+use Rattle.top_down_sweep.specs.Waiting.{Waits, AreApart, HoldsSome}
 use Rattle.top_down_sweep.specs.Meaning.{Contents, IsReadOf, AreRead, StandsFor, some_one}
 use Rattle.top_down_sweep.specs.Changes.{ShowsAsk, TakesAsk, JoinAsks}
 use Rattle.top_down_sweep.proofs.OwnRuns.{serves_past}
@@ -241,13 +240,12 @@ module _ {S : Type 0} (tells : S → Bool) (world : S → World) (s t : S) (m : 
       )
 
   pub shows_undamaged : (result : Result (Option Ask) SortFault)
-      → Told tells s t (Ran (Stays (now (world s))) (world s) (world t))
       → (IsTrue (tells t) → (asks : List Ask) → Waits m.queue (world s) asks
-      → Shows (Waits q (world t)) asks result) → HoldsAt tells world s m
-      → IfErr result (λ e. IsTrue (tells t) → IsNoDamage e)
-  shows_undamaged (Ok found) did list holds = tt
-  shows_undamaged (Err e) did list holds = λ told.
-      let (asks, hold) = holds (did.before told) in
+      → Shows (Waits q (world t)) asks result)
+      → IfErr result (λ e. IsTrue (tells t) → HoldsSome m (world s) → IsNoDamage e)
+  shows_undamaged (Ok found) list = tt
+  shows_undamaged (Err e) list = λ told holds.
+      let (asks, hold) = holds in
       undamaged_shown (Waits q (world t)) asks e (list told asks hold.wait)
 
   module _ (after : Parts) (did : Told tells s t (Spilled m.parts after (world s) (world t))) where
@@ -270,10 +268,10 @@ module _ {S : Type 0} (tells : S → Bool) (world : S → World) (s t : S) (m : 
 
     pub takes_undamaged : (e : SortFault)
         → (IsTrue (tells t) → (asks : List Ask) → Waits m.queue (world s) asks
-        → Gives (Waits q (world t)) asks (Err e)) → HoldsAt tells world s m → IsTrue (tells t)
+        → Gives (Waits q (world t)) asks (Err e)) → IsTrue (tells t) → HoldsSome m (world s)
         → IsNoDamage e
-    takes_undamaged e list holds told =
-        let (asks, hold) = holds (did.before told) in
+    takes_undamaged e list told holds =
+        let (asks, hold) = holds in
         undamaged_given (Waits q (world t)) asks e (list told asks hold.wait)
 
     -- an ask was put
@@ -295,9 +293,9 @@ module _ {S : Type 0} (tells : S → Bool) (world : S → World) (s t : S) (m : 
 
     pub joins_undamaged : (a : Ask) (result : Result Unit SortFault)
         → (IsTrue (tells t) → (asks : List Ask) → Waits m.queue (world s) asks
-        → Joins (Waits q (world t)) a asks result) → HoldsAt tells world s m
-        → IfErr result (λ e. IsTrue (tells t) → IsNoDamage e)
-    joins_undamaged a (Ok u) list holds = tt
-    joins_undamaged a (Err e) list holds = λ told.
-        let (asks, hold) = holds (did.before told) in
+        → Joins (Waits q (world t)) a asks result)
+        → IfErr result (λ e. IsTrue (tells t) → HoldsSome m (world s) → IsNoDamage e)
+    joins_undamaged a (Ok u) list = tt
+    joins_undamaged a (Err e) list = λ told holds.
+        let (asks, hold) = holds in
         undamaged_joined (Waits q (world t)) a asks e (list told asks hold.wait)

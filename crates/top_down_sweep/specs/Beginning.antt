@@ -13,7 +13,7 @@ use Rattle.top_down_sweep.specs.declared.beginning.OperandFiles.{OperandFiles}
 use Rattle.top_down_sweep.specs.declared.sweep.TopDownSweep.{TopDownSweep}
 use Rattle.top_down_sweep.specs.Sweeps.{files_of, parts_of, made_in, credit_of, stock_of, IsSound, IsStartDamage}
 use Rattle.top_down_sweep.specs.Damage.{IsStartFault}
-use Rattle.top_down_sweep.specs.Calls.{IsInStep}
+use Rattle.top_down_sweep.specs.Calls.{IsInStep, IsTrusted}
 
 -- the part numbers behind the next two
 abbrev pub after_two : Parts → Parts
@@ -40,6 +40,7 @@ pub record Begun {S O : Type 0} (tells : S → Bool) (world : S → World) (file
     (parts : Parts) (before after : S) (s : TopDownSweep O) : Type 0 where
   pub ready : IsReady s
   pub in_step : IsTrue (tells after) → IsInStep s (world after)
+  pub trusts : IsTrue (tells after) → IsTrusted s (world after)
   pub files_are : files_of s ≡ files
   pub parts_are : parts_of s ≡ parts
   pub none_made : made_in s ≡ None

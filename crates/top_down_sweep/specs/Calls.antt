@@ -13,19 +13,17 @@ use Rattle.top_down_sweep.specs.declared.place.Phase.TheVariants.{Fresh, Asking,
 use Rattle.top_down_sweep.specs.declared.machine.Machine.{Machine}
 use Rattle.top_down_sweep.specs.declared.sweep.TopDownSweep.{TopDownSweep}
 use Rattle.top_down_sweep.specs.Items.{IsAsk, ask_cmp}
-use Rattle.top_down_sweep.specs.Waiting.{HasNoHands, HoldsSome, HoldsFirst}
-use Rattle.top_down_sweep.specs.Damage.{IsMachineDamage}
+use Rattle.top_down_sweep.specs.Waiting.{HasNoHands, HoldsSome}
 use Rattle.top_down_sweep.specs.Ordered.{AreOrdered, HoldsPut}
 use Rattle.top_down_sweep.specs.Sweeps.{files_in, machine_accounts, IsSoundMachine, Refuses}
 
--- its files of arcs end behind the arcs that were put, which are in order, and asks that fit wait;
--- once it has ended, the files stay whatever a stop leaves, and are arcs in their order
+-- its files of arcs end behind the arcs that were put; once it has ended, they stay whatever a stop
+-- leaves
 abbrev pub IsStepAt : Phase → Machine → World → Type 0
-IsStepAt Fresh m world = AreInStep m.writer world × HoldsSome m world × HasNoHands m.operands
-    × HoldsArcs m.writer world [] []
-IsStepAt (Asking s) m world = AreInStep m.writer world × HoldsSome m world × HoldsPut s m world
+IsStepAt Fresh m world = AreInStep m.writer world
+IsStepAt (Asking s) m world = AreInStep m.writer world
 IsStepAt (Ended made) m world = IsFirm (file world (inner_file m.writer)) × IsFirm
-    (file world (ends_file m.writer)) × AreOrdered made world
+    (file world (ends_file m.writer))
 
 abbrev pub IsMachineInStep : Machine → World → Type 0
 IsMachineInStep m world = IsStepAt m.place.phase m world
@@ -33,26 +31,35 @@ IsMachineInStep m world = IsStepAt m.place.phase m world
 abbrev pub IsInStep : {O : Type 0} → TopDownSweep O → World → Type 0
 IsInStep s world = IsMachineInStep s.machine world
 
+-- what its turns put stands in its files: asks that fit wait, and the arcs are in order; before the root
+-- is asked for, nothing was read or put
+abbrev pub IsTrustedAt : Phase → Machine → World → Type 0
+IsTrustedAt Fresh m world = HoldsSome m world × HasNoHands m.operands × HoldsArcs m.writer world [] []
+IsTrustedAt (Asking s) m world = HoldsSome m world × HoldsPut s m world
+IsTrustedAt (Ended made) m world = AreOrdered made world
+
+abbrev pub IsMachineTrusted : Machine → World → Type 0
+IsMachineTrusted m world = IsTrustedAt m.place.phase m world
+
+abbrev pub IsTrusted : {O : Type 0} → TopDownSweep O → World → Type 0
+IsTrusted s world = IsMachineTrusted s.machine world
+
 -- within a turn it is sound, and its files hold what it takes them to hold
 pub record IsFit {S : Type 0} (tells : S → Bool) (world : S → World) (shelf : S) (m : Machine) :
     Type 0 where
   pub sound : IsSoundMachine m
   pub at_work : IsTrue (tells shelf) → AreInStep m.writer (world shelf)
 
--- where the folder tells its content, asks that fit wait
-abbrev pub HoldsAt : {S : Type 0} → (S → Bool) → (S → World) → S → Machine → Type 0
-HoldsAt tells world shelf m = IsTrue (tells shelf) → HoldsSome m (world shelf)
-
--- and that ask is the first of them
-abbrev pub HoldsFirstAt : {S : Type 0} → (S → Bool) → (S → World) → S → Machine → Ask → Type 0
-HoldsFirstAt tells world shelf m a = IsTrue (tells shelf) → HoldsFirst a m (world shelf)
+-- where asks that fit waited, such asks wait still
+abbrev pub KeepsAsks : Machine → World → Machine → World → Type 0
+KeepsAsks m old q new = HoldsSome m old → HoldsSome q new
 
 -- what no call changes
 pub record SameTask (old new : Machine) : Type 0 where
   pub files_are : files_in new ≡ files_in old
   pub variables_are : new.place.variables ≡ old.place.variables
 
--- what a call leaves and costs, why it is refused, and where damage is then
+-- what a call leaves and costs, and why it is refused
 pub record Does {S T : Type 0} (tells : S → Bool) (world : S → World) (counts : S → Faults)
     (most_calls most_parts : ℕ) (before after : S) (old new : Machine) (result : Result T SortFault)
     : Type 0 where
@@ -60,7 +67,6 @@ pub record Does {S T : Type 0} (tells : S → Bool) (world : S → World) (count
       result
   pub same : SameTask old new
   pub refused : IfErr result (Refuses new)
-  pub damage : IfErr result (λ e. IsTrue (tells after) → IsMachineDamage new (world after) e)
 
 -- the ask is shown as the first one: it is a value that isn't less than the last one taken
 pub record IsFirst (m : Machine) (a : Ask) : Type 0 where

@@ -17,3 +17,4 @@ pub mod Tasks
 pub mod Beginning
 pub mod Making
 pub mod Operations
+pub mod Trusting

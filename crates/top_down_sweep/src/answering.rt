@@ -22,8 +22,8 @@ impl<'r> Machine<'r> {
     ghost use Rattle.top_down_sweep.specs.Members.{IsResolved};
     ghost use Rattle.top_down_sweep.specs.Soundness.{is_due, is_sound, is_asker, next_numbered, identifier};
     ghost use Rattle.top_down_sweep.specs.Sweeps.{IsTakenTo, IsAsking};
-    ghost use Rattle.top_down_sweep.specs.Waiting.{AreReadTo};
-    ghost use Rattle.top_down_sweep.specs.Calls.{Does, IsFit, IsFirst, HoldsAt, HoldsFirstAt};
+    ghost use Rattle.top_down_sweep.specs.Waiting.{AreReadTo, HoldsSome, HoldsFirst};
+    ghost use Rattle.top_down_sweep.specs.Calls.{Does, IsFit, IsFirst, KeepsAsks};
     ghost use Rattle.std.specs.Prelude.{IfErr, ◌++◌, [], ◌∷◌, ◌^◌, List};
     ghost use Rattle.arc_file.specs.declared.arc.Arc.{Arc};
     ghost use Rattle.top_down.specs.Asks.{side_arcs};
@@ -50,11 +50,11 @@ impl<'r> Machine<'r> {
         requires later { ask.now.key < key }
         requires sound { is_sound (record { key = key; members = members; asker = ask.now.asker }) ≡ true }
         requires fit { IsFit S.tells S.world shelf.old self.old }
-        requires first { HoldsFirstAt S.tells S.world shelf.old self.old ask.now }
         ensures does { Does S.tells S.world S.faults 56 3 shelf.old shelf.new self.old self.new result }
         ensures fit { OnOk result (IsFit S.tells S.world shelf.new self.new) }
         ensures rest { self.new ≡ record self.old { queue = self.new.queue; parts = self.new.parts } }
-        ensures holds { OnOk result (HoldsAt S.tells S.world shelf.new self.new) }
+        ensures holds { OnOk result (IsTrue (S.tells shelf.new) →
+            HoldsFirst ask.now self.old (S.world shelf.old) → HoldsSome self.new (S.world shelf.new)) }
         ensures load { OnOk result (held self.new.queue ≡ held self.old.queue) }
         ensures last { OnOk result (last_of self.new.queue ≡ Some ask.now) }
         ensures list { OnOk result (IsTrue (S.tells shelf.new) → (k : Contents) →
@@ -62,7 +62,8 @@ impl<'r> Machine<'r> {
             (record { key = key; members = members; asker = ask.now.asker })) }
         ensures arcs { OnOk result (IsTrue (S.tells shelf.new) →
             KeepsArcs self.old (S.world shelf.old) self.new (S.world shelf.new)) }
-        ensures undamaged { IfErr result (λ e. IsTrue (S.tells shelf.new) → IsNoDamage e) }
+        ensures undamaged { IfErr result (λ e. IsTrue (S.tells shelf.new) →
+            HoldsFirst ask.now self.old (S.world shelf.old) → IsNoDamage e) }
     {
         self.take(ask, shelf)?;
         let again = Ask {
@@ -87,10 +88,10 @@ impl<'r> Machine<'r> {
         requires due { is_due asking.now.last ask.now ≡ true }
         requires resolved { IsResolved (level_of ask.now.key) members.now }
         requires fit { IsFit S.tells S.world shelf.old self.old }
-        requires first { HoldsFirstAt S.tells S.world shelf.old self.old ask.now }
         ensures does { Does S.tells S.world S.faults 105 6 shelf.old shelf.new self.old self.new result }
         ensures fit { OnOk result (IsFit S.tells S.world shelf.new self.new) }
-        ensures holds { OnOk result (HoldsAt S.tells S.world shelf.new self.new) }
+        ensures holds { OnOk result (IsTrue (S.tells shelf.new) →
+            HoldsFirst ask.now self.old (S.world shelf.old) → HoldsSome self.new (S.world shelf.new)) }
         ensures phase { OnOk result (IsAsking self.new.place.phase) }
         ensures operands { self.new.operands ≡ self.old.operands }
         ensures load { OnOk result (held self.new.queue ≤ held self.old.queue + 1) }
@@ -102,7 +103,8 @@ impl<'r> Machine<'r> {
             Advances t asking.now self.old (S.world shelf.old) self.new (S.world shelf.new)) }
         ensures ordered { OnOk result (IsTrue (S.tells shelf.new) →
             IsOrdered self.old (S.world shelf.old) → IsOrdered self.new (S.world shelf.new)) }
-        ensures undamaged { IfErr result (λ e. IsTrue (S.tells shelf.new) → IsNoDamage e) }
+        ensures undamaged { IfErr result (λ e. IsTrue (S.tells shelf.new) →
+            HoldsFirst ask.now self.old (S.world shelf.old) → IsNoDamage e) }
     {
         self.take(ask, shelf)?;
         if let Some(known) = asking.known(ask) {
@@ -123,7 +125,6 @@ impl<'r> Machine<'r> {
         requires phase { self.old.place.phase ≡ Phase.Asking asking.now }
         requires due { is_due asking.now.last ask.now ≡ true }
         requires fit { IsFit S.tells S.world shelf.old self.old }
-        requires holds { HoldsAt S.tells S.world shelf.old self.old }
         ensures does { Does S.tells S.world S.faults 1 0 shelf.old shelf.new self.old self.new result }
         ensures fit { OnOk result (IsFit S.tells S.world shelf.new self.new) }
         ensures rest { self.new ≡ record self.old {
@@ -131,7 +132,8 @@ impl<'r> Machine<'r> {
           writer = self.new.writer;
         } }
         ensures phase { OnOk result (IsAsking self.new.place.phase) }
-        ensures holds { OnOk result (HoldsAt S.tells S.world shelf.new self.new) }
+        ensures holds { OnOk result (IsTrue (S.tells shelf.new) →
+            KeepsAsks self.old (S.world shelf.old) self.new (S.world shelf.new)) }
         ensures number { IfOk result (λ uid. uid ≡ identifier (next_numbered asking.now ask.now)) }
         ensures level { IfOk result (λ uid. level_of uid ≡ level_of ask.now.key) }
         ensures placed { OnOk result (self.new.place.phase
@@ -166,8 +168,8 @@ impl<'r> Machine<'r> {
         requires fit { IsFit S.tells S.world shelf.old self.old }
         ensures does { Does S.tells S.world S.faults 1 0 shelf.old shelf.new self.old self.new result }
         ensures fit { OnOk result (IsFit S.tells S.world shelf.new self.new) }
-        ensures holds { HoldsAt S.tells S.world shelf.old self.old →
-            OnOk result (HoldsAt S.tells S.world shelf.new self.new) }
+        ensures holds { OnOk result (IsTrue (S.tells shelf.new) →
+            KeepsAsks self.old (S.world shelf.old) self.new (S.world shelf.new)) }
         ensures rest { self.new ≡ record self.old { writer = self.new.writer } }
         ensures count { OnOk result (inner_count self.new.writer
             ≡ inner_count self.old.writer + cond (is_asker ask.now.asker) 1 0) }
@@ -202,11 +204,10 @@ impl<'r> Machine<'r> {
         requires resolved { IsResolved (level_of uid) members.now }
         requires taken { IsTakenTo (level_of uid) (last_of self.old.queue) }
         requires fit { IsFit S.tells S.world shelf.old self.old }
-        requires read { IsTrue (S.tells shelf.old) → AreReadTo (level_of uid) self.old.operands }
-        requires holds { HoldsAt S.tells S.world shelf.old self.old }
         ensures does { Does S.tells S.world S.faults 48 3 shelf.old shelf.new self.old self.new result }
         ensures fit { OnOk result (IsFit S.tells S.world shelf.new self.new) }
-        ensures holds { OnOk result (HoldsAt S.tells S.world shelf.new self.new) }
+        ensures holds { OnOk result (IsTrue (S.tells shelf.new) → AreReadTo (level_of uid) self.old.operands →
+            KeepsAsks self.old (S.world shelf.old) self.new (S.world shelf.new)) }
         ensures place { self.new.place ≡ self.old.place }
         ensures operands { self.new.operands ≡ self.old.operands }
         ensures load { OnOk result (held self.new.queue ≤ held self.old.queue + 1) }
@@ -218,7 +219,8 @@ impl<'r> Machine<'r> {
             HoldsArcs self.old.writer (S.world shelf.old) xs ys → HoldsArcs self.new.writer (S.world shelf.new)
             xs (ys ++ side_arcs uid high
             (goal_below (O.rule operation.now) (level_of uid) high members.now))) }
-        ensures undamaged { IfErr result (λ e. IsTrue (S.tells shelf.new) → IsNoDamage e) }
+        ensures undamaged { IfErr result (λ e. IsTrue (S.tells shelf.new) →
+            HoldsSome self.old (S.world shelf.old) → IsNoDamage e) }
     {
         let lows = members.on_side(false);
         let highs = members.on_side(true);
@@ -247,12 +249,11 @@ impl<'r> Machine<'r> {
         requires deeper { level_of source.uid < level_of_tuple tuple.now }
         requires taken { IsTakenTo (level_of source.uid) (last_of self.old.queue) }
         requires fit { IsFit S.tells S.world shelf.old self.old }
-        requires read { IsTrue (S.tells shelf.old) → AreReadTo (level_of source.uid) self.old.operands }
-        requires holds { HoldsAt S.tells S.world shelf.old self.old }
         ensures does { Does S.tells S.world S.faults 48 3 shelf.old shelf.new self.old self.new result }
         ensures fit { OnOk result (IsFit S.tells S.world shelf.new self.new) }
         ensures rest { self.new ≡ record self.old { queue = self.new.queue; parts = self.new.parts } }
-        ensures holds { OnOk result (HoldsAt S.tells S.world shelf.new self.new) }
+        ensures holds { OnOk result (IsTrue (S.tells shelf.new) → AreReadTo (level_of source.uid) self.old.operands →
+            KeepsAsks self.old (S.world shelf.old) self.new (S.world shelf.new)) }
         ensures load { OnOk result (held self.new.queue ≡ held self.old.queue + 1) }
         ensures last { last_of self.new.queue ≡ last_of self.old.queue }
         ensures list { OnOk result (IsTrue (S.tells shelf.new) → (k : Contents) →
@@ -260,7 +261,8 @@ impl<'r> Machine<'r> {
             (ask_for tuple.now (asker_word source) ∷ [])) }
         ensures arcs { OnOk result (IsTrue (S.tells shelf.new) →
             KeepsArcs self.old (S.world shelf.old) self.new (S.world shelf.new)) }
-        ensures undamaged { IfErr result (λ e. IsTrue (S.tells shelf.new) → IsNoDamage e) }
+        ensures undamaged { IfErr result (λ e. IsTrue (S.tells shelf.new) →
+            HoldsSome self.old (S.world shelf.old) → IsNoDamage e) }
     {
         let Some(key) = key_of(tuple) else {
             unreachable!();

@@ -9,8 +9,8 @@ impl<'r> Machine<'r> {
     ghost use Rattle.level_queue.specs.Queues.{shown, last_of, held, IsNoLess};
     ghost use Rattle.top_down_sweep.specs.Items.{ask_cmp};
     ghost use Rattle.top_down_sweep.specs.Sweeps.{IsAsking};
-    ghost use Rattle.top_down_sweep.specs.Waiting.{Fits};
-    ghost use Rattle.top_down_sweep.specs.Calls.{Does, IsFit, IsFirst, HoldsAt, HoldsFirstAt};
+    ghost use Rattle.top_down_sweep.specs.Waiting.{Fits, HoldsSome, HoldsFirst};
+    ghost use Rattle.top_down_sweep.specs.Calls.{Does, IsFit, IsFirst, KeepsAsks};
     ghost use Rattle.std.specs.Prelude.{IfErr, [], ◌∷◌};
     ghost use Rattle.sweep_core.specs.Sweeps.{IsNoDamage};
     ghost use Rattle.top_down_sweep.specs.Meaning.{Contents, StandsFor};
@@ -23,10 +23,10 @@ impl<'r> Machine<'r> {
         shelf: &mut S,
     ) -> Result<Option<SoundAsk>, SortFault>
         requires fit { IsFit S.tells S.world shelf.old self.old }
-        requires holds { HoldsAt S.tells S.world shelf.old self.old }
         ensures does { Does S.tells S.world S.faults 8 0 shelf.old shelf.new self.old self.new result }
         ensures fit { OnOk result (IsFit S.tells S.world shelf.new self.new) }
-        ensures holds { IfOk result (λ found. IfSome found (HoldsFirstAt S.tells S.world shelf.new self.new)) }
+        ensures holds { IfOk result (λ found. IfSome found (λ a. IsTrue (S.tells shelf.new) →
+            HoldsSome self.old (S.world shelf.old) → HoldsFirst a self.new (S.world shelf.new))) }
         ensures rest { self.new ≡ record self.old { queue = self.new.queue } }
         ensures last { last_of self.new.queue ≡ last_of self.old.queue }
         ensures load { OnOk result (held self.new.queue ≡ held self.old.queue) }
@@ -35,7 +35,8 @@ impl<'r> Machine<'r> {
             StandsFor self.old (S.world shelf.old) k → ShowsAsk self.new (S.world shelf.new) k found) }
         ensures arcs { OnOk result (IsTrue (S.tells shelf.new) →
             KeepsArcs self.old (S.world shelf.old) self.new (S.world shelf.new)) }
-        ensures undamaged { IfErr result (λ e. IsTrue (S.tells shelf.new) → IsNoDamage e) }
+        ensures undamaged { IfErr result (λ e. IsTrue (S.tells shelf.new) →
+            HoldsSome self.old (S.world shelf.old) → IsNoDamage e) }
     {
         self.queue.peek(shelf)
     }
@@ -45,10 +46,10 @@ impl<'r> Machine<'r> {
         requires asking { IsAsking self.old.place.phase }
         requires shown { shown self.old.queue ≡ Some ask.now }
         requires fit { IsFit S.tells S.world shelf.old self.old }
-        requires holds { HoldsAt S.tells S.world shelf.old self.old }
         ensures does { Does S.tells S.world S.faults 8 0 shelf.old shelf.new self.old self.new result }
         ensures fit { OnOk result (IsFit S.tells S.world shelf.new self.new) }
-        ensures holds { OnOk result (HoldsAt S.tells S.world shelf.new self.new) }
+        ensures holds { OnOk result (IsTrue (S.tells shelf.new) →
+            KeepsAsks self.old (S.world shelf.old) self.new (S.world shelf.new)) }
         ensures rest { self.new ≡ record self.old { queue = self.new.queue; parts = self.new.parts } }
         ensures load { OnOk result (held self.old.queue ≡ held self.new.queue + 1) }
         ensures last { OnOk result (last_of self.new.queue ≡ Some ask.now) }
@@ -56,7 +57,8 @@ impl<'r> Machine<'r> {
             StandsFor self.old (S.world shelf.old) k → TakesAsk self.new (S.world shelf.new) k ask.now) }
         ensures arcs { OnOk result (IsTrue (S.tells shelf.new) →
             KeepsArcs self.old (S.world shelf.old) self.new (S.world shelf.new)) }
-        ensures undamaged { IfErr result (λ e. IsTrue (S.tells shelf.new) → IsNoDamage e) }
+        ensures undamaged { IfErr result (λ e. IsTrue (S.tells shelf.new) →
+            HoldsSome self.old (S.world shelf.old) → IsNoDamage e) }
     {
         self.queue.take(&mut self.parts, shelf)?;
         Ok(())
@@ -76,12 +78,11 @@ impl<'r> Machine<'r> {
     /// Puts an ask into the queue.
     pub(crate) fn push<S: Shelf>(&mut self, ask: SoundAsk, shelf: &mut S) -> Result<(), SortFault>
         requires order { IsNoLess ask_cmp (last_of self.old.queue) ask }
-        requires fits { IsTrue (S.tells shelf.old) → Fits self.old.operands ask }
         requires fit { IsFit S.tells S.world shelf.old self.old }
-        requires holds { HoldsAt S.tells S.world shelf.old self.old }
         ensures does { Does S.tells S.world S.faults 48 3 shelf.old shelf.new self.old self.new result }
         ensures fit { OnOk result (IsFit S.tells S.world shelf.new self.new) }
-        ensures holds { OnOk result (HoldsAt S.tells S.world shelf.new self.new) }
+        ensures holds { OnOk result (IsTrue (S.tells shelf.new) → Fits self.old.operands ask →
+            KeepsAsks self.old (S.world shelf.old) self.new (S.world shelf.new)) }
         ensures rest { self.new ≡ record self.old { queue = self.new.queue; parts = self.new.parts } }
         ensures load { OnOk result (held self.new.queue ≡ held self.old.queue + 1) }
         ensures last { last_of self.new.queue ≡ last_of self.old.queue }
@@ -89,7 +90,8 @@ impl<'r> Machine<'r> {
             StandsFor self.old (S.world shelf.old) k → JoinAsks self.new (S.world shelf.new) k (ask ∷ [])) }
         ensures arcs { OnOk result (IsTrue (S.tells shelf.new) →
             KeepsArcs self.old (S.world shelf.old) self.new (S.world shelf.new)) }
-        ensures undamaged { IfErr result (λ e. IsTrue (S.tells shelf.new) → IsNoDamage e) }
+        ensures undamaged { IfErr result (λ e. IsTrue (S.tells shelf.new) →
+            HoldsSome self.old (S.world shelf.old) → IsNoDamage e) }
     {
         self.queue.push(ask, &mut self.parts, shelf)
     }

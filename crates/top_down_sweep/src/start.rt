@@ -39,7 +39,7 @@ impl<'r, O: Operation> TopDownSweep<'r, O> {
     ghost use Rattle.sweep_core.specs.Accounts.{CanBeTaken};
     ghost use Rattle.top_down_sweep.specs.Sweeps.{files_of, variables_of, parts_of, made_in, credit_of, stock_of, IsSound, IsStartDamage};
     ghost use Rattle.top_down_sweep.specs.Damage.{IsStartFault};
-    ghost use Rattle.top_down_sweep.specs.Calls.{IsInStep};
+    ghost use Rattle.top_down_sweep.specs.Calls.{IsInStep, IsTrusted};
     ghost use Rattle.sweep_core.specs.Sweeps.{IsNoDamage};
     ghost use Rattle.std.specs.Prelude.{◌+◌, ◌*◌};
     ghost use Rattle.top_down_sweep.specs.Meaning.{Task, IsTaskOn, Remains};
@@ -64,6 +64,7 @@ impl<'r, O: Operation> TopDownSweep<'r, O> {
         requires ends_made { ¬ CanBeTaken parts.step parts.next files.ends }
         ensures ready { IfOk result IsSound }
         ensures in_step { IfOk result (λ s. IsTrue (S.tells shelf.new) → IsInStep s (S.world shelf.new)) }
+        ensures trusts { IfOk result (λ s. IsTrue (S.tells shelf.new) → IsTrusted s (S.world shelf.new)) }
         ensures files { IfOk result (λ s. files_of s ≡ files) }
         ensures variables { IfOk result (λ s. variables_of s ≡ n) }
         ensures parts { IfOk result (λ s. parts_of s ≡ parts) }

@@ -49,7 +49,7 @@ impl<'r, O: Operation> TopDownSweep<'r, O> {
     ghost use Rattle.top_down_sweep.specs.Sweeps.{files_of, task_of, made_in, accounts, meets_one, IsMade, HasMade, IsSound, MakesAtEnd, Refused};
     ghost use Rattle.top_down_sweep.specs.Fuel.{fuel_of};
     ghost use Rattle.top_down_sweep.specs.Damage.{IsDamage};
-    ghost use Rattle.top_down_sweep.specs.Calls.{IsInStep};
+    ghost use Rattle.top_down_sweep.specs.Calls.{IsInStep, IsTrusted};
     ghost use Rattle.top_down_sweep.specs.Ordered.{AreOrdered};
     ghost use Rattle.sweep_core.specs.Sweeps.{IsNoDamage};
     ghost use Rattle.sweep_core.specs.Sweeps.{MovesOn};
@@ -79,6 +79,8 @@ impl<'r, O: Operation> TopDownSweep<'r, O> {
         requires in_step { IsTrue (S.tells shelf.old) → IsInStep self.old (S.world shelf.old) }
         ensures ready { OnOk result (IsSound self.new) }
         ensures in_step { OnOk result (IsTrue (S.tells shelf.new) → IsInStep self.new (S.world shelf.new)) }
+        ensures trusts { OnOk result (IsTrue (S.tells shelf.new) →
+            IsTrusted self.old (S.world shelf.old) → IsTrusted self.new (S.world shelf.new)) }
         ensures files { files_of self.new ≡ files_of self.old }
         ensures same { task_of self.new ≡ task_of self.old }
         ensures operation { self.new.operation ≡ self.old.operation }
@@ -86,7 +88,7 @@ impl<'r, O: Operation> TopDownSweep<'r, O> {
         ensures fuel { OnOk result (fuel_of self.new ≡ 0) }
         ensures firm { OnOk result (IsTrue (S.tells shelf.new) → (f : FileNo) → IsMade (files_of self.new) f →
             IsFirm (file (S.world shelf.new) f)) }
-        ensures ordered { OnOk result (IsTrue (S.tells shelf.new) →
+        ensures ordered { OnOk result (IsTrue (S.tells shelf.new) → IsTrusted self.old (S.world shelf.old) →
             IfSome (made_in self.new) (λ made. AreOrdered made (S.world shelf.new))) }
         ensures leaves { Leaves S.tells S.world S.faults
             (accounts O) 4 0 shelf.old shelf.new self.old self.new result }
@@ -109,6 +111,8 @@ impl<'r, O: Operation> TopDownSweep<'r, O> {
         requires in_step { IsTrue (S.tells shelf.old) → IsInStep self.old (S.world shelf.old) }
         ensures ready { OnOk result (IsSound self.new) }
         ensures in_step { OnOk result (IsTrue (S.tells shelf.new) → IsInStep self.new (S.world shelf.new)) }
+        ensures trusts { OnOk result (IsTrue (S.tells shelf.new) →
+            IsTrusted self.old (S.world shelf.old) → IsTrusted self.new (S.world shelf.new)) }
         ensures files { files_of self.new ≡ files_of self.old }
         ensures same { task_of self.new ≡ task_of self.old }
         ensures operation { self.new.operation ≡ self.old.operation }
@@ -119,14 +123,15 @@ impl<'r, O: Operation> TopDownSweep<'r, O> {
         ensures ended { IsSome (made_in self.old) → StaysEnded shelf.old shelf.new self.old self.new result }
         ensures firm { AtEnd result (IsTrue (S.tells shelf.new) → (f : FileNo) → IsMade (files_of self.new) f →
             IsFirm (file (S.world shelf.new) f)) }
-        ensures ordered { OnOk result (IsTrue (S.tells shelf.new) →
+        ensures ordered { OnOk result (IsTrue (S.tells shelf.new) → IsTrusted self.old (S.world shelf.old) →
             IfSome (made_in self.new) (λ made. AreOrdered made (S.world shelf.new))) }
 
         // what the call leaves, and what it costs
         ensures leaves { Leaves S.tells S.world S.faults
             (accounts O) 113 6 shelf.old shelf.new self.old self.new result }
         ensures refused { IfErr result (Refused self.new) }
-        ensures damage { IfErr result (λ e. IsTrue (S.tells shelf.new) → IsDamage self.new (S.world shelf.new) e) }
+        ensures damage { IfErr result (λ e. IsTrue (S.tells shelf.new) →
+            IsTrusted self.old (S.world shelf.old) → IsDamage self.new (S.world shelf.new) e) }
 
         // what remains of a task: once all is done, the two files are a diagram of its table
         ensures keeps { OnOk result (IsTrue (S.tells shelf.new) → (t : Task) →
@@ -146,12 +151,13 @@ impl<'r, O: Operation> TopDownSweep<'r, O> {
 }
 
 impl<'r, O: Operation> Sweep<'r> for TopDownSweep<'r, O> {
+    ghost use Rattle.top_down_sweep.specs.Trusting.{sweep_trusted};
     ghost use Rattle.top_down_sweep.specs.Meaning.{Remains};
     ghost use Rattle.top_down_sweep.specs.Turns.{Work, left_of};
     ghost use Rattle.top_down_sweep.specs.Sweeps.{SweepTask, task_of, accounts, IsSound};
     ghost use Rattle.top_down_sweep.specs.Fuel.{fuel_of};
     ghost use Rattle.top_down_sweep.specs.Damage.{IsDamage};
-    ghost use Rattle.top_down_sweep.specs.Calls.{IsInStep};
+    ghost use Rattle.top_down_sweep.specs.Calls.{IsInStep, IsTrusted};
 
     ghost Job = { Work };
 
@@ -173,9 +179,9 @@ impl<'r, O: Operation> Sweep<'r> for TopDownSweep<'r, O> {
 
     ghost in_step = { IsInStep };
 
-    ghost trusts = { λ s world. Unit };
+    ghost trusts = { IsTrusted };
 
-    ghost trusted = { λ s world job remains. tt };
+    ghost trusted = { λ s world w remains. sweep_trusted O.rule O.begins s world w.task remains };
 
     fn turn<S: Shelf>(&mut self, shelf: &mut S) -> Result<Turn, SortFault> {
         TopDownSweep::turn(self, shelf)

@@ -21,11 +21,11 @@ impl<'r> Machine<'r> {
     ghost use Rattle.sweep_core.specs.Sweeps.{Falls, StaysEnded};
     ghost use Rattle.top_down_sweep.specs.Sweeps.{IsSoundMachine, IsAsking, HasEnded, EndsAt};
     ghost use Rattle.top_down_sweep.specs.Fuel.{unread, weight, machine_fuel};
-    ghost use Rattle.top_down_sweep.specs.Waiting.{HasNoHands};
-    ghost use Rattle.top_down_sweep.specs.Calls.{Does, IsFit, IsFirst, IsMachineInStep, HoldsAt, HoldsFirstAt};
-    ghost use Rattle.std.specs.Prelude.{IfErr, []};
-    ghost use Rattle.arc_file.specs.Writers.{HoldsArcs};
-    ghost use Rattle.top_down_sweep.specs.Ordered.{HoldsPut, IsOrdered, KeepsArcs};
+    ghost use Rattle.top_down_sweep.specs.Waiting.{HasNoHands, HoldsSome, HoldsFirst};
+    ghost use Rattle.top_down_sweep.specs.Calls.{Does, IsFit, IsFirst, IsMachineInStep, IsTrustedAt, IsMachineTrusted, KeepsAsks};
+    ghost use Rattle.top_down_sweep.specs.Damage.{IsMachineDamage};
+    ghost use Rattle.std.specs.Prelude.{IfErr};
+    ghost use Rattle.top_down_sweep.specs.Ordered.{IsOrdered, KeepsArcs};
     ghost use Rattle.sweep_core.specs.Sweeps.{IsNoDamage};
     ghost use Rattle.top_down_sweep.specs.declared.place.Asking.{Asking};
     ghost use Rattle.top_down_sweep.specs.Meaning.{Task, StandsFor, first_contents, IsFresh, IsWorking, IsHandling, WorksOn, RemainsOf};
@@ -42,6 +42,8 @@ impl<'r> Machine<'r> {
         ensures does { Does S.tells S.world S.faults 113 6 shelf.old shelf.new self.old self.new result }
         ensures sound { OnOk result (IsSoundMachine self.new) }
         ensures in_step { OnOk result (IsTrue (S.tells shelf.new) → IsMachineInStep self.new (S.world shelf.new)) }
+        ensures trusts { OnOk result (IsTrue (S.tells shelf.new) →
+            IsMachineTrusted self.old (S.world shelf.old) → IsMachineTrusted self.new (S.world shelf.new)) }
         ensures falls { Falls (machine_fuel self.old) (machine_fuel self.new) result }
         ensures ends { IfOk result (λ turn. EndsAt turn self.new.place.phase) }
         ensures ended { HasEnded self.old.place.phase → StaysEnded shelf.old shelf.new self.old self.new result }
@@ -51,6 +53,8 @@ impl<'r> Machine<'r> {
         ensures fewer { IsTrue (S.tells shelf.new) → (t : Task) → t.rule ≡ O.rule operation.now →
             RemainsOf t (O.begins operation.now) self.old (S.world shelf.old) → TurnsFall t self.old.place.phase
             self.old (S.world shelf.old) self.new (S.world shelf.new) result }
+        ensures damage { IfErr result (λ e. IsTrue (S.tells shelf.new) →
+            IsMachineTrusted self.old (S.world shelf.old) → IsMachineDamage self.new (S.world shelf.new) e) }
         ensures undamaged { IfErr result (λ e. IsTrue (S.tells shelf.new) → (t : Task) →
             RemainsOf t (O.begins operation.now) self.old (S.world shelf.old) → IsNoDamage e) }
     {
@@ -69,12 +73,11 @@ impl<'r> Machine<'r> {
     ) -> Result<Turn, SortFault>
         requires phase { self.old.place.phase ≡ Phase.Fresh }
         requires fit { IsFit S.tells S.world shelf.old self.old }
-        requires holds { HoldsAt S.tells S.world shelf.old self.old }
-        requires unread { IsTrue (S.tells shelf.old) → HasNoHands self.old.operands }
-        requires unwritten { IsTrue (S.tells shelf.old) → HoldsArcs self.old.writer (S.world shelf.old) [] [] }
         ensures does { Does S.tells S.world S.faults 48 3 shelf.old shelf.new self.old self.new result }
         ensures sound { OnOk result (IsSoundMachine self.new) }
         ensures in_step { OnOk result (IsTrue (S.tells shelf.new) → IsMachineInStep self.new (S.world shelf.new)) }
+        ensures trusts { OnOk result (IsTrue (S.tells shelf.new) →
+            IsTrustedAt Phase.Fresh self.old (S.world shelf.old) → IsMachineTrusted self.new (S.world shelf.new)) }
         ensures falls { Falls (machine_fuel self.old) (machine_fuel self.new) result }
         ensures ends { IfOk result (λ turn. EndsAt turn self.new.place.phase) }
         ensures keeps { OnOk result (IsTrue (S.tells shelf.new) → (t : Task) → t.rule ≡ O.rule operation.now →
@@ -83,7 +86,8 @@ impl<'r> Machine<'r> {
         ensures fewer { IsTrue (S.tells shelf.new) → (t : Task) → t.rule ≡ O.rule operation.now →
             IsFresh t (O.begins operation.now) self.old (S.world shelf.old) → TurnsFall t Phase.Fresh
             self.old (S.world shelf.old) self.new (S.world shelf.new) result }
-        ensures undamaged { IfErr result (λ e. IsTrue (S.tells shelf.new) → IsNoDamage e) }
+        ensures undamaged { IfErr result (λ e. IsTrue (S.tells shelf.new) →
+            HoldsSome self.old (S.world shelf.old) → IsNoDamage e) }
     {
         let roots = operation.roots(&self.operands.roots());
         match operation.goal(&roots) {
@@ -101,12 +105,11 @@ impl<'r> Machine<'r> {
         requires none { last_of self.old.queue ≡ None }
         requires fit { IsFit S.tells S.world shelf.old self.old }
         requires fresh { self.old.place.phase ≡ Phase.Fresh }
-        requires holds { HoldsAt S.tells S.world shelf.old self.old }
-        requires unread { IsTrue (S.tells shelf.old) → HasNoHands self.old.operands }
         ensures does { Does S.tells S.world S.faults 48 3 shelf.old shelf.new self.old self.new result }
         ensures fit { OnOk result (IsFit S.tells S.world shelf.new self.new) }
         ensures phase { OnOk result (IsAsking self.new.place.phase) }
-        ensures holds { OnOk result (HoldsAt S.tells S.world shelf.new self.new) }
+        ensures holds { OnOk result (IsTrue (S.tells shelf.new) → HasNoHands self.old.operands →
+            KeepsAsks self.old (S.world shelf.old) self.new (S.world shelf.new)) }
         ensures weight { OnOk result (weight self.new ≡ weight self.old + 1) }
         ensures keeps { OnOk result (IsTrue (S.tells shelf.new) → (t : Task) →
             t.rule.goal t.roots ≡ Goal.Go tuple.now →
@@ -114,7 +117,8 @@ impl<'r> Machine<'r> {
             × HasFewer t Phase.Fresh self.old (S.world shelf.old) self.new.place.phase self.new (S.world shelf.new)) }
         ensures ordered { OnOk result (IsTrue (S.tells shelf.new) →
             IsOrdered self.old (S.world shelf.old) → IsOrdered self.new (S.world shelf.new)) }
-        ensures undamaged { IfErr result (λ e. IsTrue (S.tells shelf.new) → IsNoDamage e) }
+        ensures undamaged { IfErr result (λ e. IsTrue (S.tells shelf.new) →
+            HoldsSome self.old (S.world shelf.old) → IsNoDamage e) }
     {
         let Some(key) = key_of(tuple) else {
             unreachable!();
@@ -140,11 +144,11 @@ impl<'r> Machine<'r> {
     ) -> Result<Turn, SortFault>
         requires phase { self.old.place.phase ≡ Phase.Asking asking.now }
         requires fit { IsFit S.tells S.world shelf.old self.old }
-        requires holds { HoldsAt S.tells S.world shelf.old self.old }
-        requires put { IsTrue (S.tells shelf.old) → HoldsPut asking.now self.old (S.world shelf.old) }
         ensures does { Does S.tells S.world S.faults 113 6 shelf.old shelf.new self.old self.new result }
         ensures sound { OnOk result (IsSoundMachine self.new) }
         ensures in_step { OnOk result (IsTrue (S.tells shelf.new) → IsMachineInStep self.new (S.world shelf.new)) }
+        ensures trusts { OnOk result (IsTrue (S.tells shelf.new) →
+            IsTrustedAt (Phase.Asking asking.now) self.old (S.world shelf.old) → IsMachineTrusted self.new (S.world shelf.new)) }
         ensures falls { Falls (machine_fuel self.old) (machine_fuel self.new) result }
         ensures ends { IfOk result (λ turn. EndsAt turn self.new.place.phase) }
         ensures keeps { OnOk result (IsTrue (S.tells shelf.new) → (t : Task) → t.rule ≡ O.rule operation.now →
@@ -153,6 +157,8 @@ impl<'r> Machine<'r> {
         ensures fewer { IsTrue (S.tells shelf.new) → (t : Task) → t.rule ≡ O.rule operation.now →
             IsWorking t asking.now self.old (S.world shelf.old) → TurnsFall t (Phase.Asking asking.now)
             self.old (S.world shelf.old) self.new (S.world shelf.new) result }
+        ensures damage { IfErr result (λ e. IsTrue (S.tells shelf.new) →
+            HoldsSome self.old (S.world shelf.old) → IsMachineDamage self.new (S.world shelf.new) e) }
         ensures undamaged { IfErr result (λ e. IsTrue (S.tells shelf.new) → (t : Task) →
             IsWorking t asking.now self.old (S.world shelf.old) → IsNoDamage e) }
     {
@@ -175,17 +181,19 @@ impl<'r> Machine<'r> {
         requires phase { self.old.place.phase ≡ Phase.Asking asking.now }
         requires shown { IsFirst self.old ask.now }
         requires fit { IsFit S.tells S.world shelf.old self.old }
-        requires first { HoldsFirstAt S.tells S.world shelf.old self.old ask.now }
         ensures does { Does S.tells S.world S.faults 105 6 shelf.old shelf.new self.old self.new result }
         ensures fit { OnOk result (IsFit S.tells S.world shelf.new self.new) }
         ensures phase { OnOk result (IsAsking self.new.place.phase) }
-        ensures holds { OnOk result (HoldsAt S.tells S.world shelf.new self.new) }
+        ensures holds { OnOk result (IsTrue (S.tells shelf.new) →
+            HoldsFirst ask.now self.old (S.world shelf.old) → HoldsSome self.new (S.world shelf.new)) }
         ensures falls { OnOk result (weight self.new < weight self.old) }
         ensures keeps { OnOk result (IsTrue (S.tells shelf.new) → (t : Task) → t.rule ≡ O.rule operation.now →
             IsHandling t asking.now ask.now self.old (S.world shelf.old) →
             Advances t asking.now self.old (S.world shelf.old) self.new (S.world shelf.new)) }
         ensures ordered { OnOk result (IsTrue (S.tells shelf.new) →
             IsOrdered self.old (S.world shelf.old) → IsOrdered self.new (S.world shelf.new)) }
+        ensures damage { IfErr result (λ e. IsTrue (S.tells shelf.new) →
+            HoldsFirst ask.now self.old (S.world shelf.old) → IsMachineDamage self.new (S.world shelf.new) e) }
         ensures undamaged { IfErr result (λ e. IsTrue (S.tells shelf.new) → (t : Task) →
             IsHandling t asking.now ask.now self.old (S.world shelf.old) → IsNoDamage e) }
     {
@@ -210,17 +218,19 @@ impl<'r> Machine<'r> {
         requires wanted { want self.old.operands ask.now ≡ true }
         requires shown { shown self.old.queue ≡ Some ask.now }
         requires fit { IsFit S.tells S.world shelf.old self.old }
-        requires first { HoldsFirstAt S.tells S.world shelf.old self.old ask.now }
         ensures does { Does S.tells S.world S.faults 1 0 shelf.old shelf.new self.old self.new result }
         ensures fit { OnOk result (IsFit S.tells S.world shelf.new self.new) }
         ensures rest { self.new ≡ record self.old { operands = self.new.operands } }
-        ensures holds { OnOk result (HoldsAt S.tells S.world shelf.new self.new) }
+        ensures holds { OnOk result (IsTrue (S.tells shelf.new) →
+            HoldsFirst ask.now self.old (S.world shelf.old) → HoldsSome self.new (S.world shelf.new)) }
         ensures falls { OnOk result (unread self.new.operands < unread self.old.operands) }
         ensures keeps { OnOk result (IsTrue (S.tells shelf.new) → (t : Task) → (s : Asking) →
             IsHandling t s ask.now self.old (S.world shelf.old) →
             AdvancesAt t s self.old (S.world shelf.old) self.new (S.world shelf.new)) }
         ensures arcs { OnOk result (IsTrue (S.tells shelf.new) →
             KeepsArcs self.old (S.world shelf.old) self.new (S.world shelf.new)) }
+        ensures damage { IfErr result (λ e. IsTrue (S.tells shelf.new) →
+            HoldsFirst ask.now self.old (S.world shelf.old) → IsMachineDamage self.new (S.world shelf.new) e) }
         ensures undamaged { IfErr result (λ e. IsTrue (S.tells shelf.new) → (t : Task) → (s : Asking) →
             IsHandling t s ask.now self.old (S.world shelf.old) → IsNoDamage e) }
     {

@@ -15,7 +15,7 @@ impl<'r> Machine<'r> {
     ghost use Rattle.sweep_core.specs.declared.turn.Turn.TheVariants as turns;
     ghost use Rattle.top_down_sweep.specs.declared.place.Phase.TheVariants as phases;
     ghost use Rattle.top_down_sweep.specs.Sweeps.{IsSoundMachine};
-    ghost use Rattle.top_down_sweep.specs.Calls.{Does, IsFit, IsMachineInStep, HoldsAt};
+    ghost use Rattle.top_down_sweep.specs.Calls.{Does, IsFit, IsMachineInStep, IsMachineTrusted, KeepsAsks};
     ghost use Rattle.top_down_sweep.specs.Ordered.{HoldsOrdered};
     ghost use Rattle.std.specs.Prelude.{IfErr, ◌++◌, ◌||◌};
     ghost use Rattle.arc_file.specs.Files.{end_arcs};
@@ -27,8 +27,8 @@ impl<'r> Machine<'r> {
         requires fit { IsFit S.tells S.world shelf.old self.old }
         ensures does { Does S.tells S.world S.faults 1 0 shelf.old shelf.new self.old self.new result }
         ensures fit { OnOk result (IsFit S.tells S.world shelf.new self.new) }
-        ensures holds { HoldsAt S.tells S.world shelf.old self.old →
-            OnOk result (HoldsAt S.tells S.world shelf.new self.new) }
+        ensures holds { OnOk result (IsTrue (S.tells shelf.new) →
+            KeepsAsks self.old (S.world shelf.old) self.new (S.world shelf.new)) }
         ensures rest { self.new ≡ record self.old { writer = self.new.writer; has_one = self.new.has_one } }
         ensures one { self.new.has_one ≡ (self.old.has_one || leads_to_one arc) }
         ensures count { OnOk result
@@ -49,10 +49,11 @@ impl<'r> Machine<'r> {
     /// Makes the arcs stand in their files, as those of a diagram with that root, and ends.
     pub(crate) fn end<S: Shelf>(&mut self, root: Ptr, shelf: &mut S) -> Result<Turn, SortFault>
         requires fit { IsFit S.tells S.world shelf.old self.old }
-        requires ordered { IsTrue (S.tells shelf.old) → HoldsOrdered self.old.writer (S.world shelf.old) }
         ensures does { Does S.tells S.world S.faults 4 0 shelf.old shelf.new self.old self.new result }
         ensures sound { OnOk result (IsSoundMachine self.new) }
         ensures in_step { OnOk result (IsTrue (S.tells shelf.new) → IsMachineInStep self.new (S.world shelf.new)) }
+        ensures trusts { OnOk result (IsTrue (S.tells shelf.new) →
+            HoldsOrdered self.old.writer (S.world shelf.old) → IsMachineTrusted self.new (S.world shelf.new)) }
         ensures turn { IfOk result (λ turn. turn ≡ turns.Ended) }
         ensures one { self.new.has_one ≡ self.old.has_one }
         ensures made { OnOk result (self.new.place.phase ≡ phases.Ended (made_of self.new.writer root)) }

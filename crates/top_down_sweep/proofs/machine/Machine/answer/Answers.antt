@@ -16,7 +16,8 @@ use Rattle.top_down_sweep.proofs.FormsOf.{is_known, unknown_where}
 use Rattle.top_down_sweep.proofs.TurnKeeps.{known_works, new_works}
 use Rattle.level_queue.specs.Queues.{last_of}
 use Rattle.top_down_sweep.proofs.FuelLaws.{two_more}
-use Rattle.top_down_sweep.proofs.Holding.{first_at, first_fits, read_level}
+use Rattle.node_reading.proofs.NodeReading.{if_handed}
+use Rattle.top_down_sweep.proofs.Holding.{first_holds, first_fits, read_level, if_err_map}
 use Rattle.std.proofs.lemmas.Result.{on_ok_weaker}
 use Rattle.std.proofs.lemmas.Bool.{and_parts}
 use Rattle.top_down_sweep.specs.Waiting.{AreReadTo}
@@ -90,39 +91,62 @@ returns-in-Some-clause-phase g c = on_ok c.put_inner.result
     (ap (λ (m : Machine). m.place) c.put_inner.ensures.rest ∙ ap (λ (m : Machine). m.place)
     c.take.ensures.rest))
 
--- the ask is the first of those that wait
-pub take-requires-clause-holds : goal.take-requires-clause-holds
-take-requires-clause-holds g c = first_at g.S.Shelf.tells g.S.Shelf.world _ c.args.self.now
-    c.args.ask.now c.requires.first
-
+-- the ask is the first of those that wait, and the others wait after each call
 pub returns-in-Some-clause-holds : goal.returns-in-Some-clause-holds
-returns-in-Some-clause-holds g c = c.put_inner.ensures.holds c.in_ok-take.ensures.holds
+returns-in-Some-clause-holds g c = on_ok_weaker c.put_inner.result (λ holds told first.
+    holds told (c.in_ok-take.ensures.holds (c.put_inner.ensures.does.leaves.content.before told)
+    (first_holds c.args.ask.now c.args.self.now _ first))) c.put_inner.ensures.holds
 
 -- no operand was read past its level
-pub ask_side-requires-clause-read : goal.ask_side-requires-clause-read
-ask_side-requires-clause-read g c told =
-    let fits = first_fits c.args.ask.now c.args.self.now _
-    (c.requires.first (c.take.ensures.does.leaves.content.before
-    (c.number.ensures.does.leaves.content.before told))) in
+pub returns-clause-holds : goal.returns-clause-holds
+returns-clause-holds g c = on_ok_weaker c.ask_side-2.result (λ holds told first.
+    let after_low = c.ask_side-2.ensures.does.leaves.content.before told in
+    let after_number = c.ask_side.ensures.does.leaves.content.before after_low in
+    let after_take = c.number.ensures.does.leaves.content.before after_number in
     let same : c.number.new.self.operands ≡ c.args.self.now.operands = ap
     (λ (m : Machine). m.operands) c.number.ensures.rest ∙ ap (λ (m : Machine). m.operands)
     c.take.ensures.rest in
-    subst (λ (o : Operands). AreReadTo (level_of c.in_ok-uid.uid) o) (sym same)
-    (read_level c.args.self.now.operands c.args.ask.now (level_of c.in_ok-uid.uid)
-    c.in_ok-uid.ensures.level fits)
+    let read : AreReadTo (level_of c.in_ok-uid.uid) c.args.self.now.operands =
+    read_level c.args.self.now.operands c.args.ask.now (level_of c.in_ok-uid.uid)
+    c.in_ok-uid.ensures.level (first_fits c.args.ask.now c.args.self.now _ first) in
+    holds told (subst (λ (o : Operands). AreReadTo (level_of c.in_ok-uid.uid) o)
+    (sym (c.ask_side.ensures.operands ∙ same)) read)
+    (c.in_ok-ask_side.ensures.holds after_low
+    (subst (λ (o : Operands). AreReadTo (level_of c.in_ok-uid.uid) o) (sym same) read)
+    (c.in_ok-uid.ensures.holds after_number
+    (c.in_ok-take.ensures.holds after_take
+    (first_holds c.args.ask.now c.args.self.now _ first))))) c.ask_side-2.ensures.holds
 
-pub ask_side-requires-2-clause-read : goal.ask_side-requires-2-clause-read
-ask_side-requires-2-clause-read g c told =
-    let fits = first_fits c.args.ask.now c.args.self.now _
-    (c.requires.first (c.take.ensures.does.leaves.content.before
-    (c.number.ensures.does.leaves.content.before
-    (c.ask_side.ensures.does.leaves.content.before told)))) in
-    let same : c.ask_side.new.self.operands ≡ c.args.self.now.operands = c.ask_side.ensures.operands
-    ∙ ap (λ (m : Machine). m.operands) c.number.ensures.rest ∙ ap (λ (m : Machine). m.operands)
+-- and none of them finds damage
+pub returns-in_err-take-clause-undamaged : goal.returns-in_err-take-clause-undamaged
+returns-in_err-take-clause-undamaged g c = if_handed _ c.from_residual.result _
+    c.from_residual.ensures.1 (λ told first. c.in_err-take.ensures.undamaged told
+    (first_holds c.args.ask.now c.args.self.now _ first))
+
+pub returns-in_err-ask_side-clause-undamaged : goal.returns-in_err-ask_side-clause-undamaged
+returns-in_err-ask_side-clause-undamaged g c = if_handed _ c.from_residual-in_err-ask_side.result _
+    c.from_residual-in_err-ask_side.ensures.1 (λ told first.
+    let after_number = c.ask_side.ensures.does.leaves.content.before told in
+    let after_take = c.number.ensures.does.leaves.content.before after_number in
+    c.in_err-ask_side.ensures.undamaged told (c.in_ok-uid.ensures.holds after_number
+    (c.in_ok-take.ensures.holds after_take (first_holds c.args.ask.now c.args.self.now _ first))))
+
+pub returns-clause-undamaged : goal.returns-clause-undamaged
+returns-clause-undamaged g c = if_err_map c.ask_side-2.result (λ e none told first.
+    let after_low = c.ask_side-2.ensures.does.leaves.content.before told in
+    let after_number = c.ask_side.ensures.does.leaves.content.before after_low in
+    let after_take = c.number.ensures.does.leaves.content.before after_number in
+    let same : c.number.new.self.operands ≡ c.args.self.now.operands = ap
+    (λ (m : Machine). m.operands) c.number.ensures.rest ∙ ap (λ (m : Machine). m.operands)
     c.take.ensures.rest in
-    subst (λ (o : Operands). AreReadTo (level_of c.in_ok-uid.uid) o) (sym same)
-    (read_level c.args.self.now.operands c.args.ask.now (level_of c.in_ok-uid.uid)
-    c.in_ok-uid.ensures.level fits)
+    let read : AreReadTo (level_of c.in_ok-uid.uid) c.args.self.now.operands =
+    read_level c.args.self.now.operands c.args.ask.now (level_of c.in_ok-uid.uid)
+    c.in_ok-uid.ensures.level (first_fits c.args.ask.now c.args.self.now _ first) in
+    none told (c.in_ok-ask_side.ensures.holds after_low
+    (subst (λ (o : Operands). AreReadTo (level_of c.in_ok-uid.uid) o) (sym same) read)
+    (c.in_ok-uid.ensures.holds after_number
+    (c.in_ok-take.ensures.holds after_take
+    (first_holds c.args.ask.now c.args.self.now _ first))))) c.ask_side-2.ensures.undamaged
 
 -- and at most two were put
 pub returns-clause-load : goal.returns-clause-load

@@ -1,6 +1,7 @@
 use Rattle.top_down_sweep.specs.Meaning.{Contents}
 use Rattle.std.proofs.lemmas.Result.{on_ok_weaker}
-use Rattle.top_down_sweep.proofs.Holding.{first_at, first_fits, again_fits}
+use Rattle.node_reading.proofs.NodeReading.{if_handed}
+use Rattle.top_down_sweep.proofs.Holding.{first_holds, first_fits, again_fits, if_err_map}
 use Rattle.std.proofs.Common.{[], ◌∷◌, sym, subst, arith}
 use Rattle.top_down_sweep.specs.declared.ask.Ask.{Ask}
 use Rattle.top_down_sweep.specs.Waiting.{Fits}
@@ -14,18 +15,25 @@ returns-clause-does g c = then_more g.S.Shelf.tells g.S.Shelf.world g.S.Shelf.fa
     _ _ c.args.self.now c.take.new.self c.push.new.self c.take.result c.push.result
     (omega arith) (omega arith) c.take.ensures.does c.push.ensures.does
 
--- the ask is the first of those that wait
-pub take-requires-clause-holds : goal.take-requires-clause-holds
-take-requires-clause-holds g c = first_at g.S.Shelf.tells g.S.Shelf.world _ c.args.self.now
-    c.args.ask.now c.requires.first
-
--- it fits with the members that were read
-pub push-requires-clause-fits : goal.push-requires-clause-fits
-push-requires-clause-fits g c told = subst (λ (b : Ask). Fits c.take.new.self.operands b)
+-- it was the first of those that wait, and fits with the members that were read
+pub returns-clause-holds : goal.returns-clause-holds
+returns-clause-holds g c = on_ok_weaker c.push.result (λ holds told first.
+    holds told (subst (λ (b : Ask). Fits c.take.new.self.operands b)
     (sym c.new.ensures) (again_fits c.args.self.now c.take.new.self c.args.ask.now _
-    c.take.ensures.rest c.requires.later
-    (first_fits c.args.ask.now c.args.self.now _
-    (c.requires.first (c.take.ensures.does.leaves.content.before told))))
+    c.take.ensures.rest c.requires.later (first_fits c.args.ask.now c.args.self.now _ first)))
+    (c.in_ok-take.ensures.holds (c.push.ensures.does.leaves.content.before told)
+    (first_holds c.args.ask.now c.args.self.now _ first))) c.push.ensures.holds
+
+-- no damage is found
+pub returns-clause-undamaged : goal.returns-clause-undamaged
+returns-clause-undamaged g c = if_err_map c.push.result (λ e none told first. none told
+    (c.in_ok-take.ensures.holds (c.push.ensures.does.leaves.content.before told)
+    (first_holds c.args.ask.now c.args.self.now _ first))) c.push.ensures.undamaged
+
+pub returns-in_err-take-clause-undamaged : goal.returns-in_err-take-clause-undamaged
+returns-in_err-take-clause-undamaged g c = if_handed _ c.from_residual.result _
+    c.from_residual.ensures.1 (λ told first. c.in_err-take.ensures.undamaged told
+    (first_holds c.args.ask.now c.args.self.now _ first))
 
 -- it was the first one, and another one joins the others
 pub returns-clause-list : goal.returns-clause-list

@@ -7,7 +7,7 @@ use Rattle.top_down_sweep.specs.declared.place.Place.{Place}
 use Rattle.top_down_sweep.specs.declared.ask.Ask.{Ask}
 use Rattle.top_down_sweep.specs.declared.ask.Members.{Members}
 use Rattle.top_down_sweep.specs.Soundness.{is_sound}
-use Rattle.top_down_sweep.proofs.Holding.{fresh_fits}
+use Rattle.top_down_sweep.proofs.Holding.{fresh_fits, holds_placed, if_err_map}
 use Rattle.top_down_sweep.proofs.SoundAsks.{root_sound}
 use Rattle.std.specs.Prelude.{None}
 use Rattle.std.proofs.Common.{◌≡◌, true, [], ◌∷◌, refl, ◌∙◌, subst, sym, ap}
@@ -27,8 +27,23 @@ new-requires g c = subst (λ (m : Members). is_sound
     (root_sound c.args.tuple.now _ nobody c.in-Some.ensures.1 refl)
 
 -- it fits, since no node was read
-pub push-requires-clause-fits : goal.push-requires-clause-fits
-push-requires-clause-fits g c told = fresh_fits c.args.self.now.operands _ (c.requires.unread told)
+pub returns-clause-holds : goal.returns-clause-holds
+returns-clause-holds g c =
+    let m = c.args.self.now in
+    let place : Place = record m.place {
+      phase = phases.Asking (record { root = c.in-Some-of.root; last = None });
+    } in
+    on_ok_weaker c.push.result (λ holds told unread asks. holds told (fresh_fits m.operands _ unread)
+    (holds_placed m (record m { place = place }) place _ refl asks)) c.push.ensures.holds
+
+pub returns-clause-undamaged : goal.returns-clause-undamaged
+returns-clause-undamaged g c =
+    let m = c.args.self.now in
+    let place : Place = record m.place {
+      phase = phases.Asking (record { root = c.in-Some-of.root; last = None });
+    } in
+    if_err_map c.push.result (λ e none told asks. none told
+    (holds_placed m (record m { place = place }) place _ refl asks)) c.push.ensures.undamaged
 
 -- one ask more waits
 pub returns-clause-weight : goal.returns-clause-weight

@@ -26,11 +26,12 @@ push-requires-clause-order g c = subst (λ (a : Ask). IsNoLess ask_cmp (last_of 
     (side_deeper c.args.tuple.now _ _ c.in-Some.ensures.1 c.requires.deeper))
 
 -- it fits, since no operand was read past its source's level
-pub push-requires-clause-fits : goal.push-requires-clause-fits
-push-requires-clause-fits g c told = subst (λ (a : Ask). Fits c.args.self.now.operands a)
+pub returns-clause-holds : goal.returns-clause-holds
+returns-clause-holds g c = on_ok_weaker c.push.result (λ holds told read.
+    holds told (subst (λ (a : Ask). Fits c.args.self.now.operands a)
     (sym c.new.ensures) (deeper_fits c.args.self.now.operands (level_of c.args.source.uid) _
-    (side_deeper c.args.tuple.now _ _ c.in-Some.ensures.1 c.requires.deeper)
-    (c.requires.read told))
+    (side_deeper c.args.tuple.now _ _ c.in-Some.ensures.1 c.requires.deeper) read)))
+    c.push.ensures.holds
 
 -- it is the ask for the tuple
 pub returns-clause-list : goal.returns-clause-list

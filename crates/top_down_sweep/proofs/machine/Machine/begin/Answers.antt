@@ -1,10 +1,13 @@
 use Rattle.top_down_sweep.specs.declared.place.Phase.TheVariants as phases
 use Rattle.top_down.specs.Rules.{Rule}
-use Rattle.std.proofs.Common.{◌∙◌, sym, ap}
+use Rattle.std.proofs.Common.{◌∙◌, sym, ap, subst}
 use Rattle.list_laws.proofs.AnswerLaws.{on_ok_both}
 use Rattle.top_down_sweep.proofs.TurnKeeps.{works_remain, constant_remains, ended_left}
 use Rattle.top_down_sweep.proofs.FuelLaws.{end_falls}
 use Rattle.top_down_sweep.proofs.Orders.{none_ordered}
+use Rattle.top_down_sweep.proofs.Phases.{step_at, trusted_at}
+use Rattle.top_down_sweep.specs.Ordered.{IsOrderedAt}
+use Rattle.std.proofs.lemmas.Result.{on_ok_weaker}
 use Rattle.top_down_sweep.proofs.machine.Machine.begin.Goals as goal
 
 -- it is constant
@@ -13,9 +16,21 @@ returns-in-End-clause-falls g c = end_falls _ c.end.new.self _ c.end.result c.en
     c.end.ensures.made
 
 -- no arc was put
-pub end-requires-clause-ordered : goal.end-requires-clause-ordered
-end-requires-clause-ordered g c told = none_ordered c.args.self.now.writer
-    (g.S.Shelf.world c.args.shelf.now) (c.requires.unwritten told)
+pub returns-in-End-clause-trusts : goal.returns-in-End-clause-trusts
+returns-in-End-clause-trusts g c = on_ok_weaker c.end.result (λ trusts told fresh.
+    trusts told (none_ordered c.args.self.now.writer (g.S.Shelf.world c.args.shelf.now) fresh.2))
+    c.end.ensures.trusts
+
+-- the root's ask waits
+pub returns-in_ok-ask_first-in-Go-clause-in_step : goal.returns-in_ok-ask_first-in-Go-clause-in_step
+returns-in_ok-ask_first-in-Go-clause-in_step g c told = step_at c.ask_first.new.self _
+    c.in_ok-ask_first-in-Go.ensures.phase (c.in_ok-ask_first-in-Go.ensures.fit.at_work told)
+
+pub returns-in_ok-ask_first-in-Go-clause-trusts : goal.returns-in_ok-ask_first-in-Go-clause-trusts
+returns-in_ok-ask_first-in-Go-clause-trusts g c told fresh = trusted_at c.ask_first.new.self _
+    c.in_ok-ask_first-in-Go.ensures.phase (c.in_ok-ask_first-in-Go.ensures.holds told fresh.1 fresh.0)
+    (c.in_ok-ask_first-in-Go.ensures.ordered told (subst (λ p. IsOrderedAt p c.args.self.now
+    (g.S.Shelf.world c.args.shelf.now)) (sym c.requires.phase) fresh.2))
 
 -- then that truth value is a diagram of the task's table
 pub returns-in-End-clause-keeps : goal.returns-in-End-clause-keeps

@@ -1,8 +1,6 @@
 use Rattle.top_down_sweep.specs.Meaning.{AreFilesOf}
 use Rattle.arc_file.specs.declared.unreduced.Unreduced.{Unreduced}
 use Rattle.std.proofs.Common.{◌∙◌, sym, subst, refl, rules}
-use Rattle.shelf_model.specs.World.{file}
-use Rattle.sweep_core.specs.Sweeps.{IsFirm}
 use Rattle.top_down_sweep.proofs.Doing.{does_wrote}
 use Rattle.top_down_sweep.proofs.machine.Machine.end.Goals as goal
 
@@ -25,18 +23,13 @@ returns-clause-files g c told k stands =
     (c.in_ok-made.ensures.made ∙ sym c.in_ok-made.ensures.counts)
     (record { inner_file = held.1; ends_file = held.2 })
 
--- they stay, and are in order
-pub returns-clause-in_step : goal.returns-clause-in_step
-returns-clause-in_step g c told =
-    let o = c.requires.ordered (c.settle.ensures.content.before told) in
+-- they stay, and where they were in order they are so
+pub returns-clause-trusts : goal.returns-clause-trusts
+returns-clause-trusts g c told o =
     let held = c.in_ok-made.ensures.arcs told o.inner o.ends o.held in
-    let same = c.in_ok-made.ensures.made ∙ sym c.in_ok-made.ensures.counts in (
-      subst (λ (made : Unreduced). IsFirm (file (g.S.Shelf.world c.settle.new.shelf) made.inner)) same held.1.firm,
-      subst (λ (made : Unreduced). IsFirm (file (g.S.Shelf.world c.settle.new.shelf) made.ends)) same held.2.firm,
-      record {
-        inner = o.inner;
-        ends = o.ends;
-        inner_has = record { begin = held.1.begin; lead = o.inner_lead; ordered = o.inner_order };
-        ends_has = record { begin = held.2.begin; lead = o.ends_lead; ordered = o.ends_order };
-      },
-    )
+    record {
+      inner = o.inner;
+      ends = o.ends;
+      inner_has = record { begin = held.1.begin; lead = o.inner_lead; ordered = o.inner_order };
+      ends_has = record { begin = held.2.begin; lead = o.ends_lead; ordered = o.ends_order };
+    }

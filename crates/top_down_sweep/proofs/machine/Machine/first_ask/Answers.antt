@@ -14,7 +14,7 @@ returns-clause-does g c =
     c.peek.result served c.peek.ensures.content
     (λ told. let paid = c.peek.ensures.calls told in omega (arith, paid))
     c.peek.ensures.spent c.peek.ensures.faults (c.peek.ensures.serves c.args.self.now.parts served.serves)
-    c.peek.ensures.values c.peek.ensures.cause c.peek.ensures.list c.requires.holds
+    c.peek.ensures.values c.peek.ensures.cause
 
 -- the ask that is answered is a value that isn't less than the last one taken, and is shown
 pub returns-clause-shown : goal.returns-clause-shown
@@ -25,7 +25,7 @@ returns-clause-shown g c = first_shown _ _ c.peek.result c.peek.ensures.last c.p
 pub returns-clause-holds : goal.returns-clause-holds
 returns-clause-holds g c = shown_at g.S.Shelf.tells g.S.Shelf.world _ _ c.args.self.now
     c.peek.new.self c.peek.result c.requires.fit.sound.operands c.peek.ensures.content
-    c.peek.ensures.list c.peek.ensures.runs c.requires.holds
+    c.peek.ensures.list c.peek.ensures.runs
 
 -- the lists that it stands for stay
 pub returns-clause-list : goal.returns-clause-list
@@ -39,5 +39,4 @@ returns-clause-arcs g c = on_ok c.peek.result (λ told. arcs_shown c.args.self.n
 
 pub returns-clause-undamaged : goal.returns-clause-undamaged
 returns-clause-undamaged g c = shows_undamaged g.S.Shelf.tells g.S.Shelf.world _ _
-    c.args.self.now c.peek.new.self c.peek.result c.peek.ensures.content c.peek.ensures.list
-    c.requires.holds
+    c.args.self.now c.peek.new.self c.peek.result c.peek.ensures.list

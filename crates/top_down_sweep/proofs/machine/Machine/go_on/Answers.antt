@@ -3,14 +3,18 @@ use Rattle.node_reading.proofs.NodeReading.{if_handed}
 use Rattle.list_laws.proofs.AnswerLaws.{on_ok_both}
 use Rattle.top_down_sweep.specs.Changes.{ShowsAsk}
 use Rattle.top_down_sweep.proofs.TurnKeeps.{handling, works_remain, ended_remains, fewer_since, ended_left}
-use Rattle.top_down_sweep.proofs.Phases.{step_at}
+use Rattle.top_down_sweep.proofs.Phases.{step_at, trusted_at}
 use Rattle.top_down_sweep.proofs.Orders.{put_at, put_kept, put_ordered}
 use Rattle.top_down_sweep.specs.declared.machine.Machine.{Machine}
 use Rattle.std.proofs.Common.{◌∙◌, ap, sym, subst, arith}
-use Rattle.std.specs.Prelude.{Some, IfSome}
-use Rattle.top_down_sweep.specs.Calls.{IsFirst, HoldsFirstAt}
+use Rattle.std.specs.Prelude.{Some, IfSome, IsTrue}
+use Rattle.top_down_sweep.specs.Calls.{IsFirst}
+use Rattle.top_down_sweep.specs.Waiting.{HoldsSome, HoldsFirst}
+use Rattle.top_down_sweep.specs.Trusting.{working_holds}
+use Rattle.top_down_sweep.proofs.Holding.{if_err_map}
+use Rattle.std.proofs.lemmas.Result.{on_ok_weaker}
 use Rattle.top_down_sweep.proofs.FuelLaws.{end_falls, handle_falls}
-use Rattle.top_down_sweep.proofs.Doing.{then_more, then_ok, refused_second}
+use Rattle.top_down_sweep.proofs.Doing.{then_more, then_ok, refused_second, no_damage}
 use Rattle.top_down_sweep.proofs.machine.Machine.go_on.Goals as goal
 
 -- there is no ask
@@ -50,33 +54,57 @@ returns-clause-falls g c = handle_falls c.args.self.now c.first_ask.new.self c.h
     c.requires.phase c.in_ok-handle.ensures.phase c.first_ask.ensures.rest c.first_ask.ensures.last
     c.in_ok-first.ensures.load c.in_ok-handle.ensures.falls
 
--- it is the first of those that wait
-pub handle-requires-clause-first : goal.handle-requires-clause-first
-handle-requires-clause-first g c = subst (λ found. IfSome found
-    (HoldsFirstAt g.S.Shelf.tells g.S.Shelf.world c.first_ask.new.shelf c.first_ask.new.self))
-    (c.in-Some.is ∙ ap Some (sym c.ask.ensures.value)) c.in_ok-first.ensures.holds
-
+-- the files of arcs end behind those that were put
 pub returns-clause-in_step : goal.returns-clause-in_step
-returns-clause-in_step g c told =
+returns-clause-in_step g c told = step_at c.handle.new.self _ c.in_ok-handle.ensures.phase
+    (c.in_ok-handle.ensures.fit.at_work told)
+
+-- the ask is the first of those that wait, and the arcs that were put are in order
+pub returns-clause-trusts : goal.returns-clause-trusts
+returns-clause-trusts g c told (holds, put) =
     let mid = c.handle.ensures.does.leaves.content.before told in
     let s = c.args.asking.now in
-    step_at c.handle.new.self _ c.in_ok-handle.ensures.phase
-    (c.in_ok-handle.ensures.fit.at_work told) (c.in_ok-handle.ensures.holds told)
+    let old = g.S.Shelf.world c.args.shelf.now in
+    let first : HoldsFirst c.ask.result c.first_ask.new.self (g.S.Shelf.world c.first_ask.new.shelf) =
+    subst (λ found. IfSome found (λ a. IsTrue (g.S.Shelf.tells c.first_ask.new.shelf)
+    → HoldsSome c.args.self.now old
+    → HoldsFirst a c.first_ask.new.self (g.S.Shelf.world c.first_ask.new.shelf)))
+    (c.in-Some.is ∙ ap Some (sym c.ask.ensures.value)) c.in_ok-first.ensures.holds mid holds in
+    trusted_at c.handle.new.self _ c.in_ok-handle.ensures.phase
+    (c.in_ok-handle.ensures.holds told first)
     (c.in_ok-handle.ensures.ordered told (put_at c.first_ask.new.self
     (g.S.Shelf.world c.first_ask.new.shelf) s
     (ap (λ (m : Machine). m.place.phase) c.first_ask.ensures.rest ∙ c.requires.phase)
-    (put_kept s c.args.self.now c.first_ask.new.self (g.S.Shelf.world c.args.shelf.now)
+    (put_kept s c.args.self.now c.first_ask.new.self old
     (g.S.Shelf.world c.first_ask.new.shelf) c.first_ask.ensures.last (c.in_ok-first.ensures.arcs mid)
-    (c.requires.put (c.first_ask.ensures.does.leaves.content.before mid)))))
+    put)))
 
--- the arcs that were put are in order
-pub end-requires-clause-ordered : goal.end-requires-clause-ordered
-end-requires-clause-ordered g c mid =
+pub returns-in_default-clause-trusts : goal.returns-in_default-clause-trusts
+returns-in_default-clause-trusts g c = on_ok_weaker c.end.result (λ trusts told both.
+    let mid = c.end.ensures.does.leaves.content.before told in
     let s = c.args.asking.now in
-    put_ordered s c.first_ask.new.self (g.S.Shelf.world c.first_ask.new.shelf)
+    trusts told (put_ordered s c.first_ask.new.self (g.S.Shelf.world c.first_ask.new.shelf)
     (put_kept s c.args.self.now c.first_ask.new.self (g.S.Shelf.world c.args.shelf.now)
     (g.S.Shelf.world c.first_ask.new.shelf) c.first_ask.ensures.last (c.in_ok-first.ensures.arcs mid)
-    (c.requires.put (c.first_ask.ensures.does.leaves.content.before mid)))
+    both.1))) c.end.ensures.trusts
+
+-- damage is that of an operand where the ask is handled, and else there is none
+pub returns-in_err-first-clause-damage : goal.returns-in_err-first-clause-damage
+returns-in_err-first-clause-damage g c = if_handed _ c.from_residual.result _ c.from_residual.ensures.1
+    (λ told holds. no_damage _ _ _ (c.in_err-first.ensures.undamaged told holds))
+
+pub returns-in_default-clause-damage : goal.returns-in_default-clause-damage
+returns-in_default-clause-damage g c = if_err_map c.end.result
+    (λ e none told holds. no_damage _ _ e none) c.end.ensures.undamaged
+
+pub returns-in_err-handle-clause-damage : goal.returns-in_err-handle-clause-damage
+returns-in_err-handle-clause-damage g c = if_handed _ c.from_residual-in_err-handle.result _
+    c.from_residual-in_err-handle.ensures.1 (λ told holds. c.in_err-handle.ensures.damage told
+    (subst (λ found. IfSome found (λ a. IsTrue (g.S.Shelf.tells c.first_ask.new.shelf)
+    → HoldsSome c.args.self.now (g.S.Shelf.world c.args.shelf.now)
+    → HoldsFirst a c.first_ask.new.self (g.S.Shelf.world c.first_ask.new.shelf)))
+    (c.in-Some.is ∙ ap Some (sym c.ask.ensures.value)) c.in_ok-first.ensures.holds
+    (c.handle.ensures.does.leaves.content.before told) holds))
 
 -- where no ask is left, what was put is of the task
 pub returns-in_default-clause-keeps : goal.returns-in_default-clause-keeps
@@ -118,7 +146,12 @@ returns-in_default-clause-fewer g c told t rule h = ended_left t (phases.Asking 
     c.args.self.now c.end.new.self (g.S.Shelf.world c.args.shelf.now)
     (g.S.Shelf.world c.end.new.shelf) c.end.result c.end.ensures.turn _ c.end.ensures.made
 
--- no damage is found
+-- where something of a task remains no damage is found
+pub returns-in_err-first-clause-undamaged : goal.returns-in_err-first-clause-undamaged
+returns-in_err-first-clause-undamaged g c = if_handed _ c.from_residual.result _
+    c.from_residual.ensures.1 (λ told t h. c.in_err-first.ensures.undamaged told
+    (working_holds t c.args.asking.now c.args.self.now _ h))
+
 pub returns-in_err-handle-clause-undamaged : goal.returns-in_err-handle-clause-undamaged
 returns-in_err-handle-clause-undamaged g c = if_handed _ c.from_residual-in_err-handle.result _
     c.from_residual-in_err-handle.ensures.1 (λ told t h. c.in_err-handle.ensures.undamaged told t

@@ -1,5 +1,6 @@
 use Rattle.list_laws.proofs.AnswerLaws.{on_ok_both}
-use Rattle.top_down_sweep.proofs.Holding.{if_err_map, first_at}
+use Rattle.top_down_sweep.proofs.Holding.{if_err_map, first_holds}
+use Rattle.top_down_sweep.specs.Trusting.{handling_holds}
 use Rattle.top_down_sweep.proofs.TurnKeeps.{again_works, advances_at}
 use Rattle.top_down_sweep.proofs.Orders.{put_of, put_at, put_kept, put_later}
 use Rattle.level_queue.specs.Queues.{last_of}
@@ -13,7 +14,7 @@ use Rattle.std.proofs.lemmas.Bool.{and_parts}
 use Rattle.rec_words.specs.Words.{IsNodeWord}
 use Rattle.top_down_laws.specs.Forms.{least}
 use Rattle.top_down_sweep.specs.Members.{IsResolved, all_waiting}
-use Rattle.top_down_sweep.proofs.Doing.{does_more, on_ok}
+use Rattle.top_down_sweep.proofs.Doing.{does_more, no_damage, on_ok}
 use Rattle.top_down_sweep.proofs.Phases.{still_asking}
 use Rattle.top_down_sweep.proofs.FuelLaws.{falls_known, falls_taken, first_behind, no_more_waits, fewer_waits}
 use Rattle.top_down_sweep.specs.declared.machine.Machine.{Machine}
@@ -92,9 +93,31 @@ returns-in-None-clause-falls g c = falls_taken c.args.self.now c.answer.new.self
     c.answer.ensures.operands c.answer.ensures.load c.answer.ensures.last
 
 -- the ask is the first of those that wait
-pub take-requires-clause-holds : goal.take-requires-clause-holds
-take-requires-clause-holds g c = first_at g.S.Shelf.tells g.S.Shelf.world _ c.args.self.now
-    c.args.ask.now c.requires.first
+pub returns-then-took_last-clause-holds : goal.returns-then-took_last-clause-holds
+returns-then-took_last-clause-holds g c = on_ok_weaker c.take.result (λ holds told first.
+    holds told (first_holds c.args.ask.now c.args.self.now _ first)) c.take.ensures.holds
+
+pub returns-then-not-is_due-clause-holds : goal.returns-then-not-is_due-clause-holds
+returns-then-not-is_due-clause-holds g c = on_ok_weaker c.take-then-not-is_due.result (λ holds told first.
+    holds told (first_holds c.args.ask.now c.args.self.now _ first)) c.take-then-not-is_due.ensures.holds
+
+-- damage is that of an operand where the next node is read, and else there is none
+pub returns-then-took_last-clause-damage : goal.returns-then-took_last-clause-damage
+returns-then-took_last-clause-damage g c = if_err_map c.take.result (λ e none told first. no_damage _ _ e
+    (none told (first_holds c.args.ask.now c.args.self.now _ first))) c.take.ensures.undamaged
+
+pub returns-then-not-is_due-clause-damage : goal.returns-then-not-is_due-clause-damage
+returns-then-not-is_due-clause-damage g c = if_err_map c.take-then-not-is_due.result
+    (λ e none told first. no_damage _ _ e (none told
+    (first_holds c.args.ask.now c.args.self.now _ first))) c.take-then-not-is_due.ensures.undamaged
+
+pub returns-in-Some-clause-damage : goal.returns-in-Some-clause-damage
+returns-in-Some-clause-damage g c = if_err_map c.ask_again.result
+    (λ e none told first. no_damage _ _ e (none told first)) c.ask_again.ensures.undamaged
+
+pub returns-in-None-clause-damage : goal.returns-in-None-clause-damage
+returns-in-None-clause-damage g c = if_err_map c.answer.result
+    (λ e none told first. no_damage _ _ e (none told first)) c.answer.ensures.undamaged
 
 pub read_wanted-requires-clause-wanted : goal.read_wanted-requires-clause-wanted
 read_wanted-requires-clause-wanted g c = sym c.want.ensures ∙ c.if-want.true
@@ -202,19 +225,24 @@ returns-in-Some-clause-ordered g c = on_ok_both c.ask_again.result (λ last keep
 
 -- where something of a task remains no damage is found
 pub returns-then-took_last-clause-undamaged : goal.returns-then-took_last-clause-undamaged
-returns-then-took_last-clause-undamaged g c =
-    if_err_map c.take.result (λ e none told t h. none told) c.take.ensures.undamaged
+returns-then-took_last-clause-undamaged g c = if_err_map c.take.result (λ e none told t h. none told
+    (first_holds c.args.ask.now c.args.self.now _
+    (handling_holds t c.args.asking.now c.args.ask.now c.args.self.now _ h))) c.take.ensures.undamaged
 
 pub returns-then-not-is_due-clause-undamaged : goal.returns-then-not-is_due-clause-undamaged
-returns-then-not-is_due-clause-undamaged g c =
-    if_err_map c.take-then-not-is_due.result (λ e none told t h. none told)
+returns-then-not-is_due-clause-undamaged g c = if_err_map c.take-then-not-is_due.result
+    (λ e none told t h. none told (first_holds c.args.ask.now c.args.self.now _
+    (handling_holds t c.args.asking.now c.args.ask.now c.args.self.now _ h)))
     c.take-then-not-is_due.ensures.undamaged
 
 pub returns-then-want-clause-undamaged : goal.returns-then-want-clause-undamaged
-returns-then-want-clause-undamaged g c = if_err_map c.read_wanted.result (λ e none told t h. none told t c.args.asking.now h) c.read_wanted.ensures.undamaged
+returns-then-want-clause-undamaged g c = if_err_map c.read_wanted.result
+    (λ e none told t h. none told t c.args.asking.now h) c.read_wanted.ensures.undamaged
 
 pub returns-in-Some-clause-undamaged : goal.returns-in-Some-clause-undamaged
-returns-in-Some-clause-undamaged g c = if_err_map c.ask_again.result (λ e none told t h. none told) c.ask_again.ensures.undamaged
+returns-in-Some-clause-undamaged g c = if_err_map c.ask_again.result (λ e none told t h. none told
+    (handling_holds t c.args.asking.now c.args.ask.now c.args.self.now _ h)) c.ask_again.ensures.undamaged
 
 pub returns-in-None-clause-undamaged : goal.returns-in-None-clause-undamaged
-returns-in-None-clause-undamaged g c = if_err_map c.answer.result (λ e none told t h. none told) c.answer.ensures.undamaged
+returns-in-None-clause-undamaged g c = if_err_map c.answer.result (λ e none told t h. none told
+    (handling_holds t c.args.asking.now c.args.ask.now c.args.self.now _ h)) c.answer.ensures.undamaged

@@ -5,7 +5,7 @@ use Rattle.top_down_sweep.specs.declared.place.Phase.TheVariants as phases
 use Rattle.top_down_laws.specs.Remains.{answer_arcs}
 use Rattle.std.specs.Prelude.{Some}
 use Rattle.std.proofs.Common.{ℕ, ◌++◌, ◌≡◌, ◌≤◌, ◌<◌, ◌∙◌, ap, sym, subst, arith, refl}
-use Rattle.top_down_sweep.proofs.Holding.{placed_at}
+use Rattle.top_down_sweep.proofs.Holding.{holds_placed}
 use Rattle.rec_words.specs.Words.{level_of, level_numbers}
 use Rattle.arc_file.specs.Writers.{inner_count, HoldsArcs}
 use Rattle.top_down_sweep.specs.declared.place.Numbered.{Numbered}
@@ -54,8 +54,8 @@ returns-clause-level g c =
 
 -- asks wait as before
 pub returns-clause-holds : goal.returns-clause-holds
-returns-clause-holds g c = placed_at g.S.Shelf.tells g.S.Shelf.world _ c.put_inner.new.self _ _
-    refl (c.in_ok-put_inner.ensures.holds c.requires.holds)
+returns-clause-holds g c told holds = holds_placed c.put_inner.new.self _ _ _ refl
+    (c.in_ok-put_inner.ensures.holds told holds)
 
 -- it is the tuple that was numbered last
 pub returns-clause-placed : goal.returns-clause-placed

@@ -9,9 +9,9 @@ use Rattle.top_down_sweep.proofs.machine.Machine.push.Goals as goal
 -- only files of parts that were taken changed
 pub returns-clause-does : goal.returns-clause-does
 returns-clause-does g c = does_put g.S.Shelf.tells g.S.Shelf.world g.S.Shelf.faults 48 3 _ _
-    c.args.self.now c.push.new.self c.push.new.parts c.args.ask c.push.result c.requires.fit.sound.served
+    c.args.self.now c.push.new.self c.push.new.parts c.push.result c.requires.fit.sound.served
     c.push.ensures.content (λ told. c.push.ensures.calls told) c.push.ensures.parts
-    c.push.ensures.spent c.push.ensures.faults c.push.ensures.cause c.push.ensures.list c.requires.holds
+    c.push.ensures.spent c.push.ensures.faults c.push.ensures.cause
 
 -- it waits too
 pub returns-clause-holds : goal.returns-clause-holds
@@ -19,7 +19,6 @@ returns-clause-holds g c = put_at g.S.Shelf.tells g.S.Shelf.world _ _ c.args.sel
     c.push.new.self c.push.new.parts c.args.ask c.push.result c.requires.fit.sound.served
     c.requires.fit.sound.operands
     c.push.ensures.content c.push.ensures.parts c.push.ensures.runs c.push.ensures.list
-    c.requires.fits c.requires.holds
 
 pub returns-clause-fit : goal.returns-clause-fit
 returns-clause-fit g c =
@@ -52,4 +51,4 @@ returns-clause-arcs g c = on_ok c.push.result (λ told. arcs_spilled c.args.self
 pub returns-clause-undamaged : goal.returns-clause-undamaged
 returns-clause-undamaged g c = joins_undamaged g.S.Shelf.tells g.S.Shelf.world _ _
     c.args.self.now c.push.new.self c.push.new.parts c.push.ensures.content c.args.ask
-    c.push.result c.push.ensures.list c.requires.holds
+    c.push.result c.push.ensures.list

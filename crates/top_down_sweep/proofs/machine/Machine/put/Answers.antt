@@ -21,7 +21,7 @@ returns-clause-does g c = does_wrote g.S.Shelf.tells g.S.Shelf.world g.S.Shelf.f
 
 -- asks wait as before
 pub returns-clause-holds : goal.returns-clause-holds
-returns-clause-holds g c holds = written_at g.S.Shelf.tells g.S.Shelf.world 1 _ _
+returns-clause-holds g c = written_at g.S.Shelf.tells g.S.Shelf.world 1 _ _
     c.args.self.now _ refl
     (λ j. record {
       first = c.args.self.now.operands.first.file;
@@ -29,7 +29,7 @@ returns-clause-holds g c holds = written_at g.S.Shelf.tells g.S.Shelf.world 1 _ 
       third = c.args.self.now.operands.third.file;
       inner = c.put.ensures.same.inner_is j;
       ends = c.put.ensures.same.ends_are j;
-    }) c.requires.fit.sound.operands c.put.ensures.content holds
+    }) c.requires.fit.sound.operands c.put.ensures.content
 
 -- it is known whether one leads to 1
 pub returns-clause-one : goal.returns-clause-one

@@ -13,21 +13,22 @@ use Rattle.top_down_sweep.proofs.machine.Machine.read_wanted.Goals as goal
 pub returns-then-wants-clause-does : goal.returns-then-wants-clause-does
 returns-then-wants-clause-does g c =
     let s = c.args.self.now in
-    let o = s.operands.first in
-    let are = c.requires.fit.sound.operands in
-    let asked : wants c.args.ask.now.key o.hand c.args.ask.now.members.first ≡ true = sym
-    c.wants.ensures ∙ c.if-wants.true in
     does_looked g.S.Shelf.tells g.S.Shelf.world g.S.Shelf.faults 1 _ _ s _ c.read.result
     (first_files s c.read.new.self c.read.ensures.file) c.read.ensures.content
     c.read.ensures.faults (search rules)
-    (if_err_map c.read.result (λ e damaged told. first_damage s c.read.new.self c.args.ask.now _ e
-    c.read.ensures.file c.requires.shown (wanted_is o.hand c.args.ask.now.key
-    c.args.ask.now.members.first asked)
-    (λ apart.
-    let before = c.read.ensures.content.before told in
-    damaged told s.place.variables are.first ((c.requires.first before).1.reading apart).first
-    (behind_hand o c.args.ask.now.key c.args.ask.now.members.first asked
-    (first_fits c.args.ask.now s _ (c.requires.first before)).first))) c.read.ensures.damaged)
+
+pub returns-then-wants-clause-damage : goal.returns-then-wants-clause-damage
+returns-then-wants-clause-damage g c =
+    let s = c.args.self.now in
+    let a = c.args.ask.now in
+    let o = s.operands.first in
+    let asked : wants a.key o.hand a.members.first ≡ true = sym c.wants.ensures ∙ c.if-wants.true in
+    if_err_map c.read.result (λ e damaged told first. first_damage s c.read.new.self a _ e
+    c.read.ensures.file c.requires.shown (wanted_is o.hand a.key a.members.first asked)
+    (λ apart. damaged told s.place.variables c.requires.fit.sound.operands.first
+    (first.1.reading apart).first
+    (behind_hand o a.key a.members.first asked (first_fits a s _ first).first)))
+    c.read.ensures.damaged
 
 pub returns-then-wants-clause-holds : goal.returns-then-wants-clause-holds
 returns-then-wants-clause-holds g c =
@@ -38,29 +39,30 @@ returns-then-wants-clause-holds g c =
     (λ told reading. on_ok_weaker c.read.result
     (λ reads. reads told s.place.variables are.first reading) c.read.ensures.reads)
     (λ told. (c.read.ensures.content.did told).run)
-    (λ told. c.requires.first (c.read.ensures.content.before told))
 
 -- the second operand's next node
 pub returns-then-wants-2-clause-does : goal.returns-then-wants-2-clause-does
 returns-then-wants-2-clause-does g c =
     let s = c.args.self.now in
-    let o = s.operands.second in
-    let are = c.requires.fit.sound.operands in
-    let asked : wants c.args.ask.now.key o.hand c.args.ask.now.members.second ≡ true = sym
-    c.wants-2.ensures ∙ c.if-wants-2.true in
     does_looked g.S.Shelf.tells g.S.Shelf.world g.S.Shelf.faults 1 _ _ s _
     c.read-then-wants-2.result (second_files s c.read-then-wants-2.new.self
     c.read-then-wants-2.ensures.file) c.read-then-wants-2.ensures.content
     c.read-then-wants-2.ensures.faults (search rules)
-    (if_err_map c.read-then-wants-2.result (λ e damaged told. second_damage s
-    c.read-then-wants-2.new.self c.args.ask.now _ e c.read-then-wants-2.ensures.file
-    c.requires.shown (wanted_is o.hand c.args.ask.now.key c.args.ask.now.members.second asked)
-    (λ apart.
-    let before = c.read-then-wants-2.ensures.content.before told in
-    damaged told s.place.variables are.second ((c.requires.first before).1.reading apart).second
-    (behind_hand o c.args.ask.now.key c.args.ask.now.members.second asked
-    (first_fits c.args.ask.now s _ (c.requires.first before)).second)))
-    c.read-then-wants-2.ensures.damaged)
+
+pub returns-then-wants-2-clause-damage : goal.returns-then-wants-2-clause-damage
+returns-then-wants-2-clause-damage g c =
+    let s = c.args.self.now in
+    let a = c.args.ask.now in
+    let o = s.operands.second in
+    let asked : wants a.key o.hand a.members.second ≡ true = sym c.wants-2.ensures
+    ∙ c.if-wants-2.true in
+    if_err_map c.read-then-wants-2.result (λ e damaged told first. second_damage s
+    c.read-then-wants-2.new.self a _ e c.read-then-wants-2.ensures.file
+    c.requires.shown (wanted_is o.hand a.key a.members.second asked)
+    (λ apart. damaged told s.place.variables c.requires.fit.sound.operands.second
+    (first.1.reading apart).second
+    (behind_hand o a.key a.members.second asked (first_fits a s _ first).second)))
+    c.read-then-wants-2.ensures.damaged
 
 pub returns-then-wants-2-clause-holds : goal.returns-then-wants-2-clause-holds
 returns-then-wants-2-clause-holds g c =
@@ -72,28 +74,29 @@ returns-then-wants-2-clause-holds g c =
     (λ reads. reads told s.place.variables are.second reading)
     c.read-then-wants-2.ensures.reads)
     (λ told. (c.read-then-wants-2.ensures.content.did told).run)
-    (λ told. c.requires.first (c.read-then-wants-2.ensures.content.before told))
 
 -- the third operand's next node
 pub returns-clause-does : goal.returns-clause-does
 returns-clause-does g c =
     let s = c.args.self.now in
-    let o = s.operands.third in
-    let are = c.requires.fit.sound.operands in
-    let asked : wants c.args.ask.now.key o.hand c.args.ask.now.members.third ≡ true = third_wanted _
-    _ _ (sym c.wants.ensures ∙ c.if-wants.false) (sym c.wants-2.ensures ∙ c.if-wants-2.false)
-    c.requires.wanted in
     does_looked g.S.Shelf.tells g.S.Shelf.world g.S.Shelf.faults 1 _ _ s _ c.read-2.result
     (third_files s c.read-2.new.self c.read-2.ensures.file) c.read-2.ensures.content
     c.read-2.ensures.faults (search rules)
-    (if_err_map c.read-2.result (λ e damaged told. third_damage s c.read-2.new.self c.args.ask.now _
-    e c.read-2.ensures.file c.requires.shown
-    (wanted_is o.hand c.args.ask.now.key c.args.ask.now.members.third asked)
-    (λ apart.
-    let before = c.read-2.ensures.content.before told in
-    damaged told s.place.variables are.third ((c.requires.first before).1.reading apart).third
-    (behind_hand o c.args.ask.now.key c.args.ask.now.members.third asked
-    (first_fits c.args.ask.now s _ (c.requires.first before)).third))) c.read-2.ensures.damaged)
+
+pub returns-clause-damage : goal.returns-clause-damage
+returns-clause-damage g c =
+    let s = c.args.self.now in
+    let a = c.args.ask.now in
+    let o = s.operands.third in
+    let asked : wants a.key o.hand a.members.third ≡ true = third_wanted _
+    _ _ (sym c.wants.ensures ∙ c.if-wants.false) (sym c.wants-2.ensures ∙ c.if-wants-2.false)
+    c.requires.wanted in
+    if_err_map c.read-2.result (λ e damaged told first. third_damage s c.read-2.new.self a _
+    e c.read-2.ensures.file c.requires.shown (wanted_is o.hand a.key a.members.third asked)
+    (λ apart. damaged told s.place.variables c.requires.fit.sound.operands.third
+    (first.1.reading apart).third
+    (behind_hand o a.key a.members.third asked (first_fits a s _ first).third)))
+    c.read-2.ensures.damaged
 
 pub returns-clause-holds : goal.returns-clause-holds
 returns-clause-holds g c =
@@ -104,7 +107,6 @@ returns-clause-holds g c =
     (λ told reading. on_ok_weaker c.read-2.result
     (λ reads. reads told s.place.variables are.third reading) c.read-2.ensures.reads)
     (λ told. (c.read-2.ensures.content.did told).run)
-    (λ told. c.requires.first (c.read-2.ensures.content.before told))
 
 -- the files of arcs stay
 pub returns-then-wants-clause-arcs : goal.returns-then-wants-clause-arcs

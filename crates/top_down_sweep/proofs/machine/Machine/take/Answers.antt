@@ -17,7 +17,7 @@ returns-clause-does g c = does_ok g.S.Shelf.tells g.S.Shelf.world g.S.Shelf.faul
     c.args.self.now c.take.new.self c.take.new.parts c.take.result c.requires.fit.sound.served
     c.take.ensures.content (λ told. c.take.ensures.calls told) c.take.ensures.parts
     c.take.ensures.spent c.take.ensures.faults c.take.ensures.serves c.take.ensures.values
-    c.take.ensures.cause c.take.ensures.list c.requires.holds)
+    c.take.ensures.cause)
 
 pub returns-in_err-take-clause-does : goal.returns-in_err-take-clause-does
 returns-in_err-take-clause-does g c = does_err g.S.Shelf.tells g.S.Shelf.world g.S.Shelf.faults 8 0 _ _ _ _
@@ -26,7 +26,7 @@ returns-in_err-take-clause-does g c = does_err g.S.Shelf.tells g.S.Shelf.world g
     c.args.self.now c.take.new.self c.take.new.parts c.take.result c.requires.fit.sound.served
     c.take.ensures.content (λ told. c.take.ensures.calls told) c.take.ensures.parts
     c.take.ensures.spent c.take.ensures.faults c.take.ensures.serves c.take.ensures.values
-    c.take.ensures.cause c.take.ensures.list c.requires.holds)
+    c.take.ensures.cause)
 
 -- one ask less waits
 pub returns-clause-load : goal.returns-clause-load
@@ -57,7 +57,6 @@ returns-clause-holds g c = taken_at g.S.Shelf.tells g.S.Shelf.world _ _ c.args.s
     c.take.new.self c.take.new.parts c.in_ok-take.field-0 c.requires.fit.sound.served
     c.requires.fit.sound.operands
     c.take.ensures.content c.take.ensures.parts c.take.ensures.runs c.in_ok-take.ensures.list
-    c.requires.holds
 
 -- it was the first of the list
 pub returns-clause-list : goal.returns-clause-list
@@ -77,4 +76,4 @@ pub returns-in_err-take-clause-undamaged : goal.returns-in_err-take-clause-undam
 returns-in_err-take-clause-undamaged g c = if_handed _ c.from_residual.result _
     c.from_residual.ensures.1 (takes_undamaged g.S.Shelf.tells g.S.Shelf.world _ _ c.args.self.now
     c.take.new.self c.take.new.parts c.take.ensures.content c.in_err-take.field-0.0
-    c.in_err-take.ensures.list c.requires.holds)
+    c.in_err-take.ensures.list)

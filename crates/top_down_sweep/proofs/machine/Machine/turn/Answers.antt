@@ -3,30 +3,28 @@ use Rattle.top_down_sweep.specs.Turns.{TurnsFall}
 use Rattle.top_down_sweep.proofs.Holding.{if_err_map}
 use Rattle.std.proofs.lemmas.Result.{on_ok_weaker}
 use Rattle.top_down_sweep.specs.Meaning.{RemainsIn}
-use Rattle.top_down_sweep.proofs.Phases.{fresh_step, asking_step}
+use Rattle.top_down_sweep.proofs.Phases.{trusts_in}
+use Rattle.top_down_sweep.specs.Trusting.{fresh_trusts}
+use Rattle.top_down_sweep.proofs.Doing.{no_damage}
 use Rattle.top_down_sweep.proofs.machine.Machine.turn.Goals as goal
 
--- nothing waits before the root is asked for, and no node was read
-pub begin-requires-clause-holds : goal.begin-requires-clause-holds
-begin-requires-clause-holds g c told = (fresh_step c.args.self.now _ c.in-Fresh.is
-    (c.requires.in_step told)).1
+-- what its turns put stands there in each phase
+pub returns-in-Fresh-clause-trusts : goal.returns-in-Fresh-clause-trusts
+returns-in-Fresh-clause-trusts g c = on_ok_weaker c.begin.result (λ trusts told old.
+    trusts told (trusts_in c.args.self.now _ _ c.in-Fresh.is old)) c.begin.ensures.trusts
 
-pub begin-requires-clause-unread : goal.begin-requires-clause-unread
-begin-requires-clause-unread g c told = (fresh_step c.args.self.now _ c.in-Fresh.is
-    (c.requires.in_step told)).2
+pub returns-in-Asking-clause-trusts : goal.returns-in-Asking-clause-trusts
+returns-in-Asking-clause-trusts g c = on_ok_weaker c.go_on.result (λ trusts told old.
+    trusts told (trusts_in c.args.self.now _ _ c.in-Asking.is old)) c.go_on.ensures.trusts
 
-pub begin-requires-clause-unwritten : goal.begin-requires-clause-unwritten
-begin-requires-clause-unwritten g c told = (fresh_step c.args.self.now _ c.in-Fresh.is
-    (c.requires.in_step told)).3
+-- and where it does, damage is that of an operand
+pub returns-in-Fresh-clause-damage : goal.returns-in-Fresh-clause-damage
+returns-in-Fresh-clause-damage g c = if_err_map c.begin.result (λ e none told old. no_damage _ _ e
+    (none told (trusts_in c.args.self.now _ _ c.in-Fresh.is old).0)) c.begin.ensures.undamaged
 
--- asks that fit wait
-pub go_on-requires-clause-holds : goal.go_on-requires-clause-holds
-go_on-requires-clause-holds g c told = (asking_step c.args.self.now _ _ c.in-Asking.is
-    (c.requires.in_step told)).1
-
-pub go_on-requires-clause-put : goal.go_on-requires-clause-put
-go_on-requires-clause-put g c told = (asking_step c.args.self.now _ _ c.in-Asking.is
-    (c.requires.in_step told)).2
+pub returns-in-Asking-clause-damage : goal.returns-in-Asking-clause-damage
+returns-in-Asking-clause-damage g c = if_err_map c.go_on.result (λ e damage told old. damage told
+    (trusts_in c.args.self.now _ _ c.in-Asking.is old).0) c.go_on.ensures.damage
 
 -- what remains of a task in each phase
 pub returns-in-Fresh-clause-keeps : goal.returns-in-Fresh-clause-keeps
@@ -43,7 +41,9 @@ returns-in-Asking-clause-keeps g c = on_ok_weaker c.go_on.result (λ keeps told 
 
 -- where something remains no damage is found
 pub returns-in-Fresh-clause-undamaged : goal.returns-in-Fresh-clause-undamaged
-returns-in-Fresh-clause-undamaged g c = if_err_map c.begin.result (λ e none told t remains. none told) c.begin.ensures.undamaged
+returns-in-Fresh-clause-undamaged g c = if_err_map c.begin.result (λ e none told t remains. none told
+    (fresh_trusts t _ c.args.self.now _ (subst (λ p. RemainsIn t (g.O.Operation.begins c.args.operation.now) p
+    c.args.self.now (g.S.Shelf.world c.args.shelf.now)) c.in-Fresh.is remains)).0) c.begin.ensures.undamaged
 
 pub returns-in-Asking-clause-undamaged : goal.returns-in-Asking-clause-undamaged
 returns-in-Asking-clause-undamaged g c = if_err_map c.go_on.result (λ e none told t remains.

@@ -1,8 +1,13 @@
-use Rattle.top_down_sweep.proofs.Orders.{step_ordered}
+use Rattle.top_down_sweep.proofs.Orders.{trusted_ordered, ended_ordered}
 use Rattle.top_down_sweep.proofs.sweep.TopDownSweep.end_early.Goals as goal
 
 -- the arcs that were put are in order
-pub end-requires-clause-ordered : goal.end-requires-clause-ordered
-end-requires-clause-ordered g c told = step_ordered c.args.self.now.machine.place.phase
-    c.args.self.now.machine (g.S.Shelf.world c.args.shelf.now) c.in_default.not-Ended
-    (c.requires.in_step told)
+pub returns-in_ok-end-in_default-clause-trusts : goal.returns-in_ok-end-in_default-clause-trusts
+returns-in_ok-end-in_default-clause-trusts g c told old =
+    let m = c.args.self.now.machine in
+    c.in_ok-end-in_default.ensures.trusts told (trusted_ordered m.place.phase m
+    (g.S.Shelf.world c.args.shelf.now) c.in_default.not-Ended old)
+
+pub returns-in_ok-end-in_default-clause-ordered : goal.returns-in_ok-end-in_default-clause-ordered
+returns-in_ok-end-in_default-clause-ordered g c told old = ended_ordered c.end.new.self.place.phase
+    c.end.new.self _ (returns-in_ok-end-in_default-clause-trusts g c told old)

@@ -39,8 +39,8 @@ returns-clause-ready g c = record {
 }
 
 -- no ask waits, no arc was put, and the operands are read from the front on
-pub returns-clause-in_step : goal.returns-clause-in_step
-returns-clause-in_step g c told =
+pub returns-clause-trusts : goal.returns-clause-trusts
+returns-clause-trusts g c told =
     let m : Machine = record {
       place = record { variables = c.args.n; phase = Fresh };
       operands = c.in_ok-operands.operands;
@@ -50,7 +50,6 @@ returns-clause-in_step g c told =
       parts = c.args.parts;
     } in
     let files = c.in_ok-writer.ensures.files in (
-      c.in_ok-writer.ensures.in_step told,
       (
         [],
         record {
