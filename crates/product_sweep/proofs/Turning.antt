@@ -50,7 +50,10 @@ pub record ProductTurned {S : Type 0} (tells : S → Bool) (world : S → World)
       → MakesTable q (world after) job)
   pub fewer : IsTrue (tells after) → (job : TableWork) → MakesTable p (world before) job
       → MovesOn 1 (turns_of (sweep_of p) (world before) job) (turns_of (sweep_of q) (world after) job) result
-  pub damaged : IfErr result (λ e. IsTrue (tells after) → damage.IsDamage (sweep_of q) (world after) e)
+  pub trusts : OnOk result (IsTrue (tells after) → calls.IsTrusted (sweep_of p) (world before)
+      → calls.IsTrusted (sweep_of q) (world after))
+  pub damaged : IfErr result (λ e. IsTrue (tells after) → calls.IsTrusted (sweep_of p) (world before)
+      → damage.IsDamage (sweep_of q) (world after) e)
   pub undamaged : IfErr result (λ e. IsTrue (tells after) → (job : TableWork) → MakesTable p (world before) job
       → IsNoDamage e)
   pub leaves : Leaves tells world counts product_accounts 224 12 before after p q result
@@ -134,6 +137,7 @@ module _ {S : Type 0} (tells : S → Bool) (world : S → World) (counts : S →
         makes = t.keeps is (refutation d) r.makes;
       };
       fewer = λ is d r. t.fewer is (refutation d) r.makes;
+      trusts = t.trusts;
       damaged = tt;
       undamaged = tt;
       leaves = leaves_as p q Making Making (Ok turns.More) t.leaves;
@@ -156,6 +160,7 @@ module _ {S : Type 0} (tells : S → Bool) (world : S → World) (counts : S →
         makes = t.keeps is (refutation d) r.makes;
       });
       fewer = λ is d r. refl;
+      trusts = λ is old. tt;
       damaged = tt;
       undamaged = tt;
       leaves = leaves_as p q Making (Answered (not one)) (Ok turns.Ended) t.leaves;
@@ -177,6 +182,7 @@ module _ {S : Type 0} (tells : S → Bool) (world : S → World) (counts : S →
       firm = tt;
       keeps = tt;
       fewer = λ is d r. tt;
+      trusts = tt;
       damaged = t.damaged;
       undamaged = λ is d r. t.undamaged is (refutation d) r.makes;
       leaves = leaves_as p q Making Making (Err e) t.leaves;
@@ -212,6 +218,7 @@ module _ {S : Type 0} (tells : S → Bool) (world : S → World) (counts : S →
       firm = t.firm;
       keeps = λ is d r. met_refutes p Making (world before) d told r;
       fewer = λ is d r. refl;
+      trusts = λ is old. tt;
       damaged = tt;
       undamaged = tt;
       leaves = leaves_ok tells world counts accounts 224 12 before after (leq p Making) (leq q (Answered false))
@@ -231,7 +238,8 @@ module _ {S : Type 0} (tells : S → Bool) (world : S → World) (counts : S →
       firm = tt;
       keeps = tt;
       fewer = λ is d r. tt;
-      damaged = λ is. no_damage (sweep_of q) (world after) e t.undamaged;
+      trusts = tt;
+      damaged = λ is old. no_damage (sweep_of q) (world after) e t.undamaged;
       undamaged = λ is d r. t.undamaged;
       leaves = leaves_err tells world counts accounts 224 12 before after (leq p Making) (leq q Making)
           (Err e) (Err e) e refl refl (early_leaves Making (Err e) t.leaves);

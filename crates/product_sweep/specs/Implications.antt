@@ -93,6 +93,14 @@ IsInStepAt (Answered b) s world = AreFirm s world
 abbrev pub IsInStep : LeqSweep → World → Type 0
 IsInStep s world = IsInStepAt s.phase s world
 
+-- what its turns put stands in them, while arcs are made
+abbrev pub IsTrustedAt : LeqPhase → LeqSweep → World → Type 0
+IsTrustedAt Making s world = calls.IsTrusted (product_in s) world
+IsTrustedAt (Answered b) s world = Unit
+
+abbrev pub IsTrusted : LeqSweep → World → Type 0
+IsTrusted s world = IsTrustedAt s.phase s world
+
 -- the table of "left and not right" is still to be made
 pub record IsToBeMade (s : LeqSweep) (world : World) (d : Implication) : Type 0 where
   pub left_form : HasForm d.n d.left
@@ -134,7 +142,9 @@ pub record Turned {S : Type 0} (tells : S → Bool) (world : S → World) (count
       → Refutes new (world after) d)
   pub fewer : IsTrue (tells after) → (d : Implication) → Refutes old (world before) d
       → MovesOn 1 (turns_left old (world before) d) (turns_left new (world after) d) result
-  pub damaged : IfErr result (λ e. IsTrue (tells after) → IsDamage new (world after) e)
+  pub trusts : OnOk result (IsTrue (tells after) → IsTrusted old (world before) → IsTrusted new (world after))
+  pub damaged : IfErr result (λ e. IsTrue (tells after) → IsTrusted old (world before)
+      → IsDamage new (world after) e)
   pub undamaged : IfErr result (λ e. IsTrue (tells after) → (d : Implication) → Refutes old (world before) d
       → IsNoDamage e)
   pub leaves : Leaves tells world counts accounts 224 12 before after old new result

@@ -35,7 +35,7 @@ impl<'r> LeqSweep<'r> {
     ghost use Rattle.top_down_sweep.specs.Sweeps.{parts_of, variables_of};
     ghost use Rattle.node_file.specs.Canonical.{IsCanonicalFile};
     ghost use Rattle.table_work.specs.Tables.{operand_files};
-    ghost use Rattle.product_sweep.specs.Implications.{IsReady, IsInStep, product_in, Refutes, turns_left, TellsAnswer, Turned};
+    ghost use Rattle.product_sweep.specs.Implications.{IsReady, IsInStep, IsTrusted, product_in, Refutes, turns_left, TellsAnswer, Turned};
 
     /// Begins with the files of two diagrams of `n` variables, which may be one file. The next two parts are its files
     /// of arcs, and those behind them are for its queue.
@@ -51,6 +51,7 @@ impl<'r> LeqSweep<'r> {
         requires past_made { 3 ≤ parts.next }
         ensures ready { IfOk result IsReady }
         ensures in_step { IfOk result (λ s. IsTrue (S.tells shelf.new) → IsInStep s (S.world shelf.new)) }
+        ensures trusts { IfOk result (λ s. IsTrue (S.tells shelf.new) → IsTrusted s (S.world shelf.new)) }
         ensures begun { IfOk result (λ s. Begun S.tells S.world (files_from (operand_files f g g) parts)
             (after_two parts) shelf.old shelf.new (product_in s)) }
         ensures variables { IfOk result (λ s. variables_of (product_in s) ≡ n) }
@@ -126,7 +127,8 @@ impl<'r> LeqSweep<'r> {
 
 impl<'r> Sweep<'r> for LeqSweep<'r> {
     ghost use Rattle.top_down_sweep.specs.Sweeps.{SweepTask};
-    ghost use Rattle.product_sweep.specs.Implications.{Implication, Refutes, fuel_of, turns_left, accounts, IsDamage, task_of, IsReady, IsInStep};
+    ghost use Rattle.product_sweep.specs.Implications.{Implication, Refutes, fuel_of, turns_left, accounts, IsDamage, task_of, IsReady, IsInStep, IsTrusted};
+    ghost use Rattle.product_sweep.specs.Trusting.{refutes_trusted};
 
     ghost Job = { Implication };
 
@@ -148,9 +150,9 @@ impl<'r> Sweep<'r> for LeqSweep<'r> {
 
     ghost in_step = { IsInStep };
 
-    ghost trusts = { λ s world. Unit };
+    ghost trusts = { IsTrusted };
 
-    ghost trusted = { λ s world job remains. tt };
+    ghost trusted = { refutes_trusted };
 
     fn turn<S: Shelf>(&mut self, shelf: &mut S) -> Result<Turn, SortFault> {
         match self.phase {

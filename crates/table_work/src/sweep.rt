@@ -70,11 +70,12 @@ impl<'r, O: Operation> TableSweep<'r, O> {
 
 impl<'r, O: Operation> Sweep<'r> for TableSweep<'r, O> {
     ghost use Rattle.top_down_sweep.specs.Beginning.{IsReady};
-    ghost use Rattle.top_down_sweep.specs.Calls.{IsInStep};
+    ghost use Rattle.top_down_sweep.specs.Calls.{IsInStep, IsTrusted};
     ghost use Rattle.top_down_sweep.specs.Damage.{IsDamage};
     ghost use Rattle.top_down_sweep.specs.Fuel.{fuel_of};
     ghost use Rattle.top_down_sweep.specs.Making.{accounts_along};
     ghost use Rattle.top_down_sweep.specs.Sweeps.{SweepTask, task_of, accounts};
+    ghost use Rattle.top_down_sweep.specs.Trusting.{sweep_trusted};
     ghost use Rattle.table_work.specs.Jobs.{TableWork, MakesWithin, turns_of};
     ghost use Rattle.table_work.specs.Tables.{sweep_of};
 
@@ -98,9 +99,10 @@ impl<'r, O: Operation> Sweep<'r> for TableSweep<'r, O> {
 
     ghost in_step = { λ s world. IsInStep (sweep_of s) world };
 
-    ghost trusts = { λ s world. Unit };
+    ghost trusts = { λ s world. IsTrusted (sweep_of s) world };
 
-    ghost trusted = { λ s world job remains. tt };
+    ghost trusted = { λ s world job remains. sweep_trusted O.rule O.begins (sweep_of s) world
+        remains.makes.task remains.makes.remains };
 
     fn turn<S: Shelf>(&mut self, shelf: &mut S) -> Result<Turn, SortFault> {
         TopDownSweep::turn(&mut self.sweep, shelf)

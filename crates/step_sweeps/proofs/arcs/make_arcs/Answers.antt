@@ -87,7 +87,8 @@ returns-in_err-turns-clause-damaged g c = on_fault c.from_residual-in_err-turns.
     c.in_err-turns.field-0.0 (ap (λ (t : SweepTask). t.files) same ∙ begun.files_are)
     (ap (λ (t : SweepTask). t.variables) same ∙ c.in_ok-sweep.ensures.starts.variables)
     (c.run_to_end.ensures.leaves.step_is ∙ ap (λ (p : Parts). p.step) begun.parts_are) c.requires.earlier
-    ((returns-in_err-turns-clause-content g c).did told) (c.in_err-turns.ensures.damage told tt))
+    ((returns-in_err-turns-clause-content g c).did told)
+    (c.in_err-turns.ensures.damage told (begun.trusts (c.run_to_end.ensures.leaves.content.before told))))
 
 pub returns-in_err-turns-clause-faults : goal.returns-in_err-turns-clause-faults
 returns-in_err-turns-clause-faults g c = sort_shelf_on _ _ c.in_err-turns.field-0.0
@@ -103,8 +104,8 @@ returns-clause-faults g c = faults_ok _ _ _ c.begin.result c.run_to_end.result _
 pub returns-clause-ordered : goal.returns-clause-ordered
 returns-clause-ordered g c told =
     let is : c.made.result ≡ Some c.in-Some.arcs = cc in
-    ended_in_order (sweep_of c.run_to_end.new.sweep) _ c.in-Some.arcs (c.in_ok-turns.ensures.in_step told)
-    (sym c.made.ensures.gives.made_is ∙ is)
+    ended_in_order (sweep_of c.run_to_end.new.sweep) _ c.in-Some.arcs (c.in_ok-turns.ensures.trusts told
+    (c.in_ok-sweep.ensures.starts.begun.trusts (c.run_to_end.ensures.leaves.content.before told))) (sym c.made.ensures.gives.made_is ∙ is)
 
 -- the sweep ends with a diagram of the operation's table
 pub returns-clause-made : goal.returns-clause-made

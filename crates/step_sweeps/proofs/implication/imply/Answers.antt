@@ -117,7 +117,8 @@ returns-in_err-turns-clause-damaged g c = on_fault c.from_residual-in_err-turns.
     (c.run_to_end.ensures.leaves.step_is ∙ ap (λ (p : Parts). p.step) begun.parts_are)
     (record { first = c.requires.earlier.0; second = c.requires.earlier.1; third = c.requires.earlier.1 })
     ((returns-in_err-turns-clause-content g c).did told))
-    (c.in_err-turns.ensures.damage told tt))
+    (c.in_err-turns.ensures.damage told (c.in_ok-sweep.ensures.trusts
+    (c.run_to_end.ensures.leaves.content.before told))))
 
 pub returns-in_err-turns-clause-faults : goal.returns-in_err-turns-clause-faults
 returns-in_err-turns-clause-faults g c = sort_shelf_on _ _ c.in_err-turns.field-0.0
