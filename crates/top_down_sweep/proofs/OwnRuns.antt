@@ -12,6 +12,7 @@ use Rattle.top_down_sweep.specs.declared.ask.Ask.{Ask}
 use Rattle.top_down_sweep.specs.declared.machine.Machine.{Machine}
 use Rattle.top_down_sweep.specs.Items.{ask_words, IsAsk}
 use Rattle.top_down_sweep.specs.Sweeps.{Refuses}
+use Rattle.top_down_sweep.specs.Damage.{IsOfCheckpoint}
 
 -- the first three parts were taken
 pub serves_past : {T : Type 0} (parts : Parts) (q : LevelQueue T) → queues.Serves parts q → 3 ≤ parts.next
@@ -24,7 +25,7 @@ pub push_refuses : (m : Machine) (old : LevelQueue Ask) (result : Result Unit So
 unfolding queues.Serves sorters.IsPushCause
 push_refuses m old (Ok u) serves cause = tt
 push_refuses m old (Err Shelf) serves cause = tt
-push_refuses m old (Err (Damaged f at)) serves cause = inr (push_taken m.parts old.sorter f at serves cause)
+push_refuses m old (Err (Damaged f at)) serves cause = inr (inl (push_taken m.parts old.sorter f at serves cause))
 push_refuses m old (Err RunsSpent) serves cause = cause
 
 -- where another call is
@@ -34,8 +35,14 @@ pub queue_refuses : {A : Type 0} (m : Machine) (old : LevelQueue Ask) (result : 
 unfolding queues.Serves
 queue_refuses m old (Ok x) before serves values cause = tt
 queue_refuses m old (Err Shelf) before serves values cause = tt
-queue_refuses m old (Err (Damaged f at)) before serves values cause = inr (elim cause [
+queue_refuses m old (Err (Damaged f at)) before serves values cause = inr (inl (elim cause [
   | inl next ↦ read_taken m.parts old.sorter f at before next
   | inr first ↦ first_taken IsAsk ask_words m.parts m.queue.sorter f at serves values.sorter first
-])
+]))
 queue_refuses m old (Err RunsSpent) before serves values cause = absurd cause
+
+-- where a checkpoint is damaged
+pub checkpoint_refuses : (m : Machine) (e : SortFault) → IsOfCheckpoint m.parts.step e → Refuses m e
+checkpoint_refuses m Shelf is = tt
+checkpoint_refuses m (Damaged f at) is = inr (inr is)
+checkpoint_refuses m RunsSpent is = absurd is

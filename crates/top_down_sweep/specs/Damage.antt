@@ -1,6 +1,7 @@
 -- Where an operand's file is damaged.
-use Rattle.std.specs.Prelude.{◌≡◌, ◌⊎◌, ℕ, ◌+◌, ◌*◌, ◌<◌, true, List, Some}
+use Rattle.std.specs.Prelude.{◌≡◌, ◌⊎◌, ℕ, ◌+◌, ◌-◌, ◌*◌, ◌<◌, true, List, length, Some}
 use Rattle.rec_words.specs.Words.{node_size}
+use Rattle.file_numbers.specs.Files.{checkpoint_file, checkpoint_gate}
 use Rattle.shelf_model.specs.declared.file_no.FileNo.{FileNo}
 use Rattle.shelf_model.specs.declared.sort_fault.SortFault.{SortFault}
 use Rattle.shelf_model.specs.declared.sort_fault.SortFault.TheVariants.{Shelf, Damaged, RunsSpent}
@@ -70,6 +71,19 @@ IsMachineDamage m world Shelf = Unit
 IsMachineDamage m world (Damaged f at) = AreApart (files_in m) m.parts.step
     → IsAskDamage m world f at
 IsMachineDamage m world RunsSpent = Unit
+
+-- the fault is a failed call, or damage of the file of a step's checkpoints
+abbrev pub IsOfCheckpoint : ℕ → SortFault → Type 0
+IsOfCheckpoint step Shelf = Unit
+IsOfCheckpoint step (Damaged f at) = f ≡ checkpoint_file step
+IsOfCheckpoint step RunsSpent = ⊥
+
+-- it names the first byte of the last checkpoint that the step's gate counts, or of the file where it counts none
+abbrev pub IsCheckpointDamage : ℕ → World → SortFault → Type 0
+IsCheckpointDamage step world Shelf = Unit
+IsCheckpointDamage step world (Damaged f at) = (f ≡ checkpoint_file step)
+    × (at ≡ 16384 * (length (file world (checkpoint_gate step)).bytes - 1))
+IsCheckpointDamage step world RunsSpent = ⊥
 
 abbrev pub IsDamage : {O : Type 0} → TopDownSweep O → World → SortFault → Type 0
 IsDamage s world e = IsMachineDamage s.machine world e

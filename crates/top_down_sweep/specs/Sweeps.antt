@@ -1,5 +1,6 @@
 -- What is seen of a sweep from the root down, and what it keeps between turns.
 use Rattle.std.specs.Prelude.{◌≡◌, ◌⊎◌, ℕ, ◌==◌, ◌||◌, ◌^◌, ◌≤◌, Bool, true, false, Option, Some, None, IsSome, IfSome}
+use Rattle.file_numbers.specs.Files.{checkpoint_file}
 use Rattle.shelf_model.specs.declared.file_no.FileNo.{FileNo}
 use Rattle.shelf_model.specs.declared.sort_fault.SortFault.{SortFault}
 use Rattle.shelf_model.specs.declared.sort_fault.SortFault.TheVariants.{Shelf, Damaged, RunsSpent}
@@ -114,11 +115,11 @@ pub record IsSoundMachine (m : Machine) : Type 0 where
   pub operands : AreOperands m.place.variables m.operands
   pub phase : IsPhaseAt m.writer (queues.last_of m.queue) m.place.phase
 
--- why it can't go on: a call of the folder failed, an operand is damaged or a file whose part was taken, or no part
--- number is left
+-- why it can't go on: a call of the folder failed, an operand is damaged, a file whose part was taken or the
+-- checkpoints of its step, or no part number is left
 abbrev pub Refuses : Machine → SortFault → Type 0
 Refuses m Shelf = Unit
-Refuses m (Damaged f at) = IsRead (files_in m) f ⊎ WasTaken m.parts f
+Refuses m (Damaged f at) = IsRead (files_in m) f ⊎ (WasTaken m.parts f ⊎ (f ≡ checkpoint_file m.parts.step))
 Refuses m RunsSpent = 2 ^ 32 ≤ m.parts.next
 
 -- a call of the folder failed, or an operand is damaged

@@ -252,7 +252,8 @@ impl<'r> Machine<'r> {
         ensures does { Does S.tells S.world S.faults 48 3 shelf.old shelf.new self.old self.new result }
         ensures fit { OnOk result (IsFit S.tells S.world shelf.new self.new) }
         ensures rest { self.new ≡ record self.old { queue = self.new.queue; parts = self.new.parts } }
-        ensures holds { OnOk result (IsTrue (S.tells shelf.new) → AreReadTo (level_of source.uid) self.old.operands →
+        ensures holds { OnOk result (IsTrue (S.tells shelf.new) →
+            AreReadTo (level_of source.uid) self.old.operands →
             KeepsAsks self.old (S.world shelf.old) self.new (S.world shelf.new)) }
         ensures load { OnOk result (held self.new.queue ≡ held self.old.queue + 1) }
         ensures last { last_of self.new.queue ≡ last_of self.old.queue }

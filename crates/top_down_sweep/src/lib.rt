@@ -5,6 +5,7 @@ mod answering;
 mod ask;
 mod asks;
 mod beginning;
+mod checkpoint;
 mod choice;
 mod goals;
 pub mod laws;

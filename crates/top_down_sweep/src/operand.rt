@@ -16,7 +16,7 @@ pub(crate) struct Operand<'r> {
 }
 
 impl<'r> Operand<'r> {
-    ghost use Rattle.std.specs.Prelude.{◌+◌, ◌*◌, ◌<◌, IsTrue, OnOk, IfErr, IfSome};
+    ghost use Rattle.std.specs.Prelude.{◌+◌, ◌*◌, ◌<◌, true, false, IsTrue, OnOk, IfErr, IfSome};
     ghost use Rattle.shelf_model.specs.Calls.{Told};
     ghost use Rattle.block_stream.specs.Reads.{Looked};
     ghost use Rattle.run_tiers.specs.Faults.{OnlySortShelf};
@@ -38,6 +38,17 @@ impl<'r> Operand<'r> {
         match &self.hand {
             Some(node) if node.uid == key => false,
             _ => member.is_node(key),
+        }
+    }
+
+    /// Whether the node at hand comes no later than that one.
+    pub(crate) fn is_read_to(&self, key: Uid) -> bool
+        ensures yes { result ≡ true → IsReadTo key self.now }
+        ensures no { result ≡ false → ¬ IsReadTo key self.now }
+    {
+        match &self.hand {
+            Some(node) => node.uid <= key,
+            None => true,
         }
     }
 
@@ -93,6 +104,8 @@ pub(crate) struct Operands<'r> {
 impl<'r> Operands<'r> {
     ghost use Rattle.top_down_sweep.specs.Members.{want, all_filled};
     ghost use Rattle.top_down_sweep.specs.Meaning.{roots_of};
+    ghost use Rattle.std.specs.Prelude.{true, false};
+    ghost use Rattle.top_down_sweep.specs.Waiting.{Fits};
 
     /// The roots of the diagrams.
     pub(crate) fn roots(&self) -> Tuple
@@ -112,6 +125,16 @@ impl<'r> Operands<'r> {
         self.first.wants(&ask.members.first, ask.key)
             || self.second.wants(&ask.members.second, ask.key)
             || self.third.wants(&ask.members.third, ask.key)
+    }
+
+    /// Whether no operand was read past the ask's node.
+    pub(crate) fn fits(&self, ask: &Ask) -> bool
+        ensures yes { result ≡ true → Fits self.now ask.now }
+        ensures no { result ≡ false → ¬ Fits self.now ask.now }
+    {
+        self.first.is_read_to(ask.key)
+            && self.second.is_read_to(ask.key)
+            && self.third.is_read_to(ask.key)
     }
 
     /// The members of an ask, with the pointers of its key for those that are that node.

@@ -3,6 +3,7 @@ ghost use Rattle.std.specs.Prelude.{◌≡◌};
 
 use crate::Operation;
 use crate::ask::{Ask, Members};
+use crate::checkpoint::checkpoint_fault;
 use crate::machine::Machine;
 use crate::members::{key_of, level_at};
 use crate::place::{Asking, Phase};
@@ -22,7 +23,8 @@ impl<'r> Machine<'r> {
     ghost use Rattle.top_down_sweep.specs.Sweeps.{IsSoundMachine, IsAsking, HasEnded, EndsAt};
     ghost use Rattle.top_down_sweep.specs.Fuel.{unread, weight, machine_fuel};
     ghost use Rattle.top_down_sweep.specs.Waiting.{HasNoHands, HoldsSome, HoldsFirst};
-    ghost use Rattle.top_down_sweep.specs.Calls.{Does, IsFit, IsFirst, IsMachineInStep, IsTrustedAt, IsMachineTrusted, KeepsAsks};
+    ghost use Rattle.top_down_sweep.specs.Calls.{Does, IsFit, IsFirst, KeepsAsks};
+    ghost use Rattle.top_down_sweep.specs.Calls.{IsMachineInStep, IsTrustedAt, IsMachineTrusted};
     ghost use Rattle.top_down_sweep.specs.Damage.{IsMachineDamage};
     ghost use Rattle.std.specs.Prelude.{IfErr};
     ghost use Rattle.top_down_sweep.specs.Ordered.{IsOrdered, KeepsArcs};
@@ -148,7 +150,8 @@ impl<'r> Machine<'r> {
         ensures sound { OnOk result (IsSoundMachine self.new) }
         ensures in_step { OnOk result (IsTrue (S.tells shelf.new) → IsMachineInStep self.new (S.world shelf.new)) }
         ensures trusts { OnOk result (IsTrue (S.tells shelf.new) →
-            IsTrustedAt (Phase.Asking asking.now) self.old (S.world shelf.old) → IsMachineTrusted self.new (S.world shelf.new)) }
+            IsTrustedAt (Phase.Asking asking.now) self.old (S.world shelf.old) →
+            IsMachineTrusted self.new (S.world shelf.new)) }
         ensures falls { Falls (machine_fuel self.old) (machine_fuel self.new) result }
         ensures ends { IfOk result (λ turn. EndsAt turn self.new.place.phase) }
         ensures keeps { OnOk result (IsTrue (S.tells shelf.new) → (t : Task) → t.rule ≡ O.rule operation.now →
@@ -213,7 +216,8 @@ impl<'r> Machine<'r> {
         }
     }
 
-    // Reads the next node of an operand that the ask wants.
+    // Reads the next node of an operand that the ask wants. Where one was read past it, as only a checkpoint may say
+    // that stands for no sweep, the next node would be none that is missed.
     fn read_wanted<S: Shelf>(&mut self, ask: &Ask, shelf: &mut S) -> Result<(), SortFault>
         requires wanted { want self.old.operands ask.now ≡ true }
         requires shown { shown self.old.queue ≡ Some ask.now }
@@ -234,6 +238,9 @@ impl<'r> Machine<'r> {
         ensures undamaged { IfErr result (λ e. IsTrue (S.tells shelf.new) → (t : Task) → (s : Asking) →
             IsHandling t s ask.now self.old (S.world shelf.old) → IsNoDamage e) }
     {
+        if !self.operands.fits(ask) {
+            return Err(checkpoint_fault(self.parts.step, shelf));
+        }
         if self.operands.first.wants(&ask.members.first, ask.key) {
             return self.operands.first.read(ask.key, shelf);
         }

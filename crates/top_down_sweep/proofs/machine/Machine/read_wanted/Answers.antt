@@ -1,13 +1,34 @@
 use Rattle.top_down_sweep.proofs.WorkingOn.{first_has_next, second_has_next, third_has_next}
 use Rattle.top_down_sweep.proofs.ReadKeeps.{first_kept, second_kept, third_kept}
-use Rattle.std.proofs.Common.{◌≡◌, ◌∙◌, true, sym, rules}
+use Rattle.std.proofs.Common.{◌≡◌, ◌∙◌, true, refl, sym, rules}
 use Rattle.std.proofs.lemmas.Result.{on_ok_weaker}
 use Rattle.top_down_sweep.specs.Members.{wants}
 use Rattle.top_down_sweep.proofs.Doing.{does_looked, on_ok}
+use Rattle.top_down_sweep.proofs.OwnRuns.{checkpoint_refuses}
+use Rattle.top_down_sweep.specs.Trusting.{handling_holds}
+use Rattle.std.specs.Prelude.{Err}
 use Rattle.top_down_sweep.proofs.StandingOn.{arcs_shown}
 use Rattle.top_down_sweep.proofs.OperandReading.{wanted_is, behind_hand}
 use Rattle.top_down_sweep.proofs.Holding.{first_fits, if_err_map, third_wanted, first_files, first_damage, first_read, second_files, second_damage, second_read, third_files, third_damage, third_read}
 use Rattle.top_down_sweep.proofs.machine.Machine.read_wanted.Goals as goal
+
+-- an operand was read past the ask's node
+pub returns-then-not-fits-clause-does : goal.returns-then-not-fits-clause-does
+returns-then-not-fits-clause-does g c =
+    let s = c.args.self.now in
+    does_looked g.S.Shelf.tells g.S.Shelf.world g.S.Shelf.faults 1 _ _ s s.operands
+    (Err c.checkpoint_fault.result) refl c.checkpoint_fault.ensures.content
+    c.checkpoint_fault.ensures.faults (checkpoint_refuses s c.checkpoint_fault.result
+    c.checkpoint_fault.ensures.says)
+
+pub returns-then-not-fits-clause-damage : goal.returns-then-not-fits-clause-damage
+returns-then-not-fits-clause-damage g c told first = absurd (c.fits.ensures.no c.if-not-fits.true
+    (first_fits c.args.ask.now c.args.self.now _ first))
+
+pub returns-then-not-fits-clause-undamaged : goal.returns-then-not-fits-clause-undamaged
+returns-then-not-fits-clause-undamaged g c told t s h = absurd (c.fits.ensures.no c.if-not-fits.true
+    (first_fits c.args.ask.now c.args.self.now _
+    (handling_holds t s c.args.ask.now c.args.self.now _ h)))
 
 -- the first operand's next node
 pub returns-then-wants-clause-does : goal.returns-then-wants-clause-does
