@@ -32,7 +32,7 @@ use Rattle.reduce_lists.specs.declared.held.Ahead.{Ahead}
 use Rattle.reduce_lists.specs.declared.held.Lists.{Lists}
 use Rattle.reduce_lists.specs.Contents.{Contents, Holds, IsUnread, QueueLists, RowLists, NameLists}
 use Rattle.reduce_lists.specs.Damage.{IsDamagedAt, IsDamageAtStart}
-use Rattle.reduce_lists.specs.AtWork.{IsAtWork}
+use Rattle.reduce_lists.specs.AtWork.{AreInStep, IsAtWork}
 use Rattle.reduce_lists.proofs.Holding.{writer_kept}
 use Rattle.reduce_lists.proofs.NextArcs.{unread_on}
 
@@ -104,12 +104,13 @@ unread_begun kind f first read last s t u next xs count begun one same before af
     subst (λ v. v) (λ j. IsUnread kind next (sym same j) ((here ∙ sym there) j).bytes xs)
     (unread_on kind s t (file read (file_of s)).bytes xs next one.up left)
 
--- the lists are empty
+-- the lists are empty, and nothing is loaded yet
 pub record AreEmpty (a : Ahead) (l : Lists) (world : World) : Type 0 where
   pub queue_is : QueueLists a.queue world []
   pub last_is : queues.last_of a.queue ≡ None
   pub rows_is : RowLists l.rows world []
   pub names_is : NameLists l.names world []
+  pub in_step : AreInStep a l world
 
 -- what a sweep holds at first: all arcs, of which none is handled
 abbrev pub at_first : List Arc → List Arc → Contents
@@ -147,7 +148,7 @@ module _ (a : Ahead) (w : NodeWriter) (made : Unreduced) (out : FileNo) (opened 
   no_end_yet : ReadsNothing End (ends_of read) made.ends made.ends_count
   no_end_yet = subst (λ r. ReadsNothing End r made.ends made.ends_count) (sym begun.ends_kept) begun.no_end
 
-  -- so its files hold what it takes them to hold
+  -- so what it knows of its files is as they say
   pub work_begins : (l : Lists) → AreEmpty a l last → IsAtWork a l w last
   work_begins l empty = record {
     writes = (nothing_written w second third last begun.looked begun.again begun.written).in_step;
@@ -157,12 +158,7 @@ module _ (a : Ahead) (w : NodeWriter) (made : Unreduced) (out : FileNo) (opened 
     reads_ends = reads_begun End made.ends first third last (ends_of read) (ends_of a.reader) (ends_of a.reader) a.end
         made.ends_count no_end_yet begun.one_end refl
         (ends_stays.1.0 ∙ ends_stays.0) (ends_stays.1.1 ∙ ends_stays.1.0 ∙ ends_stays.0);
-    listed = record {
-      queue_listed = ([], empty.queue_is);
-      rows_listed = ([], empty.rows_is);
-      names_listed =
-          ([], empty.names_is);
-    };
+    lists = empty.in_step;
   }
 
   -- and it holds all arcs of whole files

@@ -41,12 +41,12 @@ use Rattle.shelf_model.proofs.Runs.{told, ran_weakens}
 use Rattle.reduce_lists.specs.declared.held.Ahead.{Ahead}
 use Rattle.reduce_lists.specs.declared.held.Lists.{Lists}
 use Rattle.reduce_lists.specs.Held.{Held, AreServed, IsRun}
-use Rattle.reduce_lists.specs.AtWork.{IsAtWork}
+use Rattle.reduce_lists.specs.AtWork.{AreListed, IsAtWork}
 use Rattle.reduce_lists.specs.Damage.{IsDamagedIn, IsDamageOf}
 use Rattle.reduce_lists.specs.Contents.{Contents, Holds, IsUnread, IsTakenTo, QueueLists, RowLists, NameLists}
 use Rattle.reduce_lists.specs.Changes.{JoinsQueue, JoinsRows, JoinsNames, GivesRow, ShowsName, ShowsQueued, IsAt, Passes, PassesInner}
 use Rattle.reduce_lists.proofs.Holding.{undisturbed_wrote, untaken_stays, untaken_spilled, holds_untaken, with_queue, with_rows, with_names, with_inner, with_ends}
-use Rattle.reduce_lists.proofs.Listing.{bytes_stay, listed_still}
+use Rattle.reduce_lists.proofs.Listing.{bytes_stay, in_step_still, listed_still}
 use Rattle.reduce_lists.proofs.NextArcs.{rest_is, first_reached, read_on, last_same}
 
 -- what is held stays while parts are taken, and while no file changes
@@ -314,7 +314,7 @@ served_put a l w v parts same served = record {
   no_run = λ run. served.no_run (subst (IsRun a l) same run);
 }
 
--- and what was read is as the bytes say, and the lists are known
+-- what was read is as the bytes say, and the windows of the lists hold what their runs do
 pub work_put : (a : Ahead) (l : Lists) (w v : NodeWriter) (parts : Parts) (n : ℕ) (old new : World)
     → AreServed a l w parts → Wrote n (writers.filling_of w).file old new → InStep (writers.filling_of v) new
     → IsAtWork a l w old → IsAtWork a l v new
@@ -324,8 +324,14 @@ work_put a l w v parts n old new served wrote step work =
       writes = step;
       reads_inner = subst (λ bytes. streams.Reads Inner (inner_of a.reader) bytes) (sym still.inner) work.reads_inner;
       reads_ends = subst (λ bytes. streams.Reads End (ends_of a.reader) bytes) (sym still.ends) work.reads_ends;
-      listed = listed_still a l old new still work.listed;
+      lists = in_step_still a l old new still work.lists;
     }
+
+-- and the lists exist
+pub listed_put : (a : Ahead) (l : Lists) (w : NodeWriter) (parts : Parts) (n : ℕ) (old new : World)
+    → AreServed a l w parts → Wrote n (writers.filling_of w).file old new → AreListed a l old → AreListed a l new
+listed_put a l w parts n old new served wrote =
+    listed_still a l old new (undisturbed_wrote a l w parts n old new served wrote)
 
 -- a write to the file that is made
 pub own_wrote : {S : Type 0} (tells : S → Bool) (world : S → World) (out : FileNo) (step next n : ℕ) (s t : S)

@@ -1,5 +1,5 @@
--- What the queue, the rows and the names stand for stays known while calls change other files, and what a call of one
--- of them leaves.
+-- What is known of the queue, of the rows and of the names, and that they stand for lists, stays so while calls change
+-- other files, and what a call of one of them leaves.
 use Rattle.std.proofs.Common.{◌≡◌, ◌≤◌, ◌⊎◌, List, arith, refl, ap, sym, subst, ◌∙◌, inl, inr}
 use Rattle.std.specs.Prelude.{Bool, IsTrue, Result, Ok, Err, Option, Some, None, OnOk, length}
 use Rattle.shelf_model.specs.declared.sort_fault.SortFault.{SortFault}
@@ -10,6 +10,8 @@ use Rattle.shelf_model.specs.Calls.{Told}
 use Rattle.shelf_model.specs.World.{World, now, file}
 use Rattle.shelf_model.specs.Moments.{Ran, Stays}
 use Rattle.shelf_model.proofs.Runs.{told, ran_end, ran_weakens}
+use Rattle.run_files.specs.Heads.{head_at}
+use Rattle.run_files.proofs.MergeLaws.{step_along}
 use Rattle.run_tiers.specs.declared.parts.Parts.{Parts}
 use Rattle.run_tiers.specs.Parts.{Took, IsTaken, OnlyTaken, Spilled}
 use Rattle.run_merge.specs.Lists.{Joins, Shows, Gives}
@@ -34,11 +36,33 @@ use Rattle.sweep_core.specs.Accounts.{CanBeTaken, OnlyOwn}
 use Rattle.reduce_lists.specs.declared.held.Ahead.{Ahead}
 use Rattle.reduce_lists.specs.declared.held.Lists.{Lists}
 use Rattle.reduce_lists.specs.Held.{Held, AreServed}
-use Rattle.reduce_lists.specs.AtWork.{AreListed, IsAtWork}
+use Rattle.reduce_lists.specs.AtWork.{AreListed, AreInStep, IsAtWork}
 use Rattle.reduce_lists.specs.Contents.{QueueLists, RowLists, NameLists}
 use Rattle.reduce_lists.proofs.Holding.{BytesStay, Undisturbed, Untaken, untaken_stays, untaken_spilled, undisturbed_untaken}
 
--- the lists stay known where nothing disturbs them
+-- the windows of a sorter hold what the files of its runs do while the bytes of these stay
+sorter_step : {T : Type 0} (s : Sorter T) (old new : World)
+    → ((f : FileNo) → sorters.IsRunOf s f → BytesStay old new f) → sorters.IsInStep s old → sorters.IsInStep s new
+unfolding sorters.IsRunOf sorters.IsInStep
+sorter_step s old new same step = step_along s.tiers.width s.tiers.heads s.windows.now old new
+    (λ i within used. same (head_at s.tiers.heads i).file (i, within, used, refl)) step
+
+-- and so do those of the queue
+queue_step : {T : Type 0} (q : LevelQueue T) (old new : World)
+    → ((f : FileNo) → queues.IsRunOf q f → BytesStay old new f) → queues.IsInStep q old → queues.IsInStep q new
+unfolding queues.IsRunOf queues.IsInStep
+queue_step q old new same step = sorter_step q.sorter old new same step
+
+-- so the windows of all lists do where nothing disturbs them
+pub in_step_still : (a : Ahead) (l : Lists) (old new : World) → Undisturbed a l old new → AreInStep a l old
+    → AreInStep a l new
+in_step_still a l old new still lists = record {
+  queue_in_step = queue_step a.queue old new (λ f run. still.runs f (inl run)) lists.queue_in_step;
+  rows_in_step = sorter_step l.rows old new (λ f run. still.runs f (inr (inl run))) lists.rows_in_step;
+  names_in_step = sorter_step l.names old new (λ f run. still.runs f (inr (inr run))) lists.names_in_step;
+}
+
+-- and the lists exist still
 pub listed_still : (a : Ahead) (l : Lists) (old new : World) → Undisturbed a l old new → AreListed a l old
     → AreListed a l new
 listed_still a l old new still listed = record {
@@ -59,7 +83,7 @@ listed_still a l old new still listed = record {
   );
 }
 
--- and what it takes its files to hold is so, where parts are taken
+-- where parts are taken, what it knows of its files is so
 pub work_untaken : (a : Ahead) (l : Lists) (w : NodeWriter) (parts : Parts) (old new : World) → AreServed a l w parts
     → Untaken parts old new → IsAtWork a l w old → IsAtWork a l w new
 work_untaken a l w parts old new served same work =
@@ -69,56 +93,56 @@ work_untaken a l w parts old new served same work =
       writes = ap length out ∙ work.writes;
       reads_inner = subst (λ bytes. streams.Reads Inner (inner_of a.reader) bytes) (sym still.inner) work.reads_inner;
       reads_ends = subst (λ bytes. streams.Reads End (ends_of a.reader) bytes) (sym still.ends) work.reads_ends;
-      listed = listed_still a l old new still work.listed;
+      lists = in_step_still a l old new still work.lists;
     }
 
 pub work_stays : (a : Ahead) (l : Lists) (w : NodeWriter) (parts : Parts) (old new : World) → AreServed a l w parts
     → Ran (Stays (now old)) old new → IsAtWork a l w old → IsAtWork a l w new
 work_stays a l w parts old new served ran = work_untaken a l w parts old new served (untaken_stays parts old new ran)
 
+-- and its lists exist
+pub listed_stays : (a : Ahead) (l : Lists) (w : NodeWriter) (parts : Parts) (old new : World) → AreServed a l w parts
+    → Ran (Stays (now old)) old new → AreListed a l old → AreListed a l new
+listed_stays a l w parts old new served ran =
+    listed_still a l old new (undisturbed_untaken a l w parts old new served (untaken_stays parts old new ran))
+
 -- one of the lists is another
-with_queue : (a : Ahead) (l : Lists) (w : NodeWriter) (world : World) (q : LevelQueue FinalArc) (xs : List FinalArc)
-    → QueueLists q world xs → IsAtWork a l w world
-    → IsAtWork (record a { queue = q }) l w world
-with_queue a l w world q xs list work = record {
+with_queue : (a : Ahead) (l : Lists) (w : NodeWriter) (world : World) (q : LevelQueue FinalArc)
+    → queues.IsInStep q world → IsAtWork a l w world → IsAtWork (record a { queue = q }) l w world
+with_queue a l w world q step work = record {
   writes = work.writes;
   reads_inner = work.reads_inner;
   reads_ends = work.reads_ends;
-  listed = record {
-    queue_listed = (xs, list);
-    rows_listed = work.listed.rows_listed;
-    names_listed =
-        work.listed.names_listed;
+  lists = record {
+    queue_in_step = step;
+    rows_in_step = work.lists.rows_in_step;
+    names_in_step = work.lists.names_in_step;
   };
 }
 
-with_rows : (a : Ahead) (l : Lists) (w : NodeWriter) (world : World) (rows : Sorter SourceRow) (xs : List SourceRow)
-    → RowLists rows world xs → IsAtWork a l w world
-    → IsAtWork a (record l { rows = rows }) w world
-with_rows a l w world rows xs list work = record {
+with_rows : (a : Ahead) (l : Lists) (w : NodeWriter) (world : World) (rows : Sorter SourceRow)
+    → sorters.IsInStep rows world → IsAtWork a l w world → IsAtWork a (record l { rows = rows }) w world
+with_rows a l w world rows step work = record {
   writes = work.writes;
   reads_inner = work.reads_inner;
   reads_ends = work.reads_ends;
-  listed = record {
-    queue_listed = work.listed.queue_listed;
-    rows_listed = (xs, list);
-    names_listed =
-        work.listed.names_listed;
+  lists = record {
+    queue_in_step = work.lists.queue_in_step;
+    rows_in_step = step;
+    names_in_step = work.lists.names_in_step;
   };
 }
 
-with_names : (a : Ahead) (l : Lists) (w : NodeWriter) (world : World) (names : Sorter Name) (xs : List Name)
-    → NameLists names world xs → IsAtWork a l w world
-    → IsAtWork a (record l { names = names }) w world
-with_names a l w world names xs list work = record {
+with_names : (a : Ahead) (l : Lists) (w : NodeWriter) (world : World) (names : Sorter Name)
+    → sorters.IsInStep names world → IsAtWork a l w world → IsAtWork a (record l { names = names }) w world
+with_names a l w world names step work = record {
   writes = work.writes;
   reads_inner = work.reads_inner;
   reads_ends = work.reads_ends;
-  listed = record {
-    queue_listed = work.listed.queue_listed;
-    rows_listed = work.listed.rows_listed;
-    names_listed =
-        (xs, list);
+  lists = record {
+    queue_in_step = work.lists.queue_in_step;
+    rows_in_step = work.lists.rows_in_step;
+    names_in_step = step;
   };
 }
 
@@ -142,11 +166,10 @@ work_read_inner a l w parts old new r next served ran ends place reads was =
       reads_inner = subst (λ b. streams.Reads Inner (inner_of r) b)
           (bytes_stay old new (streams.file_of (inner_of a.reader)) (streams.file_of (inner_of r)) place ran) reads;
       reads_ends = subst (λ s. streams.Reads End s (file new (streams.file_of s)).bytes) (sym ends) work.reads_ends;
-      listed = record {
-        queue_listed = work.listed.queue_listed;
-        rows_listed = work.listed.rows_listed;
-        names_listed =
-            work.listed.names_listed;
+      lists = record {
+        queue_in_step = work.lists.queue_in_step;
+        rows_in_step = work.lists.rows_in_step;
+        names_in_step = work.lists.names_in_step;
       };
     }
 
@@ -163,15 +186,26 @@ work_read_end a l w parts old new r next served ran inner place reads was =
           work.reads_inner;
       reads_ends = subst (λ b. streams.Reads End (ends_of r) b)
           (bytes_stay old new (streams.file_of (ends_of a.reader)) (streams.file_of (ends_of r)) place ran) reads;
-      listed = record {
-        queue_listed = work.listed.queue_listed;
-        rows_listed = work.listed.rows_listed;
-        names_listed =
-            work.listed.names_listed;
+      lists = record {
+        queue_in_step = work.lists.queue_in_step;
+        rows_in_step = work.lists.rows_in_step;
+        names_in_step = work.lists.names_in_step;
       };
     }
 
--- a list that an item joined, or whose first item was shown or given, is known
+-- the lists don't read the arc files
+pub listed_read : (a : Ahead) (l : Lists) (w : NodeWriter) (parts : Parts) (old new : World) (r : ArcReader)
+    (inner end : Option Arc) → AreServed a l w parts → Ran (Stays (now old)) old new → AreListed a l old
+    → AreListed (record a { reader = r; inner = inner; end = end }) l new
+listed_read a l w parts old new r inner end served ran was =
+    let listed = listed_stays a l w parts old new served ran was in
+    record {
+      queue_listed = listed.queue_listed;
+      rows_listed = listed.rows_listed;
+      names_listed = listed.names_listed;
+    }
+
+-- a list that an item joined, or whose first item was shown or given, exists still
 pub joins_known : {T : Type 0} (Old New : List T → Type 0) (told : Type 0) (x : T) (result : Result Unit SortFault)
     → (told → (xs : List T) → Old xs → Joins New x xs result)
     → OnOk result (told → (xs : List T) → Old xs → (ys : List T) × New ys)
@@ -326,26 +360,55 @@ module _ {S : Type 0} (tells : S → Bool) (world : S → World) (old new : S) (
         (untaken_spilled s.parts after (world old) (world new) (content.did tell)) work_before
 
     -- and with one that is another
-    pub queue_works : (q : LevelQueue FinalArc) → ((xs : List FinalArc) → QueueLists s.ahead.queue (world old) xs
-        → (ys : List FinalArc) × QueueLists q (world new) ys)
+    pub queue_works : (q : LevelQueue FinalArc)
+        → (queues.IsInStep s.ahead.queue (world old) → queues.IsInStep q (world new))
         → IsAtWork (record s.ahead { queue = q }) s.lists s.writer (world new)
-    queue_works q known =
-        let listed = work_before.listed.queue_listed in
-        let list = known listed.0 listed.1 in
-        with_queue s.ahead s.lists s.writer (world new) q list.0 list.1 work_after
+    queue_works q step =
+        with_queue s.ahead s.lists s.writer (world new) q (step work_before.lists.queue_in_step) work_after
 
-    pub rows_work : (rows : Sorter SourceRow) → ((xs : List SourceRow) → RowLists s.lists.rows (world old) xs
-        → (ys : List SourceRow) × RowLists rows (world new) ys)
+    pub rows_work : (rows : Sorter SourceRow)
+        → (sorters.IsInStep s.lists.rows (world old) → sorters.IsInStep rows (world new))
         → IsAtWork s.ahead (record s.lists { rows = rows }) s.writer (world new)
-    rows_work rows known =
-        let listed = work_before.listed.rows_listed in
-        let list = known listed.0 listed.1 in
-        with_rows s.ahead s.lists s.writer (world new) rows list.0 list.1 work_after
+    rows_work rows step =
+        with_rows s.ahead s.lists s.writer (world new) rows (step work_before.lists.rows_in_step) work_after
 
-    pub names_work : (names : Sorter Name) → ((xs : List Name) → NameLists s.lists.names (world old) xs
-        → (ys : List Name) × NameLists names (world new) ys)
+    pub names_work : (names : Sorter Name)
+        → (sorters.IsInStep s.lists.names (world old) → sorters.IsInStep names (world new))
         → IsAtWork s.ahead (record s.lists { names = names }) s.writer (world new)
-    names_work names known =
-        let listed = work_before.listed.names_listed in
-        let list = known listed.0 listed.1 in
-        with_names s.ahead s.lists s.writer (world new) names list.0 list.1 work_after
+    names_work names step =
+        with_names s.ahead s.lists s.writer (world new) names (step work_before.lists.names_in_step) work_after
+
+  -- the lists exist while they are the old ones
+  module _ (tell : IsTrue (tells new)) (was : AreListed s.ahead s.lists (world old)) where
+    listed_after : AreListed s.ahead s.lists (world new)
+    listed_after = listed_still s.ahead s.lists (world old) (world new)
+        (undisturbed_untaken s.ahead s.lists s.writer s.parts (world old) (world new) served
+        (untaken_spilled s.parts after (world old) (world new) (content.did tell))) was
+
+    -- and with one that is another
+    pub queue_listed : (q : LevelQueue FinalArc) → ((xs : List FinalArc) → QueueLists s.ahead.queue (world old) xs
+        → (ys : List FinalArc) × QueueLists q (world new) ys)
+        → AreListed (record s.ahead { queue = q }) s.lists (world new)
+    queue_listed q known = record {
+      queue_listed = known was.queue_listed.0 was.queue_listed.1;
+      rows_listed = listed_after.rows_listed;
+      names_listed = listed_after.names_listed;
+    }
+
+    pub rows_listed : (rows : Sorter SourceRow) → ((xs : List SourceRow) → RowLists s.lists.rows (world old) xs
+        → (ys : List SourceRow) × RowLists rows (world new) ys)
+        → AreListed s.ahead (record s.lists { rows = rows }) (world new)
+    rows_listed rows known = record {
+      queue_listed = listed_after.queue_listed;
+      rows_listed = known was.rows_listed.0 was.rows_listed.1;
+      names_listed = listed_after.names_listed;
+    }
+
+    pub names_listed : (names : Sorter Name) → ((xs : List Name) → NameLists s.lists.names (world old) xs
+        → (ys : List Name) × NameLists names (world new) ys)
+        → AreListed s.ahead (record s.lists { names = names }) (world new)
+    names_listed names known = record {
+      queue_listed = listed_after.queue_listed;
+      rows_listed = listed_after.rows_listed;
+      names_listed = known was.names_listed.0 was.names_listed.1;
+    }

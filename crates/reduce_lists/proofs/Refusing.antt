@@ -1,5 +1,5 @@
--- Why the calls of the queue, of the rows and of the names are refused: none of their runs is damaged where the folder
--- tells, and else damage is in a file whose part was taken.
+-- Why the calls of the queue, of the rows and of the names are refused: none of their runs is damaged where they stand
+-- for lists, and else damage is in a file whose part was taken.
 use Rattle.std.proofs.Common.{◌≡◌, ◌∙◌, ℕ, List, ap, sym, subst, inl, inr}
 use Rattle.std.specs.Prelude.{Result, Ok, Err, Option, IfErr, IsErrAnd}
 use Rattle.shelf_model.specs.declared.sort_fault.SortFault.{SortFault}
@@ -18,6 +18,9 @@ use Rattle.level_queue.specs.declared.queue.LevelQueue.{LevelQueue}
 use Rattle.level_queue.specs.Queues as queues
 use Rattle.arc_file.specs.declared.reader.ArcReader.{ArcReader}
 use Rattle.run_merge.proofs.RunFiles.{push_taken, read_taken, first_taken}
+use Rattle.reduce_lists.specs.declared.held.Ahead.{Ahead}
+use Rattle.reduce_lists.specs.declared.held.Lists.{Lists}
+use Rattle.reduce_lists.specs.AtWork.{AreListed}
 use Rattle.reduce_lists.specs.Damage.{IsDamageOf, IsListCause}
 
 -- what follows from a fact about why a call was refused
@@ -26,37 +29,42 @@ pub if_err_weaker : {T E : Type 0} {P Q : E → Type 0} (result : Result T E) �
 if_err_weaker (Ok x) weaker p = tt
 if_err_weaker (Err e) weaker p = weaker e p
 
--- a list that some item joins is known: no damage is found
+-- what is damaged whatever the lists stand for is so where they stand for some
+pub damaged_anyhow : {T : Type 0} (told listed : Type 0) (r : ArcReader) (world : World) (result : Result T SortFault)
+    → IfErr result (λ e. told → IsDamageOf r world e) → IfErr result (λ e. told → listed → IsDamageOf r world e)
+damaged_anyhow told listed r world result = if_err_weaker result (λ e damage tell list. damage tell)
+
+-- a list that some item joins exists: no damage is found
 pub none_joined : {T : Type 0} (Old New : List T
-    → Type 0) (told : Type 0) (r : ArcReader) (world : World) (x : T) (result : Result Unit SortFault)
-    → (told → (xs : List T) × Old xs)
-    → (told → (xs : List T) → Old xs → Joins New x xs result) → IfErr result (λ e. told → IsDamageOf r world e)
-none_joined Old New told r world x (Ok u) listed joins = tt
-none_joined Old New told r world x (Err Shelf) listed joins = λ tell. tt
-none_joined Old New told r world x (Err (Damaged f at)) listed joins =
-    λ tell. (let list = listed tell in absurd (joins tell list.0 list.1))
-none_joined Old New told r world x (Err RunsSpent) listed joins = λ tell. tt
+    → Type 0) (told : Type 0) (a : Ahead) (l : Lists) (world : World) (x : T) (result : Result Unit SortFault)
+    → (AreListed a l world → (xs : List T) × Old xs) → (told → (xs : List T) → Old xs → Joins New x xs result)
+    → IfErr result (λ e. told → AreListed a l world → IsDamageOf a.reader world e)
+none_joined Old New told a l world x (Ok u) list joins = tt
+none_joined Old New told a l world x (Err Shelf) list joins = λ tell listed. tt
+none_joined Old New told a l world x (Err (Damaged f at)) list joins =
+    λ tell listed. absurd (joins tell (list listed).0 (list listed).1)
+none_joined Old New told a l world x (Err RunsSpent) list joins = λ tell listed. tt
 
 -- nor where its first item is shown or given
 pub none_shown : {T : Type 0} (Old New : List T
-    → Type 0) (told : Type 0) (r : ArcReader) (world : World) (result : Result (Option T) SortFault)
-    → (told → (xs : List T) × Old xs)
-    → (told → (xs : List T) → Old xs → Shows New xs result) → IfErr result (λ e. told → IsDamageOf r world e)
-none_shown Old New told r world (Ok o) listed shows = tt
-none_shown Old New told r world (Err Shelf) listed shows = λ tell. tt
-none_shown Old New told r world (Err (Damaged f at)) listed shows =
-    λ tell. (let list = listed tell in absurd (shows tell list.0 list.1))
-none_shown Old New told r world (Err RunsSpent) listed shows = λ tell. tt
+    → Type 0) (told : Type 0) (a : Ahead) (l : Lists) (world : World) (result : Result (Option T) SortFault)
+    → (AreListed a l world → (xs : List T) × Old xs) → (told → (xs : List T) → Old xs → Shows New xs result)
+    → IfErr result (λ e. told → AreListed a l world → IsDamageOf a.reader world e)
+none_shown Old New told a l world (Ok o) list shows = tt
+none_shown Old New told a l world (Err Shelf) list shows = λ tell listed. tt
+none_shown Old New told a l world (Err (Damaged f at)) list shows =
+    λ tell listed. absurd (shows tell (list listed).0 (list listed).1)
+none_shown Old New told a l world (Err RunsSpent) list shows = λ tell listed. tt
 
 pub none_given : {T : Type 0} (Old New : List T
-    → Type 0) (told : Type 0) (r : ArcReader) (world : World) (result : Result (Option T) SortFault)
-    → (told → (xs : List T) × Old xs)
-    → (told → (xs : List T) → Old xs → Gives New xs result) → IfErr result (λ e. told → IsDamageOf r world e)
-none_given Old New told r world (Ok o) listed gives = tt
-none_given Old New told r world (Err Shelf) listed gives = λ tell. tt
-none_given Old New told r world (Err (Damaged f at)) listed gives =
-    λ tell. (let list = listed tell in absurd (gives tell list.0 list.1))
-none_given Old New told r world (Err RunsSpent) listed gives = λ tell. tt
+    → Type 0) (told : Type 0) (a : Ahead) (l : Lists) (world : World) (result : Result (Option T) SortFault)
+    → (AreListed a l world → (xs : List T) × Old xs) → (told → (xs : List T) → Old xs → Gives New xs result)
+    → IfErr result (λ e. told → AreListed a l world → IsDamageOf a.reader world e)
+none_given Old New told a l world (Ok o) list gives = tt
+none_given Old New told a l world (Err Shelf) list gives = λ tell listed. tt
+none_given Old New told a l world (Err (Damaged f at)) list gives =
+    λ tell listed. absurd (gives tell (list listed).0 (list listed).1)
+none_given Old New told a l world (Err RunsSpent) list gives = λ tell listed. tt
 
 -- a push is refused where a run of its own is damaged, or no part number is left
 pub push_refuses : {T : Type 0} (s : Sorter T) (before after : Parts) (e : SortFault) → sorters.Serves before s

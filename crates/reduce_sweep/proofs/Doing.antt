@@ -12,6 +12,7 @@ use Rattle.arc_file.specs.declared.kind.Kind.TheVariants.{Inner, End}
 use Rattle.arc_file.specs.Readers.{inner_of, ends_of}
 use Rattle.sweep_core.specs.Accounts.{OnlyOwn}
 use Rattle.sweep_core.proofs.Leaving.{leaves_then, leaves_more, leaves_ok, leaves_err}
+use Rattle.reduce_lists.specs.AtWork.{AreListed}
 use Rattle.reduce_lists.specs.Damage.{IsDamageOf, IsDamageAmong}
 use Rattle.reduce_lists.proofs.DamageLaws.{damage_before, damaged_after}
 use Rattle.reduce_lists.proofs.Refusing.{if_err_weaker}
@@ -19,7 +20,7 @@ use Rattle.reduce_sweep.specs.declared.place.Place.{Place}
 use Rattle.reduce_sweep.specs.declared.reduce.ReduceSweep.{ReduceSweep}
 use Rattle.reduce_sweep.specs.Sweeps.{inner_file, ends_file, task_of, accounts, IsSound, Refuses}
 use Rattle.reduce_sweep.specs.Damage.{IsDamage}
-use Rattle.reduce_sweep.specs.Calls.{SameTask, Does}
+use Rattle.reduce_sweep.specs.Calls.{KeepsLists, SameTask, Does}
 
 -- a task that stays, and stays again
 pub task_then : (p q r : ReduceSweep) → SameTask p q → SameTask q r → SameTask p r
@@ -53,15 +54,17 @@ module _ {S : Type 0} (tells : S → Bool) (world : S → World) (counts : S →
       )
 
   -- one call after another that read no arc
-  pub does_then : {A B : Type 0} (m n a b : ℕ) (s t u : S) (p q r : ReduceSweep) (one : Result A SortFault) (two : Result B SortFault) → IsSound p → q.ahead.reader ≡ p.ahead.reader
+  pub does_then : {A B : Type 0} (m n a b : ℕ) (s t u : S) (p q r : ReduceSweep) (one : Result A SortFault) (two : Result B SortFault) → IsSound p → q.ahead.reader ≡ p.ahead.reader → KeepsLists tells world s t p q
       → Does tells world counts m a s t p q one → Does tells world counts n b t u q r two → Does tells world counts (m + n) (a + b) s u p r two
-  does_then m n a b s t u p q r one two sound reader x y = record {
+  does_then m n a b s t u p q r one two sound reader keeps x y = record {
     leaves = leaves_then tells world counts accounts m n a b s t u p q r one two x.leaves y.leaves;
     same = task_then p q r x.same y.same;
     refused = subst (λ v. v) (λ j. IfErr two (Refuses (x.same.inner_is j) (x.same.ends_are j) r)) y.refused;
-    damage = if_err_weaker two (λ e damage told.
-        let stay = arcs_stay m a s t p q one sound x (y.leaves.content.before told) in
-        damage_before p.ahead.reader (world s) (world t) e stay.0 stay.1 (subst (λ (v : ArcReader). IsDamageOf v (world t) e) reader (damage told))) y.damage;
+    damage = if_err_weaker two (λ e damage told lists.
+        let before = y.leaves.content.before told in
+        let stay = arcs_stay m a s t p q one sound x before in
+        damage_before p.ahead.reader (world s) (world t) e stay.0 stay.1
+        (subst (λ (v : ArcReader). IsDamageOf v (world t) e) reader (damage told (keeps before lists)))) y.damage;
   }
 
   -- a call costs no more than what is more
@@ -94,21 +97,21 @@ module _ {S : Type 0} (tells : S → Bool) (world : S → World) (counts : S →
         leaves = leaves_err tells world counts accounts m a s t p q (Err f) before e is was d.leaves;
         same = d.same;
         refused = subst (λ r. IfErr r (Refuses (inner_file p) (ends_file p) q)) same d.refused;
-        damage = subst (λ r. IfErr r (λ g. IsTrue (tells t) → IsDamageOf p.ahead.reader (world s) g)) same d.damage;
+        damage = subst (λ r. IfErr r (λ g. IsTrue (tells t) → AreListed p.ahead p.lists (world s) → IsDamageOf p.ahead.reader (world s) g)) same d.damage;
       }
 
   -- two calls, of which the second one was refused, and two that succeeded
   pub refused_second : {A B C : Type 0} (m n a b most parts : ℕ) (s t u : S) (p q r : ReduceSweep) (one : Result A SortFault) (two : Result B SortFault) (result : Result C SortFault) (e : SortFault)
-      → m + n ≤ most → a + b ≤ parts → IsSound p → q.ahead.reader ≡ p.ahead.reader → Does tells world counts m a s t p q one → Does tells world counts n b t u q r two
+      → m + n ≤ most → a + b ≤ parts → IsSound p → q.ahead.reader ≡ p.ahead.reader → KeepsLists tells world s t p q → Does tells world counts m a s t p q one → Does tells world counts n b t u q r two
       → IsErrAnd result (λ f. f ≡ e) → two ≡ Err e → Does tells world counts most parts s u p r result
-  refused_second m n a b most parts s t u p q r one two result e calls more sound reader x y is was =
-      does_more (m + n) most (a + b) parts s u p r result calls more (does_err (m + n) (a + b) s u p r result two e is was (does_then m n a b s t u p q r one two sound reader x y))
+  refused_second m n a b most parts s t u p q r one two result e calls more sound reader keeps x y is was =
+      does_more (m + n) most (a + b) parts s u p r result calls more (does_err (m + n) (a + b) s u p r result two e is was (does_then m n a b s t u p q r one two sound reader keeps x y))
 
   pub then_ok : {A B C : Type 0} (m n a b most parts : ℕ) (s t u : S) (p q r : ReduceSweep) (one : Result A SortFault) (two : Result B SortFault) (x : C)
-      → m + n ≤ most → a + b ≤ parts → IsSound p → q.ahead.reader ≡ p.ahead.reader → Does tells world counts m a s t p q one → Does tells world counts n b t u q r two
+      → m + n ≤ most → a + b ≤ parts → IsSound p → q.ahead.reader ≡ p.ahead.reader → KeepsLists tells world s t p q → Does tells world counts m a s t p q one → Does tells world counts n b t u q r two
       → Does tells world counts most parts s u p r (Ok x)
-  then_ok m n a b most parts s t u p q r one two x calls more sound reader first second =
-      does_more (m + n) most (a + b) parts s u p r (Ok x) calls more (does_ok (m + n) (a + b) s u p r two x (does_then m n a b s t u p q r one two sound reader first second))
+  then_ok m n a b most parts s t u p q r one two x calls more sound reader keeps first second =
+      does_more (m + n) most (a + b) parts s u p r (Ok x) calls more (does_ok (m + n) (a + b) s u p r two x (does_then m n a b s t u p q r one two sound reader keeps first second))
 
   -- the place within the task is another
   pub does_placed : {T : Type 0} (m a : ℕ) (s t : S) (p q : ReduceSweep) (result : Result T SortFault) (place : Place) → place.variables ≡ q.place.variables → place.root ≡ q.place.root
@@ -142,12 +145,12 @@ module _ {S : Type 0} (tells : S → Bool) (world : S → World) (counts : S →
       by (Err (Damaged f at)) why = why
       by (Err RunsSpent) why = why
 
-  -- where damage is once a turn was refused
+  -- where damage is once a turn was refused, if the lists existed
   pub damage_after : {T : Type 0} (m a : ℕ) (s t : S) (p q : ReduceSweep) (result : Result T SortFault) → IsSound p → Does tells world counts m a s t p q result
-      → IfErr result (λ e. IsTrue (tells t) → IsDamage q (world t) e)
-  damage_after m a s t p q result sound x = if_err_weaker result (λ e damage told.
+      → IfErr result (λ e. IsTrue (tells t) → AreListed p.ahead p.lists (world s) → IsDamage q (world t) e)
+  damage_after m a s t p q result sound x = if_err_weaker result (λ e damage told lists.
       subst (λ arcs. IsDamageAmong arcs (world t) e) (sym x.same.arcs_are)
-      (by e (arcs_stay m a s t p q result sound x told) (damage told))) x.damage
+      (by e (arcs_stay m a s t p q result sound x told) (damage told lists))) x.damage
     where
       by : (e : SortFault) → ((file (world t) (inner_file p)).bytes ≡ (file (world s) (inner_file p)).bytes) × ((file (world t) (ends_file p)).bytes ≡ (file (world s) (ends_file p)).bytes)
           → IsDamageOf p.ahead.reader (world s) e → IsDamage p (world t) e

@@ -23,13 +23,14 @@ use Rattle.arc_file.specs.Readers.{inner_of, ends_of}
 use Rattle.reduce_lists.specs.declared.held.Ahead.{Ahead}
 use Rattle.reduce_lists.specs.declared.held.Lists.{Lists}
 use Rattle.reduce_lists.specs.Held.{AreServed, AreWithin}
+use Rattle.reduce_lists.specs.AtWork.{AreListed}
 use Rattle.reduce_lists.specs.Damage.{IsDamageOf, IsListCause}
 use Rattle.reduce_lists.specs.Contents.{QueueLists, RowLists, NameLists}
-use Rattle.reduce_lists.proofs.Listing.{serves_queue, serves_rows, serves_names, own_content, queue_works, rows_work, names_work}
+use Rattle.reduce_lists.proofs.Listing.{serves_queue, serves_rows, serves_names, own_content, queue_works, rows_work, names_work, queue_listed, rows_listed, names_listed}
 use Rattle.reduce_lists.proofs.Refusing.{if_err_weaker}
 use Rattle.reduce_sweep.specs.declared.reduce.ReduceSweep.{ReduceSweep}
 use Rattle.reduce_sweep.specs.Sweeps.{held_of, inner_file, ends_file, credit_of, stock_of, IsSound}
-use Rattle.reduce_sweep.specs.Calls.{IsFit, Does}
+use Rattle.reduce_sweep.specs.Calls.{IsFit, KeepsLists, Does}
 use Rattle.reduce_sweep.proofs.Refusing.{list_refuses}
 
 module _ {S : Type 0} (tells : S → Bool) (world : S → World) (counts : S → Faults) (old new : S) (s : ReduceSweep)
@@ -53,7 +54,8 @@ module _ {S : Type 0} (tells : S → Bool) (world : S → World) (counts : S →
         → (IsTrue (tells new) → Paid m (credit_of s) (credit_of with_lists) (world old) (world new))
         → PaidParts n (stock_of s) (stock_of with_lists) s.parts after
         → OnlySortShelf (counts old) (counts new) result → IfErr result (IsListCause after)
-        → IfErr result (λ e. IsTrue (tells new) → IsDamageOf s.ahead.reader (world old) e)
+        → IfErr result (λ e. IsTrue (tells new) → AreListed s.ahead s.lists (world old)
+        → IsDamageOf s.ahead.reader (world old) e)
         → Does tells world counts m n old new s with_lists result
     does_with m n result reader calls spent faults refused damage = record {
       leaves = record {
@@ -86,22 +88,31 @@ module _ {S : Type 0} (tells : S → Bool) (world : S → World) (counts : S →
     pub queue_fits : {A : Type 0} (result : Result A SortFault)
         → queues.HoldsValues IsFinalArc final_arc_words q → queues.Serves after q
         → ((f : FileNo) → queues.IsRunOf q f → queues.IsRunOf s.ahead.queue f ⊎ IsTaken s.parts after f)
-        → OnOk result (IsTrue (tells new) → (xs : List FinalArc) → QueueLists s.ahead.queue (world old) xs
-        → (ys : List FinalArc) × QueueLists q (world new) ys)
+        → OnOk result (IsTrue (tells new) → queues.IsInStep s.ahead.queue (world old)
+        → queues.IsInStep q (world new))
         → OnOk result (IsFit tells world new queue_changed)
-    queue_fits (Err e) values serves runs known = tt
-    queue_fits (Ok x) values serves runs known = record {
+    queue_fits (Err e) values serves runs step = tt
+    queue_fits (Ok x) values serves runs step = record {
       sound = sound_with (record s.ahead { queue = q }) s.lists refl
           (serves_queue (held_of s) fit.sound.served after took q values serves runs);
       at_work = λ told. queue_works tells world old new (held_of s) fit.sound.served after content fit.at_work told
-          q (known told);
+          q (step told);
     }
+
+    pub queue_keeps : {A : Type 0} (result : Result A SortFault)
+        → OnOk result (IsTrue (tells new) → (xs : List FinalArc) → QueueLists s.ahead.queue (world old) xs
+        → (ys : List FinalArc) × QueueLists q (world new) ys)
+        → OnOk result (KeepsLists tells world old new s queue_changed)
+    queue_keeps (Err e) known = tt
+    queue_keeps (Ok x) known = λ told lists. queue_listed tells world old new (held_of s) fit.sound.served after content told
+        lists q (known told)
 
     pub queue_does : {A : Type 0} (m n : ℕ) (result : Result A SortFault)
         → (IsTrue (tells new) → Paid m (queues.credit s.ahead.queue) (queues.credit q) (world old) (world new))
         → PaidParts n (queues.stock s.ahead.queue) (queues.stock q) s.parts after
         → OnlySortShelf (counts old) (counts new) result → IfErr result (IsListCause after)
-        → IfErr result (λ e. IsTrue (tells new) → IsDamageOf s.ahead.reader (world old) e)
+        → IfErr result (λ e. IsTrue (tells new) → AreListed s.ahead s.lists (world old)
+        → IsDamageOf s.ahead.reader (world old) e)
         → Does tells world counts m n old new s queue_changed result
     queue_does m n result calls spent faults refused damage =
         does_with (record s.ahead { queue = q }) s.lists m n result refl
@@ -115,22 +126,31 @@ module _ {S : Type 0} (tells : S → Bool) (world : S → World) (counts : S →
     pub rows_fit : {A : Type 0} (result : Result A SortFault)
         → sorters.HoldsValues IsSourceRow source_row_words rows → sorters.Serves after rows
         → ((f : FileNo) → sorters.IsRunOf rows f → sorters.IsRunOf s.lists.rows f ⊎ IsTaken s.parts after f)
-        → OnOk result (IsTrue (tells new) → (xs : List SourceRow) → RowLists s.lists.rows (world old) xs
-        → (ys : List SourceRow) × RowLists rows (world new) ys)
+        → OnOk result (IsTrue (tells new) → sorters.IsInStep s.lists.rows (world old)
+        → sorters.IsInStep rows (world new))
         → OnOk result (IsFit tells world new rows_changed)
-    rows_fit (Err e) values serves runs known = tt
-    rows_fit (Ok x) values serves runs known = record {
+    rows_fit (Err e) values serves runs step = tt
+    rows_fit (Ok x) values serves runs step = record {
       sound = sound_with s.ahead (record s.lists { rows = rows }) refl
           (serves_rows (held_of s) fit.sound.served after took rows values serves runs);
       at_work = λ told. rows_work tells world old new (held_of s) fit.sound.served after content fit.at_work told
-          rows (known told);
+          rows (step told);
     }
+
+    pub rows_keep : {A : Type 0} (result : Result A SortFault)
+        → OnOk result (IsTrue (tells new) → (xs : List SourceRow) → RowLists s.lists.rows (world old) xs
+        → (ys : List SourceRow) × RowLists rows (world new) ys)
+        → OnOk result (KeepsLists tells world old new s rows_changed)
+    rows_keep (Err e) known = tt
+    rows_keep (Ok x) known = λ told lists. rows_listed tells world old new (held_of s) fit.sound.served after content told
+        lists rows (known told)
 
     pub rows_do : {A : Type 0} (m n : ℕ) (result : Result A SortFault)
         → (IsTrue (tells new) → Paid m (sorters.credit s.lists.rows) (sorters.credit rows) (world old) (world new))
         → PaidParts n (sorters.stock s.lists.rows) (sorters.stock rows) s.parts after
         → OnlySortShelf (counts old) (counts new) result → IfErr result (IsListCause after)
-        → IfErr result (λ e. IsTrue (tells new) → IsDamageOf s.ahead.reader (world old) e)
+        → IfErr result (λ e. IsTrue (tells new) → AreListed s.ahead s.lists (world old)
+        → IsDamageOf s.ahead.reader (world old) e)
         → Does tells world counts m n old new s rows_changed result
     rows_do m n result calls spent faults refused damage =
         does_with s.ahead (record s.lists { rows = rows }) m n result refl
@@ -144,22 +164,31 @@ module _ {S : Type 0} (tells : S → Bool) (world : S → World) (counts : S →
     pub names_fit : {A : Type 0} (result : Result A SortFault)
         → sorters.HoldsValues IsName name_words names → sorters.Serves after names
         → ((f : FileNo) → sorters.IsRunOf names f → sorters.IsRunOf s.lists.names f ⊎ IsTaken s.parts after f)
-        → OnOk result (IsTrue (tells new) → (xs : List Name) → NameLists s.lists.names (world old) xs
-        → (ys : List Name) × NameLists names (world new) ys)
+        → OnOk result (IsTrue (tells new) → sorters.IsInStep s.lists.names (world old)
+        → sorters.IsInStep names (world new))
         → OnOk result (IsFit tells world new names_changed)
-    names_fit (Err e) values serves runs known = tt
-    names_fit (Ok x) values serves runs known = record {
+    names_fit (Err e) values serves runs step = tt
+    names_fit (Ok x) values serves runs step = record {
       sound = sound_with s.ahead (record s.lists { names = names }) refl
           (serves_names (held_of s) fit.sound.served after took names values serves runs);
       at_work = λ told. names_work tells world old new (held_of s) fit.sound.served after content fit.at_work told
-          names (known told);
+          names (step told);
     }
+
+    pub names_keep : {A : Type 0} (result : Result A SortFault)
+        → OnOk result (IsTrue (tells new) → (xs : List Name) → NameLists s.lists.names (world old) xs
+        → (ys : List Name) × NameLists names (world new) ys)
+        → OnOk result (KeepsLists tells world old new s names_changed)
+    names_keep (Err e) known = tt
+    names_keep (Ok x) known = λ told lists. names_listed tells world old new (held_of s) fit.sound.served after content told
+        lists names (known told)
 
     pub names_do : {A : Type 0} (m n : ℕ) (result : Result A SortFault)
         → (IsTrue (tells new) → Paid m (sorters.credit s.lists.names) (sorters.credit names) (world old) (world new))
         → PaidParts n (sorters.stock s.lists.names) (sorters.stock names) s.parts after
         → OnlySortShelf (counts old) (counts new) result → IfErr result (IsListCause after)
-        → IfErr result (λ e. IsTrue (tells new) → IsDamageOf s.ahead.reader (world old) e)
+        → IfErr result (λ e. IsTrue (tells new) → AreListed s.ahead s.lists (world old)
+        → IsDamageOf s.ahead.reader (world old) e)
         → Does tells world counts m n old new s names_changed result
     names_do m n result calls spent faults refused damage =
         does_with s.ahead (record s.lists { names = names }) m n result refl

@@ -7,14 +7,14 @@ use Rattle.shelf_model.specs.declared.sort_fault.SortFault.{SortFault}
 use Rattle.sweep_core.specs.declared.turn.Turn.{Turn}
 use Rattle.sweep_core.specs.declared.turn.Turn.TheVariants as turn
 use Rattle.sweep_core.specs.Sweeps.{Falls, AtEnd, IsFirm}
-use Rattle.reduce_lists.specs.AtWork.{IsAtWork}
+use Rattle.reduce_lists.specs.AtWork.{AreListed, IsAtWork}
 use Rattle.reduce_sweep.specs.declared.source.Source.{Source}
 use Rattle.reduce_sweep.specs.declared.phase.Numbered.{Numbered}
 use Rattle.reduce_sweep.specs.declared.phase.Phase.{Phase}
 use Rattle.reduce_sweep.specs.declared.phase.Phase.TheVariants.{Between, Collect, Number, Forward, Ended}
 use Rattle.reduce_sweep.specs.declared.reduce.ReduceSweep.{ReduceSweep}
 use Rattle.reduce_sweep.specs.Sweeps.{out_of, IsGoing, count_at, count_in, fuel_at, turns_left, CountsAtEnd, Handles}
-use Rattle.reduce_sweep.specs.Calls.{IsStepAt, IsInStep}
+use Rattle.reduce_sweep.specs.Calls.{IsStepAt, IsInStep, HasListsAt}
 use Rattle.reduce_sweep.specs.Remaining.{Diagram, IsWorking, RemainsIn, RemainsOf}
 use Rattle.reduce_sweep.specs.Changes.{IsDoneAt}
 
@@ -25,6 +25,14 @@ going_works (Collect x) s world d going remains = remains
 going_works (Number x) s world d going remains = remains
 going_works Forward s world d going remains = remains
 going_works (Ended n) s world d going remains = absurd (going n refl)
+
+-- and its lists exist
+pub going_lists : (p : Phase) (s : ReduceSweep) (world : World) → IsGoing p → HasListsAt p s world → AreListed s.ahead s.lists world
+going_lists Between s world going lists = lists
+going_lists (Collect x) s world going lists = lists
+going_lists (Number x) s world going lists = lists
+going_lists Forward s world going lists = lists
+going_lists (Ended n) s world going lists = absurd (going n refl)
 
 -- then turns are left
 pub going_left : (p : Phase) (n : ℕ) → IsGoing p → 0 < fuel_at p n
@@ -41,6 +49,13 @@ left_step (Collect x) n s world left work = work
 left_step (Number x) n s world left work = work
 left_step Forward n s world left work = work
 left_step (Ended count) n s world left work = absurd (omega (arith, left))
+
+pub lists_in : (p : Phase) (s : ReduceSweep) (world : World) → AreListed s.ahead s.lists world → HasListsAt p s world
+lists_in Between s world lists = lists
+lists_in (Collect x) s world lists = lists
+lists_in (Number x) s world lists = lists
+lists_in Forward s world lists = lists
+lists_in (Ended count) s world lists = tt
 
 pub left_remains : (p : Phase) (n : ℕ) (s : ReduceSweep) (world : World) (d : Diagram) → 0 < fuel_at p n → IsWorking s world d → RemainsIn p s world d
 left_remains Between n s world d left working = working

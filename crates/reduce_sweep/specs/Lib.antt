@@ -3,4 +3,5 @@ pub mod Sweeps
 pub mod Damage
 pub mod Calls
 pub mod Remaining
+pub mod RemainingLaws
 pub mod Changes

@@ -13,7 +13,7 @@ impl<'r> ReduceSweep<'r> {
     ghost use Rattle.reduce_sweep.specs.Sweeps.{arcs_weight};
     ghost use Rattle.reduce_lists.specs.Contents.{Contents, Holds};
     ghost use Rattle.reduce_lists.specs.Changes.{ComesNext};
-    ghost use Rattle.reduce_sweep.specs.Calls.{Does, IsFit};
+    ghost use Rattle.reduce_sweep.specs.Calls.{Does, IsFit, KeepsLists};
 
     /// The next arc to collect, and whether it is of the queue.
     pub(crate) fn next_arc<S: Shelf>(
@@ -23,6 +23,7 @@ impl<'r> ReduceSweep<'r> {
         requires fit { IsFit S.tells S.world shelf.old self.old }
         ensures does { Does S.tells S.world S.faults 8 0 shelf.old shelf.new self.old self.new result }
         ensures fit { OnOk result (IsFit S.tells S.world shelf.new self.new) }
+        ensures trusts { OnOk result (KeepsLists S.tells S.world shelf.old shelf.new self.old self.new) }
         ensures rest { self.new ≡ record self.old { ahead = record self.old.ahead { queue = self.new.ahead.queue } } }
         ensures weight { OnOk result (arcs_weight self.new.ahead ≡ arcs_weight self.old.ahead) }
         ensures next { IfOk result (IsNext self.new.ahead) }

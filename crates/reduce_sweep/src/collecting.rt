@@ -18,7 +18,7 @@ impl<'r> ReduceSweep<'r> {
     ghost use Rattle.reduce_sweep.specs.Remaining.{Diagram, IsLeft, IsWorking};
     ghost use Rattle.reduce_lists.specs.Changes.{IsAt, IsGreatest};
     ghost use Rattle.reduce_sweep.specs.Changes.{Closes};
-    ghost use Rattle.reduce_sweep.specs.Calls.{Does, IsFit};
+    ghost use Rattle.reduce_sweep.specs.Calls.{Does, IsFit, KeepsLists};
 
     /// Collects an arc of the level at hand, or ends the collecting where the next one is of a shallower level.
     ///
@@ -32,6 +32,7 @@ impl<'r> ReduceSweep<'r> {
         requires fit { IsFit S.tells S.world shelf.old self.old }
         ensures does { Does S.tells S.world S.faults 32 1 shelf.old shelf.new self.old self.new result }
         ensures fit { OnOk result (IsFit S.tells S.world shelf.new self.new) }
+        ensures trusts { OnOk result (KeepsLists S.tells S.world shelf.old shelf.new self.old self.new) }
         ensures handles { IfOk result (Handles (Phase.Number none_numbered) self.old self.new) }
         ensures keeps { OnOk result (IsTrue (S.tells shelf.new) → (d : Diagram) →
             IsWorking self.old (S.world shelf.old) d → IsWorking self.new (S.world shelf.new) d) }
@@ -65,6 +66,7 @@ impl<'r> ReduceSweep<'r> {
         requires fit { IsFit S.tells S.world shelf.old self.old }
         ensures does { Does S.tells S.world S.faults 24 1 shelf.old shelf.new self.old self.new result }
         ensures fit { OnOk result (IsFit S.tells S.world shelf.new self.new) }
+        ensures trusts { OnOk result (KeepsLists S.tells S.world shelf.old shelf.new self.old self.new) }
         ensures fewer { OnOk result ((0 < turns_left self.new) × (turns_left self.new < turns_left self.old)) }
         ensures keeps { OnOk result (IsTrue (S.tells shelf.new) → (d : Diagram) → (k : Contents) →
             Holds self.old.ahead self.old.lists self.old.writer (S.world shelf.old) k → IsLeft self.old.place d k →
@@ -86,6 +88,7 @@ impl<'r> ReduceSweep<'r> {
         requires fit { IsFit S.tells S.world shelf.old self.old }
         ensures does { Does S.tells S.world S.faults 16 1 shelf.old shelf.new self.old self.new result }
         ensures fit { OnOk result (IsFit S.tells S.world shelf.new self.new) }
+        ensures trusts { OnOk result (KeepsLists S.tells S.world shelf.old shelf.new self.old self.new) }
         ensures rest { self.new ≡ record self.old {
           place = record self.old.place { phase = self.new.place.phase };
           lists = self.new.lists;
@@ -111,6 +114,7 @@ impl<'r> ReduceSweep<'r> {
         requires fit { IsFit S.tells S.world shelf.old self.old }
         ensures does { Does S.tells S.world S.faults 16 1 shelf.old shelf.new self.old self.new result }
         ensures fit { OnOk result (IsFit S.tells S.world shelf.new self.new) }
+        ensures trusts { OnOk result (KeepsLists S.tells S.world shelf.old shelf.new self.old self.new) }
         ensures rest { self.new ≡ record self.old { lists = self.new.lists; parts = self.new.parts } }
         ensures weight { OnOk result (lists_weight self.new.lists ≤ lists_weight self.old.lists + 2) }
         ensures closed { OnOk result (IsTrue (S.tells shelf.new) → (k : Contents) →

@@ -14,7 +14,7 @@ impl<'r> ReduceSweep<'r> {
     ghost use Rattle.reduce_lists.specs.Contents.{Contents, Holds, IsTakenTo};
     ghost use Rattle.reduce_sweep.specs.Remaining.{Diagram, IsLeft, IsWorking};
     ghost use Rattle.reduce_sweep.specs.Changes.{known_with, ForwardsAlong};
-    ghost use Rattle.reduce_sweep.specs.Calls.{Does, IsFit};
+    ghost use Rattle.reduce_sweep.specs.Calls.{Does, IsFit, KeepsLists};
 
     /// Forwards the next name along the next arc, where it leads to its source, or gives up one of both.
     ///
@@ -24,6 +24,7 @@ impl<'r> ReduceSweep<'r> {
         requires fit { IsFit S.tells S.world shelf.old self.old }
         ensures does { Does S.tells S.world S.faults 51 3 shelf.old shelf.new self.old self.new result }
         ensures fit { OnOk result (IsFit S.tells S.world shelf.new self.new) }
+        ensures trusts { OnOk result (KeepsLists S.tells S.world shelf.old shelf.new self.old self.new) }
         ensures handles { IfOk result (Handles Phase.Between self.old self.new) }
         ensures keeps { OnOk result (IsTrue (S.tells shelf.new) → (d : Diagram) →
             IsWorking self.old (S.world shelf.old) d → IsWorking self.new (S.world shelf.new) d) }
@@ -47,6 +48,7 @@ impl<'r> ReduceSweep<'r> {
         requires fit { IsFit S.tells S.world shelf.old self.old }
         ensures does { Does S.tells S.world S.faults 49 3 shelf.old shelf.new self.old self.new result }
         ensures fit { OnOk result (IsFit S.tells S.world shelf.new self.new) }
+        ensures trusts { OnOk result (KeepsLists S.tells S.world shelf.old shelf.new self.old self.new) }
         ensures phase { self.new.place.phase ≡ self.old.place.phase }
         ensures weight { OnOk result (arcs_weight self.new.ahead + lists_weight self.new.lists + 1
             ≤ arcs_weight self.old.ahead + lists_weight self.old.lists) }
@@ -79,6 +81,7 @@ impl<'r> ReduceSweep<'r> {
         requires fit { IsFit S.tells S.world shelf.old self.old }
         ensures does { Does S.tells S.world S.faults 49 3 shelf.old shelf.new self.old self.new result }
         ensures fit { OnOk result (IsFit S.tells S.world shelf.new self.new) }
+        ensures trusts { OnOk result (KeepsLists S.tells S.world shelf.old shelf.new self.old self.new) }
         ensures rest { self.new ≡ record self.old { ahead = self.new.ahead; parts = self.new.parts } }
         ensures weight { OnOk result (arcs_weight self.new.ahead + 1 ≤ arcs_weight self.old.ahead) }
         ensures along { OnOk result (IsTrue (S.tells shelf.new) → (k : Contents) →
@@ -96,6 +99,7 @@ impl<'r> ReduceSweep<'r> {
         requires fit { IsFit S.tells S.world shelf.old self.old }
         ensures does { Does S.tells S.world S.faults 2 0 shelf.old shelf.new self.old self.new result }
         ensures fit { OnOk result (IsFit S.tells S.world shelf.new self.new) }
+        ensures trusts { OnOk result (KeepsLists S.tells S.world shelf.old shelf.new self.old self.new) }
         ensures rest { self.new ≡ record self.old {
           place = record self.old.place { known = self.new.place.known };
           lists = record self.old.lists { names = self.new.lists.names };

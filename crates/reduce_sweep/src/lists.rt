@@ -11,7 +11,7 @@ impl<'r> ReduceSweep<'r> {
     ghost use Rattle.reduce_sweep.specs.Sweeps.{held_of, lists_weight};
     ghost use Rattle.reduce_lists.specs.Contents.{Contents, Holds};
     ghost use Rattle.reduce_lists.specs.Changes.{GivesRow, JoinsRows, JoinsNames, ShowsName};
-    ghost use Rattle.reduce_sweep.specs.Calls.{Does, IsFit};
+    ghost use Rattle.reduce_sweep.specs.Calls.{Does, IsFit, KeepsLists};
 
     /// Puts a row into its list.
     pub(crate) fn push_row<S: Shelf>(
@@ -22,6 +22,7 @@ impl<'r> ReduceSweep<'r> {
         requires fit { IsFit S.tells S.world shelf.old self.old }
         ensures does { Does S.tells S.world S.faults 16 1 shelf.old shelf.new self.old self.new result }
         ensures fit { OnOk result (IsFit S.tells S.world shelf.new self.new) }
+        ensures trusts { OnOk result (KeepsLists S.tells S.world shelf.old shelf.new self.old self.new) }
         ensures rest { self.new ≡ record self.old {
           lists = record self.old.lists { rows = self.new.lists.rows };
           parts = self.new.parts;
@@ -39,6 +40,7 @@ impl<'r> ReduceSweep<'r> {
         requires fit { IsFit S.tells S.world shelf.old self.old }
         ensures does { Does S.tells S.world S.faults 16 1 shelf.old shelf.new self.old self.new result }
         ensures fit { OnOk result (IsFit S.tells S.world shelf.new self.new) }
+        ensures trusts { OnOk result (KeepsLists S.tells S.world shelf.old shelf.new self.old self.new) }
         ensures rest { self.new ≡ record self.old {
           lists = record self.old.lists { names = self.new.lists.names };
           parts = self.new.parts;
@@ -59,6 +61,7 @@ impl<'r> ReduceSweep<'r> {
         requires fit { IsFit S.tells S.world shelf.old self.old }
         ensures does { Does S.tells S.world S.faults 2 0 shelf.old shelf.new self.old self.new result }
         ensures fit { OnOk result (IsFit S.tells S.world shelf.new self.new) }
+        ensures trusts { OnOk result (KeepsLists S.tells S.world shelf.old shelf.new self.old self.new) }
         ensures rest { self.new ≡ record self.old { lists = record self.old.lists { rows = self.new.lists.rows } } }
         ensures count { CountsDown (held self.old.lists.rows) (held self.new.lists.rows) result }
         ensures given { IfOk result (λ row. IsTrue (S.tells shelf.new) → (k : Contents) →
@@ -73,6 +76,7 @@ impl<'r> ReduceSweep<'r> {
         requires fit { IsFit S.tells S.world shelf.old self.old }
         ensures does { Does S.tells S.world S.faults 2 0 shelf.old shelf.new self.old self.new result }
         ensures fit { OnOk result (IsFit S.tells S.world shelf.new self.new) }
+        ensures trusts { OnOk result (KeepsLists S.tells S.world shelf.old shelf.new self.old self.new) }
         ensures rest { self.new ≡ record self.old { lists = record self.old.lists { names = self.new.lists.names } } }
         ensures count { CountStays (held self.old.lists.names) (held self.new.lists.names) result }
         ensures shown { IfOk result (λ name. IsTrue (S.tells shelf.new) → (k : Contents) →
@@ -88,6 +92,7 @@ impl<'r> ReduceSweep<'r> {
         requires fit { IsFit S.tells S.world shelf.old self.old }
         ensures does { Does S.tells S.world S.faults 2 0 shelf.old shelf.new self.old self.new result }
         ensures fit { OnOk result (IsFit S.tells S.world shelf.new self.new) }
+        ensures trusts { OnOk result (KeepsLists S.tells S.world shelf.old shelf.new self.old self.new) }
         ensures rest { self.new ≡ record self.old { lists = record self.old.lists { names = self.new.lists.names } } }
         ensures weight { OnOk result (lists_weight self.new.lists + 1 ≡ lists_weight self.old.lists) }
         ensures left { OnOk result (IsTrue (S.tells shelf.new) → (k : Contents) → (m : Name) → (rest : List Name) →

@@ -62,7 +62,7 @@ impl<'r> ReduceSweep<'r> {
     ghost use Rattle.reduce_lists.specs.Contents.{Contents, Holds};
     ghost use Rattle.reduce_sweep.specs.Remaining.{Diagram, IsWorking};
     ghost use Rattle.reduce_sweep.specs.Changes.{numbered_with, nodes_with, NumbersRow};
-    ghost use Rattle.reduce_sweep.specs.Calls.{Does, IsFit};
+    ghost use Rattle.reduce_sweep.specs.Calls.{Does, IsFit, KeepsLists};
 
     /// Names the source of the next row, whose node is put where its pair is a new one.
     ///
@@ -76,6 +76,7 @@ impl<'r> ReduceSweep<'r> {
         requires fit { IsFit S.tells S.world shelf.old self.old }
         ensures does { Does S.tells S.world S.faults 19 1 shelf.old shelf.new self.old self.new result }
         ensures fit { OnOk result (IsFit S.tells S.world shelf.new self.new) }
+        ensures trusts { OnOk result (KeepsLists S.tells S.world shelf.old shelf.new self.old self.new) }
         ensures handles { IfOk result (Handles Phase.Forward self.old self.new) }
         ensures keeps { OnOk result (IsTrue (S.tells shelf.new) → (d : Diagram) →
             IsWorking self.old (S.world shelf.old) d → IsWorking self.new (S.world shelf.new) d) }
@@ -102,6 +103,7 @@ impl<'r> ReduceSweep<'r> {
         requires fit { IsFit S.tells S.world shelf.old self.old }
         ensures does { Does S.tells S.world S.faults 17 1 shelf.old shelf.new self.old self.new result }
         ensures fit { OnOk result (IsFit S.tells S.world shelf.new self.new) }
+        ensures trusts { OnOk result (KeepsLists S.tells S.world shelf.old shelf.new self.old self.new) }
         ensures rest { self.new ≡ record self.old {
           place = record self.old.place { phase = self.new.place.phase };
           lists = record self.old.lists { names = self.new.lists.names };
@@ -133,6 +135,7 @@ impl<'r> ReduceSweep<'r> {
         requires fit { IsFit S.tells S.world shelf.old self.old }
         ensures does { Does S.tells S.world S.faults 1 0 shelf.old shelf.new self.old self.new result }
         ensures fit { OnOk result (IsFit S.tells S.world shelf.new self.new) }
+        ensures trusts { OnOk result (KeepsLists S.tells S.world shelf.old shelf.new self.old self.new) }
         ensures number { IfOk result (λ next. next ≡ numbered_with numbered row.now) }
         ensures some { IfOk result (λ next. (1 ≤ next.number) × (next.number ≤ 2 ^ 47)) }
         ensures rest { self.new ≡ record self.old {

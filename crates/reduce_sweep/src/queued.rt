@@ -17,7 +17,7 @@ impl<'r> ReduceSweep<'r> {
     ghost use Rattle.reduce_sweep.specs.Sweeps.{held_of, arcs_weight};
     ghost use Rattle.reduce_lists.specs.Contents.{Contents, Holds};
     ghost use Rattle.reduce_lists.specs.Changes.{ShowsQueued, JoinsQueue, IsAt, Passes, PassesInner};
-    ghost use Rattle.reduce_sweep.specs.Calls.{Does, IsFit};
+    ghost use Rattle.reduce_sweep.specs.Calls.{Does, IsFit, KeepsLists};
 
     /// The first arc of the queue, which stays.
     pub(crate) fn first_queued<S: Shelf>(
@@ -27,6 +27,7 @@ impl<'r> ReduceSweep<'r> {
         requires fit { IsFit S.tells S.world shelf.old self.old }
         ensures does { Does S.tells S.world S.faults 8 0 shelf.old shelf.new self.old self.new result }
         ensures fit { OnOk result (IsFit S.tells S.world shelf.new self.new) }
+        ensures trusts { OnOk result (KeepsLists S.tells S.world shelf.old shelf.new self.old self.new) }
         ensures rest { self.new ≡ record self.old { ahead = record self.old.ahead { queue = self.new.ahead.queue } } }
         ensures held { OnOk result (held self.new.ahead.queue ≡ held self.old.ahead.queue) }
         ensures there { IfOk result (λ found. IsSome found → 1 ≤ held self.new.ahead.queue) }
@@ -43,6 +44,7 @@ impl<'r> ReduceSweep<'r> {
         requires fit { IsFit S.tells S.world shelf.old self.old }
         ensures does { Does S.tells S.world S.faults 48 3 shelf.old shelf.new self.old self.new result }
         ensures fit { OnOk result (IsFit S.tells S.world shelf.new self.new) }
+        ensures trusts { OnOk result (KeepsLists S.tells S.world shelf.old shelf.new self.old self.new) }
         ensures rest { self.new ≡ record self.old {
           ahead = record self.old.ahead { queue = self.new.ahead.queue };
           parts = self.new.parts;
@@ -64,6 +66,7 @@ impl<'r> ReduceSweep<'r> {
         requires fit { IsFit S.tells S.world shelf.old self.old }
         ensures does { Does S.tells S.world S.faults 8 0 shelf.old shelf.new self.old self.new result }
         ensures fit { OnOk result (IsFit S.tells S.world shelf.new self.new) }
+        ensures trusts { OnOk result (KeepsLists S.tells S.world shelf.old shelf.new self.old self.new) }
         ensures rest { self.new ≡ record self.old { ahead = self.new.ahead; parts = self.new.parts } }
         ensures weight { OnOk result (arcs_weight self.new.ahead + 3 ≡ arcs_weight self.old.ahead) }
         ensures passed { OnOk result (IsTrue (S.tells shelf.new) → (k : Contents) → (arc : FinalArc) →
@@ -83,6 +86,7 @@ impl<'r> ReduceSweep<'r> {
         requires fit { IsFit S.tells S.world shelf.old self.old }
         ensures does { Does S.tells S.world S.faults 8 0 shelf.old shelf.new self.old self.new result }
         ensures fit { OnOk result (IsFit S.tells S.world shelf.new self.new) }
+        ensures trusts { OnOk result (KeepsLists S.tells S.world shelf.old shelf.new self.old self.new) }
         ensures rest { self.new ≡ record self.old {
           ahead = record self.old.ahead { queue = self.new.ahead.queue };
           parts = self.new.parts;
@@ -102,6 +106,7 @@ impl<'r> ReduceSweep<'r> {
         requires fit { IsFit S.tells S.world shelf.old self.old }
         ensures does { Does S.tells S.world S.faults 1 0 shelf.old shelf.new self.old self.new result }
         ensures fit { OnOk result (IsFit S.tells S.world shelf.new self.new) }
+        ensures trusts { OnOk result (KeepsLists S.tells S.world shelf.old shelf.new self.old self.new) }
         ensures rest { self.new ≡ record self.old {
           ahead = record self.old.ahead {
             reader = self.new.ahead.reader;
@@ -124,6 +129,7 @@ impl<'r> ReduceSweep<'r> {
         requires fit { IsFit S.tells S.world shelf.old self.old }
         ensures does { Does S.tells S.world S.faults 1 0 shelf.old shelf.new self.old self.new result }
         ensures fit { OnOk result (IsFit S.tells S.world shelf.new self.new) }
+        ensures trusts { OnOk result (KeepsLists S.tells S.world shelf.old shelf.new self.old self.new) }
         ensures rest { self.new ≡ record self.old {
           ahead = record self.old.ahead {
             reader = self.new.ahead.reader;

@@ -27,7 +27,7 @@ impl<'r> ReduceSweep<'r> {
     ghost use Rattle.arc_diagrams.specs.Laws.{IsDiagramOf};
     ghost use Rattle.reduce_sweep.specs.Remaining.{Diagram, RemainsOf};
     ghost use Rattle.reduce_lists.specs.Damage.{IsDamageAtStart};
-    ghost use Rattle.reduce_sweep.specs.Calls.{IsInStep};
+    ghost use Rattle.reduce_sweep.specs.Calls.{IsInStep, HasLists};
     ghost use Rattle.shelf_model.specs.Calls.{Told};
     ghost use Rattle.shelf_model.specs.Moments.{Ran};
     ghost use Rattle.run_tiers.specs.Faults.{OnlySortShelf};
@@ -62,6 +62,7 @@ impl<'r> ReduceSweep<'r> {
         requires ends_made { ¬ CanBeTaken parts.step parts.next made.ends }
         ensures ready { IfOk result IsSound }
         ensures in_step { IfOk result (λ r. IsTrue (S.tells shelf.new) → IsInStep r (S.world shelf.new)) }
+        ensures trusts { IfOk result (λ r. IsTrue (S.tells shelf.new) → HasLists r (S.world shelf.new)) }
         ensures files { IfOk result (λ r. (out_of r ≡ out) × (inner_file r ≡ made.inner) × (ends_file r ≡ made.ends)) }
         ensures arcs { IfOk result (λ r. arcs_of r ≡ made) }
         ensures variables { IfOk result (λ r. r.place.variables ≡ n) }

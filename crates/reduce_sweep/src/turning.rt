@@ -15,14 +15,15 @@ impl<'r> ReduceSweep<'r> {
     ghost use Rattle.reduce_sweep.specs.Sweeps.{out_of, inner_file, ends_file, task_of, count_in, turns_left, accounts, IsGoing, IsSound, Handles, CountsAtEnd, Refuses};
     ghost use Rattle.reduce_lists.specs.Damage.{IsDamageOf};
     ghost use Rattle.reduce_sweep.specs.Damage.{IsDamage};
-    ghost use Rattle.reduce_sweep.specs.Calls.{Does, IsFit, IsInStep};
+    ghost use Rattle.reduce_lists.specs.AtWork.{AreListed};
+    ghost use Rattle.reduce_sweep.specs.Calls.{Does, IsFit, KeepsLists, IsInStep, HasLists};
     ghost use Rattle.reduce_lists.specs.Contents.{Contents, Holds, to_collect};
     ghost use Rattle.reduce_sweep.specs.Remaining.{Diagram, IsLeft, IsWorking, IsReduced, RemainsOf};
     ghost use Rattle.reduce_sweep.specs.Changes.{IsDoneAt};
 
     /// Handles one item, or ends the reduction. Once it has ended, each further turn answers so and does nothing.
     ///
-    /// Damage is that of the next record of an arc file, from its end on.
+    /// Where the lists are what was put there, damage is that of the next record of an arc file, from its end on.
     pub fn turn<S: Shelf>(&mut self, shelf: &mut S) -> Result<Turn, SortFault>
         requires ready { IsSound self.old }
         requires in_step { IsTrue (S.tells shelf.old) → IsInStep self.old (S.world shelf.old) }
@@ -38,9 +39,12 @@ impl<'r> ReduceSweep<'r> {
             RemainsOf self.old (S.world shelf.old) d → RemainsOf self.new (S.world shelf.new) d) }
         ensures reduced { IfOk result (λ turn. IsTrue (S.tells shelf.new) → (d : Diagram) →
             RemainsOf self.old (S.world shelf.old) d → IsDoneAt turn self.new (S.world shelf.new) d) }
-        ensures damage { IfErr result (λ e. IsTrue (S.tells shelf.new) →
+        ensures trusts { OnOk result (IsTrue (S.tells shelf.new) →
+            HasLists self.old (S.world shelf.old) → HasLists self.new (S.world shelf.new)) }
+        ensures damage { IfErr result (λ e. IsTrue (S.tells shelf.new) → HasLists self.old (S.world shelf.old) →
             IsDamageOf self.old.ahead.reader (S.world shelf.old) e) }
-        ensures damaged { IfErr result (λ e. IsTrue (S.tells shelf.new) → IsDamage self.new (S.world shelf.new) e) }
+        ensures damaged { IfErr result (λ e. IsTrue (S.tells shelf.new) → HasLists self.old (S.world shelf.old) →
+            IsDamage self.new (S.world shelf.new) e) }
         ensures undamaged { IfErr result (λ e. IsTrue (S.tells shelf.new) → (d : Diagram) →
             RemainsOf self.old (S.world shelf.old) d → IsNoDamage e) }
 
@@ -62,6 +66,8 @@ impl<'r> ReduceSweep<'r> {
         ensures does { Does S.tells S.world S.faults 134 6 shelf.old shelf.new self.old self.new result }
         ensures sound { OnOk result (IsSound self.new) }
         ensures in_step { OnOk result (IsTrue (S.tells shelf.new) → IsInStep self.new (S.world shelf.new)) }
+        ensures trusts { OnOk result (IsTrue (S.tells shelf.new) →
+            AreListed self.old.ahead self.old.lists (S.world shelf.old) → HasLists self.new (S.world shelf.new)) }
         ensures falls { Falls (turns_left self.old) (turns_left self.new) result }
         ensures ends { IfOk result (λ turn. CountsAtEnd turn (count_in self.new)) }
         ensures keeps { OnOk result (IsTrue (S.tells shelf.new) → (d : Diagram) →
@@ -79,6 +85,7 @@ impl<'r> ReduceSweep<'r> {
         requires fit { IsFit S.tells S.world shelf.old self.old }
         ensures does { Does S.tells S.world S.faults 102 5 shelf.old shelf.new self.old self.new result }
         ensures fit { OnOk result (IsFit S.tells S.world shelf.new self.new) }
+        ensures trusts { OnOk result (KeepsLists S.tells S.world shelf.old shelf.new self.old self.new) }
         ensures handles { IfOk result (Handles Phase.Between self.old self.new) }
         ensures keeps { OnOk result (IsTrue (S.tells shelf.new) → (d : Diagram) →
             IsWorking self.old (S.world shelf.old) d → IsWorking self.new (S.world shelf.new) d) }
@@ -97,6 +104,7 @@ impl<'r> ReduceSweep<'r> {
         requires fit { IsFit S.tells S.world shelf.old self.old }
         ensures does { Does S.tells S.world S.faults 102 5 shelf.old shelf.new self.old self.new result }
         ensures fit { OnOk result (IsFit S.tells S.world shelf.new self.new) }
+        ensures trusts { OnOk result (KeepsLists S.tells S.world shelf.old shelf.new self.old self.new) }
         ensures handles { IfOk result (Handles Phase.Between self.old self.new) }
         ensures keeps { OnOk result (IsTrue (S.tells shelf.new) → (d : Diagram) →
             IsWorking self.old (S.world shelf.old) d → IsWorking self.new (S.world shelf.new) d) }
@@ -117,6 +125,7 @@ impl<'r> ReduceSweep<'r> {
         requires fit { IsFit S.tells S.world shelf.old self.old }
         ensures does { Does S.tells S.world S.faults 70 4 shelf.old shelf.new self.old self.new result }
         ensures fit { OnOk result (IsFit S.tells S.world shelf.new self.new) }
+        ensures trusts { OnOk result (KeepsLists S.tells S.world shelf.old shelf.new self.old self.new) }
         ensures handles { IfOk result (Handles Phase.Between self.old self.new) }
         ensures keeps { OnOk result (IsTrue (S.tells shelf.new) → (d : Diagram) →
             IsWorking self.old (S.world shelf.old) d → IsWorking self.new (S.world shelf.new) d) }
@@ -136,6 +145,8 @@ impl<'r> ReduceSweep<'r> {
         ensures does { Does S.tells S.world S.faults 16 0 shelf.old shelf.new self.old self.new result }
         ensures sound { OnOk result (IsSound self.new) }
         ensures in_step { OnOk result (IsTrue (S.tells shelf.new) → IsInStep self.new (S.world shelf.new)) }
+        ensures trusts { OnOk result (IsTrue (S.tells shelf.new) →
+            AreListed self.old.ahead self.old.lists (S.world shelf.old) → HasLists self.new (S.world shelf.new)) }
         ensures falls { Falls (turns_left self.old) (turns_left self.new) result }
         ensures ends { IfOk result (λ turn. CountsAtEnd turn (count_in self.new)) }
         ensures keeps { OnOk result (IsTrue (S.tells shelf.new) → (d : Diagram) →
@@ -161,6 +172,8 @@ impl<'r> ReduceSweep<'r> {
         ensures does { Does S.tells S.world S.faults 3 0 shelf.old shelf.new self.old self.new result }
         ensures sound { OnOk result (IsSound self.new) }
         ensures in_step { OnOk result (IsTrue (S.tells shelf.new) → IsInStep self.new (S.world shelf.new)) }
+        ensures trusts { OnOk result (IsTrue (S.tells shelf.new) →
+            AreListed self.old.ahead self.old.lists (S.world shelf.old) → HasLists self.new (S.world shelf.new)) }
         ensures ended { OnOk result (turns_left self.new ≡ 0) }
         ensures reduced { OnOk result (IsTrue (S.tells shelf.new) → (d : Diagram) → (k : Contents) →
             Holds self.old.ahead self.old.lists self.old.writer (S.world shelf.old) k → IsLeft self.old.place d k →
@@ -177,7 +190,8 @@ impl<'r> Sweep<'r> for ReduceSweep<'r> {
     ghost use Rattle.reduce_sweep.specs.Remaining.{Diagram, RemainsOf};
     ghost use Rattle.reduce_sweep.specs.Sweeps.{Task, task_of, accounts, turns_left, IsSound};
     ghost use Rattle.reduce_sweep.specs.Damage.{IsDamage};
-    ghost use Rattle.reduce_sweep.specs.Calls.{IsInStep};
+    ghost use Rattle.reduce_sweep.specs.Calls.{IsInStep, HasLists};
+    ghost use Rattle.reduce_sweep.specs.RemainingLaws.{lists_remain};
 
     ghost Job = { Diagram };
 
@@ -199,9 +213,9 @@ impl<'r> Sweep<'r> for ReduceSweep<'r> {
 
     ghost in_step = { IsInStep };
 
-    ghost trusts = { λ s world. Unit };
+    ghost trusts = { HasLists };
 
-    ghost trusted = { λ s world job remains. tt };
+    ghost trusted = { lists_remain };
 
     fn turn<S: Shelf>(&mut self, shelf: &mut S) -> Result<Turn, SortFault> {
         ReduceSweep::turn(self, shelf)

@@ -60,7 +60,8 @@ returns-in_err-turns g c =
                 c.requires.parts.1 (c.start.ensures.content.did (said.leaves.content.before told))
                 (said.leaves.content.did told) are
                 (subst (λ arcs. IsDamageAmong arcs (g.S.Shelf.world c.run_to_end.new.shelf) c.in_err-turns.field-0.0)
-                (ap (λ (t : Task). t.arcs) c.run_to_end.ensures.same ∙ c.in_ok-sweep.ensures.arcs) (said.damage told tt));
+                (ap (λ (t : Task). t.arcs) c.run_to_end.ensures.same ∙ c.in_ok-sweep.ensures.arcs)
+                (said.damage told (c.in_ok-sweep.ensures.trusts (said.leaves.content.before told))));
             content = reduction_changes g.S.Shelf.tells g.S.Shelf.world c.args.number c.in_ok-sweep.sweep
                 c.args.made.parts _ _ _ c.in_ok-sweep.ensures.files.0 c.in_ok-sweep.ensures.parts c.requires.parts.0
                 c.requires.parts.1 c.start.ensures.content said.leaves.content;

@@ -18,33 +18,33 @@ use Rattle.std.proofs.lemmas.Grind.{common_steps}
 
 pub returns-in_err-collect_arc-clause-does : goal.returns-in_err-collect_arc-clause-does
 returns-in_err-collect_arc-clause-does g c = refused_second g.S.Shelf.tells g.S.Shelf.world g.S.Shelf.faults 8 24 0 1 32 1 _ _ _ c.args.self.now c.next_arc.new.self c.collect_arc.new.self c.next_arc.result c.collect_arc.result c.from_residual-in_err-collect_arc.result c.in_err-collect_arc.field-0.0
-    (omega arith) (omega arith) c.requires.fit.sound (ap (λ (r : ReduceSweep). r.ahead.reader) c.next_arc.ensures.rest)
+    (omega arith) (omega arith) c.requires.fit.sound (ap (λ (r : ReduceSweep). r.ahead.reader) c.next_arc.ensures.rest) c.in_ok-arc.ensures.trusts
     c.next_arc.ensures.does c.collect_arc.ensures.does c.from_residual-in_err-collect_arc.ensures.1 c.in_err-collect_arc.was
 
 pub returns-then-level-self-clause-does : goal.returns-then-level-self-clause-does
 returns-then-level-self-clause-does g c = then_ok g.S.Shelf.tells g.S.Shelf.world g.S.Shelf.faults 8 24 0 1 32 1 _ _ _ c.args.self.now c.next_arc.new.self c.collect_arc.new.self c.next_arc.result c.collect_arc.result true
-    (omega arith) (omega arith) c.requires.fit.sound (ap (λ (r : ReduceSweep). r.ahead.reader) c.next_arc.ensures.rest)
+    (omega arith) (omega arith) c.requires.fit.sound (ap (λ (r : ReduceSweep). r.ahead.reader) c.next_arc.ensures.rest) c.in_ok-arc.ensures.trusts
     c.next_arc.ensures.does c.collect_arc.ensures.does
 
 pub returns-in_err-pass-clause-does : goal.returns-in_err-pass-clause-does
 returns-in_err-pass-clause-does g c = refused_second g.S.Shelf.tells g.S.Shelf.world g.S.Shelf.faults 8 8 0 0 32 1 _ _ _ c.args.self.now c.next_arc.new.self c.pass.new.self c.next_arc.result c.pass.result c.from_residual-in_err-pass.result c.in_err-pass.field-0.0
-    (omega arith) (omega arith) c.requires.fit.sound (ap (λ (r : ReduceSweep). r.ahead.reader) c.next_arc.ensures.rest)
+    (omega arith) (omega arith) c.requires.fit.sound (ap (λ (r : ReduceSweep). r.ahead.reader) c.next_arc.ensures.rest) c.in_ok-arc.ensures.trusts
     c.next_arc.ensures.does c.pass.ensures.does c.from_residual-in_err-pass.ensures.1 c.in_err-pass.was
 
 pub returns-then-level-self-2-clause-does : goal.returns-then-level-self-2-clause-does
 returns-then-level-self-2-clause-does g c = then_ok g.S.Shelf.tells g.S.Shelf.world g.S.Shelf.faults 8 8 0 0 32 1 _ _ _ c.args.self.now c.next_arc.new.self c.pass.new.self c.next_arc.result c.pass.result true
-    (omega arith) (omega arith) c.requires.fit.sound (ap (λ (r : ReduceSweep). r.ahead.reader) c.next_arc.ensures.rest)
+    (omega arith) (omega arith) c.requires.fit.sound (ap (λ (r : ReduceSweep). r.ahead.reader) c.next_arc.ensures.rest) c.in_ok-arc.ensures.trusts
     c.next_arc.ensures.does c.pass.ensures.does
 
 pub returns-in_err-close-clause-does : goal.returns-in_err-close-clause-does
 returns-in_err-close-clause-does g c = refused_second g.S.Shelf.tells g.S.Shelf.world g.S.Shelf.faults 8 16 0 1 32 1 _ _ _ c.args.self.now c.next_arc.new.self c.close.new.self c.next_arc.result c.close.result c.from_residual-in_err-close.result c.in_err-close.field-0.0
-    (omega arith) (omega arith) c.requires.fit.sound (ap (λ (r : ReduceSweep). r.ahead.reader) c.next_arc.ensures.rest)
+    (omega arith) (omega arith) c.requires.fit.sound (ap (λ (r : ReduceSweep). r.ahead.reader) c.next_arc.ensures.rest) c.in_ok-arc.ensures.trusts
     c.next_arc.ensures.does c.close.ensures.does c.from_residual-in_err-close.ensures.1 c.in_err-close.was
 
 pub returns-clause-does : goal.returns-clause-does
 returns-clause-does g c = does_placed g.S.Shelf.tells g.S.Shelf.world g.S.Shelf.faults 32 1 _ _ c.args.self.now c.close.new.self (Ok false) _ refl refl
     (then_ok g.S.Shelf.tells g.S.Shelf.world g.S.Shelf.faults 8 16 0 1 32 1 _ _ _ c.args.self.now c.next_arc.new.self c.close.new.self c.next_arc.result c.close.result false
-    (omega arith) (omega arith) c.requires.fit.sound (ap (λ (r : ReduceSweep). r.ahead.reader) c.next_arc.ensures.rest)
+    (omega arith) (omega arith) c.requires.fit.sound (ap (λ (r : ReduceSweep). r.ahead.reader) c.next_arc.ensures.rest) c.in_ok-arc.ensures.trusts
     c.next_arc.ensures.does c.close.ensures.does)
 
 -- the next arc is of no deeper level
@@ -83,3 +83,15 @@ returns-clause-keeps g c = λ told d working.
 
 pub returns-then-level-self-clause-keeps : goal.returns-then-level-self-clause-keeps
 returns-then-level-self-clause-keeps g c = grind (arith, common_steps)
+
+pub returns-then-level-self-clause-trusts : goal.returns-then-level-self-clause-trusts
+returns-then-level-self-clause-trusts g c = λ told lists.
+    c.in_ok-collect_arc.ensures.trusts told (c.in_ok-arc.ensures.trusts (c.collect_arc.ensures.does.leaves.content.before told) lists)
+
+pub returns-then-level-self-2-clause-trusts : goal.returns-then-level-self-2-clause-trusts
+returns-then-level-self-2-clause-trusts g c = λ told lists.
+    c.in_ok-pass.ensures.trusts told (c.in_ok-arc.ensures.trusts (c.pass.ensures.does.leaves.content.before told) lists)
+
+pub returns-clause-trusts : goal.returns-clause-trusts
+returns-clause-trusts g c = λ told lists.
+    c.in_ok-close.ensures.trusts told (c.in_ok-arc.ensures.trusts (c.close.ensures.does.leaves.content.before told) lists)

@@ -15,12 +15,12 @@ use Rattle.reduce_sweep.proofs.reduce.ReduceSweep.give_number.Goals as goal
 
 pub returns-in_err-number_row-clause-does : goal.returns-in_err-number_row-clause-does
 returns-in_err-number_row-clause-does g c = refused_second g.S.Shelf.tells g.S.Shelf.world g.S.Shelf.faults 2 17 0 1 19 1 _ _ _ c.args.self.now c.next_row.new.self c.number_row.new.self c.next_row.result c.number_row.result c.from_residual-in_err-number_row.result c.in_err-number_row.field-0.0
-    (omega arith) (omega arith) c.requires.fit.sound (ap (λ (r : ReduceSweep). r.ahead.reader) c.next_row.ensures.rest)
+    (omega arith) (omega arith) c.requires.fit.sound (ap (λ (r : ReduceSweep). r.ahead.reader) c.next_row.ensures.rest) c.in_ok-row.ensures.trusts
     c.next_row.ensures.does c.number_row.ensures.does c.from_residual-in_err-number_row.ensures.1 c.in_err-number_row.was
 
 pub returns-clause-does : goal.returns-clause-does
 returns-clause-does g c = then_ok g.S.Shelf.tells g.S.Shelf.world g.S.Shelf.faults 2 17 0 1 19 1 _ _ _ c.args.self.now c.next_row.new.self c.number_row.new.self c.next_row.result c.number_row.result true
-    (omega arith) (omega arith) c.requires.fit.sound (ap (λ (r : ReduceSweep). r.ahead.reader) c.next_row.ensures.rest)
+    (omega arith) (omega arith) c.requires.fit.sound (ap (λ (r : ReduceSweep). r.ahead.reader) c.next_row.ensures.rest) c.in_ok-row.ensures.trusts
     c.next_row.ensures.does c.number_row.ensures.does
 
 -- no row is left
@@ -56,3 +56,7 @@ returns-clause-keeps g c = λ told d working.
     (phase_numbered s.place.level (count_of (filling_of s.writer)) s.place.phase c.args.numbered c.requires.phase c.requires.fit.sound.phase).some working.left given.1
     (subst (λ i. NumbersRow i c.args.numbered c.number_row.new.self (g.S.Shelf.world c.number_row.new.shelf) (record k { rows = given.0 }) c.in-Some.row) (ap (λ (r : ReduceSweep). r.place.level) c.next_row.ensures.rest)
     (c.in_ok-number_row.ensures.named told (record k { rows = given.0 }) given.2))
+
+pub returns-clause-trusts : goal.returns-clause-trusts
+returns-clause-trusts g c = λ told lists.
+    c.in_ok-number_row.ensures.trusts told (c.in_ok-row.ensures.trusts (c.number_row.ensures.does.leaves.content.before told) lists)

@@ -7,33 +7,34 @@ use Rattle.reduce_sweep.specs.declared.reduce.ReduceSweep.{ReduceSweep}
 use Rattle.reduce_sweep.specs.declared.phase.Phase.TheVariants.{Collect}
 use Rattle.reduce_sweep.proofs.Doing.{refused_second, then_ok, does_placed}
 use Rattle.reduce_sweep.proofs.CollectingKeeps.{is_shallower, level_opened, at_member}
+use Rattle.reduce_sweep.proofs.TurnKeeps.{lists_in}
 use Rattle.reduce_sweep.proofs.reduce.ReduceSweep.open_level.Goals as goal
 use Rattle.std.proofs.lemmas.Grind.{common_steps}
 
 pub returns-in_err-end_file-clause-does : goal.returns-in_err-end_file-clause-does
 returns-in_err-end_file-clause-does g c = refused_second g.S.Shelf.tells g.S.Shelf.world g.S.Shelf.faults 8 3 0 0 16 0 _ _ _ c.args.self.now c.next_arc.new.self c.end_file.new.self c.next_arc.result c.end_file.result c.from_residual-in_err-end_file.result c.in_err-end_file.field-0.0
-    (omega arith) (omega arith) c.requires.fit.sound (ap (λ (r : ReduceSweep). r.ahead.reader) c.next_arc.ensures.rest)
+    (omega arith) (omega arith) c.requires.fit.sound (ap (λ (r : ReduceSweep). r.ahead.reader) c.next_arc.ensures.rest) c.in_ok-arc.ensures.trusts
     c.next_arc.ensures.does c.end_file.ensures.does c.from_residual-in_err-end_file.ensures.1 c.in_err-end_file.was
 
 pub returns-in_default-clause-does : goal.returns-in_default-clause-does
 returns-in_default-clause-does g c = then_ok g.S.Shelf.tells g.S.Shelf.world g.S.Shelf.faults 8 3 0 0 16 0 _ _ _ c.args.self.now c.next_arc.new.self c.end_file.new.self c.next_arc.result c.end_file.result turn.Ended
-    (omega arith) (omega arith) c.requires.fit.sound (ap (λ (r : ReduceSweep). r.ahead.reader) c.next_arc.ensures.rest)
+    (omega arith) (omega arith) c.requires.fit.sound (ap (λ (r : ReduceSweep). r.ahead.reader) c.next_arc.ensures.rest) c.in_ok-arc.ensures.trusts
     c.next_arc.ensures.does c.end_file.ensures.does
 
 pub returns-in_err-pass-clause-does : goal.returns-in_err-pass-clause-does
 returns-in_err-pass-clause-does g c = refused_second g.S.Shelf.tells g.S.Shelf.world g.S.Shelf.faults 8 8 0 0 16 0 _ _ _ c.args.self.now c.next_arc.new.self c.pass.new.self c.next_arc.result c.pass.result c.from_residual-in_err-pass.result c.in_err-pass.field-0.0
-    (omega arith) (omega arith) c.requires.fit.sound (ap (λ (r : ReduceSweep). r.ahead.reader) c.next_arc.ensures.rest)
+    (omega arith) (omega arith) c.requires.fit.sound (ap (λ (r : ReduceSweep). r.ahead.reader) c.next_arc.ensures.rest) c.in_ok-arc.ensures.trusts
     c.next_arc.ensures.does c.pass.ensures.does c.from_residual-in_err-pass.ensures.1 c.in_err-pass.was
 
 pub returns-else-level-self-clause-does : goal.returns-else-level-self-clause-does
 returns-else-level-self-clause-does g c = then_ok g.S.Shelf.tells g.S.Shelf.world g.S.Shelf.faults 8 8 0 0 16 0 _ _ _ c.args.self.now c.next_arc.new.self c.pass.new.self c.next_arc.result c.pass.result turn.More
-    (omega arith) (omega arith) c.requires.fit.sound (ap (λ (r : ReduceSweep). r.ahead.reader) c.next_arc.ensures.rest)
+    (omega arith) (omega arith) c.requires.fit.sound (ap (λ (r : ReduceSweep). r.ahead.reader) c.next_arc.ensures.rest) c.in_ok-arc.ensures.trusts
     c.next_arc.ensures.does c.pass.ensures.does
 
 pub returns-then-level-self-clause-does : goal.returns-then-level-self-clause-does
 returns-then-level-self-clause-does g c = does_placed g.S.Shelf.tells g.S.Shelf.world g.S.Shelf.faults 16 0 _ _ c.args.self.now c.pass.new.self (Ok turn.More) _ refl refl
     (then_ok g.S.Shelf.tells g.S.Shelf.world g.S.Shelf.faults 8 8 0 0 16 0 _ _ _ c.args.self.now c.next_arc.new.self c.pass.new.self c.next_arc.result c.pass.result turn.More
-    (omega arith) (omega arith) c.requires.fit.sound (ap (λ (r : ReduceSweep). r.ahead.reader) c.next_arc.ensures.rest)
+    (omega arith) (omega arith) c.requires.fit.sound (ap (λ (r : ReduceSweep). r.ahead.reader) c.next_arc.ensures.rest) c.in_ok-arc.ensures.trusts
     c.next_arc.ensures.does c.pass.ensures.does)
 
 -- the level of the arc opens
@@ -62,3 +63,9 @@ returns-else-level-self-clause-keeps g c = λ told d working.
 
 pub returns-in_default-clause-keeps : goal.returns-in_default-clause-keeps
 returns-in_default-clause-keeps g c = grind (arith, common_steps)
+
+-- the lists are those that are left when the arc was passed over
+pub returns-else-level-self-clause-trusts : goal.returns-else-level-self-clause-trusts
+returns-else-level-self-clause-trusts g c = λ told lists.
+    lists_in c.pass.new.self.place.phase c.pass.new.self _
+    (c.in_ok-pass.ensures.trusts told (c.in_ok-arc.ensures.trusts (c.pass.ensures.does.leaves.content.before told) lists))

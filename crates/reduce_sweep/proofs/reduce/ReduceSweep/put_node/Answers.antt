@@ -2,8 +2,8 @@ use Rattle.std.proofs.Common.{◌-◌, ◌^◌, ◌∙◌, ap, sym, subst, refl,
 use Rattle.rec_words.specs.Words.{node_word}
 use Rattle.block_stream.specs.Writes.{count_of}
 use Rattle.node_file.specs.Writers.{filling_of}
-use Rattle.reduce_lists.proofs.Joining.{served_put, work_put, own_wrote}
-use Rattle.reduce_lists.proofs.Refusing.{write_undamaged}
+use Rattle.reduce_lists.proofs.Joining.{served_put, work_put, listed_put, own_wrote}
+use Rattle.reduce_lists.proofs.Refusing.{write_undamaged, damaged_anyhow}
 use Rattle.reduce_sweep.specs.declared.phase.Numbered.{Numbered}
 use Rattle.reduce_sweep.specs.declared.phase.Phase.TheVariants.{Number}
 use Rattle.reduce_sweep.specs.Sweeps.{IsNumberedAt}
@@ -43,6 +43,11 @@ returns-clause-fit g c =
       at_work = λ told. work_put s.ahead s.lists s.writer c.put.new.self s.parts 1 _ _ sound.served (c.put.ensures.content.did told) (c.in_ok-put.ensures.holds told).in_step
           (c.requires.fit.at_work (c.put.ensures.content.before told));
     }
+
+-- no list was touched
+pub returns-clause-trusts : goal.returns-clause-trusts
+returns-clause-trusts g c = λ told. listed_put c.args.self.now.ahead c.args.self.now.lists c.args.self.now.writer c.args.self.now.parts 1 _ _ c.requires.fit.sound.served
+    (c.put.ensures.content.did told)
 
 -- only the file of the nodes was written to
 pub returns-clause-does : goal.returns-clause-does
@@ -94,6 +99,7 @@ returns-in_err-put-clause-does g c = record {
     place = record c.args.self.now.place { phase = Number c.with-next.result };
     writer = c.put.new.self;
   }) c.from_residual.result c.in_err-put.field-0.0 c.from_residual.ensures.1 c.in_err-put.ensures.cause;
-  damage = write_undamaged (IsTrue (g.S.Shelf.tells c.put.new.shelf)) c.args.self.now.ahead.reader (g.S.Shelf.world c.args.shelf.now) c.from_residual.result c.in_err-put.field-0.0 c.from_residual.ensures.1
-      c.in_err-put.ensures.cause;
+  damage = damaged_anyhow _ _ c.args.self.now.ahead.reader (g.S.Shelf.world c.args.shelf.now) c.from_residual.result
+      (write_undamaged (IsTrue (g.S.Shelf.tells c.put.new.shelf)) c.args.self.now.ahead.reader (g.S.Shelf.world c.args.shelf.now) c.from_residual.result c.in_err-put.field-0.0 c.from_residual.ensures.1
+      c.in_err-put.ensures.cause);
 }

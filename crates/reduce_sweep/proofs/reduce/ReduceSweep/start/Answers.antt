@@ -86,7 +86,15 @@ returns-clause-in_step g c = λ told.
       one_end = record { place = c.in_ok-end.ensures.file; up = c.in_ok-end.ensures.place; reads = c.in_ok-end.ensures.reads told; arcs = c.in_ok-end.ensures.arcs told };
       written = c.in_ok-writer.ensures.holds cut_told;
     })
-    _ (record { queue_is = c.start-2.ensures.list _; last_is = c.start-2.ensures.last; rows_is = c.start-3.ensures.list _; names_is = c.start-4.ensures.list _ })
+    _ (record { queue_is = c.start-2.ensures.list _; last_is = c.start-2.ensures.last; rows_is = c.start-3.ensures.list _; names_is = c.start-4.ensures.list _; in_step = record { queue_in_step = c.start-2.ensures.in_step _; rows_in_step = c.start-3.ensures.in_step _; names_in_step = c.start-4.ensures.in_step _ } })
+
+-- so these exist
+pub returns-clause-trusts : goal.returns-clause-trusts
+returns-clause-trusts g c = λ told. record {
+  queue_listed = ([], c.start-2.ensures.list _);
+  rows_listed = ([], c.start-3.ensures.list _);
+  names_listed = ([], c.start-4.ensures.list _);
+}
 
 -- what remains at first is the whole diagram
 pub returns-clause-remains : goal.returns-clause-remains
@@ -115,7 +123,7 @@ returns-clause-remains g c = λ told d inner ends has_inner has_ends arcs diagra
             written = c.in_ok-writer.ensures.holds cut_told;
           })
           _ inner ends
-          (record { queue_is = c.start-2.ensures.list _; last_is = c.start-2.ensures.last; rows_is = c.start-3.ensures.list _; names_is = c.start-4.ensures.list _ })
+          (record { queue_is = c.start-2.ensures.list _; last_is = c.start-2.ensures.last; rows_is = c.start-3.ensures.list _; names_is = c.start-4.ensures.list _; in_step = record { queue_in_step = c.start-2.ensures.in_step _; rows_in_step = c.start-3.ensures.in_step _; names_in_step = c.start-4.ensures.in_step _ } })
           c.in_ok-writer.ensures.count has_inner has_ends;
       left = record {
         is_of = record {
