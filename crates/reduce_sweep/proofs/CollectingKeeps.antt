@@ -227,11 +227,11 @@ pub arc_collected : (p : Place) (s : Source) (u : ReduceSweep) (world : World) (
     → IsClosed (sources.closed_by s a) k.rows k.names rows names
     → Passes queued (held_of u) world (record k { rows = rows; names = names }) a → IsWorking u world d
 arc_collected p s u world d k queued a rows names phase place left greatest here closed passes =
-    let are : IsCollected p.variables p.root p.level p.known s d k = subst (λ f. RemainsAt f p.variables p.root p.level p.known d k) phase left.remains in
+    let are : IsCollected p.variables p.arcs.root p.level p.known s d k = subst (λ f. RemainsAt f p.variables p.arcs.root p.level p.known d k) phase left.remains in
     let complete = left.is_of.diagram.complete in
     let (m, same, holds, inner_is, rows_is, names_is, nodes_is, taken) = rest_of queued u world k (record k { rows = rows; names = names }) a refl refl passes in
-    let (collecting, one) = arc-noted p.variables p.root p.level d.arcs (to_collect k) (to_collect m) k.inner s k.rows rows k.names names k.nodes p.known a
-    complete (finds_final p.variables p.root d.arcs left.is_of.few complete) are.one same greatest here closed are.collecting in
+    let (collecting, one) = arc-noted p.variables p.arcs.root p.level d.arcs (to_collect k) (to_collect m) k.inner s k.rows rows k.names names k.nodes (Some p.known) a
+    complete (finds_final p.variables p.arcs.root d.arcs left.is_of.few complete) are.one same greatest here closed are.collecting in
     record {
       contents = m;
       holds = holds;
@@ -239,7 +239,7 @@ arc_collected p s u world d k queued a rows names phase place left greatest here
         is_of = left.is_of;
         taken = taken p.level (omega (arith, here)) left.taken;
         remains = record {
-          collecting = subst (λ v. v) (λ j. IsCollecting p.variables p.root p.level d.arcs (to_collect m) (noted (sources.noted_with s a)) (sym inner_is j) (sym rows_is j) (sym names_is j) (sym nodes_is j) p.known) collecting;
+          collecting = subst (λ v. v) (λ j. IsCollecting p.variables p.arcs.root p.level d.arcs (to_collect m) (noted (sources.noted_with s a)) (sym inner_is j) (sym rows_is j) (sym names_is j) (sym nodes_is j) (Some p.known)) collecting;
           one = one;
         };
       });
@@ -250,11 +250,11 @@ pub level_collected : (p : Place) (s : Source) (u : ReduceSweep) (world : World)
     → p.phase ≡ Collect s → u.place ≡ record p { phase = Number (record { number = 0; last = None }) } → IsLeft p d k → ((q : Arc) → Has q (to_collect k) → level_of q.source < p.level)
     → Closes (Some s) u world k → IsWorking u world d
 level_collected p s u world d k phase place left low (rows, names, closed, holds) =
-    let are : IsCollected p.variables p.root p.level p.known s d k = subst (λ f. RemainsAt f p.variables p.root p.level p.known d k) phase left.remains in
+    let are : IsCollected p.variables p.arcs.root p.level p.known s d k = subst (λ f. RemainsAt f p.variables p.arcs.root p.level p.known d k) phase left.remains in
     let complete = left.is_of.diagram.complete in
-    let collected = source_closed p.variables p.root p.level d.arcs (to_collect k) k.inner k.nodes p.known complete (finds_final p.variables p.root d.arcs left.is_of.few complete)
+    let collected = source_closed p.variables p.arcs.root p.level d.arcs (to_collect k) k.inner k.nodes (Some p.known) complete (finds_final p.variables p.arcs.root d.arcs left.is_of.few complete)
     s k.rows rows k.names names are.one closed
-    (none-left p.variables p.root p.level d.arcs (to_collect k) k.inner s k.rows k.names k.nodes p.known are.one low are.collecting) are.collecting in
+    (none-left p.variables p.arcs.root p.level d.arcs (to_collect k) k.inner s k.rows k.names k.nodes (Some p.known) are.one low are.collecting) are.collecting in
     record {
       contents = record k { rows = rows; names = names };
       holds = holds;
@@ -263,7 +263,7 @@ level_collected p s u world d k phase place left low (rows, names, closed, holds
         taken = left.taken;
         remains = record {
           done = [];
-          numbering = rows_begin p.variables p.root p.level d.arcs (to_collect k) k.inner rows names k.nodes p.known complete low (rising rows holds.rows_is.ascends) collected;
+          numbering = rows_begin p.variables p.arcs.root p.level d.arcs (to_collect k) k.inner rows names k.nodes (Some p.known) complete low (rising rows holds.rows_is.ascends) collected;
           number_is = refl;
         };
       });
@@ -278,7 +278,7 @@ at_member k false a at = subst (λ (ends : List Arc). Has (as_arc a) (map as_arc
 -- the arc that comes next is of no deeper level
 pub next_within : (p : Place) (s : Source) (d : Diagram) (k : Contents) (queued : Bool) (a : FinalArc) → p.phase ≡ Collect s → IsLeft p d k → IsAt queued k a → level_of a.source ≤ p.level
 next_within p s d k queued a phase left at =
-    let are : IsCollected p.variables p.root p.level p.known s d k = subst (λ f. RemainsAt f p.variables p.root p.level p.known d k) phase left.remains in
+    let are : IsCollected p.variables p.arcs.root p.level p.known s d k = subst (λ f. RemainsAt f p.variables p.arcs.root p.level p.known d k) phase left.remains in
     let (b, in_b, above, to, is_b) = are.collecting.collects.queue_from (as_arc a) (at_member k queued a at) in
     omega (arith, above, ap (λ (x : Arc). level_of x.source) is_b)
 
@@ -292,7 +292,7 @@ none_below i k none q m = absurd (subst (Has q) none m)
 -- between levels an arc that is to be collected is of a level that isn't done
 pub is_shallower : (p : Place) (d : Diagram) (k : Contents) (a : FinalArc) → p.phase ≡ Between → IsLeft p d k → Has (as_arc a) (to_collect k) → level_of a.source < p.level
 is_shallower p d k a phase left member =
-    let between : IsBetween p.variables p.root p.level p.known d k = subst (λ f. RemainsAt f p.variables p.root p.level p.known d k) phase left.remains in
+    let between : IsBetween p.variables p.arcs.root p.level p.known d k = subst (λ f. RemainsAt f p.variables p.arcs.root p.level p.known d k) phase left.remains in
     let (b, _, above, _, is) = between.remains.queued.from (as_arc a) member in
     subst (λ source. level_of source < p.level) (ap (λ (x : Arc). x.source) is) above
 
@@ -301,14 +301,14 @@ pub level_opened : (p : Place) (u : ReduceSweep) (at_last : Place) (world : Worl
     → p.phase ≡ Between → at_last ≡ record p { level = level_of a.source; phase = Collect (sources.first_noted a) } → IsLeft p d k → IsAt queued k a → IsGreatest k a
     → Passes queued (held_of u) world k a → IsWorking (record u { place = at_last }) world d
 level_opened p u at_last world d k queued a phase place left at greatest passes =
-    let between : IsBetween p.variables p.root p.level p.known d k = subst (λ f. RemainsAt f p.variables p.root p.level p.known d k) phase left.remains in
+    let between : IsBetween p.variables p.arcs.root p.level p.known d k = subst (λ f. RemainsAt f p.variables p.arcs.root p.level p.known d k) phase left.remains in
     let complete = left.is_of.diagram.complete in
     let member = at_member k queued a at in
     let shallower : level_of a.source < p.level = is_shallower p d k a phase left member in
     let (m, same, holds, inner_is, rows_is, names_is, nodes_is, taken) = rest_of queued u world k k a refl refl passes in
-    let opens = level_opens p.variables p.root p.level d.arcs (to_collect k) k.inner k.nodes p.known (as_arc a) between.within complete member greatest between.remains in
-    let (collecting, one) = first_noted_one p.variables p.root (level_of a.source) d.arcs (to_collect k) (to_collect m) k.inner [] [] k.nodes p.known a
-    complete (finds_final p.variables p.root d.arcs left.is_of.few complete) same greatest refl opens in
+    let opens = level_opens p.variables p.arcs.root p.level d.arcs (to_collect k) k.inner k.nodes (Some p.known) (as_arc a) between.within complete member greatest between.remains in
+    let (collecting, one) = first_noted_one p.variables p.arcs.root (level_of a.source) d.arcs (to_collect k) (to_collect m) k.inner [] [] k.nodes (Some p.known) a
+    complete (finds_final p.variables p.arcs.root d.arcs left.is_of.few complete) same greatest refl opens in
     record {
       contents = m;
       holds = holds;
@@ -316,8 +316,8 @@ level_opened p u at_last world d k queued a phase place left at greatest passes 
         is_of = left.is_of;
         taken = taken (level_of a.source) (omega arith) (less k.last left.taken shallower);
         remains = record {
-          collecting = subst (λ v. v) (λ j. IsCollecting p.variables p.root (level_of a.source) d.arcs (to_collect m) (noted (sources.first_noted a)) (sym inner_is j)
-              ((sym between.no_rows ∙ sym rows_is) j) ((sym between.no_names ∙ sym names_is) j) (sym nodes_is j) p.known) collecting;
+          collecting = subst (λ v. v) (λ j. IsCollecting p.variables p.arcs.root (level_of a.source) d.arcs (to_collect m) (noted (sources.first_noted a)) (sym inner_is j)
+              ((sym between.no_rows ∙ sym rows_is) j) ((sym between.no_names ∙ sym names_is) j) (sym nodes_is j) (Some p.known)) collecting;
           one = one;
         };
       });

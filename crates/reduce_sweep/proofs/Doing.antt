@@ -30,7 +30,6 @@ task_then p q r first second = record {
   inner_is = second.inner_is ∙ first.inner_is;
   ends_are = second.ends_are ∙ first.ends_are;
   variables_are = second.variables_are ∙ first.variables_are;
-  root_is = second.root_is ∙ first.root_is;
 }
 
 -- a task that stays, as one value
@@ -114,9 +113,9 @@ module _ {S : Type 0} (tells : S → Bool) (world : S → World) (counts : S →
       does_more (m + n) most (a + b) parts s u p r (Ok x) calls more (does_ok (m + n) (a + b) s u p r two x (does_then m n a b s t u p q r one two sound reader keeps first second))
 
   -- the place within the task is another
-  pub does_placed : {T : Type 0} (m a : ℕ) (s t : S) (p q : ReduceSweep) (result : Result T SortFault) (place : Place) → place.variables ≡ q.place.variables → place.root ≡ q.place.root
+  pub does_placed : {T : Type 0} (m a : ℕ) (s t : S) (p q : ReduceSweep) (result : Result T SortFault) (place : Place) → place.variables ≡ q.place.variables → place.arcs ≡ q.place.arcs
       → Does tells world counts m a s t p q result → Does tells world counts m a s t p (record q { place = place }) result
-  does_placed m a s t p q result place variables root d = record {
+  does_placed m a s t p q result place variables arcs d = record {
     leaves = record {
       made = d.leaves.made;
       making = d.leaves.making;
@@ -129,11 +128,10 @@ module _ {S : Type 0} (tells : S → Bool) (world : S → World) (counts : S →
     };
     same = record {
       out_is = d.same.out_is;
-      arcs_are = d.same.arcs_are;
+      arcs_are = arcs ∙ d.same.arcs_are;
       inner_is = d.same.inner_is;
       ends_are = d.same.ends_are;
       variables_are = variables ∙ d.same.variables_are;
-      root_is = root ∙ d.same.root_is;
     };
     refused = by result d.refused;
     damage = d.damage;
@@ -156,9 +154,9 @@ module _ {S : Type 0} (tells : S → Bool) (world : S → World) (counts : S →
           → IsDamageOf p.ahead.reader (world s) e → IsDamage p (world t) e
       by Shelf stay damage = tt
       by (Damaged f at) stay damage = elim damage [
-        | inl d ↦ inl (damaged_after Inner p.arcs.inner p.arcs.inner_count (inner_of p.ahead.reader) (world s) (world t)
+        | inl d ↦ inl (damaged_after Inner p.place.arcs.inner p.place.arcs.inner_count (inner_of p.ahead.reader) (world s) (world t)
             f at sound.within.inner_within stay.0 d)
-        | inr d ↦ inr (damaged_after End p.arcs.ends p.arcs.ends_count (ends_of p.ahead.reader) (world s) (world t) f at
+        | inr d ↦ inr (damaged_after End p.place.arcs.ends p.place.arcs.ends_count (ends_of p.ahead.reader) (world s) (world t) f at
             sound.within.ends_within stay.1 d)
       ]
       by RunsSpent stay damage = tt

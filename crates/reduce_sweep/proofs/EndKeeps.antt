@@ -20,20 +20,20 @@ use Rattle.reduce_sweep.specs.Sweeps.{out_of}
 use Rattle.reduce_sweep.specs.Remaining.{Diagram, IsLeft, RemainsAt, IsBetween, IsReduced}
 
 -- where no arc is to be collected, what the writer holds with a trailer is the canonical file
-pub file_ended : (s : ReduceSweep) (w : NodeWriter) (count root : ℕ) (old new : World) (d : Diagram) (k : Contents) → s.place.phase ≡ Between → s.writer.n ≡ s.place.variables
-    → Holds s.ahead s.lists s.writer old k → IsLeft s.place d k → to_collect k ≡ [] → root ≡ unwrap_or s.place.known (terminal false) → writers.filling_of w ≡ writers.filling_of s.writer
+pub file_ended : (s : ReduceSweep) (w : NodeWriter) (count : ℕ) (old new : World) (d : Diagram) (k : Contents) → s.place.phase ≡ Between → s.writer.n ≡ s.place.variables
+    → Holds s.ahead s.lists s.writer old k → IsLeft s.place d k → to_collect k ≡ [] → writers.filling_of w ≡ writers.filling_of s.writer
     → count ≡ count_of (writers.filling_of s.writer)
-    → file new (out_of s) ≡ firm_file (writers.written_of s.writer old ++ trailer_bytes root (count_of (writers.filling_of s.writer)) s.writer.n)
+    → file new (out_of s) ≡ firm_file (writers.written_of s.writer old ++ trailer_bytes s.place.known (count_of (writers.filling_of s.writer)) s.writer.n)
     → IsReduced (record s { place = record s.place { phase = Ended count }; writer = w }) new d
-file_ended s w count root old new d k phase variables holds left none is_root same counted firm =
+file_ended s w count old new d k phase variables holds left none same counted firm =
     let p = s.place in
     let n = p.variables in
-    let between : IsBetween n p.root p.level p.known d k = subst (λ f. RemainsAt f n p.root p.level p.known d k) phase left.remains in
-    let (_, nodes, known) = nothing_left n p.root p.level d.arcs k.inner k.nodes p.known d.table between.within left.is_of.few left.is_of.few_arcs left.is_of.diagram
-    (subst (λ q. Remains n p.root p.level d.arcs q k.inner k.nodes p.known) none between.remains) in
+    let between : IsBetween n p.arcs.root p.level p.known d k = subst (λ f. RemainsAt f n p.arcs.root p.level p.known d k) phase left.remains in
+    let (_, nodes, known) = nothing_left n p.arcs.root p.level d.arcs k.inner k.nodes (Some p.known) d.table between.within left.is_of.few left.is_of.few_arcs left.is_of.diagram
+    (subst (λ q. Remains n p.arcs.root p.level d.arcs q k.inner k.nodes (Some p.known)) none between.remains) in
     let many : count_of (writers.filling_of s.writer) ≡ length (canon_nodes n d.table) = sym holds.nodes_many ∙ ap length nodes in
-    let root_is : root ≡ canon_root n d.table = is_root ∙ ap (λ o. unwrap_or o (terminal false)) known in
-    let bytes : writers.written_of s.writer old ++ trailer_bytes root (count_of (writers.filling_of s.writer)) s.writer.n ≡ canon_bytes n d.table =
+    let root_is : p.known ≡ canon_root n d.table = ap (λ o. unwrap_or o (terminal false)) known in
+    let bytes : writers.written_of s.writer old ++ trailer_bytes p.known (count_of (writers.filling_of s.writer)) s.writer.n ≡ canon_bytes n d.table =
     (λ j. (holds.nodes_is.bytes_are ∙ ap node_bytes nodes) j ++ trailer_bytes (root_is j) (many j) (variables j)) ∙ sym (canon_bytes-is n d.table) in
     record {
       firm = ap (λ (f : Filling). file new f.file) same ∙ firm ∙ ap firm_file bytes;

@@ -44,7 +44,7 @@ module _ {S : Type 0} (tells : S → Bool) (world : S → World) (counts : S →
     sound_with : a.reader ≡ s.ahead.reader → AreServed a l s.writer after → IsSound with_lists
     sound_with reader served = record {
       served = served;
-      within = subst (AreWithin s.arcs) (sym reader) fit.sound.within;
+      within = subst (AreWithin s.place.arcs) (sym reader) fit.sound.within;
       variables = fit.sound.variables;
       phase = fit.sound.phase;
     }
@@ -74,7 +74,6 @@ module _ {S : Type 0} (tells : S → Bool) (world : S → World) (counts : S →
         inner_is = ap (λ (r : ArcReader). file_of (inner_of r)) reader;
         ends_are = ap (λ (r : ArcReader). file_of (ends_of r)) reader;
         variables_are = refl;
-        root_is = refl;
       };
       refused = if_err_weaker result (λ e. list_refuses (inner_file s) (ends_file s) with_lists e) refused;
       damage = damage;

@@ -60,13 +60,13 @@ read_furthest front unread a given is is_given ordered x m =
     last_furthest front a (subst (λ (o : Option Arc). IsInOrderBefore Inner front o) is_given ordered) x (subst (λ xs. Has x xs) is m)
 
 -- a name to which no arc is left is given up, and that of the root says the root's final pointer
-given_up : (n root i : ℕ) (arcs queue unread : List Arc) (names rest : List Name) (nodes : List Node) (known : Option ℕ) (m : Name) (same : Bool) → (m.source == root) ≡ same
-    → SameMembers names (m ∷ rest) → ((x : Arc) → Has x unread → x.target ≢ m.source) → IsForwarding n root i arcs queue unread names nodes known
-    → IsForwarding n root i arcs queue unread rest nodes (cond same (Some m.pointer) known)
+given_up : (n root i : ℕ) (arcs queue unread : List Arc) (names rest : List Name) (nodes : List Node) (known : ℕ) (m : Name) (same : Bool) → (m.source == root) ≡ same
+    → SameMembers names (m ∷ rest) → ((x : Arc) → Has x unread → x.target ≢ m.source) → IsForwarding n root i arcs queue unread names nodes (Some known)
+    → IsForwarding n root i arcs queue unread rest nodes (Some (cond same m.pointer known))
 given_up n root i arcs queue unread names rest nodes known m true same taken none f =
-    root_done n root i arcs queue unread names rest nodes known (Some m.pointer) m taken none (grind (arith, nat_tests)) refl f
+    root_done n root i arcs queue unread names rest nodes (Some known) (Some m.pointer) m taken none (grind (arith, nat_tests)) refl f
 given_up n root i arcs queue unread names rest nodes known m false same taken none f =
-    name_done n root i arcs queue unread names rest nodes known m taken none (λ is. by m.source root is same) f
+    name_done n root i arcs queue unread names rest nodes (Some known) m taken none (λ is. by m.source root is same) f
   where
     by : (x y : ℕ) → x ≡ y → (x == y) ≡ false → ⊥
     by x y is other = grind (arith, nat_tests)
@@ -89,8 +89,8 @@ one_along n root i arcs ends unread front queue more names nodes known a m told 
     }
 
 -- what remains while names are forwarded
-forwarded_at : (p : Place) (d : Diagram) (k : Contents) → p.phase ≡ Forward → IsLeft p d k → IsForwarded p.variables p.root p.level p.known d k
-forwarded_at p d k phase left = subst (λ f. RemainsAt f p.variables p.root p.level p.known d k) phase left.remains
+forwarded_at : (p : Place) (d : Diagram) (k : Contents) → p.phase ≡ Forward → IsLeft p d k → IsForwarded p.variables p.arcs.root p.level p.known d k
+forwarded_at p d k phase left = subst (λ f. RemainsAt f p.variables p.arcs.root p.level p.known d k) phase left.remains
 
 -- a name is one of a source of the level
 pub name_here : (p : Place) (d : Diagram) (k : Contents) (m : Name) (rest : List Name) → p.phase ≡ Forward → IsLeft p d k → k.names ≡ m ∷ rest → level_of m.source ≡ p.level
@@ -111,8 +111,8 @@ names_done p u world d k phase place left none holds =
         taken = left.taken;
         remains = record {
           within = omega (arith, are.forwarding.level);
-          remains = level_done p.variables p.root p.level d.arcs (to_collect k) k.inner k.nodes p.known
-              (subst (λ names. IsForwarding p.variables p.root p.level d.arcs (to_collect k) k.inner names k.nodes p.known) none are.forwarding);
+          remains = level_done p.variables p.arcs.root p.level d.arcs (to_collect k) k.inner k.nodes (Some p.known)
+              (subst (λ names. IsForwarding p.variables p.arcs.root p.level d.arcs (to_collect k) k.inner names k.nodes (Some p.known)) none are.forwarding);
           no_rows = are.no_rows;
           no_names = none;
         };
@@ -131,8 +131,8 @@ name_given_up p u world d k m rest phase place left taken none holds =
       left = subst (λ (q : Place). IsLeft q d (record k { names = rest })) (sym place) (record {
         is_of = left.is_of;
         taken = left.taken;
-        remains = subst (λ f. RemainsAt f p.variables p.root p.level (known_with p m) d (record k { names = rest })) (sym phase) (record {
-          forwarding = given_up p.variables p.root p.level d.arcs (to_collect k) k.inner k.names rest k.nodes p.known m (m.source == p.root) refl members none are.forwarding;
+        remains = subst (λ f. RemainsAt f p.variables p.arcs.root p.level (known_with p m) d (record k { names = rest })) (sym phase) (record {
+          forwarding = given_up p.variables p.arcs.root p.level d.arcs (to_collect k) k.inner k.names rest k.nodes p.known m (m.source == p.arcs.root) refl members none are.forwarding;
           no_rows = are.no_rows;
         });
       });
@@ -212,8 +212,8 @@ arc_forwarded p u world d k m rest a told phase place left named to_source sourc
       left = subst (λ (q : Place). IsLeft q d l) (sym place) (record {
         is_of = left.is_of;
         taken = left.taken;
-        remains = subst (λ f. RemainsAt f p.variables p.root p.level p.known d l) (sym phase) (record {
-          forwarding = one_along p.variables p.root p.level d.arcs k.ends k.inner front k.queue queue k.names k.nodes p.known a m told
+        remains = subst (λ f. RemainsAt f p.variables p.arcs.root p.level p.known d l) (sym phase) (record {
+          forwarding = one_along p.variables p.arcs.root p.level d.arcs k.ends k.inner front k.queue queue k.names k.nodes (Some p.known) a m told
               left.is_of.diagram.complete split member to_source source high target joined are.forwarding;
           no_rows = are.no_rows;
         });

@@ -91,8 +91,8 @@ one_numbered n root level d queue unread (Some last) number done r rows names ot
     }
 
 -- what remains while rows are numbered
-numbered_at : (p : Place) (s : Numbered) (d : Diagram) (k : Contents) → p.phase ≡ Number s → IsLeft p d k → IsNumbered p.variables p.root p.level p.known s d k
-numbered_at p s d k phase left = subst (λ f. RemainsAt f p.variables p.root p.level p.known d k) phase left.remains
+numbered_at : (p : Place) (s : Numbered) (d : Diagram) (k : Contents) → p.phase ≡ Number s → IsLeft p d k → IsNumbered p.variables p.arcs.root p.level p.known s d k
+numbered_at p s d k phase left = subst (λ f. RemainsAt f p.variables p.arcs.root p.level p.known d k) phase left.remains
 
 -- a row is one of a source of the level
 pub row_here : (p : Place) (s : Numbered) (d : Diagram) (k : Contents) (r : SourceRow) (rest : List SourceRow) → p.phase ≡ Number s → IsLeft p d k → k.rows ≡ r ∷ rest → level_of r.source ≡ p.level
@@ -106,11 +106,11 @@ pub row_numbered_on : (p : Place) (s : Numbered) (u : ReduceSweep) (world : Worl
     → NumbersRow p.level s u world (record k { rows = rest }) r → IsWorking u world d
 row_numbered_on p s u world d k r rest phase place some left taken (names, joined, holds) =
     let are = numbered_at p s d k phase left in
-    let final = finds_final p.variables p.root d.arcs left.is_of.few left.is_of.diagram.complete in
+    let final = finds_final p.variables p.arcs.root d.arcs left.is_of.few left.is_of.diagram.complete in
     let m : Name = record { source = r.source; pointer = node_word p.level (2 ^ 47 - (numbered_with s r).number) } in
-    let one = one_numbered p.variables p.root p.level d (to_collect k) k.inner s.last s.number are.done r rest k.names names k.nodes p.known m (is_last s.last r) refl final
+    let one = one_numbered p.variables p.arcs.root p.level d (to_collect k) k.inner s.last s.number are.done r rest k.names names k.nodes (Some p.known) m (is_last s.last r) refl final
     are.number_is refl refl some joined
-    (subst (λ rows. IsNumbering p.variables p.root p.level d.arcs (to_collect k) k.inner are.done s.last rows k.names k.nodes p.known) taken are.numbering) in
+    (subst (λ rows. IsNumbering p.variables p.arcs.root p.level d.arcs (to_collect k) k.inner are.done s.last rows k.names k.nodes (Some p.known)) taken are.numbering) in
     let l : Contents = record k { rows = rest; names = names; nodes = nodes_with p.level s r k.nodes } in
     record {
       contents = l;
@@ -131,8 +131,8 @@ rows_numbered p s u world d k phase place left none holds =
         is_of = left.is_of;
         taken = left.taken;
         remains = record {
-          forwarding = names_begin p.variables p.root p.level d.arcs (to_collect k) k.inner are.done s.last k.names k.nodes p.known left.is_of.diagram.complete
-              (subst (λ rows. IsNumbering p.variables p.root p.level d.arcs (to_collect k) k.inner are.done s.last rows k.names k.nodes p.known) none are.numbering);
+          forwarding = names_begin p.variables p.arcs.root p.level d.arcs (to_collect k) k.inner are.done s.last k.names k.nodes (Some p.known) left.is_of.diagram.complete
+              (subst (λ rows. IsNumbering p.variables p.arcs.root p.level d.arcs (to_collect k) k.inner are.done s.last rows k.names k.nodes (Some p.known)) none are.numbering);
           no_rows = none;
         };
       });

@@ -51,7 +51,6 @@ pub record SameTask (old new : ReduceSweep) : Type 0 where
   pub inner_is : inner_file new ≡ inner_file old
   pub ends_are : ends_file new ≡ ends_file old
   pub variables_are : new.place.variables ≡ old.place.variables
-  pub root_is : new.place.root ≡ old.place.root
 
 -- what a call leaves and costs, why it is refused, and where damage is then, if its lists exist
 pub record Does {S T : Type 0} (tells : S → Bool) (world : S → World) (counts : S → Faults)

@@ -37,8 +37,8 @@ nodes_with level s r nodes = cond (is_last s.last r) nodes
     (nodes ++ record { uid = row_word level s.number; low = r.low; high = r.high } ∷ [])
 
 -- the root's final pointer, where the name is the root's
-abbrev pub known_with : Place → Name → Option ℕ
-known_with p m = cond (m.source == p.root) (Some m.pointer) p.known
+abbrev pub known_with : Place → Name → ℕ
+known_with p m = cond (m.source == p.arcs.root) m.pointer p.known
 
 -- the rows and names with a row whose pointers differ, or with a name in its place
 abbrev pub JoinsOne : Bool → SourceRow → List SourceRow → List Name → List SourceRow → List Name → Type 0

@@ -1,5 +1,5 @@
 -- What remains of a reduction: a relation between its place and the lists that it holds.
-use Rattle.std.specs.Prelude.{◌≡◌, ℕ, ◌≤◌, ◌^◌, Bool, List, [], length, Option, Some}
+use Rattle.std.specs.Prelude.{◌≡◌, ℕ, ◌≤◌, ◌^◌, Bool, List, [], length, Some}
 use Rattle.shelf_model.specs.File.{firm_file}
 use Rattle.shelf_model.specs.World.{World, file}
 use Rattle.canon_file.specs.declared.row.Row.{Row}
@@ -27,32 +27,32 @@ abbrev pub noted : Source → List Arc
 noted source = noted_arcs source.uid source.low source.high
 
 -- the deeper levels are done
-pub record IsBetween (n root level : ℕ) (known : Option ℕ) (d : Diagram) (k : Contents) : Type 0 where
+pub record IsBetween (n root level known : ℕ) (d : Diagram) (k : Contents) : Type 0 where
   pub within : level ≤ n
-  pub remains : Remains n root level d.arcs (to_collect k) k.inner k.nodes known
+  pub remains : Remains n root level d.arcs (to_collect k) k.inner k.nodes (Some known)
   pub no_rows : k.rows ≡ []
   pub no_names : k.names ≡ []
 
 -- the sources of the level are collected, and an arc of the one at hand was noted
-pub record IsCollected (n root level : ℕ) (known : Option ℕ) (source : Source) (d : Diagram)
+pub record IsCollected (n root level known : ℕ) (source : Source) (d : Diagram)
     (k : Contents) : Type 0 where
-  pub collecting : IsCollecting n root level d.arcs (to_collect k) (noted source) k.inner k.rows k.names k.nodes known
+  pub collecting : IsCollecting n root level d.arcs (to_collect k) (noted source) k.inner k.rows k.names k.nodes (Some known)
   pub one : (p : Arc) × Has p (noted source)
 
 -- some rows have numbers: as many as were given, and the last of them is at hand
-pub record IsNumbered (n root level : ℕ) (known : Option ℕ) (numbered : Numbered) (d : Diagram)
+pub record IsNumbered (n root level known : ℕ) (numbered : Numbered) (d : Diagram)
     (k : Contents) : Type 0 where
   pub done : List Row
-  pub numbering : IsNumbering n root level d.arcs (to_collect k) k.inner done numbered.last k.rows k.names k.nodes known
+  pub numbering : IsNumbering n root level d.arcs (to_collect k) k.inner done numbered.last k.rows k.names k.nodes (Some known)
   pub number_is : numbered.number ≡ length done
 
 -- names are forwarded
-pub record IsForwarded (n root level : ℕ) (known : Option ℕ) (d : Diagram) (k : Contents) : Type 0 where
-  pub forwarding : IsForwarding n root level d.arcs (to_collect k) k.inner k.names k.nodes known
+pub record IsForwarded (n root level known : ℕ) (d : Diagram) (k : Contents) : Type 0 where
+  pub forwarding : IsForwarding n root level d.arcs (to_collect k) k.inner k.names k.nodes (Some known)
   pub no_rows : k.rows ≡ []
 
 -- what remains in each phase
-abbrev pub RemainsAt : Phase → ℕ → ℕ → ℕ → Option ℕ → Diagram → Contents → Type 0
+abbrev pub RemainsAt : Phase → ℕ → ℕ → ℕ → ℕ → Diagram → Contents → Type 0
 RemainsAt Between n root level known d k = IsBetween n root level known d k
 RemainsAt (Collect source) n root level known d k = IsCollected n root level known source d k
 RemainsAt (Number numbered) n root level known d k = IsNumbered n root level known numbered d k
@@ -67,9 +67,9 @@ pub record IsOf (n root : ℕ) (d : Diagram) : Type 0 where
 
 -- what remains to be done from a place on, with these lists
 pub record IsLeft (p : Place) (d : Diagram) (k : Contents) : Type 0 where
-  pub is_of : IsOf p.variables p.root d
+  pub is_of : IsOf p.variables p.arcs.root d
   pub taken : IsTakenTo p.level k.last
-  pub remains : RemainsAt p.phase p.variables p.root p.level p.known d k
+  pub remains : RemainsAt p.phase p.variables p.arcs.root p.level p.known d k
 
 -- while the sweep works: what it holds is what remains from its place on
 pub record IsWorking (s : ReduceSweep) (world : World) (d : Diagram) : Type 0 where

@@ -40,7 +40,7 @@ ends_file r = file_of (ends_of r.ahead.reader)
 
 -- the arcs that it began with
 abbrev pub arcs_of : ReduceSweep → Unreduced
-arcs_of r = r.arcs
+arcs_of r = r.place.arcs
 
 -- what no turn changes: the file of the nodes, the two arc files, the arcs that it began with, and the number of
 -- variables

@@ -111,8 +111,8 @@ impl<'r> ReduceSweep<'r> {
             Holds self.new.ahead self.new.lists self.new.writer (S.world shelf.new) (record k { names = rest })) }
     {
         self.take_name(shelf)?;
-        if name.source.ptr() == self.place.root {
-            self.place.known = Some(name.pointer);
+        if name.source.ptr() == self.place.arcs.root {
+            self.place.known = name.pointer;
         }
         Ok(())
     }

@@ -1,7 +1,6 @@
 //! A reduction, as it stands between two turns.
 use crate::phase::Phase;
 use crate::place::Place;
-use arc_file::Unreduced;
 use node_file::NodeWriter;
 use reduce_lists::{Ahead, Lists};
 use run_merge::Parts;
@@ -11,8 +10,6 @@ use run_merge::Parts;
 /// After a refusal it isn't used again.
 #[derive(Drop)]
 pub struct ReduceSweep<'r> {
-    // The arcs that it began with.
-    pub(crate) arcs: Unreduced,
     pub(crate) place: Place,
     pub(crate) ahead: Ahead<'r>,
     pub(crate) lists: Lists<'r>,

@@ -1,5 +1,5 @@
 //! The beginning of a reduction.
-ghost use Rattle.std.specs.Prelude.{◌≡◌, Some};
+ghost use Rattle.std.specs.Prelude.{◌≡◌};
 ghost use Rattle.rec_words.specs.Words.{IsTerminal};
 
 use crate::phase::Phase;
@@ -104,13 +104,11 @@ impl<'r> ReduceSweep<'r> {
         let arcs = reader.left_over();
         let inner = reader.next_inner(shelf)?;
         let end = reader.next_end(shelf)?;
-        let root = arcs.root;
-        let known = final_from_start(root);
+        let known = final_from_start(arcs.root);
         Ok(ReduceSweep {
-            arcs,
             place: Place {
                 variables: n,
-                root,
+                arcs,
                 known,
                 level: n,
                 phase: Phase::Between,
@@ -131,12 +129,12 @@ impl<'r> ReduceSweep<'r> {
     }
 }
 
-// The final pointer of a truth value, which is itself. That of a node isn't known at first.
-fn final_from_start(root: Ptr) -> Option<Ptr>
-    ensures { IsTerminal root → result ≡ Some root }
+// The final pointer of a truth value, which is itself. That of a node isn't known at first, and is the truth value 0.
+fn final_from_start(root: Ptr) -> Ptr
+    ensures { IsTerminal root → result ≡ root }
 {
     match root.value() {
-        Some(value) => Some(Ptr::terminal(value)),
-        None => None,
+        Some(value) => Ptr::terminal(value),
+        None => Ptr::terminal(false),
     }
 }

@@ -3,7 +3,6 @@ use crate::collecting::level_at;
 use crate::phase::{Numbered, Phase};
 use crate::reduce::ReduceSweep;
 use crate::source::Source;
-use rec_words::Ptr;
 use shelf_model::{Shelf, SortFault};
 use sweep_core::{Sweep, Turn};
 
@@ -179,8 +178,7 @@ impl<'r> ReduceSweep<'r> {
             Holds self.old.ahead self.old.lists self.old.writer (S.world shelf.old) k → IsLeft self.old.place d k →
             to_collect k ≡ [] → RemainsOf self.new (S.world shelf.new) d) }
     {
-        let root = self.place.known.unwrap_or(Ptr::terminal(false));
-        let count = self.writer.end(root, shelf)?;
+        let count = self.writer.end(self.place.known, shelf)?;
         self.place.phase = Phase::Ended(count);
         Ok(())
     }

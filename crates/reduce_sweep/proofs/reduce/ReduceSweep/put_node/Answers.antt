@@ -68,7 +68,6 @@ returns-clause-does g c = record {
     inner_is = refl;
     ends_are = refl;
     variables_are = refl;
-    root_is = refl;
   };
   refused = tt;
   damage = tt;
@@ -93,7 +92,6 @@ returns-in_err-put-clause-does g c = record {
     inner_is = refl;
     ends_are = refl;
     variables_are = refl;
-    root_is = refl;
   };
   refused = write_refuses _ _ (record c.args.self.now {
     place = record c.args.self.now.place { phase = Number c.with-next.result };

@@ -30,7 +30,7 @@ pub returns-clause-fit : goal.returns-clause-fit
 returns-clause-fit g c = record {
   sound = record {
     served = search rules;
-    within = within_read_inner c.args.self.now.arcs c.args.self.now.ahead.reader c.next_inner.new.self _
+    within = within_read_inner c.args.self.now.place.arcs c.args.self.now.ahead.reader c.next_inner.new.self _
         c.next_inner.ensures.ends c.next_inner.ensures.file c.in_ok-self.ensures.place c.requires.fit.sound.within;
     variables = c.requires.fit.sound.variables;
     phase = c.requires.fit.sound.phase;

@@ -134,9 +134,9 @@ returns-clause-remains g c = λ told d inner ends has_inner has_ends arcs diagra
         taken = tt;
         remains = record {
           within = omega arith;
-          remains = subst (λ r. Remains c.args.n r c.args.n d.arcs ends inner [] c.final_from_start-known.result) (sym root)
-              (begins c.args.n c.args.made.root d.arcs inner ends _ _ _ _ c.final_from_start-known.result c.requires.variables has_inner has_ends arcs diagram.complete
-              (subst (λ w. IsTerminal w → c.final_from_start-known.result ≡ Some w) root c.final_from_start-known.ensures));
+          remains = subst (λ r. Remains c.args.n r c.args.n d.arcs ends inner [] (Some c.final_from_start-known.result)) (sym root)
+              (begins c.args.n c.args.made.root d.arcs inner ends _ _ _ _ (Some c.final_from_start-known.result) c.requires.variables has_inner has_ends arcs diagram.complete
+              (λ t. ap Some (subst (λ w. IsTerminal w → c.final_from_start-known.result ≡ w) root c.final_from_start-known.ensures t)));
           no_rows = refl;
           no_names = refl;
         };
