@@ -44,17 +44,22 @@ task_same p q same = λ i. record {
 
 module _ {S : Type 0} (tells : S → Bool) (world : S → World) (counts : S → Faults) where
   -- a call leaves the bytes of the arc files
-  pub arcs_stay : {T : Type 0} (m a : ℕ) (s t : S) (p q : ReduceSweep) (result : Result T SortFault) → IsSound p → Does tells world counts m a s t p q result → IsTrue (tells t)
-      → ((file (world t) (inner_file p)).bytes ≡ (file (world s) (inner_file p)).bytes) × ((file (world t) (ends_file p)).bytes ≡ (file (world s) (ends_file p)).bytes)
+  pub arcs_stay : {T : Type 0} (m a : ℕ) (s t : S) (p q : ReduceSweep) (result : Result T SortFault) → IsSound p
+      → Does tells world counts m a s t p q result → IsTrue (tells t)
+      → ((file (world t) (inner_file p)).bytes ≡ (file (world s) (inner_file p)).bytes)
+      × ((file (world t) (ends_file p)).bytes ≡ (file (world s) (ends_file p)).bytes)
   arcs_stay m a s t p q result sound x told =
-      let own = ran_end (world s) (world t) (OnlyOwn (accounts.makes p) p.parts.step p.parts.next (now (world s))) (x.leaves.content.did told) in (
+      let own = ran_end (world s) (world t) (OnlyOwn (accounts.makes p) p.parts.step p.parts.next (now (world s)))
+      (x.leaves.content.did told) in (
         ap (λ (f : File). f.bytes) (own.others (inner_file p) sound.served.out_inner sound.served.inner_made),
         ap (λ (f : File). f.bytes) (own.others (ends_file p) sound.served.out_ends sound.served.ends_made),
       )
 
   -- one call after another that read no arc
-  pub does_then : {A B : Type 0} (m n a b : ℕ) (s t u : S) (p q r : ReduceSweep) (one : Result A SortFault) (two : Result B SortFault) → IsSound p → q.ahead.reader ≡ p.ahead.reader → KeepsLists tells world s t p q
-      → Does tells world counts m a s t p q one → Does tells world counts n b t u q r two → Does tells world counts (m + n) (a + b) s u p r two
+  pub does_then : {A B : Type 0} (m n a b : ℕ) (s t u : S) (p q r : ReduceSweep) (one : Result A SortFault)
+      (two : Result B SortFault) → IsSound p → q.ahead.reader ≡ p.ahead.reader → KeepsLists tells world s t p q
+      → Does tells world counts m a s t p q one → Does tells world counts n b t u q r two
+      → Does tells world counts (m + n) (a + b) s u p r two
   does_then m n a b s t u p q r one two sound reader keeps x y = record {
     leaves = leaves_then tells world counts accounts m n a b s t u p q r one two x.leaves y.leaves;
     same = task_then p q r x.same y.same;
@@ -87,8 +92,10 @@ module _ {S : Type 0} (tells : S → Bool) (world : S → World) (counts : S →
   }
 
   -- a refusal that is handed on
-  pub does_err : {A B : Type 0} (m a : ℕ) (s t : S) (p q : ReduceSweep) (result : Result A SortFault) (before : Result B SortFault) (e : SortFault)
-      → IsErrAnd result (λ f. f ≡ e) → before ≡ Err e → Does tells world counts m a s t p q before → Does tells world counts m a s t p q result
+  pub does_err : {A B : Type 0} (m a : ℕ) (s t : S) (p q : ReduceSweep) (result : Result A SortFault)
+      (before : Result B SortFault) (e : SortFault)
+      → IsErrAnd result (λ f. f ≡ e) → before ≡ Err e → Does tells world counts m a s t p q before
+      → Does tells world counts m a s t p q result
   does_err m a s t p q (Ok x) before e is was d = absurd is
   does_err m a s t p q (Err f) before e is was d =
       let same : before ≡ Err f = was ∙ ap Err (sym is) in
@@ -96,25 +103,35 @@ module _ {S : Type 0} (tells : S → Bool) (world : S → World) (counts : S →
         leaves = leaves_err tells world counts accounts m a s t p q (Err f) before e is was d.leaves;
         same = d.same;
         refused = subst (λ r. IfErr r (Refuses (inner_file p) (ends_file p) q)) same d.refused;
-        damage = subst (λ r. IfErr r (λ g. IsTrue (tells t) → AreListed p.ahead p.lists (world s) → IsDamageOf p.ahead.reader (world s) g)) same d.damage;
+        damage = subst (λ r. IfErr r (λ g. IsTrue (tells t) → AreListed p.ahead p.lists (world s)
+            → IsDamageOf p.ahead.reader (world s) g)) same d.damage;
       }
 
   -- two calls, of which the second one was refused, and two that succeeded
-  pub refused_second : {A B C : Type 0} (m n a b most parts : ℕ) (s t u : S) (p q r : ReduceSweep) (one : Result A SortFault) (two : Result B SortFault) (result : Result C SortFault) (e : SortFault)
-      → m + n ≤ most → a + b ≤ parts → IsSound p → q.ahead.reader ≡ p.ahead.reader → KeepsLists tells world s t p q → Does tells world counts m a s t p q one → Does tells world counts n b t u q r two
+  pub refused_second : {A B C : Type 0} (m n a b most parts : ℕ) (s t u : S) (p q r : ReduceSweep)
+      (one : Result A SortFault) (two : Result B SortFault) (result : Result C SortFault) (e : SortFault)
+      → m + n ≤ most → a + b ≤ parts → IsSound p → q.ahead.reader ≡ p.ahead.reader → KeepsLists tells world s t p q
+      → Does tells world counts m a s t p q one → Does tells world counts n b t u q r two
       → IsErrAnd result (λ f. f ≡ e) → two ≡ Err e → Does tells world counts most parts s u p r result
   refused_second m n a b most parts s t u p q r one two result e calls more sound reader keeps x y is was =
-      does_more (m + n) most (a + b) parts s u p r result calls more (does_err (m + n) (a + b) s u p r result two e is was (does_then m n a b s t u p q r one two sound reader keeps x y))
+      does_more (m + n) most (a + b) parts s u p r result calls more
+      (does_err (m + n) (a + b) s u p r result two e is was (does_then m n a b s t u p q r one two sound reader keeps x
+      y))
 
-  pub then_ok : {A B C : Type 0} (m n a b most parts : ℕ) (s t u : S) (p q r : ReduceSweep) (one : Result A SortFault) (two : Result B SortFault) (x : C)
-      → m + n ≤ most → a + b ≤ parts → IsSound p → q.ahead.reader ≡ p.ahead.reader → KeepsLists tells world s t p q → Does tells world counts m a s t p q one → Does tells world counts n b t u q r two
+  pub then_ok : {A B C : Type 0} (m n a b most parts : ℕ) (s t u : S) (p q r : ReduceSweep) (one : Result A SortFault)
+      (two : Result B SortFault) (x : C)
+      → m + n ≤ most → a + b ≤ parts → IsSound p → q.ahead.reader ≡ p.ahead.reader → KeepsLists tells world s t p q
+      → Does tells world counts m a s t p q one → Does tells world counts n b t u q r two
       → Does tells world counts most parts s u p r (Ok x)
   then_ok m n a b most parts s t u p q r one two x calls more sound reader keeps first second =
-      does_more (m + n) most (a + b) parts s u p r (Ok x) calls more (does_ok (m + n) (a + b) s u p r two x (does_then m n a b s t u p q r one two sound reader keeps first second))
+      does_more (m + n) most (a + b) parts s u p r (Ok x) calls more
+      (does_ok (m + n) (a + b) s u p r two x (does_then m n a b s t u p q r one two sound reader keeps first second))
 
   -- the place within the task is another
-  pub does_placed : {T : Type 0} (m a : ℕ) (s t : S) (p q : ReduceSweep) (result : Result T SortFault) (place : Place) → place.variables ≡ q.place.variables → place.arcs ≡ q.place.arcs
-      → Does tells world counts m a s t p q result → Does tells world counts m a s t p (record q { place = place }) result
+  pub does_placed : {T : Type 0} (m a : ℕ) (s t : S) (p q : ReduceSweep) (result : Result T SortFault) (place : Place)
+      → place.variables ≡ q.place.variables → place.arcs ≡ q.place.arcs
+      → Does tells world counts m a s t p q result → Does tells world counts m a s t p (record q { place = place })
+      result
   does_placed m a s t p q result place variables arcs d = record {
     leaves = record {
       made = d.leaves.made;
@@ -137,26 +154,31 @@ module _ {S : Type 0} (tells : S → Bool) (world : S → World) (counts : S →
     damage = d.damage;
   }
     where
-      by : {X : Type 0} (r : Result X SortFault) → IfErr r (Refuses (inner_file p) (ends_file p) q) → IfErr r (Refuses (inner_file p) (ends_file p) (record q { place = place }))
+      by : {X : Type 0} (r : Result X SortFault) → IfErr r (Refuses (inner_file p) (ends_file p) q)
+          → IfErr r (Refuses (inner_file p) (ends_file p) (record q { place = place }))
       by (Ok x) why = tt
       by (Err Shelf) why = why
       by (Err (Damaged f at)) why = why
       by (Err RunsSpent) why = why
 
   -- where damage is once a turn was refused, if the lists existed
-  pub damage_after : {T : Type 0} (m a : ℕ) (s t : S) (p q : ReduceSweep) (result : Result T SortFault) → IsSound p → Does tells world counts m a s t p q result
+  pub damage_after : {T : Type 0} (m a : ℕ) (s t : S) (p q : ReduceSweep) (result : Result T SortFault) → IsSound p
+      → Does tells world counts m a s t p q result
       → IfErr result (λ e. IsTrue (tells t) → AreListed p.ahead p.lists (world s) → IsDamage q (world t) e)
   damage_after m a s t p q result sound x = if_err_weaker result (λ e damage told lists.
       subst (λ arcs. IsDamageAmong arcs (world t) e) (sym x.same.arcs_are)
       (by e (arcs_stay m a s t p q result sound x told) (damage told lists))) x.damage
     where
-      by : (e : SortFault) → ((file (world t) (inner_file p)).bytes ≡ (file (world s) (inner_file p)).bytes) × ((file (world t) (ends_file p)).bytes ≡ (file (world s) (ends_file p)).bytes)
+      by : (e : SortFault) → ((file (world t) (inner_file p)).bytes ≡ (file (world s) (inner_file p)).bytes)
+          × ((file (world t) (ends_file p)).bytes ≡ (file (world s) (ends_file p)).bytes)
           → IsDamageOf p.ahead.reader (world s) e → IsDamage p (world t) e
       by Shelf stay damage = tt
       by (Damaged f at) stay damage = elim damage [
-        | inl d ↦ inl (damaged_after Inner p.place.arcs.inner p.place.arcs.inner_count (inner_of p.ahead.reader) (world s) (world t)
+        | inl d ↦ inl (damaged_after Inner p.place.arcs.inner p.place.arcs.inner_count (inner_of p.ahead.reader)
+            (world s) (world t)
             f at sound.within.inner_within stay.0 d)
-        | inr d ↦ inr (damaged_after End p.place.arcs.ends p.place.arcs.ends_count (ends_of p.ahead.reader) (world s) (world t) f at
+        | inr d ↦ inr (damaged_after End p.place.arcs.ends p.place.arcs.ends_count (ends_of p.ahead.reader) (world s)
+            (world t) f at
             sound.within.ends_within stay.1 d)
       ]
       by RunsSpent stay damage = tt

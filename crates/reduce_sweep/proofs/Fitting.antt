@@ -103,8 +103,8 @@ module _ {S : Type 0} (tells : S → Bool) (world : S → World) (counts : S →
         → (ys : List FinalArc) × QueueLists q (world new) ys)
         → OnOk result (KeepsLists tells world old new s queue_changed)
     queue_keeps (Err e) known = tt
-    queue_keeps (Ok x) known = λ told lists. queue_listed tells world old new (held_of s) fit.sound.served after content told
-        lists q (known told)
+    queue_keeps (Ok x) known = λ told lists.
+        queue_listed tells world old new (held_of s) fit.sound.served after content told lists q (known told)
 
     pub queue_does : {A : Type 0} (m n : ℕ) (result : Result A SortFault)
         → (IsTrue (tells new) → Paid m (queues.credit s.ahead.queue) (queues.credit q) (world old) (world new))
@@ -141,8 +141,8 @@ module _ {S : Type 0} (tells : S → Bool) (world : S → World) (counts : S →
         → (ys : List SourceRow) × RowLists rows (world new) ys)
         → OnOk result (KeepsLists tells world old new s rows_changed)
     rows_keep (Err e) known = tt
-    rows_keep (Ok x) known = λ told lists. rows_listed tells world old new (held_of s) fit.sound.served after content told
-        lists rows (known told)
+    rows_keep (Ok x) known = λ told lists.
+        rows_listed tells world old new (held_of s) fit.sound.served after content told lists rows (known told)
 
     pub rows_do : {A : Type 0} (m n : ℕ) (result : Result A SortFault)
         → (IsTrue (tells new) → Paid m (sorters.credit s.lists.rows) (sorters.credit rows) (world old) (world new))
@@ -179,8 +179,8 @@ module _ {S : Type 0} (tells : S → Bool) (world : S → World) (counts : S →
         → (ys : List Name) × NameLists names (world new) ys)
         → OnOk result (KeepsLists tells world old new s names_changed)
     names_keep (Err e) known = tt
-    names_keep (Ok x) known = λ told lists. names_listed tells world old new (held_of s) fit.sound.served after content told
-        lists names (known told)
+    names_keep (Ok x) known = λ told lists.
+        names_listed tells world old new (held_of s) fit.sound.served after content told lists names (known told)
 
     pub names_do : {A : Type 0} (m n : ℕ) (result : Result A SortFault)
         → (IsTrue (tells new) → Paid m (sorters.credit s.lists.names) (sorters.credit names) (world old) (world new))

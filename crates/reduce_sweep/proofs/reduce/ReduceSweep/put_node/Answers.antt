@@ -16,13 +16,16 @@ use Rattle.reduce_sweep.proofs.reduce.ReduceSweep.put_node.Goals as goal
 -- no node is put for a pair that has one
 pub returns-then-has_last-clause-put : goal.returns-then-has_last-clause-put
 returns-then-has_last-clause-put g c = λ told k holds.
-    puts_none c.args.self.now.place.level c.args.numbered c.args.row.now _ _ _ _ k (sym c.has_last.ensures ∙ c.if-has_last.true) holds
+    puts_none c.args.self.now.place.level c.args.numbered c.args.row.now _ _ _ _ k
+    (sym c.has_last.ensures ∙ c.if-has_last.true) holds
 
 -- the node stands behind the others
 pub returns-clause-put : goal.returns-clause-put
 returns-clause-put g c = λ told k holds.
-    puts_node c.args.self.now.place.level c.args.numbered c.args.row.now c.in-Some.uid 1 c.args.self.now _ _ _ k c.requires.fit.sound.served (sym c.has_last.ensures ∙ c.if-has_last.false)
-    (c.in-Some.ensures.1 ∙ c.node.ensures.value ∙ ap (λ (n : Numbered). node_word c.args.self.now.place.level (2 ^ 47 - n.number)) c.with-next.ensures)
+    puts_node c.args.self.now.place.level c.args.numbered c.args.row.now c.in-Some.uid 1 c.args.self.now _ _ _ k
+    c.requires.fit.sound.served (sym c.has_last.ensures ∙ c.if-has_last.false)
+    (c.in-Some.ensures.1 ∙ c.node.ensures.value ∙ ap (λ (n : Numbered). node_word c.args.self.now.place.level
+    (2 ^ 47 - n.number)) c.with-next.ensures)
     (c.put.ensures.content.did told) (c.in_ok-put.ensures.holds told) c.in_ok-put.ensures.count holds
 
 -- the row has a number and a node
@@ -30,23 +33,28 @@ pub returns-clause-fit : goal.returns-clause-fit
 returns-clause-fit g c =
     let s = c.args.self.now in
     let sound = c.requires.fit.sound in
-    let are = phase_numbered s.place.level (count_of (filling_of s.writer)) s.place.phase c.args.numbered c.requires.phase sound.phase in
+    let are = phase_numbered s.place.level (count_of (filling_of s.writer)) s.place.phase c.args.numbered
+    c.requires.phase sound.phase in
     record {
       sound = record {
         served = served_put s.ahead s.lists s.writer c.put.new.self s.parts c.put.ensures.same.file_is sound.served;
         within = sound.within;
         variables = c.put.ensures.variables ∙ sound.variables;
         phase = subst (IsNumberedAt s.place.level (count_of (filling_of c.put.new.self))) (sym c.with-next.ensures)
-            (subst (λ m. IsNumberedAt s.place.level m (numbered_with c.args.numbered c.args.row.now)) (sym c.in_ok-put.ensures.count)
-            (numbered_next s.place.level (count_of (filling_of s.writer)) c.args.numbered c.args.row.now (sym c.has_last.ensures ∙ c.if-has_last.false) are));
+            (subst (λ m. IsNumberedAt s.place.level m (numbered_with c.args.numbered c.args.row.now))
+            (sym c.in_ok-put.ensures.count)
+            (numbered_next s.place.level (count_of (filling_of s.writer)) c.args.numbered c.args.row.now
+            (sym c.has_last.ensures ∙ c.if-has_last.false) are));
       };
-      at_work = λ told. work_put s.ahead s.lists s.writer c.put.new.self s.parts 1 _ _ sound.served (c.put.ensures.content.did told) (c.in_ok-put.ensures.holds told).in_step
+      at_work = λ told. work_put s.ahead s.lists s.writer c.put.new.self s.parts 1 _ _ sound.served
+          (c.put.ensures.content.did told) (c.in_ok-put.ensures.holds told).in_step
           (c.requires.fit.at_work (c.put.ensures.content.before told));
     }
 
 -- no list was touched
 pub returns-clause-trusts : goal.returns-clause-trusts
-returns-clause-trusts g c = λ told. listed_put c.args.self.now.ahead c.args.self.now.lists c.args.self.now.writer c.args.self.now.parts 1 _ _ c.requires.fit.sound.served
+returns-clause-trusts g c = λ told. listed_put c.args.self.now.ahead c.args.self.now.lists c.args.self.now.writer
+    c.args.self.now.parts 1 _ _ c.requires.fit.sound.served
     (c.put.ensures.content.did told)
 
 -- only the file of the nodes was written to
@@ -98,6 +106,7 @@ returns-in_err-put-clause-does g c = record {
     writer = c.put.new.self;
   }) c.from_residual.result c.in_err-put.field-0.0 c.from_residual.ensures.1 c.in_err-put.ensures.cause;
   damage = damaged_anyhow _ _ c.args.self.now.ahead.reader (g.S.Shelf.world c.args.shelf.now) c.from_residual.result
-      (write_undamaged (IsTrue (g.S.Shelf.tells c.put.new.shelf)) c.args.self.now.ahead.reader (g.S.Shelf.world c.args.shelf.now) c.from_residual.result c.in_err-put.field-0.0 c.from_residual.ensures.1
+      (write_undamaged (IsTrue (g.S.Shelf.tells c.put.new.shelf)) c.args.self.now.ahead.reader
+      (g.S.Shelf.world c.args.shelf.now) c.from_residual.result c.in_err-put.field-0.0 c.from_residual.ensures.1
       c.in_err-put.ensures.cause);
 }

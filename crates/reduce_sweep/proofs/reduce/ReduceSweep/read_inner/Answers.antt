@@ -12,7 +12,8 @@ returns-clause-passed g c = λ told k holds.
     inner_passes (held_of c.args.self.now) c.next_inner.new.self _ c.args.self.now.ahead.inner _ _ k refl
     c.requires.some c.requires.fit.sound.served (c.next_inner.ensures.content.did told).run
     c.next_inner.ensures.ends c.next_inner.ensures.file c.in_ok-self.ensures.place
-    (c.in_ok-self.ensures.arcs told (c.requires.fit.at_work (c.next_inner.ensures.content.before told)).reads_inner) holds
+    (c.in_ok-self.ensures.arcs told (c.requires.fit.at_work (c.next_inner.ensures.content.before told)).reads_inner)
+    holds
 
 -- the damage is that of the arc that was to be read
 pub returns-in_err-self-clause-does : goal.returns-in_err-self-clause-does
@@ -20,9 +21,12 @@ returns-in_err-self-clause-does g c = record {
   leaves = search rules;
   same = search rules;
   refused = search rules;
-  damage = damaged_anyhow _ _ c.args.self.now.ahead.reader (g.S.Shelf.world c.args.shelf.now) c.from_residual.result (inner_damaged c.args.self.now.ahead.reader (g.S.Shelf.world c.args.shelf.now) (IsTrue (g.S.Shelf.tells c.next_inner.new.shelf)) c.from_residual.result c.in_err-self.field-0.0
+  damage = damaged_anyhow _ _ c.args.self.now.ahead.reader (g.S.Shelf.world c.args.shelf.now) c.from_residual.result
+      (inner_damaged c.args.self.now.ahead.reader (g.S.Shelf.world c.args.shelf.now)
+      (IsTrue (g.S.Shelf.tells c.next_inner.new.shelf)) c.from_residual.result c.in_err-self.field-0.0
       c.from_residual.ensures.1 c.in_err-self.ensures.place
-      (λ told. c.in_err-self.ensures.value told (c.requires.fit.at_work (c.next_inner.ensures.content.before told)).reads_inner));
+      (λ told. c.in_err-self.ensures.value told (c.requires.fit.at_work
+      (c.next_inner.ensures.content.before told)).reads_inner));
 }
 
 -- what was read is as the bytes say
@@ -37,12 +41,15 @@ returns-clause-fit g c = record {
   };
   at_work = λ told.
       let work = c.requires.fit.at_work (c.next_inner.ensures.content.before told) in
-      work_read_inner c.args.self.now.ahead c.args.self.now.lists c.args.self.now.writer c.args.self.now.parts _ _ c.next_inner.new.self _ c.requires.fit.sound.served
-      (c.next_inner.ensures.content.did told).run c.next_inner.ensures.ends c.next_inner.ensures.file (c.in_ok-self.ensures.reads told work.reads_inner) work;
+      work_read_inner c.args.self.now.ahead c.args.self.now.lists c.args.self.now.writer c.args.self.now.parts _ _
+      c.next_inner.new.self _ c.requires.fit.sound.served
+      (c.next_inner.ensures.content.did told).run c.next_inner.ensures.ends c.next_inner.ensures.file
+      (c.in_ok-self.ensures.reads told work.reads_inner) work;
 }
 
 -- the lists are the same
 pub returns-clause-trusts : goal.returns-clause-trusts
 returns-clause-trusts g c = λ told listed.
-    listed_read c.args.self.now.ahead c.args.self.now.lists c.args.self.now.writer c.args.self.now.parts _ _ c.next_inner.new.self _ _ c.requires.fit.sound.served
+    listed_read c.args.self.now.ahead c.args.self.now.lists c.args.self.now.writer c.args.self.now.parts _ _
+    c.next_inner.new.self _ _ c.requires.fit.sound.served
     (c.next_inner.ensures.content.did told).run listed

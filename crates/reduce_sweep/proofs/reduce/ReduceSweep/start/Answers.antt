@@ -18,22 +18,28 @@ use Rattle.reduce_sweep.proofs.StartKeeps.{begins, few_at_start}
 use Rattle.reduce_sweep.proofs.reduce.ReduceSweep.start.Goals as goal
 
 pub returns-in_err-inner-clause-content : goal.returns-in_err-inner-clause-content
-returns-in_err-inner-clause-content g c = then_looked g.S.Shelf.tells g.S.Shelf.world c.args.out _ _ _ (was_cut g.S.Shelf.tells g.S.Shelf.world c.args.out _ _ c.start.ensures.content) c.next_inner.ensures.content
+returns-in_err-inner-clause-content g c = then_looked g.S.Shelf.tells g.S.Shelf.world c.args.out _ _ _
+    (was_cut g.S.Shelf.tells g.S.Shelf.world c.args.out _ _ c.start.ensures.content) c.next_inner.ensures.content
 
 pub returns-in_err-end-clause-content : goal.returns-in_err-end-clause-content
 returns-in_err-end-clause-content g c = then_looked g.S.Shelf.tells g.S.Shelf.world c.args.out _ _ _
-    (then_looked g.S.Shelf.tells g.S.Shelf.world c.args.out _ _ _ (was_cut g.S.Shelf.tells g.S.Shelf.world c.args.out _ _ c.start.ensures.content) c.next_inner.ensures.content) c.next_end.ensures.content
+    (then_looked g.S.Shelf.tells g.S.Shelf.world c.args.out _ _ _
+    (was_cut g.S.Shelf.tells g.S.Shelf.world c.args.out _ _ c.start.ensures.content) c.next_inner.ensures.content)
+    c.next_end.ensures.content
 
 pub returns-clause-content : goal.returns-clause-content
 returns-clause-content g c = then_looked g.S.Shelf.tells g.S.Shelf.world c.args.out _ _ _
-    (then_looked g.S.Shelf.tells g.S.Shelf.world c.args.out _ _ _ (was_cut g.S.Shelf.tells g.S.Shelf.world c.args.out _ _ c.start.ensures.content) c.next_inner.ensures.content) c.next_end.ensures.content
+    (then_looked g.S.Shelf.tells g.S.Shelf.world c.args.out _ _ _
+    (was_cut g.S.Shelf.tells g.S.Shelf.world c.args.out _ _ c.start.ensures.content) c.next_inner.ensures.content)
+    c.next_end.ensures.content
 
 -- the files differ, and the lists are empty
 pub returns-clause-ready : goal.returns-clause-ready
 returns-clause-ready g c =
     let left : left_over_of c.start-reader.result ≡ c.args.made = c.start-reader.ensures.left_over in
     let out = c.in_ok-writer.ensures.file in
-    let inner = ap file_of c.in_ok-end.ensures.inner ∙ c.in_ok-inner.ensures.file ∙ ap (λ (u : Unreduced). u.inner) left in
+    let inner = ap file_of c.in_ok-end.ensures.inner ∙ c.in_ok-inner.ensures.file
+    ∙ ap (λ (u : Unreduced). u.inner) left in
     let ends = c.in_ok-end.ensures.file ∙ ap file_of c.in_ok-inner.ensures.ends ∙ ap (λ (u : Unreduced). u.ends) left in
     record {
       served = record {
@@ -70,23 +76,63 @@ returns-clause-in_step g c = λ told.
     let left : left_over_of c.start-reader.result ≡ c.args.made = c.start-reader.ensures.left_over in
     let read_told = c.next_end.ensures.content.before told in
     let cut_told = c.next_inner.ensures.content.before read_told in
-    let a : Ahead = record { reader = c.next_end.new.self; inner = c.in_ok-inner.inner; end = c.in_ok-end.end; queue = c.start-2.result } in
-    work_begins a c.in_ok-writer.writer c.args.made c.args.out c.start-reader.result c.next_inner.new.self (g.S.Shelf.world c.args.shelf.now) (g.S.Shelf.world c.start.new.shelf)
+    let a : Ahead = record {
+      reader = c.next_end.new.self;
+      inner = c.in_ok-inner.inner;
+      end = c.in_ok-end.end;
+      queue =
+          c.start-2.result;
+    } in
+    work_begins a c.in_ok-writer.writer c.args.made c.args.out c.start-reader.result c.next_inner.new.self
+    (g.S.Shelf.world c.args.shelf.now) (g.S.Shelf.world c.start.new.shelf)
     (g.S.Shelf.world c.next_inner.new.shelf) (g.S.Shelf.world c.next_end.new.shelf) (record {
       apart_inner = c.requires.apart_inner;
       apart_ends = c.requires.apart_ends;
       cut = c.start.ensures.content.did cut_told;
       looked = c.next_inner.ensures.content.did read_told;
       again = c.next_end.ensures.content.did told;
-      no_inner = record { place = ap (λ (u : Unreduced). u.inner) left; reads = c.start-reader.ensures.reads_inner; arcs = c.start-reader.ensures.inner_arcs };
-      no_end = record { place = ap (λ (u : Unreduced). u.ends) left; reads = c.start-reader.ensures.reads_ends; arcs = c.start-reader.ensures.end_arcs };
+      no_inner = record {
+        place = ap (λ (u : Unreduced). u.inner) left;
+        reads = c.start-reader.ensures.reads_inner;
+        arcs = c.start-reader.ensures.inner_arcs;
+      };
+      no_end = record {
+        place = ap (λ (u : Unreduced). u.ends) left;
+        reads = c.start-reader.ensures.reads_ends;
+        arcs =
+            c.start-reader.ensures.end_arcs;
+      };
       ends_kept = c.in_ok-inner.ensures.ends;
       inner_kept = c.in_ok-end.ensures.inner;
-      one_inner = record { place = c.in_ok-inner.ensures.file; up = c.in_ok-inner.ensures.place; reads = c.in_ok-inner.ensures.reads read_told; arcs = c.in_ok-inner.ensures.arcs read_told };
-      one_end = record { place = c.in_ok-end.ensures.file; up = c.in_ok-end.ensures.place; reads = c.in_ok-end.ensures.reads told; arcs = c.in_ok-end.ensures.arcs told };
+      one_inner = record {
+        place = c.in_ok-inner.ensures.file;
+        up = c.in_ok-inner.ensures.place;
+        reads =
+            c.in_ok-inner.ensures.reads read_told;
+        arcs = c.in_ok-inner.ensures.arcs read_told;
+      };
+      one_end = record {
+        place = c.in_ok-end.ensures.file;
+        up = c.in_ok-end.ensures.place;
+        reads =
+            c.in_ok-end.ensures.reads told;
+        arcs = c.in_ok-end.ensures.arcs told;
+      };
       written = c.in_ok-writer.ensures.holds cut_told;
     })
-    _ (record { queue_is = c.start-2.ensures.list _; last_is = c.start-2.ensures.last; rows_is = c.start-3.ensures.list _; names_is = c.start-4.ensures.list _; in_step = record { queue_in_step = c.start-2.ensures.in_step _; rows_in_step = c.start-3.ensures.in_step _; names_in_step = c.start-4.ensures.in_step _ } })
+    _ (record {
+      queue_is = c.start-2.ensures.list _;
+      last_is = c.start-2.ensures.last;
+      rows_is = c.start-3.ensures.list
+          _;
+      names_is = c.start-4.ensures.list _;
+      in_step = record {
+        queue_in_step = c.start-2.ensures.in_step _;
+        rows_in_step = c.start-3.ensures.in_step _;
+        names_in_step =
+            c.start-4.ensures.in_step _;
+      };
+    })
 
 -- so these exist
 pub returns-clause-trusts : goal.returns-clause-trusts
@@ -104,39 +150,83 @@ returns-clause-remains g c = λ told d inner ends has_inner has_ends arcs diagra
     (c.left_over-arcs.ensures ∙ left) in
     let read_told = c.next_end.ensures.content.before told in
     let cut_told = c.next_inner.ensures.content.before read_told in
-    let a : Ahead = record { reader = c.next_end.new.self; inner = c.in_ok-inner.inner; end = c.in_ok-end.end; queue = c.start-2.result } in
+    let a : Ahead = record {
+      reader = c.next_end.new.self;
+      inner = c.in_ok-inner.inner;
+      end = c.in_ok-end.end;
+      queue =
+          c.start-2.result;
+    } in
     record {
       contents = at_first inner ends;
-      holds = held_at_first a c.in_ok-writer.writer c.args.made c.args.out c.start-reader.result c.next_inner.new.self (g.S.Shelf.world c.args.shelf.now) (g.S.Shelf.world c.start.new.shelf)
+      holds = held_at_first a c.in_ok-writer.writer c.args.made c.args.out c.start-reader.result c.next_inner.new.self
+          (g.S.Shelf.world c.args.shelf.now) (g.S.Shelf.world c.start.new.shelf)
           (g.S.Shelf.world c.next_inner.new.shelf) (g.S.Shelf.world c.next_end.new.shelf) (record {
             apart_inner = c.requires.apart_inner;
             apart_ends = c.requires.apart_ends;
             cut = c.start.ensures.content.did cut_told;
             looked = c.next_inner.ensures.content.did read_told;
             again = c.next_end.ensures.content.did told;
-            no_inner = record { place = ap (λ (u : Unreduced). u.inner) left; reads = c.start-reader.ensures.reads_inner; arcs = c.start-reader.ensures.inner_arcs };
-            no_end = record { place = ap (λ (u : Unreduced). u.ends) left; reads = c.start-reader.ensures.reads_ends; arcs = c.start-reader.ensures.end_arcs };
+            no_inner = record {
+              place = ap (λ (u : Unreduced). u.inner) left;
+              reads =
+                  c.start-reader.ensures.reads_inner;
+              arcs = c.start-reader.ensures.inner_arcs;
+            };
+            no_end = record {
+              place = ap (λ (u : Unreduced). u.ends) left;
+              reads = c.start-reader.ensures.reads_ends;
+              arcs = c.start-reader.ensures.end_arcs;
+            };
             ends_kept = c.in_ok-inner.ensures.ends;
             inner_kept = c.in_ok-end.ensures.inner;
-            one_inner = record { place = c.in_ok-inner.ensures.file; up = c.in_ok-inner.ensures.place; reads = c.in_ok-inner.ensures.reads read_told; arcs = c.in_ok-inner.ensures.arcs read_told };
-            one_end = record { place = c.in_ok-end.ensures.file; up = c.in_ok-end.ensures.place; reads = c.in_ok-end.ensures.reads told; arcs = c.in_ok-end.ensures.arcs told };
+            one_inner = record {
+              place = c.in_ok-inner.ensures.file;
+              up = c.in_ok-inner.ensures.place;
+              reads =
+                  c.in_ok-inner.ensures.reads read_told;
+              arcs = c.in_ok-inner.ensures.arcs read_told;
+            };
+            one_end = record {
+              place = c.in_ok-end.ensures.file;
+              up = c.in_ok-end.ensures.place;
+              reads =
+                  c.in_ok-end.ensures.reads told;
+              arcs = c.in_ok-end.ensures.arcs told;
+            };
             written = c.in_ok-writer.ensures.holds cut_told;
           })
           _ inner ends
-          (record { queue_is = c.start-2.ensures.list _; last_is = c.start-2.ensures.last; rows_is = c.start-3.ensures.list _; names_is = c.start-4.ensures.list _; in_step = record { queue_in_step = c.start-2.ensures.in_step _; rows_in_step = c.start-3.ensures.in_step _; names_in_step = c.start-4.ensures.in_step _ } })
+          (record {
+            queue_is = c.start-2.ensures.list _;
+            last_is = c.start-2.ensures.last;
+            rows_is =
+                c.start-3.ensures.list _;
+            names_is = c.start-4.ensures.list _;
+            in_step = record {
+              queue_in_step = c.start-2.ensures.in_step _;
+              rows_in_step = c.start-3.ensures.in_step _;
+              names_in_step =
+                  c.start-4.ensures.in_step _;
+            };
+          })
           c.in_ok-writer.ensures.count has_inner has_ends;
       left = record {
         is_of = record {
           few = c.requires.variables;
-          few_arcs = few_at_start d.arcs inner ends c.args.made.inner_count c.args.made.ends_count _ _ has_inner has_ends arcs c.requires.inner_few c.requires.ends_few;
+          few_arcs = few_at_start d.arcs inner ends c.args.made.inner_count c.args.made.ends_count _ _ has_inner
+              has_ends arcs c.requires.inner_few c.requires.ends_few;
           diagram = subst (λ r. IsDiagramOf c.args.n r d.arcs d.table) (sym root) diagram;
         };
         taken = tt;
         remains = record {
           within = omega arith;
-          remains = subst (λ r. Remains c.args.n r c.args.n d.arcs ends inner [] (Some c.final_from_start-known.result)) (sym root)
-              (begins c.args.n c.args.made.root d.arcs inner ends _ _ _ _ (Some c.final_from_start-known.result) c.requires.variables has_inner has_ends arcs diagram.complete
-              (λ t. ap Some (subst (λ w. IsTerminal w → c.final_from_start-known.result ≡ w) root c.final_from_start-known.ensures t)));
+          remains = subst (λ r. Remains c.args.n r c.args.n d.arcs ends inner [] (Some c.final_from_start-known.result))
+              (sym root)
+              (begins c.args.n c.args.made.root d.arcs inner ends _ _ _ _ (Some c.final_from_start-known.result)
+              c.requires.variables has_inner has_ends arcs diagram.complete
+              (λ t. ap Some (subst (λ w. IsTerminal w → c.final_from_start-known.result ≡ w) root
+              c.final_from_start-known.ensures t)));
           no_rows = refl;
           no_names = refl;
         };
@@ -148,11 +238,18 @@ pub returns-in_err-inner-clause-damage : goal.returns-in_err-inner-clause-damage
 returns-in_err-inner-clause-damage g c =
     let out = err_from_is_err_and c.from_residual-in_err-inner.result c.from_residual-in_err-inner.ensures.1 in
     let left : left_over_of c.start-reader.result ≡ c.args.made = c.start-reader.ensures.left_over in
-    inner_damaged _ c.args.made (g.S.Shelf.world c.args.shelf.now) (g.S.Shelf.world c.start.new.shelf) (inner_of c.start-reader.result) (inner_of c.next_inner.new.self)
+    inner_damaged _ c.args.made (g.S.Shelf.world c.args.shelf.now) (g.S.Shelf.world c.start.new.shelf)
+    (inner_of c.start-reader.result) (inner_of c.next_inner.new.self)
     c.from_residual-in_err-inner.result c.in_err-inner.field-0.0 (out.1 ∙ ap Err out.2)
-    (record { place = ap (λ (u : Unreduced). u.inner) left; reads = c.start-reader.ensures.reads_inner; arcs = c.start-reader.ensures.inner_arcs })
+    (record {
+      place = ap (λ (u : Unreduced). u.inner) left;
+      reads = c.start-reader.ensures.reads_inner;
+      arcs =
+          c.start-reader.ensures.inner_arcs;
+    })
     (ap (λ (u : Unreduced). u.inner_count) left) c.start-reader.ensures.given.0
-    (λ told. emptied c.args.out c.args.made.inner _ _ (λ e. c.requires.apart_inner (sym e)) (c.start.ensures.content.did (c.next_inner.ensures.content.before told)))
+    (λ told. emptied c.args.out c.args.made.inner _ _ (λ e. c.requires.apart_inner (sym e))
+    (c.start.ensures.content.did (c.next_inner.ensures.content.before told)))
     c.in_err-inner.ensures.place (λ told. c.in_err-inner.ensures.value told (c.start-reader.ensures.reads_inner _))
 
 pub returns-in_err-end-clause-damage : goal.returns-in_err-end-clause-damage
@@ -161,15 +258,22 @@ returns-in_err-end-clause-damage g c =
     let left : left_over_of c.start-reader.result ≡ c.args.made = c.start-reader.ensures.left_over in
     let kept : ends_of c.next_inner.new.self ≡ ends_of c.start-reader.result = c.in_ok-inner.ensures.ends in
     let nothing : ReadsNothing End (ends_of c.start-reader.result) c.args.made.ends c.args.made.ends_count =
-    record { place = ap (λ (u : Unreduced). u.ends) left; reads = c.start-reader.ensures.reads_ends; arcs = c.start-reader.ensures.end_arcs } in
+    record {
+      place = ap (λ (u : Unreduced). u.ends) left;
+      reads = c.start-reader.ensures.reads_ends;
+      arcs =
+          c.start-reader.ensures.end_arcs;
+    } in
     let reads = subst (λ r. ReadsNothing End r c.args.made.ends c.args.made.ends_count) (sym kept) nothing in
-    ends_damaged _ c.args.made (g.S.Shelf.world c.args.shelf.now) (g.S.Shelf.world c.next_inner.new.shelf) (ends_of c.next_inner.new.self) (ends_of c.next_end.new.self)
+    ends_damaged _ c.args.made (g.S.Shelf.world c.args.shelf.now) (g.S.Shelf.world c.next_inner.new.shelf)
+    (ends_of c.next_inner.new.self) (ends_of c.next_end.new.self)
     c.from_residual-in_err-end.result c.in_err-end.field-0.0 (out.1 ∙ ap Err out.2)
     reads
     (ap left_of kept ∙ ap (λ (u : Unreduced). u.ends_count) left) (ap given_of kept ∙ c.start-reader.ensures.given.1)
     (λ told.
     let read_told = c.next_end.ensures.content.before told in
-    let stays = as_before c.args.out c.args.made.ends _ _ _ _ (λ e. c.requires.apart_ends (sym e)) (c.start.ensures.content.did (c.next_inner.ensures.content.before read_told))
+    let stays = as_before c.args.out c.args.made.ends _ _ _ _ (λ e. c.requires.apart_ends (sym e))
+    (c.start.ensures.content.did (c.next_inner.ensures.content.before read_told))
     (c.next_inner.ensures.content.did read_told) (c.next_end.ensures.content.did told) in
     stays.1.0 ∙ stays.0)
     c.in_err-end.ensures.place (λ told. c.in_err-end.ensures.value told (reads.reads _))
@@ -177,8 +281,10 @@ returns-in_err-end-clause-damage g c =
 -- nothing is damaged where the files are whole
 pub returns-in_err-inner-clause-undamaged : goal.returns-in_err-inner-clause-undamaged
 returns-in_err-inner-clause-undamaged g c =
-    begins_undamaged _ c.args.made (g.S.Shelf.world c.args.shelf.now) c.from_residual-in_err-inner.result (returns-in_err-inner-clause-damage g c)
+    begins_undamaged _ c.args.made (g.S.Shelf.world c.args.shelf.now) c.from_residual-in_err-inner.result
+    (returns-in_err-inner-clause-damage g c)
 
 pub returns-in_err-end-clause-undamaged : goal.returns-in_err-end-clause-undamaged
 returns-in_err-end-clause-undamaged g c =
-    begins_undamaged _ c.args.made (g.S.Shelf.world c.args.shelf.now) c.from_residual-in_err-end.result (returns-in_err-end-clause-damage g c)
+    begins_undamaged _ c.args.made (g.S.Shelf.world c.args.shelf.now) c.from_residual-in_err-end.result
+    (returns-in_err-end-clause-damage g c)
