@@ -7,6 +7,6 @@ mod sweep;
 mod turn;
 
 pub use checkpoint::Checkpoint;
-pub use driver::{drive, run_to_end};
+pub use driver::{Made, drive, run_some, run_to_end};
 pub use sweep::Sweep;
 pub use turn::Turn;

@@ -1,5 +1,5 @@
 use Rattle.std.proofs.Common.{◌≡◌, IsTrue}
-use Rattle.sweep_core.proofs.Counting.{TurnsMade}
+use Rattle.sweep_core.proofs.Counting.{TurnsCounted}
 use Rattle.sweep_core.proofs.driver.run_to_end.Given as goal
 
 -- no turn ended the sweep so far, and what each turn keeps was kept
@@ -13,7 +13,7 @@ invariant-turns g l = record {
       → g.P.Sweep.remains l.fn.sweep (g.S.Shelf.world l.fn.shelf) job
       → g.P.Sweep.remains l.sweep (g.S.Shelf.world l.shelf) job;
   same : g.P.Sweep.task l.sweep ≡ g.P.Sweep.task l.fn.sweep;
-  so_far : TurnsMade g.P.Sweep g.S.Shelf l.turns l.fn.shelf l.shelf l.fn.sweep l.sweep;
+  so_far : TurnsCounted g.P.Sweep g.S.Shelf l.turns l.fn.shelf l.shelf l.fn.sweep l.sweep;
 }
 
 abbrev pub decreases-turns : goal.decreases-turns
