@@ -1,3 +1,6 @@
 pub mod Accounts
 pub mod Sweeps
 pub mod Counted
+pub mod Tables
+pub mod Saving
+pub mod Carries

@@ -3,10 +3,12 @@
 
 mod checkpoint;
 mod driver;
+mod resume;
 mod sweep;
 mod turn;
 
 pub use checkpoint::Checkpoint;
 pub use driver::{Made, drive, run_some, run_to_end};
+pub use resume::Resume;
 pub use sweep::Sweep;
 pub use turn::Turn;

@@ -12,6 +12,7 @@ pub trait Sweep<'r>: Sized {
     ghost use Rattle.shelf_model.specs.declared.sort_fault.SortFault.{SortFault};
     ghost use Rattle.shelf_model.specs.World.{World, file};
     ghost use Rattle.sweep_core.specs.Accounts.{Accounts, Leaves};
+    ghost use Rattle.sweep_core.specs.Saving.{Saving};
     ghost use Rattle.sweep_core.specs.Sweeps.{Falls, MovesOn, AtEnd, IsFirm, StaysEnded, IsNoDamage};
 
     /// What a sweep of this kind is to do.
@@ -36,6 +37,9 @@ pub trait Sweep<'r>: Sized {
     ghost Task: { Type 0 };
 
     ghost task: { Self → Task };
+
+    /// What is seen of its checkpoints.
+    ghost saving: { Saving Task Job };
 
     /// What is true of the sweep between turns, whatever the folder holds.
     ghost ready: { Self → Type 0 };
