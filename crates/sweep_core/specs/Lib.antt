@@ -3,4 +3,5 @@ pub mod Sweeps
 pub mod Counted
 pub mod Tables
 pub mod Saving
+pub mod Resting
 pub mod Carries

@@ -3,12 +3,14 @@
 
 mod checkpoint;
 mod driver;
+mod place;
 mod resume;
 mod sweep;
 mod turn;
 
 pub use checkpoint::Checkpoint;
 pub use driver::{Made, drive, run_some, run_to_end};
+pub use place::{checkpoint_place, is_made_part};
 pub use resume::Resume;
 pub use sweep::Sweep;
 pub use turn::Turn;
