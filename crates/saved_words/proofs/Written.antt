@@ -1,9 +1,9 @@
 -- The words where others were put, and there is room for them.
-use Rattle.std.specs.Prelude.{◌≡◌, ◌≢◌, ℕ, nat_lt, ◌+◌, ◌≤◌, ◌<◌, Option, Some, None, IfSome, IfNone, List, [], ◌∷◌}
-use Rattle.std.specs.Prelude.{◌++◌, length, take, drop, slice_set}
+use Rattle.std.specs.Prelude.{◌≡◌, ◌≢◌, ℕ, nat_lt, ◌+◌, ◌-◌, ◌≤◌, ◌<◌, Option, Some, None, IfSome, IfNone, List, [], ◌∷◌}
+use Rattle.std.specs.Prelude.{◌++◌, length, take, drop, slice_set, replicate}
 use Rattle.std.proofs.Common.{sym, ap, ◌∙◌, arith}
 use Rattle.std.proofs.lemmas.List.{take-append-drop, take_more_set, drop-set-lt, append_assoc, length-set}
-use Rattle.std.proofs.lemmas.List.{length-take-le, take_at, drop_at}
+use Rattle.std.proofs.lemmas.List.{length-take-le, take_at, drop_at, length-replicate, drop-replicate}
 use Rattle.std.proofs.lemmas.Bool.{lt-ltb, cond-true}
 use Rattle.saved_words.specs.Places.{most_words, put_in, pushed, next_words}
 use Rattle.saved_words.specs.declared.words.Words.{Words}
@@ -49,6 +49,17 @@ stands xs o n all room long p same place =
     let front : length (take o.at o.w) ≡ o.at = length-take-le o.at o.w (omega (arith, room, all)) in
     sym ((λ i. take n (drop (place i) (words i))) ∙ ap (take n) (drop_at (take o.at o.w) _ o.at front)
     ∙ take_at xs _ n long)
+
+-- behind what is put into words 0 from the first place on all words are 0
+pub zeros_behind : (xs : List ℕ) (o : Words) (n : ℕ) → o.w ≡ replicate most_words 0 → o.at ≡ 0 → n ≤ most_words
+    → length xs ≡ n → drop n (put_in xs o).w ≡ replicate (most_words - n) 0
+zeros_behind xs o n blank first room long =
+    let all : length o.w ≡ most_words = ap length blank ∙ length-replicate {A = ℕ} most_words 0 in
+    let here : o.at + length xs ≤ most_words = omega (arith, room, long, first) in
+    let count : o.at + length xs ≡ n = omega (arith, long, first) in
+    let words : (put_in xs o).w ≡ xs ++ drop n (replicate most_words 0) = ap (λ (q : Words). q.w) (put_in_is xs o all here)
+    ∙ (λ i. take (first i) (blank i) ++ (xs ++ drop (count i) (blank i))) in
+    ap (drop n) words ∙ drop_at xs _ n long ∙ drop-replicate n most_words 0
 
 -- what is got where the words of a value stand is that value
 pub got : {A : Type 0} (words : A → List ℕ) (is_value : A → Type 0)

@@ -2,6 +2,7 @@
 #![tactic(auto)]
 
 mod carried;
+mod front;
 mod item;
 mod joined;
 pub mod laws;
@@ -9,5 +10,6 @@ mod single;
 mod words;
 
 pub use carried::Carried;
+pub use front::{value_of, words_of};
 pub use item::Item;
 pub use words::{MOST_WORDS, Words};
