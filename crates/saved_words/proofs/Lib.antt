@@ -1,4 +1,4 @@
-mod Placing
+pub mod Placing
 mod Missing
 mod Gathered
 mod Written
