@@ -1,6 +1,7 @@
 -- Where the last checkpoint of a step stands, and the files that checkpoints of sweeps rest on.
-use Rattle.std.specs.Prelude.{◌≡◌, ◌≢◌, ◌⊎◌, ℕ, ◌-◌, ◌*◌, ◌<◌, ◌≤◌, List, length}
-use Rattle.std.proofs.Common.{ap, arith, inl, inr}
+use Rattle.std.specs.Prelude.{◌≡◌, ◌≢◌, ◌⊎◌, ℕ, ◌+◌, ◌-◌, ◌*◌, ◌<◌, ◌≤◌, List, length, take}
+use Rattle.std.proofs.Common.{sym, ap, ◌∙◌, arith, inl, inr}
+use Rattle.std.proofs.lemmas.List.{take_all}
 use Rattle.shelf_model.specs.declared.file_no.FileNo.{FileNo}
 use Rattle.file_numbers.specs.Files.{nodes_part, inner_part, ends_part, first_run_part, checkpoint_gate}
 use Rattle.sweep_core.specs.declared.checkpoint.Checkpoint.{Checkpoint}
@@ -13,6 +14,12 @@ point_size = 16384
 -- where the last checkpoint of the step that is gated stands in its file, and 0 where none is gated
 abbrev pub checkpoint_place : ℕ → (FileNo → List ℕ) → ℕ
 checkpoint_place step r = point_size * (length (r (checkpoint_gate step)) - 1)
+
+-- of two lists each front is that of the other only where they are the same
+pub same_fronts : {A : Type 0} (xs ys : List A) → ((n : ℕ) → take n xs ≡ take n ys) → xs ≡ ys
+same_fronts xs ys same =
+    let n = length xs + length ys in
+    sym (take_all n xs (omega arith)) ∙ same n ∙ take_all n ys (omega arith)
 
 -- a file of another step is one that a checkpoint may rest on
 pub other_rests : (c : Checkpoint) (f : FileNo) → f.step ≢ c.step → IsRestingPlace c f

@@ -3,6 +3,7 @@
 
 mod checkpoint;
 mod driver;
+mod fill;
 mod place;
 mod resume;
 mod sweep;
@@ -10,6 +11,7 @@ mod turn;
 
 pub use checkpoint::Checkpoint;
 pub use driver::{Made, drive, run_some, run_to_end};
+pub use fill::fill_without_runs;
 pub use place::{checkpoint_place, is_made_part};
 pub use resume::Resume;
 pub use sweep::Sweep;
