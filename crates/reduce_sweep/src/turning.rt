@@ -185,6 +185,7 @@ impl<'r> ReduceSweep<'r> {
 }
 
 impl<'r> Sweep<'r> for ReduceSweep<'r> {
+    ghost use Rattle.sweep_core.specs.Saving.{saves_nothing};
     ghost use Rattle.reduce_sweep.specs.Remaining.{Diagram, RemainsOf};
     ghost use Rattle.reduce_sweep.specs.Sweeps.{Task, task_of, accounts, turns_left, IsSound};
     ghost use Rattle.reduce_sweep.specs.Damage.{IsDamage};
@@ -206,6 +207,8 @@ impl<'r> Sweep<'r> for ReduceSweep<'r> {
     ghost Task = { Task };
 
     ghost task = { task_of };
+
+    ghost saving = { saves_nothing };
 
     ghost ready = { IsSound };
 

@@ -237,6 +237,7 @@ fn level_at(node: &Node) -> usize
 }
 
 impl<'r> Sweep<'r> for EvalSweep<'r> {
+    ghost use Rattle.sweep_core.specs.Saving.{saves_nothing};
     ghost use Rattle.restrict_eval.specs.Eval.{accounts, turns_left, Evaluated, task_of, IsReady, IsInStep, HasCome, OneTable, RemainsOf, IsDamage};
 
     ghost Job = { OneTable };
@@ -254,6 +255,8 @@ impl<'r> Sweep<'r> for EvalSweep<'r> {
     ghost Task = { Evaluated };
 
     ghost task = { task_of };
+
+    ghost saving = { saves_nothing };
 
     ghost ready = { IsReady };
 

@@ -69,6 +69,7 @@ impl<'r, O: Operation> TableSweep<'r, O> {
 }
 
 impl<'r, O: Operation> Sweep<'r> for TableSweep<'r, O> {
+    ghost use Rattle.sweep_core.specs.Saving.{saves_nothing};
     ghost use Rattle.top_down_sweep.specs.Beginning.{IsReady};
     ghost use Rattle.top_down_sweep.specs.Calls.{IsInStep, IsTrusted};
     ghost use Rattle.top_down_sweep.specs.Damage.{IsDamage};
@@ -94,6 +95,8 @@ impl<'r, O: Operation> Sweep<'r> for TableSweep<'r, O> {
     ghost Task = { SweepTask };
 
     ghost task = { λ s. task_of (sweep_of s) };
+
+    ghost saving = { saves_nothing };
 
     ghost ready = { λ s. IsReady (sweep_of s) };
 
