@@ -21,7 +21,7 @@ all_copied s world bytes none step copies =
 
 -- the copy after one piece more
 abbrev pub one_more : CopySweep → CopySweep
-one_more s = record { task = s.task; turns = s.turns + 1 }
+one_more s = record s { turns = s.turns + 1 }
 
 module _ (s : CopySweep) (old new : World) (ready : IsReady s) (more : s.turns < s.task.pieces)
     (wrote : Wrote 2 s.task.to old new)

@@ -1,5 +1,5 @@
 -- What is seen of a copy under way, and what a turn of it does.
-use Rattle.std.specs.Prelude.{◌≡◌, ◌≢◌, ℕ, ◌+◌, ◌-◌, ◌*◌, ◌^◌, ◌<◌, ◌≤◌, min, Bool, IsTrue, List, length, take, Result, OnOk, IfErr}
+use Rattle.std.specs.Prelude.{◌≡◌, ◌≢◌, ℕ, ◌+◌, ◌-◌, ◌*◌, ◌<◌, ◌≤◌, min, Bool, IsTrue, List, length, take, Result, OnOk, IfErr}
 use Rattle.shelf_model.specs.declared.file_no.FileNo.{FileNo}
 use Rattle.shelf_model.specs.declared.sort_fault.SortFault.{SortFault}
 use Rattle.shelf_model.specs.declared.sort_fault.SortFault.TheVariants.{Shelf}
@@ -11,12 +11,12 @@ use Rattle.sweep_core.specs.Sweeps.{Falls, MovesOn, AtEnd, IsFirm}
 use Rattle.sweep_core.specs.declared.turn.Turn.{Turn}
 use Rattle.copy_sweep.specs.declared.copy.CopySweep.{CopySweep}
 
--- it makes its file, and takes no part of the file's step, as though none were left
+-- it makes its file, and takes no part
 abbrev pub accounts : Accounts CopySweep
 accounts = record {
   makes = λ s f. f ≡ s.task.to;
-  step = λ s. s.task.to.step;
-  next = λ s. 2 ^ 32;
+  step = λ s. s.parts.step;
+  next = λ s. s.parts.next;
   credit = λ s. 0;
   stock = λ s. 0;
 }
@@ -70,3 +70,4 @@ pub record Turned {S : Type 0} (tells : S → Bool) (world : S → World) (count
   pub refused : IfErr result IsFailure
   pub leaves : Leaves tells world counts accounts 224 12 before after old new result
   pub same : new.task ≡ old.task
+  pub parts_are : new.parts ≡ old.parts

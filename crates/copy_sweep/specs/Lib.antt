@@ -1,1 +1,3 @@
+pub mod Saved
+pub mod Resumes
 pub mod Copies

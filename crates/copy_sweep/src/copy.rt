@@ -1,5 +1,7 @@
 use node_file::copy_piece;
+use run_tiers::Parts;
 use shelf_model::{FileNo, PIECE, Shelf, SortFault};
+use std::marker::PhantomData;
 use sweep_core::{Sweep, Turn};
 
 /// The copy of a file: which file is read, which one is made, and how many pieces of 2,048 bytes are copied. Where the
@@ -16,12 +18,15 @@ pub struct CopyTask {
 ///
 /// After a refusal the sweep isn't used again.
 #[derive(Clone, Copy, Debug, PartialEq, Eq)]
-pub struct CopySweep {
+pub struct CopySweep<'r> {
     pub(crate) task: CopyTask,
+    pub(crate) parts: Parts,
     pub(crate) turns: u64,
+    // It uses no room.
+    pub(crate) room: PhantomData<&'r ()>,
 }
 
-impl CopySweep {
+impl<'r> CopySweep<'r> {
     ghost use Rattle.std.specs.Prelude.{◌≡◌, ◌≢◌, ◌*◌, ◌<◌, ◌≤◌, IsTrue, IfOk, IfErr};
     ghost use Rattle.shelf_model.specs.Calls.{Told, longest, most_piece};
     ghost use Rattle.block_stream.specs.Writes.{Cut};
@@ -29,11 +34,16 @@ impl CopySweep {
     ghost use Rattle.sweep_core.specs.Sweeps.{StaysEnded};
     ghost use Rattle.copy_sweep.specs.Copies.{IsReady, IsInStep, HasCopied, IsFailure, fuel_of, Turned};
 
-    /// Begins a copy: the file that is made is cut to nothing.
-    pub fn start<S: Shelf>(task: CopyTask, shelf: &mut S) -> Result<CopySweep, SortFault>
+    /// Begins a copy: the file that is made is cut to nothing. It takes none of the parts.
+    pub fn start<S: Shelf>(
+        task: CopyTask,
+        parts: Parts,
+        shelf: &mut S,
+    ) -> Result<CopySweep<'r>, SortFault>
         requires apart { task.from ≢ task.to }
         requires few { task.pieces * most_piece ≤ longest }
-        ensures begun { IfOk result (λ sweep. sweep ≡ record { task = task; turns = 0 }) }
+        ensures begun { IfOk result (λ sweep.
+            (sweep.task ≡ task) × (sweep.parts ≡ parts) × (sweep.turns ≡ 0)) }
         ensures ready { IfOk result IsReady }
         ensures in_step { IfOk result (λ sweep. IsTrue (S.tells shelf.new) → IsInStep sweep (S.world shelf.new)) }
         ensures trusts { IfOk result (λ sweep. IsTrue (S.tells shelf.new) → HasCopied sweep (S.world shelf.new)) }
@@ -42,7 +52,12 @@ impl CopySweep {
         ensures faults { OnlySortShelf (S.faults shelf.old) (S.faults shelf.new) result }
     {
         shelf.cut(task.to, 0)?;
-        Ok(CopySweep { task, turns: 0 })
+        Ok(CopySweep {
+            task,
+            parts,
+            turns: 0,
+            room: PhantomData,
+        })
     }
 
     // Copies the next piece.
@@ -75,9 +90,10 @@ impl CopySweep {
     }
 }
 
-impl<'r> Sweep<'r> for CopySweep {
+impl<'r> Sweep<'r> for CopySweep<'r> {
     ghost use Rattle.std.specs.Prelude.{ℕ, List};
     ghost use Rattle.copy_sweep.specs.declared.copy.CopyTask.{CopyTask};
+    ghost use Rattle.copy_sweep.specs.Resumes.{copy_saving};
     ghost use Rattle.copy_sweep.specs.Copies.{accounts, fuel_of, left_of, Copies, IsReady, IsInStep, HasCopied, IsFailure};
 
     ghost Job = { List ℕ };
@@ -95,6 +111,8 @@ impl<'r> Sweep<'r> for CopySweep {
     ghost Task = { CopyTask };
 
     ghost task = { λ sweep. sweep.task };
+
+    ghost saving = { copy_saving };
 
     ghost ready = { IsReady };
 

@@ -2,5 +2,7 @@
 #![tactic(auto)]
 
 mod copy;
+mod resume;
+mod saved;
 
 pub use copy::{CopySweep, CopyTask};

@@ -2,6 +2,7 @@
 use Rattle.std.proofs.Common.{◌≡◌, ◌⊎◌, ◌∙◌, ℕ, ◌+◌, ◌*◌, ◌^◌, ◌<◌, ◌≤◌, Bool, List, take, refl, ap, subst, inl, inr, arith}
 use Rattle.std.proofs.lemmas.List.{take_all}
 use Rattle.rec_words.specs.Words.{node_size}
+use Rattle.run_tiers.specs.declared.parts.Parts.{Parts}
 use Rattle.shelf_model.specs.declared.file_no.FileNo.{FileNo}
 use Rattle.shelf_model.specs.Calls.{Told, most_piece}
 use Rattle.shelf_model.specs.File.{File, firm_file}
@@ -37,21 +38,24 @@ module _ {S : Type 0} (tells : S → Bool) (world : S → World) (number : ℕ) 
 
   -- and then it was made
   pub copy_changes : (s : CopySweep) (old mid new : S) → s.task.to ≡ node_file number
+      → s.parts ≡ record { step = number; next = 3 }
       → Told tells old mid (Cut 1 (node_file number) 0 (world old) (world mid))
-      → Told tells mid new (Ran (OnlyOwn (λ f. f ≡ s.task.to) s.task.to.step (2 ^ 32) (now (world mid))) (world mid)
+      → Told tells mid new (Ran (OnlyOwn (λ f. f ≡ s.task.to) s.parts.step s.parts.next (now (world mid))) (world mid)
       (world new))
       → Told tells old new (Ran (OnlyStepFiles number (now (world old))) (world old) (world new))
-  copy_changes s old mid new to cut ran =
-      runs_on tells world (λ q. (q ≡ node_file number) ⊎ CanBeTaken number 3 q) (λ f. f ≡ s.task.to) s.task.to.step
-      (2 ^ 32) old mid new (λ f is. inl (is ∙ to))
-      (λ f free. inr (taken_before number 3 s.task.to.step (2 ^ 32) f (ap (λ (x : FileNo). x.step) to) (omega arith) free))
+  copy_changes s old mid new to parts cut ran =
+      let next : s.parts.next ≡ 3 = ap (λ (p : Parts). p.next) parts in
+      runs_on tells world (λ q. (q ≡ node_file number) ⊎ CanBeTaken number 3 q) (λ f. f ≡ s.task.to) s.parts.step
+      s.parts.next old mid new (λ f is. inl (is ∙ to))
+      (λ f free. inr (taken_before number 3 s.parts.step s.parts.next f (ap (λ (p : Parts). p.step) parts)
+      (omega (arith, next)) free))
       (copy_begins old mid cut) ran
 
 -- of the canonical file of a table all is copied
 pub copied_whole : (n number : ℕ) (table : List Bool) (most pieces : ℕ) (source : Source) (s t : CopySweep)
     (old mid new : World) → source.from.step < number
     → (source.trailer.count + 1) * node_size ≤ pieces * most_piece
-    → s ≡ record { task = copy_of source number pieces; turns = 0 } → Cut 1 (node_file number) 0 old mid
+    → s.task ≡ copy_of source number pieces → Cut 1 (node_file number) 0 old mid
     → HasCopied s mid → fuel_of t ≡ 0 → t.task ≡ s.task → IsInStep t new
     → ((bytes : List ℕ) → Copies s mid bytes → Copies t new bytes)
     → IsSourceOf n table most source old → IsMade n table (node_file number) source.trailer.count new
@@ -59,11 +63,11 @@ copied_whole n number table most pieces source s t old mid new earlier enough be
     let stays = (ran_end old mid (DuringCut (node_file number) 0 (now old)) cut.run).others source.from
     (apart number source.from earlier) in
     let copies : Copies s mid (canon_bytes n table) = record {
-      bytes_are = ap (λ (x : CopySweep). (file mid x.task.from).bytes) begun ∙ ap (λ (x : File). x.bytes) stays
+      bytes_are = ap (λ (x : CopyTask). (file mid x.from).bytes) begun ∙ ap (λ (x : File). x.bytes) stays
           ∙ is.of.bytes_are;
       copied = has;
     } in
-    let task : t.task ≡ copy_of source number pieces = same ∙ ap (λ (x : CopySweep). x.task) begun in
+    let task : t.task ≡ copy_of source number pieces = same ∙ begun in
     let done = all_copied t new (canon_bytes n table) none step (keeps (canon_bytes n table) copies) in
     let long = long_canonical n table in
     let count = is.trailer.count_is in

@@ -10,6 +10,7 @@ use copied_diagrams::Source;
 use copy_sweep::{CopySweep, CopyTask};
 use file_numbers::{INNER_PART, NODES_PART};
 use node_file::node_pieces;
+use run_merge::Parts;
 use shelf_model::{FileNo, Shelf, SortFault};
 use sweep_core::run_to_end;
 
@@ -32,7 +33,11 @@ pub(crate) fn copy_in_turns<S: Shelf>(
         },
         pieces: node_pieces(source.trailer.count),
     };
-    let mut sweep = CopySweep::start(task, shelf)?;
+    let parts = Parts {
+        step: making.number,
+        next: INNER_PART,
+    };
+    let mut sweep = CopySweep::start(task, parts, shelf)?;
     let turns = run_to_end(&mut sweep, shelf)?;
     Ok(MadeDiagram {
         nodes: source.trailer.count,

@@ -1,7 +1,7 @@
-use Rattle.std.proofs.Common.{◌+◌, refl, ap, rules, arith}
+use Rattle.std.proofs.Common.{◌≡◌, ◌+◌, ◌-◌, refl, ap, rules, arith}
 use Rattle.std.specs.Prelude.{Err}
 use Rattle.run_tiers.proofs.FaultLaws.{sort_shelf_on, sort_shelf_then}
-use Rattle.copy_sweep.specs.declared.copy.CopySweep.{CopySweep}
+use Rattle.copy_sweep.specs.declared.copy.CopyTask.{CopyTask}
 use Rattle.copy_sweep.specs.Copies.{accounts, left_of}
 use Rattle.step_sweeps.proofs.Copies.{copy_begins, copy_changes, copied_whole}
 use Rattle.step_sweeps.proofs.Running.{few_calls, faults_ok}
@@ -24,7 +24,8 @@ returns-in_err-turns g c =
           (failed g.S.Shelf.tells g.S.Shelf.world g.S.Shelf.faults c.args.making 0 (λ g. 0) 7 _ _ _
           (λ told. said.damage told (c.in_ok-sweep.ensures.trusts (said.leaves.content.before told)))
           (λ told tables given.
-          let left = ap left_of c.in_ok-sweep.ensures.begun in
+          let begun = c.in_ok-sweep.ensures.begun in
+          let left : left_of c.in_ok-sweep.sweep ≡ c.node_pieces.result = λ i. (begun.0 i).pieces - begun.2 i in
           let no_more = c.node_pieces.ensures.no_more in
           let few = (c.requires.leads (c.start.ensures.content.before (said.leaves.content.before told)) tables given).few in
           let calls = few_calls g.S.Shelf.tells g.S.Shelf.world accounts c.args.shelf.now c.start.new.shelf
@@ -34,7 +35,7 @@ returns-in_err-turns g c =
           (said.few told _ (record { bytes_are = refl; copied = c.in_ok-sweep.ensures.trusts (said.leaves.content.before told) })).1 (omega (arith, left, no_more)) told in
           omega (arith, calls, few))
           (copy_changes g.S.Shelf.tells g.S.Shelf.world c.args.making.number c.in_ok-sweep.sweep _ _ _
-          (ap (λ (s : CopySweep). s.task.to) c.in_ok-sweep.ensures.begun) c.start.ensures.content said.leaves.content)
+          (ap (λ (t : CopyTask). t.to) c.in_ok-sweep.ensures.begun.0) c.in_ok-sweep.ensures.begun.1 c.start.ensures.content said.leaves.content)
           (sort_shelf_on _ _ c.in_err-turns.field-0.0 (Err c.in_err-turns.field-0.0) refl
           (sort_shelf_then _ _ _ c.start.result _ c.start.ensures.faults said.leaves.faults)));
     }
@@ -49,14 +50,15 @@ returns g c =
           let begun = said.leaves.content.before told in
           let leads = c.requires.leads (c.start.ensures.content.before begun) tables given in (
             copied_whole c.args.making.n c.args.making.number _ _ c.node_pieces.result c.args.source c.in_ok-sweep.sweep
-                c.run_to_end.new.sweep _ _ _ c.requires.earlier c.node_pieces.ensures.enough c.in_ok-sweep.ensures.begun
+                c.run_to_end.new.sweep _ _ _ c.requires.earlier c.node_pieces.ensures.enough c.in_ok-sweep.ensures.begun.0
                 (c.start.ensures.content.did begun)
                 (c.in_ok-sweep.ensures.trusts begun) said.ended c.run_to_end.ensures.same (said.in_step told)
                 (said.keeps told) leads,
             leads.few,
           ))
           (λ told.
-          let left = ap left_of c.in_ok-sweep.ensures.begun in
+          let begun = c.in_ok-sweep.ensures.begun in
+          let left : left_of c.in_ok-sweep.sweep ≡ c.node_pieces.result = λ i. (begun.0 i).pieces - begun.2 i in
           let no_more = c.node_pieces.ensures.no_more in
           let few = said.few told _
           (record { bytes_are = refl; copied = c.in_ok-sweep.ensures.trusts (said.leaves.content.before told) }) in
@@ -70,7 +72,7 @@ returns g c =
           (λ begun. let few = (c.start.ensures.content.did begun).few in omega (arith, few)) (said.counted.1 below)
           (omega arith) told)
           (copy_changes g.S.Shelf.tells g.S.Shelf.world c.args.making.number c.in_ok-sweep.sweep _ _ _
-          (ap (λ (s : CopySweep). s.task.to) c.in_ok-sweep.ensures.begun) c.start.ensures.content said.leaves.content)
+          (ap (λ (t : CopyTask). t.to) c.in_ok-sweep.ensures.begun.0) c.in_ok-sweep.ensures.begun.1 c.start.ensures.content said.leaves.content)
           (faults_ok _ _ _ c.start.result c.run_to_end.result _ c.start.ensures.faults
           c.run_to_end.ensures.leaves.faults);
     }

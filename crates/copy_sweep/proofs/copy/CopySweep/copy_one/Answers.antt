@@ -19,4 +19,5 @@ returns g c =
       refused = search rules;
       leaves = search rules;
       same = search rules;
+      parts_are = search rules;
     }

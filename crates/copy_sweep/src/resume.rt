@@ -1,0 +1,142 @@
+//! A copy that is saved between two turns, and goes on from there.
+ghost use Rattle.std.specs.Prelude.{◌≡◌, ◌≢◌, ◌↔◌, ◌*◌, ◌<◌, ◌≤◌, min, IsTrue, IfOk, IfErr, OnOk, length, take};
+ghost use Rattle.shelf_model.specs.World.{now, file};
+ghost use Rattle.shelf_model.specs.Calls.{Told, longest, most_piece};
+ghost use Rattle.shelf_model.specs.File.{firm_file};
+ghost use Rattle.shelf_model.specs.Moments.{Ran, Stays};
+ghost use Rattle.run_tiers.specs.Faults.{OnlySortShelf};
+ghost use Rattle.sweep_core.specs.Saving.{reads_of};
+ghost use Rattle.copy_sweep.specs.Copies.{IsFailure};
+ghost use Rattle.copy_sweep.specs.Resumes.{OnlyBehind, IsShortFault, IsMisfitFault, pieces_of, KeepsRules, Fits};
+
+use crate::CopySweep;
+use crate::saved::Saved;
+use file_numbers::{INNER_PART, checkpoint_file};
+use rec_words::{NODE_SIZE, Rec};
+use run_tiers::Parts;
+use saved_words::{value_of, words_of};
+use shelf_model::{FileNo, LONGEST, PIECE, Shelf, SortFault};
+use std::marker::PhantomData;
+use sweep_core::{Checkpoint, Resume, checkpoint_place, fill_without_runs, is_made_part};
+
+// A piece in bytes.
+const STEP: u64 = PIECE as u64;
+
+impl<'r> CopySweep<'r> {
+    /// Whether a checkpoint keeps the rules of a copy's. It takes no memory.
+    pub fn fits(point: &Checkpoint) -> bool
+        ensures { IsTrue result ↔ Fits point.now }
+    {
+        match value_of::<Saved>(&point.carry) {
+            Some(saved) => point.tables == 0 && saved.keeps_rules(point),
+            None => false,
+        }
+    }
+}
+
+impl Saved {
+    // Whether it may stand in a checkpoint.
+    fn keeps_rules(&self, point: &Checkpoint) -> bool
+        ensures { IsTrue result ↔ KeepsRules point.now self.now }
+    {
+        let parts = point.next_part;
+        let files = INNER_PART <= parts
+            && is_made_part(self.task.to, point.step, parts)
+            && self.task.from.step != point.step;
+        let counts = self.task.pieces <= LONGEST / STEP && self.turns <= self.task.pieces;
+        files && counts && self.kept <= self.turns * STEP
+    }
+
+    // Has as many bytes kept as the turns put there of the file that is read.
+    fn agree<S: Shelf>(&self, step: u32, shelf: &mut S) -> Result<(), SortFault>
+        requires few { self.now.turns * most_piece ≤ longest }
+        ensures agrees { OnOk result (IsTrue (S.tells shelf.new) →
+            self.now.kept ≡ min (pieces_of self.now) (length (file (S.world shelf.old) self.now.task.from).bytes)) }
+        ensures damage { IfErr result (λ e. IsTrue (S.tells shelf.new) →
+            IsMisfitFault step self.now (reads_of (S.world shelf.old)) e) }
+        ensures content { Told S.tells shelf.old shelf.new
+            (Ran (Stays (now (S.world shelf.old))) (S.world shelf.old) (S.world shelf.new)) }
+        ensures faults { OnlySortShelf (S.faults shelf.old) (S.faults shelf.new) result }
+    {
+        let whole = shelf.len(self.task.from)?;
+        if self.kept == whole.min(self.turns * STEP) {
+            return Ok(());
+        }
+        let at = checkpoint_place(step, shelf)?;
+        Err(SortFault::Damaged {
+            file: checkpoint_file(step),
+            at,
+        })
+    }
+}
+
+// Cuts a file to the bytes that were kept of it, which it has to have.
+fn cut_behind<S: Shelf>(made: FileNo, kept: u64, shelf: &mut S) -> Result<(), SortFault>
+    ensures cut { OnOk result (IsTrue (S.tells shelf.new) →
+        (file (S.world shelf.new) made).bytes ≡ take kept (file (S.world shelf.old) made).bytes) }
+    ensures long { OnOk result (IsTrue (S.tells shelf.new) →
+        kept ≤ length (file (S.world shelf.old) made).bytes) }
+    ensures damage { IfErr result (λ e. IsTrue (S.tells shelf.new) →
+        IsShortFault made kept (reads_of (S.world shelf.old)) e) }
+    ensures content { Told S.tells shelf.old shelf.new
+        (Ran (OnlyBehind made kept (now (S.world shelf.old))) (S.world shelf.old) (S.world shelf.new)) }
+    ensures faults { OnlySortShelf (S.faults shelf.old) (S.faults shelf.new) result }
+{
+    let len = shelf.len(made)?;
+    if len < kept {
+        return Err(SortFault::Damaged {
+            file: made,
+            at: len / NODE_SIZE * NODE_SIZE,
+        });
+    }
+    if len > kept {
+        shelf.cut(made, kept)?;
+    }
+    Ok(())
+}
+
+impl<'r> Resume<'r> for CopySweep<'r> {
+    ghost use Rattle.copy_sweep.specs.Resumes.{Blames, stays, apart};
+
+    ghost blames = { Blames };
+
+    fn carry<S: Shelf>(&mut self, shelf: &mut S, into: &mut Checkpoint) -> Result<(), SortFault> {
+        shelf.sync(self.task.to)?;
+        let len = shelf.len(self.task.to)?;
+        // A turn that synced the pieces is made again.
+        let turns = self.turns.min(self.task.pieces);
+        let saved = Saved {
+            task: self.task,
+            turns,
+            kept: len.min(turns * STEP),
+        };
+        fill_without_runs(into, self.parts.next, words_of(saved));
+        Ok(())
+    }
+
+    fn rebuild<S: Shelf>(
+        from: &Checkpoint,
+        text: &'r [u8],
+        room: &'r mut [Rec],
+        shelf: &mut S,
+    ) -> Result<CopySweep<'r>, SortFault> {
+        let Some(saved) = value_of::<Saved>(&from.carry) else {
+            unreachable!();
+        };
+        saved.agree(from.step, shelf)?;
+        cut_behind(saved.task.to, saved.kept, shelf)?;
+        Ok(CopySweep {
+            task: saved.task,
+            parts: Parts {
+                step: from.step,
+                next: from.next_part,
+            },
+            turns: saved.turns,
+            room: PhantomData,
+        })
+    }
+
+    ghost stays = { stays };
+
+    ghost apart = { apart };
+}
