@@ -28,7 +28,7 @@ pub struct NodeReader<'r> {
 }
 
 impl<'r> NodeReader<'r> {
-    ghost use Rattle.std.specs.Prelude.{◌/◌, min, List, length, take, OnOk, IfOk, IfErr, None};
+    ghost use Rattle.std.specs.Prelude.{◌/◌, min, List, length, take, OnOk, IfOk, IfErr, IsSome, None};
     ghost use Rattle.shelf_model.specs.World.{file};
     ghost use Rattle.shelf_model.specs.Calls.{Told};
     ghost use Rattle.shelf_model.specs.Faults.{OnlyShelf};
@@ -90,6 +90,7 @@ impl<'r> NodeReader<'r> {
         ensures file { IfOk result (λ r. file_of r ≡ f) }
         ensures variables { IfOk result (λ r. (trailer_of r).n ≡ n) }
         ensures place { IfOk result (λ r. left_of r ≡ min place (trailer_of r).count) }
+        ensures begun { IfOk result (λ r. IsSome (given_of r) → left_of r < (trailer_of r).count) }
         ensures trailer { IfOk result (λ r. IsTrue (S.tells shelf.new) →
             let bytes = (file (S.world shelf.old) f).bytes in
             HasTrailer n (trailer_of r).root bytes × ((trailer_of r).count ≡ length bytes / node_size - 1)) }
@@ -119,6 +120,8 @@ impl<'r> NodeReader<'r> {
         ensures file { file_of self.new ≡ file_of self.old }
         ensures trailer { trailer_of self.new ≡ trailer_of self.old }
         ensures place { OnOk result (left_of self.new ≡ min place (left_of self.old)) }
+        ensures begun { OnOk result
+            ((given_of self.new ≡ given_of self.old) ⊎ (left_of self.new < left_of self.old)) }
         ensures reads { IsTrue (S.tells shelf.new) →
             let bytes = (file (S.world shelf.old) (file_of self.old)).bytes in
             Reads self.old bytes → OnOk result (Reads self.new bytes) }

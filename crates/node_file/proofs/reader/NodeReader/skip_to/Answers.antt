@@ -1,4 +1,4 @@
-use Rattle.std.proofs.Common.{rules, ◌≡◌, ◌+◌, ◌-◌, ◌<◌, ◌≤◌, min, length, take, ap, sym, subst, ◌∙◌, arith}
+use Rattle.std.proofs.Common.{rules, refl, inl, inr, ◌≡◌, ◌+◌, ◌-◌, ◌<◌, ◌≤◌, min, length, take, ap, sym, subst, ◌∙◌, arith}
 use Rattle.std.specs.Prelude.{Ok, Err}
 use Rattle.std.proofs.lemmas.Result.{err_from_is_err_and}
 use Rattle.shelf_model.specs.World.{file}
@@ -21,6 +21,7 @@ skip-preserved g c =
       trailer_is = c.in_ok-next.ensures.trailer ∙ c.skip.invariant.trailer_is;
       not_past = omega arith;
       fewer = omega arith;
+      begun = inr (omega (arith, down, fewer));
       looked = looked_within g.S.Shelf.tells g.S.Shelf.world _ _ _ _ _ within c.skip.invariant.looked c.in_ok-next.ensures.content;
       reads = λ t r.
           let before = c.in_ok-next.ensures.content.before t in
@@ -46,6 +47,7 @@ skip-init g c = record {
   trailer_is = search rules;
   not_past = omega arith;
   fewer = omega arith;
+  begun = inl refl;
   looked = search rules;
   reads = search rules;
   nodes = λ t r xs left. all_left c.args.self.now _ xs left;

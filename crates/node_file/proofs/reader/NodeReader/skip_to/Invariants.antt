@@ -1,4 +1,4 @@
-use Rattle.std.proofs.Common.{◌≡◌, ◌-◌, ◌≤◌, min, List, take, IsTrue}
+use Rattle.std.proofs.Common.{◌≡◌, ◌⊎◌, ◌-◌, ◌<◌, ◌≤◌, min, List, take, IsTrue}
 use Rattle.std.specs.Prelude.{Result, Ok}
 use Rattle.rec_words.specs.declared.node.Node.{Node}
 use Rattle.shelf_model.specs.declared.fault.StreamFault.{StreamFault}
@@ -6,7 +6,7 @@ use Rattle.shelf_model.specs.World.{file}
 use Rattle.shelf_model.specs.Calls.{Told}
 use Rattle.shelf_model.specs.Faults.{OnlyShelf}
 use Rattle.block_stream.specs.Reads.{Looked}
-use Rattle.node_file.specs.Readers.{file_of, trailer_of, left_of, Reads, AreLeft}
+use Rattle.node_file.specs.Readers.{file_of, trailer_of, left_of, given_of, Reads, AreLeft}
 use Rattle.node_file.proofs.reader.NodeReader.skip_to.Given as goal
 
 -- nodes down to the place were passed over, and as many calls made
@@ -16,6 +16,7 @@ invariant-skip g l = record {
   trailer_is : trailer_of l.self ≡ trailer_of l.fn.self;
   not_past : min l.place (left_of l.fn.self) ≤ left_of l.self;
   fewer : left_of l.self ≤ left_of l.fn.self;
+  begun : (given_of l.self ≡ given_of l.fn.self) ⊎ (left_of l.self < left_of l.fn.self);
   looked : Told g.S.Shelf.tells l.fn.shelf l.shelf (Looked (left_of l.fn.self - left_of l.self) (g.S.Shelf.world l.fn.shelf) (g.S.Shelf.world l.shelf));
   reads : IsTrue (g.S.Shelf.tells l.shelf) → Reads l.fn.self (file (g.S.Shelf.world l.fn.shelf) (file_of l.fn.self)).bytes
       → Reads l.self (file (g.S.Shelf.world l.fn.shelf) (file_of l.fn.self)).bytes;
