@@ -194,6 +194,13 @@ impl<'r> NodeReader<'r> {
         self.trailer
     }
 
+    /// The file that is read.
+    pub fn file(&self) -> FileNo
+        ensures { result ≡ file_of self.now }
+    {
+        self.nodes.file()
+    }
+
     /// How many nodes are not yet given.
     pub fn place(&self) -> u64
         ensures { result ≡ left_of self.now }
