@@ -6,7 +6,10 @@ mod comparing;
 mod eval;
 mod following;
 mod restrict;
+mod resuming;
 mod same;
+mod same_resume;
+mod saved;
 
 pub use eval::EvalSweep;
 pub use restrict::RestrictSweep;

@@ -9,7 +9,7 @@ use shelf_model::{FileNo, Shelf, SortFault};
 use sweep_core::{Sweep, Turn};
 
 /// How many records of the room each of the two readers has.
-const READING: usize = 88;
+pub(crate) const READING: usize = 88;
 
 /// The comparison of two node files, node by node from the roots on.
 ///
@@ -171,6 +171,7 @@ impl<'r> SameSweep<'r> {
 }
 
 impl<'r> Sweep<'r> for SameSweep<'r> {
+    ghost use Rattle.restrict_eval.specs.SameResumes.{same_saving};
     ghost use Rattle.restrict_eval.specs.Same.{accounts, turns_left, Compared, task_of, IsReady, IsInStep, Tables, RemainsOf, IsDamage};
 
     ghost Job = { Tables };
@@ -188,6 +189,8 @@ impl<'r> Sweep<'r> for SameSweep<'r> {
     ghost Task = { Compared };
 
     ghost task = { task_of };
+
+    ghost saving = { same_saving };
 
     ghost ready = { IsReady };
 

@@ -1,0 +1,164 @@
+//! A comparison that is saved between two turns, and goes on from there.
+ghost use Rattle.std.specs.Prelude.{◌≡◌, ◌↔◌, ◌+◌, ◌*◌, ◌<◌, ◌≤◌, ℕ, Bool, IsTrue, List, OnOk, IfOk, IfErr};
+ghost use Rattle.shelf_model.specs.Calls.{Told, longest};
+ghost use Rattle.shelf_model.specs.Moments.{Ran, Stays};
+ghost use Rattle.shelf_model.specs.World.{now};
+ghost use Rattle.rec_words.specs.Words.{node_size};
+ghost use Rattle.node_file.specs.Readers.{file_of, trailer_of, left_of};
+ghost use Rattle.run_tiers.specs.Faults.{OnlySortShelf};
+ghost use Rattle.sweep_core.specs.Sweeps.{IsNoDamage};
+ghost use Rattle.node_reading.specs.Reading.{bytes_of, IsBegun, IsReading, IsNodeFault};
+ghost use Rattle.restrict_eval.specs.Canonical.{AreLeftBut};
+ghost use Rattle.restrict_eval.specs.Same.{fuel_at};
+ghost use Rattle.restrict_eval.specs.SameResumes.{Fits, KeepsRules, saved_of, behind_hand, at_hand, turns_of, GoesOnFrom};
+ghost use Rattle.rec_words.specs.declared.node.Node.{Node};
+
+use crate::SameSweep;
+use crate::comparing::Comparing;
+use crate::resuming::begin_at;
+use crate::same::READING;
+use crate::saved::{SavedSame, Unread};
+use file_numbers::INNER_PART;
+use node_file::NodeReader;
+use node_reading::next_node;
+use rec_words::{NODE_SIZE, Rec};
+use run_merge::Parts;
+use saved_words::{value_of, words_of};
+use shelf_model::{LONGEST, Shelf, SortFault};
+use sweep_core::{Checkpoint, Resume, fill_without_runs};
+
+impl<'r> SameSweep<'r> {
+    /// Whether a checkpoint keeps the rules of a comparison's. It takes no memory.
+    pub fn fits(point: &Checkpoint) -> bool
+        ensures { IsTrue result ↔ Fits point.now }
+    {
+        match value_of::<SavedSame>(&point.carry) {
+            Some(saved) => point.tables == 0 && saved.keeps_rules(point),
+            None => false,
+        }
+    }
+
+    // What a checkpoint keeps of it.
+    fn saved(&self) -> SavedSame
+        ensures { result ≡ saved_of self.now }
+    {
+        let (ahead, answer) = match self.state {
+            Comparing::Level => (false, None),
+            Comparing::Ahead(_) => (true, None),
+            Comparing::Answered(answer) => (false, Some(answer)),
+        };
+        SavedSame {
+            n: self.left.trailer().n,
+            left: Unread {
+                file: self.left.file(),
+                place: self.left.place(),
+            },
+            right: Unread {
+                file: self.right.file(),
+                place: self.right.place(),
+            },
+            ahead,
+            answer,
+        }
+    }
+}
+
+impl SavedSame {
+    // Whether it may stand in a checkpoint.
+    fn keeps_rules(&self, point: &Checkpoint) -> bool
+        ensures { IsTrue result ↔ KeepsRules point.now self.now }
+    {
+        let others = self.left.file.step != point.step && self.right.file.step != point.step;
+        let most = LONGEST / NODE_SIZE;
+        let few = self.left.place <= most && self.right.place <= most;
+        INNER_PART <= point.next_part && others && few
+    }
+
+    // The first file, from before the node at hand.
+    fn behind_hand(&self) -> Unread
+        requires few { self.now.left.place * node_size ≤ longest }
+        ensures { result ≡ behind_hand self.now }
+    {
+        Unread {
+            file: self.left.file,
+            place: self.left.place + u64::from(self.ahead),
+        }
+    }
+
+    // Where it goes on: with the node at hand, which the first file gives again, or with the answer.
+    fn state<S: Shelf>(
+        &self,
+        left: &mut NodeReader<'_>,
+        shelf: &mut S,
+    ) -> Result<Comparing, SortFault>
+        requires begun { IsBegun left.old }
+        requires reads { IsTrue (S.tells shelf.old) → IsReading left.old (S.world shelf.old) }
+        requires place { left_of left.old ≡ self.now.left.place + at_hand self.now.ahead }
+        ensures file { file_of left.new ≡ file_of left.old }
+        ensures trailer { trailer_of left.new ≡ trailer_of left.old }
+        ensures begun { OnOk result (IsBegun left.new) }
+        ensures reads { OnOk result (IsTrue (S.tells shelf.new) → IsReading left.new (S.world shelf.new)) }
+        ensures turns { IfOk result (λ state. (k : ℕ) →
+            fuel_at state (left_of left.new + k) ≡ turns_of self.now.answer (self.now.left.place + k)) }
+        ensures goes_on { IfOk result (λ state. IsTrue (S.tells shelf.new) → (nodes given : List Node) →
+            AreLeftBut left.old (bytes_of left.old (S.world shelf.old)) nodes given →
+            GoesOnFrom self.now.answer state left.new (bytes_of left.new (S.world shelf.new)) nodes given) }
+        ensures undamaged { IfErr result (λ e. IsTrue (S.tells shelf.new) → (nodes given : List Node) →
+            AreLeftBut left.old (bytes_of left.old (S.world shelf.old)) nodes given → IsNoDamage e) }
+        ensures damage { IfErr result (λ e. IsTrue (S.tells shelf.new) → IsNodeFault left.old (S.world shelf.old) e) }
+        ensures content { Told S.tells shelf.old shelf.new
+            (Ran (Stays (now (S.world shelf.old))) (S.world shelf.old) (S.world shelf.new)) }
+        ensures faults { OnlySortShelf (S.faults shelf.old) (S.faults shelf.new) result }
+    {
+        if let Some(answer) = self.answer {
+            return Ok(Comparing::Answered(answer));
+        }
+        if !self.ahead {
+            return Ok(Comparing::Level);
+        }
+        let Some(node) = next_node(left, shelf)? else {
+            unreachable!();
+        };
+        Ok(Comparing::Ahead(node))
+    }
+}
+
+impl<'r> Resume<'r> for SameSweep<'r> {
+    ghost use Rattle.restrict_eval.specs.SameResumes.{Blames, stays, apart};
+
+    ghost blames = { Blames };
+
+    fn carry<S: Shelf>(&mut self, shelf: &mut S, into: &mut Checkpoint) -> Result<(), SortFault> {
+        fill_without_runs(into, self.parts.next, words_of(self.saved()));
+        Ok(())
+    }
+
+    fn rebuild<S: Shelf>(
+        from: &Checkpoint,
+        text: &'r [u8],
+        room: &'r mut [Rec],
+        shelf: &mut S,
+    ) -> Result<SameSweep<'r>, SortFault> {
+        let Some(saved) = value_of::<SavedSame>(&from.carry) else {
+            unreachable!();
+        };
+        let (first, rest) = room.split_at_mut(READING);
+        let (second, _rest) = rest.split_at_mut(READING);
+        let mut left = begin_at(saved.behind_hand(), saved.n, from.step, first, shelf)?;
+        let right = begin_at(saved.right, saved.n, from.step, second, shelf)?;
+        let state = saved.state(&mut left, shelf)?;
+        Ok(SameSweep {
+            left,
+            right,
+            state,
+            parts: Parts {
+                step: from.step,
+                next: from.next_part,
+            },
+        })
+    }
+
+    ghost stays = { stays };
+
+    ghost apart = { apart };
+}
