@@ -3,3 +3,7 @@ mod Parts
 mod Saved
 mod Loaded
 mod Dropped
+mod AsBefore
+mod Standing
+mod SavedHere
+mod WentOn

@@ -4,3 +4,4 @@ pub mod Gated
 pub mod Saves
 pub mod Loads
 pub mod Retires
+pub mod Going

@@ -1,24 +1,10 @@
 -- Which runs a newer checkpoint gives up.
 use Rattle.std.specs.Prelude.{◌≡◌, ◌⊎◌, ℕ, ◌<◌, ◌≤◌, max, List, [], Option, Some, None}
-use Rattle.std.specs.List.{Any}
-use Rattle.run_tiers.specs.declared.run.Run.{Run}
 use Rattle.shelf_model.specs.declared.file_no.FileNo.{FileNo}
 use Rattle.shelf_model.specs.World.{World, file}
 use Rattle.file_numbers.specs.Files.{first_run_part}
 use Rattle.sweep_core.specs.declared.checkpoint.Checkpoint.{Checkpoint}
-use Rattle.sweep_checkpoint.specs.Rules.{tables_in_use}
-
--- a slot of the table names the part
-abbrev pub NamedAmong : ℕ → List Run → Type 0
-NamedAmong part table = Any (λ (r : Run). r.part ≡ part) table
-
--- a slot of one of the tables does
-abbrev pub NamedIn : ℕ → List (List Run) → Type 0
-NamedIn part tables = Any (NamedAmong part) tables
-
--- a table of the checkpoint that is in use names the part
-abbrev pub Names : Checkpoint → ℕ → Type 0
-Names c part = NamedIn part (tables_in_use c)
+pub use Rattle.sweep_core.specs.Tables.{NamedAmong, NamedIn, Names}
 
 -- the part is one of these
 pub record IsBetween (first next part : ℕ) : Type 0 where

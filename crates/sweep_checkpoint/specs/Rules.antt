@@ -1,29 +1,8 @@
 -- The rules that a checkpoint keeps, and when bytes are one.
-use Rattle.std.specs.Prelude.{◌≡◌, ℕ, ◌<◌, ◌≤◌, ◌^◌, ◌⊎◌, List, All, length, take}
-use Rattle.run_tiers.specs.declared.run.Run.{Run}
+use Rattle.std.specs.Prelude.{◌≡◌, ℕ, ◌<◌, ◌≤◌, ◌^◌, List, All, length, take}
 use Rattle.sweep_core.specs.declared.checkpoint.Checkpoint.{Checkpoint}
+pub use Rattle.sweep_core.specs.Tables.{tables_in_use, IsUnused, IsTakenRun, IsSlot, HasTables}
 use Rattle.sweep_checkpoint.specs.Points.{point_size, tables_end, used_bytes, Fits}
-
--- no run stands in the slot
-pub record IsUnused (r : Run) : Type 0 where
-  pub part : r.part ≡ 0
-  pub next : r.next ≡ 0
-  pub last : r.end ≡ 0
-
--- a run of a part that was taken, of which no more was taken than it has
-pub record IsTakenRun (next_part : ℕ) (r : Run) : Type 0 where
-  pub from : 3 ≤ r.part
-  pub below : r.part < next_part
-  pub within : r.next ≤ r.end
-  pub small : r.end ≤ 2 ^ 44
-
--- a slot of a table that is in use
-abbrev pub IsSlot : ℕ → Run → Type 0
-IsSlot next_part r = IsUnused r ⊎ IsTakenRun next_part r
-
--- the tables that are in use
-abbrev pub tables_in_use : Checkpoint → List (List Run)
-tables_in_use c = take c.tables c.runs
 
 -- it is of that step and budget, of one of two sweeps, and its parts, tables, runs and turns are in their ranges
 pub record KeepsRules (step budget : ℕ) (c : Checkpoint) : Type 0 where

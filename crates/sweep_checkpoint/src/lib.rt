@@ -6,15 +6,20 @@
 #![tactic(auto)]
 
 mod blank;
+mod due;
+mod going;
 mod layout;
 mod loading;
 mod point;
 mod retiring;
 mod rules;
+mod running;
 mod saving;
 
+pub use going::Going;
 pub use layout::{POINT_SIZE, bytes_of};
 pub use loading::load;
 pub use point::point_of;
 pub use retiring::retire;
+pub use running::run_saved;
 pub use saving::save;

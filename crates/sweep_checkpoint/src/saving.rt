@@ -5,7 +5,7 @@ ghost use Rattle.shelf_model.specs.Calls.{Told};
 ghost use Rattle.shelf_model.specs.Moments.{Ran};
 ghost use Rattle.shelf_model.specs.Faults.{OnlyFolder, OnlyShelf};
 ghost use Rattle.file_numbers.specs.Files.{checkpoint_file, checkpoint_gate};
-ghost use Rattle.sweep_checkpoint.specs.Points.{point_size};
+ghost use Rattle.sweep_checkpoint.specs.Points.{point_size, point_bytes, Fits};
 ghost use Rattle.sweep_checkpoint.specs.Gated.{present};
 ghost use Rattle.sweep_checkpoint.specs.Saves.{DuringSave, IsSaved, IsSaveFault};
 
@@ -30,8 +30,10 @@ pub fn save<S: Shelf>(point: &Checkpoint, shelf: &mut S) -> Result<(), StreamFau
         → IsSaveFault point.now.step (now (S.world shelf.old)).folder (now (S.world shelf.new)).folder fault) }
     ensures calls { IsTrue (S.tells shelf.new)
         → (S.world shelf.new).clock ≤ (S.world shelf.old).clock + 14 }
+    ensures fits { Fits point.now }
     ensures faults { OnlyShelf (S.faults shelf.old) (S.faults shelf.new) result }
 {
+    let bytes = bytes_of(point);
     let count = shelf.len(checkpoint_gate(point.step))?;
     let size = shelf.len(checkpoint_file(point.step))?;
     if size / SIZE < count {
@@ -40,12 +42,19 @@ pub fn save<S: Shelf>(point: &Checkpoint, shelf: &mut S) -> Result<(), StreamFau
             at: SIZE * count.saturating_sub(1),
         });
     }
-    put_behind(point, count, shelf)?;
+    put_behind(point, &bytes, count, shelf)?;
     Ok(())
 }
 
-// Puts a checkpoint behind the first ones, of which there are so many, and gates it.
-fn put_behind<S: Shelf>(point: &Checkpoint, count: u64, shelf: &mut S) -> Result<(), Failed>
+// Puts a checkpoint, of which these are the bytes, behind the first ones, of which there are so many, and gates it.
+fn put_behind<S: Shelf>(
+    point: &Checkpoint,
+    bytes: &[u8],
+    count: u64,
+    shelf: &mut S,
+) -> Result<(), Failed>
+    requires bytes { bytes.now ≡ point_bytes point.now }
+    requires len { length bytes.now ≡ point_size }
     requires gated { IsTrue (S.tells shelf.old)
         → count ≡ length (file (S.world shelf.old) (checkpoint_gate point.now.step)).bytes }
     requires within { IsTrue (S.tells shelf.old)
@@ -61,6 +70,6 @@ fn put_behind<S: Shelf>(point: &Checkpoint, count: u64, shelf: &mut S) -> Result
 {
     // The checkpoint has to be sure before its gate: behind an open gate other bytes would count.
     let at = SIZE * count;
-    replace_from(checkpoint_file(point.step), at, &bytes_of(point), shelf)?;
+    replace_from(checkpoint_file(point.step), at, bytes, shelf)?;
     lengthen(checkpoint_gate(point.step), count, shelf)
 }

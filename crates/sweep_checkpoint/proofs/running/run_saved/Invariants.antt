@@ -1,0 +1,57 @@
+use Rattle.std.proofs.Common.{◌≡◌, ℕ, ◌+◌, ◌≤◌, IsTrue, length}
+use Rattle.std.specs.Prelude.{Ok}
+use Rattle.shelf_model.specs.declared.file_no.FileNo.{FileNo}
+use Rattle.shelf_model.specs.Calls.{Told}
+use Rattle.shelf_model.specs.Moments.{Ran, Throughout, OnlyChanged}
+use Rattle.shelf_model.specs.World.{now, file}
+use Rattle.file_numbers.specs.Files.{checkpoint_file}
+use Rattle.run_tiers.specs.Faults.{OnlySortShelf}
+use Rattle.sweep_core.specs.Saving.{IsOfStep}
+use Rattle.sweep_checkpoint.specs.Saves.{gated_size}
+use Rattle.sweep_checkpoint.specs.Going.{IsOfGoing, AreSure, SameGoing}
+use Rattle.sweep_checkpoint.proofs.SavedHere.{AreLeft}
+use Rattle.sweep_checkpoint.proofs.WentOn.{HasCome}
+use Rattle.sweep_checkpoint.proofs.running.run_saved.Given as goal
+
+-- what the turns and saves so far left
+abbrev pub invariant-turns : goal.invariant-turns
+invariant-turns g l = record {
+  ready : g.P.Sweep.ready l.sweep;
+  in_step : IsTrue (g.S.Shelf.tells l.shelf) → g.P.Sweep.in_step l.sweep (g.S.Shelf.world l.shelf);
+  trusts : IsTrue (g.S.Shelf.tells l.shelf) → g.P.Sweep.trusts l.fn.sweep (g.S.Shelf.world l.fn.shelf)
+      → g.P.Sweep.trusts l.sweep (g.S.Shelf.world l.shelf);
+  keeps : IsTrue (g.S.Shelf.tells l.shelf) → (job : g.P.Sweep.Job)
+      → g.P.Sweep.remains l.fn.sweep (g.S.Shelf.world l.fn.shelf) job
+      → g.P.Sweep.remains l.sweep (g.S.Shelf.world l.shelf) job;
+  same : g.P.Sweep.task l.sweep ≡ g.P.Sweep.task l.fn.sweep;
+  going : SameGoing l.fn.going l.going;
+  made : (f : FileNo) → g.P.Sweep.accounts.makes l.sweep f → g.P.Sweep.accounts.makes l.fn.sweep f;
+  making : (f : FileNo) → g.P.Sweep.accounts.makes l.fn.sweep f → g.P.Sweep.accounts.makes l.sweep f;
+  step : g.P.Sweep.accounts.step l.sweep ≡ g.P.Sweep.accounts.step l.fn.sweep;
+  later : g.P.Sweep.accounts.next l.fn.sweep ≤ g.P.Sweep.accounts.next l.sweep;
+  few : IsTrue (g.S.Shelf.tells l.shelf) → (job : g.P.Sweep.Job) → g.P.Sweep.remains l.fn.sweep (g.S.Shelf.world l.fn.shelf) job
+      → l.going.turns + g.P.Sweep.left l.sweep (g.S.Shelf.world l.shelf) job
+      ≤ l.fn.going.turns + g.P.Sweep.left l.fn.sweep (g.S.Shelf.world l.fn.shelf) job;
+  covers : IsTrue (g.S.Shelf.tells l.shelf) → gated_size l.fn.going.step (now (g.S.Shelf.world l.fn.shelf)).folder
+      ≤ length (file (g.S.Shelf.world l.fn.shelf) (checkpoint_file l.fn.going.step)).bytes
+      → gated_size l.fn.going.step (now (g.S.Shelf.world l.shelf)).folder
+      ≤ length (file (g.S.Shelf.world l.shelf) (checkpoint_file l.fn.going.step)).bytes;
+  changes : Told g.S.Shelf.tells l.fn.shelf l.shelf (Ran (OnlyChanged (IsOfGoing (g.P.Sweep.accounts.makes l.fn.sweep) l.fn.going.step)
+      (now (g.S.Shelf.world l.fn.shelf))) (g.S.Shelf.world l.fn.shelf) (g.S.Shelf.world l.shelf));
+  images : IsTrue (g.S.Shelf.tells l.shelf) → (job : g.P.Sweep.Job) → g.P.Sweep.remains l.fn.sweep (g.S.Shelf.world l.fn.shelf) job
+      → AreSure (g.P.Sweep.saving.operands (g.P.Sweep.task l.fn.sweep)) l.fn.going.step (now (g.S.Shelf.world l.fn.shelf)).folder
+      → Throughout (g.S.Shelf.world l.fn.shelf) (g.S.Shelf.world l.shelf) (AreLeft g.P.Sweep.saving (g.P.Sweep.accounts.makes l.fn.sweep)
+      l.fn.going.step (g.P.Sweep.accounts.next l.fn.sweep) l.fn.going.budget (g.P.Sweep.task l.fn.sweep) job
+      (l.fn.going.turns + g.P.Sweep.left l.fn.sweep (g.S.Shelf.world l.fn.shelf) job) (now (g.S.Shelf.world l.fn.shelf)).folder);
+  come : IsTrue (g.S.Shelf.tells l.shelf) → (job : g.P.Sweep.Job) → g.P.Sweep.remains l.fn.sweep (g.S.Shelf.world l.fn.shelf) job
+      → AreSure (g.P.Sweep.saving.operands (g.P.Sweep.task l.fn.sweep)) l.fn.going.step (now (g.S.Shelf.world l.fn.shelf)).folder
+      → HasCome g.P.Sweep.saving (g.P.Sweep.accounts.makes l.fn.sweep) (g.P.Sweep.saving.operands (g.P.Sweep.task l.fn.sweep))
+      l.fn.going.step (g.P.Sweep.accounts.next l.fn.sweep) l.fn.going.budget (g.P.Sweep.task l.fn.sweep) job
+      (l.fn.going.turns + g.P.Sweep.left l.fn.sweep (g.S.Shelf.world l.fn.shelf) job)
+      (g.P.Sweep.accounts.next l.sweep) (now (g.S.Shelf.world l.fn.shelf)) (now (g.S.Shelf.world l.shelf));
+  faults : OnlySortShelf {T = Unit} (g.S.Shelf.faults l.fn.shelf) (g.S.Shelf.faults l.shelf) (Ok tt);
+}
+
+-- each time at least one turn is made
+abbrev pub decreases-turns : goal.decreases-turns
+decreases-turns g l = g.P.Sweep.fuel l.sweep

@@ -1,0 +1,75 @@
+-- What a stop may leave while a sweep goes on and is saved at times.
+use Rattle.std.specs.Prelude.{◌≡◌, ◌≢◌, ◌⊎◌, ℕ, ◌+◌, ◌<◌, ◌≤◌, List, length, take, Some}
+use Rattle.shelf_model.specs.declared.file_no.FileNo.{FileNo}
+use Rattle.shelf_model.specs.declared.sort_fault.SortFault.{SortFault}
+use Rattle.shelf_model.specs.declared.sort_fault.SortFault.TheVariants.{Shelf, Damaged, RunsSpent}
+use Rattle.shelf_model.specs.Folder.{Folder, Image, file_in, bytes_in, IsImage}
+use Rattle.shelf_model.specs.World.{Moment}
+use Rattle.file_numbers.specs.Files.{checkpoint_part, checkpoint_file, checkpoint_gate}
+use Rattle.run_tiers.specs.Syncs.{IsFirm}
+use Rattle.sweep_core.specs.declared.checkpoint.Checkpoint.{Checkpoint}
+use Rattle.sweep_core.specs.Accounts.{CanBeTaken}
+use Rattle.sweep_core.specs.Saving.{Saving}
+use Rattle.sweep_core.specs.Carries.{OnlySaved}
+use Rattle.sweep_checkpoint.specs.Points.{point_bytes, Fits}
+use Rattle.sweep_checkpoint.specs.Rules.{KeepsRules}
+use Rattle.sweep_checkpoint.specs.Gated.{present, gated_place, last_gated}
+use Rattle.sweep_checkpoint.specs.Saves.{gated_size, IsGateSure}
+use Rattle.sweep_checkpoint.specs.declared.going.Going.{Going}
+
+-- the files of a step that change while a sweep of it goes on: those that it makes, and all behind the node file
+abbrev pub IsOfGoing : (FileNo → Type 0) → ℕ → FileNo → Type 0
+IsOfGoing makes step f = makes f ⊎ ((f.step ≡ step) × (checkpoint_part ≤ f.part))
+
+-- what a stop leaves agrees with an image of the folder as it was, in all that a checkpoint of then rests on: in the
+-- last one that is gated, in each file that no sweep of the step writes from then on, and in what was sure of those that
+-- this one makes
+pub record IsAsBefore (makes : FileNo → Type 0) (step next : ℕ) (old : Folder) (r : FileNo → List ℕ) : Type 0 where
+  pub before : Image
+  pub is_image : IsImage old before
+  pub last : last_gated step r ≡ last_gated step (bytes_in before)
+  pub others : (f : FileNo) → ¬ (makes f) → ¬ CanBeTaken step next f → f ≢ checkpoint_file step → f ≢ checkpoint_gate step
+      → r f ≡ bytes_in before f
+  pub fronts : (f : FileNo) → makes f → (n : ℕ) → n ≤ (file_in old f).firm → take n (r f) ≡ take n (bytes_in before f)
+
+module _ {Task Job : Type 0} (saving : Saving Task Job) where
+  -- the last checkpoint that is gated is one of the kind, and with what the files hold it does the job; and with the
+  -- turns that were made before it no more than so many are needed
+  pub record GoesOn (step budget : ℕ) (task : Task) (job : Job) (turns : ℕ) (r : FileNo → List ℕ) : Type 0 where
+    pub point : Checkpoint
+    pub last : last_gated step r ≡ Some (point_bytes point)
+    pub rules : KeepsRules step budget point
+    pub words : Fits point
+    pub names : saving.names point task
+    pub fits : saving.fits point (saving.text task)
+    pub left : ℕ
+    pub stands : saving.stands point (saving.text task) r job left
+    pub few : point.turns + left ≤ turns
+
+  -- so it is in each image of the folder: the gate is sure, and so is all that the checkpoint rests on
+  pub record Stands (makes operands : FileNo → Type 0) (step next budget : ℕ) (task : Task) (job : Job)
+      (turns : ℕ) (folder : Folder) : Type 0 where
+    pub goes_on : GoesOn step budget task job turns (present folder)
+    pub gate : IsGateSure step folder
+    pub points : gated_size step folder ≤ (file_in folder (checkpoint_file step)).firm
+    pub sure : (f : FileNo) (n : ℕ) → saving.rests goes_on.point f n
+        → (operands f × IsFirm (file_in folder f)) ⊎ ((makes f ⊎ (¬ (makes f))) × (n ≤ (file_in folder f).firm))
+    pub taken : goes_on.point.next_part ≤ next
+
+-- the gate is sure, and the operands are
+pub record AreSure (operands : FileNo → Type 0) (step : ℕ) (folder : Folder) : Type 0 where
+  pub gate : IsGateSure step folder
+  pub operands_are : (f : FileNo) → operands f → IsFirm (file_in folder f)
+
+-- damage is at the place of the last checkpoint that is gated, where the file ends before the gate says
+abbrev pub IsShort : ℕ → Folder → SortFault → Type 0
+IsShort step folder Shelf = Unit
+IsShort step folder (Damaged f at) = (f ≡ checkpoint_file step) × (at ≡ gated_place step (present folder))
+    × (length (file_in folder (checkpoint_file step)).bytes < gated_size step folder)
+IsShort step folder RunsSpent = ⊥
+
+-- the step, the sweep and the budget are the same
+pub record SameGoing (old new : Going) : Type 0 where
+  pub step_is : new.step ≡ old.step
+  pub sweep_is : new.sweep ≡ old.sweep
+  pub budget_is : new.budget ≡ old.budget

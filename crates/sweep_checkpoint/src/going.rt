@@ -1,0 +1,33 @@
+//! How far a step has come.
+ghost use Rattle.std.specs.Prelude.{◌≡◌, ◌≤◌, min};
+
+use sweep_core::Checkpoint;
+
+/// The most turns between two checkpoints.
+const MOST_BETWEEN: u64 = 65_536;
+
+/// How far a step has come: what its checkpoints say of it.
+#[derive(Clone, Copy, Debug, PartialEq, Eq)]
+pub struct Going {
+    /// The number of the step.
+    pub step: u32,
+    /// 0 for the first sweep of a step, 1 for the reduction.
+    pub sweep: u32,
+    /// The budget of the run, in records.
+    pub budget: u32,
+    /// The turns that were made in the step, or 2^64 - 1 where they are more.
+    pub turns: u64,
+    /// Those of them that were made since the last checkpoint, or since the step began.
+    pub since: u64,
+    /// The last checkpoint of the step that is gated, if there is one.
+    pub last: Option<Checkpoint>,
+}
+
+impl Going {
+    /// How many turns are made between two checkpoints.
+    pub fn interval(&self) -> u64
+        ensures { result ≡ min self.now.budget 65536 }
+    {
+        u64::from(self.budget).min(MOST_BETWEEN)
+    }
+}

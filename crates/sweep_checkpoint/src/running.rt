@@ -1,0 +1,91 @@
+//! A sweep that goes on to its end, and is saved at times.
+ghost use Rattle.std.specs.Prelude.{◌≡◌, ◌⊎◌, ◌+◌, ◌^◌, ◌<◌, ◌≤◌, IsTrue, IsErrOf, OnOk, IfOk, IfErr, length};
+ghost use Rattle.shelf_model.specs.declared.file_no.FileNo.{FileNo};
+ghost use Rattle.shelf_model.specs.Calls.{Told};
+ghost use Rattle.shelf_model.specs.Folder.{Image, IsImage, bytes_in, file_in};
+ghost use Rattle.shelf_model.specs.Moments.{Ran, Throughout, OnlyChanged};
+ghost use Rattle.shelf_model.specs.World.{Moment, now, file};
+ghost use Rattle.file_numbers.specs.Files.{checkpoint_file};
+ghost use Rattle.run_tiers.specs.Faults.{OnlySortShelf};
+ghost use Rattle.sweep_core.specs.Saving.{IsOfStep};
+ghost use Rattle.sweep_core.specs.Sweeps.{IsFirm, IsNoDamage};
+ghost use Rattle.sweep_core.specs.Carries.{OnlySaved};
+ghost use Rattle.sweep_checkpoint.specs.Saves.{gated_size};
+ghost use Rattle.sweep_checkpoint.specs.Going.{IsOfGoing, IsAsBefore, GoesOn, Stands, AreSure, IsShort, SameGoing};
+
+use crate::due::save_if_due;
+use crate::going::Going;
+use shelf_model::{Shelf, SortFault};
+use sweep_core::{Resume, Turn, run_some};
+
+/// Makes turns of a sweep until it ends, and saves it before the first turn that has min(budget, 65,536) turns or more
+/// behind it that no checkpoint shows, while the turns of its step are below 2^61.
+///
+/// At each moment the last checkpoint that is gated, and all that it rests on, stands whole in each image that a stop
+/// may leave: the one that was there before, or one of this sweep. What a turn, a save or the folder refuses is handed on
+/// as it is; after it neither is used again.
+pub fn run_saved<'r, P: Resume<'r>, S: Shelf>(
+    sweep: &mut P,
+    going: &mut Going,
+    shelf: &mut S,
+) -> Result<(), SortFault>
+    requires ready { P.ready sweep.old }
+    requires in_step { IsTrue (S.tells shelf.old) → P.in_step sweep.old (S.world shelf.old) }
+    requires files { IsOfStep (P.accounts.makes sweep.old) (P.saving.operands (P.task sweep.old))
+        (P.accounts.step sweep.old) (P.accounts.next sweep.old) }
+    requires step { going.old.step ≡ P.accounts.step sweep.old }
+    requires sweep { going.old.sweep ≤ 1 }
+    ensures ready { OnOk result (P.ready sweep.new) }
+    ensures in_step { OnOk result (IsTrue (S.tells shelf.new) → P.in_step sweep.new (S.world shelf.new)) }
+    ensures ended { OnOk result (P.fuel sweep.new ≡ 0) }
+    ensures firm { OnOk result (IsTrue (S.tells shelf.new) → (f : FileNo) →
+        P.accounts.makes sweep.new f → IsFirm (file (S.world shelf.new) f)) }
+    ensures going { SameGoing going.old going.new }
+
+    // what remains
+    ensures keeps { OnOk result (IsTrue (S.tells shelf.new) → (job : P.Job) →
+        P.remains sweep.old (S.world shelf.old) job → P.remains sweep.new (S.world shelf.new) job) }
+    ensures few { OnOk result (IsTrue (S.tells shelf.new) → (job : P.Job) →
+        P.remains sweep.old (S.world shelf.old) job →
+        going.new.turns ≤ going.old.turns + P.left sweep.old (S.world shelf.old) job + 1) }
+    ensures damage { IfErr result (λ e. IsTrue (S.tells shelf.new) → P.trusts sweep.old (S.world shelf.old) →
+        P.damaged sweep.new (S.world shelf.new) e ⊎ IsShort going.old.step (now (S.world shelf.new)).folder e) }
+    ensures undamaged { IfErr result (λ e. IsTrue (S.tells shelf.new) → (job : P.Job) →
+        P.remains sweep.old (S.world shelf.old) job →
+        gated_size going.old.step (now (S.world shelf.old)).folder
+        ≤ length (file (S.world shelf.old) (checkpoint_file going.old.step)).bytes → IsNoDamage e) }
+
+    // what a stop may leave at any moment, and what is left at the end
+    ensures changes { Told S.tells shelf.old shelf.new
+        (Ran (OnlyChanged (IsOfGoing (P.accounts.makes sweep.old) going.old.step) (now (S.world shelf.old)))
+        (S.world shelf.old) (S.world shelf.new)) }
+    ensures images { IsTrue (S.tells shelf.new) → (job : P.Job) → P.remains sweep.old (S.world shelf.old) job →
+        AreSure (P.saving.operands (P.task sweep.old)) going.old.step (now (S.world shelf.old)).folder →
+        Throughout (S.world shelf.old) (S.world shelf.new) (λ (m : Moment). (image : Image) → IsImage m.folder image →
+        IsAsBefore (P.accounts.makes sweep.old) going.old.step (P.accounts.next sweep.old)
+        (now (S.world shelf.old)).folder (bytes_in image)
+        ⊎ GoesOn P.saving going.old.step going.old.budget (P.task sweep.old) job
+        (going.old.turns + P.left sweep.old (S.world shelf.old) job) (bytes_in image)) }
+    ensures stands { OnOk result (IsTrue (S.tells shelf.new) → (job : P.Job) →
+        P.remains sweep.old (S.world shelf.old) job →
+        AreSure (P.saving.operands (P.task sweep.old)) going.old.step (now (S.world shelf.old)).folder →
+        OnlySaved (P.accounts.makes sweep.old) going.old.step (P.accounts.next sweep.old)
+        (now (S.world shelf.old)) (now (S.world shelf.new))
+        ⊎ Stands P.saving (P.accounts.makes sweep.old) (P.saving.operands (P.task sweep.old)) going.old.step (P.accounts.next sweep.new)
+        going.old.budget (P.task sweep.old) job
+        (going.old.turns + P.left sweep.old (S.world shelf.old) job) (now (S.world shelf.new)).folder) }
+    ensures same { P.task sweep.new ≡ P.task sweep.old }
+    ensures spent { IsErrOf result SortFault.RunsSpent → 2 ^ 32 ≤ P.accounts.next sweep.new }
+    ensures faults { OnlySortShelf (S.faults shelf.old) (S.faults shelf.new) result }
+{
+    'turns: loop {
+        save_if_due(sweep, going, shelf)?;
+        let most = going.interval().saturating_sub(going.since).max(1);
+        let made = run_some(sweep, most, shelf)?;
+        going.turns = going.turns.saturating_add(made.turns);
+        going.since = going.since.saturating_add(made.turns);
+        if made.turn == Turn::Ended {
+            return Ok(());
+        }
+    }
+}
