@@ -21,12 +21,12 @@ use Rattle.sweep_core.specs.Saving.{Saving, IsOfStep, IsRestingPlace, SameHead, 
 use Rattle.sweep_core.specs.Carries.{OnlySaved, IsUsed}
 use Rattle.sweep_checkpoint.specs.Points.{point_bytes, Fits}
 use Rattle.sweep_checkpoint.specs.Rules.{KeepsRules}
-use Rattle.sweep_checkpoint.specs.Gated.{present}
+use Rattle.sweep_checkpoint.specs.Gated.{present, last_gated}
 use Rattle.sweep_checkpoint.specs.Saves.{gated_size, IsGateSure, DuringSave, IsSaved}
 use Rattle.sweep_checkpoint.specs.Retires.{IsGivenUp}
 use Rattle.sweep_checkpoint.specs.Going.{IsOfGoing, IsAsBefore, GoesOn, Stands, AreSure}
 use Rattle.sweep_checkpoint.proofs.Parts.{length_point}
-use Rattle.sweep_checkpoint.proofs.AsBefore.{as_before, as_before_then, before_saved, points_not_made, gate_not_made, points_stay, gate_stays}
+use Rattle.sweep_checkpoint.proofs.AsBefore.{as_before, as_before_then, before_saved, points_not_made, gate_not_made, points_stay, gate_stays, same_last}
 use Rattle.sweep_checkpoint.proofs.Standing.{Ready, stands_image, stands_retired, ready_goes_on, ready_saved}
 
 -- the files of a step that change meanwhile: first those of the sweep
@@ -244,6 +244,17 @@ module _ {S Task Job : Type 0} (tells : S → Bool) (world : S → World)
       let long : length (file (world end) (checkpoint_file d.step)).bytes ≡ length (file (world new) (checkpoint_file d.step)).bytes = ap (λ (x : File). length x.bytes) points in
       let count : length (file (world end) (checkpoint_gate d.step)).bytes ≡ length (file (world new) (checkpoint_gate d.step)).bytes = ap (λ (x : File). length x.bytes) gate in
       omega (arith, whole, long, count)
+
+  pub gated_on : (older : Option Checkpoint) (mid new end : S)
+      → (IsTrue (tells new) → IsSaved d (now (world mid)).folder (now (world new)).folder)
+      → Told tells new end (Ran (OnlyChanged (IsGivenUp older d) (now (world new))) (world new) (world end))
+      → IsTrue (tells end) → last_gated d.step (present (now (world end)).folder) ≡ Some (point_bytes d)
+  gated_on older mid new end saved retires told_end =
+      let only = ran_end (world new) (world end) (OnlyChanged (IsGivenUp older d) (now (world new))) (retires.did told_end) in
+      same_last d.step (present (now (world end)).folder) (present (now (world new)).folder)
+      (ap (λ (x : File). x.bytes) (only (checkpoint_file d.step) (λ is. let from = is.from in absurd (omega (arith, from)))))
+      (ap (λ (x : File). x.bytes) (only (checkpoint_gate d.step) (λ is. let from = is.from in absurd (omega (arith, from)))))
+      ∙ (saved (retires.before told_end)).reads
 
   pub carried_at : (old mid : S) (step : ℕ) → d.step ≡ step → IsOfStep makes operands step next
       → Told tells old mid (Ran (OnlySaved makes step next (now (world old))) (world old) (world mid)) → next ≤ later → IsCarried old mid

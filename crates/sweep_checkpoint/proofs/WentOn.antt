@@ -19,8 +19,10 @@ use Rattle.sweep_core.specs.Accounts.{CanBeTaken, OnlyOwn}
 use Rattle.sweep_core.specs.Saving.{Saving, IsOfStep, IsRestingPlace}
 use Rattle.sweep_core.specs.Carries.{IsBehindPoints, OnlySaved}
 use Rattle.sweep_checkpoint.specs.Saves.{gated_size}
-use Rattle.sweep_checkpoint.specs.Going.{IsOfGoing, IsAsBefore, GoesOn, Stands, AreSure}
-use Rattle.sweep_checkpoint.proofs.AsBefore.{as_before, as_before_then, points_stay, gate_stays}
+use Rattle.sweep_checkpoint.specs.Gated.{present, last_gated}
+use Rattle.sweep_checkpoint.specs.declared.going.Going.{Going}
+use Rattle.sweep_checkpoint.specs.Going.{IsOfGoing, IsAsBefore, GoesOn, Stands, AreSure, SameShown, IsShown}
+use Rattle.sweep_checkpoint.proofs.AsBefore.{as_before, as_before_then, points_stay, gate_stays, same_last}
 use Rattle.sweep_checkpoint.proofs.Standing.{stands_image, stands_saved, stands_later, as_before_stands}
 use Rattle.sweep_checkpoint.proofs.SavedHere.{AreLeft, saved_changes, ran_changes, moments}
 
@@ -282,3 +284,27 @@ fell_ended old new turns Ended is fell = fell.1
 pub fell_more : (old new turns : ℕ) (turn : Turn) → turn ≢ Ended → Fell old new turns turn → new + turns ≤ old
 fell_more old new turns More is fell = fell
 fell_more old new turns Ended is fell = absurd (is refl)
+
+-- where neither the checkpoints nor their gate changed, the last one is as it was
+pub gated_still : (makes operands : FileNo → Type 0) (step next : ℕ) (old m : Moment) → IsOfStep makes operands step next → OnlySaved makes step next old m
+    → last_gated step (present m.folder) ≡ last_gated step (present old.folder)
+gated_still makes operands step next old m files saved = same_last step (present m.folder) (present old.folder)
+    (ap (λ (x : File). x.bytes) (points_stay makes operands step next old m files saved)) (ap (λ (x : File). x.bytes) (gate_stays makes operands step next old m files saved))
+
+-- what is said of the last checkpoint, from the first moment on
+abbrev pub SaysLast : Going → Going → Folder → Folder → Type 0
+SaysLast old new before after = SameShown old new before after ⊎ IsShown old.step new after
+
+pub says_then : (old mid new : Going) (a b c : Folder) → mid.step ≡ old.step → SaysLast old mid a b → SaysLast mid new b c → SaysLast old new a c
+says_then old mid new a b c step_is first (inr shown) = inr (subst (λ s. IsShown s new c) step_is shown)
+says_then old mid new a b c step_is (inl same) (inl again) = inl (record {
+  shown_is = again.shown_is ∙ same.shown_is;
+  last_is = again.last_is ∙ same.last_is;
+  gated_is = subst (λ s. last_gated s (present c) ≡ last_gated s (present b)) step_is again.gated_is ∙ same.gated_is;
+})
+says_then old mid new a b c step_is (inr shown) (inl again) = inr (record {
+  point = shown.point;
+  last_is = again.last_is ∙ shown.last_is;
+  turns_are = shown.turns_are ∙ sym again.shown_is;
+  gated_is = subst (λ s. last_gated s (present c) ≡ last_gated s (present b)) step_is again.gated_is ∙ shown.gated_is;
+})

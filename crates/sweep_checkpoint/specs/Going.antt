@@ -73,3 +73,16 @@ pub record SameGoing (old new : Going) : Type 0 where
   pub step_is : new.step ≡ old.step
   pub sweep_is : new.sweep ≡ old.sweep
   pub budget_is : new.budget ≡ old.budget
+
+-- the last checkpoint that is gated is as it was, and so is what is said of it
+pub record SameShown (old new : Going) (before after : Folder) : Type 0 where
+  pub shown_is : new.shown ≡ old.shown
+  pub last_is : new.last ≡ old.last
+  pub gated_is : last_gated old.step (present after) ≡ last_gated old.step (present before)
+
+-- what is said of the last checkpoint is so of the one that is gated last
+pub record IsShown (step : ℕ) (going : Going) (folder : Folder) : Type 0 where
+  pub point : Checkpoint
+  pub last_is : going.last ≡ Some point
+  pub turns_are : point.turns ≡ going.shown
+  pub gated_is : last_gated step (present folder) ≡ Some (point_bytes point)

@@ -1,5 +1,5 @@
 //! Saving a sweep where it is, when that is due.
-ghost use Rattle.std.specs.Prelude.{◌≡◌, ◌⊎◌, ◌+◌, ◌^◌, ◌<◌, ◌≤◌, IsTrue, IsErrOf, OnOk, IfErr, length};
+ghost use Rattle.std.specs.Prelude.{◌≡◌, ◌⊎◌, ◌+◌, ◌-◌, ◌^◌, ◌<◌, ◌≤◌, min, IsTrue, IsErrOf, OnOk, IfErr, length};
 ghost use Rattle.shelf_model.specs.declared.file_no.FileNo.{FileNo};
 ghost use Rattle.shelf_model.specs.Calls.{Told};
 ghost use Rattle.shelf_model.specs.Folder.{Image, IsImage, bytes_in};
@@ -11,7 +11,7 @@ ghost use Rattle.sweep_core.specs.Saving.{IsOfStep};
 ghost use Rattle.sweep_core.specs.Sweeps.{IsNoDamage};
 ghost use Rattle.sweep_core.specs.Carries.{OnlySaved};
 ghost use Rattle.sweep_checkpoint.specs.Saves.{gated_size};
-ghost use Rattle.sweep_checkpoint.specs.Going.{IsOfGoing, IsAsBefore, GoesOn, Stands, AreSure, IsShort, SameGoing};
+ghost use Rattle.sweep_checkpoint.specs.Going.{IsOfGoing, IsAsBefore, GoesOn, Stands, AreSure, IsShort, SameGoing, SameShown, IsShown};
 
 use crate::blank::NO_RUN;
 use crate::going::Going;
@@ -27,7 +27,7 @@ const TURNS_END: u64 = 1 << 61;
 const MOST_PARTS: u64 = 1 << 32;
 
 /// Saves the sweep where it is, and gives up the runs that the older checkpoint names and the new one doesn't: where the
-/// turns that no checkpoint shows are as many as an interval, while those of the step are below 2^61.
+/// turns that no checkpoint shows are as many as an interval or more, while those of the step are below 2^61.
 pub(crate) fn save_if_due<'r, P: Resume<'r>, S: Shelf>(
     sweep: &mut P,
     going: &mut Going,
@@ -44,6 +44,11 @@ pub(crate) fn save_if_due<'r, P: Resume<'r>, S: Shelf>(
     ensures fuel { OnOk result (P.fuel sweep.new ≡ P.fuel sweep.old) }
     ensures going { SameGoing going.old going.new }
     ensures turns { going.new.turns ≡ going.old.turns }
+    ensures due { OnOk result (going.new.turns < 2 ^ 61 → P.accounts.next sweep.new ≤ 2 ^ 32 →
+        (going.new.turns - going.new.shown < min going.old.budget 65536) ⊎ (going.new.shown ≡ going.new.turns)) }
+    ensures shown { OnOk result (IsTrue (S.tells shelf.new) →
+        SameShown going.old going.new (now (S.world shelf.old)).folder (now (S.world shelf.new)).folder
+        ⊎ IsShown going.old.step going.new (now (S.world shelf.new)).folder) }
 
     // what remains
     ensures keeps { OnOk result (IsTrue (S.tells shelf.new) → (job : P.Job) →
@@ -92,7 +97,7 @@ pub(crate) fn save_if_due<'r, P: Resume<'r>, S: Shelf>(
     ensures spent { IsErrOf result SortFault.RunsSpent → 2 ^ 32 ≤ P.accounts.next sweep.new }
     ensures faults { OnlySortShelf (S.faults shelf.old) (S.faults shelf.new) result }
 {
-    if going.since < going.interval() {
+    if going.since() < going.interval() {
         return Ok(());
     }
     if going.turns >= TURNS_END {
@@ -109,7 +114,6 @@ pub(crate) fn save_if_due<'r, P: Resume<'r>, S: Shelf>(
         runs: [[NO_RUN; 64]; 9],
     };
     sweep.carry(shelf, &mut point)?;
-    going.since = 0;
     // The last of the part numbers was taken, which no checkpoint may say.
     if point.next_part > MOST_PARTS {
         return Ok(());
@@ -117,5 +121,6 @@ pub(crate) fn save_if_due<'r, P: Resume<'r>, S: Shelf>(
     save(&point, shelf)?;
     retire(going.last.as_ref(), &point, shelf)?;
     going.last = Some(point);
+    going.shown = going.turns;
     Ok(())
 }

@@ -17,17 +17,26 @@ pub struct Going {
     pub budget: u32,
     /// The turns that were made in the step, or 2^64 - 1 where they are more.
     pub turns: u64,
-    /// Those of them that were made since the last checkpoint, or since the step began.
-    pub since: u64,
+    /// Those of them that the last checkpoint shows, or that were made before the first sweep where there is none.
+    pub shown: u64,
     /// The last checkpoint of the step that is gated, if there is one.
     pub last: Option<Checkpoint>,
 }
 
 impl Going {
+    ghost use Rattle.std.specs.Prelude.{◌-◌};
+
     /// How many turns are made between two checkpoints.
     pub fn interval(&self) -> u64
         ensures { result ≡ min self.now.budget 65536 }
     {
         u64::from(self.budget).min(MOST_BETWEEN)
+    }
+
+    /// How many turns no checkpoint shows.
+    pub fn since(&self) -> u64
+        ensures { result ≡ self.now.turns - self.now.shown }
+    {
+        self.turns.saturating_sub(self.shown)
     }
 }

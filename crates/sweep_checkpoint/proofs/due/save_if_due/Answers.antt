@@ -290,8 +290,8 @@ returns-clause-covers g c = λ told covered.
     subst (λ s. gated_size s (now (g.S.Shelf.world c.retire.new.shelf)).folder ≤ length (file (g.S.Shelf.world c.retire.new.shelf) (checkpoint_file s)).bytes) step_is
     (covers_on g.S.Shelf.tells g.S.Shelf.world g.met.S.Shelf.files_are g.P.Sweep.saving laws.stays laws.apart made read next later budget task point _ c.carry.new.shelf c.save.new.shelf c.retire.new.shelf c.in_ok-save.ensures.fits c.in_ok-save.ensures.ok c.in_ok-retire.ensures.content told)
 
-pub returns-then-going-interval-clause-images : goal.returns-then-going-interval-clause-images
-returns-then-going-interval-clause-images g c = λ told job remains sure.
+pub returns-then-since-interval-clause-images : goal.returns-then-since-interval-clause-images
+returns-then-since-interval-clause-images g c = λ told job remains sure.
     let claim : g.claim c.lifetimes = search rules in
     let laws = g.met.P.Resume c.lifetimes claim in
     let made = g.P.Sweep.accounts.makes c.args.sweep.now in

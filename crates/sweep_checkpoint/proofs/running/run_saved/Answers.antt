@@ -9,9 +9,10 @@ use Rattle.run_tiers.proofs.FaultLaws.{sort_shelf_then}
 use Rattle.sweep_core.specs.declared.turn.Turn.TheVariants.{Ended}
 use Rattle.sweep_core.specs.Accounts.{OnlyOwn}
 use Rattle.sweep_core.specs.Saving.{IsOfStep}
+use Rattle.sweep_checkpoint.specs.Gated.{present, last_gated}
 use Rattle.sweep_checkpoint.specs.Saves.{gated_size}
 use Rattle.sweep_checkpoint.specs.Going.{IsOfGoing}
-use Rattle.sweep_checkpoint.proofs.WentOn.{own_saved, of_step_later, of_step_as, covers_still, where_ended, fell_ended, fell_more, images_none, images_on, stage_save, stage_turns, left_of, come_of, sure_of, turns_on, saved_none}
+use Rattle.sweep_checkpoint.proofs.WentOn.{own_saved, gated_still, says_then, of_step_later, of_step_as, covers_still, where_ended, fell_ended, fell_more, images_none, images_on, stage_save, stage_turns, left_of, come_of, sure_of, turns_on, saved_none}
 use Rattle.sweep_checkpoint.proofs.running.run_saved.Goals as goal
 
 pub turns-init : goal.turns-init
@@ -34,6 +35,7 @@ turns-init g c =
       later = omega arith;
       few = λ told job remains. omega arith;
       covers = λ told covered. covered;
+      says = λ told. inl (record { shown_is = refl; last_is = refl; gated_is = refl });
       changes = told_changed_none g.S.Shelf.tells g.S.Shelf.world (IsOfGoing made c.args.going.now.step) c.args.shelf.now;
       images = λ told job remains sure. images_none g.P.Sweep.saving laws.stays laws.apart made read c.args.going.now.step next c.args.going.now.budget
           (g.P.Sweep.task c.args.sweep.now) job
@@ -264,6 +266,40 @@ returns-then-eq-clause-stands g c = λ told job remains sure.
     (λ f mine. inv.made f (first.made f mine)) (λ f mine. first.making f (inv.making f mine)) files_0 files_s files c.in_ok-made.ensures.leaves.later one run in
     two.come
 
+pub returns-then-eq-clause-shown : goal.returns-then-eq-clause-shown
+returns-then-eq-clause-shown g c = λ told.
+    let inv = c.turns.invariant in
+    let first = c.in_ok-save_if_due.ensures in
+    let told_s = c.in_ok-made.ensures.leaves.content.before told in
+    let told_at = first.changes.before told_s in
+    let files = subst (λ s. IsOfStep (g.P.Sweep.accounts.makes c.args.sweep.now) (g.P.Sweep.saving.operands (g.P.Sweep.task c.args.sweep.now)) s (g.P.Sweep.accounts.next c.args.sweep.now))
+    (sym c.requires.step) c.requires.files in
+    let files_s = of_step_as (g.P.Sweep.accounts.makes c.args.sweep.now) (g.P.Sweep.accounts.makes c.save_if_due.new.sweep) (g.P.Sweep.saving.operands (g.P.Sweep.task c.args.sweep.now))
+    c.args.going.now.step (g.P.Sweep.accounts.next c.save_if_due.new.sweep) (λ f mine. inv.made f (first.made f mine))
+    (of_step_later (g.P.Sweep.accounts.makes c.args.sweep.now) (g.P.Sweep.saving.operands (g.P.Sweep.task c.args.sweep.now)) c.args.going.now.step (g.P.Sweep.accounts.next c.args.sweep.now)
+    (g.P.Sweep.accounts.next c.save_if_due.new.sweep) (let one = inv.later in let two = first.later in omega (arith, one, two)) files) in
+    let own = ran_end (g.S.Shelf.world c.save_if_due.new.shelf) (g.S.Shelf.world c.run_some.new.shelf)
+    (OnlyOwn (g.P.Sweep.accounts.makes c.save_if_due.new.sweep) (g.P.Sweep.accounts.step c.save_if_due.new.sweep) (g.P.Sweep.accounts.next c.save_if_due.new.sweep) (now (g.S.Shelf.world c.save_if_due.new.shelf)))
+    (c.in_ok-made.ensures.leaves.content.did told) in
+    let own_here = subst (λ s. OnlyOwn (g.P.Sweep.accounts.makes c.save_if_due.new.sweep) s (g.P.Sweep.accounts.next c.save_if_due.new.sweep) (now (g.S.Shelf.world c.save_if_due.new.shelf))
+    (now (g.S.Shelf.world c.run_some.new.shelf))) (first.step ∙ inv.step ∙ sym c.requires.step) own in
+    let still = gated_still (g.P.Sweep.accounts.makes c.save_if_due.new.sweep) (g.P.Sweep.saving.operands (g.P.Sweep.task c.args.sweep.now)) c.args.going.now.step (g.P.Sweep.accounts.next c.save_if_due.new.sweep)
+    (now (g.S.Shelf.world c.save_if_due.new.shelf)) (now (g.S.Shelf.world c.run_some.new.shelf)) files_s
+    (own_saved (g.P.Sweep.accounts.makes c.save_if_due.new.sweep) c.args.going.now.step (g.P.Sweep.accounts.next c.save_if_due.new.sweep) (now (g.S.Shelf.world c.save_if_due.new.shelf))
+    (now (g.S.Shelf.world c.run_some.new.shelf)) own_here) in
+    let at = first.going.step_is ∙ inv.going.step_is in
+    says_then c.args.going.now c.save_if_due.new.going _ (now (g.S.Shelf.world c.args.shelf.now)).folder (now (g.S.Shelf.world c.save_if_due.new.shelf)).folder (now (g.S.Shelf.world c.run_some.new.shelf)).folder at
+    (says_then c.args.going.now c.turns.going c.save_if_due.new.going (now (g.S.Shelf.world c.args.shelf.now)).folder (now (g.S.Shelf.world c.turns.shelf)).folder (now (g.S.Shelf.world c.save_if_due.new.shelf)).folder
+    inv.going.step_is (inv.says told_at) (first.shown told_s))
+    (inl (record { shown_is = refl; last_is = refl; gated_is = subst (λ s. last_gated s (present (now (g.S.Shelf.world c.run_some.new.shelf)).folder) ≡ last_gated s (present (now (g.S.Shelf.world c.save_if_due.new.shelf)).folder)) (sym at) still }))
+
+pub returns-then-eq-clause-keeps : goal.returns-then-eq-clause-keeps
+returns-then-eq-clause-keeps g c = λ told job remains.
+    let inv = c.turns.invariant in
+    let first = c.in_ok-save_if_due.ensures in
+    let told_s = c.in_ok-made.ensures.leaves.content.before told in
+    c.in_ok-made.ensures.keeps told job (first.keeps told_s job (inv.keeps (first.changes.before told_s) job remains))
+
 pub turns-preserved : goal.turns-preserved
 turns-preserved g c =
     let so_far = c.turns.invariant in
@@ -321,6 +357,31 @@ turns-preserved g c =
           (now (g.S.Shelf.world c.save_if_due.new.shelf)) (now (g.S.Shelf.world c.run_some.new.shelf)) files_s
           (own_saved (g.P.Sweep.accounts.makes c.save_if_due.new.sweep) c.args.going.now.step (g.P.Sweep.accounts.next c.save_if_due.new.sweep) (now (g.S.Shelf.world c.save_if_due.new.shelf))
           (now (g.S.Shelf.world c.run_some.new.shelf)) own_here) covers_s;
+      says = λ told.
+          let inv = c.turns.invariant in
+          let first = c.in_ok-save_if_due.ensures in
+          let told_s = c.in_ok-made.ensures.leaves.content.before told in
+          let told_at = first.changes.before told_s in
+          let files = subst (λ s. IsOfStep (g.P.Sweep.accounts.makes c.args.sweep.now) (g.P.Sweep.saving.operands (g.P.Sweep.task c.args.sweep.now)) s (g.P.Sweep.accounts.next c.args.sweep.now))
+          (sym c.requires.step) c.requires.files in
+          let files_s = of_step_as (g.P.Sweep.accounts.makes c.args.sweep.now) (g.P.Sweep.accounts.makes c.save_if_due.new.sweep) (g.P.Sweep.saving.operands (g.P.Sweep.task c.args.sweep.now))
+          c.args.going.now.step (g.P.Sweep.accounts.next c.save_if_due.new.sweep) (λ f mine. inv.made f (first.made f mine))
+          (of_step_later (g.P.Sweep.accounts.makes c.args.sweep.now) (g.P.Sweep.saving.operands (g.P.Sweep.task c.args.sweep.now)) c.args.going.now.step (g.P.Sweep.accounts.next c.args.sweep.now)
+          (g.P.Sweep.accounts.next c.save_if_due.new.sweep) (let one = inv.later in let two = first.later in omega (arith, one, two)) files) in
+          let own = ran_end (g.S.Shelf.world c.save_if_due.new.shelf) (g.S.Shelf.world c.run_some.new.shelf)
+          (OnlyOwn (g.P.Sweep.accounts.makes c.save_if_due.new.sweep) (g.P.Sweep.accounts.step c.save_if_due.new.sweep) (g.P.Sweep.accounts.next c.save_if_due.new.sweep) (now (g.S.Shelf.world c.save_if_due.new.shelf)))
+          (c.in_ok-made.ensures.leaves.content.did told) in
+          let own_here = subst (λ s. OnlyOwn (g.P.Sweep.accounts.makes c.save_if_due.new.sweep) s (g.P.Sweep.accounts.next c.save_if_due.new.sweep) (now (g.S.Shelf.world c.save_if_due.new.shelf))
+          (now (g.S.Shelf.world c.run_some.new.shelf))) (first.step ∙ inv.step ∙ sym c.requires.step) own in
+          let still = gated_still (g.P.Sweep.accounts.makes c.save_if_due.new.sweep) (g.P.Sweep.saving.operands (g.P.Sweep.task c.args.sweep.now)) c.args.going.now.step (g.P.Sweep.accounts.next c.save_if_due.new.sweep)
+          (now (g.S.Shelf.world c.save_if_due.new.shelf)) (now (g.S.Shelf.world c.run_some.new.shelf)) files_s
+          (own_saved (g.P.Sweep.accounts.makes c.save_if_due.new.sweep) c.args.going.now.step (g.P.Sweep.accounts.next c.save_if_due.new.sweep) (now (g.S.Shelf.world c.save_if_due.new.shelf))
+          (now (g.S.Shelf.world c.run_some.new.shelf)) own_here) in
+          let at = first.going.step_is ∙ inv.going.step_is in
+          says_then c.args.going.now c.save_if_due.new.going _ (now (g.S.Shelf.world c.args.shelf.now)).folder (now (g.S.Shelf.world c.save_if_due.new.shelf)).folder (now (g.S.Shelf.world c.run_some.new.shelf)).folder at
+          (says_then c.args.going.now c.turns.going c.save_if_due.new.going (now (g.S.Shelf.world c.args.shelf.now)).folder (now (g.S.Shelf.world c.turns.shelf)).folder (now (g.S.Shelf.world c.save_if_due.new.shelf)).folder
+          inv.going.step_is (inv.says told_at) (first.shown told_s))
+          (inl (record { shown_is = refl; last_is = refl; gated_is = subst (λ s. last_gated s (present (now (g.S.Shelf.world c.run_some.new.shelf)).folder) ≡ last_gated s (present (now (g.S.Shelf.world c.save_if_due.new.shelf)).folder)) (sym at) still }));
       changes =
           let claim : g.claim c.lifetimes = search rules in
           let laws = g.met.P.Resume c.lifetimes claim in

@@ -10,7 +10,7 @@ use Rattle.sweep_core.specs.Saving.{IsOfStep}
 use Rattle.sweep_checkpoint.specs.Saves.{gated_size}
 use Rattle.sweep_checkpoint.specs.Going.{IsOfGoing, AreSure, SameGoing}
 use Rattle.sweep_checkpoint.proofs.SavedHere.{AreLeft}
-use Rattle.sweep_checkpoint.proofs.WentOn.{HasCome}
+use Rattle.sweep_checkpoint.proofs.WentOn.{HasCome, SaysLast}
 use Rattle.sweep_checkpoint.proofs.running.run_saved.Given as goal
 
 -- what the turns and saves so far left
@@ -36,6 +36,7 @@ invariant-turns g l = record {
       ≤ length (file (g.S.Shelf.world l.fn.shelf) (checkpoint_file l.fn.going.step)).bytes
       → gated_size l.fn.going.step (now (g.S.Shelf.world l.shelf)).folder
       ≤ length (file (g.S.Shelf.world l.shelf) (checkpoint_file l.fn.going.step)).bytes;
+  says : IsTrue (g.S.Shelf.tells l.shelf) → SaysLast l.fn.going l.going (now (g.S.Shelf.world l.fn.shelf)).folder (now (g.S.Shelf.world l.shelf)).folder;
   changes : Told g.S.Shelf.tells l.fn.shelf l.shelf (Ran (OnlyChanged (IsOfGoing (g.P.Sweep.accounts.makes l.fn.sweep) l.fn.going.step)
       (now (g.S.Shelf.world l.fn.shelf))) (g.S.Shelf.world l.fn.shelf) (g.S.Shelf.world l.shelf));
   images : IsTrue (g.S.Shelf.tells l.shelf) → (job : g.P.Sweep.Job) → g.P.Sweep.remains l.fn.sweep (g.S.Shelf.world l.fn.shelf) job
