@@ -66,10 +66,17 @@ pub record StandsFor (c : Checkpoint) (r : FileNo → List ℕ) (bytes : List �
   pub holds : Holds c saved
   pub goes_on : GoesOn saved r bytes turns
 
+-- its words say that this is copied
+pub record Names (c : Checkpoint) (task : CopyTask) : Type 0 where
+  pub saved : Saved
+  pub holds : Holds c saved
+  pub task_is : saved.task ≡ task
+
 abbrev pub copy_saving : Saving CopyTask (List ℕ)
 copy_saving = record {
   operands = λ task f. f ≡ task.from;
   text = λ task. [];
+  names = Names;
   fits = λ c text. Fits c;
   rests = RestsOn;
   stands = λ c text r bytes turns. StandsFor c r bytes turns;
