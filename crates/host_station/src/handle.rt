@@ -18,6 +18,8 @@ pub(crate) struct Handle<F> {
     older: u64,
     /// Whether it has bytes that were changed since it was opened or synced.
     pub(crate) is_changed: bool,
+    /// Whether it was synced and stands as its last sync left it, its length among that.
+    is_synced: bool,
     /// The call that used it last, or 0 where it was cut to nothing since.
     pub(crate) used: u64,
 }
@@ -31,6 +33,7 @@ impl<F: FileExt + OpenFile + Drop> Handle<F> {
             len,
             older: len,
             is_changed: false,
+            is_synced: false,
             used: 0,
         }
     }
@@ -54,7 +57,7 @@ impl<F: FileExt + OpenFile + Drop> Handle<F> {
         if at != self.len {
             return Err(io::Error::from(ErrorKind::InvalidInput));
         }
-        self.is_changed = true;
+        self.change();
         self.file.write_all_at(bytes, at)?;
         self.len = at.saturating_add(bytes.len() as u64);
         Ok(())
@@ -63,7 +66,7 @@ impl<F: FileExt + OpenFile + Drop> Handle<F> {
     /// Cuts the file to a length, where it is longer. Refuses where the system does, and has the old length then.
     pub(crate) fn cut(&mut self, to: u64) -> io::Result<()> {
         if to < self.len {
-            self.is_changed = true;
+            self.change();
             self.file.set_len(to)?;
             self.len = to;
             self.older = self.older.min(to);
@@ -75,14 +78,25 @@ impl<F: FileExt + OpenFile + Drop> Handle<F> {
         Ok(())
     }
 
-    /// Syncs the file. Refuses where a call fails; what was changed then still counts as changed.
+    /// Takes the file for one that is changed, before a call that may do so and fail.
+    fn change(&mut self) {
+        self.is_changed = true;
+        self.is_synced = false;
+    }
+
+    /// Syncs the file, unless it stands as its last sync left it. Refuses where a call fails; what was changed then
+    /// still counts as changed.
     pub(crate) fn sync(&mut self) -> io::Result<()> {
+        if self.is_synced {
+            return Ok(());
+        }
         if self.older > 0 {
             self.write_again()?;
         }
         self.file.sync_all()?;
         self.older = 0;
         self.is_changed = false;
+        self.is_synced = true;
         Ok(())
     }
 

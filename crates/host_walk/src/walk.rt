@@ -23,7 +23,7 @@ pub(crate) struct Walk<'w> {
     pub(crate) text: &'w str,
     /// How many files are used.
     pub(crate) files: u64,
-    /// Whether each sync of a file that has bytes is said before and after it.
+    /// Whether each sync of a file is said before and after it.
     pub(crate) marks: bool,
 }
 
@@ -107,7 +107,7 @@ impl<'w> Walk<'w> {
             35..=64 => Ok(pair::read_at(f, place, dice.below(3000) as usize, real, bench)),
             65..=72 => Ok(pair::len(f, real, bench)),
             73..=80 => Ok(pair::cut(f, place, real, bench)),
-            81..=90 if self.marks && size > 0 => self.sync_marked(f, real, bench),
+            81..=90 if self.marks => self.sync_marked(f, real, bench),
             81..=90 => Ok(pair::sync(f, real, bench)),
             91 => Ok(pair::enter(self.folder, real, bench)),
             92..=95 => {
