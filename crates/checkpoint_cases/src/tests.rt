@@ -207,3 +207,155 @@ fn gives_up_what_is_not_named(rt: HostRuntime) -> Result<(), Fail> {
     assert_eq!(rt; remaining(rt.alloc(), false)?, from_first);
     Ok(())
 }
+
+// The checkpoint in which the word of that number is another one.
+fn with_word(place: usize, word: u64) -> Checkpoint {
+    let mut point = sample();
+    match place {
+        0 => point.step = word as u32,
+        1 => point.sweep = word as u32,
+        2 => point.turns = word,
+        3 => point.next_part = word,
+        4 => point.budget = word as u32,
+        5 => point.tables = word as u32,
+        6..=255 => point.carry[(place - 6) % 250] = word,
+        256..=1983 => put_in_table((place - 256) % 1728, word, &mut point),
+        _ => {}
+    }
+    point
+}
+
+// Puts one of the words of the tables.
+fn put_in_table(place: usize, word: u64, point: &mut Checkpoint) {
+    let run = &mut point.runs[place / 192 % 9][place / 3 % 64];
+    match place % 3 {
+        0 => run.part = word,
+        1 => run.next = word,
+        _ => run.end = word,
+    }
+}
+
+// Whether the rules allow that word, where all others are those of the sample.
+fn is_allowed(place: usize, word: u64) -> bool {
+    let is_part = 3 <= word && word < 12;
+    match place {
+        0 => word == 7,
+        1 => word <= 1,
+        2 => word < 1 << 62,
+        3 => 6 < word && word <= 1 << 32,
+        4 => word == 0x4000,
+        5 => word <= 9,
+        256 | 847 => is_part,
+        257 => word <= 0x2a,
+        258 => 2 <= word && word <= 1 << 44,
+        848 => word <= 64,
+        849 => word <= 1 << 44,
+        // A part without records, or no run.
+        256..=1215 if place % 3 == 1 => word == 0 || is_part,
+        256..=1215 => word == 0,
+        _ => true,
+    }
+}
+
+// Two checkpoints in a file, of which the second has another word of that number, behind a gate of so many bytes.
+fn put_two(place: usize, word: u64, gate: &[u8], bench: &mut Bench) -> Result<(), Fail> {
+    let mut both = [0u8; 32_768];
+    both[..16_384].copy_from_slice(&written());
+    both[16_384..].copy_from_slice(&written());
+    let at = 16_384 + 8 * (place % 2048);
+    both[at..at + 8].copy_from_slice(&word.to_be_bytes());
+    if gate.len() > 2 {
+        return Err(Fail::from("the gate"));
+    }
+    bench.put_file(checkpoint_file(7), &both)?;
+    bench.put_file(checkpoint_gate(7), gate)?;
+    Ok(())
+}
+
+// Whether the second of two checkpoints is loaded as it stands where the rules allow its word of that number, and else
+// its place is named.
+fn loads_word(alloc: Global, place: usize, word: u64) -> Result<bool, Fail> {
+    let mut bench = Bench::empty(alloc);
+    put_two(place, word, &[0, 0], &mut bench)?;
+    let loaded = load(7, BUDGET, &mut bench);
+    if is_allowed(place, word) {
+        return Ok(loaded == Ok(Some(with_word(place, word))));
+    }
+    Ok(
+        loaded
+            == Err(StreamFault::Damaged {
+                file: FileNo { step: 7, part: 1 },
+                at: 16_384,
+            }),
+    )
+}
+
+#[test]
+fn loads_what_stands_there_or_names_its_place(rt: HostRuntime) -> Result<(), Fail> {
+    let mut all = true;
+    for place in 0..2048usize {
+        for word in [3, 1 << 63] {
+            all = all && loads_word(rt.alloc(), place, word)?;
+        }
+    }
+    assert!(rt; all);
+    Ok(())
+}
+
+/// The ends of what a rule allows, and what is behind them.
+const ENDS: [u64; 24] = [
+    0,
+    1,
+    2,
+    3,
+    6,
+    7,
+    8,
+    9,
+    10,
+    11,
+    12,
+    42,
+    43,
+    64,
+    65,
+    0x4000,
+    0x4001,
+    1 << 32,
+    (1 << 32) + 1,
+    1 << 44,
+    (1 << 44) + 1,
+    (1 << 62) - 1,
+    1 << 62,
+    u64::MAX,
+];
+
+#[test]
+fn keeps_to_the_ends_of_each_rule(rt: HostRuntime) -> Result<(), Fail> {
+    let mut all = true;
+    for place in [
+        0, 1, 2, 3, 4, 5, 6, 256, 257, 258, 259, 260, 261, 847, 848, 849, 1213, 1216,
+    ] {
+        for word in ENDS {
+            all = all && loads_word(rt.alloc(), place, word)?;
+        }
+    }
+    assert!(rt; all);
+    Ok(())
+}
+
+// Whether nothing is loaded behind an empty gate, whatever stands in the file, and the first of two checkpoints behind
+// a gate of one byte.
+fn counts_what_is_gated(alloc: Global) -> Result<bool, Fail> {
+    let mut bench = Bench::empty(alloc);
+    put_two(0, 7, &[], &mut bench)?;
+    let none = load(7, BUDGET, &mut bench) == Ok(None);
+    put_two(0, 8, &[0], &mut bench)?;
+    Ok(none && load(7, BUDGET, &mut bench) == Ok(Some(sample())))
+}
+
+#[test]
+fn loads_nothing_behind_an_empty_gate(rt: HostRuntime) -> Result<(), Fail> {
+    assert!(rt; counts_what_is_gated(rt.alloc())?);
+    Ok(())
+}
