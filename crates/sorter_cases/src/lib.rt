@@ -2,6 +2,10 @@
 #![tactic(auto)]
 
 #[cfg(test)]
+mod frozen;
+#[cfg(test)]
+mod frozen_queues;
+#[cfg(test)]
 mod lives;
 #[cfg(test)]
 mod parts;
@@ -9,3 +13,5 @@ mod parts;
 mod queues;
 #[cfg(test)]
 mod sorters;
+#[cfg(test)]
+mod tables;

@@ -150,7 +150,7 @@ fn live_again(
 }
 
 // The table of a sorter without items, which is frozen with no call of the folder.
-fn first_table(
+pub(crate) fn first_table(
     room: &mut [Rec],
     parts: &mut Parts,
     bench: &mut Bench,

@@ -26,7 +26,7 @@ fn is_no_less(item: &Rec, last: Option<Rec>) -> bool
 }
 
 // Pushes an item that may be pushed, and says whether it may.
-fn push_item<S: Shelf>(
+pub(crate) fn push_item<S: Shelf>(
     item: Rec,
     queue: &mut LevelQueue<Rec>,
     parts: &mut Parts,
@@ -36,6 +36,7 @@ fn push_item<S: Shelf>(
     requires serves { Serves parts.old queue.old }
     ensures values { HoldsValues IsRec (λ r. r.w) queue.new }
     ensures serves { Serves parts.new queue.new }
+    ensures step { parts.new.step ≡ parts.old.step }
 {
     let last = queue.last();
     if !is_no_less(&item, last) {
