@@ -165,7 +165,7 @@ module _ {S : Type 0} (tells : S → Bool) (world : S → World) (counts : S →
   pub trailers_differ : (at : S) (s : SameSweep) → s.state ≡ Level → IsReady s → (IsTrue (tells at) → IsInStep s (world at)) → ¬ (trailer_of s.left ≡ trailer_of s.right)
       → Turns comparisons tells world counts at at s (record { left = s.left; right = s.right; state = Answered false; parts = s.parts }) (Ok Ended)
   trailers_differ at s level ready step differ = record {
-    ready = record { left_begun = ready.left_begun; right_begun = ready.right_begun };
+    ready = record { left_begun = ready.left_begun; right_begun = ready.right_begun; variables = ready.variables };
     in_step = λ told. let now = step told in record { left_reads = now.left_reads; right_reads = now.right_reads };
     trusts = λ told trusts. tt;
     falls = refl;
@@ -200,7 +200,7 @@ module _ {S : Type 0} (tells : S → Bool) (world : S → World) (counts : S →
           let fewer : left_of s.left ≡ left_of new + 1 = gives.rises.1 in
           let fuel : fuel_at s.state (left_of s.left + left_of s.right) ≡ left_of s.left + left_of s.right + 1 = ap (λ st. fuel_at st (left_of s.left + left_of s.right)) level in
           record {
-            ready = record { left_begun = gives.begun; right_begun = ready.right_begun };
+            ready = record { left_begun = gives.begun; right_begun = ready.right_begun; variables = ap (λ (t : Trailer). t.n) gives.trailer_is ∙ ready.variables };
             in_step = λ told. record { left_reads = gives.reads told; right_reads = other_reads s.right (λ is. (step is).right_reads) gives.content told };
             trusts = λ told trusts. tt;
             falls = (omega arith, omega (arith, fewer, fuel));
@@ -227,7 +227,7 @@ module _ {S : Type 0} (tells : S → Bool) (world : S → World) (counts : S →
       pub left_ends : s.state ≡ Level → trailer_of s.left ≡ trailer_of s.right → GivesNode tells world counts before after s.left new (Ok None)
           → Turns comparisons tells world counts before after s (record { left = new; right = s.right; state = Answered true; parts = s.parts }) (Ok Ended)
       left_ends level trailers gives = record {
-        ready = record { left_begun = gives.begun; right_begun = ready.right_begun };
+        ready = record { left_begun = gives.begun; right_begun = ready.right_begun; variables = ap (λ (t : Trailer). t.n) gives.trailer_is ∙ ready.variables };
         in_step = λ told. record { left_reads = gives.reads told; right_reads = other_reads s.right (λ is. (step is).right_reads) gives.content told };
         trusts = λ told trusts. tt;
         falls = refl;
@@ -274,7 +274,7 @@ module _ {S : Type 0} (tells : S → Bool) (world : S → World) (counts : S →
           let fewer : left_of s.right ≡ left_of new + 1 = gives.rises.1 in
           let fuel : fuel_at s.state (left_of s.left + left_of s.right) ≡ left_of s.left + left_of s.right + 1 = ap (λ st. fuel_at st (left_of s.left + left_of s.right)) ahead in
           record {
-            ready = record { left_begun = ready.left_begun; right_begun = gives.begun };
+            ready = record { left_begun = ready.left_begun; right_begun = gives.begun; variables = ready.variables ∙ sym (ap (λ (t : Trailer). t.n) gives.trailer_is) };
             in_step = λ told. record { left_reads = other_reads s.left (λ is. (step is).left_reads) gives.content told; right_reads = gives.reads told };
             trusts = λ told trusts. tt;
             falls = (omega arith, omega (arith, fewer, fuel));
@@ -309,7 +309,7 @@ module _ {S : Type 0} (tells : S → Bool) (world : S → World) (counts : S →
       pub right_differs : (x : Node) (found : Option Node) → s.state ≡ Ahead x → ¬ (found ≡ Some x) → GivesNode tells world counts before after s.right new (Ok found)
           → Turns comparisons tells world counts before after s (record { left = s.left; right = new; state = Answered false; parts = s.parts }) (Ok Ended)
       right_differs x found ahead differ gives = record {
-        ready = record { left_begun = ready.left_begun; right_begun = gives.begun };
+        ready = record { left_begun = ready.left_begun; right_begun = gives.begun; variables = ready.variables ∙ sym (ap (λ (t : Trailer). t.n) gives.trailer_is) };
         in_step = λ told. record { left_reads = other_reads s.left (λ is. (step is).left_reads) gives.content told; right_reads = gives.reads told };
         trusts = λ told trusts. tt;
         falls = refl;

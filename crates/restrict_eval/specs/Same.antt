@@ -66,6 +66,7 @@ task_of s = record {
 pub record IsReady (s : SameSweep) : Type 0 where
   pub left_begun : IsBegun s.left
   pub right_begun : IsBegun s.right
+  pub variables : (trailer_of s.left).n ≡ (trailer_of s.right).n
 
 -- what it has read is as its files say
 pub record IsInStep (s : SameSweep) (world : World) : Type 0 where

@@ -106,10 +106,22 @@ pub record StandsFor (c : Checkpoint) (r : FileNo → List ℕ) (d : Tables) (tu
   pub holds : Holds c saved
   pub goes_on : GoesOn saved r d turns
 
+-- its words and its parts say that these files are compared
+pub record Names (c : Checkpoint) (task : Compared) : Type 0 where
+  pub saved : SavedSame
+  pub holds : Holds c saved
+  pub first_is : saved.left.file ≡ task.first
+  pub second_is : saved.right.file ≡ task.second
+  pub first_variables_are : saved.n ≡ task.first_variables
+  pub second_variables_are : saved.n ≡ task.second_variables
+  pub step_is : c.step ≡ task.parts.step
+  pub next_is : c.next_part ≡ task.parts.next
+
 abbrev pub same_saving : Saving Compared Tables
 same_saving = record {
   operands = λ task f. (f ≡ task.first) ⊎ (f ≡ task.second);
   text = λ task. [];
+  names = Names;
   fits = λ c text. Fits c;
   rests = RestsOn;
   stands = λ c text r d turns. StandsFor c r d turns;

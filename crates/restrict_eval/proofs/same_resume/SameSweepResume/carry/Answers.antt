@@ -1,8 +1,9 @@
-use Rattle.std.proofs.Common.{◌≡◌, ◌≤◌, ◌∙◌, refl, sym, subst, inl, inr, arith}
+use Rattle.std.proofs.Common.{◌≡◌, ◌≤◌, ◌∙◌, refl, sym, ap, subst, inl, inr, arith}
 use Rattle.file_numbers.specs.Files.{inner_part}
 use Rattle.saved_words.specs.Fronts.{IsFront}
 use Rattle.sweep_core.specs.Saving.{reads_of}
 use Rattle.node_file.specs.Readers.{file_of}
+use Rattle.restrict_eval.specs.declared.saved.SavedSame.{SavedSame}
 use Rattle.restrict_eval.specs.Same.{turns_left}
 use Rattle.restrict_eval.specs.SavedSame.{same_count, same_words, IsSaved}
 use Rattle.restrict_eval.specs.SameResumes.{KeepsRules, GoesOn}
@@ -27,6 +28,21 @@ returns-clause-fits g c =
         first_few = few_nodes s.left;
         second_few = few_nodes s.right;
       });
+    }
+
+pub returns-clause-names : goal.returns-clause-names
+returns-clause-names g c =
+    let filled = c.fill_without_runs.ensures in
+    let is = c.saved.ensures in
+    record {
+      saved = c.saved.result;
+      holds = subst (IsFront same_count same_words IsSaved c.saved.result) (sym filled.carry) c.words_of.ensures.front;
+      first_is = ap (λ (x : SavedSame). x.left.file) is;
+      second_is = ap (λ (x : SavedSame). x.right.file) is;
+      first_variables_are = ap (λ (x : SavedSame). x.n) is;
+      second_variables_are = ap (λ (x : SavedSame). x.n) is ∙ c.requires.ready.variables;
+      step_is = filled.head.step_is ∙ c.requires.step;
+      next_is = filled.filled.next_is;
     }
 
 pub returns-clause-stands : goal.returns-clause-stands
