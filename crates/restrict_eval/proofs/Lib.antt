@@ -4,6 +4,7 @@ pub mod Canonical
 pub mod SameKeeps
 pub mod Staying
 pub mod SameSaving
+pub mod EvalSaving
 pub mod PathLaws
 pub mod MissingLaws
 pub mod EvalKeeps

@@ -61,7 +61,7 @@ split_behind r bytes nodes given x but =
     }
 
 -- a reader of a canonical file has no more nodes left than the table has
-few_left : (n : ℕ) (t : List Bool) (r : NodeReader) (world : World) → IsCanonical n t r world
+pub few_left : (n : ℕ) (t : List Bool) (r : NodeReader) (world : World) → IsCanonical n t r world
     → left_of r ≤ length (canon_nodes n t)
 few_left n t r world is =
     let within = r.within in

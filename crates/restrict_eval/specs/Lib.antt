@@ -7,3 +7,5 @@ pub mod Resuming
 pub mod SameResumes
 pub mod Missing
 pub mod Eval
+pub mod SavedEval
+pub mod EvalResumes

@@ -65,13 +65,13 @@ same_words s = pair_words first_words second_words (parts_of s)
 abbrev pub IsSaved : SavedSame → Type 0
 IsSaved s = IsPair IsFirst IsSecond (parts_of s)
 
-place_long : (p : Place) → IsPlace p → length (place_words p) ≡ 3
+pub place_long : (p : Place) → IsPlace p → length (place_words p) ≡ 3
 place_long = pair_long 2 1 file_words one_word IsFileNo IsWord file_long word_long
 
 first_long : (p : First) → IsFirst p → length (first_words p) ≡ 4
 first_long = pair_long 1 3 one_word place_words IsHalf IsPlace half_long place_long
 
-answer_long : (o : Option Bool) → IsOption IsBit o → length (answer_words o) ≡ 2
+pub answer_long : (o : Option Bool) → IsOption IsBit o → length (answer_words o) ≡ 2
 answer_long = option_long 1 bit_word IsBit bit_long
 
 found_long : (p : Found) → IsFound p → length (found_words p) ≡ 3
@@ -84,10 +84,10 @@ pub same_long : (s : SavedSame) → IsSaved s → length (same_words s) ≡ same
 same_long s is = pair_long 4 6 first_words second_words IsFirst IsSecond first_long second_long (parts_of s) is
 
 -- each word has 64 bits
-abbrev AreWords : List ℕ → Type 0
+abbrev pub AreWords : List ℕ → Type 0
 AreWords words = All (λ word. word < 2 ^ 64) words
 
-place_fits : (p : Place) → IsPlace p → AreWords (place_words p)
+pub place_fits : (p : Place) → IsPlace p → AreWords (place_words p)
 place_fits = pair_fits 2 1 file_words one_word IsFileNo IsWord file_long word_long file_fits word_fits
 
 first_fits : (p : First) → IsFirst p → AreWords (first_words p)
@@ -104,7 +104,7 @@ pub same_fits : (s : SavedSame) → IsSaved s → All (λ word. word < 2 ^ 64) (
 same_fits s is = pair_fits 4 6 first_words second_words IsFirst IsSecond first_long second_long first_fits second_fits
     (parts_of s) is
 
-place_differs : (p q : Place) → IsPlace p → IsPlace q → place_words p ≡ place_words q → p ≡ q
+pub place_differs : (p q : Place) → IsPlace p → IsPlace q → place_words p ≡ place_words q → p ≡ q
 place_differs = pair_differs 2 1 file_words one_word IsFileNo IsWord file_long word_long file_differs word_differs
 
 first_differs : (p q : First) → IsFirst p → IsFirst q → first_words p ≡ first_words q → p ≡ q

@@ -237,7 +237,7 @@ fn level_at(node: &Node) -> usize
 }
 
 impl<'r> Sweep<'r> for EvalSweep<'r> {
-    ghost use Rattle.sweep_core.specs.Saving.{saves_nothing};
+    ghost use Rattle.restrict_eval.specs.EvalResumes.{eval_saving};
     ghost use Rattle.restrict_eval.specs.Eval.{accounts, turns_left, Evaluated, task_of, IsReady, IsInStep, HasCome, OneTable, RemainsOf, IsDamage};
 
     ghost Job = { OneTable };
@@ -256,7 +256,7 @@ impl<'r> Sweep<'r> for EvalSweep<'r> {
 
     ghost task = { task_of };
 
-    ghost saving = { saves_nothing };
+    ghost saving = { eval_saving };
 
     ghost ready = { IsReady };
 

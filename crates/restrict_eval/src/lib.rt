@@ -4,12 +4,14 @@
 
 mod comparing;
 mod eval;
+mod eval_resume;
 mod following;
 mod restrict;
 mod resuming;
 mod same;
 mod same_resume;
 mod saved;
+mod saved_eval;
 
 pub use eval::EvalSweep;
 pub use restrict::RestrictSweep;

@@ -1,0 +1,138 @@
+//! An evaluation that is saved between two turns, and goes on from there.
+ghost use Rattle.std.specs.Prelude.{◌≡◌, ◌↔◌, IsTrue, OnOk, IfErr};
+ghost use Rattle.shelf_model.specs.Calls.{Told};
+ghost use Rattle.shelf_model.specs.Moments.{Ran, Stays};
+ghost use Rattle.shelf_model.specs.World.{now};
+ghost use Rattle.run_tiers.specs.Faults.{OnlySortShelf};
+ghost use Rattle.sweep_core.specs.Saving.{reads_of};
+ghost use Rattle.restrict_eval.specs.Eval.{IsPlaceAt};
+ghost use Rattle.restrict_eval.specs.EvalResumes.{Fits, KeepsRules, saved_of, IsPassedFault};
+
+use crate::EvalSweep;
+use crate::following::Following;
+use crate::resuming::begin_at;
+use crate::saved::Unread;
+use crate::saved_eval::SavedEval;
+use file_numbers::{INNER_PART, checkpoint_file};
+use rec_words::{NODE_SIZE, Rec};
+use run_merge::Parts;
+use saved_words::{value_of, words_of};
+use shelf_model::{LONGEST, Shelf, SortFault};
+use sweep_core::{Checkpoint, Resume, checkpoint_place, fill_without_runs};
+
+impl<'r> EvalSweep<'r> {
+    /// Whether a checkpoint keeps the rules of an evaluation's that reads that text. It takes no memory.
+    pub fn fits(point: &Checkpoint, text: &[u8]) -> bool
+        ensures { IsTrue result ↔ Fits point.now text.now }
+    {
+        match value_of::<SavedEval>(&point.carry) {
+            Some(saved) => point.tables == 0 && saved.keeps_rules(point, text),
+            None => false,
+        }
+    }
+
+    // What a checkpoint keeps of it.
+    fn saved(&self) -> SavedEval
+        ensures { result ≡ saved_of self.now }
+    {
+        let (pointer, passed, answer) = match self.state {
+            Following::To(next) => (Some(next.pointer), None, None),
+            Following::Past(place) => (None, Some(place), None),
+            Following::Answered(answer) => (None, None, Some(answer)),
+        };
+        SavedEval {
+            n: self.nodes.trailer().n,
+            at: self.at,
+            unread: Unread {
+                file: self.nodes.file(),
+                place: self.nodes.place(),
+            },
+            pointer,
+            passed,
+            answer,
+        }
+    }
+}
+
+impl SavedEval {
+    // Whether it may stand in a checkpoint.
+    fn keeps_rules(&self, point: &Checkpoint, text: &[u8]) -> bool
+        ensures { IsTrue result ↔ KeepsRules point.now text.now self.now }
+    {
+        let other = self.unread.file.step != point.step;
+        let few = self.unread.place <= LONGEST / NODE_SIZE;
+        let end = u64::from(self.at).checked_add(u64::from(self.n));
+        let bits = end.is_some_and(|end| end <= text.len() as u64);
+        INNER_PART <= point.next_part && other && few && bits && self.following().is_some()
+    }
+}
+
+// Has the place that a path passed among so many nodes.
+fn passes_some<S: Shelf>(
+    state: &Following,
+    count: u64,
+    step: u32,
+    shelf: &mut S,
+) -> Result<(), SortFault>
+    ensures place { OnOk result (IsPlaceAt state.now count) }
+    ensures damage { IfErr result (λ e. IsTrue (S.tells shelf.new) →
+        IsPassedFault step state.now count (reads_of (S.world shelf.old)) e) }
+    ensures content { Told S.tells shelf.old shelf.new
+        (Ran (Stays (now (S.world shelf.old))) (S.world shelf.old) (S.world shelf.new)) }
+    ensures faults { OnlySortShelf (S.faults shelf.old) (S.faults shelf.new) result }
+{
+    let Following::Past(place) = *state else {
+        return Ok(());
+    };
+    if place < count {
+        return Ok(());
+    }
+    let at = checkpoint_place(step, shelf)?;
+    Err(SortFault::Damaged {
+        file: checkpoint_file(step),
+        at,
+    })
+}
+
+impl<'r> Resume<'r> for EvalSweep<'r> {
+    ghost use Rattle.restrict_eval.specs.EvalResumes.{Blames, stays, apart};
+
+    ghost blames = { Blames };
+
+    fn carry<S: Shelf>(&mut self, shelf: &mut S, into: &mut Checkpoint) -> Result<(), SortFault> {
+        fill_without_runs(into, self.parts.next, words_of(self.saved()));
+        Ok(())
+    }
+
+    fn rebuild<S: Shelf>(
+        from: &Checkpoint,
+        text: &'r [u8],
+        room: &'r mut [Rec],
+        shelf: &mut S,
+    ) -> Result<EvalSweep<'r>, SortFault> {
+        let Some(saved) = value_of::<SavedEval>(&from.carry) else {
+            unreachable!();
+        };
+        let Some(state) = saved.following() else {
+            unreachable!();
+        };
+        let nodes = begin_at(saved.unread, saved.n, from.step, room, shelf)?;
+        let count = nodes.trailer().count;
+        passes_some(&state, count, from.step, shelf)?;
+        Ok(EvalSweep {
+            nodes,
+            file: saved.unread.file,
+            text,
+            at: saved.at,
+            state,
+            parts: Parts {
+                step: from.step,
+                next: from.next_part,
+            },
+        })
+    }
+
+    ghost stays = { stays };
+
+    ghost apart = { apart };
+}
