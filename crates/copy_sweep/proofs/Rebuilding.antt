@@ -38,11 +38,13 @@ behind_since made kept old mid m same behind = record {
 -- the bytes that a checkpoint of a copy rests on stay where its file is cut behind them
 module _ (c : Checkpoint) (x : Saved) (holds : Holds c x) (apart : x.task.from ≢ x.task.to) (old m : Moment)
     (behind : OnlyBehind x.task.to x.kept old m) where
-  rest_reads : (f : FileNo) (n : ℕ) → IsRest x f n → take n (file_in m.folder f).bytes ≡ take n (file_in old.folder f).bytes
+  rest_reads : (f : FileNo) (n : ℕ) → IsRest x f n
+      → take n (file_in m.folder f).bytes ≡ take n (file_in old.folder f).bytes
   rest_reads f n (inl read) =
       ap (λ (y : File). take n y.bytes) (behind.others f (λ made. apart (sym read ∙ made)))
   rest_reads f n (inr (made, below)) =
-      subst (λ q. take n (file_in m.folder q).bytes ≡ take n (file_in old.folder q).bytes) (sym made) (behind.reads n below)
+      subst (λ q. take n (file_in m.folder q).bytes ≡ take n (file_in old.folder q).bytes) (sym made)
+      (behind.reads n below)
 
   rest_kept : (f : FileNo) (front : List ℕ) → IsRest x f (length front) → IsKept front (file_in old.folder f)
       → IsKept front (file_in m.folder f)
@@ -75,7 +77,8 @@ module _ {S : Type 0} (tells : S → Bool) (world : S → World) where
       let Q = OnlyCutBehind (RestsOn c) (now (world old)) in
       ran_joins (world old) (world mid) (world new) Q
       (ran_weakens (world old) (world mid) (Stays (now (world old))) Q
-      (λ m here. behind_rests c x holds apart (now (world old)) m (stays_behind x.task.to x.kept (now (world old)) m here))
+      (λ m here. behind_rests c x holds apart (now (world old)) m
+      (stays_behind x.task.to x.kept (now (world old)) m here))
       stays)
       (ran_weakens (world mid) (world new) (OnlyBehind x.task.to x.kept (now (world mid))) Q
       (λ m here. behind_rests c x holds apart (now (world old)) m

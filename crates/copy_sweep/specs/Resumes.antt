@@ -53,8 +53,8 @@ pub record RestsOn (c : Checkpoint) (f : FileNo) (n : ℕ) : Type 0 where
   pub holds : Holds c saved
   pub rests : IsRest saved f n
 
--- these bytes are copied: what stands are the pieces that the turns put, or all bytes where there are fewer; and no more
--- turns that put pieces remain
+-- these bytes are copied: what stands are the pieces that the turns put, or all bytes where there are fewer; and no
+-- more turns that put pieces remain
 pub record GoesOn (x : Saved) (r : FileNo → List ℕ) (bytes : List ℕ) (turns : ℕ) : Type 0 where
   pub bytes_are : r x.task.from ≡ bytes
   pub kept_is : x.kept ≡ min (pieces_of x) (length (r x.task.from))
@@ -110,8 +110,8 @@ pub record Blames (c : Checkpoint) (world : World) (e : SortFault) : Type 0 wher
   pub holds : Holds c saved
   pub cause : IsMisfitFault c.step saved (reads_of world) e ⊎ IsShortFault saved.task.to saved.kept (reads_of world) e
 
--- at a moment while a file is cut behind a length, every other file is as it was, and what stands below that is read and
--- kept as it was
+-- at a moment while a file is cut behind a length, every other file is as it was, and what stands below that is read
+-- and kept as it was
 pub record OnlyBehind (made : FileNo) (kept : ℕ) (old m : Moment) : Type 0 where
   pub others : OnlyChanged (λ q. q ≡ made) old m
   pub reads : (n : ℕ) → n ≤ kept → take n (file_in m.folder made).bytes ≡ take n (file_in old.folder made).bytes
@@ -154,4 +154,5 @@ rests_apart c x f n rules (inr (made, few)) =
 
 pub apart : (c : Checkpoint) (text : List ℕ) (f : FileNo) (n : ℕ) → Fits c → RestsOn c f n → IsRestingPlace c f
 apart c text f n fits on =
-    rests_apart c on.saved f n (subst (KeepsRules c) (one_copy c fits.saved on.saved fits.holds on.holds) fits.rules) on.rests
+    rests_apart c on.saved f n (subst (KeepsRules c) (one_copy c fits.saved on.saved fits.holds on.holds) fits.rules)
+    on.rests

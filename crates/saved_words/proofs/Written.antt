@@ -1,5 +1,6 @@
 -- The words where others were put, and there is room for them.
-use Rattle.std.specs.Prelude.{◌≡◌, ◌≢◌, ℕ, nat_lt, ◌+◌, ◌-◌, ◌≤◌, ◌<◌, Option, Some, None, IfSome, IfNone, List, [], ◌∷◌}
+use Rattle.std.specs.Prelude.{◌≡◌, ◌≢◌, ℕ, nat_lt, ◌+◌, ◌-◌, ◌≤◌, ◌<◌, Option, Some, None, IfSome, IfNone, List, []}
+use Rattle.std.specs.Prelude.{◌∷◌}
 use Rattle.std.specs.Prelude.{◌++◌, length, take, drop, slice_set, replicate}
 use Rattle.std.proofs.Common.{sym, ap, ◌∙◌, arith}
 use Rattle.std.proofs.lemmas.List.{take-append-drop, take_more_set, drop-set-lt, append_assoc, length-set}
@@ -57,8 +58,8 @@ zeros_behind xs o n blank first room long =
     let all : length o.w ≡ most_words = ap length blank ∙ length-replicate {A = ℕ} most_words 0 in
     let here : o.at + length xs ≤ most_words = omega (arith, room, long, first) in
     let count : o.at + length xs ≡ n = omega (arith, long, first) in
-    let words : (put_in xs o).w ≡ xs ++ drop n (replicate most_words 0) = ap (λ (q : Words). q.w) (put_in_is xs o all here)
-    ∙ (λ i. take (first i) (blank i) ++ (xs ++ drop (count i) (blank i))) in
+    let words : (put_in xs o).w ≡ xs ++ drop n (replicate most_words 0) =
+    ap (λ (q : Words). q.w) (put_in_is xs o all here) ∙ (λ i. take (first i) (blank i) ++ (xs ++ drop (count i) (blank i))) in
     ap (drop n) words ∙ drop_at xs _ n long ∙ drop-replicate n most_words 0
 
 -- what is got where the words of a value stand is that value
