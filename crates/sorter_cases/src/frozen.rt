@@ -5,8 +5,8 @@ ghost use Rattle.run_tiers.specs.Tables.{IsTable, ServeTable};
 
 use crate::lives::first_table;
 use crate::sorters::{
-    ALL_KEYS, Keys, PATTERNS, Pattern, Turn, first_parts, gives_up_to, next_random, push_down,
-    turns_agree, turns_of,
+    ALL_KEYS, Keys, Pattern, Turn, first_parts, gives_up_to, next_random, push_down, turns_agree,
+    turns_of,
 };
 use rec_words::Rec;
 use run_merge::{Parts, RunTable, Sorter};
@@ -157,16 +157,35 @@ fn failing_lives_agree(alloc: Global, pattern: Pattern, keys: Keys) -> Result<bo
     Ok(false)
 }
 
-#[test]
-fn patterns_that_are_frozen_at_any_moment_give_what_a_plain_list_gives(
-    rt: HostRuntime,
-) -> Result<(), Fail> {
-    for pattern in PATTERNS {
-        for keys in ALL_KEYS {
-            let agree = failing_lives_agree(rt.alloc(), pattern, keys)?;
-            assert!(rt; agree, "{pattern:?} {keys:?}");
+// The first order of keys with which they don't.
+fn wrong_order(alloc: Global, pattern: Pattern) -> Result<Option<Keys>, Fail> {
+    for keys in ALL_KEYS {
+        if !failing_lives_agree(alloc, pattern, keys)? {
+            return Ok(Some(keys));
         }
     }
+    Ok(None)
+}
+
+// Each pattern is a test of its own, for they take long.
+#[test]
+fn a_frozen_sorter_that_is_filled_and_drained_agrees(rt: HostRuntime) -> Result<(), Fail> {
+    let wrong = wrong_order(rt.alloc(), Pattern::FillThenDrain)?;
+    assert!(rt; wrong.is_none(), "{wrong:?}");
+    Ok(())
+}
+
+#[test]
+fn a_frozen_sorter_in_which_many_wait_agrees(rt: HostRuntime) -> Result<(), Fail> {
+    let wrong = wrong_order(rt.alloc(), Pattern::Waiting)?;
+    assert!(rt; wrong.is_none(), "{wrong:?}");
+    Ok(())
+}
+
+#[test]
+fn a_frozen_sorter_that_is_pushed_and_taken_in_turn_agrees(rt: HostRuntime) -> Result<(), Fail> {
+    let wrong = wrong_order(rt.alloc(), Pattern::InTurn)?;
+    assert!(rt; wrong.is_none(), "{wrong:?}");
     Ok(())
 }
 
