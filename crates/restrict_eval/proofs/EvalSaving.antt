@@ -27,14 +27,17 @@ use Rattle.restrict_eval.specs.declared.following.Following.TheVariants.{To, Pas
 use Rattle.restrict_eval.specs.declared.eval.EvalSweep.{EvalSweep}
 use Rattle.restrict_eval.specs.declared.saved_eval.SavedEval.{SavedEval}
 use Rattle.restrict_eval.specs.Canonical.{IsCanonical, AreLeftBut}
-use Rattle.restrict_eval.specs.Eval.{OneTable, IsPlaceAt, IsOn, IsFollowed, bits_of, turns_left, RemainsOf, IsInStep, HasCome, answer_at}
+use Rattle.restrict_eval.specs.Eval.{OneTable, IsPlaceAt, IsOn, IsFollowed, bits_of, turns_left, RemainsOf, IsInStep}
+use Rattle.restrict_eval.specs.Eval.{HasCome, answer_at}
 use Rattle.restrict_eval.specs.SavedEval.{following_at, following_of}
-use Rattle.restrict_eval.specs.EvalResumes.{GoesOn, IsPassedFault, IsFollowedAt, turns_of, saved_of, pointer_at, passed_at}
+use Rattle.restrict_eval.specs.EvalResumes.{GoesOn, IsPassedFault, IsFollowedAt, turns_of, saved_of, pointer_at}
+use Rattle.restrict_eval.specs.EvalResumes.{passed_at}
 use Rattle.restrict_eval.proofs.Canonical.{canonical_stays}
 use Rattle.restrict_eval.proofs.SameSaving.{few_left}
 
 -- what is saved of a state is that state
-pub following_back : (state : Following) → following_at (answer_at state) (passed_at state) (pointer_at state) ≡ Some state
+pub following_back : (state : Following)
+    → following_at (answer_at state) (passed_at state) (pointer_at state) ≡ Some state
 following_back (To next) = refl
 following_back (Past q) = refl
 following_back (Answered b) = refl
@@ -157,7 +160,8 @@ remains_again s x text old new d turns goes come text_is at_is place n_is bytes 
     let at : IsFollowedAt (Some s.state) (left_of s.nodes) (bytes_of s.nodes new) nodes (trailer_of s.nodes).root
     (bits_of s) (value_at d.table (place_of_bits (bits_of s))) =
     subst (λ v. v) (λ i. IsFollowedAt (come i) (to_place i) (to_bytes i) nodes (to_root i)
-    (bits_at (to_n i) (to_text i) (to_at i)) (value_at d.table (place_of_bits (bits_at (to_n i) (to_text i) (to_at i)))))
+    (bits_at (to_n i) (to_text i) (to_at i))
+    (value_at d.table (place_of_bits (bits_at (to_n i) (to_text i) (to_at i)))))
     goes_at.followed in
     subst (RemainsOf s new) same (record {
       file_is = is;

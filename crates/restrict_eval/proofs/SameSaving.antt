@@ -1,5 +1,6 @@
 -- A comparison that is saved, and one that is rebuilt.
-use Rattle.std.proofs.Common.{◌≡◌, ◌∙◌, ℕ, ◌+◌, ◌*◌, ◌≤◌, Bool, List, [], ◌∷◌, ◌++◌, length, take, drop, refl, sym, ap, subst, arith, append_assoc, length-append}
+use Rattle.std.proofs.Common.{◌≡◌, ◌∙◌, ℕ, ◌+◌, ◌*◌, ◌≤◌, Bool, List, [], ◌∷◌, ◌++◌, length, take, drop, refl, sym}
+use Rattle.std.proofs.Common.{ap, subst, arith, append_assoc, length-append}
 use Rattle.std.specs.Prelude.{Option}
 use Rattle.std.proofs.lemmas.List.{drop_at, take-append-drop}
 use Rattle.rec_words.specs.declared.node.Node.{Node}
@@ -47,7 +48,8 @@ split_at r bytes nodes given but =
       behind = ap (drop (left_of r + 0)) but.nodes_are ∙ drop_at but.rest given (left_of r + 0) (omega (arith, many));
     }
 
-split_behind : (r : NodeReader) (bytes : List ℕ) (nodes given : List Node) (x : Node) → AreLeftBut r bytes nodes (x ∷ given)
+split_behind : (r : NodeReader) (bytes : List ℕ) (nodes given : List Node) (x : Node)
+    → AreLeftBut r bytes nodes (x ∷ given)
     → IsSplit r (left_of r + 1) nodes given
 split_behind r bytes nodes given x but =
     let many : length but.rest ≡ left_of r = as_many_left r bytes but.rest but.left in
@@ -129,7 +131,8 @@ module _ (left right : NodeReader) (world : World) (d : Tables) (first : IsCanon
 -- what is saved goes on as the comparison does
 pub saved_goes_on : (s : SameSweep) (world : World) (d : Tables) → RemainsOf s world d
     → GoesOn (saved_of s) (reads_of world) d (turns_left s)
-saved_goes_on s world d remains = goes_on_at s.left s.right world d remains.first_is remains.second_is s.state remains.compared
+saved_goes_on s world d remains =
+    goes_on_at s.left s.right world d remains.first_is remains.second_is s.state remains.compared
 
 -- with the same bytes in its files it is as it was
 compared_stays : (left right : NodeReader) (old new : World) (d : Tables) → bytes_of left new ≡ bytes_of left old

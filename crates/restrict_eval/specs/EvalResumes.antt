@@ -88,7 +88,8 @@ pub record IsOnWayAt (place : ℕ) (bytes : List ℕ) (nodes : List Node) (root 
 
 abbrev pub IsFollowedAt : Option Following → ℕ → List ℕ → List Node → ℕ → List Bool → Bool → Type 0
 IsFollowedAt None place bytes nodes root bits value = ⊥
-IsFollowedAt (Some (To next)) place bytes nodes root bits value = IsOnWayAt place bytes nodes root bits value next.pointer
+IsFollowedAt (Some (To next)) place bytes nodes root bits value =
+    IsOnWayAt place bytes nodes root bits value next.pointer
 IsFollowedAt (Some (Past q)) place bytes nodes root bits value = ⊥
 IsFollowedAt (Some (Answered b)) place bytes nodes root bits value = b ≡ value
 

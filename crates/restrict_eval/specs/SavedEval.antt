@@ -10,7 +10,8 @@ use Rattle.saved_words.specs.Joined.{option_words, IsOption, option_long, option
 use Rattle.restrict_eval.specs.declared.following.Following.{Following}
 use Rattle.restrict_eval.specs.declared.following.Following.TheVariants.{To, Past, Answered}
 use Rattle.restrict_eval.specs.declared.saved_eval.SavedEval.{SavedEval}
-use Rattle.restrict_eval.specs.SavedSame.{Place, place_words, IsPlace, place_long, place_fits, place_differs, answer_words, answer_long, AreWords}
+use Rattle.restrict_eval.specs.SavedSame.{Place, place_words, IsPlace, place_long, place_fits, place_differs}
+use Rattle.restrict_eval.specs.SavedSame.{answer_words, answer_long, AreWords}
 
 -- two words for the bits, three for the file, and two for each of the three that may be missing
 abbrev pub eval_count : ℕ

@@ -115,7 +115,8 @@ found_differs = pair_differs 1 2 bit_word answer_words IsBit (IsOption IsBit) bi
     (option_differs 1 bit_word IsBit bit_long bit_differs)
 
 second_differs : (p q : Second) → IsSecond p → IsSecond q → second_words p ≡ second_words q → p ≡ q
-second_differs = pair_differs 3 3 place_words found_words IsPlace IsFound place_long found_long place_differs found_differs
+second_differs = pair_differs 3 3 place_words found_words IsPlace IsFound place_long found_long place_differs
+    found_differs
 
 -- the one of these parts
 abbrev saved_by : First → Second → SavedSame
@@ -129,6 +130,6 @@ saved_by (n, (f, p)) ((g, q), (ahead, answer)) = record {
 
 pub same_differs : (s t : SavedSame) → IsSaved s → IsSaved t → same_words s ≡ same_words t → s ≡ t
 same_differs s t a b same =
-    let one : parts_of s ≡ parts_of t = pair_differs 4 6 first_words second_words IsFirst IsSecond first_long second_long
-    first_differs second_differs (parts_of s) (parts_of t) a b same in
+    let one : parts_of s ≡ parts_of t = pair_differs 4 6 first_words second_words IsFirst IsSecond first_long
+    second_long first_differs second_differs (parts_of s) (parts_of t) a b same in
     λ i. saved_by (one i).0 (one i).1
