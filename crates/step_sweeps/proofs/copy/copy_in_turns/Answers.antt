@@ -25,7 +25,9 @@ returns-in_err-turns g c =
           (λ told. said.damage told (c.in_ok-sweep.ensures.trusts (said.leaves.content.before told)))
           (λ told tables given.
           let begun = c.in_ok-sweep.ensures.begun in
-          let left : left_of c.in_ok-sweep.sweep ≡ c.node_pieces.result = λ i. (begun.0 i).pieces - begun.2 i in
+          let pieces : c.in_ok-sweep.sweep.task.pieces ≡ c.node_pieces.result = ap (λ (t : CopyTask). t.pieces) begun.0 in
+          let turns_are : c.in_ok-sweep.sweep.turns ≡ 0 = begun.2 in
+          let left : left_of c.in_ok-sweep.sweep ≡ c.node_pieces.result = omega (arith, pieces, turns_are) in
           let no_more = c.node_pieces.ensures.no_more in
           let few = (c.requires.leads (c.start.ensures.content.before (said.leaves.content.before told)) tables given).few in
           let calls = few_calls g.S.Shelf.tells g.S.Shelf.world accounts c.args.shelf.now c.start.new.shelf
@@ -58,7 +60,9 @@ returns g c =
           ))
           (λ told.
           let begun = c.in_ok-sweep.ensures.begun in
-          let left : left_of c.in_ok-sweep.sweep ≡ c.node_pieces.result = λ i. (begun.0 i).pieces - begun.2 i in
+          let pieces : c.in_ok-sweep.sweep.task.pieces ≡ c.node_pieces.result = ap (λ (t : CopyTask). t.pieces) begun.0 in
+          let turns_are : c.in_ok-sweep.sweep.turns ≡ 0 = begun.2 in
+          let left : left_of c.in_ok-sweep.sweep ≡ c.node_pieces.result = omega (arith, pieces, turns_are) in
           let no_more = c.node_pieces.ensures.no_more in
           let few = said.few told _
           (record { bytes_are = refl; copied = c.in_ok-sweep.ensures.trusts (said.leaves.content.before told) }) in
