@@ -1,0 +1,2 @@
+mod StillGoing
+mod Reached

@@ -1,0 +1,3 @@
+pub mod Plans
+pub mod Kinds
+pub mod Resumable
