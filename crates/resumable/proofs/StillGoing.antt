@@ -14,8 +14,10 @@ use Rattle.copy_sweep.specs.Resumes.{copy_saving}
 use Rattle.copy_sweep.specs.Resumes as copies
 use Rattle.restrict_eval.specs.SameResumes.{same_saving}
 use Rattle.restrict_eval.specs.SameResumes as comparisons
+use Rattle.restrict_eval.specs.EvalResumes.{eval_saving}
+use Rattle.restrict_eval.specs.EvalResumes as evaluations
 use Rattle.resumable.specs.Plans.{step_at, file_at, work_at}
-use Rattle.resumable.specs.Kinds.{GoesOnFrom, comparison_of, two_tables, copy_of}
+use Rattle.resumable.specs.Kinds.{GoesOnFrom, comparison_of, two_tables, evaluation_of, one_table, copy_of}
 use Rattle.resumable.specs.Kinds.{CopyGoesOn, StepGoesOn, RestsOn}
 use Rattle.resumable.specs.Resumable.{StartsOrGoesOn, IsLastOf, ShowsTheSame, IsResumable}
 
@@ -79,7 +81,8 @@ module _ (n : ℕ) (text : List ℕ) (steps : List Planned) (budget j : ℕ) (ol
   step_still (Same left right) fronts from = still_goes_on same_saving j budget (work_at n steps j)
       (comparison_of n left right) (two_tables n steps left right) old new comparisons.stays last fronts from
   step_still (Leq left right) fronts from = absurd from
-  step_still (Eval operand at) fronts from = absurd from
+  step_still (Eval operand at) fronts from = still_goes_on eval_saving j budget (work_at n steps j)
+      (evaluation_of n text operand at) (one_table n steps operand) old new evaluations.stays last fronts from
   step_still (Size operand) fronts from = absurd from
 
   starts_still : ShowsTheSame steps budget j old new → j < length steps

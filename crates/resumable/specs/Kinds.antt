@@ -15,6 +15,8 @@ use Rattle.copy_sweep.specs.declared.copy.CopyTask.{CopyTask}
 use Rattle.copy_sweep.specs.Resumes.{copy_saving}
 use Rattle.restrict_eval.specs.Same.{Compared, Tables}
 use Rattle.restrict_eval.specs.SameResumes.{same_saving}
+use Rattle.restrict_eval.specs.Eval.{Evaluated, OneTable}
+use Rattle.restrict_eval.specs.EvalResumes.{eval_saving}
 use Rattle.resumable.specs.Plans.{table_at, file_at, work_at}
 
 -- the last gated checkpoint is one of the step's first sweep. It names this task, with part numbers of its own, and
@@ -41,6 +43,19 @@ comparison_of n left right parts = record {
 abbrev pub two_tables : ℕ → List Planned → ℕ → ℕ → Tables
 two_tables n steps left right = record { n = n; first = table_at n steps left; second = table_at n steps right }
 
+-- the evaluation of a step's node file at the bits that stand in the text from a byte on, and its table
+abbrev pub evaluation_of : ℕ → List ℕ → ℕ → ℕ → Parts → Evaluated
+evaluation_of n text operand at parts = record {
+  file = node_file operand;
+  variables = n;
+  text = text;
+  at = at;
+  parts = parts;
+}
+
+abbrev pub one_table : ℕ → List Planned → ℕ → OneTable
+one_table n steps operand = record { n = n; table = table_at n steps operand }
+
 -- the copy of all pieces of a step's node file into that of step j
 abbrev pub copy_of : ℕ → List Planned → ℕ → ℕ → Parts → CopyTask
 copy_of n steps j operand parts = record {
@@ -53,6 +68,11 @@ copy_of n steps j operand parts = record {
 abbrev pub ComparisonGoesOn : ℕ → List Planned → ℕ → ℕ → ℕ → ℕ → (FileNo → List ℕ) → Type 0
 ComparisonGoesOn n steps budget j left right r = GoesOnFrom same_saving j budget (work_at n steps j)
     (comparison_of n left right) (two_tables n steps left right) r
+
+-- it evaluates a step, and goes on to the value of its table at the bits
+abbrev pub EvaluationGoesOn : ℕ → List ℕ → List Planned → ℕ → ℕ → ℕ → ℕ → (FileNo → List ℕ) → Type 0
+EvaluationGoesOn n text steps budget j operand at r = GoesOnFrom eval_saving j budget (work_at n steps j)
+    (evaluation_of n text operand at) (one_table n steps operand) r
 
 -- its table is that of a step, whose canonical file is copied
 pub record CopyGoesOn (n : ℕ) (steps : List Planned) (budget j operand : ℕ) (r : FileNo → List ℕ) : Type 0 where
@@ -73,7 +93,7 @@ StepGoesOn n text steps budget j (Restrict operand level value) r = ⊥
 StepGoesOn n text steps budget j (Drop gone) r = ⊥
 StepGoesOn n text steps budget j (Same left right) r = ComparisonGoesOn n steps budget j left right r
 StepGoesOn n text steps budget j (Leq left right) r = ⊥
-StepGoesOn n text steps budget j (Eval operand at) r = ⊥
+StepGoesOn n text steps budget j (Eval operand at) r = EvaluationGoesOn n text steps budget j operand at r
 StepGoesOn n text steps budget j (Size operand) r = ⊥
 
 -- a checkpoint of the step rests on so many first bytes of the file
@@ -87,5 +107,5 @@ RestsOn (Restrict operand level value) c f many = ⊥
 RestsOn (Drop gone) c f many = ⊥
 RestsOn (Same left right) c f many = same_saving.rests c f many
 RestsOn (Leq left right) c f many = ⊥
-RestsOn (Eval operand at) c f many = ⊥
+RestsOn (Eval operand at) c f many = eval_saving.rests c f many
 RestsOn (Size operand) c f many = ⊥

@@ -1,10 +1,20 @@
-use Rattle.bool_tables.specs.declared.steps.Step.TheVariants.{Pair, Same}
+use Rattle.bool_tables.specs.declared.steps.Step.TheVariants.{Pair, Same, Eval}
 use Rattle.resumable.proofs.Reached.{step_resumes, one_of_both}
 use Rattle.resumable.proofs.laws.what_goes_on_is_resumable.Goals as goal
 
 pub returns-clause-comparison : goal.returns-clause-comparison
 returns-clause-comparison c n text steps budget j left right turns parts r is none goes first few =
     step_resumes n text steps budget j (Same left right) r is none (record {
+      parts = parts;
+      turns = turns;
+      goes_on = goes;
+      first_sweep = first;
+      few = few;
+    })
+
+pub returns-clause-evaluation : goal.returns-clause-evaluation
+returns-clause-evaluation c n text steps budget j operand at turns parts r is none goes first few =
+    step_resumes n text steps budget j (Eval operand at) r is none (record {
       parts = parts;
       turns = turns;
       goes_on = goes;
