@@ -47,6 +47,7 @@ module _ {Task Job : Type 0} (saving : Saving Task Job) where
           point = goes.point;
           last = last ∙ goes.last;
           rules = goes.rules;
+          sweep_is = goes.sweep_is;
           words = goes.words;
           names = goes.names;
           fits = goes.fits;
@@ -54,7 +55,6 @@ module _ {Task Job : Type 0} (saving : Saving Task Job) where
           stands = stays goes.point (saving.text (task from.parts)) old new job goes.left goes.fits same goes.stands;
           few = goes.few;
         };
-        first_sweep = from.first_sweep;
         few = from.few;
       }
 

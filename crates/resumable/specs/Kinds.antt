@@ -9,7 +9,7 @@ use Rattle.file_numbers.specs.Files.{node_file}
 use Rattle.run_tiers.specs.declared.parts.Parts.{Parts}
 use Rattle.sweep_core.specs.declared.checkpoint.Checkpoint.{Checkpoint}
 use Rattle.sweep_core.specs.Saving.{Saving}
-use Rattle.sweep_checkpoint.specs.Writes.{pieces}
+use Rattle.file_writes.specs.Writes.{pieces}
 use Rattle.sweep_checkpoint.specs.Going.{GoesOn}
 use Rattle.copy_sweep.specs.declared.copy.CopyTask.{CopyTask}
 use Rattle.copy_sweep.specs.Resumes.{copy_saving}
@@ -26,8 +26,7 @@ pub record GoesOnFrom {Task Job : Type 0} (saving : Saving Task Job) (step budge
     (job : Job) (r : FileNo → List ℕ) : Type 0 where
   pub parts : Parts
   pub turns : ℕ
-  pub goes_on : GoesOn saving step budget (task parts) job turns r
-  pub first_sweep : goes_on.point.sweep ≡ 0
+  pub goes_on : GoesOn saving step budget 0 (task parts) job turns r
   pub few : turns < work
 
 -- the comparison of the node files of two steps, and their tables

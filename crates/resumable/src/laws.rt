@@ -32,15 +32,15 @@ pub fn the_same_is_resumable()
 pub fn what_goes_on_is_resumable()
     ensures comparison { (n : ℕ) (text : List ℕ) (steps : List Planned) (budget j left right turns : ℕ) (parts : Parts)
         (r : FileNo → List ℕ) → step_at steps j ≡ Same left right → NoneBehind steps j r →
-        (goes : GoesOn same_saving j budget (comparison_of n left right parts) (two_tables n steps left right) turns
-        r) → goes.point.sweep ≡ 0 → turns < work_at n steps j → IsResumable n text steps budget j r }
+        GoesOn same_saving j budget 0 (comparison_of n left right parts) (two_tables n steps left right) turns r →
+        turns < work_at n steps j → IsResumable n text steps budget j r }
     ensures evaluation { (n : ℕ) (text : List ℕ) (steps : List Planned) (budget j operand at turns : ℕ) (parts : Parts)
         (r : FileNo → List ℕ) → step_at steps j ≡ Eval operand at → NoneBehind steps j r →
-        (goes : GoesOn eval_saving j budget (evaluation_of n text operand at parts) (one_table n steps operand) turns
-        r) → goes.point.sweep ≡ 0 → turns < work_at n steps j → IsResumable n text steps budget j r }
+        GoesOn eval_saving j budget 0 (evaluation_of n text operand at parts) (one_table n steps operand) turns r →
+        turns < work_at n steps j → IsResumable n text steps budget j r }
     ensures copy { (n : ℕ) (text : List ℕ) (steps : List Planned) (budget j left right operand turns : ℕ) (op : Bin)
         (parts : Parts) (r : FileNo → List ℕ) → step_at steps j ≡ Pair op left right →
         (operand ≡ left) ⊎ (operand ≡ right) → table_at n steps j ≡ table_at n steps operand → NoneBehind steps j r →
-        (goes : GoesOn copy_saving j budget (copy_of n steps j operand parts) (file_at n steps operand) turns r) →
-        goes.point.sweep ≡ 0 → turns < work_at n steps j → IsResumable n text steps budget j r }
+        GoesOn copy_saving j budget 0 (copy_of n steps j operand parts) (file_at n steps operand) turns r →
+        turns < work_at n steps j → IsResumable n text steps budget j r }
 {}

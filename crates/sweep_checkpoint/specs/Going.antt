@@ -33,12 +33,13 @@ pub record IsAsBefore (makes : FileNo → Type 0) (step next : ℕ) (old : Folde
   pub fronts : (f : FileNo) → makes f → (n : ℕ) → n ≤ (file_in old f).firm → take n (r f) ≡ take n (bytes_in before f)
 
 module _ {Task Job : Type 0} (saving : Saving Task Job) where
-  -- the last checkpoint that is gated is one of the kind, and with what the files hold it does the job; and with the
+  -- the last checkpoint that is gated is one of the kind, of the first or the second sweep of its step, and with what the files hold it does the job; and with the
   -- turns that were made before it no more than so many are needed
-  pub record GoesOn (step budget : ℕ) (task : Task) (job : Job) (turns : ℕ) (r : FileNo → List ℕ) : Type 0 where
+  pub record GoesOn (step budget sweep : ℕ) (task : Task) (job : Job) (turns : ℕ) (r : FileNo → List ℕ) : Type 0 where
     pub point : Checkpoint
     pub last : last_gated step r ≡ Some (point_bytes point)
     pub rules : KeepsRules step budget point
+    pub sweep_is : point.sweep ≡ sweep
     pub words : Fits point
     pub names : saving.names point task
     pub fits : saving.fits point (saving.text task)
@@ -47,9 +48,9 @@ module _ {Task Job : Type 0} (saving : Saving Task Job) where
     pub few : point.turns + left ≤ turns
 
   -- so it is in each image of the folder: the gate is sure, and so is all that the checkpoint rests on
-  pub record Stands (makes operands : FileNo → Type 0) (step next budget : ℕ) (task : Task) (job : Job)
+  pub record Stands (makes operands : FileNo → Type 0) (step next budget sweep : ℕ) (task : Task) (job : Job)
       (turns : ℕ) (folder : Folder) : Type 0 where
-    pub goes_on : GoesOn step budget task job turns (present folder)
+    pub goes_on : GoesOn step budget sweep task job turns (present folder)
     pub gate : IsGateSure step folder
     pub points : gated_size step folder ≤ (file_in folder (checkpoint_file step)).firm
     pub sure : (f : FileNo) (n : ℕ) → saving.rests goes_on.point f n

@@ -69,7 +69,7 @@ pub fn run_saved<'r, P: Resume<'r>, S: Shelf>(
         Throughout (S.world shelf.old) (S.world shelf.new) (λ (m : Moment). (image : Image) → IsImage m.folder image →
         IsAsBefore (P.accounts.makes sweep.old) going.old.step (P.accounts.next sweep.old)
         (now (S.world shelf.old)).folder (bytes_in image)
-        ⊎ GoesOn P.saving going.old.step going.old.budget (P.task sweep.old) job
+        ⊎ GoesOn P.saving going.old.step going.old.budget going.old.sweep (P.task sweep.old) job
         (going.old.turns + P.left sweep.old (S.world shelf.old) job) (bytes_in image)) }
     ensures stands { OnOk result (IsTrue (S.tells shelf.new) → (job : P.Job) →
         P.remains sweep.old (S.world shelf.old) job →
@@ -77,7 +77,7 @@ pub fn run_saved<'r, P: Resume<'r>, S: Shelf>(
         OnlySaved (P.accounts.makes sweep.old) going.old.step (P.accounts.next sweep.old)
         (now (S.world shelf.old)) (now (S.world shelf.new))
         ⊎ Stands P.saving (P.accounts.makes sweep.old) (P.saving.operands (P.task sweep.old)) going.old.step (P.accounts.next sweep.new)
-        going.old.budget (P.task sweep.old) job
+        going.old.budget going.old.sweep (P.task sweep.old) job
         (going.old.turns + P.left sweep.old (S.world shelf.old) job) (now (S.world shelf.new)).folder) }
     ensures same { P.task sweep.new ≡ P.task sweep.old }
     ensures spent { IsErrOf result SortFault.RunsSpent → 2 ^ 32 ≤ P.accounts.next sweep.new }

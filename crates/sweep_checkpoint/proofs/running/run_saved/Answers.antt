@@ -37,8 +37,7 @@ turns-init g c =
       covers = λ told covered. covered;
       says = λ told. inl (record { shown_is = refl; last_is = refl; gated_is = refl });
       changes = told_changed_none g.S.Shelf.tells g.S.Shelf.world (IsOfGoing made c.args.going.now.step) c.args.shelf.now;
-      images = λ told job remains sure. images_none g.P.Sweep.saving laws.stays laws.apart made read c.args.going.now.step next c.args.going.now.budget
-          (g.P.Sweep.task c.args.sweep.now) job
+      images = λ told job remains sure. images_none g.P.Sweep.saving laws.stays laws.apart made read c.args.going.now.step next c.args.going.now.budget c.args.going.now.sweep (g.P.Sweep.task c.args.sweep.now) job
           (c.args.going.now.turns + g.P.Sweep.left c.args.sweep.now (g.S.Shelf.world c.args.shelf.now) job) (g.S.Shelf.world c.args.shelf.now) (g.met.S.Shelf.files_are c.args.shelf.now told)
           (subst (λ s. IsOfStep made read s next) (sym c.requires.step) c.requires.files);
       come = λ told job remains sure. inl (saved_none made c.args.going.now.step next (now (g.S.Shelf.world c.args.shelf.now)));
@@ -54,6 +53,7 @@ returns-in_err-save_if_due-clause-images g c = λ told job remains sure.
     let task = g.P.Sweep.task c.args.sweep.now in
     let step = c.args.going.now.step in
     let budget = c.args.going.now.budget in
+    let sweep = c.args.going.now.sweep in
     let next = g.P.Sweep.accounts.next c.args.sweep.now in
     let inv = c.turns.invariant in
     let files = subst (λ s. IsOfStep made (saving.operands task) s next) (sym c.requires.step) c.requires.files in
@@ -65,12 +65,12 @@ returns-in_err-save_if_due-clause-images g c = λ told job remains sure.
     let files_at = g.met.S.Shelf.files_are c.turns.shelf told_at in
     let only = ran_end (g.S.Shelf.world c.args.shelf.now) (g.S.Shelf.world c.turns.shelf) (OnlyChanged (IsOfGoing made step) (now (g.S.Shelf.world c.args.shelf.now))) (inv.changes.did told_at) in
     let come = inv.come told_at job remains sure in
-    let sure_at = sure_of saving (g.P.Sweep.task c.turns.sweep) task c.turns.going.step step c.turns.going.budget budget inv.same inv.going.step_is inv.going.budget_is {turns = turns}
+    let sure_at = sure_of saving (g.P.Sweep.task c.turns.sweep) task c.turns.going.step step c.turns.going.budget budget c.turns.going.sweep sweep inv.same inv.going.step_is inv.going.budget_is inv.going.sweep_is {turns = turns}
     made next later job (now (g.S.Shelf.world c.args.shelf.now)) (now (g.S.Shelf.world c.turns.shelf)) files only come sure in
-    let left = left_of saving (g.P.Sweep.task c.turns.sweep) task c.turns.going.step step c.turns.going.budget budget inv.same inv.going.step_is inv.going.budget_is
+    let left = left_of saving (g.P.Sweep.task c.turns.sweep) task c.turns.going.step step c.turns.going.budget budget c.turns.going.sweep sweep inv.same inv.going.step_is inv.going.budget_is inv.going.sweep_is
     (g.P.Sweep.accounts.makes c.turns.sweep) later job fewer (g.S.Shelf.world c.turns.shelf) (g.S.Shelf.world c.save_if_due.new.shelf) (now (g.S.Shelf.world c.turns.shelf)).folder
     (c.in_err-save_if_due.ensures.images (told) job (inv.keeps told_at job remains) sure_at) in
-    images_on saving laws.stays laws.apart made (saving.operands task) step next budget task job turns (g.P.Sweep.accounts.makes c.turns.sweep) later fewer (g.S.Shelf.world c.args.shelf.now) (g.S.Shelf.world c.turns.shelf) (g.S.Shelf.world c.save_if_due.new.shelf)
+    images_on saving laws.stays laws.apart made (saving.operands task) step next budget sweep task job turns (g.P.Sweep.accounts.makes c.turns.sweep) later fewer (g.S.Shelf.world c.args.shelf.now) (g.S.Shelf.world c.turns.shelf) (g.S.Shelf.world c.save_if_due.new.shelf)
     inv.made inv.making files_0 files inv.later (inv.few told_at job remains) come (inv.images told_at job remains sure) left
 
 pub returns-in_err-made-clause-changes : goal.returns-in_err-made-clause-changes
@@ -82,6 +82,7 @@ returns-in_err-made-clause-changes g c =
     let task = g.P.Sweep.task c.args.sweep.now in
     let step = c.args.going.now.step in
     let budget = c.args.going.now.budget in
+    let sweep = c.args.going.now.sweep in
     let next = g.P.Sweep.accounts.next c.args.sweep.now in
     let inv = c.turns.invariant in
     let files = subst (λ s. IsOfStep made (saving.operands task) s next) (sym c.requires.step) c.requires.files in
@@ -105,6 +106,7 @@ returns-in_err-made-clause-images g c = λ told job remains sure.
     let task = g.P.Sweep.task c.args.sweep.now in
     let step = c.args.going.now.step in
     let budget = c.args.going.now.budget in
+    let sweep = c.args.going.now.sweep in
     let next = g.P.Sweep.accounts.next c.args.sweep.now in
     let inv = c.turns.invariant in
     let files = subst (λ s. IsOfStep made (saving.operands task) s next) (sym c.requires.step) c.requires.files in
@@ -118,23 +120,23 @@ returns-in_err-made-clause-images g c = λ told job remains sure.
     let files_at = g.met.S.Shelf.files_are c.turns.shelf told_at in
     let only = ran_end (g.S.Shelf.world c.args.shelf.now) (g.S.Shelf.world c.turns.shelf) (OnlyChanged (IsOfGoing made step) (now (g.S.Shelf.world c.args.shelf.now))) (inv.changes.did told_at) in
     let come = inv.come told_at job remains sure in
-    let sure_at = sure_of saving (g.P.Sweep.task c.turns.sweep) task c.turns.going.step step c.turns.going.budget budget inv.same inv.going.step_is inv.going.budget_is {turns = turns}
+    let sure_at = sure_of saving (g.P.Sweep.task c.turns.sweep) task c.turns.going.step step c.turns.going.budget budget c.turns.going.sweep sweep inv.same inv.going.step_is inv.going.budget_is inv.going.sweep_is {turns = turns}
     made next later job (now (g.S.Shelf.world c.args.shelf.now)) (now (g.S.Shelf.world c.turns.shelf)) files only come sure in
-    let left = left_of saving (g.P.Sweep.task c.turns.sweep) task c.turns.going.step step c.turns.going.budget budget inv.same inv.going.step_is inv.going.budget_is
+    let left = left_of saving (g.P.Sweep.task c.turns.sweep) task c.turns.going.step step c.turns.going.budget budget c.turns.going.sweep sweep inv.same inv.going.step_is inv.going.budget_is inv.going.sweep_is
     (g.P.Sweep.accounts.makes c.turns.sweep) later job fewer (g.S.Shelf.world c.turns.shelf) (g.S.Shelf.world c.save_if_due.new.shelf) (now (g.S.Shelf.world c.turns.shelf)).folder
     (c.in_ok-save_if_due.ensures.images (told_s) job (inv.keeps told_at job remains) sure_at) in
     let files_s = g.met.S.Shelf.files_are c.save_if_due.new.shelf told_s in
     let next_s = g.P.Sweep.accounts.next c.save_if_due.new.sweep in
     let made_s = g.P.Sweep.accounts.makes c.save_if_due.new.sweep in
-    let stood = come_of saving (g.P.Sweep.task c.turns.sweep) task c.turns.going.step step c.turns.going.budget budget inv.same inv.going.step_is inv.going.budget_is
+    let stood = come_of saving (g.P.Sweep.task c.turns.sweep) task c.turns.going.step step c.turns.going.budget budget c.turns.going.sweep sweep inv.same inv.going.step_is inv.going.budget_is inv.going.sweep_is
     (g.P.Sweep.accounts.makes c.turns.sweep) later next_s job fewer (now (g.S.Shelf.world c.turns.shelf)) (now (g.S.Shelf.world c.save_if_due.new.shelf))
     (first.stands told_s job (inv.keeps told_at job remains) sure_at) in
-    let one = stage_save saving laws.stays laws.apart made (saving.operands task) step next budget task job turns (g.P.Sweep.accounts.makes c.turns.sweep) later next_s fewer (g.S.Shelf.world c.args.shelf.now) (g.S.Shelf.world c.turns.shelf) (g.S.Shelf.world c.save_if_due.new.shelf)
+    let one = stage_save saving laws.stays laws.apart made (saving.operands task) step next budget sweep task job turns (g.P.Sweep.accounts.makes c.turns.sweep) later next_s fewer (g.S.Shelf.world c.args.shelf.now) (g.S.Shelf.world c.turns.shelf) (g.S.Shelf.world c.save_if_due.new.shelf)
     inv.made inv.making files_0 files_at files first.later (inv.few told_at job remains)
     (record { more = inv.later; images = inv.images told_at job remains sure; come = come }) left stood in
     let run = subst (λ s. Ran (OnlyOwn made_s s next_s (now (g.S.Shelf.world c.save_if_due.new.shelf))) (g.S.Shelf.world c.save_if_due.new.shelf) (g.S.Shelf.world c.run_some.new.shelf))
     (first.step ∙ inv.step ∙ sym c.requires.step) (c.in_err-made.ensures.leaves.content.did told) in
-    let two = stage_turns saving laws.stays laws.apart made (saving.operands task) step next budget task job turns made_s next_s (g.P.Sweep.accounts.next c.run_some.new.sweep) (g.S.Shelf.world c.args.shelf.now) (g.S.Shelf.world c.save_if_due.new.shelf) (g.S.Shelf.world c.run_some.new.shelf)
+    let two = stage_turns saving laws.stays laws.apart made (saving.operands task) step next budget sweep task job turns made_s next_s (g.P.Sweep.accounts.next c.run_some.new.sweep) (g.S.Shelf.world c.args.shelf.now) (g.S.Shelf.world c.save_if_due.new.shelf) (g.S.Shelf.world c.run_some.new.shelf)
     (λ f mine. inv.made f (first.made f mine)) (λ f mine. first.making f (inv.making f mine)) files_0 files_s files c.in_err-made.ensures.leaves.later one run in
     two.images
 
@@ -168,6 +170,7 @@ returns-then-eq-clause-changes g c =
     let task = g.P.Sweep.task c.args.sweep.now in
     let step = c.args.going.now.step in
     let budget = c.args.going.now.budget in
+    let sweep = c.args.going.now.sweep in
     let next = g.P.Sweep.accounts.next c.args.sweep.now in
     let inv = c.turns.invariant in
     let files = subst (λ s. IsOfStep made (saving.operands task) s next) (sym c.requires.step) c.requires.files in
@@ -191,6 +194,7 @@ returns-then-eq-clause-images g c = λ told job remains sure.
     let task = g.P.Sweep.task c.args.sweep.now in
     let step = c.args.going.now.step in
     let budget = c.args.going.now.budget in
+    let sweep = c.args.going.now.sweep in
     let next = g.P.Sweep.accounts.next c.args.sweep.now in
     let inv = c.turns.invariant in
     let files = subst (λ s. IsOfStep made (saving.operands task) s next) (sym c.requires.step) c.requires.files in
@@ -204,23 +208,23 @@ returns-then-eq-clause-images g c = λ told job remains sure.
     let files_at = g.met.S.Shelf.files_are c.turns.shelf told_at in
     let only = ran_end (g.S.Shelf.world c.args.shelf.now) (g.S.Shelf.world c.turns.shelf) (OnlyChanged (IsOfGoing made step) (now (g.S.Shelf.world c.args.shelf.now))) (inv.changes.did told_at) in
     let come = inv.come told_at job remains sure in
-    let sure_at = sure_of saving (g.P.Sweep.task c.turns.sweep) task c.turns.going.step step c.turns.going.budget budget inv.same inv.going.step_is inv.going.budget_is {turns = turns}
+    let sure_at = sure_of saving (g.P.Sweep.task c.turns.sweep) task c.turns.going.step step c.turns.going.budget budget c.turns.going.sweep sweep inv.same inv.going.step_is inv.going.budget_is inv.going.sweep_is {turns = turns}
     made next later job (now (g.S.Shelf.world c.args.shelf.now)) (now (g.S.Shelf.world c.turns.shelf)) files only come sure in
-    let left = left_of saving (g.P.Sweep.task c.turns.sweep) task c.turns.going.step step c.turns.going.budget budget inv.same inv.going.step_is inv.going.budget_is
+    let left = left_of saving (g.P.Sweep.task c.turns.sweep) task c.turns.going.step step c.turns.going.budget budget c.turns.going.sweep sweep inv.same inv.going.step_is inv.going.budget_is inv.going.sweep_is
     (g.P.Sweep.accounts.makes c.turns.sweep) later job fewer (g.S.Shelf.world c.turns.shelf) (g.S.Shelf.world c.save_if_due.new.shelf) (now (g.S.Shelf.world c.turns.shelf)).folder
     (c.in_ok-save_if_due.ensures.images (told_s) job (inv.keeps told_at job remains) sure_at) in
     let files_s = g.met.S.Shelf.files_are c.save_if_due.new.shelf told_s in
     let next_s = g.P.Sweep.accounts.next c.save_if_due.new.sweep in
     let made_s = g.P.Sweep.accounts.makes c.save_if_due.new.sweep in
-    let stood = come_of saving (g.P.Sweep.task c.turns.sweep) task c.turns.going.step step c.turns.going.budget budget inv.same inv.going.step_is inv.going.budget_is
+    let stood = come_of saving (g.P.Sweep.task c.turns.sweep) task c.turns.going.step step c.turns.going.budget budget c.turns.going.sweep sweep inv.same inv.going.step_is inv.going.budget_is inv.going.sweep_is
     (g.P.Sweep.accounts.makes c.turns.sweep) later next_s job fewer (now (g.S.Shelf.world c.turns.shelf)) (now (g.S.Shelf.world c.save_if_due.new.shelf))
     (first.stands told_s job (inv.keeps told_at job remains) sure_at) in
-    let one = stage_save saving laws.stays laws.apart made (saving.operands task) step next budget task job turns (g.P.Sweep.accounts.makes c.turns.sweep) later next_s fewer (g.S.Shelf.world c.args.shelf.now) (g.S.Shelf.world c.turns.shelf) (g.S.Shelf.world c.save_if_due.new.shelf)
+    let one = stage_save saving laws.stays laws.apart made (saving.operands task) step next budget sweep task job turns (g.P.Sweep.accounts.makes c.turns.sweep) later next_s fewer (g.S.Shelf.world c.args.shelf.now) (g.S.Shelf.world c.turns.shelf) (g.S.Shelf.world c.save_if_due.new.shelf)
     inv.made inv.making files_0 files_at files first.later (inv.few told_at job remains)
     (record { more = inv.later; images = inv.images told_at job remains sure; come = come }) left stood in
     let run = subst (λ s. Ran (OnlyOwn made_s s next_s (now (g.S.Shelf.world c.save_if_due.new.shelf))) (g.S.Shelf.world c.save_if_due.new.shelf) (g.S.Shelf.world c.run_some.new.shelf))
     (first.step ∙ inv.step ∙ sym c.requires.step) (c.in_ok-made.ensures.leaves.content.did told) in
-    let two = stage_turns saving laws.stays laws.apart made (saving.operands task) step next budget task job turns made_s next_s (g.P.Sweep.accounts.next c.run_some.new.sweep) (g.S.Shelf.world c.args.shelf.now) (g.S.Shelf.world c.save_if_due.new.shelf) (g.S.Shelf.world c.run_some.new.shelf)
+    let two = stage_turns saving laws.stays laws.apart made (saving.operands task) step next budget sweep task job turns made_s next_s (g.P.Sweep.accounts.next c.run_some.new.sweep) (g.S.Shelf.world c.args.shelf.now) (g.S.Shelf.world c.save_if_due.new.shelf) (g.S.Shelf.world c.run_some.new.shelf)
     (λ f mine. inv.made f (first.made f mine)) (λ f mine. first.making f (inv.making f mine)) files_0 files_s files c.in_ok-made.ensures.leaves.later one run in
     two.images
 
@@ -233,6 +237,7 @@ returns-then-eq-clause-stands g c = λ told job remains sure.
     let task = g.P.Sweep.task c.args.sweep.now in
     let step = c.args.going.now.step in
     let budget = c.args.going.now.budget in
+    let sweep = c.args.going.now.sweep in
     let next = g.P.Sweep.accounts.next c.args.sweep.now in
     let inv = c.turns.invariant in
     let files = subst (λ s. IsOfStep made (saving.operands task) s next) (sym c.requires.step) c.requires.files in
@@ -246,23 +251,23 @@ returns-then-eq-clause-stands g c = λ told job remains sure.
     let files_at = g.met.S.Shelf.files_are c.turns.shelf told_at in
     let only = ran_end (g.S.Shelf.world c.args.shelf.now) (g.S.Shelf.world c.turns.shelf) (OnlyChanged (IsOfGoing made step) (now (g.S.Shelf.world c.args.shelf.now))) (inv.changes.did told_at) in
     let come = inv.come told_at job remains sure in
-    let sure_at = sure_of saving (g.P.Sweep.task c.turns.sweep) task c.turns.going.step step c.turns.going.budget budget inv.same inv.going.step_is inv.going.budget_is {turns = turns}
+    let sure_at = sure_of saving (g.P.Sweep.task c.turns.sweep) task c.turns.going.step step c.turns.going.budget budget c.turns.going.sweep sweep inv.same inv.going.step_is inv.going.budget_is inv.going.sweep_is {turns = turns}
     made next later job (now (g.S.Shelf.world c.args.shelf.now)) (now (g.S.Shelf.world c.turns.shelf)) files only come sure in
-    let left = left_of saving (g.P.Sweep.task c.turns.sweep) task c.turns.going.step step c.turns.going.budget budget inv.same inv.going.step_is inv.going.budget_is
+    let left = left_of saving (g.P.Sweep.task c.turns.sweep) task c.turns.going.step step c.turns.going.budget budget c.turns.going.sweep sweep inv.same inv.going.step_is inv.going.budget_is inv.going.sweep_is
     (g.P.Sweep.accounts.makes c.turns.sweep) later job fewer (g.S.Shelf.world c.turns.shelf) (g.S.Shelf.world c.save_if_due.new.shelf) (now (g.S.Shelf.world c.turns.shelf)).folder
     (c.in_ok-save_if_due.ensures.images (told_s) job (inv.keeps told_at job remains) sure_at) in
     let files_s = g.met.S.Shelf.files_are c.save_if_due.new.shelf told_s in
     let next_s = g.P.Sweep.accounts.next c.save_if_due.new.sweep in
     let made_s = g.P.Sweep.accounts.makes c.save_if_due.new.sweep in
-    let stood = come_of saving (g.P.Sweep.task c.turns.sweep) task c.turns.going.step step c.turns.going.budget budget inv.same inv.going.step_is inv.going.budget_is
+    let stood = come_of saving (g.P.Sweep.task c.turns.sweep) task c.turns.going.step step c.turns.going.budget budget c.turns.going.sweep sweep inv.same inv.going.step_is inv.going.budget_is inv.going.sweep_is
     (g.P.Sweep.accounts.makes c.turns.sweep) later next_s job fewer (now (g.S.Shelf.world c.turns.shelf)) (now (g.S.Shelf.world c.save_if_due.new.shelf))
     (first.stands told_s job (inv.keeps told_at job remains) sure_at) in
-    let one = stage_save saving laws.stays laws.apart made (saving.operands task) step next budget task job turns (g.P.Sweep.accounts.makes c.turns.sweep) later next_s fewer (g.S.Shelf.world c.args.shelf.now) (g.S.Shelf.world c.turns.shelf) (g.S.Shelf.world c.save_if_due.new.shelf)
+    let one = stage_save saving laws.stays laws.apart made (saving.operands task) step next budget sweep task job turns (g.P.Sweep.accounts.makes c.turns.sweep) later next_s fewer (g.S.Shelf.world c.args.shelf.now) (g.S.Shelf.world c.turns.shelf) (g.S.Shelf.world c.save_if_due.new.shelf)
     inv.made inv.making files_0 files_at files first.later (inv.few told_at job remains)
     (record { more = inv.later; images = inv.images told_at job remains sure; come = come }) left stood in
     let run = subst (λ s. Ran (OnlyOwn made_s s next_s (now (g.S.Shelf.world c.save_if_due.new.shelf))) (g.S.Shelf.world c.save_if_due.new.shelf) (g.S.Shelf.world c.run_some.new.shelf))
     (first.step ∙ inv.step ∙ sym c.requires.step) (c.in_ok-made.ensures.leaves.content.did told) in
-    let two = stage_turns saving laws.stays laws.apart made (saving.operands task) step next budget task job turns made_s next_s (g.P.Sweep.accounts.next c.run_some.new.sweep) (g.S.Shelf.world c.args.shelf.now) (g.S.Shelf.world c.save_if_due.new.shelf) (g.S.Shelf.world c.run_some.new.shelf)
+    let two = stage_turns saving laws.stays laws.apart made (saving.operands task) step next budget sweep task job turns made_s next_s (g.P.Sweep.accounts.next c.run_some.new.sweep) (g.S.Shelf.world c.args.shelf.now) (g.S.Shelf.world c.save_if_due.new.shelf) (g.S.Shelf.world c.run_some.new.shelf)
     (λ f mine. inv.made f (first.made f mine)) (λ f mine. first.making f (inv.making f mine)) files_0 files_s files c.in_ok-made.ensures.leaves.later one run in
     two.come
 
@@ -390,6 +395,7 @@ turns-preserved g c =
           let task = g.P.Sweep.task c.args.sweep.now in
           let step = c.args.going.now.step in
           let budget = c.args.going.now.budget in
+          let sweep = c.args.going.now.sweep in
           let next = g.P.Sweep.accounts.next c.args.sweep.now in
           let inv = c.turns.invariant in
           let files = subst (λ s. IsOfStep made (saving.operands task) s next) (sym c.requires.step) c.requires.files in
@@ -411,6 +417,7 @@ turns-preserved g c =
           let task = g.P.Sweep.task c.args.sweep.now in
           let step = c.args.going.now.step in
           let budget = c.args.going.now.budget in
+          let sweep = c.args.going.now.sweep in
           let next = g.P.Sweep.accounts.next c.args.sweep.now in
           let inv = c.turns.invariant in
           let files = subst (λ s. IsOfStep made (saving.operands task) s next) (sym c.requires.step) c.requires.files in
@@ -424,23 +431,23 @@ turns-preserved g c =
           let files_at = g.met.S.Shelf.files_are c.turns.shelf told_at in
           let only = ran_end (g.S.Shelf.world c.args.shelf.now) (g.S.Shelf.world c.turns.shelf) (OnlyChanged (IsOfGoing made step) (now (g.S.Shelf.world c.args.shelf.now))) (inv.changes.did told_at) in
           let come = inv.come told_at job remains sure in
-          let sure_at = sure_of saving (g.P.Sweep.task c.turns.sweep) task c.turns.going.step step c.turns.going.budget budget inv.same inv.going.step_is inv.going.budget_is {turns = turns}
+          let sure_at = sure_of saving (g.P.Sweep.task c.turns.sweep) task c.turns.going.step step c.turns.going.budget budget c.turns.going.sweep sweep inv.same inv.going.step_is inv.going.budget_is inv.going.sweep_is {turns = turns}
           made next later job (now (g.S.Shelf.world c.args.shelf.now)) (now (g.S.Shelf.world c.turns.shelf)) files only come sure in
-          let left = left_of saving (g.P.Sweep.task c.turns.sweep) task c.turns.going.step step c.turns.going.budget budget inv.same inv.going.step_is inv.going.budget_is
+          let left = left_of saving (g.P.Sweep.task c.turns.sweep) task c.turns.going.step step c.turns.going.budget budget c.turns.going.sweep sweep inv.same inv.going.step_is inv.going.budget_is inv.going.sweep_is
           (g.P.Sweep.accounts.makes c.turns.sweep) later job fewer (g.S.Shelf.world c.turns.shelf) (g.S.Shelf.world c.save_if_due.new.shelf) (now (g.S.Shelf.world c.turns.shelf)).folder
           (c.in_ok-save_if_due.ensures.images (told_s) job (inv.keeps told_at job remains) sure_at) in
           let files_s = g.met.S.Shelf.files_are c.save_if_due.new.shelf told_s in
           let next_s = g.P.Sweep.accounts.next c.save_if_due.new.sweep in
           let made_s = g.P.Sweep.accounts.makes c.save_if_due.new.sweep in
-          let stood = come_of saving (g.P.Sweep.task c.turns.sweep) task c.turns.going.step step c.turns.going.budget budget inv.same inv.going.step_is inv.going.budget_is
+          let stood = come_of saving (g.P.Sweep.task c.turns.sweep) task c.turns.going.step step c.turns.going.budget budget c.turns.going.sweep sweep inv.same inv.going.step_is inv.going.budget_is inv.going.sweep_is
           (g.P.Sweep.accounts.makes c.turns.sweep) later next_s job fewer (now (g.S.Shelf.world c.turns.shelf)) (now (g.S.Shelf.world c.save_if_due.new.shelf))
           (first.stands told_s job (inv.keeps told_at job remains) sure_at) in
-          let one = stage_save saving laws.stays laws.apart made (saving.operands task) step next budget task job turns (g.P.Sweep.accounts.makes c.turns.sweep) later next_s fewer (g.S.Shelf.world c.args.shelf.now) (g.S.Shelf.world c.turns.shelf) (g.S.Shelf.world c.save_if_due.new.shelf)
+          let one = stage_save saving laws.stays laws.apart made (saving.operands task) step next budget sweep task job turns (g.P.Sweep.accounts.makes c.turns.sweep) later next_s fewer (g.S.Shelf.world c.args.shelf.now) (g.S.Shelf.world c.turns.shelf) (g.S.Shelf.world c.save_if_due.new.shelf)
           inv.made inv.making files_0 files_at files first.later (inv.few told_at job remains)
           (record { more = inv.later; images = inv.images told_at job remains sure; come = come }) left stood in
           let run = subst (λ s. Ran (OnlyOwn made_s s next_s (now (g.S.Shelf.world c.save_if_due.new.shelf))) (g.S.Shelf.world c.save_if_due.new.shelf) (g.S.Shelf.world c.run_some.new.shelf))
           (first.step ∙ inv.step ∙ sym c.requires.step) (c.in_ok-made.ensures.leaves.content.did told) in
-          let two = stage_turns saving laws.stays laws.apart made (saving.operands task) step next budget task job turns made_s next_s (g.P.Sweep.accounts.next c.run_some.new.sweep) (g.S.Shelf.world c.args.shelf.now) (g.S.Shelf.world c.save_if_due.new.shelf) (g.S.Shelf.world c.run_some.new.shelf)
+          let two = stage_turns saving laws.stays laws.apart made (saving.operands task) step next budget sweep task job turns made_s next_s (g.P.Sweep.accounts.next c.run_some.new.sweep) (g.S.Shelf.world c.args.shelf.now) (g.S.Shelf.world c.save_if_due.new.shelf) (g.S.Shelf.world c.run_some.new.shelf)
           (λ f mine. inv.made f (first.made f mine)) (λ f mine. first.making f (inv.making f mine)) files_0 files_s files c.in_ok-made.ensures.leaves.later one run in
           two.images;
       come = λ told job remains sure.
@@ -451,6 +458,7 @@ turns-preserved g c =
           let task = g.P.Sweep.task c.args.sweep.now in
           let step = c.args.going.now.step in
           let budget = c.args.going.now.budget in
+          let sweep = c.args.going.now.sweep in
           let next = g.P.Sweep.accounts.next c.args.sweep.now in
           let inv = c.turns.invariant in
           let files = subst (λ s. IsOfStep made (saving.operands task) s next) (sym c.requires.step) c.requires.files in
@@ -464,23 +472,23 @@ turns-preserved g c =
           let files_at = g.met.S.Shelf.files_are c.turns.shelf told_at in
           let only = ran_end (g.S.Shelf.world c.args.shelf.now) (g.S.Shelf.world c.turns.shelf) (OnlyChanged (IsOfGoing made step) (now (g.S.Shelf.world c.args.shelf.now))) (inv.changes.did told_at) in
           let come = inv.come told_at job remains sure in
-          let sure_at = sure_of saving (g.P.Sweep.task c.turns.sweep) task c.turns.going.step step c.turns.going.budget budget inv.same inv.going.step_is inv.going.budget_is {turns = turns}
+          let sure_at = sure_of saving (g.P.Sweep.task c.turns.sweep) task c.turns.going.step step c.turns.going.budget budget c.turns.going.sweep sweep inv.same inv.going.step_is inv.going.budget_is inv.going.sweep_is {turns = turns}
           made next later job (now (g.S.Shelf.world c.args.shelf.now)) (now (g.S.Shelf.world c.turns.shelf)) files only come sure in
-          let left = left_of saving (g.P.Sweep.task c.turns.sweep) task c.turns.going.step step c.turns.going.budget budget inv.same inv.going.step_is inv.going.budget_is
+          let left = left_of saving (g.P.Sweep.task c.turns.sweep) task c.turns.going.step step c.turns.going.budget budget c.turns.going.sweep sweep inv.same inv.going.step_is inv.going.budget_is inv.going.sweep_is
           (g.P.Sweep.accounts.makes c.turns.sweep) later job fewer (g.S.Shelf.world c.turns.shelf) (g.S.Shelf.world c.save_if_due.new.shelf) (now (g.S.Shelf.world c.turns.shelf)).folder
           (c.in_ok-save_if_due.ensures.images (told_s) job (inv.keeps told_at job remains) sure_at) in
           let files_s = g.met.S.Shelf.files_are c.save_if_due.new.shelf told_s in
           let next_s = g.P.Sweep.accounts.next c.save_if_due.new.sweep in
           let made_s = g.P.Sweep.accounts.makes c.save_if_due.new.sweep in
-          let stood = come_of saving (g.P.Sweep.task c.turns.sweep) task c.turns.going.step step c.turns.going.budget budget inv.same inv.going.step_is inv.going.budget_is
+          let stood = come_of saving (g.P.Sweep.task c.turns.sweep) task c.turns.going.step step c.turns.going.budget budget c.turns.going.sweep sweep inv.same inv.going.step_is inv.going.budget_is inv.going.sweep_is
           (g.P.Sweep.accounts.makes c.turns.sweep) later next_s job fewer (now (g.S.Shelf.world c.turns.shelf)) (now (g.S.Shelf.world c.save_if_due.new.shelf))
           (first.stands told_s job (inv.keeps told_at job remains) sure_at) in
-          let one = stage_save saving laws.stays laws.apart made (saving.operands task) step next budget task job turns (g.P.Sweep.accounts.makes c.turns.sweep) later next_s fewer (g.S.Shelf.world c.args.shelf.now) (g.S.Shelf.world c.turns.shelf) (g.S.Shelf.world c.save_if_due.new.shelf)
+          let one = stage_save saving laws.stays laws.apart made (saving.operands task) step next budget sweep task job turns (g.P.Sweep.accounts.makes c.turns.sweep) later next_s fewer (g.S.Shelf.world c.args.shelf.now) (g.S.Shelf.world c.turns.shelf) (g.S.Shelf.world c.save_if_due.new.shelf)
           inv.made inv.making files_0 files_at files first.later (inv.few told_at job remains)
           (record { more = inv.later; images = inv.images told_at job remains sure; come = come }) left stood in
           let run = subst (λ s. Ran (OnlyOwn made_s s next_s (now (g.S.Shelf.world c.save_if_due.new.shelf))) (g.S.Shelf.world c.save_if_due.new.shelf) (g.S.Shelf.world c.run_some.new.shelf))
           (first.step ∙ inv.step ∙ sym c.requires.step) (c.in_ok-made.ensures.leaves.content.did told) in
-          let two = stage_turns saving laws.stays laws.apart made (saving.operands task) step next budget task job turns made_s next_s (g.P.Sweep.accounts.next c.run_some.new.sweep) (g.S.Shelf.world c.args.shelf.now) (g.S.Shelf.world c.save_if_due.new.shelf) (g.S.Shelf.world c.run_some.new.shelf)
+          let two = stage_turns saving laws.stays laws.apart made (saving.operands task) step next budget sweep task job turns made_s next_s (g.P.Sweep.accounts.next c.run_some.new.sweep) (g.S.Shelf.world c.args.shelf.now) (g.S.Shelf.world c.save_if_due.new.shelf) (g.S.Shelf.world c.run_some.new.shelf)
           (λ f mine. inv.made f (first.made f mine)) (λ f mine. first.making f (inv.making f mine)) files_0 files_s files c.in_ok-made.ensures.leaves.later one run in
           two.come;
       faults = search rules;
