@@ -208,16 +208,21 @@ fn gives_up_what_is_not_named(rt: HostRuntime) -> Result<(), Fail> {
     Ok(())
 }
 
+// The lower half of a word.
+fn low_half(word: u64) -> u32 {
+    (word % (1 << 32)) as u32
+}
+
 // The checkpoint in which the word of that number is another one.
 fn with_word(place: usize, word: u64) -> Checkpoint {
     let mut point = sample();
     match place {
-        0 => point.step = word as u32,
-        1 => point.sweep = word as u32,
+        0 => point.step = low_half(word),
+        1 => point.sweep = low_half(word),
         2 => point.turns = word,
         3 => point.next_part = word,
-        4 => point.budget = word as u32,
-        5 => point.tables = word as u32,
+        4 => point.budget = low_half(word),
+        5 => point.tables = low_half(word),
         6..=255 => point.carry[(place - 6) % 250] = word,
         256..=1983 => put_in_table((place - 256) % 1728, word, &mut point),
         _ => {}
@@ -257,17 +262,23 @@ fn is_allowed(place: usize, word: u64) -> bool {
     }
 }
 
-// Two checkpoints in a file, of which the second has another word of that number, behind a gate of so many bytes.
-fn put_two(place: usize, word: u64, gate: &[u8], bench: &mut Bench) -> Result<(), Fail> {
+// The bytes of two checkpoints, of which the second has another word of that number.
+fn two_points(place: usize, word: u64) -> [u8; 32_768] {
+    let mut second = written();
+    let at = 8 * (place % 2048);
+    second[at..at + 8].copy_from_slice(&word.to_be_bytes());
     let mut both = [0u8; 32_768];
-    both[..16_384].copy_from_slice(&written());
-    both[16_384..].copy_from_slice(&written());
-    let at = 16_384 + 8 * (place % 2048);
-    both[at..at + 8].copy_from_slice(&word.to_be_bytes());
+    both[..POINT_SIZE].copy_from_slice(&written());
+    both[POINT_SIZE..].copy_from_slice(&second);
+    both
+}
+
+// Two checkpoints in a file, behind a gate of so many bytes.
+fn put_two(place: usize, word: u64, gate: &[u8], bench: &mut Bench) -> Result<(), Fail> {
     if gate.len() > 2 {
         return Err(Fail::from("the gate"));
     }
-    bench.put_file(checkpoint_file(7), &both)?;
+    bench.put_file(checkpoint_file(7), &two_points(place, word))?;
     bench.put_file(checkpoint_gate(7), gate)?;
     Ok(())
 }
