@@ -192,12 +192,12 @@ module _ {S : Type 0} (tells : S → Bool) (world : S → World) (counts : S →
 
   -- only the files of arcs were written to
   pub does_wrote : {T : Type 0} (n : ℕ) (s t : S) (p : Machine) (place : Place) (w : ArcWriter)
-      (one : Bool) (result : Result T SortFault) → place.variables ≡ p.place.variables
+      (result : Result T SortFault) → place.variables ≡ p.place.variables
       → SameFiles p.writer w → Told tells s t (WroteBoth n (inner_file p.writer)
       (ends_file p.writer) (world s) (world t))
       → OnlySortShelf (counts s) (counts t) result → IfErr result (λ e. e ≡ Shelf)
-      → Does tells world counts n 0 s t p (record p { place = place; writer = w; has_one = one }) result
-  does_wrote n s t p place w one result variables same did faults cause = record {
+      → Does tells world counts n 0 s t p (record p { place = place; writer = w }) result
+  does_wrote n s t p place w result variables same did faults cause = record {
     leaves = record {
       made = λ f mine. subst (λ v. v) (λ j. (f ≡ same.inner_is j) ⊎ (f ≡ same.ends_are j)) mine;
       making = λ f mine. subst (λ v. v) (λ j. (f ≡ sym same.inner_is j) ⊎ (f ≡ sym same.ends_are j))
@@ -224,9 +224,9 @@ module _ {S : Type 0} (tells : S → Bool) (world : S → World) (counts : S →
   }
     where
       by : {X : Type 0} (r : Result X SortFault) → IfErr r (λ e. e ≡ Shelf)
-          → IfErr r (Refuses (record p { place = place; writer = w; has_one = one }))
+          → IfErr r (Refuses (record p { place = place; writer = w }))
       by (Ok x) is = tt
-      by (Err e) is = subst (Refuses (record p { place = place; writer = w; has_one = one })) (sym is) tt
+      by (Err e) is = subst (Refuses (record p { place = place; writer = w })) (sym is) tt
 
   -- only files whose parts were taken were
   pub does_spilled : {T : Type 0} (m a : ℕ) (s t : S) (p : Machine) (q : LevelQueue Ask)

@@ -99,12 +99,13 @@ operands_still m old new are same apart reading = record {
 
 -- arcs were put
 pub holds_written : (n : ℕ) (m q : Machine) (old new : World) (asks : List Ask)
-    → q ≡ record m { writer = q.writer; has_one = q.has_one } → files_in q ≡ files_in m
+    → q ≡ record m { place = record m.place { has_one = q.place.has_one }; writer = q.writer } → files_in q ≡ files_in m
     → AreOperands m.place.variables m.operands
     → WroteBoth n (inner_file m.writer) (ends_file m.writer) old new → Holds m old asks
     → Holds q new asks
 holds_written n m q old new asks rest files are wrote hold =
-    let same : files_in (record m { writer = q.writer; has_one = q.has_one }) ≡ files_in m =
+    let same :
+    files_in (record m { place = record m.place { has_one = q.place.has_one }; writer = q.writer }) ≡ files_in m =
     ap files_in (sym rest) ∙ files in
     let during = ran_end old new (DuringWrites (inner_file m.writer) (ends_file m.writer) (now old))
     wrote.run in
@@ -362,7 +363,8 @@ module _ {S : Type 0} (tells : S → Bool) (world : S → World) where
 
   -- an arc was put
   pub written_at : (n : ℕ) (s t : S) (m q : Machine)
-      → q ≡ record m { writer = q.writer; has_one = q.has_one } → files_in q ≡ files_in m → AreOperands m.place.variables m.operands
+      → q ≡ record m { place = record m.place { has_one = q.place.has_one }; writer = q.writer }
+      → files_in q ≡ files_in m → AreOperands m.place.variables m.operands
       → Told tells s t (WroteBoth n (inner_file m.writer) (ends_file m.writer) (world s) (world t))
       → IsTrue (tells t) → KeepsAsks m (world s) q (world t)
   written_at n s t m q rest files are did told holds =

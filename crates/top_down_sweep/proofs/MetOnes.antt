@@ -30,11 +30,12 @@ one_stays known a inner =
     ap (λ b. known || b) not_here ∙ or-false known
 
 -- so nothing but the writer changes where one is put
-pub only_written : (m q : Machine) (a : Arc) → q ≡ record m { writer = q.writer; has_one = q.has_one }
-    → q.has_one ≡ (m.has_one || leads_to_one a) → a.target < 2 ^ 63 → q ≡ record m { writer = q.writer }
+pub only_written : (m q : Machine) (a : Arc)
+    → q ≡ record m { place = record m.place { has_one = q.place.has_one }; writer = q.writer }
+    → q.place.has_one ≡ (m.place.has_one || leads_to_one a) → a.target < 2 ^ 63 → q ≡ record m { writer = q.writer }
 only_written m q a rest one inner =
-    let same : q.has_one ≡ m.has_one = one ∙ one_stays m.has_one a inner in
-    rest ∙ (λ i. record m { writer = q.writer; has_one = same i })
+    let same : q.place.has_one ≡ m.place.has_one = one ∙ one_stays m.place.has_one a inner in
+    rest ∙ (λ i. record m { place = record m.place { has_one = same i }; writer = q.writer })
 
 -- what is known of the arcs to truth values is known with each arc that is put
 pub one_put : (known : Bool) (ends : List Arc) (a : Arc) → known ≡ some_one ends
@@ -82,7 +83,7 @@ each_is P xs all x m = let (k, below, is) = contains_from_has x xs m in subst P 
 
 -- once all is made, the table has a 1 exactly where 1 was met
 done_says : (t : Task) (m : Machine) (world : World) (made : Unreduced) → IsDone t m world made
-    → Has true (table_of t) ↔ ((m.has_one || (made.root == terminal true)) ≡ true)
+    → Has true (table_of t) ↔ ((m.place.has_one || (made.root == terminal true)) ≡ true)
 done_says t m world made done = (
   λ one. ap (λ b. b || (made.root == terminal true)) done.one_is
       ∙ is_met made.root ends (at_end.0 (says.0 one)),
@@ -104,13 +105,13 @@ done_says t m world made done = (
 
 module _ (t : Task) (begins : Tuple → Tuple) (m : Machine) (world : World) where
   -- where 1 was met the table has a 1
-  pub met_value : (p : Phase) → RemainsIn t begins p m world → (m.has_one || has_root_one (made_at p)) ≡ true
+  pub met_value : (p : Phase) → RemainsIn t begins p m world → (m.place.has_one || has_root_one (made_at p)) ≡ true
       → Has true (table_of t)
-  met_value phases.Fresh fresh e = absurd (elim (or_cases m.has_one false e) [
+  met_value phases.Fresh fresh e = absurd (elim (or_cases m.place.has_one false e) [
     | inl one ↦ true≢false (sym one ∙ fresh.stands.one_is)
     | inr unmet ↦ true≢false (sym unmet)
   ])
-  met_value (phases.Asking s) h e = elim (or_cases m.has_one false e) [
+  met_value (phases.Asking s) h e = elim (or_cases m.place.has_one false e) [
     | inl one ↦
         let k = h.contents in
         let (a, there, leads) = has_one k.ends (sym h.stands.one_is ∙ one) in
@@ -122,7 +123,7 @@ module _ (t : Task) (begins : Tuple → Tuple) (m : Machine) (world : World) whe
 
   -- and once all is made, only then
   pub unmet_none : (p : Phase) → RemainsIn t begins p m world
-      → (m.has_one || has_root_one (made_at p)) ≡ false → IsSome (made_at p) → Has true (table_of t) → ⊥
+      → (m.place.has_one || has_root_one (made_at p)) ≡ false → IsSome (made_at p) → Has true (table_of t) → ⊥
   unmet_none phases.Fresh fresh e made one = absurd (cc)
   unmet_none (phases.Asking s) h e made one = absurd (cc)
   unmet_none (phases.Ended made) done e some one = true≢false (sym ((done_says t m world made done).0 one) ∙ e)

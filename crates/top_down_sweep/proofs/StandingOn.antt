@@ -85,13 +85,14 @@ arcs_still w old new inner ends first second held = record {
 
 -- arcs were put
 pub stands_written : (n : ℕ) (m q : Machine) (old new : World) (k : Contents)
-    (inner ends : List Arc) → q ≡ record m { writer = q.writer; has_one = q.has_one }
+    (inner ends : List Arc) → q ≡ record m { place = record m.place { has_one = q.place.has_one }; writer = q.writer }
     → files_in q ≡ files_in m → AreOperands m.place.variables m.operands
     → WroteBoth n (inner_file m.writer) (ends_file m.writer) old new
-    → HoldsArcs q.writer new inner ends → q.has_one ≡ some_one ends → StandsFor m old k
+    → HoldsArcs q.writer new inner ends → q.place.has_one ≡ some_one ends → StandsFor m old k
     → StandsFor q new (record k { inner = inner; ends = ends })
 stands_written n m q old new k inner ends rest files are wrote held one stands =
-    let same : files_in (record m { writer = q.writer; has_one = q.has_one }) ≡ files_in m =
+    let same :
+    files_in (record m { place = record m.place { has_one = q.place.has_one }; writer = q.writer }) ≡ files_in m =
     ap files_in (sym rest) ∙ files in
     let during = ran_end old new (DuringWrites (inner_file m.writer) (ends_file m.writer) (now old))
     wrote.run in
@@ -177,15 +178,15 @@ stands_read m o old new k r files ran read stands = record {
   apart = subst (λ fs. AreApart fs m.parts.step) (sym files) stands.apart;
 }
 
--- the place doesn't count
+-- of the place only that counts, whether an arc that was put leads to 1
 pub stands_placed : (m q : Machine) (place : Place) (world : World) (k : Contents)
-    → q ≡ record m { place = place } → StandsFor m world k → StandsFor q world k
-stands_placed m q place world k rest stands = subst (λ (p : Machine). StandsFor p world k)
+    → q ≡ record m { place = place } → place.has_one ≡ m.place.has_one → StandsFor m world k → StandsFor q world k
+stands_placed m q place world k rest one stands = subst (λ (p : Machine). StandsFor p world k)
     (sym rest) (record {
       asks_are = stands.asks_are;
       read = stands.read;
       written = stands.written;
-      one_is = stands.one_is;
+      one_is = one ∙ stands.one_is;
       no_run = stands.no_run;
       apart = stands.apart;
     })

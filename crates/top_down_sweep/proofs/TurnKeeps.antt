@@ -260,7 +260,7 @@ made_remains t begins q new made is done = subst (λ p. RemainsIn t begins p q n
 pub ended_remains : (t : Task) (begins : Tuple → Tuple) (s : Asking) (m n q : Machine)
     (old mid new : World) (made : Unreduced) (h : IsWorking t s m old)
     → ShowsAsk n mid h.contents None → made.root ≡ s.root → q.place.phase ≡ phases.Ended made
-    → q.has_one ≡ n.has_one
+    → q.place.has_one ≡ n.place.has_one
     → ((k : Contents) → StandsFor n mid k → AreFilesOf made new k.inner k.ends)
     → RemainsOf t begins q new
 ended_remains t begins s m n q old mid new made h (none, stands) root phase one files =
@@ -287,7 +287,7 @@ none_met t targets value is x (laws.Below y z side met goes) = none_met t target
 
 pub constant_remains : (t : Task) (begins : Tuple → Tuple) (m q : Machine) (old new : World)
     (value : Bool) (made : Unreduced) → IsFresh t begins m old → t.rule.goal t.roots ≡ End value
-    → made.root ≡ terminal value → q.place.phase ≡ phases.Ended made → q.has_one ≡ m.has_one
+    → made.root ≡ terminal value → q.place.phase ≡ phases.Ended made → q.place.has_one ≡ m.place.has_one
     → ((k : Contents) → StandsFor m old k → AreFilesOf made new k.inner k.ends)
     → RemainsOf t begins q new
 constant_remains t begins m q old new value made fresh is root phase one files =

@@ -101,7 +101,7 @@ pub record StandsFor (m : Machine) (world : World) (k : Contents) : Type 0 where
   pub asks_are : Waits m.queue world k.asks
   pub read : AreRead m.operands world k.readings
   pub written : HoldsArcs m.writer world k.inner k.ends
-  pub one_is : m.has_one ≡ some_one k.ends
+  pub one_is : m.place.has_one ≡ some_one k.ends
   pub no_run : (f : FileNo) → IsMade (files_in m) f → ¬ queues.IsRunOf m.queue f
   pub apart : AreApart (files_in m) m.parts.step
 
@@ -156,7 +156,7 @@ pub record IsMadeOf (t : Task) (world : World) (made : Unreduced) : Type 0 where
 -- and whether one of them leads to 1 is known
 pub record IsDone (t : Task) (m : Machine) (world : World) (made : Unreduced) : Type 0 where
   pub made_of : IsMadeOf t world made
-  pub one_is : m.has_one ≡ some_one made_of.ends
+  pub one_is : m.place.has_one ≡ some_one made_of.ends
 
 -- what remains of the task in each phase
 abbrev pub RemainsIn : Task → (Tuple → Tuple) → Phase → Machine → World → Type 0

@@ -189,7 +189,7 @@ has_root_one None = false
 has_root_one (Some made) = made.root == terminal true
 
 abbrev pub meets_one : {O : Type 0} → TopDownSweep O → Bool
-meets_one s = s.machine.has_one || has_root_one (made_in s)
+meets_one s = s.machine.place.has_one || has_root_one (made_in s)
 
 -- what a sweep of that kind may change, and what it owes
 abbrev pub accounts : (O : Type 0) → Accounts (TopDownSweep O)

@@ -208,7 +208,7 @@ impl<'r> Machine<'r> {
         ensures fit { OnOk result (IsFit S.tells S.world shelf.new self.new) }
         ensures holds { OnOk result (IsTrue (S.tells shelf.new) → AreReadTo (level_of uid) self.old.operands →
             KeepsAsks self.old (S.world shelf.old) self.new (S.world shelf.new)) }
-        ensures place { self.new.place ≡ self.old.place }
+        ensures place { self.new.place ≡ record self.old.place { has_one = self.new.place.has_one } }
         ensures operands { self.new.operands ≡ self.old.operands }
         ensures load { OnOk result (held self.new.queue ≤ held self.old.queue + 1) }
         ensures last { last_of self.new.queue ≡ last_of self.old.queue }

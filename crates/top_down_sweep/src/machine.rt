@@ -13,8 +13,6 @@ pub(crate) struct Machine<'r> {
     pub(crate) operands: Operands<'r>,
     pub(crate) queue: LevelQueue<'r, SoundAsk>,
     pub(crate) writer: ArcWriter<'r>,
-    // Whether an arc that was put leads to the truth value 1.
-    pub(crate) has_one: bool,
     // The part numbers of its step that weren't taken.
     pub(crate) parts: Parts,
 }

@@ -97,8 +97,11 @@ pub(crate) enum Phase {
     Ended(Unreduced),
 }
 
+/// What of a sweep is no stream, no list and no part number.
 #[derive(Clone, Copy, Debug, PartialEq, Eq)]
 pub(crate) struct Place {
     pub(crate) variables: u32,
     pub(crate) phase: Phase,
+    // Whether an arc that was put leads to the truth value 1.
+    pub(crate) has_one: bool,
 }

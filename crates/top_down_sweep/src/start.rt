@@ -104,11 +104,11 @@ impl<'r, O: Operation> TopDownSweep<'r, O> {
                 place: Place {
                     variables: n,
                     phase: Phase::Fresh,
+                    has_one: false,
                 },
                 operands,
                 queue: LevelQueue::start(asking),
                 writer,
-                has_one: false,
                 parts,
             },
         })

@@ -65,7 +65,7 @@ impl<'r, O: Operation> TopDownSweep<'r, O> {
         ensures none { result ≡ false → IsSome (made_in self.now) → (world : World) → (t : Task) →
             Remains O.rule O.begins self.now world t → Has true (table_of t) → ⊥ }
     {
-        self.machine.has_one
+        self.machine.place.has_one
             || match self.machine.place.phase {
                 Phase::Ended(made) => made.root == Ptr::terminal(true),
                 _ => false,

@@ -29,8 +29,11 @@ impl<'r> Machine<'r> {
         ensures fit { OnOk result (IsFit S.tells S.world shelf.new self.new) }
         ensures holds { OnOk result (IsTrue (S.tells shelf.new) →
             KeepsAsks self.old (S.world shelf.old) self.new (S.world shelf.new)) }
-        ensures rest { self.new ≡ record self.old { writer = self.new.writer; has_one = self.new.has_one } }
-        ensures one { self.new.has_one ≡ (self.old.has_one || leads_to_one arc) }
+        ensures rest { self.new ≡ record self.old {
+          place = record self.old.place { has_one = self.new.place.has_one };
+          writer = self.new.writer;
+        } }
+        ensures one { self.new.place.has_one ≡ (self.old.place.has_one || leads_to_one arc) }
         ensures count { OnOk result
             (inner_count self.new.writer ≡ inner_count self.old.writer + length (inner_arcs (arc ∷ []))) }
         ensures written { OnOk result (IsTrue (S.tells shelf.new) → (k : Contents) →
@@ -41,7 +44,7 @@ impl<'r> Machine<'r> {
             (xs ++ inner_arcs (arc ∷ [])) (ys ++ end_arcs (arc ∷ []))) }
         ensures undamaged { IfErr result IsNoDamage }
     {
-        self.has_one = self.has_one || arc.target == Ptr::terminal(true);
+        self.place.has_one = self.place.has_one || arc.target == Ptr::terminal(true);
         self.writer.put(arc, shelf)?;
         Ok(())
     }
@@ -55,7 +58,7 @@ impl<'r> Machine<'r> {
         ensures trusts { OnOk result (IsTrue (S.tells shelf.new) →
             HoldsOrdered self.old.writer (S.world shelf.old) → IsMachineTrusted self.new (S.world shelf.new)) }
         ensures turn { IfOk result (λ turn. turn ≡ turns.Ended) }
-        ensures one { self.new.has_one ≡ self.old.has_one }
+        ensures one { self.new.place.has_one ≡ self.old.place.has_one }
         ensures made { OnOk result (self.new.place.phase ≡ phases.Ended (made_of self.new.writer root)) }
         ensures files { OnOk result (IsTrue (S.tells shelf.new) → (k : Contents) →
             StandsFor self.old (S.world shelf.old) k →

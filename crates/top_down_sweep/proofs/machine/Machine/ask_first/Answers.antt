@@ -69,7 +69,7 @@ returns-clause-keeps g c = on_ok_weaker c.push.result (λ joins told t goes stan
       members = c.of-2.ensures i;
       asker = nobody;
     })) (joins told (first_contents t) (stands_placed m (record m { place = place }) place
-    (g.S.Shelf.world c.args.shelf.now) (first_contents t) refl stands)))) c.push.ensures.list
+    (g.S.Shelf.world c.args.shelf.now) (first_contents t) refl refl stands)))) c.push.ensures.list
 
 -- nothing was put
 pub returns-clause-ordered : goal.returns-clause-ordered

@@ -7,12 +7,12 @@ use Rattle.top_down_sweep.proofs.machine.Machine.end.Goals as goal
 -- only the files of arcs were written to
 pub returns-in_err-made-clause-does : goal.returns-in_err-made-clause-does
 returns-in_err-made-clause-does g c = does_wrote g.S.Shelf.tells g.S.Shelf.world g.S.Shelf.faults 4 _ _ c.args.self.now c.args.self.now.place c.settle.new.self
-    c.args.self.now.has_one c.from_residual.result refl
+    c.from_residual.result refl
     c.settle.ensures.same c.settle.ensures.content (search rules) (search rules)
 
 pub returns-clause-does : goal.returns-clause-does
 returns-clause-does g c = does_wrote g.S.Shelf.tells g.S.Shelf.world g.S.Shelf.faults 4 _ _ c.args.self.now _ c.settle.new.self
-    c.args.self.now.has_one _ refl
+    _ refl
     c.settle.ensures.same c.settle.ensures.content (search rules) tt
 
 -- the files are the arcs that were put

@@ -80,7 +80,7 @@ returns-clause-written g c told k stands =
     (record k { inner = k.inner ++ answer_arcs asker w }))
     (c.uid-uid.ensures ∙ ap identifier c.next-next.ensures)
     (stands_placed m (record m { place = place }) place world
-    (record k { inner = k.inner ++ answer_arcs asker c.uid-uid.result }) refl
+    (record k { inner = k.inner ++ answer_arcs asker c.uid-uid.result }) refl refl
     (c.in_ok-put_inner.ensures.written told k stands))
 
 pub returns-clause-arcs : goal.returns-clause-arcs

@@ -11,12 +11,12 @@ use Rattle.top_down_sweep.proofs.machine.Machine.put.Goals as goal
 -- only the files of arcs were written to
 pub returns-in_err-put-clause-does : goal.returns-in_err-put-clause-does
 returns-in_err-put-clause-does g c = does_wrote g.S.Shelf.tells g.S.Shelf.world g.S.Shelf.faults 1 _
-    _ c.args.self.now c.args.self.now.place c.put.new.self _ c.from_residual.result refl
+    _ c.args.self.now _ c.put.new.self c.from_residual.result refl
     c.put.ensures.same c.put.ensures.content (search rules) (search rules)
 
 pub returns-clause-does : goal.returns-clause-does
 returns-clause-does g c = does_wrote g.S.Shelf.tells g.S.Shelf.world g.S.Shelf.faults 1 _ _
-    c.args.self.now c.args.self.now.place c.put.new.self _ _ refl
+    c.args.self.now _ c.put.new.self _ refl
     c.put.ensures.same c.put.ensures.content (search rules) tt
 
 -- asks wait as before

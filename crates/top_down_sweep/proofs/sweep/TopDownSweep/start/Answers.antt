@@ -42,11 +42,10 @@ returns-clause-ready g c = record {
 pub returns-clause-trusts : goal.returns-clause-trusts
 returns-clause-trusts g c told =
     let m : Machine = record {
-      place = record { variables = c.args.n; phase = Fresh };
+      place = record { variables = c.args.n; phase = Fresh; has_one = false };
       operands = c.in_ok-operands.operands;
       queue = c.start-3.result;
       writer = c.in_ok-writer.writer;
-      has_one = false;
       parts = c.args.parts;
     } in
     let files = c.in_ok-writer.ensures.files in (
@@ -74,11 +73,10 @@ returns-in_err-writer-clause-damage g c = if_handed _ c.from_residual-in_err-wri
 pub returns-clause-remains : goal.returns-clause-remains
 returns-clause-remains g c told t is =
     let m : Machine = record {
-      place = record { variables = c.args.n; phase = Fresh };
+      place = record { variables = c.args.n; phase = Fresh; has_one = false };
       operands = c.in_ok-operands.operands;
       queue = c.start-3.result;
       writer = c.in_ok-writer.writer;
-      has_one = false;
       parts = c.args.parts;
     } in
     let made = c.in_ok-writer.ensures.files in
@@ -122,11 +120,10 @@ returns-in_err-writer-clause-undamaged g c = if_handed _ c.from_residual-in_err-
 pub returns-clause-left : goal.returns-clause-left
 returns-clause-left g c told w is =
     let m : Machine = record {
-      place = record { variables = c.args.n; phase = Fresh };
+      place = record { variables = c.args.n; phase = Fresh; has_one = false };
       operands = c.in_ok-operands.operands;
       queue = c.start-3.result;
       writer = c.in_ok-writer.writer;
-      has_one = false;
       parts = c.args.parts;
     } in
     ap (λ nodes. 6 * length w.tuples + nodes + 5) (unread_is m
