@@ -1,7 +1,7 @@
 -- Where an operand's file is damaged.
-use Rattle.std.specs.Prelude.{◌≡◌, ◌⊎◌, ℕ, ◌+◌, ◌-◌, ◌*◌, ◌<◌, true, List, length, Some}
+use Rattle.std.specs.Prelude.{◌≡◌, ◌⊎◌, ℕ, ◌+◌, ◌*◌, ◌<◌, true, List, Some}
 use Rattle.rec_words.specs.Words.{node_size}
-use Rattle.file_numbers.specs.Files.{checkpoint_file, checkpoint_gate}
+use Rattle.file_numbers.specs.Files.{checkpoint_file}
 use Rattle.shelf_model.specs.declared.file_no.FileNo.{FileNo}
 use Rattle.shelf_model.specs.declared.sort_fault.SortFault.{SortFault}
 use Rattle.shelf_model.specs.declared.sort_fault.SortFault.TheVariants.{Shelf, Damaged, RunsSpent}
@@ -9,6 +9,8 @@ use Rattle.shelf_model.specs.World.{World, file}
 use Rattle.node_file.specs.Nodes.{identifier_at}
 use Rattle.node_reading.specs.Reading.{count_of, IsDamagedNode, IsTrailerFault}
 use Rattle.level_queue.specs.Queues as queues
+use Rattle.sweep_core.specs.Resting.{checkpoint_place}
+use Rattle.sweep_core.specs.Saving.{reads_of}
 use Rattle.top_down_sweep.specs.declared.ask.Ask.{Ask}
 use Rattle.top_down_sweep.specs.declared.ask.Member.{Member}
 use Rattle.top_down_sweep.specs.declared.operand.Operand.{Operand}
@@ -82,7 +84,7 @@ IsOfCheckpoint step RunsSpent = ⊥
 abbrev pub IsCheckpointDamage : ℕ → World → SortFault → Type 0
 IsCheckpointDamage step world Shelf = Unit
 IsCheckpointDamage step world (Damaged f at) = (f ≡ checkpoint_file step)
-    × (at ≡ 16384 * (length (file world (checkpoint_gate step)).bytes - 1))
+    × (at ≡ checkpoint_place step (reads_of world))
 IsCheckpointDamage step world RunsSpent = ⊥
 
 abbrev pub IsDamage : {O : Type 0} → TopDownSweep O → World → SortFault → Type 0

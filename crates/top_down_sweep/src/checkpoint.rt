@@ -5,11 +5,9 @@ ghost use Rattle.block_stream.specs.Reads.{Looked};
 ghost use Rattle.run_tiers.specs.Faults.{OnlySortShelf};
 ghost use Rattle.top_down_sweep.specs.Damage.{IsOfCheckpoint, IsCheckpointDamage};
 
-use file_numbers::{checkpoint_file, checkpoint_gate};
+use file_numbers::checkpoint_file;
 use shelf_model::{Shelf, SortFault};
-
-// The bytes of a checkpoint.
-const POINT_SIZE: u64 = 16_384;
+use sweep_core::checkpoint_place;
 
 /// Damage at the first byte of the last checkpoint of a step that its gate counts, or of the file where it counts none.
 pub(crate) fn checkpoint_fault<S: Shelf>(step: u32, shelf: &mut S) -> SortFault
@@ -18,10 +16,10 @@ pub(crate) fn checkpoint_fault<S: Shelf>(step: u32, shelf: &mut S) -> SortFault
     ensures content { Told S.tells shelf.old shelf.new (Looked 1 (S.world shelf.old) (S.world shelf.new)) }
     ensures faults { OnlySortShelf {T = Unit} (S.faults shelf.old) (S.faults shelf.new) (Err result) }
 {
-    match shelf.len(checkpoint_gate(step)) {
-        Ok(count) => SortFault::Damaged {
+    match checkpoint_place(step, shelf) {
+        Ok(at) => SortFault::Damaged {
             file: checkpoint_file(step),
-            at: POINT_SIZE * count.saturating_sub(1),
+            at,
         },
         Err(_failed) => SortFault::Shelf,
     }
