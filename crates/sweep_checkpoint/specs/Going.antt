@@ -1,5 +1,5 @@
 -- What a stop may leave while a sweep goes on and is saved at times.
-use Rattle.std.specs.Prelude.{◌≡◌, ◌≢◌, ◌⊎◌, ℕ, ◌+◌, ◌<◌, ◌≤◌, List, length, take, Some}
+use Rattle.std.specs.Prelude.{◌≡◌, ◌≢◌, ◌⊎◌, ℕ, ◌+◌, ◌-◌, ◌*◌, ◌<◌, ◌≤◌, min, max, List, length, take, Some}
 use Rattle.shelf_model.specs.declared.file_no.FileNo.{FileNo}
 use Rattle.shelf_model.specs.declared.sort_fault.SortFault.{SortFault}
 use Rattle.shelf_model.specs.declared.sort_fault.SortFault.TheVariants.{Shelf, Damaged, RunsSpent}
@@ -8,7 +8,7 @@ use Rattle.shelf_model.specs.World.{Moment}
 use Rattle.file_numbers.specs.Files.{checkpoint_part, checkpoint_file, checkpoint_gate}
 use Rattle.run_tiers.specs.Syncs.{IsFirm}
 use Rattle.sweep_core.specs.declared.checkpoint.Checkpoint.{Checkpoint}
-use Rattle.sweep_core.specs.Accounts.{CanBeTaken}
+use Rattle.sweep_core.specs.Accounts.{Accounts, CanBeTaken}
 use Rattle.sweep_core.specs.Saving.{Saving}
 use Rattle.sweep_core.specs.Carries.{OnlySaved}
 use Rattle.sweep_checkpoint.specs.Points.{point_bytes, Fits}
@@ -87,3 +87,25 @@ pub record IsShown (step : ℕ) (going : Going) (folder : Folder) : Type 0 where
   pub last_is : going.last ≡ Some point
   pub turns_are : point.turns ≡ going.shown
   pub gated_is : last_gated step (present folder) ≡ Some (point_bytes point)
+
+-- how many turns lie between two checkpoints
+abbrev pub interval_of : ℕ → ℕ
+interval_of budget = max (min budget 65536) 1
+
+-- what so many turns and so many saves take of a step's parts: of the 256 that each part is paid with, a turn 12 and a
+-- save 4,608
+pub record TakesParts {P : Type 0} (accounts : Accounts P) (turns saves : ℕ) (old new : P) : Type 0 where
+  pub spent : 256 * (accounts.next new - accounts.next old) + accounts.stock new
+      ≤ accounts.stock old + (12 * turns + 4608 * saves)
+
+-- nothing was saved
+pub record WasNotSaved {P : Type 0} (accounts : Accounts P) (old new : Going) (before after : P) : Type 0 where
+  pub shown_is : new.shown ≡ old.shown
+  pub next_is : accounts.next after ≡ accounts.next before
+  pub stock_is : accounts.stock after ≡ accounts.stock before
+
+-- the sweep was saved, an interval of turns or more behind what was shown before
+pub record WasSaved {P : Type 0} (accounts : Accounts P) (old new : Going) (before after : P) : Type 0 where
+  pub due : old.shown + interval_of old.budget ≤ old.turns
+  pub shown_is : new.shown ≡ old.turns
+  pub takes : TakesParts accounts 0 1 before after

@@ -1,5 +1,5 @@
 //! Saving a sweep where it is, when that is due.
-ghost use Rattle.std.specs.Prelude.{◌≡◌, ◌⊎◌, ◌+◌, ◌-◌, ◌^◌, ◌<◌, ◌≤◌, min, IsTrue, IsErrOf, OnOk, IfErr, length};
+ghost use Rattle.std.specs.Prelude.{◌≡◌, ◌⊎◌, ◌+◌, ◌-◌, ◌^◌, ◌<◌, ◌≤◌, IsTrue, IsErrOf, OnOk, IfErr, length};
 ghost use Rattle.shelf_model.specs.declared.file_no.FileNo.{FileNo};
 ghost use Rattle.shelf_model.specs.Calls.{Told};
 ghost use Rattle.shelf_model.specs.Folder.{Image, IsImage, bytes_in};
@@ -11,7 +11,7 @@ ghost use Rattle.sweep_core.specs.Saving.{IsOfStep};
 ghost use Rattle.sweep_core.specs.Sweeps.{IsNoDamage};
 ghost use Rattle.sweep_core.specs.Carries.{OnlySaved};
 ghost use Rattle.sweep_checkpoint.specs.Saves.{gated_size};
-ghost use Rattle.sweep_checkpoint.specs.Going.{IsOfGoing, IsAsBefore, GoesOn, Stands, AreSure, IsShort, SameGoing, SameShown, IsShown};
+ghost use Rattle.sweep_checkpoint.specs.Going.{IsOfGoing, IsAsBefore, GoesOn, Stands, AreSure, IsShort, SameGoing, SameShown, IsShown, interval_of, WasNotSaved, WasSaved};
 
 use crate::blank::NO_RUN;
 use crate::going::Going;
@@ -45,7 +45,10 @@ pub(crate) fn save_if_due<'r, P: Resume<'r>, S: Shelf>(
     ensures going { SameGoing going.old going.new }
     ensures turns { going.new.turns ≡ going.old.turns }
     ensures due { OnOk result (going.new.turns < 2 ^ 61 → P.accounts.next sweep.new ≤ 2 ^ 32 →
-        (going.new.turns - going.new.shown < min going.old.budget 65536) ⊎ (going.new.shown ≡ going.new.turns)) }
+        (going.new.turns - going.new.shown < interval_of going.old.budget) ⊎ (going.new.shown ≡ going.new.turns)) }
+    ensures parts { OnOk result (P.accounts.next sweep.new ≤ 2 ^ 32 →
+        WasNotSaved P.accounts going.old going.new sweep.old sweep.new
+        ⊎ WasSaved P.accounts going.old going.new sweep.old sweep.new) }
     ensures shown { OnOk result (IsTrue (S.tells shelf.new) →
         SameShown going.old going.new (now (S.world shelf.old)).folder (now (S.world shelf.new)).folder
         ⊎ IsShown going.old.step going.new (now (S.world shelf.new)).folder) }

@@ -1,5 +1,5 @@
 //! How far a step has come.
-ghost use Rattle.std.specs.Prelude.{◌≡◌, ◌≤◌, min};
+ghost use Rattle.std.specs.Prelude.{◌≡◌};
 
 use sweep_core::Checkpoint;
 
@@ -25,12 +25,13 @@ pub struct Going {
 
 impl Going {
     ghost use Rattle.std.specs.Prelude.{◌-◌};
+    ghost use Rattle.sweep_checkpoint.specs.Going.{interval_of};
 
     /// How many turns are made between two checkpoints.
     pub fn interval(&self) -> u64
-        ensures { result ≡ min self.now.budget 65536 }
+        ensures { result ≡ interval_of self.now.budget }
     {
-        u64::from(self.budget).min(MOST_BETWEEN)
+        u64::from(self.budget).min(MOST_BETWEEN).max(1)
     }
 
     /// How many turns no checkpoint shows.

@@ -1,5 +1,5 @@
 //! A sweep that goes on to its end, and is saved at times.
-ghost use Rattle.std.specs.Prelude.{◌≡◌, ◌⊎◌, ◌+◌, ◌-◌, ◌^◌, ◌<◌, ◌≤◌, max, min, IsTrue, IsErrOf, OnOk, IfOk, IfErr, length};
+ghost use Rattle.std.specs.Prelude.{◌≡◌, ◌⊎◌, ◌+◌, ◌-◌, ◌^◌, ◌<◌, ◌≤◌, ◌*◌, ℕ, IsTrue, IsErrOf, OnOk, IfOk, IfErr, length};
 ghost use Rattle.shelf_model.specs.declared.file_no.FileNo.{FileNo};
 ghost use Rattle.shelf_model.specs.Calls.{Told};
 ghost use Rattle.shelf_model.specs.Folder.{Image, IsImage, bytes_in, file_in};
@@ -11,7 +11,7 @@ ghost use Rattle.sweep_core.specs.Saving.{IsOfStep};
 ghost use Rattle.sweep_core.specs.Sweeps.{IsFirm, IsNoDamage};
 ghost use Rattle.sweep_core.specs.Carries.{OnlySaved};
 ghost use Rattle.sweep_checkpoint.specs.Saves.{gated_size};
-ghost use Rattle.sweep_checkpoint.specs.Going.{IsOfGoing, IsAsBefore, GoesOn, Stands, AreSure, IsShort, SameGoing, SameShown, IsShown};
+ghost use Rattle.sweep_checkpoint.specs.Going.{IsOfGoing, IsAsBefore, GoesOn, Stands, AreSure, IsShort, SameGoing, SameShown, IsShown, interval_of, TakesParts};
 
 use crate::due::save_if_due;
 use crate::going::Going;
@@ -42,7 +42,10 @@ pub fn run_saved<'r, P: Resume<'r>, S: Shelf>(
         P.accounts.makes sweep.new f → IsFirm (file (S.world shelf.new) f)) }
     ensures going { SameGoing going.old going.new }
     ensures recent { OnOk result (going.new.turns < 2 ^ 61 → P.accounts.next sweep.new ≤ 2 ^ 32 →
-        going.new.turns - going.new.shown ≤ max (min going.old.budget 65536) 1) }
+        going.new.turns - going.new.shown ≤ interval_of going.old.budget) }
+    ensures counted { OnOk result (going.new.turns < 2 ^ 64 - 1 → P.accounts.next sweep.new ≤ 2 ^ 32 → (saves : ℕ)
+        × (interval_of going.old.budget * saves ≤ going.new.turns - going.old.turns + interval_of going.old.budget)
+        × TakesParts P.accounts (going.new.turns - going.old.turns) saves sweep.old sweep.new) }
     ensures shown { OnOk result (IsTrue (S.tells shelf.new) →
         SameShown going.old going.new (now (S.world shelf.old)).folder (now (S.world shelf.new)).folder
         ⊎ IsShown going.old.step going.new (now (S.world shelf.new)).folder) }

@@ -1,4 +1,4 @@
-use Rattle.std.proofs.Common.{ℕ, ◌≡◌, ◌≢◌, ◌+◌, ◌∙◌, ◌≤◌, IsTrue, length, rules, arith, refl, sym, ap, subst, inl, inr}
+use Rattle.std.proofs.Common.{ℕ, ◌≡◌, ◌≢◌, ◌^◌, ◌-◌, ◌<◌, ◌+◌, ◌∙◌, ◌≤◌, IsTrue, length, rules, arith, refl, sym, ap, subst, inl, inr}
 use Rattle.shelf_model.specs.Calls.{Told}
 use Rattle.shelf_model.specs.Moments.{Ran, OnlyChanged}
 use Rattle.shelf_model.specs.World.{now, file}
@@ -11,8 +11,8 @@ use Rattle.sweep_core.specs.Accounts.{OnlyOwn}
 use Rattle.sweep_core.specs.Saving.{IsOfStep}
 use Rattle.sweep_checkpoint.specs.Gated.{present, last_gated}
 use Rattle.sweep_checkpoint.specs.Saves.{gated_size}
-use Rattle.sweep_checkpoint.specs.Going.{IsOfGoing}
-use Rattle.sweep_checkpoint.proofs.WentOn.{own_saved, gated_still, says_then, of_step_later, of_step_as, covers_still, where_ended, fell_ended, fell_more, images_none, images_on, stage_save, stage_turns, left_of, come_of, sure_of, turns_on, saved_none}
+use Rattle.sweep_checkpoint.specs.Going.{IsOfGoing, interval_of}
+use Rattle.sweep_checkpoint.proofs.WentOn.{spent_none, spent_save, spent_turns, spent_saves, own_saved, gated_still, says_then, of_step_later, of_step_as, covers_still, where_ended, fell_ended, fell_more, images_none, images_on, stage_save, stage_turns, left_of, come_of, sure_of, turns_on, saved_none}
 use Rattle.sweep_checkpoint.proofs.running.run_saved.Goals as goal
 
 pub turns-init : goal.turns-init
@@ -35,6 +35,7 @@ turns-init g c =
       later = omega arith;
       few = λ told job remains. omega arith;
       covers = λ told covered. covered;
+      spent = λ few most. spent_none g.P.Sweep.accounts (interval_of c.args.going.now.budget) c.args.going.now.turns c.args.going.now.shown c.args.sweep.now;
       says = λ told. inl (record { shown_is = refl; last_is = refl; gated_is = refl });
       changes = told_changed_none g.S.Shelf.tells g.S.Shelf.world (IsOfGoing made c.args.going.now.step) c.args.shelf.now;
       images = λ told job remains sure. images_none g.P.Sweep.saving laws.stays laws.apart made read c.args.going.now.step next c.args.going.now.budget c.args.going.now.sweep (g.P.Sweep.task c.args.sweep.now) job
@@ -43,6 +44,16 @@ turns-init g c =
       come = λ told job remains sure. inl (saved_none made c.args.going.now.step next (now (g.S.Shelf.world c.args.shelf.now)));
       faults = record { later = omega arith; cause = λ is. cc; say_is = refl; text_is = λ path. refl };
     }
+
+pub returns-in_err-save_if_due-clause-changes : goal.returns-in_err-save_if_due-clause-changes
+returns-in_err-save_if_due-clause-changes g c =
+    let made = g.P.Sweep.accounts.makes c.args.sweep.now in
+    let step = c.args.going.now.step in
+    let inv = c.turns.invariant in
+    let saves = subst (λ s. Told g.S.Shelf.tells c.turns.shelf c.save_if_due.new.shelf (Ran (OnlyChanged (IsOfGoing (g.P.Sweep.accounts.makes c.turns.sweep) s) (now (g.S.Shelf.world c.turns.shelf)))
+    (g.S.Shelf.world c.turns.shelf) (g.S.Shelf.world c.save_if_due.new.shelf))) inv.going.step_is c.in_err-save_if_due.ensures.changes in
+    told_changed_then g.S.Shelf.tells g.S.Shelf.world (IsOfGoing made step) (IsOfGoing (g.P.Sweep.accounts.makes c.turns.sweep) step) c.args.shelf.now c.turns.shelf c.save_if_due.new.shelf
+    (λ f is. elim is [ inl mine ↦ inl (inv.made f mine) | inr rest ↦ inr rest ]) inv.changes saves
 
 pub returns-in_err-save_if_due-clause-images : goal.returns-in_err-save_if_due-clause-images
 returns-in_err-save_if_due-clause-images g c = λ told job remains sure.
@@ -271,6 +282,25 @@ returns-then-eq-clause-stands g c = λ told job remains sure.
     (λ f mine. inv.made f (first.made f mine)) (λ f mine. first.making f (inv.making f mine)) files_0 files_s files c.in_ok-made.ensures.leaves.later one run in
     two.come
 
+pub returns-then-eq-clause-counted : goal.returns-then-eq-clause-counted
+returns-then-eq-clause-counted g c = λ few most.
+    let inv = c.turns.invariant in
+    let first = c.in_ok-save_if_due.ensures in
+    let ran = c.in_ok-made.ensures in
+    let counted = c.saturating_add-going.ensures in
+    let same = first.turns in
+    let one = first.later in
+    let two = ran.leaves.later in
+    let few_s : c.save_if_due.new.going.turns < 2 ^ 64 - 1 = omega (arith, few, counted) in
+    let few_at : c.turns.going.turns < 2 ^ 64 - 1 = omega (arith, few_s, same) in
+    let most_s : g.P.Sweep.accounts.next c.save_if_due.new.sweep ≤ 2 ^ 32 = omega (arith, most, two) in
+    let most_at : g.P.Sweep.accounts.next c.turns.sweep ≤ 2 ^ 32 = omega (arith, most_s, one) in
+    let so_far = spent_save g.P.Sweep.accounts c.args.going.now.turns c.args.going.now c.turns.going c.save_if_due.new.going c.args.sweep.now c.turns.sweep c.save_if_due.new.sweep
+    same inv.going.budget_is inv.later one (inv.spent few_at most_at) (first.parts most_s) in
+    let all = spent_turns g.P.Sweep.accounts (interval_of c.args.going.now.budget) c.args.going.now.turns c.save_if_due.new.going.turns c.saturating_add-going.result c.save_if_due.new.going.shown c.in_ok-made.made.turns
+    c.args.sweep.now c.save_if_due.new.sweep c.run_some.new.sweep (omega (arith, few, counted)) (let zero_one = inv.later in omega (arith, zero_one, one)) two ran.counted.spent so_far in
+    spent_saves g.P.Sweep.accounts (interval_of c.args.going.now.budget) c.args.going.now.turns c.saturating_add-going.result c.save_if_due.new.going.shown c.args.sweep.now c.run_some.new.sweep all
+
 pub returns-then-eq-clause-shown : goal.returns-then-eq-clause-shown
 returns-then-eq-clause-shown g c = λ told.
     let inv = c.turns.invariant in
@@ -362,6 +392,23 @@ turns-preserved g c =
           (now (g.S.Shelf.world c.save_if_due.new.shelf)) (now (g.S.Shelf.world c.run_some.new.shelf)) files_s
           (own_saved (g.P.Sweep.accounts.makes c.save_if_due.new.sweep) c.args.going.now.step (g.P.Sweep.accounts.next c.save_if_due.new.sweep) (now (g.S.Shelf.world c.save_if_due.new.shelf))
           (now (g.S.Shelf.world c.run_some.new.shelf)) own_here) covers_s;
+      spent = λ few most.
+          let inv = c.turns.invariant in
+          let first = c.in_ok-save_if_due.ensures in
+          let ran = c.in_ok-made.ensures in
+          let counted = c.saturating_add-going.ensures in
+          let same = first.turns in
+          let one = first.later in
+          let two = ran.leaves.later in
+          let few_s : c.save_if_due.new.going.turns < 2 ^ 64 - 1 = omega (arith, few, counted) in
+          let few_at : c.turns.going.turns < 2 ^ 64 - 1 = omega (arith, few_s, same) in
+          let most_s : g.P.Sweep.accounts.next c.save_if_due.new.sweep ≤ 2 ^ 32 = omega (arith, most, two) in
+          let most_at : g.P.Sweep.accounts.next c.turns.sweep ≤ 2 ^ 32 = omega (arith, most_s, one) in
+          let so_far = spent_save g.P.Sweep.accounts c.args.going.now.turns c.args.going.now c.turns.going c.save_if_due.new.going c.args.sweep.now c.turns.sweep c.save_if_due.new.sweep
+          same inv.going.budget_is inv.later one (inv.spent few_at most_at) (first.parts most_s) in
+          let all = spent_turns g.P.Sweep.accounts (interval_of c.args.going.now.budget) c.args.going.now.turns c.save_if_due.new.going.turns c.saturating_add-going.result c.save_if_due.new.going.shown c.in_ok-made.made.turns
+          c.args.sweep.now c.save_if_due.new.sweep c.run_some.new.sweep (omega (arith, few, counted)) (let zero_one = inv.later in omega (arith, zero_one, one)) two ran.counted.spent so_far in
+          all;
       says = λ told.
           let inv = c.turns.invariant in
           let first = c.in_ok-save_if_due.ensures in

@@ -1,4 +1,4 @@
-use Rattle.std.proofs.Common.{◌≡◌, ℕ, ◌+◌, ◌≤◌, IsTrue, length}
+use Rattle.std.proofs.Common.{◌≡◌, ℕ, ◌+◌, ◌-◌, ◌^◌, ◌<◌, ◌≤◌, IsTrue, length}
 use Rattle.std.specs.Prelude.{Ok}
 use Rattle.shelf_model.specs.declared.file_no.FileNo.{FileNo}
 use Rattle.shelf_model.specs.Calls.{Told}
@@ -8,9 +8,9 @@ use Rattle.file_numbers.specs.Files.{checkpoint_file}
 use Rattle.run_tiers.specs.Faults.{OnlySortShelf}
 use Rattle.sweep_core.specs.Saving.{IsOfStep}
 use Rattle.sweep_checkpoint.specs.Saves.{gated_size}
-use Rattle.sweep_checkpoint.specs.Going.{IsOfGoing, AreSure, SameGoing}
+use Rattle.sweep_checkpoint.specs.Going.{IsOfGoing, AreSure, SameGoing, interval_of}
 use Rattle.sweep_checkpoint.proofs.SavedHere.{AreLeft}
-use Rattle.sweep_checkpoint.proofs.WentOn.{HasCome, SaysLast}
+use Rattle.sweep_checkpoint.proofs.WentOn.{HasCome, SaysLast, SpentOn}
 use Rattle.sweep_checkpoint.proofs.running.run_saved.Given as goal
 
 -- what the turns and saves so far left
@@ -36,6 +36,8 @@ invariant-turns g l = record {
       ≤ length (file (g.S.Shelf.world l.fn.shelf) (checkpoint_file l.fn.going.step)).bytes
       → gated_size l.fn.going.step (now (g.S.Shelf.world l.shelf)).folder
       ≤ length (file (g.S.Shelf.world l.shelf) (checkpoint_file l.fn.going.step)).bytes;
+  spent : l.going.turns < 2 ^ 64 - 1 → g.P.Sweep.accounts.next l.sweep ≤ 2 ^ 32
+      → SpentOn g.P.Sweep.accounts (interval_of l.fn.going.budget) l.fn.going.turns l.going.turns l.going.shown l.fn.sweep l.sweep;
   says : IsTrue (g.S.Shelf.tells l.shelf) → SaysLast l.fn.going l.going (now (g.S.Shelf.world l.fn.shelf)).folder (now (g.S.Shelf.world l.shelf)).folder;
   changes : Told g.S.Shelf.tells l.fn.shelf l.shelf (Ran (OnlyChanged (IsOfGoing (g.P.Sweep.accounts.makes l.fn.sweep) l.fn.going.step)
       (now (g.S.Shelf.world l.fn.shelf))) (g.S.Shelf.world l.fn.shelf) (g.S.Shelf.world l.shelf));
