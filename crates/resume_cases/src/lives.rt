@@ -115,6 +115,15 @@ fn live<'r, P: Resume<'r>>(
     Ok(made.turn)
 }
 
+// How a life ended.
+fn life_end(turn: Turn, answer: Option<bool>, going: &Going) -> Result<Option<Lived>, SortFault> {
+    Ok(Some(Lived {
+        turn,
+        answer,
+        turns: going.turns,
+    }))
+}
+
 // A comparison. None is answered where the checkpoint isn't one of a comparison.
 fn compare(
     n: u32,
@@ -127,21 +136,17 @@ fn compare(
     requires step { going.old.step ≡ 7 }
     requires sweep { going.old.sweep ≤ 1 }
 {
-    let mut sweep = match &going.last {
-        None => SameSweep::start(n, FIRST, SECOND, PARTS, room, bench)?,
-        Some(point) => {
-            if !SameSweep::fits(point) || point.step != STEP {
-                return Ok(None);
-            }
-            SameSweep::rebuild(point, &[], room, bench)?
-        }
+    let Some(point) = going.last else {
+        let mut sweep = SameSweep::start(n, FIRST, SECOND, PARTS, room, bench)?;
+        let turn = live(&mut sweep, way, going, bench)?;
+        return life_end(turn, sweep.answer(), going);
     };
+    if !SameSweep::fits(&point) || point.step != STEP {
+        return Ok(None);
+    }
+    let mut sweep = SameSweep::rebuild(&point, &[], room, bench)?;
     let turn = live(&mut sweep, way, going, bench)?;
-    Ok(Some(Lived {
-        turn,
-        answer: sweep.answer(),
-        turns: going.turns,
-    }))
+    life_end(turn, sweep.answer(), going)
 }
 
 // An evaluation. None is answered where the checkpoint isn't one of an evaluation over that text.
@@ -158,24 +163,29 @@ fn evaluate(
     requires sweep { going.old.sweep ≤ 1 }
     requires few { n ≤ 12 }
 {
-    if text.len() < AT as usize + n as usize {
+    if text.len() < 5 + n as usize {
         return Ok(None);
     }
-    let mut sweep = match &going.last {
-        None => EvalSweep::start(n, FIRST, text, AT, PARTS, room, bench)?,
-        Some(point) => {
-            if !EvalSweep::fits(point, text) || point.step != STEP {
-                return Ok(None);
-            }
-            EvalSweep::rebuild(point, text, room, bench)?
-        }
+    let Some(point) = going.last else {
+        let mut sweep = EvalSweep::start(n, FIRST, text, AT, PARTS, room, bench)?;
+        let turn = live(&mut sweep, way, going, bench)?;
+        return life_end(turn, sweep.answer(), going);
     };
+    if !EvalSweep::fits(&point, text) || point.step != STEP {
+        return Ok(None);
+    }
+    let mut sweep = EvalSweep::rebuild(&point, text, room, bench)?;
     let turn = live(&mut sweep, way, going, bench)?;
-    Ok(Some(Lived {
-        turn,
-        answer: sweep.answer(),
-        turns: going.turns,
-    }))
+    life_end(turn, sweep.answer(), going)
+}
+
+// Whether a copy that has ended has made the bytes that it has to make.
+fn copied(turn: Turn, bench: &Bench) -> Option<bool> {
+    if turn == Turn::Ended {
+        Some(bench.file(MADE) == bench.file(SECOND))
+    } else {
+        None
+    }
 }
 
 // A copy. None is answered where the checkpoint isn't one of a copy.
@@ -190,31 +200,22 @@ fn copy(
     requires step { going.old.step ≡ 7 }
     requires sweep { going.old.sweep ≤ 1 }
 {
-    let task = CopyTask {
-        from: FIRST,
-        to: MADE,
-        pieces: pieces.min(100),
+    let Some(point) = going.last else {
+        let task = CopyTask {
+            from: FIRST,
+            to: MADE,
+            pieces: pieces.min(100),
+        };
+        let mut sweep = CopySweep::start(task, PARTS, bench)?;
+        let turn = live(&mut sweep, way, going, bench)?;
+        return life_end(turn, copied(turn, bench), going);
     };
-    let mut sweep = match &going.last {
-        None => CopySweep::start(task, PARTS, bench)?,
-        Some(point) => {
-            if !CopySweep::fits(point) || point.step != STEP {
-                return Ok(None);
-            }
-            CopySweep::rebuild(point, &[], room, bench)?
-        }
-    };
+    if !CopySweep::fits(&point) || point.step != STEP {
+        return Ok(None);
+    }
+    let mut sweep = CopySweep::rebuild(&point, &[], room, bench)?;
     let turn = live(&mut sweep, way, going, bench)?;
-    let answer = if turn == Turn::Ended {
-        Some(bench.file(MADE) == bench.file(SECOND))
-    } else {
-        None
-    };
-    Ok(Some(Lived {
-        turn,
-        answer,
-        turns: going.turns,
-    }))
+    life_end(turn, copied(turn, bench), going)
 }
 
 /// A life of the sweep of a case, from the last checkpoint of its step if there is one. None is answered where that
