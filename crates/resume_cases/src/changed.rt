@@ -1,7 +1,7 @@
 //! Checkpoints in which a word is another one.
 ghost use Rattle.std.specs.Prelude.{◌≤◌, length};
 
-use crate::lives::{EMPTY, Lived, MADE, STEP, Way, going_from, live_from, live_on};
+use crate::lives::{EMPTY, Lived, MADE, STEP, Way, going_from, live_from, live_on, room_len};
 use crate::plans::{Case, FEW, Plan};
 use case_tables::{FIRST, SECOND, put_bytes};
 use file_numbers::{checkpoint_file, checkpoint_gate};
@@ -31,7 +31,7 @@ fn words_of(plan: Plan) -> (usize, [usize; 2]) {
 fn file_at(place: usize, point: &Checkpoint) -> FileNo {
     FileNo {
         step: (point.carry[place % 40] % (1 << 32)) as u32,
-        part: point.carry[(place + 1) % 40],
+        part: point.carry[place.wrapping_add(1) % 40],
     }
 }
 
@@ -152,9 +152,10 @@ fn wrong_word(
 // The same of the first checkpoints of a plan.
 fn wrong_turn(alloc: Global, plan: Plan) -> Result<Option<(u64, usize)>, Fail> {
     let case = plan.case(alloc)?;
-    let mut room = vec![in alloc; EMPTY; 16_384]?;
+    let mut records = vec![in alloc; EMPTY; room_len(0)]?;
+    let room = records.as_mut_slice();
     for turns in 0..5 {
-        if let Some(place) = wrong_word(alloc, &case, turns, room.as_mut_slice())? {
+        if let Some(place) = wrong_word(alloc, &case, turns, room)? {
             return Ok(Some((turns, place)));
         }
     }

@@ -1,7 +1,7 @@
 //! Sweeps that run to their end with checkpoints at times, where each call fails in turn, and a stop comes behind it.
 ghost use Rattle.std.specs.Prelude.{◌≤◌, length};
 
-use crate::lives::{EMPTY, Lived, Way, live_on};
+use crate::lives::{EMPTY, Lived, Way, live_on, room_len};
 use crate::plans::{Case, FEW, PLANS, Plan};
 use crate::saved::turns_of;
 use rec_words::Rec;
@@ -26,11 +26,12 @@ fn ended(case: &Case, turns: u64) -> Lived {
 // Whether a sweep runs to its end with each interval.
 fn runs(alloc: Global, plan: Plan) -> Result<bool, Fail> {
     let case = plan.case(alloc)?;
-    let mut room = vec![in alloc; EMPTY; 16_384]?;
-    let wanted = ended(&case, turns_of(alloc, &case, room.as_mut_slice())?);
+    let mut records = vec![in alloc; EMPTY; room_len(0)]?;
+    let room = records.as_mut_slice();
+    let wanted = ended(&case, turns_of(alloc, &case, room)?);
     for interval in [1, 3, 5] {
         let mut bench = case.bench(alloc)?;
-        let lived = live_on(&case, Way::ToEnd, interval, room.as_mut_slice(), &mut bench)?;
+        let lived = live_on(&case, Way::ToEnd, interval, room, &mut bench)?;
         if lived != Some(wanted) {
             return Ok(false);
         }
@@ -115,16 +116,12 @@ fn wrong_call(
 // The same with each interval.
 fn wrong_interval(alloc: Global, plan: Plan) -> Result<Option<(u64, Choice)>, Fail> {
     let case = plan.case(alloc)?;
-    let mut room = vec![in alloc; EMPTY; 16_384]?;
-    let mut other = vec![in alloc; EMPTY; 16_500]?;
+    let mut records = vec![in alloc; EMPTY; room_len(0)]?;
+    let room = records.as_mut_slice();
+    let mut more = vec![in alloc; EMPTY; room_len(116)]?;
+    let other = more.as_mut_slice();
     for interval in [1, 3, 5] {
-        let wrong = wrong_call(
-            alloc,
-            &case,
-            interval,
-            room.as_mut_slice(),
-            other.as_mut_slice(),
-        )?;
+        let wrong = wrong_call(alloc, &case, interval, room, other)?;
         if wrong.is_some() {
             return Ok(wrong);
         }

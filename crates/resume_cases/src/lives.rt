@@ -24,6 +24,14 @@ const PARTS: Parts = Parts { step: 7, next: 5 };
 
 pub(crate) const EMPTY: Rec = Rec { w: [0; 8] };
 
+/// How many records a room has: as many as any sweep may want, and so many more.
+pub(crate) fn room_len(more: usize) -> usize
+    requires { more ≤ 1000 }
+    ensures { 16384 ≤ result }
+{
+    16_384 + more
+}
+
 const NO_RUN: Run = Run {
     part: 0,
     next: 0,

@@ -1,7 +1,7 @@
 //! Sweeps that are saved behind every few turns, stopped, and rebuilt in another room.
 ghost use Rattle.std.specs.Prelude.{◌≤◌, length};
 
-use crate::lives::{EMPTY, Lived, Way, live_on};
+use crate::lives::{EMPTY, Lived, Way, live_on, room_len};
 use crate::plans::{Case, PLANS, Plan};
 use rec_words::Rec;
 use shelf_memory::Choice;
@@ -105,18 +105,13 @@ fn comes_back(
 // The first number of turns and stop with which it doesn't.
 fn wrong_stop(alloc: Global, plan: Plan) -> Result<Option<(u64, Choice)>, Fail> {
     let case = plan.case(alloc)?;
-    let mut room = vec![in alloc; EMPTY; 16_384]?;
-    let mut other = vec![in alloc; EMPTY; 16_500]?;
+    let mut records = vec![in alloc; EMPTY; room_len(0)]?;
+    let room = records.as_mut_slice();
+    let mut more = vec![in alloc; EMPTY; room_len(116)]?;
+    let other = more.as_mut_slice();
     for every in [1, 2, 3, 7] {
         for choice in STOPS {
-            if !comes_back(
-                alloc,
-                &case,
-                every,
-                choice,
-                room.as_mut_slice(),
-                other.as_mut_slice(),
-            )? {
+            if !comes_back(alloc, &case, every, choice, room, other)? {
                 return Ok(Some((every, choice)));
             }
         }

@@ -1,5 +1,5 @@
 //! Checkpoint files that are shorter than their gate says.
-use crate::lives::{EMPTY, STEP, Way, going_from, live_from};
+use crate::lives::{EMPTY, STEP, Way, going_from, live_from, room_len};
 use crate::plans::{FEW, Plan};
 use case_tables::put_bytes;
 use file_numbers::{checkpoint_file, checkpoint_gate};
@@ -25,15 +25,10 @@ fn names(alloc: Global, plan: Plan, gated: usize, bytes: usize, at: u64) -> Resu
     let points = vec![in alloc; 0u8; bytes]?;
     put_bytes(&mut bench, checkpoint_gate(STEP), gate.as_slice())?;
     put_bytes(&mut bench, checkpoint_file(STEP), points.as_slice())?;
-    let mut room = vec![in alloc; EMPTY; 16_384]?;
+    let mut records = vec![in alloc; EMPTY; room_len(0)]?;
+    let room = records.as_mut_slice();
     let mut going = going_from(1, None);
-    let lived = live_from(
-        &case,
-        Way::ToEnd,
-        &mut going,
-        room.as_mut_slice(),
-        &mut bench,
-    );
+    let lived = live_from(&case, Way::ToEnd, &mut going, room, &mut bench);
     let file = FileNo { step: 7, part: 1 };
     Ok(lived == Err(SortFault::Damaged { file, at }))
 }
