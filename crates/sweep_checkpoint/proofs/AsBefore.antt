@@ -1,9 +1,9 @@
 -- What a stop may leave while a sweep goes on, beside what it might have left before.
-use Rattle.std.proofs.Common.{◌≡◌, ◌≢◌, ◌⊎◌, ℕ, ◌+◌, ◌-◌, ◌*◌, ◌<◌, ◌≤◌, min, List, ◌++◌, length, take, drop, refl, sym, ap, subst, ◌∙◌, inl, inr, arith}
-use Rattle.std.proofs.lemmas.List.{length-take, length-take-le, length-drop, length-append, take_all, take_at, take-take, take-append-drop}
+use Rattle.std.proofs.Common.{◌≡◌, ◌≢◌, ℕ, ◌+◌, ◌<◌, ◌≤◌, min, List, ◌++◌, length, take, drop, sym, ap, subst, ◌∙◌, inl, inr, arith}
+use Rattle.std.proofs.lemmas.List.{length-take, length-take-le, length-append, take_all, take_at, take-take, take-append-drop}
 use Rattle.std.specs.FinMap.{insert}
 use Rattle.shelf_model.specs.declared.file_no.FileNo.{FileNo}
-use Rattle.shelf_model.specs.File.{File, firm_file, IsFile, IsLeft, IsKept}
+use Rattle.shelf_model.specs.File.{File, IsFile, IsLeft, IsKept}
 use Rattle.shelf_model.specs.Folder.{Folder, Image, file_in, bytes_in, IsImage, AreFiles}
 use Rattle.shelf_model.specs.World.{Moment}
 use Rattle.shelf_model.proofs.Files.{kept_left}
@@ -13,13 +13,13 @@ use Rattle.shelf_model.proofs.Numbers.{cases_file}
 use Rattle.file_numbers.specs.Files.{checkpoint_file, checkpoint_gate}
 use Rattle.run_tiers.specs.Syncs.{IsSameOrFirm}
 use Rattle.sweep_core.specs.declared.checkpoint.Checkpoint.{Checkpoint}
-use Rattle.sweep_core.specs.Accounts.{CanBeTaken, OnlyOwn}
-use Rattle.sweep_core.specs.Saving.{IsOfStep, IsMadePart}
+use Rattle.sweep_core.specs.Accounts.{CanBeTaken}
+use Rattle.sweep_core.specs.Saving.{IsOfStep}
 use Rattle.sweep_core.specs.Carries.{IsBehindPoints, OnlySaved}
-use Rattle.sweep_checkpoint.specs.Gated.{present, last_of, last_gated}
+use Rattle.sweep_checkpoint.specs.Gated.{last_of, last_gated}
 use Rattle.sweep_checkpoint.specs.Saves.{IsLastBefore, DuringSave}
 use Rattle.sweep_checkpoint.specs.Going.{IsAsBefore}
-use Rattle.sweep_checkpoint.proofs.Saved.{points_not_gate, gate_not_points}
+use Rattle.sweep_checkpoint.proofs.Saved.{points_not_gate}
 
 -- a front that is sure, and behind it what a stop left, as far as a stop could have left it before
 abbrev spliced : File → List ℕ → List ℕ

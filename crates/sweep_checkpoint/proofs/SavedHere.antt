@@ -1,10 +1,9 @@
 -- A sweep that is saved where it is: what a stop may leave meanwhile, and what stands afterwards.
-use Rattle.std.proofs.Common.{◌≡◌, ◌≢◌, ◌⊎◌, ℕ, zero, suc, ◌+◌, ◌*◌, ◌^◌, ◌<◌, ◌≤◌, Bool, IsTrue, List, [], ◌∷◌, ◌++◌, length, take, refl, sym, ap, subst, ◌∙◌, inl, inr, arith}
+use Rattle.std.proofs.Common.{◌≡◌, ◌≢◌, ◌⊎◌, ℕ, ◌+◌, ◌*◌, ◌^◌, ◌<◌, ◌≤◌, Bool, IsTrue, List, [], ◌∷◌, ◌++◌, length, take, refl, sym, ap, subst, ◌∙◌, inl, inr, arith}
 use Rattle.std.specs.Prelude.{Option, Some, All}
-use Rattle.std.specs.List.{Any}
 use Rattle.std.proofs.lemmas.List.{length-take-le, length-append}
 use Rattle.shelf_model.specs.declared.file_no.FileNo.{FileNo}
-use Rattle.shelf_model.specs.File.{File, firm_file, IsFile}
+use Rattle.shelf_model.specs.File.{File, firm_file}
 use Rattle.shelf_model.specs.Folder.{Folder, Image, file_in, bytes_in, IsImage, AreFiles, OnlyChanges}
 use Rattle.shelf_model.specs.World.{Moment, World, now, file}
 use Rattle.shelf_model.specs.Calls.{Told}
@@ -15,18 +14,16 @@ use Rattle.file_numbers.specs.Files.{checkpoint_file, checkpoint_gate}
 use Rattle.run_tiers.specs.declared.run.Run.{Run}
 use Rattle.run_tiers.specs.Syncs.{IsFirm}
 use Rattle.sweep_core.specs.declared.checkpoint.Checkpoint.{Checkpoint}
-use Rattle.sweep_core.specs.Accounts.{CanBeTaken}
-use Rattle.sweep_core.specs.Tables.{tables_in_use, IsSlot, Names, HasTables}
-use Rattle.sweep_core.specs.Saving.{Saving, IsOfStep, IsRestingPlace, SameHead, IsFilled, IsSure, reads_of}
+use Rattle.sweep_core.specs.Tables.{IsSlot, Names, HasTables}
+use Rattle.sweep_core.specs.Saving.{Saving, IsOfStep, IsRestingPlace, IsFilled, IsSure, reads_of}
 use Rattle.sweep_core.specs.Carries.{OnlySaved, IsUsed}
 use Rattle.sweep_checkpoint.specs.Points.{point_bytes, Fits}
-use Rattle.sweep_checkpoint.specs.Rules.{KeepsRules}
 use Rattle.sweep_checkpoint.specs.Gated.{present, last_gated}
 use Rattle.sweep_checkpoint.specs.Saves.{gated_size, IsGateSure, DuringSave, IsSaved}
 use Rattle.sweep_checkpoint.specs.Retires.{IsGivenUp}
 use Rattle.sweep_checkpoint.specs.Going.{IsOfGoing, IsAsBefore, GoesOn, Stands, AreSure}
 use Rattle.sweep_checkpoint.proofs.Parts.{length_point}
-use Rattle.sweep_checkpoint.proofs.AsBefore.{as_before, as_before_then, before_saved, points_not_made, gate_not_made, points_stay, gate_stays, same_last}
+use Rattle.sweep_checkpoint.proofs.AsBefore.{as_before, as_before_then, before_saved, points_not_made, gate_not_made, gate_stays, same_last}
 use Rattle.sweep_checkpoint.proofs.Standing.{Ready, stands_image, stands_retired, ready_goes_on, ready_saved}
 
 -- the files of a step that change meanwhile: first those of the sweep

@@ -12,17 +12,17 @@ use Rattle.run_tiers.specs.Syncs.{IsFirm}
 use Rattle.sweep_core.specs.declared.checkpoint.Checkpoint.{Checkpoint}
 use Rattle.sweep_core.specs.Accounts.{CanBeTaken}
 use Rattle.sweep_core.specs.Saving.{Saving, IsOfStep, IsRestingPlace}
-use Rattle.sweep_core.specs.Carries.{IsBehindPoints, OnlySaved}
+use Rattle.sweep_core.specs.Carries.{OnlySaved}
 use Rattle.sweep_checkpoint.specs.Points.{point_bytes, Fits}
 use Rattle.sweep_checkpoint.specs.Rules.{KeepsRules}
 use Rattle.sweep_checkpoint.specs.Gated.{present, last_of, last_gated}
-use Rattle.sweep_checkpoint.specs.Saves.{gated_size, IsGateSure, IsLast, IsLastBefore, DuringSave, IsSaved}
+use Rattle.sweep_checkpoint.specs.Saves.{gated_size, IsGateSure, IsLast, DuringSave, IsSaved}
 use Rattle.sweep_checkpoint.specs.Retires.{IsGivenUp}
-use Rattle.sweep_checkpoint.specs.Going.{IsAsBefore, GoesOn, Stands, AreSure}
+use Rattle.sweep_checkpoint.specs.Going.{IsAsBefore, GoesOn, Stands}
 use Rattle.file_writes.proofs.Sure.{sure_bytes}
 use Rattle.sweep_checkpoint.proofs.Saved.{last_of-take}
 use Rattle.sweep_checkpoint.proofs.Parts.{length_point}
-use Rattle.sweep_checkpoint.proofs.AsBefore.{points_not_made, gate_not_made, points_stay, gate_stays, same_last, before_saved}
+use Rattle.sweep_checkpoint.proofs.AsBefore.{points_stay, gate_stays, same_last}
 
 -- what is sure of a file is there in each image
 sure_front : (folder : Folder) (image : Image) (f : FileNo) (n : ℕ) → IsImage folder image → n ≤ (file_in folder f).firm

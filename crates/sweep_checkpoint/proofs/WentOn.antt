@@ -1,9 +1,9 @@
 -- A sweep that goes on from one save to the next: what a stop may leave, from the first moment on.
-use Rattle.std.proofs.Common.{◌≡◌, ◌≢◌, ◌⊎◌, ℕ, zero, suc, ◌+◌, ◌-◌, ◌*◌, ◌<◌, ◌≤◌, Bool, IsTrue, List, length, take, refl, sym, ap, subst, ◌∙◌, inl, inr, arith, mul-suc, mul-zero}
+use Rattle.std.proofs.Common.{◌≡◌, ◌≢◌, ◌⊎◌, ℕ, suc, ◌+◌, ◌-◌, ◌*◌, ◌≤◌, Bool, List, length, take, refl, sym, ap, subst, ◌∙◌, inl, inr, arith, mul-suc, mul-zero}
 use Rattle.std.specs.Prelude.{Ok}
 use Rattle.shelf_model.specs.declared.file_no.FileNo.{FileNo}
-use Rattle.shelf_model.specs.File.{File, firm_file, IsKept}
-use Rattle.shelf_model.specs.Folder.{Folder, Image, file_in, bytes_in, IsImage, AreFiles}
+use Rattle.shelf_model.specs.File.{File, firm_file}
+use Rattle.shelf_model.specs.Folder.{Folder, file_in, bytes_in, AreFiles}
 use Rattle.shelf_model.specs.World.{Moment, World, now}
 use Rattle.shelf_model.specs.Calls.{Told}
 use Rattle.shelf_model.specs.Moments.{Throughout, Ran, OnlyChanged}
@@ -23,7 +23,7 @@ use Rattle.sweep_checkpoint.specs.Gated.{present, last_gated}
 use Rattle.sweep_checkpoint.specs.declared.going.Going.{Going}
 use Rattle.sweep_checkpoint.specs.Going.{IsOfGoing, IsAsBefore, GoesOn, Stands, AreSure, SameShown, IsShown, interval_of, TakesParts, WasNotSaved, WasSaved}
 use Rattle.sweep_checkpoint.proofs.AsBefore.{as_before, as_before_then, points_stay, gate_stays, same_last}
-use Rattle.sweep_checkpoint.proofs.Standing.{stands_image, stands_saved, stands_later, as_before_stands}
+use Rattle.sweep_checkpoint.proofs.Standing.{stands_saved, stands_later, as_before_stands}
 use Rattle.sweep_checkpoint.proofs.SavedHere.{AreLeft, saved_changes, ran_changes, moments}
 
 -- from a later part number on

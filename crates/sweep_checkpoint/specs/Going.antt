@@ -4,13 +4,11 @@ use Rattle.shelf_model.specs.declared.file_no.FileNo.{FileNo}
 use Rattle.shelf_model.specs.declared.sort_fault.SortFault.{SortFault}
 use Rattle.shelf_model.specs.declared.sort_fault.SortFault.TheVariants.{Shelf, Damaged, RunsSpent}
 use Rattle.shelf_model.specs.Folder.{Folder, Image, file_in, bytes_in, IsImage}
-use Rattle.shelf_model.specs.World.{Moment}
 use Rattle.file_numbers.specs.Files.{checkpoint_part, checkpoint_file, checkpoint_gate}
 use Rattle.run_tiers.specs.Syncs.{IsFirm}
 use Rattle.sweep_core.specs.declared.checkpoint.Checkpoint.{Checkpoint}
 use Rattle.sweep_core.specs.Accounts.{Accounts, CanBeTaken}
 use Rattle.sweep_core.specs.Saving.{Saving}
-use Rattle.sweep_core.specs.Carries.{OnlySaved}
 use Rattle.sweep_checkpoint.specs.Points.{point_bytes, Fits}
 use Rattle.sweep_checkpoint.specs.Rules.{KeepsRules}
 use Rattle.sweep_checkpoint.specs.Gated.{present, gated_place, last_gated}

@@ -1,11 +1,10 @@
-use Rattle.std.proofs.Common.{ℕ, ◌≡◌, ◌+◌, ◌∙◌, ◌≤◌, IsTrue, length, rules, arith, refl, sym, subst, inl, inr}
+use Rattle.std.proofs.Common.{◌+◌, ◌∙◌, ◌≤◌, length, rules, arith, refl, sym, subst, inr}
 use Rattle.shelf_model.specs.Calls.{Told}
 use Rattle.shelf_model.specs.Moments.{Ran, OnlyChanged}
 use Rattle.shelf_model.specs.World.{now, file}
 use Rattle.file_numbers.specs.Files.{checkpoint_file}
 use Rattle.sweep_checkpoint.specs.Saves.{gated_size}
 use Rattle.sweep_checkpoint.specs.Going.{IsOfGoing, AreSure, Stands}
-use Rattle.sweep_core.specs.Carries.{OnlySaved}
 use Rattle.sweep_core.specs.Saving.{IsOfStep}
 use Rattle.sweep_checkpoint.proofs.WentOn.{images_none}
 use Rattle.sweep_checkpoint.proofs.SavedHere.{carried_at, images_carry, images_save, images_retire, stands_retire, left_at, save_on, retire_on, works_on, covers_on, ready_by}

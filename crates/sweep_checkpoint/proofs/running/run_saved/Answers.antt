@@ -1,11 +1,10 @@
-use Rattle.std.proofs.Common.{ℕ, ◌≡◌, ◌≢◌, ◌^◌, ◌-◌, ◌<◌, ◌+◌, ◌∙◌, ◌≤◌, IsTrue, length, rules, arith, refl, sym, ap, subst, inl, inr}
+use Rattle.std.proofs.Common.{◌≡◌, ◌≢◌, ◌^◌, ◌-◌, ◌<◌, ◌+◌, ◌∙◌, ◌≤◌, length, rules, arith, refl, sym, subst, inl, inr}
 use Rattle.shelf_model.specs.Calls.{Told}
 use Rattle.shelf_model.specs.Moments.{Ran, OnlyChanged}
 use Rattle.shelf_model.specs.World.{now, file}
-use Rattle.shelf_model.proofs.Runs.{told, ran_end, told_here}
+use Rattle.shelf_model.proofs.Runs.{ran_end}
 use Rattle.shelf_model.proofs.Changing.{told_changed_none, told_changed_then}
 use Rattle.file_numbers.specs.Files.{checkpoint_file}
-use Rattle.run_tiers.proofs.FaultLaws.{sort_shelf_then}
 use Rattle.sweep_core.specs.declared.turn.Turn.TheVariants.{Ended}
 use Rattle.sweep_core.specs.Accounts.{OnlyOwn}
 use Rattle.sweep_core.specs.Saving.{IsOfStep}

@@ -1,4 +1,4 @@
-use Rattle.std.proofs.Common.{◌≡◌, ℕ, ◌+◌, ◌-◌, ◌^◌, ◌<◌, ◌≤◌, IsTrue, length}
+use Rattle.std.proofs.Common.{◌≡◌, ◌+◌, ◌-◌, ◌^◌, ◌<◌, ◌≤◌, IsTrue, length}
 use Rattle.std.specs.Prelude.{Ok}
 use Rattle.shelf_model.specs.declared.file_no.FileNo.{FileNo}
 use Rattle.shelf_model.specs.Calls.{Told}
@@ -6,7 +6,6 @@ use Rattle.shelf_model.specs.Moments.{Ran, Throughout, OnlyChanged}
 use Rattle.shelf_model.specs.World.{now, file}
 use Rattle.file_numbers.specs.Files.{checkpoint_file}
 use Rattle.run_tiers.specs.Faults.{OnlySortShelf}
-use Rattle.sweep_core.specs.Saving.{IsOfStep}
 use Rattle.sweep_checkpoint.specs.Saves.{gated_size}
 use Rattle.sweep_checkpoint.specs.Going.{IsOfGoing, AreSure, SameGoing, interval_of}
 use Rattle.sweep_checkpoint.proofs.SavedHere.{AreLeft}
