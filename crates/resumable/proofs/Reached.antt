@@ -4,7 +4,7 @@ use Rattle.std.proofs.Common.{sym, subst, inl, inr}
 use Rattle.bool_tables.specs.declared.steps.Planned.{Planned}
 use Rattle.bool_tables.specs.declared.steps.Step.{Step}
 use Rattle.shelf_model.specs.declared.file_no.FileNo.{FileNo}
-use Rattle.resumable.specs.Plans.{step_at}
+use Rattle.step_work.specs.Plans.{step_at}
 use Rattle.resumable.specs.Kinds.{CopyGoesOn, StepGoesOn}
 use Rattle.resumable.specs.Resumable.{NoneBehind, IsResumable}
 

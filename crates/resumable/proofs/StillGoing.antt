@@ -16,7 +16,7 @@ use Rattle.restrict_eval.specs.SameResumes.{same_saving}
 use Rattle.restrict_eval.specs.SameResumes as comparisons
 use Rattle.restrict_eval.specs.EvalResumes.{eval_saving}
 use Rattle.restrict_eval.specs.EvalResumes as evaluations
-use Rattle.resumable.specs.Plans.{step_at, file_at, work_at}
+use Rattle.step_work.specs.Plans.{step_at, file_at, work_at}
 use Rattle.resumable.specs.Kinds.{GoesOnFrom, comparison_of, two_tables, evaluation_of, one_table, copy_of}
 use Rattle.resumable.specs.Kinds.{CopyGoesOn, StepGoesOn, RestsOn}
 use Rattle.resumable.specs.Resumable.{StartsOrGoesOn, IsLastOf, ShowsTheSame, IsResumable}

@@ -17,7 +17,7 @@ use Rattle.restrict_eval.specs.Same.{Compared, Tables}
 use Rattle.restrict_eval.specs.SameResumes.{same_saving}
 use Rattle.restrict_eval.specs.Eval.{Evaluated, OneTable}
 use Rattle.restrict_eval.specs.EvalResumes.{eval_saving}
-use Rattle.resumable.specs.Plans.{table_at, file_at, work_at}
+use Rattle.step_work.specs.Plans.{table_at, file_at, work_at}
 
 -- the last gated checkpoint is one of the step's first sweep. It names this task, with part numbers of its own, and
 -- with what the files hold it goes on to the end of this job. The turns that were made before it, those that remain and

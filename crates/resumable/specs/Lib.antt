@@ -1,3 +1,2 @@
-pub mod Plans
 pub mod Kinds
 pub mod Resumable

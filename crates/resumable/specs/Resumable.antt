@@ -7,7 +7,7 @@ use Rattle.sweep_core.specs.declared.checkpoint.Checkpoint.{Checkpoint}
 use Rattle.sweep_checkpoint.specs.Points.{point_bytes, Fits}
 use Rattle.sweep_checkpoint.specs.Rules.{KeepsRules}
 use Rattle.sweep_checkpoint.specs.Gated.{last_gated}
-use Rattle.resumable.specs.Plans.{step_at}
+use Rattle.step_work.specs.Plans.{step_at}
 use Rattle.resumable.specs.Kinds.{StepGoesOn, RestsOn}
 
 -- no step of the plan behind step j has a gated checkpoint. Of a number that no step has nothing is said: the job's own

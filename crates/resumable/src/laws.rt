@@ -9,7 +9,7 @@ ghost use Rattle.sweep_checkpoint.specs.Going.{GoesOn};
 ghost use Rattle.copy_sweep.specs.Resumes.{copy_saving};
 ghost use Rattle.restrict_eval.specs.SameResumes.{same_saving};
 ghost use Rattle.restrict_eval.specs.EvalResumes.{eval_saving};
-ghost use Rattle.resumable.specs.Plans.{step_at, table_at, file_at, work_at};
+ghost use Rattle.step_work.specs.Plans.{step_at, table_at, file_at, work_at};
 ghost use Rattle.resumable.specs.Kinds.{comparison_of, two_tables, evaluation_of, one_table, copy_of};
 ghost use Rattle.resumable.specs.Resumable.{NoneBehind, HasNone, ShowsTheSame, IsResumable};
 

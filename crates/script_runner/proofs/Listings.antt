@@ -30,7 +30,8 @@ use Rattle.diagram_list.specs.Listing.{entry_in, first_steps, is_dropped, step_l
 use Rattle.diagram_list.specs.Listing as found
 use Rattle.diagram_list.specs.Lists.{StandWhole, DuringList, IsDamagedPlace, NamesDamage, Lists}
 use Rattle.diagram_list.proofs.Steps.{read_is}
-use Rattle.sound_image.specs.Jobs.{Job, no_step, step_at}
+use Rattle.step_work.specs.Plans.{no_step}
+use Rattle.sound_image.specs.Jobs.{Job, step_at}
 use Rattle.sound_image.specs.Entries.{kind_of, count_of, name_of, IsEntryOfStep}
 use Rattle.sound_image.specs.Sound.{ShowsSteps, IsShown}
 use Rattle.sound_image.specs.Holds.{AreSound}

@@ -22,7 +22,8 @@ use Rattle.catalogue.specs.Commits.{IsReady}
 use Rattle.catalogue.specs.Standings.{IsBeginning, DuringAttach}
 use Rattle.catalogue.proofs.Counted.{ready_counts}
 use Rattle.sound_image.specs.Files.{node_file}
-use Rattle.sound_image.specs.Jobs.{Job, no_step}
+use Rattle.step_work.specs.Plans.{no_step}
+use Rattle.sound_image.specs.Jobs.{Job}
 use Rattle.sound_image.specs.Entries.{IsEntryOfStep}
 use Rattle.sound_image.specs.Holds.{Holds, AreSound, HaveAtLeast}
 use Rattle.sound_image.proofs.HoldsLaws.{holds_sound, holds_count}

@@ -10,7 +10,8 @@ use Rattle.bool_tables.specs.declared.steps.Step.{Step}
 use Rattle.bool_tables.specs.declared.steps.Step.TheVariants.{Const, Var, Pair, Ite, Quantify, Restrict, Drop, Same, Leq, Eval, Size}
 use Rattle.bool_tables.specs.declared.steps.Planned.{Planned}
 use Rattle.catalogue.specs.declared.layout.Entry.{Entry}
-use Rattle.sound_image.specs.Jobs.{Job, no_step, step_at}
+use Rattle.step_work.specs.Plans.{no_step}
+use Rattle.sound_image.specs.Jobs.{Job, step_at}
 use Rattle.sound_image.specs.Entries.{answer_of, count_of}
 use Rattle.script_runner.specs.Text.{line_of, start_line, resume_line, nodes_line, dropped_line, truth_line, value_line, answer_line, said_line, entry_line, ended_before}
 use Rattle.script_runner.specs.Said.{whole_lines, acknowledged, no_line, said_count}

@@ -17,7 +17,8 @@ use Rattle.catalogue.specs.declared.layout.Entry.{Entry}
 use Rattle.catalogue.specs.Counts.{present, count_in}
 use Rattle.catalogue.specs.Entries.{IsEntryOf}
 use Rattle.catalogue.specs.Commits.{IsReady}
-use Rattle.sound_image.specs.Jobs.{Job, no_step, step_at}
+use Rattle.step_work.specs.Plans.{no_step}
+use Rattle.sound_image.specs.Jobs.{Job, step_at}
 use Rattle.sound_image.specs.Entries.{IsEntryOfStep, kind_of}
 use Rattle.sound_image.specs.Holds.{Holds}
 use Rattle.sound_image.proofs.EntryLaws.{entry_stands, held_entry}

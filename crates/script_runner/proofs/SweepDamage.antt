@@ -17,7 +17,7 @@ use Rattle.shelf_model.specs.Moments.{Throughout}
 use Rattle.catalogue.specs.Counts.{present, count_in}
 use Rattle.step_work.specs.Tuples.{sweeps}
 use Rattle.sound_image.specs.Files.{node_file}
-use Rattle.sound_image.specs.Jobs.{no_step}
+use Rattle.step_work.specs.Plans.{no_step}
 use Rattle.step_engine.specs.StepFaults.{MissesNone, MissesNamed, MissesAsked, IsKindFault, IsDamagedAmong, IsReadingFault, IsMakingFault, IsStepFault}
 use Rattle.script_runner.specs.Running.{IsMetDamage}
 

@@ -28,7 +28,8 @@ use Rattle.catalogue.proofs.Counted.{ready_counts, entry_placed}
 use Rattle.catalogue.proofs.Places.{length_entry}
 use Rattle.step_work.specs.Tuples.{joins as joins_pieces, sweeps}
 use Rattle.sound_image.specs.Files.{node_file}
-use Rattle.sound_image.specs.Jobs.{Job, no_step, step_at}
+use Rattle.step_work.specs.Plans.{no_step}
+use Rattle.sound_image.specs.Jobs.{Job, step_at}
 use Rattle.sound_image.specs.Entries.{IsEntryOfStep, kind_of, work_of}
 use Rattle.sound_image.specs.Holds.{Holds, IsMade}
 use Rattle.sound_image.specs.Steps.{IsOwnFile, OnlyOwnFiles, IsCutBy, IsTidied}

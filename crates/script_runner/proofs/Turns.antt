@@ -22,7 +22,8 @@ use Rattle.catalogue.specs.Entries.{IsEntryOf, entry_bytes}
 use Rattle.catalogue.specs.Commits.{IsReady}
 use Rattle.catalogue.specs.Standings.{standing_of, DuringAttach, IsAttached}
 use Rattle.catalogue.proofs.Places.{length_entry}
-use Rattle.sound_image.specs.Jobs.{Job, no_step}
+use Rattle.step_work.specs.Plans.{no_step}
+use Rattle.sound_image.specs.Jobs.{Job}
 use Rattle.sound_image.specs.Entries.{IsEntryOfStep}
 use Rattle.sound_image.specs.Sound.{ShowsSteps}
 use Rattle.sound_image.specs.Holds.{AreSound, HaveCount}

@@ -16,7 +16,8 @@ use Rattle.sound_image.specs.Files.{node_file}
 use Rattle.shelf_model.specs.declared.sort_fault.SortFault.TheVariants as sort
 use Rattle.step_engine.specs.StepFaults.{IsStepFault}
 use Rattle.step_work.specs.Tuples.{joins, sweeps}
-use Rattle.sound_image.specs.Jobs.{Job, no_step, step_at}
+use Rattle.step_work.specs.Plans.{no_step}
+use Rattle.sound_image.specs.Jobs.{Job, step_at}
 use Rattle.sound_image.specs.Entries.{kind_of, work_of}
 use Rattle.sound_image.specs.Sound.{IsSound}
 use Rattle.sound_image.specs.Holds.{AreSound, HaveCount, HaveAtLeast}

@@ -19,7 +19,8 @@ use Rattle.catalogue.specs.Counts.{present, is_stored, count_in}
 use Rattle.catalogue.specs.Commits.{IsReady}
 use Rattle.sound_image.specs.Files.{node_file}
 use Rattle.step_work.specs.Tuples.{joins}
-use Rattle.sound_image.specs.Jobs.{Job, no_step, step_at}
+use Rattle.step_work.specs.Plans.{no_step}
+use Rattle.sound_image.specs.Jobs.{Job, step_at}
 use Rattle.sound_image.specs.Entries.{IsEntryOfStep, kind_of, work_of}
 use Rattle.sound_image.specs.Sound.{IsSound}
 use Rattle.sound_image.specs.Holds.{Holds}

@@ -8,7 +8,8 @@ use Rattle.bool_tables.specs.declared.steps.Step.{Step}
 use Rattle.bool_tables.specs.declared.steps.Step.TheVariants.{Const, Var, Pair, Ite, Quantify, Restrict, Drop, Same, Leq, Eval, Size}
 use Rattle.bool_tables.specs.declared.steps.Planned.{Planned}
 use Rattle.catalogue.specs.declared.layout.Entry.{Entry}
-use Rattle.sound_image.specs.Jobs.{Job, no_step, step_at}
+use Rattle.step_work.specs.Plans.{no_step}
+use Rattle.sound_image.specs.Jobs.{Job, step_at}
 use Rattle.sound_image.specs.Entries.{answer_of, count_of}
 use Rattle.blif_reader.specs.declared.fault.BlifFault.{BlifFault}
 use Rattle.blif_reader.specs.declared.fault.BlifKind.{BlifKind}

@@ -7,7 +7,7 @@ ghost use Rattle.shelf_model.specs.Moments.{Ran, Stays};
 ghost use Rattle.catalogue.specs.Counts.{count_in, present};
 ghost use Rattle.catalogue.specs.Commits.{IsReady};
 ghost use Rattle.catalogue.specs.Entries.{IsEntryOf};
-ghost use Rattle.sound_image.specs.Jobs.{no_step};
+ghost use Rattle.step_work.specs.Plans.{no_step};
 ghost use Rattle.sound_image.specs.Entries.{kind_of};
 ghost use Rattle.script_reader.specs.Lines.{rise_from};
 ghost use Rattle.script_runner.specs.StepRuns.{SaysLines, IsReadFault};

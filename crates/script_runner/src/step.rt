@@ -3,7 +3,7 @@ ghost use Rattle.std.specs.Prelude.{◌≡◌, ◌+◌, ◌≤◌, ◌<◌, IsTr
 ghost use Rattle.shelf_model.specs.World.{now};
 ghost use Rattle.shelf_model.specs.Calls.{Told};
 ghost use Rattle.catalogue.specs.Commits.{IsReady};
-ghost use Rattle.sound_image.specs.Jobs.{no_step};
+ghost use Rattle.step_work.specs.Plans.{no_step};
 ghost use Rattle.script_runner.specs.Calls.{step_calls, IsCounted};
 ghost use Rattle.script_runner.specs.JobOf.{job_in};
 ghost use Rattle.script_runner.specs.StepRuns.{TakesStep, stopped_by};

@@ -19,7 +19,8 @@ use Rattle.catalogue.proofs.Places.{length_entry}
 use Rattle.catalogue.proofs.Stored.{catalogue_not_job_file, step_gate_not_job_file}
 use Rattle.sound_image.specs.Files.{node_file, checkpoint_gate}
 use Rattle.canon_file.specs.Laws.{HasForm}
-use Rattle.sound_image.specs.Jobs.{Job, table_at, file_of, step_at, no_step}
+use Rattle.step_work.specs.Plans.{no_step}
+use Rattle.sound_image.specs.Jobs.{Job, table_at, file_of, step_at}
 use Rattle.sound_image.specs.Entries.{IsEntryOfStep}
 use Rattle.sound_image.specs.Sound.{IsSound}
 use Rattle.sound_image.specs.Holds.{Holds, IsMade}

@@ -1,9 +1,9 @@
 -- A job: a plan of steps, and the bytes that a folder stores of it.
-use Rattle.std.specs.Prelude.{ℕ, Bool, false, List, length, get_or}
-use Rattle.bool_tables.specs.declared.steps.Step.TheVariants.{Const}
+use Rattle.std.specs.Prelude.{ℕ, Bool, List, length, get_or}
 use Rattle.bool_tables.specs.declared.steps.Planned.{Planned}
 use Rattle.bool_tables.specs.Steps.{plan_tables, table_of_step}
 use Rattle.canon_file.specs.Canon.{canon_nodes, canon_bytes}
+use Rattle.step_work.specs.Plans.{no_step}
 
 -- the number of variables, the text of the script, the steps, and the bytes of the job
 pub record Job : Type 0 where
@@ -11,10 +11,6 @@ pub record Job : Type 0 where
   pub text : List ℕ
   pub steps : List Planned
   pub bytes : List ℕ
-
--- past the last step
-abbrev pub no_step : Planned
-no_step = record { step = Const false; name_at = 0; name_len = 0 }
 
 abbrev pub step_at : Job → ℕ → Planned
 step_at job k = get_or job.steps k no_step

@@ -19,7 +19,8 @@ use Rattle.catalogue.specs.declared.layout.Entry.{Entry}
 use Rattle.catalogue.specs.Counts.{present}
 use Rattle.catalogue.specs.Entries.{IsEntry, IsEntryOf}
 use Rattle.catalogue.specs.Standings.{most_steps}
-use Rattle.sound_image.specs.Jobs.{Job, no_step, step_at, nodes_at}
+use Rattle.step_work.specs.Plans.{no_step}
+use Rattle.sound_image.specs.Jobs.{Job, step_at, nodes_at}
 use Rattle.sound_image.specs.Entries.{IsEntryOfStep, kind_of, answer_of, bit_of, count_of, name_of, work_of}
 use Rattle.sound_image.specs.Holds.{Holds}
 use Rattle.sound_image.proofs.EntryLaws.{entry_stands, held_entry}

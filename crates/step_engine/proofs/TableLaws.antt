@@ -16,7 +16,8 @@ use Rattle.canon_file.specs.Variables.{var_table}
 use Rattle.canon_file.proofs.ConstDiagram.{no_node-const}
 use Rattle.canon_file.proofs.LevelLaws.{length-numbered}
 use Rattle.canon_file.proofs.VarDiagram.{one_node-var}
-use Rattle.sound_image.specs.Jobs.{Job, no_step, step_at, table_at, nodes_at, file_of}
+use Rattle.step_work.specs.Plans.{no_step}
+use Rattle.sound_image.specs.Jobs.{Job, step_at, table_at, nodes_at, file_of}
 
 -- each step's table is made from those before it, which are the first of all
 made_at : (n : ℕ) (done : List (List Bool)) (steps : List Planned) (k : ℕ) (d : Planned) → k < length steps

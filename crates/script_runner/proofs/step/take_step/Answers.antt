@@ -1,5 +1,5 @@
 use Rattle.std.proofs.Common.{get_or, refl}
-use Rattle.sound_image.specs.Jobs.{no_step}
+use Rattle.step_work.specs.Plans.{no_step}
 use Rattle.step_engine.specs.Simple.{MayRun}
 use Rattle.step_engine.proofs.PlanLaws.{may_run}
 use Rattle.script_runner.specs.JobOf.{job_in}
