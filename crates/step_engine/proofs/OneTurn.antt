@@ -21,6 +21,7 @@ use Rattle.shelf_model.specs.Moments.{Ran, Stays}
 use Rattle.shelf_model.proofs.Runs.{told_here, ran_stands}
 use Rattle.shelf_model.specs.SortFaults.{handed_on}
 use Rattle.shelf_model.specs.World.{World, now, file}
+use Rattle.run_tiers.specs.Faults.{OnlySortShelf}
 use Rattle.catalogue.specs.declared.layout.Entry.{Entry}
 use Rattle.step_work.specs.Tuples.{sweeps}
 use Rattle.sound_image.specs.Files.{node_file}
@@ -32,7 +33,7 @@ use Rattle.step_engine.specs.OneFile.{OnlyFile}
 use Rattle.step_engine.specs.Running.{run_calls, RunsStep}
 use Rattle.step_engine.specs.Simple.{reads, MayRun, IsStepOf}
 use Rattle.step_engine.specs.StepEntries.{diagram_entry, nameless_entry, one_turn}
-use Rattle.step_engine.specs.StepFaults.{IsKindFault, IsStepFault, IsSoundFault, IsOfKind, OnlyStep}
+use Rattle.step_engine.specs.StepFaults.{IsKindFault, IsStepFault, IsSoundFault, IsOfKind}
 use Rattle.step_engine.proofs.EntryLaws.{for_diagram, for_nameless, diagram_entry_is, nameless_entry_is, one_turn_spent, one_within, place_step, size_is_sound}
 use Rattle.step_engine.proofs.TableLaws.{constant_nodes, variable_nodes, constant_is, variable_is, constant_form, variable_form}
 use Rattle.step_engine.proofs.Written.{made_only, changes_none}
@@ -42,11 +43,11 @@ pub one_calls : (step : Step) (turns now_clock clock : ℕ) → sweeps step ≡ 
 one_calls step turns now_clock clock not few = subst (λ b. now_clock ≤ clock + cond b (224 * turns + 11) 5) (sym not) few
 
 -- a fault of the folder, as a stream hands it on
-pub shelf_faults : {A B : Type 0} (old new : Faults) (e : StreamFault) → OnlyShelf {T = A} old new (Err e) → OnlyStep {T = B} old new (Err (handed_on e))
+pub shelf_faults : {A B : Type 0} (old new : Faults) (e : StreamFault) → OnlyShelf {T = A} old new (Err e) → OnlySortShelf {T = B} old new (Err (handed_on e))
 shelf_faults {A} {B} old new stream.Shelf only = record { later = only.later; cause = λ is. only.cause refl; say_is = only.say_is; text_is = only.text_is }
 shelf_faults {A} {B} old new (stream.Damaged f at) only = record { later = only.later; cause = λ is. cc; say_is = only.say_is; text_is = only.text_is }
 
-pub shelf_fine : {A B : Type 0} (old new : Faults) (x : A) (y : B) → OnlyShelf old new (Ok x) → OnlyStep old new (Ok y)
+pub shelf_fine : {A B : Type 0} (old new : Faults) (x : A) (y : B) → OnlyShelf old new (Ok x) → OnlySortShelf old new (Ok y)
 shelf_fine old new x y only = record { later = only.later; cause = λ is. cc; say_is = only.say_is; text_is = only.text_is }
 
 -- what is known of a step that makes the diagram of a constant or of a variable, and which it is
@@ -65,7 +66,7 @@ module _ {S : Type 0} (tells : S → Bool) (world : S → World) (counts : S →
     (content : Told tells before after (Ran (OnlyFile (node_file number) (now (world before))) (world before) (world after)))
     (calls : IsTrue (tells after) → (world after).clock ≤ (world before).clock + 5) where
   -- such a step that is refused
-  pub simple_refused : (e : SortFault) → e ≡ sort.Shelf → OnlyStep {T = Entry} (counts before) (counts after) (Err e)
+  pub simple_refused : (e : SortFault) → e ≡ sort.Shelf → OnlySortShelf {T = Entry} (counts before) (counts after) (Err e)
       → RunsStep tells world counts n text number p before after (Err e)
   simple_refused e folder faults = record {
     content = made_only tells world p.step number before after simple.makes content;
@@ -84,7 +85,7 @@ module _ {S : Type 0} (tells : S → Bool) (world : S → World) (counts : S →
   -- and one that made its diagram
   pub simple_made : (count : ℕ) (e : Entry) → count ≡ nodes → nodes < 2 ^ 64 → e ≡ diagram_entry text p number count one_turn
       → (IsTrue (tells after) → file (world after) (node_file number) ≡ firm_file bytes)
-      → OnlyStep (counts before) (counts after) (Ok e)
+      → OnlySortShelf (counts before) (counts after) (Ok e)
       → RunsStep tells world counts n text number p before after (Ok e)
   simple_made count e count_is small e_is made faults = record {
     content = made_only tells world p.step number before after simple.makes content;

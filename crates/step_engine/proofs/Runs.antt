@@ -17,7 +17,7 @@ use Rattle.shelf_model.specs.Moments.{Ran}
 use Rattle.shelf_model.specs.World.{World, now}
 use Rattle.catalogue.specs.declared.layout.Entry.{Entry}
 use Rattle.run_tiers.specs.Faults.{OnlySortShelf}
-use Rattle.run_tiers.proofs.FaultLaws.{fault_in}
+use Rattle.run_tiers.proofs.FaultLaws.{sort_shelf_on}
 use Rattle.step_work.specs.Tuples.{joins, sweeps}
 use Rattle.sweep_core.specs.Sweeps.{IsNoDamage}
 use Rattle.sound_image.specs.Jobs.{Job, step_at, nodes_at}
@@ -37,24 +37,14 @@ use Rattle.step_engine.specs.OneFile.{OnlyMade}
 use Rattle.step_engine.specs.Simple.{reads, MayRun, IsStepOf}
 use Rattle.step_engine.specs.Sweeping.{files_of, sweeping_of}
 use Rattle.step_engine.specs.StepEntries.{diagram_entry, answer_entry}
-use Rattle.step_engine.specs.StepFaults.{IsMakingFault, IsStepFault, IsSoundFault, IsOfKind, OnlyStep}
+use Rattle.step_engine.specs.StepFaults.{IsMakingFault, IsStepFault, IsSoundFault, IsOfKind}
 use Rattle.step_engine.specs.Running.{run_calls, RunsStep}
 use Rattle.step_engine.proofs.EntryLaws.{IsSpent, for_diagram, for_nameless, diagram_entry_is, nameless_entry_is, bit_says}
 use Rattle.step_engine.proofs.Operands.{step_given}
 use Rattle.step_engine.proofs.Written.{parts_only, step_only}
 
-pub faults_err : {A B : Type 0} (old new : Faults) (e : SortFault) → OnlySortShelf {T = A} old new (Err e) → OnlyStep {T = B} old new (Err e)
-faults_err {A} {B} old new e only = record {
-  later = only.later;
-  cause = λ is. only.cause (ap refused (ap fault_in is));
-  say_is = only.say_is;
-  text_is = only.text_is;
-}
-  where
-    refused : SortFault → Result A SortFault
-    refused f = Err f
-
-pub faults_ok : {A B : Type 0} (old new : Faults) (x : A) (y : B) → OnlySortShelf old new (Ok x) → OnlyStep old new (Ok y)
+-- what a call counted that ended well, whatever it gives
+pub faults_ok : {A B : Type 0} (old new : Faults) (x : A) (y : B) → OnlySortShelf old new (Ok x) → OnlySortShelf old new (Ok y)
 faults_ok old new x y only = record {
   later = only.later;
   cause = λ is. cc;
@@ -263,7 +253,7 @@ module _ {S : Type 0} (tells : S → Bool) (world : S → World) (counts : S →
     calls = tt;
     one_turn = λ told not. never_one p.step is_one.sweeps_is not;
     few_calls = all_calls;
-    faults = faults_err (counts before) (counts after) e faults;
+    faults = sort_shelf_on (counts before) (counts after) e (Err e) refl faults;
   }
 
   -- an operation that made its diagram
@@ -353,7 +343,7 @@ module _ {S : Type 0} (tells : S → Bool) (world : S → World) (counts : S →
     calls = tt;
     one_turn = λ told not. never_one p.step question.sweeps_is not;
     few_calls = λ told job is holds. swept_calls p.step _ _ _ question.sweeps_is (few_calls told job is holds);
-    faults = faults_err (counts before) (counts after) e faults;
+    faults = sort_shelf_on (counts before) (counts after) e (Err e) refl faults;
   }
 
   -- a question that is answered

@@ -7,6 +7,7 @@ use Rattle.shelf_model.specs.Calls.{Told}
 use Rattle.shelf_model.specs.Faults.{Faults}
 use Rattle.shelf_model.specs.Moments.{Ran}
 use Rattle.shelf_model.specs.World.{World, now}
+use Rattle.run_tiers.specs.Faults.{OnlySortShelf}
 use Rattle.catalogue.specs.declared.layout.Entry.{Entry}
 use Rattle.step_work.specs.Tuples.{sweeps}
 use Rattle.sound_image.specs.Jobs.{Job}
@@ -15,7 +16,7 @@ use Rattle.sound_image.specs.Holds.{Holds, IsMade}
 use Rattle.step_engine.specs.OneFile.{OnlyMade}
 use Rattle.step_engine.specs.Simple.{reads, IsStepOf}
 use Rattle.step_engine.specs.StepEntries.{IsEntryFor}
-use Rattle.step_engine.specs.StepFaults.{IsStepFault, IsSoundFault, IsOfKind, OnlyStep}
+use Rattle.step_engine.specs.StepFaults.{IsStepFault, IsSoundFault, IsOfKind}
 
 -- the calls of a step of so many turns: five at most where it takes one turn, and else 224 for each turn, and eleven
 abbrev pub run_calls : Step → ℕ → ℕ
@@ -45,4 +46,4 @@ pub record RunsStep {S : Type 0} (tells : S → Bool) (world : S → World) (cou
   pub few_calls : IsTrue (tells after) → (job : Job) → IsStepOf job n text number p
       → Holds job number (now (world before)).folder
       → (world after).clock ≤ (world before).clock + run_calls p.step (work_of job p.step)
-  pub faults : OnlyStep (counts before) (counts after) result
+  pub faults : OnlySortShelf (counts before) (counts after) result

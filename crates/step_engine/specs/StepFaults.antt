@@ -1,5 +1,5 @@
 -- Why a step can't be run.
-use Rattle.std.specs.Prelude.{◌≡◌, ◌≢◌, ◌⊎◌, ℕ, ◌*◌, ◌^◌, ◌≤◌, List, [], ◌∷◌, IsTrue, Result, IsErrOf}
+use Rattle.std.specs.Prelude.{◌≡◌, ◌≢◌, ◌⊎◌, ℕ, ◌*◌, ◌^◌, ◌≤◌, List, [], ◌∷◌, IsTrue}
 use Rattle.bool_tables.specs.declared.steps.Step.{Step}
 use Rattle.bool_tables.specs.declared.steps.Step.TheVariants.{Const, Var, Pair, Ite, Quantify, Restrict, Drop, Same, Leq, Eval, Size}
 use Rattle.shelf_model.specs.declared.file_no.FileNo.{FileNo}
@@ -7,7 +7,6 @@ use Rattle.shelf_model.specs.declared.fault.StreamFault.{StreamFault}
 use Rattle.shelf_model.specs.declared.fault.StreamFault.TheVariants as stream
 use Rattle.shelf_model.specs.declared.sort_fault.SortFault.{SortFault}
 use Rattle.shelf_model.specs.declared.sort_fault.SortFault.TheVariants as sort
-use Rattle.shelf_model.specs.Faults.{Faults, Rose}
 use Rattle.shelf_model.specs.World.{World, now}
 use Rattle.shelf_model.specs.SortFaults.{handed_on}
 use Rattle.catalogue.specs.declared.layout.Entry.{Entry}
@@ -70,10 +69,3 @@ abbrev pub IsOfKind : Step → SortFault → Type 0
 IsOfKind step sort.Shelf = Unit
 IsOfKind step (sort.Damaged f at) = Unit
 IsOfKind step sort.RunsSpent = IsTrue (joins step)
-
--- a call answered Shelf only where the folder's count rose, and no other count changed
-pub record OnlyStep {T : Type 0} (old new : Faults) (result : Result T SortFault) : Type 0 where
-  pub later : old.folder ≤ new.folder
-  pub cause : IsErrOf result sort.Shelf → Rose old.folder new.folder
-  pub say_is : new.say ≡ old.say
-  pub text_is : (path : List ℕ) → new.text path ≡ old.text path
