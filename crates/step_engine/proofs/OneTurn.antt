@@ -10,6 +10,7 @@ use Rattle.canon_file.specs.Canon.{canon_bytes}
 use Rattle.canon_file.specs.Constants.{const_table}
 use Rattle.canon_file.specs.Variables.{var_table}
 use Rattle.canon_file.specs.Laws.{HasForm}
+use Rattle.shelf_model.specs.declared.file_no.FileNo.{FileNo}
 use Rattle.shelf_model.specs.declared.sort_fault.SortFault.{SortFault}
 use Rattle.shelf_model.specs.declared.sort_fault.SortFault.TheVariants as sort
 use Rattle.shelf_model.specs.declared.fault.StreamFault.{StreamFault}
@@ -62,14 +63,19 @@ pub record IsSimple (n number : ℕ) (step : Step) (nodes : ℕ) (bytes : List �
   pub form : (job : Job) (text : List ℕ) (p : Planned) → p.step ≡ step → IsStepOf job n text number p → HasForm job.n (table_at job number)
 
 module _ {S : Type 0} (tells : S → Bool) (world : S → World) (counts : S → Faults) (n : ℕ) (text : List ℕ) (number : ℕ) (p : Planned)
+    (f : FileNo) (f_is : f ≡ node_file number)
     (nodes : ℕ) (bytes : List ℕ) (simple : IsSimple n number p.step nodes bytes) (may : MayRun n text number p) (before after : S)
-    (content : Told tells before after (Ran (OnlyFile (node_file number) (now (world before))) (world before) (world after)))
+    (content : Told tells before after (Ran (OnlyFile f (now (world before))) (world before) (world after)))
     (calls : IsTrue (tells after) → (world after).clock ≤ (world before).clock + 5) where
+  -- its node file alone was changed
+  own_file : Told tells before after (Ran (OnlyFile (node_file number) (now (world before))) (world before) (world after))
+  own_file = subst (λ h. Told tells before after (Ran (OnlyFile h (now (world before))) (world before) (world after))) f_is content
+
   -- such a step that is refused
   pub simple_refused : (e : SortFault) → e ≡ sort.Shelf → OnlySortShelf {T = Entry} (counts before) (counts after) (Err e)
       → RunsStep tells world counts n text number p before after (Err e)
   simple_refused e folder faults = record {
-    content = made_only tells world p.step number before after simple.makes content;
+    content = made_only tells world p.step number before after simple.makes own_file;
     fits = tt;
     entry = tt;
     made = tt;
@@ -84,18 +90,21 @@ module _ {S : Type 0} (tells : S → Bool) (world : S → World) (counts : S →
 
   -- and one that made its diagram
   pub simple_made : (count : ℕ) (e : Entry) → count ≡ nodes → nodes < 2 ^ 64 → e ≡ diagram_entry text p number count one_turn
-      → (IsTrue (tells after) → file (world after) (node_file number) ≡ firm_file bytes)
+      → (IsTrue (tells after) → file (world after) f ≡ firm_file bytes)
       → OnlySortShelf (counts before) (counts after) (Ok e)
       → RunsStep tells world counts n text number p before after (Ok e)
   simple_made count e count_is small e_is made faults = record {
-    content = made_only tells world p.step number before after simple.makes content;
+    content = made_only tells world p.step number before after simple.makes own_file;
     fits = for_diagram number count one_turn text p e e_is may.few_steps may.named (subst (λ k. k < 2 ^ 64) (sym count_is) small) one_turn_spent simple.kind_is;
     entry = λ told job ready.
         subst (IsEntryOfStep job number) (sym e_is)
         (diagram_entry_is job number count one_turn text p may.few_steps may.named ready.step.text_is ready.step.step_is simple.kind_is simple.makes
         (simple.no_answer job) (simple.counts job text p refl ready.step ∙ sym count_is) (subst (λ k. k < 2 ^ 64) (sym count_is) small) one_turn_spent
         (one_within job p.step));
-    made = λ told job ready _. (made told ∙ ap firm_file (simple.bytes_are job text p refl ready.step), simple.form job text p refl ready.step);
+    made = λ told job ready _. (
+      ap (file (world after)) (sym f_is) ∙ made told ∙ ap firm_file (simple.bytes_are job text p refl ready.step),
+      simple.form job text p refl ready.step,
+    );
     sound = tt;
     damaged = tt;
     kind = tt;

@@ -14,6 +14,7 @@ use Rattle.bool_tables.specs.Steps.{step_table, op_value, quant_value}
 use Rattle.bool_tables.specs.Tables.{value_at, table_with, with_digit}
 use Rattle.canon_file.specs.Canon.{canon_nodes, canon_bytes}
 use Rattle.canon_file.specs.Laws.{HasForm}
+use Rattle.shelf_model.specs.declared.file_no.FileNo.{FileNo}
 use Rattle.shelf_model.specs.File.{File}
 use Rattle.shelf_model.specs.World.{World, now}
 use Rattle.sound_image.specs.Files.{node_file}
@@ -56,6 +57,11 @@ held_step job n number text p step world is step_is holds =
 canonical : (job : Job) (number j : ℕ) (world : World) → Holds job number (now world).folder → IsTrue (is_live (take number job.steps) j)
     → IsCanonicalFile job.n (table_at job j) (node_file j) world
 canonical job number j world holds live = record { form = holds.forms j live; bytes_are = ap (λ (f : File). f.bytes) (holds.files j live) }
+
+canonical_at : (job : Job) (n number j : ℕ) (f : FileNo) (world : World) → f ≡ node_file j → job.n ≡ n → Holds job number (now world).folder
+    → IsTrue (is_live (take number job.steps) j) → IsCanonicalFile n (table_at job j) f world
+canonical_at job n number j f world f_is n_is holds live =
+    subst (λ v. v) (λ i. IsCanonicalFile (n_is i) (table_at job j) (sym f_is i) world) (canonical job number j world holds live)
 
 -- of a list of live diagrams the first, the second and the third one
 first_live : (steps : List Planned) (a : ℕ) (more : List ℕ) → IsTrue (list_all (is_live steps) (a ∷ more)) → IsTrue (is_live steps a)
@@ -185,25 +191,26 @@ step_given job n number text p sweeping world some is holds =
     (sweeping_given job number world p.step sweeping some (held_step job n number text p p.step world is refl holds))
 
 -- the files of two operands, and of one, are the canonical ones of their tables
-pub two_given : (job : Job) (n number : ℕ) (text : List ℕ) (p : Planned) (world : World) (step : Step) (left right : ℕ) → p.step ≡ step
+pub two_given : (job : Job) (n number : ℕ) (text : List ℕ) (p : Planned) (world : World) (step : Step) (left right : ℕ)
+    (f g : FileNo) → f ≡ node_file left → g ≡ node_file right → p.step ≡ step
     → operands step ≡ left ∷ right ∷ [] → IsStepOf job n text number p → Holds job number (now world).folder
-    → IsCanonicalFile n (table_at job left) (node_file left) world × IsCanonicalFile n (table_at job right) (node_file right) world
-two_given job n number text p world step left right step_is names is holds =
+    → IsCanonicalFile n (table_at job left) f world × IsCanonicalFile n (table_at job right) g world
+two_given job n number text p world step left right f g f_is g_is step_is names is holds =
     let held = held_step job n number text p step world is step_is holds in
     let live = subst (λ ks. IsTrue (list_all (is_live (take number job.steps)) ks)) names held.live in
-    subst (λ m. IsCanonicalFile m (table_at job left) (node_file left) world × IsCanonicalFile m (table_at job right) (node_file right) world) is.n_is (
-      canonical job number left world holds (first_live (take number job.steps) left (right ∷ []) live),
-      canonical job number right world holds (first_live (take number job.steps) right [] (more_live (take number job.steps) left (right ∷ []) live)),
+    let second_live = first_live (take number job.steps) right [] (more_live (take number job.steps) left (right ∷ []) live) in (
+      canonical_at job n number left f world f_is is.n_is holds (first_live (take number job.steps) left (right ∷ []) live),
+      canonical_at job n number right g world g_is is.n_is holds second_live,
     )
 
-pub one_given : (job : Job) (n number : ℕ) (text : List ℕ) (p : Planned) (world : World) (step : Step) (of : ℕ) → p.step ≡ step
+pub one_given : (job : Job) (n number : ℕ) (text : List ℕ) (p : Planned) (world : World) (step : Step) (of : ℕ)
+    (f : FileNo) → f ≡ node_file of → p.step ≡ step
     → operands step ≡ of ∷ [] → IsStepOf job n text number p → Holds job number (now world).folder
-    → IsCanonicalFile n (table_at job of) (node_file of) world
-one_given job n number text p world step of step_is names is holds =
+    → IsCanonicalFile n (table_at job of) f world
+one_given job n number text p world step of f f_is step_is names is holds =
     let held = held_step job n number text p step world is step_is holds in
     let live = subst (λ ks. IsTrue (list_all (is_live (take number job.steps)) ks)) names held.live in
-    subst (λ m. IsCanonicalFile m (table_at job of) (node_file of) world) is.n_is
-    (canonical job number of world holds (first_live (take number job.steps) of [] live))
+    canonical_at job n number of f world f_is is.n_is holds (first_live (take number job.steps) of [] live)
 
 -- the work of a step, by one that leads alike
 pub work_given : (job : Job) (n number : ℕ) (text : List ℕ) (p : Planned) (s t : Step) → p.step ≡ t → joins s ≡ joins t → LeadAlike s t

@@ -8,6 +8,7 @@ use Rattle.bool_tables.specs.declared.steps.Step.TheVariants.{Same, Leq, Eval}
 use Rattle.bool_tables.specs.declared.steps.Planned.{Planned}
 use Rattle.bool_tables.specs.Plans.{is_bit, has_bits}
 use Rattle.bool_tables.specs.Steps.{eval_at}
+use Rattle.shelf_model.specs.declared.file_no.FileNo.{FileNo}
 use Rattle.shelf_model.specs.declared.sort_fault.SortFault.{SortFault}
 use Rattle.shelf_model.specs.declared.sort_fault.SortFault.TheVariants as sort
 use Rattle.shelf_model.specs.World.{World}
@@ -72,20 +73,23 @@ implied n left right world (sort.Damaged f at) (inl one) = inl one
 implied n left right world (sort.Damaged f at) (inr two) = inr (inl two)
 implied n left right world sort.RunsSpent is = tt
 
-pub same_fault : (n left right : ℕ) (step : Step) → step ≡ Same left right → (world : World) (e : SortFault)
-    → IsReadFault MissesNone n (node_file left) (node_file right) world e → IsStepFault n step world e
-same_fault n left right step is world e fault =
-    subst (λ s. IsStepFault n s world e) (sym is) (two_read MissesNone n left right world e fault)
+pub same_fault : (n left right : ℕ) (f g : FileNo) → f ≡ node_file left → g ≡ node_file right → (step : Step) → step ≡ Same left right
+    → (world : World) (e : SortFault) → IsReadFault MissesNone n f g world e → IsStepFault n step world e
+same_fault n left right f g f_is g_is step is world e fault =
+    subst (λ s. IsStepFault n s world e) (sym is) (two_read MissesNone n left right world e
+    (subst (λ v. v) (λ i. IsReadFault MissesNone n (f_is i) (g_is i) world e) fault))
 
-pub leq_fault : (n left right : ℕ) (step : Step) → step ≡ Leq left right → (world : World) (e : SortFault)
-    → IsImplicationFault n (node_file left) (node_file right) world e → IsStepFault n step world e
-leq_fault n left right step is world e fault =
-    subst (λ s. IsStepFault n s world e) (sym is) (implied n left right world e fault)
+pub leq_fault : (n left right : ℕ) (f g : FileNo) → f ≡ node_file left → g ≡ node_file right → (step : Step) → step ≡ Leq left right
+    → (world : World) (e : SortFault) → IsImplicationFault n f g world e → IsStepFault n step world e
+leq_fault n left right f g f_is g_is step is world e fault =
+    subst (λ s. IsStepFault n s world e) (sym is) (implied n left right world e
+    (subst (λ v. v) (λ i. IsImplicationFault n (f_is i) (g_is i) world e) fault))
 
-pub eval_fault : (n of at : ℕ) (step : Step) → step ≡ Eval of at → (world : World) (e : SortFault)
-    → IsReadFault MissesNamed n (node_file of) (node_file of) world e → IsStepFault n step world e
-eval_fault n of at step is world e fault =
-    subst (λ s. IsStepFault n s world e) (sym is) (one_read MissesNamed n of world e fault)
+pub eval_fault : (n of at : ℕ) (f : FileNo) → f ≡ node_file of → (step : Step) → step ≡ Eval of at → (world : World) (e : SortFault)
+    → IsReadFault MissesNamed n f f world e → IsStepFault n step world e
+eval_fault n of at f f_is step is world e fault =
+    subst (λ s. IsStepFault n s world e) (sym is) (one_read MissesNamed n of world e
+    (subst (λ h. IsReadFault MissesNamed n h h world e) f_is fault))
 
 -- the bits of an evaluation stand in the text
 pub bits_within : (n of at : ℕ) (text : List ℕ) (step : Step) → step ≡ Eval of at → IsTrue (has_bits n text step) → at + n ≤ length text

@@ -11,9 +11,9 @@ use crate::entries::{Spent, diagram_entry, nameless_entry};
 use crate::kinds::entry_of_kind;
 use bool_tables::Planned;
 use catalogue::Entry;
-use file_numbers::NODES_PART;
+use file_numbers::node_file;
 use rec_words::Rec;
-use shelf_model::{FileNo, Shelf, SortFault};
+use shelf_model::{Shelf, SortFault};
 
 /// Makes the diagram of a constant.
 pub(crate) fn run_constant<S: Shelf>(
@@ -30,11 +30,7 @@ pub(crate) fn run_constant<S: Shelf>(
     requires room { 16384 ≤ length room.old }
     ensures runs { RunsStep S.tells S.world S.faults n text.now number planned.now shelf.old shelf.new result }
 {
-    let file = FileNo {
-        step: number,
-        part: NODES_PART,
-    };
-    let nodes = write_constant(file, n, value, room, shelf)?;
+    let nodes = write_constant(node_file(number), n, value, room, shelf)?;
     Ok(diagram_entry(text, planned, number, nodes, Spent::ONE_TURN))
 }
 
@@ -53,11 +49,7 @@ pub(crate) fn run_variable<S: Shelf>(
     requires room { 16384 ≤ length room.old }
     ensures runs { RunsStep S.tells S.world S.faults n text.now number planned.now shelf.old shelf.new result }
 {
-    let file = FileNo {
-        step: number,
-        part: NODES_PART,
-    };
-    let nodes = write_variable(file, n, level as u16, room, shelf)?;
+    let nodes = write_variable(node_file(number), n, level as u16, room, shelf)?;
     Ok(diagram_entry(text, planned, number, nodes, Spent::ONE_TURN))
 }
 

@@ -10,9 +10,9 @@ ghost use Rattle.step_engine.specs.Running.{RunsStep};
 use crate::entries::{Spent, answer_entry, diagram_entry};
 use bool_tables::{Planned, Step};
 use catalogue::Entry;
-use file_numbers::{NODES_PART, node_file};
+use file_numbers::node_file;
 use rec_words::Rec;
-use shelf_model::{FileNo, Shelf, SortFault};
+use shelf_model::{Shelf, SortFault};
 use step_sweeps::{StepOperation, compare, evaluate, imply, make_diagram};
 use top_down_sweep::OperandFiles;
 
@@ -104,14 +104,8 @@ pub(crate) fn run_comparison<S: Shelf>(
     requires room { 16384 ≤ length room.old }
     ensures runs { RunsStep S.tells S.world S.faults n text.now number planned.now shelf.old shelf.new result }
 {
-    let left = FileNo {
-        step: left,
-        part: NODES_PART,
-    };
-    let right = FileNo {
-        step: right,
-        part: NODES_PART,
-    };
+    let left = node_file(left);
+    let right = node_file(right);
     let answered = compare(n, left, right, number, room, shelf)?;
     let spent = Spent {
         turns: answered.turns,
@@ -136,14 +130,8 @@ pub(crate) fn run_implication<S: Shelf>(
     requires room { 16384 ≤ length room.old }
     ensures runs { RunsStep S.tells S.world S.faults n text.now number planned.now shelf.old shelf.new result }
 {
-    let left = FileNo {
-        step: left,
-        part: NODES_PART,
-    };
-    let right = FileNo {
-        step: right,
-        part: NODES_PART,
-    };
+    let left = node_file(left);
+    let right = node_file(right);
     let answered = imply(n, left, right, number, room, shelf)?;
     let spent = Spent {
         turns: answered.turns,
@@ -168,11 +156,7 @@ pub(crate) fn run_evaluation<S: Shelf>(
     requires room { 16384 ≤ length room.old }
     ensures runs { RunsStep S.tells S.world S.faults n text.now number planned.now shelf.old shelf.new result }
 {
-    let file = FileNo {
-        step: of,
-        part: NODES_PART,
-    };
-    let answered = evaluate(n, file, text, at, number, room, shelf)?;
+    let answered = evaluate(n, node_file(of), text, at, number, room, shelf)?;
     let spent = Spent {
         turns: answered.turns,
         parts: answered.next,

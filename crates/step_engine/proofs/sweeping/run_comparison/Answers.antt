@@ -16,14 +16,14 @@ returns-in_err-answered g c =
           (question_refused g.S.Shelf.tells g.S.Shelf.world g.S.Shelf.faults c.args.n c.args.text.now c.args.number p
           (same_question c.args.number c.args.left c.args.right p.step c.requires.kind) c.requires.step _ _ said.content
           (λ told job is holds.
-          let given = two_given job c.args.n c.args.number c.args.text.now p (g.S.Shelf.world c.args.shelf.now) (Same c.args.left c.args.right) c.args.left c.args.right c.requires.kind refl is holds in
+          let given = two_given job c.args.n c.args.number c.args.text.now p (g.S.Shelf.world c.args.shelf.now) (Same c.args.left c.args.right) c.args.left c.args.right _ _ c.node_file-left.ensures c.node_file-right.ensures c.requires.kind refl is holds in
           few_more _ _ _ 4 (work_given job c.args.n c.args.number c.args.text.now p (Same 0 1) (Same c.args.left c.args.right) c.requires.kind refl (λ i h x. refl) is)
           (omega arith) (said.few_calls told _ _ given.0 given.1))
           c.in_err-answered.field-0.0
           (λ told job is holds.
-          let given = two_given job c.args.n c.args.number c.args.text.now p (g.S.Shelf.world c.args.shelf.now) (Same c.args.left c.args.right) c.args.left c.args.right c.requires.kind refl is holds in
+          let given = two_given job c.args.n c.args.number c.args.text.now p (g.S.Shelf.world c.args.shelf.now) (Same c.args.left c.args.right) c.args.left c.args.right _ _ c.node_file-left.ensures c.node_file-right.ensures c.requires.kind refl is holds in
           undamaged_sound p.step _ c.in_err-answered.field-0.0 (said.undamaged told _ _ given.0 given.1) (not_spent c.in_err-answered.field-0.0 said.kind))
-          (λ told. same_fault c.args.n c.args.left c.args.right p.step c.requires.kind
+          (λ told. same_fault c.args.n c.args.left c.args.right _ _ c.node_file-left.ensures c.node_file-right.ensures p.step c.requires.kind
           (g.S.Shelf.world c.args.shelf.now) c.in_err-answered.field-0.0 (said.damaged told))
           (not_spent_kind p.step c.in_err-answered.field-0.0 said.kind)
           said.faults);
@@ -37,12 +37,12 @@ returns g c =
       runs = question_answered g.S.Shelf.tells g.S.Shelf.world g.S.Shelf.faults c.args.n c.args.text.now c.args.number p
           (same_question c.args.number c.args.left c.args.right p.step c.requires.kind) c.requires.step _ _ said.content
           (λ told job is holds.
-          let given = two_given job c.args.n c.args.number c.args.text.now p (g.S.Shelf.world c.args.shelf.now) (Same c.args.left c.args.right) c.args.left c.args.right c.requires.kind refl is holds in
+          let given = two_given job c.args.n c.args.number c.args.text.now p (g.S.Shelf.world c.args.shelf.now) (Same c.args.left c.args.right) c.args.left c.args.right _ _ c.node_file-left.ensures c.node_file-right.ensures c.requires.kind refl is holds in
           few_more _ _ _ 4 (work_given job c.args.n c.args.number c.args.text.now p (Same 0 1) (Same c.args.left c.args.right) c.requires.kind refl (λ i h x. refl) is)
           (omega arith) (said.few_calls told _ _ given.0 given.1))
           c.in_ok-answered.answered c.answer_entry.result c.answer_entry.ensures (search arith) said.counted
           (λ told job is holds.
-          let given = two_given job c.args.n c.args.number c.args.text.now p (g.S.Shelf.world c.args.shelf.now) (Same c.args.left c.args.right) c.args.left c.args.right c.requires.kind refl is holds in
+          let given = two_given job c.args.n c.args.number c.args.text.now p (g.S.Shelf.world c.args.shelf.now) (Same c.args.left c.args.right) c.args.left c.args.right _ _ c.node_file-left.ensures c.node_file-right.ensures c.requires.kind refl is holds in
           let answer = said.answer told _ _ given.0 given.1 in (
             ap (answer_of job) c.requires.kind ∙ ap bit_of (sym answer.answer_is),
             subst (λ w. c.in_ok-answered.answered.turns ≤ w)

@@ -20,14 +20,14 @@ returns-in_err-answered g c =
           (question_refused g.S.Shelf.tells g.S.Shelf.world g.S.Shelf.faults c.args.n c.args.text.now c.args.number p
           (eval_question c.args.number c.args.of c.args.at p.step c.requires.kind) c.requires.step _ _ said.content
           (λ told job is holds.
-          let given = one_given job c.args.n c.args.number c.args.text.now p (g.S.Shelf.world c.args.shelf.now) (Eval c.args.of c.args.at) c.args.of c.requires.kind refl is holds in
+          let given = one_given job c.args.n c.args.number c.args.text.now p (g.S.Shelf.world c.args.shelf.now) (Eval c.args.of c.args.at) c.args.of _ c.node_file.ensures c.requires.kind refl is holds in
           few_more _ _ _ 2 (work_given job c.args.n c.args.number c.args.text.now p (Eval 0 c.args.at) (Eval c.args.of c.args.at) c.requires.kind refl (λ i h x. refl) is)
           (omega arith) (said.few_calls told _ given))
           c.in_err-answered.field-0.0
           (λ told job is holds.
-          let given = one_given job c.args.n c.args.number c.args.text.now p (g.S.Shelf.world c.args.shelf.now) (Eval c.args.of c.args.at) c.args.of c.requires.kind refl is holds in
+          let given = one_given job c.args.n c.args.number c.args.text.now p (g.S.Shelf.world c.args.shelf.now) (Eval c.args.of c.args.at) c.args.of _ c.node_file.ensures c.requires.kind refl is holds in
           undamaged_sound p.step _ c.in_err-answered.field-0.0 (said.undamaged told _ given) (not_spent c.in_err-answered.field-0.0 said.kind))
-          (λ told. eval_fault c.args.n c.args.of c.args.at p.step c.requires.kind (g.S.Shelf.world c.args.shelf.now)
+          (λ told. eval_fault c.args.n c.args.of c.args.at _ c.node_file.ensures p.step c.requires.kind (g.S.Shelf.world c.args.shelf.now)
           c.in_err-answered.field-0.0 (said.damaged told))
           (not_spent_kind p.step c.in_err-answered.field-0.0 said.kind)
           said.faults);
@@ -41,12 +41,12 @@ returns g c =
       runs = question_answered g.S.Shelf.tells g.S.Shelf.world g.S.Shelf.faults c.args.n c.args.text.now c.args.number p
           (eval_question c.args.number c.args.of c.args.at p.step c.requires.kind) c.requires.step _ _ said.content
           (λ told job is holds.
-          let given = one_given job c.args.n c.args.number c.args.text.now p (g.S.Shelf.world c.args.shelf.now) (Eval c.args.of c.args.at) c.args.of c.requires.kind refl is holds in
+          let given = one_given job c.args.n c.args.number c.args.text.now p (g.S.Shelf.world c.args.shelf.now) (Eval c.args.of c.args.at) c.args.of _ c.node_file.ensures c.requires.kind refl is holds in
           few_more _ _ _ 2 (work_given job c.args.n c.args.number c.args.text.now p (Eval 0 c.args.at) (Eval c.args.of c.args.at) c.requires.kind refl (λ i h x. refl) is)
           (omega arith) (said.few_calls told _ given))
           c.in_ok-answered.answered c.answer_entry.result c.answer_entry.ensures (search arith) said.counted
           (λ told job is holds.
-          let given = one_given job c.args.n c.args.number c.args.text.now p (g.S.Shelf.world c.args.shelf.now) (Eval c.args.of c.args.at) c.args.of c.requires.kind refl is holds in
+          let given = one_given job c.args.n c.args.number c.args.text.now p (g.S.Shelf.world c.args.shelf.now) (Eval c.args.of c.args.at) c.args.of _ c.node_file.ensures c.requires.kind refl is holds in
           let answer = said.answer told _ given in (
             ap (answer_of job) c.requires.kind
                 ∙ ap bit_of (value_given job c.args.n c.args.number c.args.of c.args.at c.args.text.now p is ∙ sym answer.answer_is),
