@@ -6,6 +6,7 @@ ghost use Rattle.step_engine.specs.StepEntries.{diagram_entry, nameless_entry, a
 use bool_tables::Planned;
 use catalogue::Entry;
 use file_numbers::INNER_PART;
+use step_sweeps::Answered;
 
 /// What a step took: its turns, and the next part number.
 #[derive(Clone, Copy, Debug, PartialEq, Eq)]
@@ -66,16 +67,17 @@ pub(crate) fn nameless_entry(number: u32, kind: u8, count: u64) -> Entry
 }
 
 /// The entry of a yes or a no, or of a value.
-pub(crate) fn answer_entry(number: u32, answer: bool, spent: Spent) -> Entry
-    ensures { result ≡ answer_entry number answer spent }
+pub(crate) fn answer_entry(number: u32, answered: Answered) -> Entry
+    ensures { result ≡ answer_entry number answered.answer
+        (record { turns = answered.turns; parts = answered.next }) }
 {
     Entry {
         number,
         kind: 3,
-        answer: u8::from(answer),
+        answer: u8::from(answered.answer),
         count: 0,
-        turns: spent.turns,
-        parts: spent.parts,
+        turns: answered.turns,
+        parts: answered.next,
         name_len: 0,
         name: [0; 63],
     }

@@ -107,11 +107,7 @@ pub(crate) fn run_comparison<S: Shelf>(
     let left = node_file(left);
     let right = node_file(right);
     let answered = compare(n, left, right, number, room, shelf)?;
-    let spent = Spent {
-        turns: answered.turns,
-        parts: answered.next,
-    };
-    Ok(answer_entry(number, answered.answer, spent))
+    Ok(answer_entry(number, answered))
 }
 
 /// Runs a step that answers whether one function implies another.
@@ -133,11 +129,7 @@ pub(crate) fn run_implication<S: Shelf>(
     let left = node_file(left);
     let right = node_file(right);
     let answered = imply(n, left, right, number, room, shelf)?;
-    let spent = Spent {
-        turns: answered.turns,
-        parts: answered.next,
-    };
-    Ok(answer_entry(number, answered.answer, spent))
+    Ok(answer_entry(number, answered))
 }
 
 /// Runs a step that answers a function's value.
@@ -157,9 +149,5 @@ pub(crate) fn run_evaluation<S: Shelf>(
     ensures runs { RunsStep S.tells S.world S.faults n text.now number planned.now shelf.old shelf.new result }
 {
     let answered = evaluate(n, node_file(of), text, at, number, room, shelf)?;
-    let spent = Spent {
-        turns: answered.turns,
-        parts: answered.next,
-    };
-    Ok(answer_entry(number, answered.answer, spent))
+    Ok(answer_entry(number, answered))
 }
