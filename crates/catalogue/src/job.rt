@@ -23,6 +23,10 @@ use shelf_model::{Failed, Shelf};
 /// Attaches a job of that many steps to the folder: stores it where none is stored.
 ///
 /// A gate of steps that stands without a job counts nothing. It is emptied before a job is stored.
+///
+/// Refuses where a call of the folder fails (`Shelf`), where another job is stored (`OtherJob`), and where the gate
+/// counts more steps than the job has, or more than the catalogue has entries (`Damaged`). Each image is an old one
+/// then, or, where no job was stored, one in which this job is stored whole or not at all.
 pub fn attach<S: Shelf>(job: &[u8], steps: u32, shelf: &mut S) -> Result<Standing, AttachFault>
     ensures content { Told S.tells shelf.old shelf.new
         (Ran (DuringAttach job.now (now (S.world shelf.old)))

@@ -21,6 +21,9 @@ pub const MOST_STEPS: u32 = 1_048_576;
 /// Tells how a folder stands, whichever job it stores, and stores nothing: fresh where there is none.
 ///
 /// Both gates are made sure before a length is read. A gate of steps that stands without a job counts nothing.
+///
+/// Refuses where a call of the folder fails (`Shelf`), and where the gate counts more than 1,048,576 steps, or more
+/// than the catalogue has entries (`Damaged`). No image is new, whatever the answer.
 pub fn look<S: Shelf>(shelf: &mut S) -> Result<Standing, StreamFault>
     ensures content { Told S.tells shelf.old shelf.new
         (Ran (DuringSyncs (now (S.world shelf.old))) (S.world shelf.old) (S.world shelf.new)) }

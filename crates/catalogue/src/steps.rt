@@ -16,6 +16,9 @@ use shelf_model::{Failed, Shelf, StreamFault};
 /// The entry of step `k`, which has to be committed.
 ///
 /// It isn't judged against the plan: whether its kind is that of the step, its caller knows.
+///
+/// Refuses where the call of the folder fails (`Shelf`), and where the 128 bytes at the step's place are no entry of it
+/// (`Damaged`, from the first of them on). No file changes.
 pub fn entry<S: Shelf>(k: u32, shelf: &mut S) -> Result<Entry, StreamFault>
     requires committed { IsTrue (S.tells shelf.old)
         → k < count_in (present (now (S.world shelf.old)).folder) }

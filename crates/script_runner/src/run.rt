@@ -23,7 +23,8 @@ use shelf_model::Station;
 /// will be, makes and commits each step that isn't committed yet and says the lines that end with it,
 /// and then that all was done.
 ///
-/// It takes no memory. The room is for the steps that sweep over diagrams.
+/// It takes no memory. The room, 16,384 to 4,194,304 records of 64 bytes, is for the steps that sweep over diagrams.
+/// The answer says how the run ended. What was committed before stays, whichever it is.
 pub fn run_steps<W: Station>(
     n: u32,
     text: &[u8],

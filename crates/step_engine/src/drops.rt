@@ -18,6 +18,8 @@ use shelf_model::{Failed, FileNo, Shelf};
 
 /// Empties what a step leaves behind, once it is committed: the file of the diagram that it drops, or, where it swept,
 /// its checkpoints, their gate and its two files of arcs, which are its parts 1 to 4. Its runs may remain.
+///
+/// After `Failed` some of these may be empty and some not, or as a stop may leave them. No other file changes.
 pub fn tidy<S: Shelf>(planned: &Planned, entry: &Entry, shelf: &mut S) -> Result<(), Failed>
     ensures content { Told S.tells shelf.old shelf.new
         (Ran (OnlyTidied planned.now.step entry.now.number (now (S.world shelf.old)))

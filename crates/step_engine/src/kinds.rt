@@ -29,7 +29,10 @@ pub fn kind_of(step: Step) -> u8
     }
 }
 
-/// The entry of step `k`, which has to be committed. It is damaged where its kind isn't the given one.
+/// The entry of step `k`, which has to be committed.
+///
+/// Refuses where the call of the folder fails (`Shelf`), and where no entry of that step and that kind stands at its
+/// place (`Damaged`, from its first byte on). No file changes.
 pub fn entry_of_kind<S: Shelf>(k: u32, kind: u8, shelf: &mut S) -> Result<Entry, StreamFault>
     requires committed { IsTrue (S.tells shelf.old)
         → k < count_in (present (now (S.world shelf.old)).folder) }

@@ -18,7 +18,11 @@ use shelf_model::{Shelf, SortFault};
 /// makes its diagram's node file, or finds its answer. The answer is the step's entry, which its caller commits.
 ///
 /// It changes the step's own files alone: its node file, and from part 3 on its arcs and its runs. A step that was
-/// interrupted begins anew. It takes no memory.
+/// interrupted begins anew. It takes no memory: the room, 16,384 to 4,194,304 records of 64 bytes, holds what it sorts.
+///
+/// Refuses where a call of the folder fails (`Shelf`), where an operand's node file or the entry that a size reads
+/// isn't what a step leaves (`Damaged`), and where a sweep has no part number left for a new file (`RunsSpent`). The
+/// step's own files are of no use then.
 pub fn run_step<S: Shelf>(
     n: u32,
     text: &[u8],
