@@ -1,5 +1,6 @@
 -- Which lines list a folder's diagrams, from the bytes of its catalogue.
-use Rattle.std.specs.Prelude.{ℕ, Bool, ◌&&◌, not, ◌==◌, List, [], ◌∷◌, ◌++◌, get_or, take, drop, decimal, nat_lt, if◌then◌else◌}
+use Rattle.std.specs.Prelude.{ℕ, Bool, ◌&&◌, not, ◌==◌, List, [], ◌∷◌, ◌++◌, get_or, take, drop, decimal, nat_lt}
+use Rattle.std.specs.Prelude.{if◌then◌else◌}
 use Rattle.std.specs.List.{flat_map, list_any, range_with_len}
 use Rattle.byteorder.specs.Endian.{big_number}
 use Rattle.shelf_model.specs.declared.file_no.FileNo.{FileNo}

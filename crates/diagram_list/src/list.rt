@@ -23,9 +23,9 @@ pub const MOST_STEPS: usize = catalogue::MOST_STEPS as usize;
 /// All entries are read before the first line is said. It stores nothing and takes no memory: the room has a mark for
 /// each step, whatever stands there before.
 ///
-/// Refuses where a call of the folder fails (`Shelf`), and where the gate or the catalogue is damaged (`Damaged`), which
-/// is found before anything is said. Where a line can't be said (`Say`), a front part of the list was said. The folder
-/// reads as before in each case.
+/// Refuses where a call of the folder fails (`Shelf`), and where the gate or the catalogue is damaged (`Damaged`),
+/// which is found before anything is said. Where a line can't be said (`Say`), a front part of the list was said. The
+/// folder reads as before in each case.
 pub fn list_diagrams<W: Station>(room: &mut [bool], station: &mut W) -> Result<(), ListFault>
     requires room { most_steps ≤ length room.old }
     ensures content { Told W.tells station.old station.new

@@ -14,7 +14,8 @@ use Rattle.script_runner.specs.declared.ending.Ending.TheVariants.{FolderFault, 
 use Rattle.script_runner.specs.Text.{run_text, other_job_line, damaged_line, runs_spent_line}
 use Rattle.script_runner.specs.Shapes.{IsShape, IsShapeFront, AreWhole, IsWholeShape, IsTail}
 use Rattle.diagram_list.specs.Saying.{SaysFront}
-use Rattle.script_runner.specs.Running.{IsRunning, HasSaid, IsOther, HasOtherJob, IsDamage, IsMetDamage, IsSpentStep, AreEmptied}
+use Rattle.script_runner.specs.Running.{IsRunning, HasSaid, IsOther, HasOtherJob, IsDamage, IsMetDamage, IsSpentStep}
+use Rattle.script_runner.specs.Running.{AreEmptied}
 
 -- the statuses of a run that was done, refused its folder, met a fault of the folder or of saying, or had no part
 -- number left
@@ -39,7 +40,8 @@ pub record RefusesOther (job : List ℕ) (status : ℕ) (start : Moment) (old ne
 -- over a folder in which it was damaged when that step began
 abbrev pub IsFound : Job → List ℕ → FileNo → ℕ → Moment → World → World → Type 0
 IsFound job before file at start old new =
-    (IsDamage (length job.steps) file at (present start.folder) × (before ≡ []) × Throughout old new (OnlyOldImages start))
+    (IsDamage (length job.steps) file at (present start.folder) × (before ≡ [])
+    × Throughout old new (OnlyOldImages start))
     ⊎ IsMetDamage job.n job.steps file at start.folder old new
 
 -- a damaged place was named behind whole lines
@@ -125,7 +127,8 @@ pub record RunsFrom (job : Job) (lines : List LineEnd) (status : ℕ) (start : M
   pub spent : status ≡ 11 → NamesSpentStep job lines start old new
   -- with 7 the line of no status was begun, and with 8 none but of one that is so
   pub quiet : status ≡ 7
-      → HasSaid (λ text folder. IsShapeFront job.steps lines (present start.folder) (present folder) text) start (now new)
+      → HasSaid (λ text folder. IsShapeFront job.steps lines (present start.folder) (present folder) text) start
+      (now new)
   pub unsaid : status ≡ 8 → StopsSaying job lines start old new
 
 -- a job was run in the folder of that path

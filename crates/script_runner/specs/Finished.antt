@@ -12,8 +12,8 @@ use Rattle.sound_image.specs.Jobs.{Job}
 use Rattle.sound_image.specs.Holds.{AreSound}
 use Rattle.script_runner.specs.Entered.{RunsFrom}
 
--- the bytes are those of nodes and a trailer for n variables, and from the root the low or high side that each bit of an
--- assignment says leads to the truth value that the table has there
+-- the bytes are those of nodes and a trailer for n variables, and from the root the low or high side that each bit of
+-- an assignment says leads to the truth value that the table has there
 pub record IsDiagramOf (n : ℕ) (t : List Bool) (bytes : List ℕ) : Type 0 where
   pub nodes : List Node
   pub root : ℕ

@@ -1,5 +1,6 @@
 -- What a call of the program leaves, by what its words ask for and the texts of its station.
-use Rattle.std.specs.Prelude.{◌≡◌, ℕ, ◌+◌, ◌*◌, ◌^◌, ◌<◌, ◌≤◌, ◌⊎◌, List, [], ◌∷◌, ◌++◌, length, ◌==◌, Bool, Option, Some, None, IsTrue}
+use Rattle.std.specs.Prelude.{◌≡◌, ℕ, ◌+◌, ◌*◌, ◌^◌, ◌<◌, ◌≤◌, ◌⊎◌, List, [], ◌∷◌, ◌++◌, length, ◌==◌, Bool, Option}
+use Rattle.std.specs.Prelude.{Some, None, IsTrue}
 use Rattle.std.specs.List.{list_any}
 use Rattle.shelf_model.specs.World.{World, now, said}
 use Rattle.shelf_model.specs.Calls.{Told}
@@ -11,7 +12,8 @@ use Rattle.sound_image.specs.Jobs.{Job, step_at}
 use Rattle.sound_image.specs.Entries.{work_of}
 use Rattle.script_reader.specs.declared.plan.Plan.{Plan}
 use Rattle.script_reader.specs.declared.fault.ScriptFault.{ScriptFault}
-use Rattle.script_runner.specs.Source.{Source, IsSource, folder_of, NamesText, NamesNetlist, Plans, IsFaulty, HasFaultyNetlist}
+use Rattle.script_runner.specs.Source.{Source, IsSource, folder_of, NamesText, NamesNetlist, Plans, IsFaulty}
+use Rattle.script_runner.specs.Source.{HasFaultyNetlist}
 use Rattle.script_runner.specs.Text.{usage_line, refused_line, netlist_line}
 use Rattle.script_runner.specs.Fetching.{OnlyFetched}
 use Rattle.script_runner.specs.Running.{SaysOnly}

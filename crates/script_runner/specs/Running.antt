@@ -1,5 +1,6 @@
 -- What holds at every moment of a run, and what a run leaves.
-use Rattle.std.specs.Prelude.{◌≡◌, ◌≢◌, ◌⊎◌, ℕ, ◌-◌, ◌*◌, ◌/◌, ◌^◌, ◌<◌, ◌≤◌, IsTrue, List, [], ◌++◌, length, take, get_or, nat_eq}
+use Rattle.std.specs.Prelude.{◌≡◌, ◌≢◌, ◌⊎◌, ℕ, ◌-◌, ◌*◌, ◌/◌, ◌^◌, ◌<◌, ◌≤◌, IsTrue, List, [], ◌++◌, length, take}
+use Rattle.std.specs.Prelude.{get_or, nat_eq}
 use Rattle.std.specs.List.{common_prefix_len}
 use Rattle.shelf_model.specs.declared.file_no.FileNo.{FileNo}
 use Rattle.shelf_model.specs.Folder.{Folder, Image, file_in, bytes_in, IsImage, OnlyChanges}
@@ -23,7 +24,8 @@ use Rattle.sound_image.specs.Sound.{IsSound}
 use Rattle.sound_image.specs.Holds.{AreSound, HaveCount, HaveAtLeast}
 use Rattle.script_reader.specs.declared.plan.LineEnd.{LineEnd}
 use Rattle.script_runner.specs.declared.finish.Finish.{Finish}
-use Rattle.script_runner.specs.declared.finish.Finish.TheVariants.{Done, OtherJob, FolderFault, SayFault, Damaged, RunsSpent}
+use Rattle.script_runner.specs.declared.finish.Finish.TheVariants.{Done, OtherJob, FolderFault, SayFault, Damaged}
+use Rattle.script_runner.specs.declared.finish.Finish.TheVariants.{RunsSpent}
 use Rattle.script_runner.specs.Text.{ended_before, run_text}
 use Rattle.script_runner.specs.Shapes.{IsShape, IsShapeFront, AreWhole, IsWholeShape}
 use Rattle.script_runner.specs.Said.{whole_lines, acknowledged, said_count}

@@ -6,7 +6,8 @@ use Rattle.catalogue.specs.declared.layout.Entry.{Entry}
 use Rattle.catalogue.specs.Counts.{count_in}
 use Rattle.catalogue.specs.Entries.{IsEntryOf}
 use Rattle.script_reader.specs.declared.plan.LineEnd.{LineEnd}
-use Rattle.script_runner.specs.Text.{entry_line, banner_line, lines_from_step, done_line, other_job_line, damaged_line, runs_spent_line}
+use Rattle.script_runner.specs.Text.{entry_line, banner_line, lines_from_step, done_line, other_job_line, damaged_line}
+use Rattle.script_runner.specs.Text.{runs_spent_line}
 
 -- the lines one behind the other, each of which shows the entry that stands at its step's place
 abbrev pub AreShown : List Planned → (FileNo → List ℕ) → List LineEnd → List ℕ → Type 0

@@ -1,7 +1,8 @@
 -- The exit status of each ending.
 use Rattle.std.specs.Prelude.{ℕ}
 use Rattle.script_runner.specs.declared.ending.Ending.{Ending}
-use Rattle.script_runner.specs.declared.ending.Ending.TheVariants.{Done, Usage, Script, Netlist, OtherJob, TextFault, FolderFault, SayFault, NoMemory, Damaged, RunsSpent}
+use Rattle.script_runner.specs.declared.ending.Ending.TheVariants.{Done, Usage, Script, Netlist, OtherJob, TextFault}
+use Rattle.script_runner.specs.declared.ending.Ending.TheVariants.{FolderFault, SayFault, NoMemory, Damaged, RunsSpent}
 
 abbrev pub status_of : Ending → ℕ
 status_of Done = 0

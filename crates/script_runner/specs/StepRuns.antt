@@ -1,5 +1,6 @@
 -- What one step of a run leaves, and what saying its lines leaves.
-use Rattle.std.specs.Prelude.{◌≡◌, ◌≢◌, ℕ, ◌+◌, ◌*◌, ◌^◌, ◌<◌, ◌≤◌, IsTrue, List, [], ◌++◌, length, take, get_or, Result, OnOk, IfOk, IfErr}
+use Rattle.std.specs.Prelude.{◌≡◌, ◌≢◌, ℕ, ◌+◌, ◌*◌, ◌^◌, ◌<◌, ◌≤◌, IsTrue, List, [], ◌++◌, length, take, get_or}
+use Rattle.std.specs.Prelude.{Result, OnOk, IfOk, IfErr}
 use Rattle.std.specs.List.{flat_map}
 use Rattle.bool_tables.specs.declared.steps.Step.TheVariants.{Drop}
 use Rattle.bool_tables.specs.declared.steps.Planned.{Planned}
@@ -27,7 +28,8 @@ use Rattle.sound_image.specs.Holds.{Holds}
 use Rattle.step_engine.specs.StepFaults.{IsKindFault}
 use Rattle.script_reader.specs.declared.plan.LineEnd.{LineEnd}
 use Rattle.script_runner.specs.declared.finish.Finish.{Finish}
-use Rattle.script_runner.specs.declared.finish.Finish.TheVariants.{Done, OtherJob, FolderFault, SayFault, Damaged, RunsSpent}
+use Rattle.script_runner.specs.declared.finish.Finish.TheVariants.{Done, OtherJob, FolderFault, SayFault, Damaged}
+use Rattle.script_runner.specs.declared.finish.Finish.TheVariants.{RunsSpent}
 use Rattle.script_runner.specs.Text.{said_line}
 use Rattle.script_runner.specs.Shapes.{AreShown}
 use Rattle.diagram_list.specs.Saying.{SaysFront, StaysThere}

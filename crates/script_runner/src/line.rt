@@ -1,5 +1,7 @@
 ghost use Rattle.std.specs.Prelude.{◌≡◌, ◌<◌, ◌≤◌, length};
-ghost use Rattle.script_runner.specs.Text.{start_line, resume_line, nodes_line, dropped_line, truth_line, value_line, answer_line, other_job_line, damaged_line, runs_spent_line, kind_name, refused_line, netlist_kind_name, netlist_line};
+ghost use Rattle.script_runner.specs.Text.{start_line, resume_line, nodes_line, dropped_line, truth_line, value_line};
+ghost use Rattle.script_runner.specs.Text.{answer_line, other_job_line, damaged_line, runs_spent_line, kind_name};
+ghost use Rattle.script_runner.specs.Text.{refused_line, netlist_kind_name, netlist_line};
 
 use arrayvec::ArrayString;
 use blif_reader::{BlifFault, BlifKind};

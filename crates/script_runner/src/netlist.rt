@@ -1,5 +1,6 @@
 //! The netlist of a run.
-ghost use Rattle.std.specs.Prelude.{◌≡◌, ◌+◌, ◌≤◌, List, IsTrue, Option, Some, Ok, Err, option_map, IfOk, IfErr, IsErrOf, length};
+ghost use Rattle.std.specs.Prelude.{◌≡◌, ◌+◌, ◌≤◌, List, IsTrue, Option, Some, Ok, Err, option_map, IfOk, IfErr};
+ghost use Rattle.std.specs.Prelude.{IsErrOf, length};
 ghost use Rattle.shelf_model.specs.Calls.{Told};
 ghost use Rattle.shelf_model.specs.Faults.{Rose};
 ghost use Rattle.command_words.specs.Views.{text_of};

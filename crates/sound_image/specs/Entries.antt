@@ -1,7 +1,9 @@
 -- The entry that a committed step has.
-use Rattle.std.specs.Prelude.{◌≡◌, ℕ, ◌+◌, ◌-◌, ◌/◌, ◌^◌, ◌≤◌, Bool, List, [], ◌++◌, length, take, drop, map, replicate, if◌then◌else◌}
+use Rattle.std.specs.Prelude.{◌≡◌, ℕ, ◌+◌, ◌-◌, ◌/◌, ◌^◌, ◌≤◌, Bool, List, [], ◌++◌, length, take, drop, map, replicate}
+use Rattle.std.specs.Prelude.{if◌then◌else◌}
 use Rattle.bool_tables.specs.declared.steps.Step.{Step}
-use Rattle.bool_tables.specs.declared.steps.Step.TheVariants.{Const, Var, Pair, Ite, Quantify, Restrict, Drop, Same, Leq, Eval, Size}
+use Rattle.bool_tables.specs.declared.steps.Step.TheVariants.{Const, Var, Pair, Ite, Quantify, Restrict, Drop, Same}
+use Rattle.bool_tables.specs.declared.steps.Step.TheVariants.{Leq, Eval, Size}
 use Rattle.bool_tables.specs.declared.steps.Planned.{Planned}
 use Rattle.bool_tables.specs.Tables.{same_bits, is_leq}
 use Rattle.bool_tables.specs.Steps.{eval_at}

@@ -1,7 +1,8 @@
 -- Why a step can't be run.
 use Rattle.std.specs.Prelude.{◌≡◌, ◌≢◌, ◌⊎◌, ℕ, ◌*◌, ◌^◌, ◌≤◌, List, [], ◌∷◌, IsTrue}
 use Rattle.bool_tables.specs.declared.steps.Step.{Step}
-use Rattle.bool_tables.specs.declared.steps.Step.TheVariants.{Const, Var, Pair, Ite, Quantify, Restrict, Drop, Same, Leq, Eval, Size}
+use Rattle.bool_tables.specs.declared.steps.Step.TheVariants.{Const, Var, Pair, Ite, Quantify, Restrict, Drop, Same}
+use Rattle.bool_tables.specs.declared.steps.Step.TheVariants.{Leq, Eval, Size}
 use Rattle.shelf_model.specs.declared.file_no.FileNo.{FileNo}
 use Rattle.shelf_model.specs.declared.fault.StreamFault.{StreamFault}
 use Rattle.shelf_model.specs.declared.fault.StreamFault.TheVariants as stream

@@ -1,7 +1,8 @@
 -- The operation that a step is, and the files that it is made of.
 use Rattle.std.specs.Prelude.{ℕ, Option, Some, None}
 use Rattle.bool_tables.specs.declared.steps.Step.{Step}
-use Rattle.bool_tables.specs.declared.steps.Step.TheVariants.{Const, Var, Pair, Ite, Quantify, Restrict, Drop, Same, Leq, Eval, Size}
+use Rattle.bool_tables.specs.declared.steps.Step.TheVariants.{Const, Var, Pair, Ite, Quantify, Restrict, Drop, Same}
+use Rattle.bool_tables.specs.declared.steps.Step.TheVariants.{Leq, Eval, Size}
 use Rattle.top_down_sweep.specs.declared.beginning.OperandFiles.{OperandFiles}
 use Rattle.top_down_sweep.specs.declared.steps.StepOperation.TheVariants as operations
 use Rattle.sound_image.specs.Files.{node_file}
