@@ -1,7 +1,7 @@
 // The words of a run: budgets, and words that have no reading.
-use crate::bench_run::{ONE_TEXT, ONE_VARIABLE, PLAIN, USAGE};
-use crate::case::{Act, Case, all_go, first_fault};
-use crate::files::{FIRST, JOB, SECOND_OF_THREE};
+use crate::case::{Case, all_go};
+use case_runs::{Act, FIRST, ONE_TEXT, ONE_VARIABLE, RUN, SECOND_OF_THREE, USAGE, first_fault};
+use file_numbers::JOB;
 use shelf_memory::Choice;
 use std::alloc::Global;
 use std::test::Fail;
@@ -24,7 +24,7 @@ const STORED: [Case; 4] = [
         "no budget",
         &[
             Act::Put("script", ONE_VARIABLE),
-            Act::Run(&PLAIN, 0, ONE_TEXT),
+            Act::Run(&RUN, 0, ONE_TEXT),
             Act::Bytes(JOB, USUAL_JOB),
             Act::Words(FIRST, SECOND_OF_THREE),
         ],
@@ -134,23 +134,23 @@ const UNREAD: [&[&str]; 18] = [
 ];
 
 /// The first of these words to which something else is said than the usage, by the one call that is made.
-fn first_read(alloc: Global) -> Result<Option<&'static [&'static str]>, Fail> {
+fn first_read(alloc: Global) -> Option<&'static [&'static str]> {
     for words in UNREAD {
         let acts = [
             Act::Put("script", ONE_VARIABLE),
             Act::Run(words, 2, USAGE),
             Act::Calls(1),
         ];
-        if first_fault(alloc, &acts)?.is_some() {
-            return Ok(Some(words));
+        if first_fault(alloc, &[], &acts, None).is_some() {
+            return Some(words);
         }
     }
-    Ok(None)
+    None
 }
 
 #[test]
 fn says_the_usage_to_words_without_a_reading(rt: HostRuntime) -> Result<(), Fail> {
-    let read = first_read(rt.alloc())?;
+    let read = first_read(rt.alloc());
     assert!(rt; read.is_none(), "{read:?}");
     Ok(())
 }
@@ -162,10 +162,10 @@ const OTHERS: [Case; 3] = [
         "the same words",
         &[
             Act::Put("script", ONE_VARIABLE),
-            Act::Run(&PLAIN, 0, ONE_TEXT),
+            Act::Run(&RUN, 0, ONE_TEXT),
             Act::Stop(Choice::Firm),
             Act::Put("script", ONE_VARIABLE),
-            Act::Run(&PLAIN, 0, b"resume 1 of 1\ndone\n"),
+            Act::Run(&RUN, 0, b"resume 1 of 1\ndone\n"),
             Act::Bytes(JOB, USUAL_JOB),
         ],
     ),
@@ -173,10 +173,10 @@ const OTHERS: [Case; 3] = [
         "another script",
         &[
             Act::Put("script", ONE_VARIABLE),
-            Act::Run(&PLAIN, 0, ONE_TEXT),
+            Act::Run(&RUN, 0, ONE_TEXT),
             Act::Stop(Choice::Firm),
             Act::Put("script", b"vars a b c\nvar f c\n"),
-            Act::Run(&PLAIN, 5, b"other job at 37\n"),
+            Act::Run(&RUN, 5, b"other job at 37\n"),
             Act::Bytes(JOB, USUAL_JOB),
         ],
     ),
@@ -184,7 +184,7 @@ const OTHERS: [Case; 3] = [
         "another budget",
         &[
             Act::Put("script", ONE_VARIABLE),
-            Act::Run(&PLAIN, 0, ONE_TEXT),
+            Act::Run(&RUN, 0, ONE_TEXT),
             Act::Stop(Choice::Firm),
             Act::Put("script", ONE_VARIABLE),
             Act::Run(&LEAST, 5, b"other job at 9\n"),

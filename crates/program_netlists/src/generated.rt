@@ -1,8 +1,7 @@
 // Runs of scripts that are made from a size: whether a word is the same read from either end, in two ways.
-use crate::bench_run::{PLAIN, gives, run};
-use crate::case::{Act, Case, all_go};
-use crate::files::{JOB, node_file};
-use crate::parts_said::has_part;
+use crate::case::{Case, all_go};
+use case_runs::{Act, RUN, gives, has_part, run};
+use file_numbers::{JOB, node_file};
 use shelf_memory::{Bench, Choice};
 use std::alloc::Global;
 use std::test::Fail;
@@ -32,7 +31,7 @@ const SCRIPT_RUN: [Case; 1] = [(
         Act::Bytes(JOB, SCRIPT_JOB),
         Act::Stop(Choice::Firm),
         Act::Put("script", SCRIPT),
-        Act::Run(&PLAIN, 0, b"resume 9 of 9\ndone\n"),
+        Act::Run(&RUN, 0, b"resume 9 of 9\ndone\n"),
     ],
 )];
 
@@ -43,8 +42,8 @@ fn fetches_nothing(alloc: Global) -> Result<bool, Fail> {
     for path in ["FOLDER", "gen", "1", "script", "netlist"] {
         bench.put_text(path, b"vars a a\n")?;
     }
-    let ended = gives(alloc, &SIZE_1, &mut bare, 0, TEXT)?;
-    Ok(ended && gives(alloc, &SIZE_1, &mut bench, 0, TEXT)? && bare.clock() == bench.clock())
+    let ended = gives(alloc, &SIZE_1, &mut bare, 0, TEXT);
+    Ok(ended && gives(alloc, &SIZE_1, &mut bench, 0, TEXT) && bare.clock() == bench.clock())
 }
 
 #[test]
@@ -65,7 +64,7 @@ struct Parts {
 /// The bytes of the file of the first way, where the run says these parts and the file is as long.
 fn made(alloc: Global, words: &[&str], parts: &Parts) -> Result<Option<Vec<u8>>, Fail> {
     let mut bench = Bench::empty(alloc);
-    let status = run(alloc, words, &mut bench)?;
+    let status = run(alloc, words, &mut bench);
     let said = bench.said();
     let (step, len) = parts.made;
     let file = Vec::from_slice(alloc, bench.file(node_file(step)))?;

@@ -1,8 +1,8 @@
 // The netlist in a stored job. It is stored also where the script doesn't use it.
-use crate::bench_run::{NET, ONE_TEXT, ONE_VARIABLE, PLAIN, SMALL_NET};
-use crate::case::{Act, goes};
-use crate::files::{CATALOGUE, FIRST, JOB, JOB_GATE, SECOND_OF_THREE, STEP_GATE};
+use crate::case::goes;
 use crate::rows::JOINED;
+use case_runs::{Act, FIRST, NET, ONE_TEXT, ONE_VARIABLE, RUN, SECOND_OF_THREE, SMALL_NET};
+use file_numbers::{CATALOGUE, JOB, JOB_GATE, STEP_GATE};
 use shelf_memory::Choice;
 use std::test::Fail;
 
@@ -67,7 +67,7 @@ const STORED: [Stored; 4] = [
     (
         "no netlist",
         ONE_VARIABLE,
-        &PLAIN,
+        &RUN,
         ONE_TEXT,
         PLAIN_JOB,
         Act::Words(FIRST, SECOND_OF_THREE),
@@ -159,14 +159,14 @@ const OTHERS: [Other; 7] = [
         &NET,
         CONSTANT,
         NET_JOB,
-        &PLAIN,
+        &RUN,
         CONSTANT,
         5,
         b"other job at 16\n",
     ),
     (
         "a netlist where none was",
-        &PLAIN,
+        &RUN,
         CONSTANT,
         PLAIN_JOB,
         &NET,
@@ -207,9 +207,6 @@ fn says_where_another_netlist_differs(rt: HostRuntime) -> Result<(), Fail> {
     Ok(())
 }
 
-/// The texts of a run with a line of a netlist.
-const JOINED_TEXTS: Act = Act::PutTexts(&JOINED);
-
 /// A name, another netlist, and the status and text of the run over it.
 type Behind = (&'static str, &'static [u8], u8, &'static [u8]);
 
@@ -233,14 +230,15 @@ const BEHIND: [Behind; 2] = [
 fn goes_on_behind_a_run_over_another_netlist(rt: HostRuntime) -> Result<(), Fail> {
     for (name, netlist, status, said) in BEHIND {
         let acts = [
-            JOINED_TEXTS,
+            Act::Put("script", JOINED.script),
+            Act::Put("netlist", JOINED.netlist),
             Act::FailWhen(STEP_GATE, 9),
             Act::Run(&NET, 7, b"start 1\n"),
             Act::Stop(Choice::Present),
             Act::Put("netlist", netlist),
             Act::Run(&NET, status, said),
             Act::Stop(Choice::Firm),
-            JOINED_TEXTS,
+            Act::Put("netlist", JOINED.netlist),
             Act::Run(&NET, 0, b"resume 0 of 1\n2: nodes 2\ndone\n"),
         ];
         goes(&rt, rt.alloc(), name, &acts)?;

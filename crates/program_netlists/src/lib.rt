@@ -3,13 +3,9 @@
 #![tactic(auto)]
 
 #[cfg(test)]
-mod bench_run;
-#[cfg(test)]
 mod budgets;
 #[cfg(test)]
 mod case;
-#[cfg(test)]
-mod files;
 #[cfg(test)]
 mod generated;
 #[cfg(test)]
@@ -18,8 +14,6 @@ mod jobs;
 mod lists;
 #[cfg(test)]
 mod net_stops;
-#[cfg(test)]
-mod parts_said;
 #[cfg(test)]
 mod refusals;
 #[cfg(test)]

@@ -1,8 +1,8 @@
 // Runs of a `net` line that are stopped in its middle: what a list says there, and who says the line's answers.
-use crate::bench_run::{LIST, NET};
-use crate::case::{Act, goes};
-use crate::files::STEP_GATE;
+use crate::case::goes;
 use crate::rows::{CARRY_DROPPED, Row, SUM_CARRY, THREE_LINES};
+use case_runs::{Act, LIST, NET};
+use file_numbers::STEP_GATE;
 use shelf_memory::Choice;
 use std::test::Fail;
 
@@ -73,7 +73,8 @@ const HALTS: [Halt; 6] = [
 fn says_the_answers_of_a_line_behind_its_last_step(rt: HostRuntime) -> Result<(), Fail> {
     for (name, row, steps, said, listed, rest) in HALTS {
         let acts = [
-            Act::PutTexts(row),
+            Act::Put("script", row.script),
+            Act::Put("netlist", row.netlist),
             Act::FailWhen(STEP_GATE, steps),
             Act::Run(&NET, 7, said),
             Act::Stop(Choice::Present),

@@ -1,9 +1,10 @@
 // Runs over netlists in the least room that are stopped at any of their calls, or of which any one call fails, and are
 // then run again.
-use crate::bench_run::{SMALL_NET, run, with_texts};
-use crate::files::{CATALOGUE, JOB, JOB_GATE, STEP_GATE, has_no_other_parts, node_file};
-use crate::parts_said::{line_count, lines_said, resumed};
 use crate::rows::{ROWS, Row, has_files};
+use case_runs::{
+    SMALL_NET, bench_with, goes_on, has_no_other_parts, line_count, lines_said, run, same_job,
+};
+use file_numbers::{JOB_GATE, STEP_GATE, node_file};
 use shelf_memory::{Bench, Choice};
 use std::alloc::Global;
 use std::process::Abort;
@@ -18,8 +19,8 @@ struct Ended {
 
 /// A folder in which the script was run with no stop.
 fn unstopped(alloc: Global, row: &Row) -> Result<Bench, Fail> {
-    let mut bench = with_texts(alloc, row.script, row.netlist)?;
-    run(alloc, &SMALL_NET, &mut bench)?;
+    let mut bench = bench_with(alloc, row.script, Some(row.netlist))?;
+    run(alloc, &SMALL_NET, &mut bench);
     Ok(bench)
 }
 
@@ -67,10 +68,7 @@ fn same_files(row: &Row, committed: u32, bench: &Bench, whole: &Bench) -> bool {
             return false;
         }
     }
-    bench.file(JOB) == whole.file(JOB)
-        && bench.file(CATALOGUE) == whole.file(CATALOGUE)
-        && bench.file(JOB_GATE).len() == whole.file(JOB_GATE).len()
-        && bench.file(STEP_GATE).len() == whole.file(STEP_GATE).len()
+    same_job(bench, whole)
 }
 
 /// How many lines have their last step among the committed ones.
@@ -84,38 +82,24 @@ fn lines_due(row: &Row, committed: u32) -> usize {
     due
 }
 
-/// What a run says in this folder: the whole text where no job is stored there, and otherwise the lines whose last
-/// step isn't committed.
-fn due_text(alloc: Global, row: &Row, bench: &Bench, due: usize) -> Result<Vec<u8>, Fail> {
-    if bench.file(JOB_GATE).is_empty() {
-        Ok(Vec::from_slice(alloc, row.said)?)
-    } else {
-        Ok(resumed(alloc, row.said, due, row.ends.len())?)
-    }
-}
-
 /// Goes on in a folder where a run ended that had said this front part of so many lines, and says whether the text and
-/// the files are those of the whole run, which nobody stopped. The station was told the part before, or nothing.
-fn ends_well(
-    alloc: Global,
-    row: &Row,
-    whole: &Bench,
-    bench: &mut Bench,
-    lines: usize,
-    before: &[u8],
-) -> Result<bool, Fail> {
+/// the files are those of the whole run, which nobody stopped. The station was told that part, or nothing.
+fn ends_well(alloc: Global, row: &Row, whole: &Bench, bench: &mut Bench, lines: usize) -> bool {
+    let before = bench.said().len();
     let Ok(committed) = u32::try_from(bench.file(STEP_GATE).len()) else {
-        return Ok(false);
+        return false;
     };
     let kept = keeps_what_is_not_dropped(row, bench, committed);
-    let due = lines_due(row, committed);
-    let mut text = Vec::from_slice(alloc, before)?;
-    text.extend_from_slice(due_text(alloc, row, bench, due)?.as_slice())?;
-    let status = run(alloc, &SMALL_NET, bench)?;
-    let told = bench.said() == text.as_slice()
-        && lines.saturating_sub(1).min(row.ends.len()) <= due;
-    let right = has_files(alloc, bench, row.files)?;
-    Ok(kept && status == 0 && told && right && same_files(row, committed, bench, whole))
+    let is_stored = !bench.file(JOB_GATE).is_empty();
+    let due = if is_stored {
+        Some(lines_due(row, committed))
+    } else {
+        None
+    };
+    let status = run(alloc, &SMALL_NET, bench);
+    let told = goes_on(row.said, bench.said(), before, lines, due);
+    let right = has_files(bench, row.files);
+    kept && status == 0 && told && right && same_files(row, committed, bench, whole)
 }
 
 /// How a run ends that is stopped at this call, where the next one goes on well from what the choice leaves; or of
@@ -127,22 +111,21 @@ fn outlives(
     choice: Option<Choice>,
     call: u64,
 ) -> Result<Option<Ended>, Fail> {
-    let mut first = with_texts(alloc, row.script, row.netlist)?;
+    let mut first = bench_with(alloc, row.script, Some(row.netlist))?;
     match choice {
         Some(_) => first.fail_from(call),
         None => first.fail_at(call)?,
     }
-    let status = run(alloc, &SMALL_NET, &mut first)?;
-    let before = Vec::from_slice(alloc, first.said())?;
-    let Some(lines) = lines_said(row.said, before.as_slice()) else {
+    let status = run(alloc, &SMALL_NET, &mut first);
+    let Some(lines) = lines_said(row.said, first.said()) else {
         return Ok(None);
     };
     let well = match choice {
         Some(choice) => {
             let mut next = first.stop(choice)?;
-            ends_well(alloc, row, whole, &mut next, lines, b"")?
+            ends_well(alloc, row, whole, &mut next, lines)
         }
-        None => ends_well(alloc, row, whole, &mut first, lines, before.as_slice())?,
+        None => ends_well(alloc, row, whole, &mut first, lines),
     };
     Ok(if well {
         Some(Ended { status, lines })

@@ -1,52 +1,13 @@
 // Netlists that aren't accepted, and texts that aren't there.
-use crate::bench_run::{NET, ONE_VARIABLE, gives, is_untouched, with_texts};
-use crate::case::{Act, first_fault, goes};
+use crate::case::goes;
+use case_runs::{
+    Act, NET, ONE_VARIABLE, REFUSED_NETLISTS, bench_with, first_fault, gives, is_untouched,
+};
 use std::alloc::Global;
 use std::test::Fail;
 
 /// A netlist that is accepted.
 const CONSTANT: &[u8] = b".model m\n.inputs a\n.outputs y\n.names y\n";
-
-/// Netlists, and what is said of each whatever the script is.
-const FAULTY: [(&[u8], &[u8]); 10] = [
-    (
-        b".model m\n.inputs a\n.outputs y\n.names x y\n1 1\n.names y x\n1 1\n",
-        b"netlist: line 4: Cycle\n",
-    ),
-    (
-        b".model m\n.inputs a\n.outputs y\n.names a b y\n11 1\n",
-        b"netlist: line 4: Undriven\n",
-    ),
-    (
-        b".model m\n.inputs a\n.outputs q\n.latch a q 0\n",
-        b"netlist: line 4: Keyword\n",
-    ),
-    (
-        b".model m\n.inputs a\n.outputs y\n.names a y\n1\n",
-        b"netlist: line 5: Row\n",
-    ),
-    (b"", b"netlist: line 0: NoModel\n"),
-    (
-        b".model m\n.outputs y\n.names y\n",
-        b"netlist: line 0: NoInputs\n",
-    ),
-    (
-        b".model m\n.inputs a\n.outputs y\n.names a y\n1 1\n0 0\n",
-        b"netlist: line 6: MixedOutputs\n",
-    ),
-    (
-        b".model m\n.inputs a\n.outputs a\n.names a\n",
-        b"netlist: line 4: DrivenTwice\n",
-    ),
-    (
-        b".model m\n.inputs a\n.outputs y\n.names y y\n1 1\n",
-        b"netlist: line 4: Cycle\n",
-    ),
-    (
-        b".model m\n.inputs a\n.outputs y\n.names y\n.end\n.end\n",
-        b"netlist: line 6: Keyword\n",
-    ),
-];
 
 /// A script that takes the inputs, one that uses no netlist, one that isn't accepted, and none.
 const SCRIPTS: [Act; 4] = [
@@ -65,26 +26,26 @@ fn refusal(script: Act, netlist: Act, status: u8, said: &'static [u8]) -> [Act; 
         netlist,
         Act::Run(&NET, status, said),
         Act::Untouched,
-        Act::Calls(5),
+        Act::FewCalls(5),
     ]
 }
 
 /// The places of the first netlist and script that aren't refused so.
-fn first_accepted(alloc: Global) -> Result<Option<(usize, usize)>, Fail> {
-    for (k, (netlist, said)) in FAULTY.iter().enumerate() {
+fn first_accepted(alloc: Global) -> Option<(usize, usize)> {
+    for (k, (netlist, said)) in REFUSED_NETLISTS.iter().enumerate() {
         for (i, script) in SCRIPTS.iter().enumerate() {
             let acts = refusal(*script, Act::Put("netlist", netlist), 4, said);
-            if first_fault(alloc, &acts)?.is_some() {
-                return Ok(Some((k, i)));
+            if first_fault(alloc, &[], &acts, None).is_some() {
+                return Some((k, i));
             }
         }
     }
-    Ok(None)
+    None
 }
 
 #[test]
 fn says_which_line_of_a_netlist_is_refused_and_why(rt: HostRuntime) -> Result<(), Fail> {
-    let accepted = first_accepted(rt.alloc())?;
+    let accepted = first_accepted(rt.alloc());
     assert!(rt; accepted.is_none(), "netlist and script {accepted:?}");
     Ok(())
 }
@@ -166,14 +127,14 @@ fn refuses_many_rows(alloc: Global) -> Result<bool, Fail> {
     for _ in 0..262_144 {
         netlist.extend_from_slice(b"- 1\n")?;
     }
-    let mut bench = with_texts(alloc, b"inputs\nnet y y\n", netlist.as_slice())?;
+    let mut bench = bench_with(alloc, b"inputs\nnet y y\n", Some(netlist.as_slice()))?;
     let refused = gives(
         alloc,
         &NET,
         &mut bench,
         3,
         b"script: line 2: TooManySteps\n",
-    )?;
+    );
     Ok(refused && is_untouched(&bench))
 }
 

@@ -1,9 +1,9 @@
 // Scripts over netlists: what a run of each says, and the words of node files that it leaves.
-use crate::bench_run::{LIST, NET, gives, with_texts};
-use crate::files::{
-    ALWAYS, BOTH, DIFFERENT, FIRST_OF_TWO, NEVER, NOT_BOTH, SECOND_OF_TWO, STEP_GATE,
-    has_no_other_parts, has_words, node_file,
+use case_runs::{
+    ALWAYS, BOTH, DIFFERENT, LEVEL_0, LEVEL_1, LIST, NET, NEVER, NOT_BOTH, ONE, ZERO, bench_with,
+    gives, has_no_other_parts, has_words,
 };
+use file_numbers::{STEP_GATE, node_file};
 use shelf_memory::{Bench, Choice};
 use std::alloc::Global;
 use std::test::Fail;
@@ -27,6 +27,11 @@ pub(crate) struct Row {
     pub(crate) ends: &'static [usize],
     pub(crate) steps: u32,
 }
+
+/// The file of the first of two variables, and of the second.
+const FIRST_OF_TWO: &[u64] = &[LEVEL_0, ZERO, ONE, LEVEL_0, 1, 2];
+
+const SECOND_OF_TWO: &[u64] = &[LEVEL_1, ZERO, ONE, LEVEL_1, 1, 2];
 
 /// A half adder. The block of `t` stands behind the one that reads it.
 const ADDER: &[u8] = b".model half # adder\n.inputs a b\n.outputs s c\n.names t c s\n10 1\n\
@@ -189,22 +194,22 @@ fn has_no_others(row: &Row, bench: &Bench) -> bool {
 }
 
 /// Whether the node files have these words.
-pub(crate) fn has_files(alloc: Global, bench: &Bench, files: &[Left]) -> Result<bool, Fail> {
+pub(crate) fn has_files(bench: &Bench, files: &[Left]) -> bool {
     for (step, words) in files {
-        if !has_words(alloc, bench, node_file(*step), words)? {
-            return Ok(false);
+        if !has_words(bench, node_file(*step), words) {
+            return false;
         }
     }
-    Ok(true)
+    true
 }
 
 /// Whether a run of the script in an empty folder says its text, leaves its files and no others, and is then listed.
 fn says_and_leaves(alloc: Global, row: &Row) -> Result<bool, Fail> {
-    let mut bench = with_texts(alloc, row.script, row.netlist)?;
-    let told = gives(alloc, &NET, &mut bench, 0, row.said)?;
-    let left = has_files(alloc, &bench, row.files)? && has_no_others(row, &bench);
+    let mut bench = bench_with(alloc, row.script, Some(row.netlist))?;
+    let told = gives(alloc, &NET, &mut bench, 0, row.said);
+    let left = has_files(&bench, row.files) && has_no_others(row, &bench);
     let mut next = bench.stop(Choice::Firm)?;
-    Ok(told && left && gives(alloc, &LIST, &mut next, 0, row.listed)?)
+    Ok(told && left && gives(alloc, &LIST, &mut next, 0, row.listed))
 }
 
 /// The scripts, in the order of their places.

@@ -1,6 +1,6 @@
 // Netlists as tools write them, with the numbers of nodes of what they mean.
-use crate::bench_run::NET;
-use crate::case::{Act, Case, all_go};
+use crate::case::{Case, all_go};
+use case_runs::{Act, NET};
 use std::test::Fail;
 
 /// As Yosys writes: a comment and an empty line in front, three constants, wide blocks, and names with dollar signs. An

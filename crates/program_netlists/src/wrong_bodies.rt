@@ -1,8 +1,8 @@
 // What a body of the program does that is wrong where the right one does nothing: a call that a generated script
 // doesn't need, a job that is taken for another one or for its own, and a line that is said too early.
-use crate::bench_run::{LIST, NET, ONE_VARIABLE, PLAIN, gives, run, with_texts};
-use crate::files::{CATALOGUE, JOB, JOB_GATE, STEP_GATE};
 use crate::rows::{CARRY_DROPPED, JOINED};
+use case_runs::{LIST, NET, ONE_VARIABLE, RUN, bench_with, gives, run};
+use file_numbers::{CATALOGUE, JOB, JOB_GATE, STEP_GATE};
 use shelf_memory::{Bench, Choice};
 use std::alloc::Global;
 use std::test::Fail;
@@ -28,13 +28,13 @@ const ELSEWHERE: [&str; 7] = [
 /// for the two that fetch it: one for its text, and one that finds its end.
 fn makes_no_other_call(alloc: Global) -> Result<bool, Fail> {
     let mut made = Bench::empty(alloc);
-    let ended = run(alloc, &LEAST_SIZE, &mut made)? == 0;
+    let ended = run(alloc, &LEAST_SIZE, &mut made) == 0;
     let job = made.file(JOB);
     if job.len() < 20 {
         return Ok(false);
     }
-    let mut bench = with_texts(alloc, &job[20..], b"")?;
-    let ran = run(alloc, &PLAIN, &mut bench)? == 0;
+    let mut bench = bench_with(alloc, &job[20..], None)?;
+    let ran = run(alloc, &RUN, &mut bench) == 0;
     let fetched = bench.clock() == made.clock().saturating_add(2);
     Ok(ended && ran && fetched && bench.said() == made.said())
 }
@@ -47,8 +47,8 @@ fn a_size_needs_no_call_that_its_script_does_not(rt: HostRuntime) -> Result<(), 
 
 /// A folder where a run with these words ended.
 fn stored(alloc: Global, words: &[&str]) -> Result<Bench, Fail> {
-    let mut bench = with_texts(alloc, ONE_VARIABLE, b"")?;
-    run(alloc, words, &mut bench)?;
+    let mut bench = bench_with(alloc, ONE_VARIABLE, None)?;
+    run(alloc, words, &mut bench);
     Ok(bench.stop(Choice::Firm)?)
 }
 
@@ -63,7 +63,7 @@ fn answers_behind(
 ) -> Result<bool, Fail> {
     let like = stored(alloc, first)?;
     let mut bench = stored(alloc, first)?;
-    let answered = gives(alloc, words, &mut bench, status, said)?;
+    let answered = gives(alloc, words, &mut bench, status, said);
     for f in [JOB, JOB_GATE, CATALOGUE, STEP_GATE] {
         if bench.file(f) != like.file(f) {
             return Ok(false);
@@ -77,8 +77,8 @@ fn a_size_is_refused_where_another_job_is_stored(rt: HostRuntime) -> Result<(), 
     // The budget is at bytes 8 to 11 of a job, and the script's length at bytes 12 to 15: 19 bytes, or 112.
     let cases: [(&[&str], &[&str], u8, &[u8]); 5] = [
         (&LEAST_SIZE, &LEAST_SIZE, 0, b"resume 9 of 9\ndone\n"),
-        (&PLAIN, &LEAST_SIZE, 5, b"other job at 15\n"),
-        (&LEAST_SIZE, &PLAIN, 5, b"other job at 15\n"),
+        (&RUN, &LEAST_SIZE, 5, b"other job at 15\n"),
+        (&LEAST_SIZE, &RUN, 5, b"other job at 15\n"),
         (&LEAST_SIZE, &LEAST_ROOM, 5, b"other job at 9\n"),
         (&LEAST_ROOM, &LEAST_SIZE, 5, b"other job at 9\n"),
     ];
@@ -93,14 +93,14 @@ fn a_size_is_refused_where_another_job_is_stored(rt: HostRuntime) -> Result<(), 
 
 /// Whether a run over the same texts at other paths goes on with the job, whatever stands at the old ones.
 fn goes_on_elsewhere(alloc: Global) -> Result<bool, Fail> {
-    let mut bench = with_texts(alloc, JOINED.script, JOINED.netlist)?;
-    let begun = gives(alloc, &NET, &mut bench, 0, JOINED.said)?;
+    let mut bench = bench_with(alloc, JOINED.script, Some(JOINED.netlist))?;
+    let begun = gives(alloc, &NET, &mut bench, 0, JOINED.said);
     let mut next = bench.stop(Choice::Firm)?;
     next.put_text("script", b"vars a a\n")?;
     next.put_text("netlist", b"")?;
     next.put_text("other script", JOINED.script)?;
     next.put_text("other netlist", JOINED.netlist)?;
-    Ok(begun && gives(alloc, &ELSEWHERE, &mut next, 0, b"resume 1 of 1\ndone\n")?)
+    Ok(begun && gives(alloc, &ELSEWHERE, &mut next, 0, b"resume 1 of 1\ndone\n"))
 }
 
 #[test]
@@ -112,8 +112,8 @@ fn a_path_is_no_part_of_a_job(rt: HostRuntime) -> Result<(), Fail> {
 /// Whether a list says nothing but where the damage is, where the entry of the last of 37 steps is of no kind. An entry
 /// has 128 bytes, and its kind is at byte 4.
 fn lists_damage_alone(alloc: Global) -> Result<bool, Fail> {
-    let mut bench = with_texts(alloc, CARRY_DROPPED.script, CARRY_DROPPED.netlist)?;
-    let begun = gives(alloc, &NET, &mut bench, 0, CARRY_DROPPED.said)?;
+    let mut bench = bench_with(alloc, CARRY_DROPPED.script, Some(CARRY_DROPPED.netlist))?;
+    let begun = gives(alloc, &NET, &mut bench, 0, CARRY_DROPPED.said);
     let mut next = bench.stop(Choice::Firm)?;
     let mut altered = Vec::from_slice(alloc, next.file(CATALOGUE))?;
     if altered.len() != 4_736 {
@@ -121,7 +121,7 @@ fn lists_damage_alone(alloc: Global) -> Result<bool, Fail> {
     }
     altered[4_612] = 9;
     next.put_file(CATALOGUE, altered.as_slice())?;
-    Ok(begun && gives(alloc, &LIST, &mut next, 10, b"damaged 4294967295 2 4608\n")?)
+    Ok(begun && gives(alloc, &LIST, &mut next, 10, b"damaged 4294967295 2 4608\n"))
 }
 
 #[test]

@@ -1,8 +1,7 @@
 // One call of the station fails: the status names its kind, no other call follows, and what was said is a front part of
 // the text.
-use crate::bench_run::{LIST, ONE_TEXT, ONE_VARIABLE, RUN};
-use crate::case::{Act, first_fault};
-use crate::rows::AND_DROP;
+use crate::scripts::{AND_DROP_SCRIPT, AND_DROP_TEXT};
+use case_runs::{Act, LIST, ONE_TEXT, ONE_VARIABLE, RUN, first_fault};
 use shelf_memory::Choice;
 use std::alloc::Global;
 use std::test::Fail;
@@ -105,7 +104,11 @@ const RUNS: [Run; 5] = [
         &LATER_RUN,
     ),
     (
-        &[Act::RunRow(&AND_DROP), Act::Stop(Choice::Firm)],
+        &[
+            Act::Put("script", AND_DROP_SCRIPT),
+            Act::Run(&RUN, 0, AND_DROP_TEXT),
+            Act::Stop(Choice::Firm),
+        ],
         &LIST,
         true,
         &FOUR_ENTRIES,

@@ -3,19 +3,13 @@
 #![tactic(auto)]
 
 #[cfg(test)]
-mod bench_run;
-#[cfg(test)]
 mod calls;
 #[cfg(test)]
 mod case;
 #[cfg(test)]
-mod files;
-#[cfg(test)]
 mod listing;
 #[cfg(test)]
 mod node_files;
-#[cfg(test)]
-mod parts_said;
 #[cfg(test)]
 mod real_folder;
 #[cfg(test)]
@@ -24,5 +18,7 @@ mod refusals;
 mod restart;
 #[cfg(test)]
 mod rows;
+#[cfg(test)]
+mod scripts;
 #[cfg(test)]
 mod stops;

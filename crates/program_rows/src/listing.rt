@@ -1,21 +1,23 @@
 // A list of a folder's diagrams: what it says, and that it changes no file.
-use crate::bench_run::{LIST, USAGE};
-use crate::case::{Act, Case, all_go};
-use crate::files::CATALOGUE;
-use crate::rows::AND_DROP;
+use crate::case::{Case, all_go};
+use crate::scripts::{AND_DROP_SCRIPT, AND_DROP_TEXT};
+use case_runs::{Act, LIST, RUN, USAGE};
+use file_numbers::CATALOGUE;
 use shelf_memory::Choice;
 use std::test::Fail;
 
 /// A folder where `f`, `g` and `h` were made, and `f` was dropped: the next life behind that run.
 const DROPPED: &[Act] = &[
-    Act::RunRow(&AND_DROP),
+    Act::Put("script", AND_DROP_SCRIPT),
+    Act::Run(&RUN, 0, AND_DROP_TEXT),
     Act::Stop(Choice::Firm),
     Act::Length(CATALOGUE, 512),
 ];
 
 /// The same with another byte at the place of the first entry's kind.
 const DAMAGED: &[Act] = &[
-    Act::RunRow(&AND_DROP),
+    Act::Put("script", AND_DROP_SCRIPT),
+    Act::Run(&RUN, 0, AND_DROP_TEXT),
     Act::Stop(Choice::Firm),
     Act::Replace(CATALOGUE, 4, 5, &[9]),
 ];

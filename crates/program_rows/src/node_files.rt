@@ -1,19 +1,18 @@
 // What accepted scripts say, and the bytes that they leave. Numbers in files have the highest byte first.
-use crate::bench_run::{
-    DROPPING, DROPPING_TEXT, ONE_TEXT, ONE_VARIABLE, RUN, SMALL, THREE_TEXT, THREE_VARIABLES,
+use crate::case::{Case, all_go};
+use crate::scripts::{
+    AND_LEQ_SCRIPT, AND_LEQ_TEXT, DROPPING, DROPPING_TEXT, RESTRICT_EVAL_SCRIPT,
+    RESTRICT_EVAL_TEXT, THREE_TEXT, THREE_VARIABLES, XOR_SAME_SCRIPT, XOR_SAME_TEXT,
 };
-use crate::case::{Act, Case, all_go};
-use crate::files::{
-    CATALOGUE, FIRST, FOURTH, JOB, JOB_GATE, LEVEL_0, LEVEL_1, LEVEL_2, ONE, SECOND, STEP_GATE,
-    THIRD, ZERO,
+use case_runs::{
+    Act, FIRST, FOURTH, LEVEL_0, LEVEL_2, ONE, ONE_TEXT, ONE_VARIABLE, RUN, SECOND,
+    SECOND_OF_THREE, SMALL, THIRD, ZERO,
 };
-use crate::rows::{AND_LEQ, RESTRICT_EVAL, XOR_SAME};
+use file_numbers::{CATALOGUE, JOB, JOB_GATE, STEP_GATE};
 use std::test::Fail;
 
-/// The file of each of three variables.
+/// The files of the first and of the last of three variables.
 const A_OF_THREE: &[u64] = &[LEVEL_0, ZERO, ONE, LEVEL_0, 1, 3];
-
-const B_OF_THREE: &[u64] = &[LEVEL_1, ZERO, ONE, LEVEL_1, 1, 3];
 
 const C_OF_THREE: &[u64] = &[LEVEL_2, ZERO, ONE, LEVEL_2, 1, 3];
 
@@ -153,7 +152,7 @@ const RUNS: [Case; 12] = [
         ],
         &[
             Act::Words(FIRST, A_OF_THREE),
-            Act::Words(SECOND, B_OF_THREE),
+            Act::Words(SECOND, SECOND_OF_THREE),
             Act::Words(THIRD, C_OF_THREE),
             Act::Length(FOURTH, 0),
             Act::Bytes(
@@ -259,7 +258,10 @@ const ENTRIES: [Case; 5] = [
     // An answer has no count of nodes.
     (
         "two that are the same",
-        &[Act::RunRow(&XOR_SAME)],
+        &[
+            Act::Put("script", XOR_SAME_SCRIPT),
+            Act::Run(&RUN, 0, XOR_SAME_TEXT),
+        ],
         &[
             Act::Part(
                 CATALOGUE,
@@ -272,7 +274,10 @@ const ENTRIES: [Case; 5] = [
     ),
     (
         "two that aren't, and a value",
-        &[Act::RunRow(&RESTRICT_EVAL)],
+        &[
+            Act::Put("script", RESTRICT_EVAL_SCRIPT),
+            Act::Run(&RUN, 0, RESTRICT_EVAL_TEXT),
+        ],
         &[
             Act::Part(
                 CATALOGUE,
@@ -291,7 +296,10 @@ const ENTRIES: [Case; 5] = [
     ),
     (
         "an implication, and its converse",
-        &[Act::RunRow(&AND_LEQ)],
+        &[
+            Act::Put("script", AND_LEQ_SCRIPT),
+            Act::Run(&RUN, 0, AND_LEQ_TEXT),
+        ],
         &[
             Act::Part(
                 CATALOGUE,

@@ -1,5 +1,6 @@
 // The program over a real folder: entries are read back, a file is cut, and a second run finds all.
-use crate::bench_run::{DROPPING, RUN, run};
+use crate::scripts::DROPPING;
+use case_runs::{RUN, run};
 use host_station::HostStation;
 use std::fs;
 use std::test::Fail;

@@ -1,6 +1,6 @@
 // Words and scripts that aren't accepted: one line is said, and the folder is left as it was.
-use crate::bench_run::{ONE_VARIABLE, RUN, USAGE};
-use crate::case::{Act, Case, all_go, first_fault};
+use crate::case::{Case, all_go};
+use case_runs::{Act, ONE_VARIABLE, RUN, USAGE, first_fault};
 use std::alloc::Global;
 use std::test::Fail;
 

@@ -1,10 +1,8 @@
 // Runs in a folder where a run ended or was stopped, and in folders that hold something else.
-use crate::bench_run::{
-    DROPPING, DROPPING_TEXT, ONE_TEXT, ONE_VARIABLE, RUN, SMALL, THREE_TEXT, THREE_VARIABLES, USAGE,
-};
-use crate::case::{Act, Case, all_go};
-use crate::files::{CATALOGUE, STEP_GATE, THIRD};
-use crate::rows::{AND, DIFFERENT};
+use crate::case::{Case, all_go};
+use crate::scripts::{AND_SCRIPT, AND_TEXT, DROPPING, DROPPING_TEXT, THREE_TEXT, THREE_VARIABLES};
+use case_runs::{Act, DIFFERENT, ONE_TEXT, ONE_VARIABLE, RUN, SMALL, THIRD, USAGE};
+use file_numbers::{CATALOGUE, STEP_GATE};
 use shelf_memory::Choice;
 use std::test::Fail;
 
@@ -192,7 +190,8 @@ const THREE_CUT: &[Act] = &[
 
 /// The same of a script whose third step sweeps.
 const AND_CUT: &[Act] = &[
-    Act::RunRow(&AND),
+    Act::Put("script", AND_SCRIPT),
+    Act::Run(&RUN, 0, AND_TEXT),
     Act::Stop(Choice::Firm),
     Act::Replace(CATALOGUE, 300, 384, b""),
 ];

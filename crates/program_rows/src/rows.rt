@@ -1,11 +1,15 @@
 // Scripts, most of whose steps sweep over diagrams: what a run of each says, and the words of node files that it
 // leaves.
-use crate::bench_run::{
-    DROPPING, DROPPING_TEXT, RUN, THREE_TEXT, THREE_VARIABLES, bench_with, run,
+use crate::scripts::{
+    AND_DROP_SCRIPT, AND_DROP_TEXT, AND_LEQ_SCRIPT, AND_LEQ_TEXT, AND_SCRIPT, AND_TEXT, DROPPING,
+    DROPPING_TEXT, RESTRICT_EVAL_SCRIPT, RESTRICT_EVAL_TEXT, THREE_TEXT, THREE_VARIABLES,
+    XOR_SAME_SCRIPT, XOR_SAME_TEXT,
 };
-use crate::files::{
-    LEVEL_0, LEVEL_1, LEVEL_2, ONE, ZERO, has_no_other_parts, has_words, node_file,
+use case_runs::{
+    BOTH, DIFFERENT, LEVEL_0, LEVEL_1, LEVEL_2, NEVER, NOT_BOTH, ONE, RUN, SECOND_OF_THREE, ZERO,
+    bench_with, gives, has_no_other_parts, has_words,
 };
+use file_numbers::node_file;
 use shelf_memory::Bench;
 use std::alloc::Global;
 use std::test::Fail;
@@ -29,34 +33,6 @@ pub(crate) struct Row {
 /// More steps than a row has.
 pub(crate) const STEPS: u32 = 10;
 
-/// The file of `a and b`.
-const BOTH: &[u64] = &[LEVEL_1, ZERO, ONE, LEVEL_0, ZERO, LEVEL_1, LEVEL_0, 2, 2];
-
-/// The file of `not (a and b)`.
-const NOT_BOTH: &[u64] = &[LEVEL_1, ONE, ZERO, LEVEL_0, ONE, LEVEL_1, LEVEL_0, 2, 2];
-
-/// The file of `a xor b`.
-pub(crate) const DIFFERENT: &[u64] = &[
-    LEVEL_1,
-    ZERO,
-    ONE,
-    LEVEL_1 - 1,
-    ONE,
-    ZERO,
-    LEVEL_0,
-    LEVEL_1,
-    LEVEL_1 - 1,
-    LEVEL_0,
-    3,
-    2,
-];
-
-/// The file of 0 of two variables.
-const NEVER: &[u64] = &[ZERO, 0, 2];
-
-/// The file of `b` of three variables.
-const SECOND: &[u64] = &[LEVEL_1, ZERO, ONE, LEVEL_1, 1, 3];
-
 /// The file of `c` of three variables.
 const THIRD: &[u64] = &[LEVEL_2, ZERO, ONE, LEVEL_2, 1, 3];
 
@@ -70,8 +46,8 @@ const CHOICE: &[u64] = &[
 
 /// An operator on two variables.
 pub(crate) const AND: Row = Row {
-    script: b"vars a b\nvar f a\nvar g b\nand h f g\n",
-    said: b"start 3\n2: nodes 1\n3: nodes 1\n4: nodes 2\ndone\n",
+    script: AND_SCRIPT,
+    said: AND_TEXT,
     files: &[(2, BOTH)],
     dropped: &[],
     says: &[],
@@ -88,8 +64,8 @@ pub(crate) const XOR: Row = Row {
 
 /// A constant by an operator and by itself, and whether they are the same.
 pub(crate) const XOR_SAME: Row = Row {
-    script: b"vars a b\nvar f a\nvar g b\nxor h f g\nxor z h h\nconst y 0\nsame z y\n",
-    said: b"start 6\n2: nodes 1\n3: nodes 1\n4: nodes 3\n5: nodes 0\n6: nodes 0\n7: yes\ndone\n",
+    script: XOR_SAME_SCRIPT,
+    said: XOR_SAME_TEXT,
     files: &[(2, DIFFERENT), (3, NEVER), (4, NEVER)],
     dropped: &[],
     says: &[],
@@ -108,7 +84,7 @@ pub(crate) const XOR_ITE: Row = Row {
 pub(crate) const EXISTS_LEQ: Row = Row {
     script: b"vars a b c\nvar f b\nexists g f a\nleq g f\n",
     said: b"start 3\n2: nodes 1\n3: nodes 1\n4: yes\ndone\n",
-    files: &[(0, SECOND), (1, SECOND)],
+    files: &[(0, SECOND_OF_THREE), (1, SECOND_OF_THREE)],
     dropped: &[],
     says: &[],
 };
@@ -126,10 +102,8 @@ pub(crate) const ITE_QUANTIFIERS: Row = Row {
 
 /// Both restrictions of a variable, which differ and have as many nodes, and a value.
 pub(crate) const RESTRICT_EVAL: Row = Row {
-    script: b"vars a b\nvar f a\nvar g b\nxor h f g\nrestrict p h a 0\nrestrict q h a 1\n\
-              same p q\neval h 10\n",
-    said: b"start 7\n2: nodes 1\n3: nodes 1\n4: nodes 3\n5: nodes 1\n6: nodes 1\n7: no\n8: 1\n\
-            done\n",
+    script: RESTRICT_EVAL_SCRIPT,
+    said: RESTRICT_EVAL_TEXT,
     files: &[
         (3, &[LEVEL_1, ZERO, ONE, LEVEL_1, 1, 2]),
         (4, &[LEVEL_1, ONE, ZERO, LEVEL_1, 1, 2]),
@@ -158,8 +132,8 @@ pub(crate) const NO_STEPS: Row = Row {
 
 /// A drop of an operand.
 pub(crate) const AND_DROP: Row = Row {
-    script: b"vars a b\nvar f a\nvar g b\nand h f g\ndrop f\n",
-    said: b"start 4\n2: nodes 1\n3: nodes 1\n4: nodes 2\n5: dropped\ndone\n",
+    script: AND_DROP_SCRIPT,
+    said: AND_DROP_TEXT,
     files: &[(0, &[]), (2, BOTH)],
     dropped: &[LEVEL_0, ZERO, ONE, LEVEL_0, 1, 2],
     says: &[],
@@ -167,8 +141,8 @@ pub(crate) const AND_DROP: Row = Row {
 
 /// Whether a conjunction implies an operand, and the other way round.
 pub(crate) const AND_LEQ: Row = Row {
-    script: b"vars a b\nvar f a\nvar g b\nand h f g\nleq h f\nleq f h\n",
-    said: b"start 5\n2: nodes 1\n3: nodes 1\n4: nodes 2\n5: yes\n6: no\ndone\n",
+    script: AND_LEQ_SCRIPT,
+    said: AND_LEQ_TEXT,
     files: &[(2, BOTH)],
     dropped: &[],
     says: &[],
@@ -208,7 +182,7 @@ pub(crate) const THREE: Row = Row {
     said: THREE_TEXT,
     files: &[
         (0, &[LEVEL_0, ZERO, ONE, LEVEL_0, 1, 3]),
-        (1, SECOND),
+        (1, SECOND_OF_THREE),
         (2, THIRD),
     ],
     dropped: &[],
@@ -258,16 +232,16 @@ pub(crate) fn has_files(bench: &Bench, files: &[Left]) -> bool {
 /// Whether a run of the script in an empty folder says its text and leaves its files, and of no step more than a node
 /// file.
 fn says_and_leaves(alloc: Global, row: &Row) -> bool {
-    let Ok(mut bench) = bench_with(alloc, row.script) else {
+    let Ok(mut bench) = bench_with(alloc, row.script, None) else {
         return false;
     };
-    let status = run(alloc, &RUN, &mut bench);
+    let told = gives(alloc, &RUN, &mut bench, 0, row.said);
     for step in 0..STEPS {
         if !has_no_other_parts(&bench, step) {
             return false;
         }
     }
-    status == 0 && bench.said() == row.said && has_files(&bench, row.files)
+    told && has_files(&bench, row.files)
 }
 
 #[test]

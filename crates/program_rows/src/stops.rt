@@ -1,14 +1,14 @@
 // Runs of scripts in the least room that are stopped at any of their calls, or of which any one call fails, and are
 // then run again.
-use crate::bench_run::{SMALL, bench_with, run};
-use crate::files::{
-    CATALOGUE, FIRST, JOB, JOB_GATE, STEP_GATE, has_no_other_parts, has_words, node_file,
-};
-use crate::parts_said::{goes_on, line_count, lines_said};
 use crate::rows::{
     AND_DROP, AND_LEQ, CONSTANTS_LEQ, DROP, EVAL_OF_NONE, EXISTS_LEQ, ITE_QUANTIFIERS, NO_STEPS,
     OTHER_LAYOUT, RESTRICT_EVAL, Row, STEPS, THREE, XOR, XOR_ITE, XOR_SAME, has_files,
 };
+use case_runs::{
+    FIRST, SMALL, bench_with, goes_on, has_no_other_parts, has_words, line_count, lines_said, run,
+    same_job,
+};
+use file_numbers::{JOB_GATE, STEP_GATE, node_file};
 use shelf_memory::{Bench, Choice};
 use std::alloc::Global;
 use std::process::Abort;
@@ -47,10 +47,7 @@ fn same_files(row: &Row, committed: usize, bench: &Bench, whole: &Bench) -> bool
             return false;
         }
     }
-    bench.file(JOB) == whole.file(JOB)
-        && bench.file(CATALOGUE) == whole.file(CATALOGUE)
-        && bench.file(JOB_GATE).len() == whole.file(JOB_GATE).len()
-        && bench.file(STEP_GATE).len() == whole.file(STEP_GATE).len()
+    same_job(bench, whole)
 }
 
 /// Whether the first step's node file has its words while that step is committed and the drop isn't.
@@ -110,7 +107,7 @@ fn outlives(
     call: u64,
     lines: usize,
 ) -> Option<usize> {
-    let Ok(mut bench) = bench_with(alloc, row.script) else {
+    let Ok(mut bench) = bench_with(alloc, row.script, None) else {
         return None;
     };
     let listed = match choice {
@@ -134,7 +131,7 @@ fn outlives(
 /// The first call that isn't outlived, or the number of all calls where they aren't as many as they should be or leave
 /// a line unsaid.
 fn first_loss(alloc: Global, row: &Row, choice: Option<Choice>) -> Option<u64> {
-    let Ok(mut whole) = bench_with(alloc, row.script) else {
+    let Ok(mut whole) = bench_with(alloc, row.script, None) else {
         return Some(0);
     };
     let ended = run(alloc, &SMALL, &mut whole) == 0;

@@ -1,6 +1,7 @@
 //! The run of the example script of size 15 in the least room, which can't hold the operand of its largest step, nor
 //! what that step queues.
-use crate::runs::{has_piece, run};
+use case_runs::{has_part, run};
+use file_numbers::{FIRST_RUN_PART, NODES_PART};
 use shelf_memory::Bench;
 use shelf_model::FileNo;
 use std::alloc::Global;
@@ -19,7 +20,10 @@ const FIRST_LINE: &[u8] = b"start 79\n";
 const OPERAND_LINE: &[u8] = b"\n58: nodes 49149\n";
 
 /// The node file of step 56, which step 60 alone reads.
-const OPERAND: FileNo = FileNo { step: 56, part: 0 };
+const OPERAND: FileNo = FileNo {
+    step: 56,
+    part: NODES_PART,
+};
 
 /// A fourth of its nodes.
 const MOST_READS: u64 = 12_288;
@@ -31,14 +35,20 @@ const LAST_LINE: &[u8] = b"\n62: nodes 98301\n";
 const END: &[u8] = b"\n79: yes\n80: nodes 98301\ndone\n";
 
 /// The node file of step 60.
-const LAST: FileNo = FileNo { step: 60, part: 0 };
+const LAST: FileNo = FileNo {
+    step: 60,
+    part: NODES_PART,
+};
 
 /// Its bytes: 24 for each node, and as many more.
 const LAST_BYTES: usize = 2_359_248;
 
 /// The first run of sorted records that step 60 writes. On the first level of the second word 2^15 nodes are pending,
 /// which are more than the room has records.
-const SPILLED: FileNo = FileNo { step: 60, part: 5 };
+const SPILLED: FileNo = FileNo {
+    step: 60,
+    part: FIRST_RUN_PART,
+};
 
 /// What of the run isn't as it should be.
 fn fault_of(status: u8, bench: &Bench) -> Option<&'static str> {
@@ -48,9 +58,9 @@ fn fault_of(status: u8, bench: &Bench) -> Option<&'static str> {
         Some("the status")
     } else if !said.starts_with(FIRST_LINE) {
         Some("the first line")
-    } else if !has_piece(said, OPERAND_LINE) {
+    } else if !has_part(said, OPERAND_LINE) {
         Some("the line of the operand")
-    } else if !has_piece(said, LAST_LINE) {
+    } else if !has_part(said, LAST_LINE) {
         Some("the line of the last step of the first way")
     } else if !said.ends_with(END) {
         Some("the last lines")
@@ -66,15 +76,15 @@ fn fault_of(status: u8, bench: &Bench) -> Option<&'static str> {
 }
 
 /// What of the run isn't as it should be, once it was made in an empty folder.
-fn fault_of_run(alloc: Global) -> Result<Option<&'static str>, Fail> {
+fn fault_of_run(alloc: Global) -> Option<&'static str> {
     let mut bench = Bench::empty(alloc);
-    let status = run(alloc, &WORDS, &mut bench)?;
-    Ok(fault_of(status, &bench))
+    let status = run(alloc, &WORDS, &mut bench);
+    fault_of(status, &bench)
 }
 
 #[test]
 fn a_large_run_reads_its_operand_through_full_windows(rt: HostRuntime) -> Result<(), Fail> {
-    let fault = fault_of_run(rt.alloc())?;
+    let fault = fault_of_run(rt.alloc());
     assert!(rt; fault.is_none(), "{fault:?}");
     Ok(())
 }

@@ -2,10 +2,10 @@
 use crate::script::script_of;
 use crate::wanted::{Bytes, files_of, is_dropped, text_of};
 use bool_tables::{Planned, eval_steps};
+use case_runs::{RUN, SMALL, bench_with, gives, has_no_other_parts, has_part};
+use file_numbers::node_file;
 use script_reader::read_script;
-use script_runner::adiar;
 use shelf_memory::Bench;
-use shelf_model::FileNo;
 use std::alloc::Global;
 use std::test::Fail;
 
@@ -38,50 +38,18 @@ const BEGINNINGS: [&[u8]; 19] = [
     b"\nsize ",
 ];
 
-/// The words of a run in the least room.
-const WORDS: [&str; 6] = [
-    "adiar",
-    "--budget=16384",
-    "run",
-    "FOLDER",
-    "--script",
-    "script",
-];
-
-/// The words of a run in the usual room.
-const USUAL: [&str; 5] = ["adiar", "run", "FOLDER", "--script", "script"];
-
-/// Runs the program, and answers its status.
-pub(crate) fn run(alloc: Global, words: &[&str], bench: &mut Bench) -> Result<u8, Fail> {
-    let mut owned = Vec::new(alloc);
-    for word in words {
-        owned.push(String::from_str(alloc, word)?)?;
-    }
-    Ok(adiar(alloc, owned.as_slice(), bench))
-}
-
-/// Whether the parts of a step behind its node file are empty.
-fn has_no_other_parts(step: u32, bench: &Bench) -> bool {
-    for part in 1..5 {
-        if !bench.file(FileNo { step, part }).is_empty() {
-            return false;
-        }
-    }
-    true
-}
-
 /// Whether each step's node file is the canonical one of its table, or empty where it makes no diagram or the diagram
 /// was dropped, and the parts behind it are empty.
 fn leaves(steps: &[Planned], files: &[Bytes], bench: &Bench) -> bool {
     let mut step = 0u32;
     for file in files {
-        let made = bench.file(FileNo { step, part: 0 });
+        let made = bench.file(node_file(step));
         let right = if is_dropped(steps, step) {
             made.is_empty()
         } else {
             made == file.items()
         };
-        if !right || !has_no_other_parts(step, bench) {
+        if !right || !has_no_other_parts(bench, step) {
             return false;
         }
         step = step.saturating_add(1);
@@ -102,14 +70,10 @@ fn says_and_leaves(alloc: Global, script: &[u8]) -> Result<bool, Fail> {
     };
     let files = files_of(alloc, plan.n, tables.as_slice())?;
     let text = text_of(alloc, script, &plan, tables.as_slice(), files.as_slice())?;
-    for words in [WORDS.as_slice(), USUAL.as_slice()] {
-        let mut bench = Bench::empty(alloc);
-        bench.put_text("script", script)?;
-        let ended = run(alloc, words, &mut bench)? == 0;
-        if !ended
-            || bench.said() != text.as_slice()
-            || !leaves(plan.steps.items(), files.as_slice(), &bench)
-        {
+    for words in [SMALL.as_slice(), RUN.as_slice()] {
+        let mut bench = bench_with(alloc, script, None)?;
+        let told = gives(alloc, words, &mut bench, 0, text.as_slice());
+        if !told || !leaves(plan.steps.items(), files.as_slice(), &bench) {
             return Ok(false);
         }
     }
@@ -172,21 +136,11 @@ fn eight_variables_give_what_the_tables_tell(rt: HostRuntime) -> Result<(), Fail
     Ok(())
 }
 
-/// Whether a text has this piece.
-pub(crate) fn has_piece(text: &[u8], piece: &[u8]) -> bool {
-    for at in 0..text.len() {
-        if text.split_at(at).1.starts_with(piece) {
-            return true;
-        }
-    }
-    false
-}
-
 /// Whether some script of the most variables has a line that begins so.
 fn some_script_has(alloc: Global, beginning: &[u8]) -> Result<bool, Fail> {
     for seed in 0..SEEDS {
         let script = script_of(alloc, MOST_VARIABLES, seed)?;
-        if has_piece(script.as_slice(), beginning) {
+        if has_part(script.as_slice(), beginning) {
             return Ok(true);
         }
     }

@@ -1,7 +1,7 @@
-// What a run said that was stopped, and what the next run goes on with.
+//! What a run said that was stopped, and what the next run goes on with.
 
 /// How many lines a text has.
-pub(crate) fn line_count(text: &[u8]) -> usize {
+pub fn line_count(text: &[u8]) -> usize {
     let mut count = 0usize;
     for byte in text {
         if *byte == b'\n' {
@@ -12,7 +12,7 @@ pub(crate) fn line_count(text: &[u8]) -> usize {
 }
 
 /// How many lines were said, where they are whole and the first ones of the text.
-pub(crate) fn lines_said(text: &[u8], said: &[u8]) -> Option<usize> {
+pub fn lines_said(text: &[u8], said: &[u8]) -> Option<usize> {
     let whole = match said.last() {
         Some(byte) => *byte == b'\n',
         None => true,
@@ -22,6 +22,16 @@ pub(crate) fn lines_said(text: &[u8], said: &[u8]) -> Option<usize> {
     } else {
         None
     }
+}
+
+/// Whether a text has this part.
+pub fn has_part(text: &[u8], part: &[u8]) -> bool {
+    for first in 0..text.len() {
+        if text[first..].starts_with(part) {
+            return true;
+        }
+    }
+    false
 }
 
 /// A digit of a number.
@@ -69,9 +79,9 @@ fn is_resumed(text: &[u8], said: &[u8], count: usize, all: usize) -> bool {
 }
 
 /// Whether what was said is so many bytes of the text, and behind them what a run says that goes on where so many lines
-/// of the text were said: the whole text where no job is stored, and no line was said then, and else the lines of the
-/// steps that aren't committed, where none of those that were said is among them.
-pub(crate) fn goes_on(
+/// of the text were said: the whole text where no job is stored, and no line was said then, and else the lines that
+/// don't end with committed steps, where none of those that were said is among them.
+pub fn goes_on(
     text: &[u8],
     said: &[u8],
     before: usize,
