@@ -1,100 +1,11 @@
 // Scripts that are accepted, with their whole plans.
-use crate::whole::read_whole;
-use bool_tables::{Bin, Planned, Quant, Step};
-use script_reader::LineEnd;
-use std::alloc::{AllocError, Global};
-
-/// The operators, by what they make of left 0 and right 0, 0 and 1, 1 and 0, 1 and 1.
-const AND: Bin = Bin {
-    v00: false,
-    v01: false,
-    v10: false,
-    v11: true,
-};
-
-const OR: Bin = Bin {
-    v00: false,
-    v01: true,
-    v10: true,
-    v11: true,
-};
-
-const XOR: Bin = Bin {
-    v00: false,
-    v01: true,
-    v10: true,
-    v11: false,
-};
-
-const NAND: Bin = Bin {
-    v00: true,
-    v01: true,
-    v10: true,
-    v11: false,
-};
-
-const NOR: Bin = Bin {
-    v00: true,
-    v01: false,
-    v10: false,
-    v11: false,
-};
-
-const XNOR: Bin = Bin {
-    v00: true,
-    v01: false,
-    v10: false,
-    v11: true,
-};
-
-const IMP: Bin = Bin {
-    v00: true,
-    v01: true,
-    v10: false,
-    v11: true,
-};
-
-/// A step, and the place and the length of its name.
-type Made = (Step, u32, u32);
-
-/// Whether the plan of a script has so many variables and these steps, and says these lines,
-/// each with its step.
-fn plans_so(
-    alloc: Global,
-    text: &str,
-    n: u32,
-    made: &[Made],
-    said: &[(u32, u32)],
-) -> Result<bool, AllocError> {
-    let Ok(plan) = read_whole(alloc, text.as_bytes()) else {
-        return Ok(false);
-    };
-    let mut steps = Vec::new(alloc);
-    for (step, name_at, name_len) in made {
-        steps.push(Planned {
-            step: *step,
-            name_at: *name_at,
-            name_len: *name_len,
-        })?;
-    }
-    let mut lines = Vec::new(alloc);
-    for (line, step) in said {
-        lines.push(LineEnd {
-            line: *line,
-            last: *step,
-            shows: *step,
-        })?;
-    }
-    Ok(
-        plan.n == n
-            && plan.steps.items() == steps.as_slice()
-            && plan.lines.items() == lines.as_slice(),
-    )
-}
+use crate::operators::{AND, IMP, NAND, NOR, OR, XNOR, XOR};
+use crate::whole::{Made, Said, is_plan, read_whole};
+use bool_tables::{Quant, Step};
 
 #[test]
-fn plans_each_request(rt: HostRuntime) -> Result<(), AllocError> {
-    let cases: [(&str, u32, &[Made], &[(u32, u32)]); 13] = [
+fn plans_each_request(rt: HostRuntime) {
+    let cases: [(&str, u32, &[Made], &[Said]); 13] = [
         // Without steps.
         ("", 0, &[], &[]),
         ("vars", 0, &[], &[]),
@@ -105,13 +16,13 @@ fn plans_each_request(rt: HostRuntime) -> Result<(), AllocError> {
             "vars a b c\nvar f b\n",
             3,
             &[(Step::Var { level: 1 }, 15, 1)],
-            &[(2, 0)],
+            &[(2, 0, 0)],
         ),
         (
             "const z 0",
             0,
             &[(Step::Const { value: false }, 6, 1)],
-            &[(1, 0)],
+            &[(1, 0, 0)],
         ),
         (
             "const a 0\nnot b a",
@@ -128,7 +39,7 @@ fn plans_each_request(rt: HostRuntime) -> Result<(), AllocError> {
                     1,
                 ),
             ],
-            &[(1, 0), (2, 1)],
+            &[(1, 0, 0), (2, 1, 1)],
         ),
         (
             "const a 0\nconst b 1\nand c a b\nor d a b\nxor e a b\nnand f a b\nnor g a b\nxnor h a b\n\
@@ -202,15 +113,15 @@ fn plans_each_request(rt: HostRuntime) -> Result<(), AllocError> {
                 ),
             ],
             &[
-                (1, 0),
-                (2, 1),
-                (3, 2),
-                (4, 3),
-                (5, 4),
-                (6, 5),
-                (7, 6),
-                (8, 7),
-                (9, 8),
+                (1, 0, 0),
+                (2, 1, 1),
+                (3, 2, 2),
+                (4, 3, 3),
+                (5, 4, 4),
+                (6, 5, 5),
+                (7, 6, 6),
+                (8, 7, 7),
+                (9, 8, 8),
             ],
         ),
         (
@@ -230,7 +141,7 @@ fn plans_each_request(rt: HostRuntime) -> Result<(), AllocError> {
                     1,
                 ),
             ],
-            &[(1, 0), (2, 1), (3, 2), (4, 3)],
+            &[(1, 0, 0), (2, 1, 1), (3, 2, 2), (4, 3, 3)],
         ),
         (
             "vars x y\nvar f x\nexists g f y\nforall h g x\nrestrict i h y 1\nrestrict j i x 0",
@@ -274,7 +185,7 @@ fn plans_each_request(rt: HostRuntime) -> Result<(), AllocError> {
                     1,
                 ),
             ],
-            &[(2, 0), (3, 1), (4, 2), (5, 3), (6, 4)],
+            &[(2, 0, 0), (3, 1, 1), (4, 2, 2), (5, 3, 3), (6, 4, 4)],
         ),
         (
             "const a 0\nconst b 1\nsame a b\nleq b a\nsize b\ndrop a\nsize b",
@@ -288,7 +199,15 @@ fn plans_each_request(rt: HostRuntime) -> Result<(), AllocError> {
                 (Step::Drop { gone: 0 }, 0, 0),
                 (Step::Size { of: 1 }, 0, 0),
             ],
-            &[(1, 0), (2, 1), (3, 2), (4, 3), (5, 4), (6, 5), (7, 6)],
+            &[
+                (1, 0, 0),
+                (2, 1, 1),
+                (3, 2, 2),
+                (4, 3, 3),
+                (5, 4, 4),
+                (6, 5, 5),
+                (7, 6, 6),
+            ],
         ),
         (
             "vars a b c\nvar f c\neval f 011",
@@ -297,7 +216,7 @@ fn plans_each_request(rt: HostRuntime) -> Result<(), AllocError> {
                 (Step::Var { level: 2 }, 15, 1),
                 (Step::Eval { of: 0, at: 26 }, 0, 0),
             ],
-            &[(2, 0), (3, 1)],
+            &[(2, 0, 0), (3, 1, 1)],
         ),
         (
             "vars\nconst t 1\neval t\n",
@@ -306,18 +225,18 @@ fn plans_each_request(rt: HostRuntime) -> Result<(), AllocError> {
                 (Step::Const { value: true }, 11, 1),
                 (Step::Eval { of: 0, at: 0 }, 0, 0),
             ],
-            &[(2, 0), (3, 1)],
+            &[(2, 0, 0), (3, 1, 1)],
         ),
     ];
     for (text, n, made, said) in cases {
-        assert!(rt; plans_so(rt.alloc(), text, n, made, said)?, "{text:?}");
+        let answer = read_whole(rt.alloc(), text.as_bytes());
+        assert!(rt; is_plan(answer, n, made, said), "{text:?}");
     }
-    Ok(())
 }
 
 #[test]
-fn plans_names_levels_and_blanks(rt: HostRuntime) -> Result<(), AllocError> {
-    let cases: [(&str, u32, &[Made], &[(u32, u32)]); 11] = [
+fn plans_names_levels_and_blanks(rt: HostRuntime) {
+    let cases: [(&str, u32, &[Made], &[Said]); 11] = [
         // Steps are numbered with those that make no diagram, and a diagram may be named twice on a line.
         (
             "const a 0\ndrop a\nconst b 1\nsize b",
@@ -328,7 +247,7 @@ fn plans_names_levels_and_blanks(rt: HostRuntime) -> Result<(), AllocError> {
                 (Step::Const { value: true }, 23, 1),
                 (Step::Size { of: 2 }, 0, 0),
             ],
-            &[(1, 0), (2, 1), (3, 2), (4, 3)],
+            &[(1, 0, 0), (2, 1, 1), (3, 2, 2), (4, 3, 3)],
         ),
         (
             "const a 1\nxor b a a\nsame b b",
@@ -346,7 +265,7 @@ fn plans_names_levels_and_blanks(rt: HostRuntime) -> Result<(), AllocError> {
                 ),
                 (Step::Same { left: 1, right: 1 }, 0, 0),
             ],
-            &[(1, 0), (2, 1), (3, 2)],
+            &[(1, 0, 0), (2, 1, 1), (3, 2, 2)],
         ),
         // Levels go by the order of the variables.
         (
@@ -356,7 +275,7 @@ fn plans_names_levels_and_blanks(rt: HostRuntime) -> Result<(), AllocError> {
                 (Step::Var { level: 1 }, 25, 1),
                 (Step::Var { level: 0 }, 33, 1),
             ],
-            &[(5, 0), (6, 1)],
+            &[(5, 0, 0), (6, 1, 1)],
         ),
         // Names of variables and of diagrams are two sets of names, and may be those of requests, or digits.
         (
@@ -374,7 +293,7 @@ fn plans_names_levels_and_blanks(rt: HostRuntime) -> Result<(), AllocError> {
                     1,
                 ),
             ],
-            &[(2, 0), (3, 1)],
+            &[(2, 0, 0), (3, 1, 1)],
         ),
         (
             "vars const\nvar var const\nnot vars var",
@@ -391,7 +310,7 @@ fn plans_names_levels_and_blanks(rt: HostRuntime) -> Result<(), AllocError> {
                     4,
                 ),
             ],
-            &[(2, 0), (3, 1)],
+            &[(2, 0, 0), (3, 1, 1)],
         ),
         (
             "vars 0 1\nvar 1 1\nconst 0 0\nrestrict r 1 0 1",
@@ -409,26 +328,26 @@ fn plans_names_levels_and_blanks(rt: HostRuntime) -> Result<(), AllocError> {
                     1,
                 ),
             ],
-            &[(2, 0), (3, 1), (4, 2)],
+            &[(2, 0, 0), (3, 1, 1), (4, 2, 2)],
         ),
         (
             "const nnnnnnnnnnnnnnnnnnnnnnnnnnnnnnnnnnnnnnnnnnnnnnnnnnnnnnnnnnnnnnn 0",
             0,
             &[(Step::Const { value: false }, 6, 63)],
-            &[(1, 0)],
+            &[(1, 0, 0)],
         ),
         // Comments, blanks, tabs and carriage returns.
         (
             "vars a b # order\r\n\r\n\tvar f a\r\n",
             2,
             &[(Step::Var { level: 0 }, 25, 1)],
-            &[(3, 0)],
+            &[(3, 0, 0)],
         ),
         (
             "\tconst\t\ta \r1\t\r\n",
             0,
             &[(Step::Const { value: true }, 8, 1)],
-            &[(1, 0)],
+            &[(1, 0, 0)],
         ),
         (
             "const a 0#b\nsize a # size b",
@@ -437,24 +356,24 @@ fn plans_names_levels_and_blanks(rt: HostRuntime) -> Result<(), AllocError> {
                 (Step::Const { value: false }, 6, 1),
                 (Step::Size { of: 0 }, 0, 0),
             ],
-            &[(1, 0), (2, 1)],
+            &[(1, 0, 0), (2, 1, 1)],
         ),
         (
             "#\nconst a 0\n#",
             0,
             &[(Step::Const { value: false }, 8, 1)],
-            &[(2, 0)],
+            &[(2, 0, 0)],
         ),
     ];
     for (text, n, made, said) in cases {
-        assert!(rt; plans_so(rt.alloc(), text, n, made, said)?, "{text:?}");
+        let answer = read_whole(rt.alloc(), text.as_bytes());
+        assert!(rt; is_plan(answer, n, made, said), "{text:?}");
     }
-    Ok(())
 }
 
 #[test]
-fn plans_whole_scripts(rt: HostRuntime) -> Result<(), AllocError> {
-    let cases: [(&str, u32, &[Made], &[(u32, u32)]); 5] = [
+fn plans_whole_scripts(rt: HostRuntime) {
+    let cases: [(&str, u32, &[Made], &[Said]); 5] = [
         (
             "vars a b\nvar f a\nvar g b\nand h f g\ndrop f",
             2,
@@ -472,7 +391,7 @@ fn plans_whole_scripts(rt: HostRuntime) -> Result<(), AllocError> {
                 ),
                 (Step::Drop { gone: 0 }, 0, 0),
             ],
-            &[(2, 0), (3, 1), (4, 2), (5, 3)],
+            &[(2, 0, 0), (3, 1, 1), (4, 2, 2), (5, 3, 3)],
         ),
         (
             "vars a b\nvar f a\nvar g b\nand h f g",
@@ -490,7 +409,7 @@ fn plans_whole_scripts(rt: HostRuntime) -> Result<(), AllocError> {
                     1,
                 ),
             ],
-            &[(2, 0), (3, 1), (4, 2)],
+            &[(2, 0, 0), (3, 1, 1), (4, 2, 2)],
         ),
         (
             "vars a b c\nvar x a\nvar y b\nvar z c\nand w y z\nite f x w z\nexists e f a\n\
@@ -540,15 +459,15 @@ fn plans_whole_scripts(rt: HostRuntime) -> Result<(), AllocError> {
                 (Step::Same { left: 6, right: 3 }, 0, 0),
             ],
             &[
-                (2, 0),
-                (3, 1),
-                (4, 2),
-                (5, 3),
-                (6, 4),
-                (7, 5),
-                (8, 6),
-                (9, 7),
-                (10, 8),
+                (2, 0, 0),
+                (3, 1, 1),
+                (4, 2, 2),
+                (5, 3, 3),
+                (6, 4, 4),
+                (7, 5, 5),
+                (8, 6, 6),
+                (9, 7, 7),
+                (10, 8, 8),
             ],
         ),
         (
@@ -587,7 +506,15 @@ fn plans_whole_scripts(rt: HostRuntime) -> Result<(), AllocError> {
                 (Step::Same { left: 3, right: 4 }, 0, 0),
                 (Step::Eval { of: 2, at: 85 }, 0, 0),
             ],
-            &[(2, 0), (3, 1), (4, 2), (5, 3), (6, 4), (7, 5), (8, 6)],
+            &[
+                (2, 0, 0),
+                (3, 1, 1),
+                (4, 2, 2),
+                (5, 3, 3),
+                (6, 4, 4),
+                (7, 5, 5),
+                (8, 6, 6),
+            ],
         ),
         (
             "vars x1 y1\nconst p0 1\nvar a1 x1\nvar b1 y1\nxnor e1 a1 b1\nand p1 p0 e1\nconst r0 1\n\
@@ -629,20 +556,20 @@ fn plans_whole_scripts(rt: HostRuntime) -> Result<(), AllocError> {
                 (Step::Size { of: 4 }, 0, 0),
             ],
             &[
-                (2, 0),
-                (3, 1),
-                (4, 2),
-                (5, 3),
-                (6, 4),
-                (7, 5),
-                (8, 6),
-                (9, 7),
-                (10, 8),
+                (2, 0, 0),
+                (3, 1, 1),
+                (4, 2, 2),
+                (5, 3, 3),
+                (6, 4, 4),
+                (7, 5, 5),
+                (8, 6, 6),
+                (9, 7, 7),
+                (10, 8, 8),
             ],
         ),
     ];
     for (text, n, made, said) in cases {
-        assert!(rt; plans_so(rt.alloc(), text, n, made, said)?, "{text:?}");
+        let answer = read_whole(rt.alloc(), text.as_bytes());
+        assert!(rt; is_plan(answer, n, made, said), "{text:?}");
     }
-    Ok(())
 }

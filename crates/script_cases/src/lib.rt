@@ -13,6 +13,8 @@ mod large;
 #[cfg(test)]
 mod netlists;
 #[cfg(test)]
+mod operators;
+#[cfg(test)]
 mod refused;
 #[cfg(test)]
 mod whole;

@@ -1,7 +1,8 @@
 // Scripts that are read with a netlist: the plans of those that are accepted, and the first fault of each other one.
-use crate::whole::{is_fault, read_with};
+use crate::operators::{AND, LEFT_ALONE, NAND, OR};
+use crate::whole::{Made, Said, is_fault, is_plan, read_with};
 use blif_reader::{Netlist, read_netlist};
-use bool_tables::{Bin, Planned, Step, Table, eval_steps};
+use bool_tables::{Bin, Step, Table, eval_steps};
 use script_reader::{LineEnd, Plan, ScriptKind, read_script};
 use std::alloc::{AllocError, Global};
 
@@ -16,41 +17,6 @@ const ONE: &str = ".model m\n.inputs\n.outputs c\n.names c\n1\n";
 /// Two outputs that tell the inputs apart: `f` is 1 where `a` alone is, and `g` is the complement of `a`.
 const APART: &str =
     ".model m\n.inputs a b\n.outputs f g\n.names a b f\n10 1\n.names a g\n0 1\n.end\n";
-
-/// The operators of plans of signals, by what they make of left 0 and right 0, 0 and 1, 1 and 0, 1 and 1.
-const BOTH: Bin = Bin {
-    v00: false,
-    v01: false,
-    v10: false,
-    v11: true,
-};
-
-const LEFT_ALONE: Bin = Bin {
-    v00: false,
-    v01: false,
-    v10: true,
-    v11: false,
-};
-
-const EITHER: Bin = Bin {
-    v00: false,
-    v01: true,
-    v10: true,
-    v11: true,
-};
-
-const NOT_BOTH: Bin = Bin {
-    v00: true,
-    v01: true,
-    v10: true,
-    v11: false,
-};
-
-/// A step, and the place and the length of its name.
-type Made = (Step, u32, u32);
-
-/// The line, the last step and the step that is shown of a said line.
-type Said = (u32, u32, u32);
 
 fn zero() -> Step {
     Step::Const { value: false }
@@ -68,58 +34,16 @@ fn gone(gone: u32) -> Step {
     Step::Drop { gone }
 }
 
-/// Whether the plan of a script has so many variables and these steps, and says these lines.
-fn plans_over(
-    alloc: Global,
-    net: &Netlist,
-    text: &str,
-    n: u32,
-    made: &[Made],
-    said: &[Said],
-) -> Result<bool, AllocError> {
-    let Ok(plan) = read_with(alloc, text.as_bytes(), Some(net)) else {
-        return Ok(false);
-    };
-    let mut steps = Vec::new(alloc);
-    for (step, name_at, name_len) in made {
-        steps.push(Planned {
-            step: *step,
-            name_at: *name_at,
-            name_len: *name_len,
-        })?;
-    }
-    let mut lines = Vec::new(alloc);
-    for (line, last, shows) in said {
-        lines.push(LineEnd {
-            line: *line,
-            last: *last,
-            shows: *shows,
-        })?;
-    }
-    Ok(
-        plan.n == n
-            && plan.steps.items() == steps.as_slice()
-            && plan.lines.items() == lines.as_slice(),
-    )
-}
-
-/// The same with a netlist that is read first.
-fn plans_with(
-    alloc: Global,
-    net: &str,
-    text: &str,
-    n: u32,
-    made: &[Made],
-    said: &[Said],
-) -> Result<bool, AllocError> {
+/// Whether the plan of a script over a netlist has so many variables and these steps, and says these lines.
+fn plans_with(alloc: Global, net: &str, text: &str, n: u32, made: &[Made], said: &[Said]) -> bool {
     match read_netlist(alloc, net.as_bytes()) {
-        Ok(net) => plans_over(alloc, &net, text, n, made, said),
-        Err(_) => Ok(false),
+        Ok(net) => is_plan(read_with(alloc, text.as_bytes(), Some(&net)), n, made, said),
+        Err(_) => false,
     }
 }
 
 #[test]
-fn plans_inputs_and_signals(rt: HostRuntime) -> Result<(), AllocError> {
+fn plans_inputs_and_signals(rt: HostRuntime) {
     let cases: [(&str, &str, u32, &[Made], &[Said]); 9] = [
         (NET, "inputs", 2, &[], &[]),
         (NET, "vars a", 1, &[], &[]),
@@ -153,7 +77,7 @@ fn plans_inputs_and_signals(rt: HostRuntime) -> Result<(), AllocError> {
             &[
                 (one(), 13, 1),
                 (Step::Var { level: 0 }, 21, 1),
-                (pair(BOTH, 0, 1), 29, 1),
+                (pair(AND, 0, 1), 29, 1),
                 (gone(1), 0, 0),
             ],
             &[(2, 0, 0), (3, 1, 1), (4, 2, 2), (5, 3, 3)],
@@ -170,7 +94,7 @@ fn plans_inputs_and_signals(rt: HostRuntime) -> Result<(), AllocError> {
                 (one(), 0, 0),
                 (pair(LEFT_ALONE, 3, 1), 0, 0),
                 (gone(3), 0, 0),
-                (pair(EITHER, 2, 4), 19, 1),
+                (pair(OR, 2, 4), 19, 1),
                 (gone(2), 0, 0),
                 (gone(4), 0, 0),
                 (gone(1), 0, 0),
@@ -186,12 +110,12 @@ fn plans_inputs_and_signals(rt: HostRuntime) -> Result<(), AllocError> {
                 (Step::Var { level: 1 }, 0, 0),
                 (zero(), 0, 0),
                 (one(), 0, 0),
-                (pair(BOTH, 2, 0), 0, 0),
+                (pair(AND, 2, 0), 0, 0),
                 (gone(2), 0, 0),
-                (pair(EITHER, 1, 3), 0, 0),
+                (pair(OR, 1, 3), 0, 0),
                 (gone(1), 0, 0),
                 (gone(3), 0, 0),
-                (pair(NOT_BOTH, 5, 5), 11, 1),
+                (pair(NAND, 5, 5), 11, 1),
                 (gone(5), 0, 0),
                 (gone(0), 0, 0),
             ],
@@ -205,7 +129,7 @@ fn plans_inputs_and_signals(rt: HostRuntime) -> Result<(), AllocError> {
             &[
                 (zero(), 0, 0),
                 (one(), 0, 0),
-                (pair(EITHER, 0, 1), 4, 1),
+                (pair(OR, 0, 1), 4, 1),
                 (gone(0), 0, 0),
                 (gone(1), 0, 0),
             ],
@@ -214,41 +138,39 @@ fn plans_inputs_and_signals(rt: HostRuntime) -> Result<(), AllocError> {
     ];
     for (net, text, n, made, said) in cases {
         assert!(rt;
-            plans_with(rt.alloc(), net, text, n, made, said)?,
+            plans_with(rt.alloc(), net, text, n, made, said),
             "{text:?}"
         );
     }
-    Ok(())
 }
 
 /// Each pair of a line has its said line, which comes after the line's last step and shows the step of its signal.
 #[test]
-fn plans_several_signals(rt: HostRuntime) -> Result<(), AllocError> {
+fn plans_several_signals(rt: HostRuntime) {
     let made: [Made; 19] = [
         (Step::Var { level: 0 }, 15, 1),
         (Step::Var { level: 1 }, 0, 0),
         (zero(), 0, 0),
         (one(), 0, 0),
-        (pair(BOTH, 3, 0), 0, 0),
+        (pair(AND, 3, 0), 0, 0),
         (gone(3), 0, 0),
-        (pair(BOTH, 4, 1), 0, 0),
+        (pair(AND, 4, 1), 0, 0),
         (gone(4), 0, 0),
-        (pair(EITHER, 2, 6), 11, 1),
+        (pair(OR, 2, 6), 11, 1),
         (gone(2), 0, 0),
         (gone(6), 0, 0),
         (zero(), 0, 0),
         (one(), 0, 0),
         (pair(LEFT_ALONE, 12, 0), 0, 0),
         (gone(12), 0, 0),
-        (pair(EITHER, 11, 13), 19, 1),
+        (pair(OR, 11, 13), 19, 1),
         (gone(11), 0, 0),
         (gone(13), 0, 0),
         (gone(1), 0, 0),
     ];
     let said: [Said; 3] = [(2, 18, 8), (2, 18, 0), (2, 18, 15)];
     let text = "inputs\nnet x f y a z g";
-    assert!(rt; plans_with(rt.alloc(), NET, text, 2, made.as_slice(), said.as_slice())?);
-    Ok(())
+    assert!(rt; plans_with(rt.alloc(), NET, text, 2, made.as_slice(), said.as_slice()));
 }
 
 /// A said line: its number, the place of the name of the step that it shows, and that step's table.

@@ -1,6 +1,7 @@
-// Scripts read as the program reads them, with the words of all requests.
+// Scripts read as the program reads them, with the words of all requests, and what their plans are compared with.
 use blif_reader::Netlist;
-use script_reader::{Plan, ScriptFault, ScriptKind, read_script};
+use bool_tables::{Planned, Step};
+use script_reader::{LineEnd, Plan, ScriptFault, ScriptKind, read_script};
 use std::alloc::Global;
 
 /// The plan of a script, or its first fault, where no netlist is given.
@@ -28,4 +29,55 @@ pub(crate) fn is_fault(answer: Result<Plan, ScriptFault>, line: u32, kind: Scrip
 /// Whether the first fault of a script has this line and this kind.
 pub(crate) fn refuses(alloc: Global, bytes: &[u8], line: u32, kind: ScriptKind) -> bool {
     is_fault(read_whole(alloc, bytes), line, kind)
+}
+
+/// A step, and the place and the length of its name.
+pub(crate) type Made = (Step, u32, u32);
+
+/// The line, the last step and the step that is shown of a said line.
+pub(crate) type Said = (u32, u32, u32);
+
+/// Whether a plan has these steps and no others.
+fn has_steps(plan: &Plan, made: &[Made]) -> bool {
+    let steps = plan.steps.items();
+    for (place, (step, name_at, name_len)) in made.iter().enumerate() {
+        let wanted = Planned {
+            step: *step,
+            name_at: *name_at,
+            name_len: *name_len,
+        };
+        if steps.get(place) != Some(&wanted) {
+            return false;
+        }
+    }
+    steps.len() == made.len()
+}
+
+/// Whether it says these lines and no others.
+fn has_lines(plan: &Plan, said: &[Said]) -> bool {
+    let lines = plan.lines.items();
+    for (place, (line, last, shows)) in said.iter().enumerate() {
+        let wanted = LineEnd {
+            line: *line,
+            last: *last,
+            shows: *shows,
+        };
+        if lines.get(place) != Some(&wanted) {
+            return false;
+        }
+    }
+    lines.len() == said.len()
+}
+
+/// Whether an answer is a plan with so many variables and these steps, which says these lines.
+pub(crate) fn is_plan(
+    answer: Result<Plan, ScriptFault>,
+    n: u32,
+    made: &[Made],
+    said: &[Said],
+) -> bool {
+    match answer {
+        Ok(plan) => plan.n == n && has_steps(&plan, made) && has_lines(&plan, said),
+        Err(_) => false,
+    }
 }
