@@ -6,6 +6,7 @@ use crate::steps::{EMPTY, LARGE_ROOM, LEAST_ROOM, NUMBER, ONE, THREE, TWO, is_ma
 use crate::triples::triple;
 use bool_tables::Quant;
 use case_tables::{bench_of, choice_of, operator, product_of, quantified_of, restricted_of};
+use file_numbers::FIRST_RUN_PART;
 use rec_words::Rec;
 use shelf_memory::Bench;
 use std::alloc::Global;
@@ -14,9 +15,6 @@ use step_sweeps::{StepOperation, make_diagram};
 
 /// How many triples of tables are operands.
 const SEEDS: u64 = 60;
-
-/// The part number behind the two files of arcs.
-const PAST_ARCS: u64 = 5;
 
 /// Which operations are tried.
 #[derive(Clone, Copy, Debug, PartialEq, Eq)]
@@ -200,7 +198,7 @@ fn makes_with_runs(rt: HostRuntime) -> Result<bool, Fail> {
     let operation = StepOperation::Operator(operator(DIFFER));
     match make_diagram(operation, MANY, TWO, NUMBER, room, &mut bench) {
         Ok(made) => Ok(
-            made.next > PAST_ARCS && is_made(alloc, MANY, made, wanted.as_slice(), &bench)?,
+            made.next > FIRST_RUN_PART && is_made(alloc, MANY, made, wanted.as_slice(), &bench)?,
         ),
         Err(_) => Ok(false),
     }

@@ -5,9 +5,10 @@ ghost use Rattle.step_cases.specs.declared.steps.TheConstants.{LEAST_ROOM};
 use crate::steps::{EMPTY, LARGE_ROOM, LEAST_ROOM, NUMBER, TWO, is_made, makes};
 use crate::triples::triple;
 use case_tables::{FIRST, bench_of, operator, product_of, put_bytes};
+use file_numbers::{ends_file, inner_file};
 use rec_words::Rec;
 use shelf_memory::Bench;
-use shelf_model::{FileNo, SortFault};
+use shelf_model::SortFault;
 use std::alloc::Global;
 use std::test::Fail;
 use step_sweeps::{StepOperation, make_diagram};
@@ -28,13 +29,9 @@ const LOW: usize = 8;
 
 // Whether the step has left arcs.
 fn has_arcs(bench: &Bench) -> bool {
-    [3, 4].iter().any(|part| {
-        let file = FileNo {
-            step: NUMBER,
-            part: *part,
-        };
-        !bench.file(file).is_empty()
-    })
+    [inner_file(NUMBER), ends_file(NUMBER)]
+        .iter()
+        .any(|file| !bench.file(*file).is_empty())
 }
 
 // Whether an operator on two tables makes the right file, and leaves no arcs.

@@ -2,28 +2,18 @@
 use crate::steps::{EMPTY, LARGE_ROOM, LEAST_ROOM, NUMBER, THREE, is_made};
 use crate::triples::triple;
 use case_tables::{bench_of, choice_of};
+use file_numbers::{ends_file, inner_file};
 use shelf_memory::Bench;
-use shelf_model::FileNo;
 use std::test::Fail;
 use step_sweeps::{StepOperation, make_diagram};
 
 /// So many variables that the least room doesn't hold the sources, and a record for each of the widest level.
 const MANY: u32 = 17;
 
-const INNER: FileNo = FileNo {
-    step: NUMBER,
-    part: 3,
-};
-
-const ENDS: FileNo = FileNo {
-    step: NUMBER,
-    part: 4,
-};
-
 // How many sources have the arcs that a step left: each has two, of 16 bytes.
 fn source_count(bench: &Bench) -> u64 {
-    let inner = bench.file(INNER).len() as u64 / 16;
-    let ends = bench.file(ENDS).len() as u64 / 16;
+    let inner = bench.file(inner_file(NUMBER)).len() as u64 / 16;
+    let ends = bench.file(ends_file(NUMBER)).len() as u64 / 16;
     inner.wrapping_add(ends) / 2
 }
 

@@ -5,6 +5,7 @@ ghost use Rattle.step_sweeps.specs.Operations.{IsWithin};
 ghost use Rattle.step_cases.specs.declared.steps.TheConstants.{NUMBER, LEAST_ROOM};
 
 use case_tables::{FIRST, SECOND, THIRD, canon_of};
+use file_numbers::node_file;
 use rec_words::Rec;
 use shelf_memory::Bench;
 use shelf_model::FileNo;
@@ -15,11 +16,6 @@ use top_down_sweep::OperandFiles;
 
 /// The step that is done.
 pub(crate) const NUMBER: u32 = 3;
-
-const OUT: FileNo = FileNo {
-    step: NUMBER,
-    part: 0,
-};
 
 /// How many records a step needs at least.
 pub(crate) const LEAST_ROOM: usize = 16_384;
@@ -34,10 +30,7 @@ pub(crate) fn file(index: u32) -> FileNo
     requires { index < 3 }
     ensures { result.step < 3 }
 {
-    FileNo {
-        step: index,
-        part: 0,
-    }
+    node_file(index)
 }
 
 /// The files of an operation on three diagrams, on two and on one.
@@ -92,5 +85,5 @@ pub(crate) fn is_made(
 {
     let bytes = canon_of(alloc, n, wanted)?;
     let nodes = (bytes.len() as u64 / 24).saturating_sub(1);
-    Ok(made.nodes == nodes && bench.file(OUT) == bytes.as_slice())
+    Ok(made.nodes == nodes && bench.file(node_file(NUMBER)) == bytes.as_slice())
 }
