@@ -23,10 +23,10 @@ use Rattle.run_tiers.specs.Parts.{Took, Spilled, WasTaken}
 use Rattle.run_merge.specs.Sorters as sorters
 use Rattle.run_files.proofs.RecordOrder.{none_less}
 use Rattle.run_merge.proofs.RefusedLaws.{err_of}
-use Rattle.run_merge.proofs.SorterLaws.{credit_bounded, list_counted, list_kept, list_kept_unchanged, list_kept_with_parts, serves_on}
+use Rattle.run_merge.proofs.SorterLaws.{credit_bounded, in_step_kept, list_counted, list_kept, list_kept_unchanged, list_kept_with_parts, serves_on}
 use Rattle.run_merge.proofs.RunFiles.{sorter_taken}
 use Rattle.level_queue.specs.declared.queue.LevelQueue.{LevelQueue}
-use Rattle.level_queue.specs.Queues.{held, credit, IsRunOf, IsNoLess, IsReached, AnswersNoLess, IsOutOfOrder, IsBelow, IsQueueFault, IsQueueCause, Serves, Lists}
+use Rattle.level_queue.specs.Queues.{held, credit, IsInStep, IsRunOf, IsNoLess, IsReached, AnswersNoLess, IsOutOfOrder, IsBelow, IsQueueFault, IsQueueCause, Serves, Lists}
 
 -- what follows from the list of which an item joined the other
 joins_so : {T : Type 0} (P Q : List T → Type 0) (x : T) (xs : List T) (result : Result Unit SortFault)
@@ -95,6 +95,12 @@ pub queue_kept : {T : Type 0} (is_value : T → Type 0) (words : T → List ℕ)
 unfolding IsRunOf
 queue_kept is_value words cmp q old new xs same list =
     record { sorter = list_kept is_value words cmp q.sorter old new xs same list.sorter; reached = list.reached }
+
+-- and its windows hold what the files of its runs do
+pub queue_in_step_kept : {T : Type 0} (q : LevelQueue T) (old new : World)
+    → ((f : FileNo) → IsRunOf q f → (file new f).bytes ≡ (file old f).bytes) → IsInStep q old → IsInStep q new
+unfolding IsRunOf IsInStep
+queue_in_step_kept q old new same step = in_step_kept q.sorter old new same step
 
 -- so it stays while no file changes
 pub queue_kept_unchanged : {T : Type 0} (is_value : T → Type 0) (words : T → List ℕ) (cmp : T → T → Ordering) (q : LevelQueue T) (old new : World) (xs : List T)

@@ -14,7 +14,8 @@ use Rattle.run_files.specs.Items.{record_of}
 use Rattle.run_merge.specs.declared.sorter.Sorter.{Sorter}
 use Rattle.run_merge.specs.Sorters as sorters
 use Rattle.run_merge.specs.Lists.{Freezes}
-use Rattle.run_merge.proofs.FreezeLaws.{list_kept_frozen, table_kept, table_kept_frozen}
+use Rattle.run_merge.specs.Shown.{table_kept}
+use Rattle.run_merge.proofs.FreezeLaws.{list_kept_frozen, table_kept_frozen}
 use Rattle.level_queue.specs.declared.queue.LevelQueue.{LevelQueue}
 use Rattle.level_queue.specs.Queues.{IsReached, Serves, Lists}
 use Rattle.level_queue.specs.Tables.{AreFirmTables, ServeTables, TablesList, TablesStay, table_at}

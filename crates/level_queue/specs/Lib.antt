@@ -1,3 +1,4 @@
 pub mod Queues
 pub mod Records
 pub mod Tables
+pub mod Shown

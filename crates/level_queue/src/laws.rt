@@ -8,7 +8,7 @@ ghost use Rattle.run_tiers.specs.declared.run.RunTable.{RunTable};
 ghost use Rattle.run_tiers.specs.Parts.{Took, Spilled};
 ghost use Rattle.run_tiers.specs.Syncs.{AnyFroze};
 ghost use Rattle.level_queue.specs.declared.queue.LevelQueue.{LevelQueue};
-ghost use Rattle.level_queue.specs.Queues.{held, credit, IsRunOf, Serves, Lists};
+ghost use Rattle.level_queue.specs.Queues.{held, credit, IsInStep, IsRunOf, Serves, Lists};
 ghost use Rattle.level_queue.specs.Tables.{AreFirmTables, ServeTables, TablesList, TablesStay};
 
 use rec_words::Spill;
@@ -32,7 +32,14 @@ pub fn list_stays<T: Spill>()
         Lists T.is_value T.words T.cmp q old xs → Lists T.is_value T.words T.cmp q new xs }
 {}
 
-/// So it stays while no file changes.
+/// A queue's windows hold what the files of its runs do while the bytes of these stay.
+pub fn in_step_stays<T>()
+    ensures { (q : LevelQueue T) (old new : World) →
+        ((f : FileNo) → IsRunOf q f → (file new f).bytes ≡ (file old f).bytes) →
+        IsInStep q old → IsInStep q new }
+{}
+
+/// A queue's list stays while no file changes.
 pub fn list_stays_unchanged<T: Spill>()
     ensures { (q : LevelQueue T) (old new : World) (xs : List T) → Ran (Stays (now old)) old new →
         Lists T.is_value T.words T.cmp q old xs → Lists T.is_value T.words T.cmp q new xs }

@@ -9,7 +9,8 @@ mod laws;
 mod queue;
 
 pub use laws::{
-    credit_is_bounded, list_is_counted, list_is_unique, list_stays, list_stays_frozen,
-    list_stays_unchanged, list_stays_with_parts, parts_serve_on, tables_stay, tables_stay_frozen,
+    credit_is_bounded, in_step_stays, list_is_counted, list_is_unique, list_stays,
+    list_stays_frozen, list_stays_unchanged, list_stays_with_parts, parts_serve_on, tables_stay,
+    tables_stay_frozen,
 };
 pub use queue::LevelQueue;
