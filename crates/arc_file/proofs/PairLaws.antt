@@ -1,7 +1,7 @@
 -- Writing to one of two files, and to both.
-use Rattle.std.proofs.Common.{◌≡◌, ◌≢◌, ℕ, ◌+◌, ◌≤◌, Bool, sym, subst, ◌∙◌, arith}
+use Rattle.std.proofs.Common.{◌≡◌, ◌≢◌, ℕ, ◌+◌, ◌≤◌, Bool, take, sym, ap, subst, ◌∙◌, arith}
 use Rattle.shelf_model.specs.declared.file_no.FileNo.{FileNo}
-use Rattle.shelf_model.specs.File.{IsKept}
+use Rattle.shelf_model.specs.File.{File, IsKept}
 use Rattle.shelf_model.specs.World.{Moment, World, now, file}
 use Rattle.shelf_model.specs.Calls.{Told}
 use Rattle.shelf_model.proofs.Runs.{told_then, ran_joins, ran_end, ran_weakens}
@@ -52,6 +52,8 @@ module _ (f g : FileNo) (apart : f ≢ g) where
   during_first_cut : (to until : ℕ) (old m : Moment) → DuringCut f to old m → DuringCuts f to g until old m
   during_first_cut to until old m during = record {
     others = λ q from_f from_g. during.others q from_f;
+    first_reads = during.reads;
+    second_reads = λ n within. ap (λ (x : File). take n x.bytes) (during.others g (λ same. apart (sym same)));
     first_kept = during.kept;
     second_kept = λ front within kept. subst (IsKept front) (sym (during.others g (λ same. apart (sym same)))) kept;
   }
@@ -59,6 +61,8 @@ module _ (f g : FileNo) (apart : f ≢ g) where
   during_second_cut : (to until : ℕ) (old m : Moment) → DuringCut g until old m → DuringCuts f to g until old m
   during_second_cut to until old m during = record {
     others = λ q from_f from_g. during.others q from_g;
+    first_reads = λ n within. ap (λ (x : File). take n x.bytes) (during.others f apart);
+    second_reads = during.reads;
     first_kept = λ front within kept. subst (IsKept front) (sym (during.others f apart)) kept;
     second_kept = during.kept;
   }
@@ -73,6 +77,8 @@ module _ (f g : FileNo) (apart : f ≢ g) where
             let after : DuringCuts f to g until (now mid) m = during_second_cut to until (now mid) m during in
             record {
               others = λ q from_f from_g. after.others q from_f from_g ∙ before.others q from_f from_g;
+              first_reads = λ n within. after.first_reads n within ∙ before.first_reads n within;
+              second_reads = λ n within. after.second_reads n within ∙ before.second_reads n within;
               first_kept = λ front within kept. after.first_kept front within (before.first_kept front within kept);
               second_kept = λ front within kept. after.second_kept front within (before.second_kept front within kept);
             }) second.run);

@@ -1,5 +1,5 @@
 -- What writing to two files leaves of the folder.
-use Rattle.std.specs.Prelude.{◌≡◌, ◌≢◌, ℕ, ◌+◌, ◌≤◌, List, length}
+use Rattle.std.specs.Prelude.{◌≡◌, ◌≢◌, ℕ, ◌+◌, ◌≤◌, List, length, take}
 use Rattle.shelf_model.specs.declared.file_no.FileNo.{FileNo}
 use Rattle.shelf_model.specs.File.{IsKept}
 use Rattle.shelf_model.specs.Folder.{file_in}
@@ -12,9 +12,12 @@ pub record DuringWrites (f g : FileNo) (old m : Moment) : Type 0 where
   pub first_kept : (front : List ℕ) → IsKept front (file_in old.folder f) → IsKept front (file_in m.folder f)
   pub second_kept : (front : List ℕ) → IsKept front (file_in old.folder g) → IsKept front (file_in m.folder g)
 
--- at each moment every other file is as it was, and what was sure of these two up to a length of each is sure
+-- at each moment every other file is as it was, and up to a length of each these two read as they did, and what was sure
+-- of them is sure
 pub record DuringCuts (f : FileNo) (to : ℕ) (g : FileNo) (until : ℕ) (old m : Moment) : Type 0 where
   pub others : (q : FileNo) → q ≢ f → q ≢ g → file_in m.folder q ≡ file_in old.folder q
+  pub first_reads : (n : ℕ) → n ≤ to → take n (file_in m.folder f).bytes ≡ take n (file_in old.folder f).bytes
+  pub second_reads : (n : ℕ) → n ≤ until → take n (file_in m.folder g).bytes ≡ take n (file_in old.folder g).bytes
   pub first_kept : (front : List ℕ) → length front ≤ to → IsKept front (file_in old.folder f)
       → IsKept front (file_in m.folder f)
   pub second_kept : (front : List ℕ) → length front ≤ until → IsKept front (file_in old.folder g)

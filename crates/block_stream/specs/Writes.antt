@@ -15,9 +15,11 @@ pub record DuringWrite (f : FileNo) (old m : Moment) : Type 0 where
   pub others : OnlyChanged (λ q. q ≡ f) old m
   pub kept : (front : List ℕ) → IsKept front (file_in old.folder f) → IsKept front (file_in m.folder f)
 
--- at each moment every other file is as it was, and what was sure of this one up to a length is sure
+-- at each moment every other file is as it was, and up to a length this one reads as it did, and what was sure of it is
+-- sure
 pub record DuringCut (f : FileNo) (to : ℕ) (old m : Moment) : Type 0 where
   pub others : OnlyChanged (λ q. q ≡ f) old m
+  pub reads : (n : ℕ) → n ≤ to → take n (file_in m.folder f).bytes ≡ take n (file_in old.folder f).bytes
   pub kept : (front : List ℕ) → length front ≤ to → IsKept front (file_in old.folder f)
       → IsKept front (file_in m.folder f)
 

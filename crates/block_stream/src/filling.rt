@@ -81,6 +81,14 @@ impl Filling {
             waiting: 0,
         })
     }
+
+    /// The file that is written.
+    pub fn file(&self) -> FileNo
+        ensures { result ≡ self.now.file }
+    {
+        self.file
+    }
+
     /// How many records were put, with those that the file had at first.
     pub fn count(&self) -> u64
         requires fills { (room : ℕ) × IsFilling self.now room }

@@ -1,6 +1,7 @@
 mod TrailerLaws
 mod NodeLaws
 pub mod SkipLaws
+mod SkipLoads
 pub mod FileLaws
 mod CanonFiles
 pub mod HeldNodes

@@ -1,5 +1,5 @@
 -- Passing over nodes.
-use Rattle.std.proofs.Common.{◌≡◌, ℕ, ◌+◌, ◌<◌, ◌≤◌, min, Bool, List, [], ◌∷◌, length, take, refl, sym, subst, ap, ◌∙◌, arith}
+use Rattle.std.proofs.Common.{◌≡◌, ℕ, ◌+◌, ◌<◌, min, Bool, List, [], ◌∷◌, length, take, refl, sym, subst, ap, ◌∙◌, arith}
 use Rattle.std.specs.Prelude.{IsTrue, Option, Some, None, Ok, Err}
 use Rattle.std.proofs.lemmas.List.{length_push, take_all, take_at, take_min, take-take}
 use Rattle.rec_words.specs.declared.node.Node.{Node}
@@ -10,7 +10,7 @@ use Rattle.shelf_model.specs.Folder.{file_in}
 use Rattle.shelf_model.specs.World.{World, now, file}
 use Rattle.shelf_model.specs.Calls.{Told}
 use Rattle.shelf_model.specs.Moments.{Stays}
-use Rattle.shelf_model.proofs.Runs.{told, ran_end}
+use Rattle.shelf_model.proofs.Runs.{ran_end}
 use Rattle.block_stream.specs.Reads.{Looked}
 use Rattle.block_stream.specs.Items.{GivesLast}
 use Rattle.block_stream.proofs.WriteRuns.{looked_on}
@@ -25,15 +25,6 @@ goes_down old new (Some x) some goes = goes.1
 -- a look leaves the bytes of each file
 pub same_bytes : (n : ℕ) (f g : FileNo) (old new : World) → Looked n old new → g ≡ f → (file new g).bytes ≡ (file old f).bytes
 same_bytes n f g old new looked same = ap (λ folder. (file_in folder g).bytes) (ran_end old new (Stays (now old)) looked.run) ∙ ap (λ h. (file old h).bytes) same
-
--- one more call, within a number
-pub looked_within : {S : Type 0} (tells : S → Bool) (world : S → World) (m n : ℕ) (old s t : S) → m + 1 ≤ n
-    → Told tells old s (Looked m (world old) (world s)) → Told tells s t (Looked 1 (world s) (world t)) → Told tells old t (Looked n (world old) (world t))
-looked_within tells world m n old s t within first second =
-    told tells old t _ _ (looked_on tells world m 1 old s t first second) (λ _ looked. record {
-      run = looked.run;
-      few = let few : (world t).clock ≤ (world old).clock + (m + 1) = looked.few in omega arith;
-    })
 
 -- two looks, the second of which takes a number of calls that is known by then
 pub looked_told : {S : Type 0} (tells : S → Bool) (world : S → World) (m n k : ℕ) (old s t : S)

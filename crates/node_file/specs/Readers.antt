@@ -1,5 +1,5 @@
 -- What is seen of a reader of a node file.
-use Rattle.std.specs.Prelude.{◌≡◌, ◌⊎◌, ℕ, ◌+◌, ◌-◌, ◌*◌, ◌<◌, IsSome, List, Result, Option, Ok, Err, Some, None, IfSome}
+use Rattle.std.specs.Prelude.{◌≡◌, ◌⊎◌, ℕ, ◌+◌, ◌-◌, ◌*◌, ◌/◌, ◌<◌, IsSome, List, Result, Option, Ok, Err, Some, None, IfSome}
 use Rattle.rec_words.specs.Words.{node_size}
 use Rattle.rec_words.specs.Records.{node_words, IsNode}
 use Rattle.rec_words.specs.declared.node.Node.{Node}
@@ -42,6 +42,10 @@ room_of r = stream.room_of r.nodes
 abbrev pub Takes : NodeReader → NodeReader → Result (Option Node) StreamFault → Type 0
 Takes old new result = (room_of new ≡ room_of old)
     × TakesBehind (room_of old) (stream.reading_of old.nodes) (stream.reading_of new.nodes) result
+
+-- how many calls load so many nodes at most: each loads eight, or all that are left
+abbrev pub loads_of : ℕ → ℕ
+loads_of nodes = (nodes + 7) / 8
 
 -- what it has read is as these bytes of its file say
 pub record Reads (r : NodeReader) (bytes : List ℕ) : Type 0 where

@@ -36,7 +36,7 @@ impl<'r> NodeReader<'r> {
     ghost use Rattle.block_stream.specs.Reads.{Looked, IsDamageOf};
     ghost use Rattle.block_stream.specs.Items.{GivesLast};
     ghost use Rattle.node_file.specs.Nodes.{HasTrailer, HasNodes, IsRoot, IsTrailerDamage, IsMetBetween};
-    ghost use Rattle.node_file.specs.Readers.{file_of, trailer_of, left_of, given_of, waiting_of, room_of, Takes, Reads, AreLeft, GoesUp, IsNodePlace, IsNodeAnswer};
+    ghost use Rattle.node_file.specs.Readers.{file_of, trailer_of, left_of, given_of, waiting_of, room_of, loads_of, Takes, Reads, AreLeft, GoesUp, IsNodePlace, IsNodeAnswer};
 
     /// Reads the trailer of a file for n variables, and begins with the root. A file without such a trailer is
     /// refused, with the place at which it had to stand.
@@ -77,8 +77,8 @@ impl<'r> NodeReader<'r> {
     }
 
     /// Begins before the nodes that stand at a place and behind it. It reads each of these, as so many calls of
-    /// `next` do, and is refused where `start` or one of these is. Where the file has fewer nodes it begins with
-    /// the root.
+    /// `next` do, and is refused where `start` or one of these is. At least eight of them are read by one call of the
+    /// folder, or all that are left. Where the file has fewer nodes it begins with the root.
     pub fn resume<S: Shelf>(
         f: FileNo,
         n: u32,
@@ -106,8 +106,8 @@ impl<'r> NodeReader<'r> {
             let bytes = (file (S.world shelf.old) f).bytes in
             IsTrailerDamage n bytes e ⊎ IsMetBetween n place (length bytes / node_size - 1) bytes e) }
         ensures content { Told S.tells shelf.old shelf.new
-            (Looked (2 + (length (file (S.world shelf.old) f).bytes / node_size - 1 - place)) (S.world shelf.old)
-            (S.world shelf.new)) }
+            (Looked (2 + loads_of (length (file (S.world shelf.old) f).bytes / node_size - 1 - place))
+            (S.world shelf.old) (S.world shelf.new)) }
         ensures faults { OnlyShelf (S.faults shelf.old) (S.faults shelf.new) result }
     {
         let mut reader = NodeReader::start(f, n, window, shelf)?;
@@ -138,7 +138,7 @@ impl<'r> NodeReader<'r> {
             let bytes = (file (S.world shelf.old) (file_of self.old)).bytes in
             Reads self.old bytes → IfErr result (IsMetBetween (trailer_of self.old).n place (left_of self.old) bytes) }
         ensures content { Told S.tells shelf.old shelf.new
-            (Looked (left_of self.old - place) (S.world shelf.old) (S.world shelf.new)) }
+            (Looked (loads_of (left_of self.old - place)) (S.world shelf.old) (S.world shelf.new)) }
         ensures faults { OnlyShelf (S.faults shelf.old) (S.faults shelf.new) result }
     {
         'skip: while self.nodes.place() > place {

@@ -78,6 +78,20 @@ impl<'r> NodeWriter<'r> {
         Ok(NodeWriter { window, filling, n })
     }
 
+    /// The file that is written.
+    pub fn file(&self) -> FileNo
+        ensures { result ≡ (filling_of self.now).file }
+    {
+        self.filling.file()
+    }
+
+    /// How many nodes were put, with those that the file had at first.
+    pub fn count(&self) -> u64
+        ensures { result ≡ count_of (filling_of self.now) }
+    {
+        self.filling.count()
+    }
+
     /// Puts a node behind the others.
     pub fn put<S: Shelf>(&mut self, node: Node, shelf: &mut S) -> Result<(), StreamFault>
         requires in_step { IsTrue (S.tells shelf.old) → InStep (filling_of self.old) (S.world shelf.old) }

@@ -1,7 +1,7 @@
 use Rattle.std.proofs.Common.{◌≡◌, ◌-◌, take, ap, sym, subst, ◌∙◌, arith}
 use Rattle.shelf_model.specs.World.{file}
 use Rattle.node_file.specs.declared.trailer.Trailer.{Trailer}
-use Rattle.node_file.specs.Readers.{file_of, Reads, AreLeft}
+use Rattle.node_file.specs.Readers.{file_of, loads_of, Reads, AreLeft}
 use Rattle.node_file.proofs.SkipLaws.{same_bytes, looked_told}
 use Rattle.node_file.proofs.reader.NodeReader.resume.Goals as goal
 
@@ -11,7 +11,7 @@ returns-in_err-skip_to-clause-sound g c = grind arith
 pub returns-in_err-skip_to-clause-content : goal.returns-in_err-skip_to-clause-content
 returns-in_err-skip_to-clause-content g c =
     looked_told g.S.Shelf.tells g.S.Shelf.world 2 _ _ _ _ _ c.in_ok-reader.ensures.content c.in_err-skip_to.ensures.content
-    (λ told. ap (λ k. k - c.args.place) (c.in_ok-reader.ensures.place ∙ (c.in_ok-reader.ensures.trailer told).1))
+    (λ told. ap (λ k. loads_of (k - c.args.place)) (c.in_ok-reader.ensures.place ∙ (c.in_ok-reader.ensures.trailer told).1))
 
 pub returns-clause-reads : goal.returns-clause-reads
 returns-clause-reads g c t =
@@ -23,7 +23,7 @@ returns-clause-reads g c t =
 pub returns-clause-content : goal.returns-clause-content
 returns-clause-content g c =
     looked_told g.S.Shelf.tells g.S.Shelf.world 2 _ _ _ _ _ c.in_ok-reader.ensures.content c.in_ok-skip_to.ensures.content
-    (λ told. ap (λ k. k - c.args.place) (c.in_ok-reader.ensures.place ∙ (c.in_ok-reader.ensures.trailer told).1))
+    (λ told. ap (λ k. loads_of (k - c.args.place)) (c.in_ok-reader.ensures.place ∙ (c.in_ok-reader.ensures.trailer told).1))
 
 pub returns-clause-nodes : goal.returns-clause-nodes
 returns-clause-nodes g c t root xs nodes =
