@@ -15,8 +15,7 @@ use Rattle.copy_sweep.specs.Resumes.{Holds, KeepsRules, Fits, RestsOn, IsRest, O
 -- the two files of a copy aren't one
 pub files_apart : (c : Checkpoint) (x : Saved) → Fits c → Holds c x → x.task.from ≢ x.task.to
 files_apart c x fits holds =
-    let rules = subst (KeepsRules c) (one_copy c fits.saved x fits.holds holds) fits.rules in
-    λ same. rules.other (ap (λ (f : FileNo). f.step) same ∙ rules.made.step_is)
+    (subst (KeepsRules c) (one_copy c fits.saved x fits.holds holds) fits.rules).apart
 
 -- where the files stay a file is only cut behind a length
 stays_behind : (made : FileNo) (kept : ℕ) (old m : Moment) → Stays old m → OnlyBehind made kept old m

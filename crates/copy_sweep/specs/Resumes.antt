@@ -13,8 +13,8 @@ use Rattle.shelf_model.specs.World.{Moment, World}
 use Rattle.file_numbers.specs.Files.{inner_part, checkpoint_file}
 use Rattle.saved_words.specs.Fronts.{IsFront, one_front}
 use Rattle.sweep_core.specs.declared.checkpoint.Checkpoint.{Checkpoint}
-use Rattle.sweep_core.specs.Saving.{Saving, IsMadePart, IsRestingPlace, reads_of}
-use Rattle.sweep_core.specs.Resting.{checkpoint_place, same_fronts, other_rests, made_rests}
+use Rattle.sweep_core.specs.Saving.{Saving, IsMadePart, IsReadPart, IsRestingPlace, reads_of}
+use Rattle.sweep_core.specs.Resting.{checkpoint_place, same_fronts, read_rests, made_rests}
 use Rattle.copy_sweep.specs.declared.copy.CopyTask.{CopyTask}
 use Rattle.copy_sweep.specs.declared.saved.Saved.{Saved}
 use Rattle.copy_sweep.specs.Saved.{words_count, saved_words, IsSaved, saved_differs}
@@ -27,12 +27,13 @@ Holds c x = IsFront words_count saved_words IsSaved x c.carry
 abbrev pub pieces_of : Saved → ℕ
 pieces_of x = x.turns * most_piece
 
--- a file of the step is made, which is no run, of one of another step; no more turns put pieces than there are, and no
--- more bytes stand than these pieces have
+-- a file of the step is made, which is no run, of one that the step may read; no more turns put pieces than there are,
+-- and no more bytes stand than these pieces have
 pub record KeepsRules (c : Checkpoint) (x : Saved) : Type 0 where
   pub parts : inner_part ≤ c.next_part
   pub made : IsMadePart c.step c.next_part x.task.to
-  pub other : x.task.from.step ≢ c.step
+  pub other : IsReadPart c.step c.next_part x.task.from
+  pub apart : x.task.from ≢ x.task.to
   pub few : x.task.pieces * most_piece ≤ longest
   pub turns : x.turns ≤ x.task.pieces
   pub kept : x.kept ≤ pieces_of x
@@ -79,6 +80,7 @@ copy_saving = record {
   names = Names;
   fits = λ c text. Fits c;
   rests = RestsOn;
+  reading = λ task r. 0;
   stands = λ c text r bytes turns. StandsFor c r bytes turns;
 }
 
@@ -148,7 +150,7 @@ one_copy c x y = one_front words_count saved_words IsSaved saved_differs x y c.c
 -- what it rests on no sweep of the step writes
 rests_apart : (c : Checkpoint) (x : Saved) (f : FileNo) (n : ℕ) → KeepsRules c x → IsRest x f n → IsRestingPlace c f
 rests_apart c x f n rules (inl read) =
-    other_rests c f (λ same. rules.other (ap (λ (g : FileNo). g.step) (sym read) ∙ same))
+    read_rests c f rules.parts (subst (IsReadPart c.step c.next_part) (sym read) rules.other)
 rests_apart c x f n rules (inr (made, few)) =
     made_rests c f rules.parts (subst (IsMadePart c.step c.next_part) (sym made) rules.made)
 

@@ -1,5 +1,5 @@
 //! A copy that is saved between two turns, and goes on from there.
-ghost use Rattle.std.specs.Prelude.{◌≡◌, ◌≢◌, ◌↔◌, ◌*◌, ◌<◌, ◌≤◌, min, IsTrue, IfOk, IfErr, OnOk, length, take};
+ghost use Rattle.std.specs.Prelude.{◌≡◌, ◌≢◌, ◌↔◌, ◌+◌, ◌*◌, ◌<◌, ◌≤◌, min, IsTrue, IfOk, IfErr, OnOk, length, take};
 ghost use Rattle.shelf_model.specs.World.{now, file};
 ghost use Rattle.shelf_model.specs.Calls.{Told, longest, most_piece};
 ghost use Rattle.shelf_model.specs.File.{firm_file};
@@ -17,7 +17,9 @@ use run_tiers::Parts;
 use saved_words::{value_of, words_of};
 use shelf_model::{FileNo, LONGEST, PIECE, Shelf, SortFault};
 use std::marker::PhantomData;
-use sweep_core::{Checkpoint, Resume, checkpoint_place, fill_without_runs, is_made_part};
+use sweep_core::{
+    Checkpoint, Resume, checkpoint_place, fill_without_runs, is_made_part, is_read_part,
+};
 
 // A piece in bytes.
 const STEP: u64 = PIECE as u64;
@@ -42,7 +44,8 @@ impl Saved {
         let parts = point.next_part;
         let files = INNER_PART <= parts
             && is_made_part(self.task.to, point.step, parts)
-            && self.task.from.step != point.step;
+            && is_read_part(self.task.from, point.step, parts)
+            && self.task.from != self.task.to;
         let counts = self.task.pieces <= LONGEST / STEP && self.turns <= self.task.pieces;
         files && counts && self.kept <= self.turns * STEP
     }
@@ -56,6 +59,8 @@ impl Saved {
             IsMisfitFault step self.now (reads_of (S.world shelf.old)) e) }
         ensures content { Told S.tells shelf.old shelf.new
             (Ran (Stays (now (S.world shelf.old))) (S.world shelf.old) (S.world shelf.new)) }
+        ensures calls { IsTrue (S.tells shelf.new) →
+            (S.world shelf.new).clock ≤ (S.world shelf.old).clock + 2 }
         ensures faults { OnlySortShelf (S.faults shelf.old) (S.faults shelf.new) result }
     {
         let whole = shelf.len(self.task.from)?;
@@ -80,6 +85,7 @@ fn cut_behind<S: Shelf>(made: FileNo, kept: u64, shelf: &mut S) -> Result<(), So
         IsShortFault made kept (reads_of (S.world shelf.old)) e) }
     ensures content { Told S.tells shelf.old shelf.new
         (Ran (OnlyBehind made kept (now (S.world shelf.old))) (S.world shelf.old) (S.world shelf.new)) }
+    ensures calls { IsTrue (S.tells shelf.new) → (S.world shelf.new).clock ≤ (S.world shelf.old).clock + 2 }
     ensures faults { OnlySortShelf (S.faults shelf.old) (S.faults shelf.new) result }
 {
     let len = shelf.len(made)?;

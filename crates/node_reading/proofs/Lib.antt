@@ -1,1 +1,3 @@
 pub mod NodeReading
+pub mod Staying
+pub mod Roots

@@ -1,5 +1,5 @@
 -- The reading of the next node of a file.
-use Rattle.std.proofs.Common.{◌≡◌, ℕ, ◌+◌, ◌-◌, ◌*◌, ◌/◌, ◌<◌, ◌≤◌, ◌∙◌, Bool, List, refl, sym, subst, ap, inl, inr, arith}
+use Rattle.std.proofs.Common.{◌≡◌, ℕ, ◌+◌, ◌-◌, ◌/◌, ◌<◌, ◌≤◌, ◌∙◌, Bool, List, refl, sym, subst, ap, inl, inr, arith}
 use Rattle.std.specs.Prelude.{length, Result, Option, Ok, Err, Some, None, IsTrue, IsSome, OnOk, IfErr, IsErrAnd}
 use Rattle.rec_words.specs.declared.node.Node.{Node}
 use Rattle.shelf_model.specs.declared.file_no.FileNo.{FileNo}

@@ -2,5 +2,7 @@
 #![tactic(auto)]
 
 mod reading;
+mod resuming;
 
 pub use reading::next_node;
+pub use resuming::{Unread, resume_at};

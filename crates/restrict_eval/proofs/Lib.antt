@@ -2,8 +2,8 @@ pub mod Looking
 pub mod Starting
 pub mod Canonical
 pub mod SameKeeps
-pub mod Staying
 pub mod SameSaving
+pub mod Rereading
 pub mod EvalSaving
 pub mod PathLaws
 pub mod MissingLaws

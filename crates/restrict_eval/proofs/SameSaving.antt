@@ -18,7 +18,7 @@ use Rattle.node_file.specs.Readers.{file_of, trailer_of, left_of, AreLeft}
 use Rattle.node_file.proofs.SkipLaws.{as_many_left}
 use Rattle.node_reading.specs.Reading.{bytes_of, IsNodeFault, IsDamagedNode}
 use Rattle.node_reading.proofs.NodeReading.{still_reading}
-use Rattle.sweep_core.specs.Saving.{reads_of}
+use Rattle.sweep_core.specs.Saving.{IsReadPart, reads_of}
 use Rattle.shelf_model.specs.Calls.{Told, longest}
 use Rattle.rec_words.specs.Words.{node_size}
 use Rattle.shelf_model.specs.declared.sort_fault.SortFault.{SortFault}
@@ -32,6 +32,10 @@ use Rattle.restrict_eval.specs.Canonical.{IsCanonical, AreLeftBut}
 use Rattle.restrict_eval.specs.Same.{Tables, fuel_at, turns_left, AreCompared, RemainsOf, IsInStep, answer_at}
 use Rattle.restrict_eval.specs.SameResumes.{GoesOn, GoesOnFrom, AreComparedTo, IsHandFault, at_hand, is_ahead, saved_of}
 use Rattle.restrict_eval.proofs.Canonical.{canonical_stays, but_stays}
+
+-- a file that a step may read, where the number of the step and the next part are given otherwise
+pub read_as : {s step n next : ℕ} (f : FileNo) → s ≡ step → n ≡ next → IsReadPart step next f → IsReadPart s n f
+read_as f step_is next_is read = subst (λ v. v) (λ i. IsReadPart (sym step_is i) (sym next_is i) f) read
 
 -- what is behind the nodes that are left was given
 record IsSplit (r : NodeReader) (k : ℕ) (nodes given : List Node) : Type 0 where

@@ -1,5 +1,5 @@
 -- The rules of the checkpoints of evaluations, what these rest on, and what they stand for.
-use Rattle.std.specs.Prelude.{◌≡◌, ◌≢◌, ◌⊎◌, ℕ, ◌+◌, ◌*◌, ◌≤◌, Bool, List, length, take, Option, Some, None, IsSome}
+use Rattle.std.specs.Prelude.{◌≡◌, ◌≢◌, ◌⊎◌, ℕ, ◌+◌, ◌*◌, ◌/◌, ◌≤◌, Bool, List, length, take, Option, Some, None, IsSome}
 use Rattle.std.proofs.Common.{refl, sym, ap, subst, ◌∙◌}
 use Rattle.bool_tables.specs.Tables.{value_at, place_of_bits}
 use Rattle.bool_tables.specs.Steps.{bits_at}
@@ -20,15 +20,15 @@ use Rattle.node_file.specs.Readers.{file_of, trailer_of, left_of}
 use Rattle.node_reading.specs.Reading.{count_of}
 use Rattle.saved_words.specs.Fronts.{IsFront, one_front}
 use Rattle.sweep_core.specs.declared.checkpoint.Checkpoint.{Checkpoint}
-use Rattle.sweep_core.specs.Saving.{Saving, IsRestingPlace, reads_of}
-use Rattle.sweep_core.specs.Resting.{checkpoint_place, same_fronts, other_rests}
+use Rattle.sweep_core.specs.Saving.{Saving, IsReadPart, IsRestingPlace, reads_of}
+use Rattle.sweep_core.specs.Resting.{checkpoint_place, same_fronts, read_rests}
 use Rattle.restrict_eval.specs.declared.following.Following.{Following}
 use Rattle.restrict_eval.specs.declared.following.Following.TheVariants.{To, Past, Answered}
 use Rattle.restrict_eval.specs.declared.eval.EvalSweep.{EvalSweep}
 use Rattle.restrict_eval.specs.declared.saved_eval.SavedEval.{SavedEval}
 use Rattle.restrict_eval.specs.Eval.{Evaluated, OneTable, IsPath, IsPlaceAt, fuel_at, answer_at}
 use Rattle.restrict_eval.specs.SavedEval.{eval_count, eval_words, IsSaved, eval_differs, following_of}
-use Rattle.restrict_eval.specs.Resuming.{IsPlaceFault}
+use Rattle.node_reading.specs.Resuming.{IsPlaceFault}
 
 -- the first words of the checkpoint are those of an evaluation
 abbrev pub Holds : Checkpoint → SavedEval → Type 0
@@ -56,11 +56,11 @@ saved_of s = record {
   answer = answer_at s.state;
 }
 
--- the file is of another step, and has no more nodes than the longest one; the bits lie in the text; and it is said how
+-- the file is one that the step may read, and has no more nodes than the longest one; the bits lie in the text; and it is said how
 -- far the path was followed
 pub record KeepsRules (c : Checkpoint) (text : List ℕ) (x : SavedEval) : Type 0 where
   pub parts : inner_part ≤ c.next_part
-  pub other : x.unread.file.step ≢ c.step
+  pub other : IsReadPart c.step c.next_part x.unread.file
   pub few : x.unread.place * node_size ≤ longest
   pub bits : x.at + x.n ≤ length text
   pub come : IsSome (following_of x)
@@ -130,6 +130,7 @@ eval_saving = record {
   names = Names;
   fits = Fits;
   rests = RestsOn;
+  reading = λ task r. count_of (r task.file) / 8;
   stands = StandsFor;
 }
 
@@ -186,4 +187,4 @@ one_evaluation c x y = one_front eval_count eval_words IsSaved eval_differs x y 
 pub apart : (c : Checkpoint) (text : List ℕ) (f : FileNo) (n : ℕ) → Fits c text → RestsOn c f n → IsRestingPlace c f
 apart c text f n fits on =
     let rules = subst (KeepsRules c text) (one_evaluation c fits.saved on.saved fits.holds on.holds) fits.rules in
-    other_rests c f (λ same. rules.other (ap (λ (g : FileNo). g.step) (sym on.read) ∙ same))
+    read_rests c f rules.parts (subst (IsReadPart c.step c.next_part) (sym on.read) rules.other)

@@ -3,7 +3,6 @@ pub mod Accounts
 pub mod Turns
 pub mod Same
 pub mod SavedSame
-pub mod Resuming
 pub mod SameResumes
 pub mod Missing
 pub mod Eval

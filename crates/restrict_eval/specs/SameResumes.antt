@@ -1,5 +1,5 @@
 -- The rules of the checkpoints of comparisons, what these rest on, and what they stand for.
-use Rattle.std.specs.Prelude.{◌≡◌, ◌≢◌, ◌⊎◌, ℕ, ◌+◌, ◌*◌, ◌≤◌, Bool, true, false, cond, List, [], ◌∷◌, length, take}
+use Rattle.std.specs.Prelude.{◌≡◌, ◌≢◌, ◌⊎◌, ℕ, ◌+◌, ◌*◌, ◌/◌, ◌≤◌, Bool, true, false, cond, List, [], ◌∷◌, length, take}
 use Rattle.std.specs.Prelude.{drop, Option, Some, None}
 use Rattle.std.proofs.Common.{refl, sym, ap, subst, ◌∙◌, inl, inr}
 use Rattle.bool_tables.specs.Tables.{same_bits}
@@ -14,21 +14,21 @@ use Rattle.canon_file.specs.Laws.{HasForm}
 use Rattle.file_numbers.specs.Files.{inner_part}
 use Rattle.rec_words.specs.declared.node.Node.{Node}
 use Rattle.node_file.specs.declared.reader.NodeReader.{NodeReader}
-use Rattle.node_reading.specs.Reading.{IsDamagedNode}
+use Rattle.node_reading.specs.Reading.{IsDamagedNode, count_of}
 use Rattle.restrict_eval.specs.Canonical.{AreLeftBut}
 use Rattle.node_file.specs.Readers.{file_of, trailer_of, left_of}
 use Rattle.saved_words.specs.Fronts.{IsFront, one_front}
 use Rattle.sweep_core.specs.declared.checkpoint.Checkpoint.{Checkpoint}
-use Rattle.sweep_core.specs.Saving.{Saving, IsRestingPlace, reads_of}
-use Rattle.sweep_core.specs.Resting.{same_fronts, other_rests}
+use Rattle.sweep_core.specs.Saving.{Saving, IsReadPart, IsRestingPlace, reads_of}
+use Rattle.sweep_core.specs.Resting.{same_fronts, read_rests}
 use Rattle.restrict_eval.specs.declared.comparing.Comparing.{Comparing}
 use Rattle.restrict_eval.specs.declared.comparing.Comparing.TheVariants.{Level, Ahead, Answered}
 use Rattle.restrict_eval.specs.declared.same.SameSweep.{SameSweep}
 use Rattle.restrict_eval.specs.declared.saved.SavedSame.{SavedSame}
-use Rattle.restrict_eval.specs.declared.saved.Unread.{Unread}
+use Rattle.node_reading.specs.declared.resuming.Unread.{Unread}
 use Rattle.restrict_eval.specs.Same.{Compared, Tables, answer_at}
 use Rattle.restrict_eval.specs.SavedSame.{same_count, same_words, IsSaved, same_differs}
-use Rattle.restrict_eval.specs.Resuming.{IsPlaceFault}
+use Rattle.node_reading.specs.Resuming.{IsPlaceFault}
 
 -- the first words of the checkpoint are those of a comparison
 abbrev pub Holds : Checkpoint → SavedSame → Type 0
@@ -54,11 +54,11 @@ saved_of s = record {
   answer = answer_at s.state;
 }
 
--- both files are of other steps, and neither has more nodes than the longest file
+-- both files are ones that the step may read, and neither has more nodes than the longest file
 pub record KeepsRules (c : Checkpoint) (x : SavedSame) : Type 0 where
   pub parts : inner_part ≤ c.next_part
-  pub first_other : x.left.file.step ≢ c.step
-  pub second_other : x.right.file.step ≢ c.step
+  pub first_other : IsReadPart c.step c.next_part x.left.file
+  pub second_other : IsReadPart c.step c.next_part x.right.file
   pub first_few : x.left.place * node_size ≤ longest
   pub second_few : x.right.place * node_size ≤ longest
 
@@ -125,6 +125,7 @@ same_saving = record {
   names = Names;
   fits = λ c text. Fits c;
   rests = RestsOn;
+  reading = λ task r. (count_of (r task.first) + count_of (r task.second)) / 8;
   stands = λ c text r d turns. StandsFor c r d turns;
 }
 
@@ -183,12 +184,12 @@ stays c text old new d turns fits same stands =
 pub one_comparison : (c : Checkpoint) (x y : SavedSame) → Holds c x → Holds c y → x ≡ y
 one_comparison c x y = one_front same_count same_words IsSaved same_differs x y c.carry
 
--- its files are of other steps
+-- its files are ones that the step may read
 read_apart : (c : Checkpoint) (x : SavedSame) (f : FileNo) → KeepsRules c x → IsRead x f → IsRestingPlace c f
 read_apart c x f rules (inl read) =
-    other_rests c f (λ same. rules.first_other (ap (λ (g : FileNo). g.step) (sym read) ∙ same))
+    read_rests c f rules.parts (subst (IsReadPart c.step c.next_part) (sym read) rules.first_other)
 read_apart c x f rules (inr read) =
-    other_rests c f (λ same. rules.second_other (ap (λ (g : FileNo). g.step) (sym read) ∙ same))
+    read_rests c f rules.parts (subst (IsReadPart c.step c.next_part) (sym read) rules.second_other)
 
 pub apart : (c : Checkpoint) (text : List ℕ) (f : FileNo) (n : ℕ) → Fits c → RestsOn c f n → IsRestingPlace c f
 apart c text f n fits on =

@@ -1,5 +1,5 @@
 //! An evaluation that is saved between two turns, and goes on from there.
-ghost use Rattle.std.specs.Prelude.{◌≡◌, ◌↔◌, IsTrue, OnOk, IfErr};
+ghost use Rattle.std.specs.Prelude.{◌≡◌, ◌↔◌, ◌+◌, ◌≤◌, IsTrue, OnOk, IfErr};
 ghost use Rattle.shelf_model.specs.Calls.{Told};
 ghost use Rattle.shelf_model.specs.Moments.{Ran, Stays};
 ghost use Rattle.shelf_model.specs.World.{now};
@@ -11,14 +11,14 @@ ghost use Rattle.restrict_eval.specs.EvalResumes.{Fits, KeepsRules, saved_of, Is
 use crate::EvalSweep;
 use crate::following::Following;
 use crate::resuming::begin_at;
-use crate::saved::Unread;
 use crate::saved_eval::SavedEval;
 use file_numbers::{INNER_PART, checkpoint_file};
+use node_reading::Unread;
 use rec_words::{NODE_SIZE, Rec};
 use run_merge::Parts;
 use saved_words::{value_of, words_of};
 use shelf_model::{LONGEST, Shelf, SortFault};
-use sweep_core::{Checkpoint, Resume, checkpoint_place, fill_without_runs};
+use sweep_core::{Checkpoint, Resume, checkpoint_place, fill_without_runs, is_read_part};
 
 impl<'r> EvalSweep<'r> {
     /// Whether a checkpoint keeps the rules of an evaluation's that reads that text. It takes no memory.
@@ -59,7 +59,7 @@ impl SavedEval {
     fn keeps_rules(&self, point: &Checkpoint, text: &[u8]) -> bool
         ensures { IsTrue result ↔ KeepsRules point.now text.now self.now }
     {
-        let other = self.unread.file.step != point.step;
+        let other = is_read_part(self.unread.file, point.step, point.next_part);
         let few = self.unread.place <= LONGEST / NODE_SIZE;
         let end = u64::from(self.at).checked_add(u64::from(self.n));
         let bits = end.is_some_and(|end| end <= text.len() as u64);
@@ -79,6 +79,7 @@ fn passes_some<S: Shelf>(
         IsPassedFault step state.now count (reads_of (S.world shelf.old)) e) }
     ensures content { Told S.tells shelf.old shelf.new
         (Ran (Stays (now (S.world shelf.old))) (S.world shelf.old) (S.world shelf.new)) }
+    ensures calls { IsTrue (S.tells shelf.new) → (S.world shelf.new).clock ≤ (S.world shelf.old).clock + 1 }
     ensures faults { OnlySortShelf (S.faults shelf.old) (S.faults shelf.new) result }
 {
     let Following::Past(place) = *state else {

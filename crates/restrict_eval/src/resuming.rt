@@ -1,28 +1,26 @@
-//! A reading that begins at a place that was saved.
-ghost use Rattle.std.specs.Prelude.{◌≡◌, ◌≤◌, Bool, IsTrue, List, IfOk, IfErr, length, take};
+//! A reading of a canonical file that begins at a place that was saved.
+ghost use Rattle.std.specs.Prelude.{◌≡◌, ◌+◌, ◌-◌, ◌≤◌, Bool, IsTrue, List, IfOk, IfErr, length, take};
 ghost use Rattle.shelf_model.specs.Calls.{Told};
 ghost use Rattle.shelf_model.specs.Moments.{Ran, Stays};
 ghost use Rattle.shelf_model.specs.World.{now};
 ghost use Rattle.canon_file.specs.Canon.{canon_nodes};
 ghost use Rattle.node_file.specs.Canonical.{IsCanonicalFile};
-ghost use Rattle.node_file.specs.Readers.{file_of, trailer_of, left_of, AreLeft};
+ghost use Rattle.node_file.specs.Readers.{file_of, trailer_of, left_of, loads_of, AreLeft};
 ghost use Rattle.run_tiers.specs.Faults.{OnlySortShelf};
 ghost use Rattle.sweep_core.specs.Saving.{reads_of};
 ghost use Rattle.sweep_core.specs.Sweeps.{IsNoDamage};
-ghost use Rattle.node_reading.specs.Reading.{bytes_of, IsBegun, IsReading};
+ghost use Rattle.node_reading.specs.Reading.{bytes_of, count_of, IsBegun, IsReading};
 ghost use Rattle.restrict_eval.specs.Canonical.{IsCanonical};
-ghost use Rattle.restrict_eval.specs.Resuming.{IsPlaceFault};
+ghost use Rattle.node_reading.specs.Resuming.{IsPlaceFault};
 
-use crate::saved::Unread;
-use file_numbers::checkpoint_file;
 use node_file::NodeReader;
 use node_file::laws::canonical_files_are_read;
+use node_reading::{Unread, resume_at};
 use rec_words::Rec;
 use shelf_model::{Shelf, SortFault};
-use sweep_core::checkpoint_place;
 
-/// Begins before the nodes that stand at a place and behind it, each of which is read. A file that has fewer nodes
-/// shows that the last checkpoint of the step is damaged.
+/// Begins before the nodes that stand at a place and behind it, each of which is read, eight of them at least by one
+/// call of the folder. A file that has fewer nodes shows that the last checkpoint of the step is damaged.
 pub(crate) fn begin_at<'r, S: Shelf>(
     unread: Unread,
     n: u32,
@@ -48,17 +46,13 @@ pub(crate) fn begin_at<'r, S: Shelf>(
         IsPlaceFault n step unread (reads_of (S.world shelf.old)) e) }
     ensures content { Told S.tells shelf.old shelf.new
         (Ran (Stays (now (S.world shelf.old))) (S.world shelf.old) (S.world shelf.new)) }
+    ensures calls { IsTrue (S.tells shelf.new) → (S.world shelf.new).clock
+        ≤ (S.world shelf.old).clock + 3
+        + loads_of (count_of (reads_of (S.world shelf.old) unread.file) - unread.place) }
     ensures faults { OnlySortShelf (S.faults shelf.old) (S.faults shelf.new) result }
 {
     // The file of a table holds the table's nodes.
     canonical_files_are_read();
-    let nodes = NodeReader::resume(unread.file, n, unread.place, window, shelf)?;
-    if nodes.place() < unread.place {
-        let at = checkpoint_place(step, shelf)?;
-        return Err(SortFault::Damaged {
-            file: checkpoint_file(step),
-            at,
-        });
-    }
+    let nodes = resume_at(unread, n, step, window, shelf)?;
     Ok(nodes)
 }

@@ -17,15 +17,15 @@ use crate::SameSweep;
 use crate::comparing::Comparing;
 use crate::resuming::begin_at;
 use crate::same::READING;
-use crate::saved::{SavedSame, Unread};
+use crate::saved::SavedSame;
 use file_numbers::INNER_PART;
 use node_file::NodeReader;
-use node_reading::next_node;
+use node_reading::{Unread, next_node};
 use rec_words::{NODE_SIZE, Rec};
 use run_merge::Parts;
 use saved_words::{value_of, words_of};
 use shelf_model::{LONGEST, Shelf, SortFault};
-use sweep_core::{Checkpoint, Resume, fill_without_runs};
+use sweep_core::{Checkpoint, Resume, fill_without_runs, is_read_part};
 
 impl<'r> SameSweep<'r> {
     /// Whether a checkpoint keeps the rules of a comparison's. It takes no memory.
@@ -68,7 +68,8 @@ impl SavedSame {
     fn keeps_rules(&self, point: &Checkpoint) -> bool
         ensures { IsTrue result ↔ KeepsRules point.now self.now }
     {
-        let others = self.left.file.step != point.step && self.right.file.step != point.step;
+        let others = is_read_part(self.left.file, point.step, point.next_part)
+            && is_read_part(self.right.file, point.step, point.next_part);
         let most = LONGEST / NODE_SIZE;
         let few = self.left.place <= most && self.right.place <= most;
         INNER_PART <= point.next_part && others && few
@@ -108,6 +109,8 @@ impl SavedSame {
         ensures damage { IfErr result (λ e. IsTrue (S.tells shelf.new) → IsNodeFault left.old (S.world shelf.old) e) }
         ensures content { Told S.tells shelf.old shelf.new
             (Ran (Stays (now (S.world shelf.old))) (S.world shelf.old) (S.world shelf.new)) }
+        ensures calls { IsTrue (S.tells shelf.new) →
+            (S.world shelf.new).clock ≤ (S.world shelf.old).clock + 1 }
         ensures faults { OnlySortShelf (S.faults shelf.old) (S.faults shelf.new) result }
     {
         if let Some(answer) = self.answer {

@@ -1,13 +1,7 @@
 //! What a checkpoint keeps of a comparison.
+use node_reading::Unread;
 use saved_words::{Carried, Words};
 use shelf_model::FileNo;
-
-// A file, and how many of its nodes weren't given yet.
-#[derive(Clone, Copy, Debug, PartialEq, Eq)]
-pub(crate) struct Unread {
-    pub(crate) file: FileNo,
-    pub(crate) place: u64,
-}
 
 // The variables, both files, whether one more node was given of the first of them, and the answer once it is known.
 #[derive(Clone, Copy, Debug, PartialEq, Eq)]

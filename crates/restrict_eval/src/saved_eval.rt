@@ -1,6 +1,6 @@
 //! What a checkpoint keeps of an evaluation.
 use crate::following::{Following, Next};
-use crate::saved::Unread;
+use node_reading::Unread;
 use rec_words::Ptr;
 use saved_words::{Carried, Words};
 use shelf_model::FileNo;

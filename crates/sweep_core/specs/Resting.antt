@@ -5,7 +5,7 @@ use Rattle.std.proofs.lemmas.List.{take_all}
 use Rattle.shelf_model.specs.declared.file_no.FileNo.{FileNo}
 use Rattle.file_numbers.specs.Files.{nodes_part, inner_part, ends_part, first_run_part, checkpoint_gate}
 use Rattle.sweep_core.specs.declared.checkpoint.Checkpoint.{Checkpoint}
-use Rattle.sweep_core.specs.Saving.{IsMadePart, IsRestingPlace}
+use Rattle.sweep_core.specs.Saving.{IsMadePart, IsReadPart, IsRestingPlace}
 
 -- how many bytes a checkpoint has
 abbrev pub point_size : ℕ
@@ -65,3 +65,9 @@ made_rests c f parts made =
       no_gate = λ same. other.no_gate (ap (λ (g : FileNo). g.part) same);
       named = λ step run. let below : f.part < first_run_part = other.no_run in absurd (omega (arith, run, below));
     }
+
+-- and so is one that is read
+pub read_rests : (c : Checkpoint) (f : FileNo) → inner_part ≤ c.next_part → IsReadPart c.step c.next_part f
+    → IsRestingPlace c f
+read_rests c f parts (inl other) = other_rests c f other
+read_rests c f parts (inr made) = made_rests c f parts made

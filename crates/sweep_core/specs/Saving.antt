@@ -19,6 +19,8 @@ pub record Saving (Task Job : Type 0) : Type 1 where
   pub fits : Checkpoint → List ℕ → Type 0
   -- it rests on so many first bytes of the file
   pub rests : Checkpoint → FileNo → ℕ → Type 0
+  -- with what the files hold, no more calls than these read the operands again
+  pub reading : Task → (FileNo → List ℕ) → ℕ
   -- with a text, and with what the files hold, it does the job, and no more turns than these remain
   pub stands : Checkpoint → List ℕ → (FileNo → List ℕ) → Job → ℕ → Type 0
 
@@ -30,6 +32,7 @@ saves_nothing = record {
   names = λ c task. ⊥;
   fits = λ c text. ⊥;
   rests = λ c f n. ⊥;
+  reading = λ task r. 0;
   stands = λ c text r job turns. ⊥;
 }
 
@@ -42,11 +45,17 @@ pub record IsMadePart (step next : ℕ) (f : FileNo) : Type 0 where
   pub step_is : f.step ≡ step
   pub part : (f.part ≡ nodes_part) ⊎ ((inner_part ≤ f.part) × (f.part ≤ ends_part) × (f.part < next))
 
--- a sweep of the step makes files of the step, and its operands are of other steps
+-- the file is one that a sweep of the step may read without making it: one of another step, or one of those that the
+-- sweeps of the step make
+abbrev pub IsReadPart : ℕ → ℕ → FileNo → Type 0
+IsReadPart step next f = (f.step ≢ step) ⊎ IsMadePart step next f
+
+-- a sweep of the step makes files of the step, and its operands are of other steps, or were made before it began
 pub record IsOfStep (makes operands : FileNo → Type 0) (step next : ℕ) : Type 0 where
   pub parts : inner_part ≤ next
   pub made : (f : FileNo) → makes f → IsMadePart step next f
-  pub others : (f : FileNo) → operands f → f.step ≢ step
+  pub others : (f : FileNo) → operands f → IsReadPart step next f
+  pub apart : (f : FileNo) → operands f → ¬ (makes f)
 
 -- the file isn't one that a sweep may take from the checkpoint on, nor one that holds or counts checkpoints; and where
 -- it is a run of the step, the checkpoint names it

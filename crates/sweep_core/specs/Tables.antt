@@ -1,6 +1,6 @@
 -- The runs that a checkpoint names, and the rules that its tables keep.
-use Rattle.std.specs.Prelude.{◌≡◌, ◌⊎◌, ℕ, ◌<◌, ◌≤◌, ◌^◌, List, All, take}
-use Rattle.std.specs.List.{Any}
+use Rattle.std.specs.Prelude.{◌≡◌, ◌⊎◌, ℕ, ◌-◌, ◌<◌, ◌≤◌, ◌^◌, List, All, take}
+use Rattle.std.specs.List.{Any, sum_by}
 use Rattle.run_tiers.specs.declared.run.Run.{Run}
 use Rattle.sweep_core.specs.declared.checkpoint.Checkpoint.{Checkpoint}
 
@@ -41,3 +41,10 @@ IsSlot next_part r = IsUnused r ⊎ IsTakenRun next_part r
 pub record HasTables (c : Checkpoint) : Type 0 where
   pub tables : c.tables ≤ 9
   pub runs : All (All (IsSlot c.next_part)) (tables_in_use c)
+
+-- how many records are left of the runs of a table, and of all those that are in use
+abbrev pub records_left : List Run → ℕ
+records_left table = sum_by (λ (r : Run). r.end - r.next) table
+
+abbrev pub records_named : Checkpoint → ℕ
+records_named c = sum_by records_left (tables_in_use c)

@@ -29,6 +29,7 @@ pub fn run_some<'r, P: Sweep<'r>, S: Shelf>(
     ensures in_step { OnOk result (IsTrue (S.tells shelf.new) → P.in_step sweep.new (S.world shelf.new)) }
     ensures made { IfOk result (WereMade most) }
     ensures moves { IfOk result (MadeOf (P.fuel sweep.old) (P.fuel sweep.new)) }
+    ensures works { IfOk result (λ made. made.turn ≡ Turn.More → 0 < made.turns → 0 < P.fuel sweep.new) }
     ensures firm { AtEnd (turn_of result) (IsTrue (S.tells shelf.new) → (f : FileNo) →
         P.accounts.makes sweep.new f → IsFirm (file (S.world shelf.new) f)) }
 

@@ -4,7 +4,7 @@ ghost use Rattle.shelf_model.specs.Calls.{Told};
 ghost use Rattle.shelf_model.specs.Faults.{OnlyFolder};
 ghost use Rattle.shelf_model.specs.Moments.{Ran, Stays};
 ghost use Rattle.shelf_model.specs.World.{now};
-ghost use Rattle.sweep_core.specs.Saving.{IsMadePart, reads_of};
+ghost use Rattle.sweep_core.specs.Saving.{IsMadePart, IsReadPart, reads_of};
 ghost use Rattle.sweep_core.specs.Resting.{checkpoint_place};
 
 use file_numbers::{ENDS_PART, INNER_PART, NODES_PART, checkpoint_gate};
@@ -35,4 +35,12 @@ pub fn is_made_part(file: FileNo, step: u32, next: u64) -> bool
 {
     let arcs = INNER_PART <= file.part && file.part <= ENDS_PART && file.part < next;
     file.step == step && (file.part == NODES_PART || arcs)
+}
+
+/// Whether a file is one that a sweep of the step may read without making it: one of another step, or one that a sweep
+/// of the step makes.
+pub fn is_read_part(file: FileNo, step: u32, next: u64) -> bool
+    ensures { IsTrue result ↔ IsReadPart step next file }
+{
+    file.step != step || is_made_part(file, step, next)
 }

@@ -7,7 +7,7 @@ use shelf_model::{Shelf, SortFault};
 /// What is saved is a checkpoint, which rests on the fronts of some files. It stands for what remained of the sweep's
 /// job, and still does where those fronts are the same.
 pub trait Resume<'r>: Sweep<'r> {
-    ghost use Rattle.std.specs.Prelude.{◌≡◌, ◌≢◌, ℕ, ◌+◌, ◌*◌, ◌^◌, ◌≤◌, IsTrue, IsErrOf, OnOk, IfOk, IfErr, List, length, take};
+    ghost use Rattle.std.specs.Prelude.{◌≡◌, ◌≢◌, ℕ, ◌+◌, ◌*◌, ◌^◌, ◌<◌, ◌≤◌, IsTrue, IsErrOf, OnOk, IfOk, IfErr, List, length, take};
     ghost use Rattle.shelf_model.specs.declared.file_no.FileNo.{FileNo};
     ghost use Rattle.shelf_model.specs.declared.sort_fault.SortFault.{SortFault};
     ghost use Rattle.shelf_model.specs.Calls.{Told};
@@ -17,18 +17,22 @@ pub trait Resume<'r>: Sweep<'r> {
     ghost use Rattle.sweep_core.specs.declared.checkpoint.Checkpoint.{Checkpoint};
     ghost use Rattle.sweep_core.specs.Sweeps.{IsNoDamage};
     ghost use Rattle.sweep_core.specs.Saving.{IsOfStep, IsRestingPlace, SameHead, IsFilled, IsSure, reads_of};
+    ghost use Rattle.sweep_core.specs.Tables.{records_named};
     ghost use Rattle.sweep_core.specs.Carries.{Carries, IsUsed, IsStill, OnlyCutBehind};
 
     /// Where a file is damaged, once a rebuild has said so.
     ghost blames: { Checkpoint → World → SortFault → Type 0 };
 
     /// Fills a checkpoint, whose step, sweep, turns and budget stand there, with what the sweep goes on from, and
-    /// makes sure all that it rests on but the operands. What remains stays what it was.
+    /// makes sure all that it rests on but the operands, where something remains of a job: the files of a rebuilt sweep
+    /// may be shorter than its checkpoint says. What remains stays what it was. A sweep that has ended has nothing to go
+    /// on from.
     ///
     /// A refusal is one of the folder, of a damaged run, or for want of a part number. After it the sweep isn't used
     /// again.
     fn carry<S: Shelf>(&mut self, shelf: &mut S, into: &mut Checkpoint) -> Result<(), SortFault>
         requires ready { Self.ready self.old }
+        requires works { 0 < Self.fuel self.old }
         requires in_step { IsTrue (S.tells shelf.old) → Self.in_step self.old (S.world shelf.old) }
         requires files { IsOfStep (Self.accounts.makes self.old) (Self.saving.operands (Self.task self.old))
             (Self.accounts.step self.old) (Self.accounts.next self.old) }
@@ -54,8 +58,8 @@ pub trait Resume<'r>: Sweep<'r> {
             Self.remains self.old (S.world shelf.old) job →
             Self.saving.stands into.new (Self.saving.text (Self.task self.old)) (reads_of (S.world shelf.new)) job
             (Self.left self.new (S.world shelf.new) job)) }
-        ensures sure { OnOk result (IsTrue (S.tells shelf.new) → (f : FileNo) (n : ℕ) →
-            Self.saving.rests into.new f n →
+        ensures sure { OnOk result (IsTrue (S.tells shelf.new) → (job : Self.Job) →
+            Self.remains self.old (S.world shelf.old) job → (f : FileNo) (n : ℕ) → Self.saving.rests into.new f n →
             IsSure (Self.accounts.makes self.old) (Self.saving.operands (Self.task self.old)) (S.world shelf.new) f n) }
 
         ensures still { OnOk result ((later : World) → ((f : FileNo) →
@@ -108,6 +112,11 @@ pub trait Resume<'r>: Sweep<'r> {
         ensures content { Told S.tells shelf.old shelf.new
             (Ran (OnlyCutBehind (Self.saving.rests from.now) (now (S.world shelf.old)))
             (S.world shelf.old) (S.world shelf.new)) }
+        ensures calls { IsTrue (S.tells shelf.new) → (task : Self.Task) → Self.saving.names from.now task →
+            (S.world shelf.new).clock
+            ≤ (S.world shelf.old).clock + 2 ^ 20 + Self.saving.reading task (reads_of (S.world shelf.old)) }
+        ensures credit { IfOk result (λ sweep. Self.accounts.credit sweep ≤ 64 * records_named from.now) }
+        ensures stock { IfOk result (λ sweep. Self.accounts.stock sweep ≤ 50688) }
         ensures faults { OnlySortShelf (S.faults shelf.old) (S.faults shelf.new) result };
 
     /// With the fronts that it rests on alone, a checkpoint stands for the same.

@@ -1,4 +1,4 @@
-use Rattle.std.proofs.Common.{◌≡◌, IsTrue}
+use Rattle.std.proofs.Common.{◌≡◌, ◌<◌, IsTrue}
 use Rattle.sweep_core.proofs.Counting.{TurnsMade}
 use Rattle.sweep_core.proofs.driver.run_some.Given as goal
 
@@ -12,6 +12,7 @@ invariant-loop-turn g l = record {
   keeps : IsTrue (g.S.Shelf.tells l.shelf) → (job : g.P.Sweep.Job)
       → g.P.Sweep.remains l.fn.sweep (g.S.Shelf.world l.fn.shelf) job
       → g.P.Sweep.remains l.sweep (g.S.Shelf.world l.shelf) job;
+  works : 0 < l.turn → 0 < g.P.Sweep.fuel l.sweep;
   same : g.P.Sweep.task l.sweep ≡ g.P.Sweep.task l.fn.sweep;
   so_far : TurnsMade g.P.Sweep g.S.Shelf l.turn l.fn.shelf l.shelf l.fn.sweep l.sweep;
 }

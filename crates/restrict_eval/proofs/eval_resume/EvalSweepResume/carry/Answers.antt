@@ -8,7 +8,7 @@ use Rattle.restrict_eval.specs.declared.saved_eval.SavedEval.{SavedEval}
 use Rattle.restrict_eval.specs.Eval.{turns_left}
 use Rattle.restrict_eval.specs.SavedEval.{eval_count, eval_words, IsSaved}
 use Rattle.restrict_eval.specs.EvalResumes.{KeepsRules, GoesOn}
-use Rattle.restrict_eval.proofs.SameSaving.{few_nodes}
+use Rattle.restrict_eval.proofs.SameSaving.{read_as, few_nodes}
 use Rattle.restrict_eval.proofs.EvalSaving.{saved_goes_on, stays_evaluated, following_back}
 use Rattle.restrict_eval.proofs.eval_resume.EvalSweepResume.carry.Goals as goal
 
@@ -25,7 +25,7 @@ returns-clause-fits g c =
       holds = subst (IsFront eval_count eval_words IsSaved c.saved.result) (sym filled.carry) c.words_of.ensures.front;
       rules = subst (KeepsRules c.fill_without_runs.new.into s.text.now) (sym c.saved.ensures) (record {
         parts = omega (arith, next, parts);
-        other = λ same. c.requires.files.others (file_of s.nodes) refl (same ∙ step);
+        other = read_as (file_of s.nodes) step next (c.requires.files.others (file_of s.nodes) refl);
         few = few_nodes s.nodes;
         bits = c.requires.ready.bits;
         come = subst IsSome (sym (following_back s.state)) refl;

@@ -1,4 +1,4 @@
-use Rattle.std.proofs.Common.{◌≡◌, ◌≤◌, ◌∙◌, take, refl, sym, ap, subst, inl, inr}
+use Rattle.std.proofs.Common.{arith, ◌≡◌, ◌≤◌, ◌∙◌, take, refl, sym, ap, subst, inl, inr}
 use Rattle.std.specs.Prelude.{Some}
 use Rattle.canon_file.specs.Canon.{canon_nodes}
 use Rattle.shelf_model.specs.World.{file}
@@ -8,9 +8,11 @@ use Rattle.node_reading.specs.Reading.{bytes_of, count_of}
 use Rattle.node_reading.proofs.NodeReading.{if_handed, still_reading}
 use Rattle.sweep_core.specs.Saving.{reads_of}
 use Rattle.restrict_eval.specs.EvalResumes.{GoesOn, RestsOn, IsPassedFault, turns_of, one_evaluation}
+use Rattle.restrict_eval.specs.declared.saved_eval.SavedEval.{SavedEval}
 use Rattle.restrict_eval.specs.SavedEval.{following_of}
+use Rattle.restrict_eval.proofs.Rereading.{calls_once}
 use Rattle.restrict_eval.proofs.Canonical.{canonical_stays}
-use Rattle.restrict_eval.proofs.Staying.{stays_on}
+use Rattle.node_reading.proofs.Staying.{stays_on}
 use Rattle.restrict_eval.proofs.SameSaving.{stays_cut, reads_stay, file_stays}
 use Rattle.restrict_eval.proofs.EvalSaving.{its_file, remains_again, goes_undamaged}
 use Rattle.restrict_eval.proofs.eval_resume.EvalSweepResume.rebuild.Goals as goal
@@ -90,3 +92,34 @@ pub returns-clause-content : goal.returns-clause-content
 returns-clause-content g c =
     stays_cut g.S.Shelf.tells g.S.Shelf.world (RestsOn c.args.from.now) _ _
     (stays_on g.S.Shelf.tells g.S.Shelf.world _ _ _ c.begin_at.ensures.content c.passes_some.ensures.content)
+
+-- the file is read again
+pub returns-in_err-nodes-clause-calls : goal.returns-in_err-nodes-clause-calls
+returns-in_err-nodes-clause-calls g c = λ told task names.
+    let x = c.in-Some.saved in
+    let same = one_evaluation c.args.from.now names.saved x names.holds c.in-Some.ensures.found in
+    let is = sym names.file_is ∙ ap (λ (y : SavedEval). y.unread.file) same in
+    let once = calls_once task.file x.unread (reads_of (g.S.Shelf.world c.args.shelf.now)) _ _ is
+    (c.begin_at.ensures.calls told) in
+    omega (arith, once)
+
+-- and the gate is asked for its length where the path passed no node of it
+pub returns-in_err-passes_some-clause-calls : goal.returns-in_err-passes_some-clause-calls
+returns-in_err-passes_some-clause-calls g c = λ told task names.
+    let x = c.in-Some.saved in
+    let same = one_evaluation c.args.from.now names.saved x names.holds c.in-Some.ensures.found in
+    let is = sym names.file_is ∙ ap (λ (y : SavedEval). y.unread.file) same in
+    let once = calls_once task.file x.unread (reads_of (g.S.Shelf.world c.args.shelf.now)) _ _ is
+    (c.begin_at.ensures.calls (c.passes_some.ensures.content.before told)) in
+    let more = c.passes_some.ensures.calls told in
+    omega (arith, once, more)
+
+pub returns-clause-calls : goal.returns-clause-calls
+returns-clause-calls g c = λ told task names.
+    let x = c.in-Some.saved in
+    let same = one_evaluation c.args.from.now names.saved x names.holds c.in-Some.ensures.found in
+    let is = sym names.file_is ∙ ap (λ (y : SavedEval). y.unread.file) same in
+    let once = calls_once task.file x.unread (reads_of (g.S.Shelf.world c.args.shelf.now)) _ _ is
+    (c.begin_at.ensures.calls (c.passes_some.ensures.content.before told)) in
+    let more = c.passes_some.ensures.calls told in
+    omega (arith, once, more)

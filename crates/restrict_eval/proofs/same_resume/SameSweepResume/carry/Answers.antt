@@ -7,7 +7,7 @@ use Rattle.restrict_eval.specs.declared.saved.SavedSame.{SavedSame}
 use Rattle.restrict_eval.specs.Same.{turns_left}
 use Rattle.restrict_eval.specs.SavedSame.{same_count, same_words, IsSaved}
 use Rattle.restrict_eval.specs.SameResumes.{KeepsRules, GoesOn}
-use Rattle.restrict_eval.proofs.SameSaving.{saved_goes_on, stays_compared, few_nodes}
+use Rattle.restrict_eval.proofs.SameSaving.{read_as, saved_goes_on, stays_compared, few_nodes}
 use Rattle.restrict_eval.proofs.same_resume.SameSweepResume.carry.Goals as goal
 
 pub returns-clause-fits : goal.returns-clause-fits
@@ -23,8 +23,8 @@ returns-clause-fits g c =
       holds = subst (IsFront same_count same_words IsSaved c.saved.result) (sym filled.carry) c.words_of.ensures.front;
       rules = subst (KeepsRules c.fill_without_runs.new.into) (sym c.saved.ensures) (record {
         parts = omega (arith, next, parts);
-        first_other = λ same. c.requires.files.others (file_of s.left) (inl refl) (same ∙ step);
-        second_other = λ same. c.requires.files.others (file_of s.right) (inr refl) (same ∙ step);
+        first_other = read_as (file_of s.left) step next (c.requires.files.others (file_of s.left) (inl refl));
+        second_other = read_as (file_of s.right) step next (c.requires.files.others (file_of s.right) (inr refl));
         first_few = few_nodes s.left;
         second_few = few_nodes s.right;
       });

@@ -1,14 +1,16 @@
-use Rattle.std.proofs.Common.{◌≤◌, ◌+◌, ◌∙◌, length, take, refl, sym, ap, subst, inl, inr}
+use Rattle.std.proofs.Common.{arith, ◌≤◌, ◌+◌, ◌∙◌, length, take, refl, sym, ap, subst, inl, inr}
 use Rattle.canon_file.specs.Canon.{canon_nodes}
 use Rattle.node_file.specs.Canonical.{IsCanonicalFile}
 use Rattle.node_file.specs.Readers.{file_of, left_of, AreLeft}
 use Rattle.node_reading.specs.Reading.{bytes_of}
 use Rattle.node_reading.proofs.NodeReading.{if_handed, still_reading}
 use Rattle.sweep_core.specs.Saving.{reads_of}
-use Rattle.restrict_eval.specs.declared.saved.Unread.{Unread}
-use Rattle.restrict_eval.specs.Resuming.{IsPlaceFault}
+use Rattle.node_reading.specs.declared.resuming.Unread.{Unread}
+use Rattle.node_reading.specs.Resuming.{IsPlaceFault}
 use Rattle.restrict_eval.specs.SameResumes.{GoesOn, RestsOn, turns_of, one_comparison}
-use Rattle.restrict_eval.proofs.Staying.{stays_on}
+use Rattle.node_reading.proofs.Staying.{stays_on}
+use Rattle.restrict_eval.specs.declared.saved.SavedSame.{SavedSame}
+use Rattle.restrict_eval.proofs.Rereading.{calls_once, calls_twice}
 use Rattle.restrict_eval.proofs.SameSaving.{stays_cut, reads_stay, file_stays, first_file, second_file, left_at, hand_fault, begins_again}
 use Rattle.restrict_eval.proofs.same_resume.SameSweepResume.rebuild.Goals as goal
 
@@ -135,3 +137,58 @@ returns-clause-content g c =
     (stays_on g.S.Shelf.tells g.S.Shelf.world _ _ _
     (stays_on g.S.Shelf.tells g.S.Shelf.world _ _ _ c.begin_at.ensures.content c.begin_at-2.ensures.content)
     c.state.ensures.content)
+
+-- the first file is read again
+pub returns-in_err-left-clause-calls : goal.returns-in_err-left-clause-calls
+returns-in_err-left-clause-calls g c = λ told task names.
+    let x = c.in-Some.saved in
+    let same = one_comparison c.args.from.now names.saved x names.holds c.in-Some.ensures.found in
+    let first = sym names.first_is ∙ ap (λ (y : SavedSame). y.left.file) same in
+    let once = calls_once task.first c.behind_hand.result (reads_of (g.S.Shelf.world c.args.shelf.now)) _ _
+    (first ∙ ap (λ (u : Unread). u.file) (sym c.behind_hand.ensures)) (c.begin_at.ensures.calls told) in
+    omega (arith, once)
+
+-- and then the second one
+pub returns-in_err-right-clause-calls : goal.returns-in_err-right-clause-calls
+returns-in_err-right-clause-calls g c = λ told task names.
+    let x = c.in-Some.saved in
+    let one = c.begin_at-2.ensures.content.before told in
+    let same = one_comparison c.args.from.now names.saved x names.holds c.in-Some.ensures.found in
+    let first = sym names.first_is ∙ ap (λ (y : SavedSame). y.left.file) same in
+    let second = sym names.second_is ∙ ap (λ (y : SavedSame). y.right.file) same in
+    let twice = calls_twice task.first task.second c.behind_hand.result x.right _ _ _ _ _
+    (first ∙ ap (λ (u : Unread). u.file) (sym c.behind_hand.ensures)) second
+    (reads_stay _ _ (c.begin_at.ensures.content.did one)) (c.begin_at.ensures.calls one) (c.begin_at-2.ensures.calls told)
+    in
+    omega (arith, twice)
+
+-- and the node at hand
+pub returns-in_err-state-clause-calls : goal.returns-in_err-state-clause-calls
+returns-in_err-state-clause-calls g c = λ told task names.
+    let x = c.in-Some.saved in
+    let two = c.state.ensures.content.before told in
+    let one = c.begin_at-2.ensures.content.before two in
+    let same = one_comparison c.args.from.now names.saved x names.holds c.in-Some.ensures.found in
+    let first = sym names.first_is ∙ ap (λ (y : SavedSame). y.left.file) same in
+    let second = sym names.second_is ∙ ap (λ (y : SavedSame). y.right.file) same in
+    let twice = calls_twice task.first task.second c.behind_hand.result x.right _ _ _ _ _
+    (first ∙ ap (λ (u : Unread). u.file) (sym c.behind_hand.ensures)) second
+    (reads_stay _ _ (c.begin_at.ensures.content.did one)) (c.begin_at.ensures.calls one) (c.begin_at-2.ensures.calls two)
+    in
+    let more = c.state.ensures.calls told in
+    omega (arith, twice, more)
+
+pub returns-clause-calls : goal.returns-clause-calls
+returns-clause-calls g c = λ told task names.
+    let x = c.in-Some.saved in
+    let two = c.state.ensures.content.before told in
+    let one = c.begin_at-2.ensures.content.before two in
+    let same = one_comparison c.args.from.now names.saved x names.holds c.in-Some.ensures.found in
+    let first = sym names.first_is ∙ ap (λ (y : SavedSame). y.left.file) same in
+    let second = sym names.second_is ∙ ap (λ (y : SavedSame). y.right.file) same in
+    let twice = calls_twice task.first task.second c.behind_hand.result x.right _ _ _ _ _
+    (first ∙ ap (λ (u : Unread). u.file) (sym c.behind_hand.ensures)) second
+    (reads_stay _ _ (c.begin_at.ensures.content.did one)) (c.begin_at.ensures.calls one) (c.begin_at-2.ensures.calls two)
+    in
+    let more = c.state.ensures.calls told in
+    omega (arith, twice, more)

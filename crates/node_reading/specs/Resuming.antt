@@ -6,9 +6,9 @@ use Rattle.shelf_model.specs.declared.sort_fault.SortFault.{SortFault}
 use Rattle.shelf_model.specs.declared.sort_fault.SortFault.TheVariants.{Shelf, Damaged, RunsSpent}
 use Rattle.file_numbers.specs.Files.{checkpoint_file}
 use Rattle.node_file.specs.Nodes.{IsTrailerDamage, IsMetBetween}
+use Rattle.node_reading.specs.declared.resuming.Unread.{Unread}
 use Rattle.node_reading.specs.Reading.{count_of}
 use Rattle.sweep_core.specs.Resting.{checkpoint_place}
-use Rattle.restrict_eval.specs.declared.saved.Unread.{Unread}
 
 -- the trailer of the file is damaged, or a node at the place or behind it
 pub record IsFileDamaged (n : ℕ) (unread : Unread) (r : FileNo → List ℕ) (f : FileNo) (at : ℕ) : Type 0 where
