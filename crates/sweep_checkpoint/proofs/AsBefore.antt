@@ -10,11 +10,11 @@ use Rattle.shelf_model.proofs.Files.{kept_left}
 use Rattle.shelf_model.proofs.Images.{chosen, bytes_in-chosen, chosen_image, sure_left}
 use Rattle.shelf_model.proofs.Maps.{bytes_in-insert, bytes_in-insert_other}
 use Rattle.shelf_model.proofs.Numbers.{cases_file}
-use Rattle.file_numbers.specs.Files.{checkpoint_file, checkpoint_gate}
+use Rattle.file_numbers.specs.Files.{inner_part, checkpoint_file, checkpoint_gate}
 use Rattle.run_tiers.specs.Syncs.{IsSameOrFirm}
 use Rattle.sweep_core.specs.declared.checkpoint.Checkpoint.{Checkpoint}
 use Rattle.sweep_core.specs.Accounts.{CanBeTaken}
-use Rattle.sweep_core.specs.Saving.{IsOfStep}
+use Rattle.sweep_core.specs.Saving.{IsMadePart, IsReadPart, IsOfStep}
 use Rattle.sweep_core.specs.Carries.{IsBehindPoints, OnlySaved}
 use Rattle.sweep_checkpoint.specs.Gated.{last_of, last_gated}
 use Rattle.sweep_checkpoint.specs.Saves.{IsLastBefore, DuringSave}
@@ -83,6 +83,47 @@ image_before_same : (old : Folder) (image : Image) (f : FileNo) → AreFiles old
     → bytes_in image f ≡ bytes_in (image_before old image) f
 image_before_same old image f are_files is_left =
     sym (image_before_has old image f are_files ∙ spliced_same (file_in old f) (bytes_in image f) is_left)
+
+-- a file that is made is one from a later part number on, and so is one that is read
+made_later : (step next later : ℕ) (f : FileNo) → next ≤ later → IsMadePart step next f → IsMadePart step later f
+made_later step next later f more is = record {
+  step_is = is.step_is;
+  part = elim is.part [
+    | inl none ↦ inl none
+    | inr arcs ↦ let below = arcs.2 in inr (arcs.0, arcs.1, omega (arith, below, more))
+  ];
+}
+
+read_later : (step next later : ℕ) (f : FileNo) → next ≤ later → IsReadPart step next f → IsReadPart step later f
+read_later step next later f more (inl other) = inl other
+read_later step next later f more (inr made) = inr (made_later step next later f more made)
+
+-- from a later part number on
+pub of_step_later : (makes operands : FileNo → Type 0) (step next later : ℕ) → next ≤ later → IsOfStep makes operands step next → IsOfStep makes operands step later
+of_step_later makes operands step next later more files = record {
+  parts = let parts = files.parts in omega (arith, parts, more);
+  made = λ f mine. made_later step next later f more (files.made f mine);
+  others = λ f operand. read_later step next later f more (files.others f operand);
+  apart = files.apart;
+}
+
+-- the same files
+pub of_step_as : (makes makes_now operands : FileNo → Type 0) (step next : ℕ) → ((f : FileNo) → makes_now f → makes f)
+    → IsOfStep makes operands step next → IsOfStep makes_now operands step next
+of_step_as makes makes_now operands step next made files = record {
+  parts = files.parts;
+  made = λ f mine. files.made f (made f mine);
+  others = files.others;
+  apart = λ f operand mine. files.apart f operand (made f mine);
+}
+
+-- no part of a file that is read can be taken
+pub read_not_taken : (step next : ℕ) (f : FileNo) → inner_part ≤ next → IsReadPart step next f → ¬ CanBeTaken step next f
+read_not_taken step next f parts (inl other) free = other free.step_is
+read_not_taken step next f parts (inr made) free = elim made.part [
+  | inl nodes ↦ let from = free.from in absurd (omega (arith, from, nodes, parts))
+  | inr arcs ↦ let from = free.from in let below = arcs.2 in absurd (omega (arith, from, below))
+]
 
 -- neither the checkpoints nor their gate are written by a sweep of the step
 pub points_not_made : (makes operands : FileNo → Type 0) (step next : ℕ) → IsOfStep makes operands step next → ¬ (makes (checkpoint_file step))

@@ -3,7 +3,8 @@ mod Parts
 mod Saved
 mod Loaded
 mod Dropped
-mod AsBefore
+pub mod AsBefore
 mod Standing
 mod SavedHere
 mod WentOn
+mod Spent

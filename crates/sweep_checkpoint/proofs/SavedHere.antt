@@ -3,7 +3,7 @@ use Rattle.std.proofs.Common.{◌≡◌, ◌≢◌, ◌⊎◌, ℕ, ◌+◌, ◌
 use Rattle.std.specs.Prelude.{Option, Some, All}
 use Rattle.std.proofs.lemmas.List.{length-take-le, length-append}
 use Rattle.shelf_model.specs.declared.file_no.FileNo.{FileNo}
-use Rattle.shelf_model.specs.File.{File, firm_file}
+use Rattle.shelf_model.specs.File.{File}
 use Rattle.shelf_model.specs.Folder.{Folder, Image, file_in, bytes_in, IsImage, AreFiles, OnlyChanges}
 use Rattle.shelf_model.specs.World.{Moment, World, now, file}
 use Rattle.shelf_model.specs.Calls.{Told}
@@ -15,7 +15,8 @@ use Rattle.run_tiers.specs.declared.run.Run.{Run}
 use Rattle.run_tiers.specs.Syncs.{IsFirm}
 use Rattle.sweep_core.specs.declared.checkpoint.Checkpoint.{Checkpoint}
 use Rattle.sweep_core.specs.Tables.{IsSlot, Names, HasTables}
-use Rattle.sweep_core.specs.Saving.{Saving, IsOfStep, IsRestingPlace, IsFilled, IsSure, reads_of}
+use Rattle.sweep_core.specs.Saving.{Saving, IsReadPart, IsOfStep, IsRestingPlace, IsFilled, IsSure, reads_of}
+use Rattle.sweep_core.specs.Resting.{read_rests}
 use Rattle.sweep_core.specs.Carries.{OnlySaved, IsUsed}
 use Rattle.sweep_checkpoint.specs.Points.{point_bytes, Fits}
 use Rattle.sweep_checkpoint.specs.Gated.{present, last_gated}
@@ -23,8 +24,8 @@ use Rattle.sweep_checkpoint.specs.Saves.{gated_size, IsGateSure, DuringSave, IsS
 use Rattle.sweep_checkpoint.specs.Retires.{IsGivenUp}
 use Rattle.sweep_checkpoint.specs.Going.{IsOfGoing, IsAsBefore, GoesOn, Stands, AreSure}
 use Rattle.sweep_checkpoint.proofs.Parts.{length_point}
-use Rattle.sweep_checkpoint.proofs.AsBefore.{as_before, as_before_then, before_saved, points_not_made, gate_not_made, gate_stays, same_last}
-use Rattle.sweep_checkpoint.proofs.Standing.{Ready, stands_image, stands_retired, ready_goes_on, ready_saved}
+use Rattle.sweep_checkpoint.proofs.AsBefore.{of_step_later, as_before, as_before_then, before_saved, points_not_made, gate_not_made, gate_stays, same_last}
+use Rattle.sweep_checkpoint.proofs.Standing.{operand_firm, Ready, stands_image, stands_retired, ready_goes_on, ready_saved}
 
 -- the files of a step that change meanwhile: first those of the sweep
 pub saved_changes : (makes operands : FileNo → Type 0) (step next : ℕ) (old m : Moment) → IsOfStep makes operands step next
@@ -73,8 +74,9 @@ used_stay makes operands c next older old mid m f files tables saves only used =
     let stays : f ≢ checkpoint_file c.step → f ≢ checkpoint_gate c.step → ¬ IsGivenUp older c f → file_in m.folder f ≡ file_in old.folder f =
     λ no_points no_gate kept. only f kept ∙ saves.others f no_points no_gate in
     elim used [
-      | inl operand ↦ stays (λ is. files.others f operand (ap (λ (g : FileNo). g.step) is)) (λ is. files.others f operand (ap (λ (g : FileNo). g.step) is))
-          (λ gone. files.others f operand gone.step_is)
+      | inl operand ↦
+          let rests = read_rests (record c { next_part = next }) f files.parts (files.others f operand) in
+          stays rests.no_points rests.no_gate (λ gone. gone.unnamed (rests.named gone.step_is gone.from))
       | inr other ↦ elim other [
         | inl mine ↦ stays (λ is. points_not_made makes operands c.step next files (subst makes is mine)) (λ is. gate_not_made makes operands c.step next files (subst makes is mine))
             (λ gone. let from = gone.from in elim (files.made f mine).part [
@@ -129,17 +131,7 @@ module _ {Task Job : Type 0} (saving : Saving Task Job)
       → Ready saving makes operands step later budget sweep task job turns c left (now mid).folder
       → Ran (DuringSave c (now mid)) mid new → Throughout mid new (AreLeft saving makes step next budget sweep task job turns (now old).folder)
   save_left old mid new c later left are_files mid_files files more saved sure ready run =
-      let mid_of : IsOfStep makes operands step later = record {
-        parts = let parts = files.parts in omega (arith, parts, more);
-        made = λ f mine. let is = files.made f mine in record {
-          step_is = is.step_is;
-          part = elim is.part [
-            | inl none ↦ inl none
-            | inr arcs ↦ let below = arcs.2 in inr (arcs.0, arcs.1, omega (arith, below, more))
-          ];
-        };
-        others = files.others;
-      } in
+      let mid_of : IsOfStep makes operands step later = of_step_later makes operands step next later more files in
       let c_of : IsOfStep makes operands c.step later = subst (λ s. IsOfStep makes operands s later) (sym ready.step_is) mid_of in
       let gate : IsGateSure c.step (now mid).folder = subst (λ s. IsGateSure s (now mid).folder) (sym ready.step_is)
       (subst IsFirm (sym (gate_stays makes operands step next (now old) (now mid) files saved)) sure.gate) in
@@ -161,15 +153,7 @@ module _ {Task Job : Type 0} (saving : Saving Task Job)
       (stands_retired saving stays apart makes operands step later budget sweep task job turns older (now mid).folder m.folder s
       (subst (λ d. OnlyChanges (IsGivenUp older d) (now mid).folder m.folder) (sym is) only)) is_image)) run
 
--- operands stay sure
-operand_firm : (makes operands : FileNo → Type 0) (step next : ℕ) (old m : Moment) (f : FileNo) → IsOfStep makes operands step next
-    → OnlySaved makes step next old m → operands f → IsFirm (file_in old.folder f) → IsFirm (file_in m.folder f)
-operand_firm makes operands step next old m f files saved operand firm =
-    elim (saved.others f (λ mine. files.others f operand (files.made f mine).step_is) (λ free. files.others f operand free.step_is)) [
-      | inl same ↦ subst IsFirm (sym same) firm
-      | inr made ↦ made.1 ∙ ap (λ (x : File). firm_file x.bytes) (sym made.1)
-    ]
-
+-- the gate and the operands stay sure
 pub sure_stays : (makes operands : FileNo → Type 0) (step next : ℕ) (old m : Moment) → IsOfStep makes operands step next
     → OnlySaved makes step next old m → AreSure operands step old.folder → AreSure operands step m.folder
 sure_stays makes operands step next old m files saved sure = record {
@@ -298,6 +282,11 @@ module _ {S Task Job : Type 0} (tells : S → Bool) (world : S → World)
             )
             | inr front ↦ inr front
           ];
+          operands_are = λ f operand. operand_firm makes operands d.step next (now (world old)) (now (world mid)) f
+              carried.files (saved_by old mid carried told_mid) operand (sure.operands_are f operand);
+          operands_rest = λ f operand. read_rests d f (omega (arith, least, more, next_is))
+              (subst (λ m. IsReadPart d.step m f) (sym next_is)
+              ((of_step_later makes operands d.step next later more carried.files).others f operand));
           taken = omega (arith, next_is);
         }
 

@@ -22,7 +22,7 @@ use Rattle.sweep_checkpoint.specs.Going.{IsAsBefore, GoesOn, Stands}
 use Rattle.file_writes.proofs.Sure.{sure_bytes}
 use Rattle.sweep_checkpoint.proofs.Saved.{last_of-take}
 use Rattle.sweep_checkpoint.proofs.Parts.{length_point}
-use Rattle.sweep_checkpoint.proofs.AsBefore.{points_stay, gate_stays, same_last}
+use Rattle.sweep_checkpoint.proofs.AsBefore.{read_not_taken, points_stay, gate_stays, same_last}
 
 -- what is sure of a file is there in each image
 sure_front : (folder : Folder) (image : Image) (f : FileNo) (n : ℕ) → IsImage folder image → n ≤ (file_in folder f).firm
@@ -84,7 +84,18 @@ pub record Ready {Task Job : Type 0} (saving : Saving Task Job) (makes operands 
   pub few : c.turns + left ≤ turns
   pub sure : (f : FileNo) (n : ℕ) → saving.rests c f n
       → (operands f × IsFirm (file_in folder f)) ⊎ ((makes f ⊎ (¬ (makes f))) × (n ≤ (file_in folder f).firm))
+  pub operands_are : (f : FileNo) → operands f → IsFirm (file_in folder f)
+  pub operands_rest : (f : FileNo) → operands f → IsRestingPlace c f
   pub taken : c.next_part ≤ next
+
+-- operands stay sure
+pub operand_firm : (makes operands : FileNo → Type 0) (step next : ℕ) (old m : Moment) (f : FileNo) → IsOfStep makes operands step next
+    → OnlySaved makes step next old m → operands f → IsFirm (file_in old.folder f) → IsFirm (file_in m.folder f)
+operand_firm makes operands step next old m f files saved operand firm =
+    elim (saved.others f (files.apart f operand) (read_not_taken step next f files.parts (files.others f operand))) [
+      | inl same ↦ subst IsFirm (sym same) firm
+      | inr made ↦ made.1 ∙ ap (λ (x : File). firm_file x.bytes) (sym made.1)
+    ]
 
 module _ {Task Job : Type 0} (saving : Saving Task Job)
     (stays : (c : Checkpoint) (text : List ℕ) (old new : FileNo → List ℕ) (job : Job) (turns : ℕ) → saving.fits c text
@@ -129,9 +140,10 @@ module _ {Task Job : Type 0} (saving : Saving Task Job)
     pub stands_rests : (old m : Folder) → (s : Stands saving makes operands step next budget sweep task job turns old)
         → file_in m (checkpoint_gate step) ≡ file_in old (checkpoint_gate step) → file_in m (checkpoint_file step) ≡ file_in old (checkpoint_file step)
         → ((f : FileNo) (n : ℕ) → saving.rests s.goes_on.point f n → Rests operands old m f n)
+        → ((f : FileNo) → operands f → IsFirm (file_in old f) → IsFirm (file_in m f))
         → Stands saving makes operands step next budget sweep task job turns m
     unfolding goes_on_same
-    stands_rests old m s gate points rests = record {
+    stands_rests old m s gate points rests firm = record {
       goes_on = goes_on_same step budget sweep task job turns (present old) (present m) s.goes_on
           (same_last step (present m) (present old) (ap (λ (x : File). x.bytes) points) (ap (λ (x : File). x.bytes) gate))
           (λ f n is. (rests f n is).same);
@@ -142,6 +154,7 @@ module _ {Task Job : Type 0} (saving : Saving Task Job)
         | inl operand ↦ inl (operand.0, (rests f n is).operand operand.0 operand.1)
         | inr made ↦ inr (made.0, (rests f n is).sure made.1)
       ];
+      operands_are = λ f is. (firm f is (s.operands_are f is).0, (s.operands_are f is).1);
       taken = s.taken;
     }
 
@@ -160,12 +173,12 @@ module _ {Task Job : Type 0} (saving : Saving Task Job)
         ] in
         stands_rests old.folder m.folder s (gate_stays makes operands step next old m files saved) (points_stay makes operands step next old m files saved)
         (λ f n is. elim (s.sure f n is) [
-          | inl operand ↦ other f n is (λ mine. files.others f operand.0 (files.made f mine).step_is)
+          | inl operand ↦ other f n is (files.apart f operand.0)
           | inr sure ↦ elim sure.0 [
-            | inl mine ↦ rests_made operands old.folder m.folder f n (are_files f) (λ operand. files.others f operand (files.made f mine).step_is) (saved.kept f mine) sure.1
+            | inl mine ↦ rests_made operands old.folder m.folder f n (are_files f) (λ operand. files.apart f operand mine) (saved.kept f mine) sure.1
             | inr not_made ↦ other f n is not_made
           ]
-        ])
+        ]) (λ f operand. operand_firm makes operands step next old m f files saved operand)
 
     -- while the runs are cut that a newer checkpoint gives up, that one stays so
     pub stands_retired : (older : Option Checkpoint) (old m : Folder) → (s : Stands saving makes operands step next budget sweep task job turns old)
@@ -175,6 +188,7 @@ module _ {Task Job : Type 0} (saving : Saving Task Job)
         (only (checkpoint_gate step) (λ is. let from = is.from in absurd (omega (arith, from))))
         (only (checkpoint_file step) (λ is. let from = is.from in absurd (omega (arith, from))))
         (λ f n is. rests_same operands old m f n (only f (λ gone. gone.unnamed ((apart s.goes_on.point (saving.text task) f n s.goes_on.fits is).named gone.step_is gone.from))))
+        (λ f is. subst IsFirm (sym (only f (λ gone. gone.unnamed ((s.operands_are f is).1.named gone.step_is gone.from)))))
 
     -- a later part number
     pub stands_later : (later : ℕ) (folder : Folder) → next ≤ later → Stands saving makes operands step next budget sweep task job turns folder
@@ -184,6 +198,7 @@ module _ {Task Job : Type 0} (saving : Saving Task Job)
       gate = s.gate;
       points = s.points;
       sure = s.sure;
+      operands_are = s.operands_are;
       taken = let taken = s.taken in omega (arith, taken, more);
     }
 
@@ -202,7 +217,7 @@ module _ {Task Job : Type 0} (saving : Saving Task Job)
         (λ e. place.no_points (e ∙ ap checkpoint_file (sym s.goes_on.rules.step_is))) (λ e. place.no_gate (e ∙ ap checkpoint_gate (sym s.goes_on.rules.step_is)))) in
         goes_on_same step budget sweep task job turns (bytes_in agrees.before) r (stands_image old agrees.before s agrees.is_image) agrees.last
         (λ f n is. elim (s.sure f n is) [
-          | inl operand ↦ other f n is (λ mine. files.others f operand.0 (files.made f mine).step_is)
+          | inl operand ↦ other f n is (files.apart f operand.0)
           | inr sure ↦ elim sure.0 [
             | inl mine ↦ agrees.fronts f mine n sure.1
             | inr not_made ↦ other f n is not_made
@@ -272,5 +287,8 @@ module _ {Task Job : Type 0} (saving : Saving Task Job)
             | inl operand ↦ inl (operand.0, subst IsFirm (sym (same f n is)) operand.1)
             | inr sure ↦ inr (sure.0, subst (λ (x : File). n ≤ x.firm) (sym (same f n is)) sure.1)
           ];
+          operands_are = λ f is.
+              let rests = o.operands_rest f is in
+              (subst IsFirm (sym (saves.others f rests.no_points rests.no_gate)) (o.operands_are f is), rests);
           taken = o.taken;
         }

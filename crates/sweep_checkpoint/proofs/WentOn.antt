@@ -1,5 +1,5 @@
 -- A sweep that goes on from one save to the next: what a stop may leave, from the first moment on.
-use Rattle.std.proofs.Common.{◌≡◌, ◌≢◌, ◌⊎◌, ℕ, suc, ◌+◌, ◌-◌, ◌*◌, ◌≤◌, Bool, List, length, take, refl, sym, ap, subst, ◌∙◌, inl, inr, arith, mul-suc, mul-zero}
+use Rattle.std.proofs.Common.{◌≡◌, ◌≢◌, ◌⊎◌, ℕ, ◌+◌, ◌≤◌, Bool, List, length, take, refl, sym, ap, subst, ◌∙◌, inl, inr, arith}
 use Rattle.std.specs.Prelude.{Ok}
 use Rattle.shelf_model.specs.declared.file_no.FileNo.{FileNo}
 use Rattle.shelf_model.specs.File.{File, firm_file}
@@ -15,39 +15,16 @@ use Rattle.sweep_core.specs.declared.turn.Turn.{Turn}
 use Rattle.sweep_core.specs.declared.turn.Turn.TheVariants.{More, Ended}
 use Rattle.sweep_core.specs.Sweeps.{AtEnd}
 use Rattle.sweep_core.specs.Counted.{Fell}
-use Rattle.sweep_core.specs.Accounts.{Accounts, CanBeTaken, OnlyOwn}
+use Rattle.sweep_core.specs.Accounts.{CanBeTaken, OnlyOwn}
 use Rattle.sweep_core.specs.Saving.{Saving, IsOfStep, IsRestingPlace}
 use Rattle.sweep_core.specs.Carries.{IsBehindPoints, OnlySaved}
 use Rattle.sweep_checkpoint.specs.Saves.{gated_size}
 use Rattle.sweep_checkpoint.specs.Gated.{present, last_gated}
 use Rattle.sweep_checkpoint.specs.declared.going.Going.{Going}
-use Rattle.sweep_checkpoint.specs.Going.{IsOfGoing, IsAsBefore, GoesOn, Stands, AreSure, SameShown, IsShown, interval_of, TakesParts, WasNotSaved, WasSaved}
-use Rattle.sweep_checkpoint.proofs.AsBefore.{as_before, as_before_then, points_stay, gate_stays, same_last}
-use Rattle.sweep_checkpoint.proofs.Standing.{stands_saved, stands_later, as_before_stands}
+use Rattle.sweep_checkpoint.specs.Going.{IsOfGoing, IsAsBefore, GoesOn, Stands, AreSure, SameShown, IsShown}
+use Rattle.sweep_checkpoint.proofs.AsBefore.{of_step_later, of_step_as, as_before, as_before_then, points_stay, gate_stays, same_last}
+use Rattle.sweep_checkpoint.proofs.Standing.{operand_firm, stands_saved, stands_later, as_before_stands}
 use Rattle.sweep_checkpoint.proofs.SavedHere.{AreLeft, saved_changes, ran_changes, moments}
-
--- from a later part number on
-pub of_step_later : (makes operands : FileNo → Type 0) (step next later : ℕ) → next ≤ later → IsOfStep makes operands step next → IsOfStep makes operands step later
-of_step_later makes operands step next later more files = record {
-  parts = let parts = files.parts in omega (arith, parts, more);
-  made = λ f mine. let is = files.made f mine in record {
-    step_is = is.step_is;
-    part = elim is.part [
-      | inl none ↦ inl none
-      | inr arcs ↦ let below = arcs.2 in inr (arcs.0, arcs.1, omega (arith, below, more))
-    ];
-  };
-  others = files.others;
-}
-
--- the same files
-pub of_step_as : (makes makes_now operands : FileNo → Type 0) (step next : ℕ) → ((f : FileNo) → makes_now f → makes f)
-    → IsOfStep makes operands step next → IsOfStep makes_now operands step next
-of_step_as makes makes_now operands step next made files = record {
-  parts = files.parts;
-  made = λ f mine. files.made f (made f mine);
-  others = files.others;
-}
 
 -- nothing was done
 pub saved_none : (makes : FileNo → Type 0) (step next : ℕ) (m : Moment) → OnlySaved makes step next m m
@@ -128,6 +105,7 @@ module _ {Task Job : Type 0} (saving : Saving Task Job)
         | inr other ↦ inr (inr (λ mine. other (making f mine)), sure.1)
       ]
     ];
+    operands_are = s.operands_are;
     taken = s.taken;
   }
 
@@ -238,18 +216,18 @@ module _ {Task Job : Type 0} (saving : Saving Task Job) (t t0 : Task) (s s0 b b0
 
   -- what was sure is sure
   pub sure_of : {turns : ℕ} (makes : FileNo → Type 0) (next later : ℕ) (job : Job) (old m : Moment) → IsOfStep makes (saving.operands t0) s0 next
-      → OnlyChanged (IsOfGoing makes s0) old m → HasCome saving makes (saving.operands t0) s0 next b0 v0 t0 job turns later old m
+      → HasCome saving makes (saving.operands t0) s0 next b0 v0 t0 job turns later old m
       → AreSure (saving.operands t0) s0 old.folder → AreSure (saving.operands t) s m.folder
-  sure_of makes next later job old m files only come sure =
+  sure_of makes next later job old m files come sure =
       let here : AreSure (saving.operands t0) s0 m.folder = record {
         gate = elim come [
           | inl saved ↦ subst IsFirm (sym (gate_stays makes (saving.operands t0) s0 next old m files saved)) sure.gate
           | inr stood ↦ stood.gate
         ];
-        operands_are = λ f operand. subst IsFirm (sym (only f (λ is. elim is [
-          | inl mine ↦ files.others f operand (files.made f mine).step_is
-          | inr of_step ↦ files.others f operand of_step.0
-        ]))) (sure.operands_are f operand);
+        operands_are = λ f operand. elim come [
+          | inl saved ↦ operand_firm makes (saving.operands t0) s0 next old m f files saved operand (sure.operands_are f operand)
+          | inr stood ↦ (stood.operands_are f operand).0
+        ];
       } in
       subst (λ k. AreSure (saving.operands t) k m.folder) (sym step_is) (subst (λ k. AreSure (saving.operands k) s0 m.folder) (sym task_is) here)
 
@@ -311,75 +289,3 @@ says_then old mid new a b c step_is (inr shown) (inl again) = inr (record {
   turns_are = shown.turns_are ∙ sym again.shown_is;
   gated_is = subst (λ s. last_gated s (present c) ≡ last_gated s (present b)) step_is again.gated_is ∙ shown.gated_is;
 })
-
--- turns since the first moment, and saves at least an interval apart: the last of them shows so many turns; what they
--- took of the parts
-pub record SpentOn {P : Type 0} (accounts : Accounts P) (interval first turns shown : ℕ) (old new : P) : Type 0 where
-  pub saves : ℕ
-  pub grew : first ≤ turns
-  pub spaced : (saves ≡ 0) ⊎ ((k : ℕ) × (saves ≡ suc k) × (interval * k + first ≤ shown) × (shown ≤ turns))
-  pub takes : TakesParts accounts (turns - first) saves old new
-
-pub spent_none : {P : Type 0} (accounts : Accounts P) (interval first shown : ℕ) (p : P) → SpentOn accounts interval first first shown p p
-spent_none accounts interval first shown p = record { saves = 0; grew = omega arith; spaced = inl refl; takes = record { spent = omega arith } }
-
--- once it was looked whether a save is due
-pub spent_save : {P : Type 0} (accounts : Accounts P) (first : ℕ) (old mid new : Going) (p q r : P) → new.turns ≡ mid.turns → mid.budget ≡ old.budget
-    → accounts.next p ≤ accounts.next q → accounts.next q ≤ accounts.next r
-    → SpentOn accounts (interval_of old.budget) first mid.turns mid.shown p q
-    → WasNotSaved accounts mid new q r ⊎ WasSaved accounts mid new q r → SpentOn accounts (interval_of old.budget) first new.turns new.shown p r
-spent_save accounts first old mid new p q r turns budget one two s (inl not) = record {
-  saves = s.saves;
-  grew = let grew = s.grew in omega (arith, grew, turns);
-  spaced = elim s.spaced [
-    | inl none ↦ inl none
-    | inr some ↦ let below = some.2 in let shown = some.3 in let same = not.shown_is in
-        inr (some.0, some.1, omega (arith, below, same), omega (arith, shown, same, turns))
-  ];
-  takes = record { spent = let spent = s.takes.spent in let next = not.next_is in let stock = not.stock_is in omega (arith, spent, next, stock, turns) };
-}
-spent_save accounts first old mid new p q r turns budget one two s (inr saved) =
-    let due : mid.shown + interval_of old.budget ≤ mid.turns = subst (λ b. mid.shown + interval_of b ≤ mid.turns) budget saved.due in
-    let shown : new.shown ≡ mid.turns = saved.shown_is in
-    let grew : first ≤ mid.turns = s.grew in
-    record {
-      saves = suc s.saves;
-      grew = omega (arith, grew, turns);
-      spaced = elim s.spaced [
-        | inl none ↦ let zero_is : interval_of old.budget * s.saves ≡ 0 = ap (λ k. interval_of old.budget * k) none ∙ mul-zero (interval_of old.budget) in
-            inr (s.saves, refl, omega (arith, zero_is, shown, grew), omega (arith, shown, turns))
-        | inr some ↦
-            let below = some.2 in
-            let more : interval_of old.budget * s.saves ≡ interval_of old.budget * some.0 + interval_of old.budget =
-            ap (λ k. interval_of old.budget * k) some.1 ∙ mul-suc (interval_of old.budget) some.0 in
-            inr (s.saves, refl, omega (arith, more, below, due, shown), omega (arith, shown, turns))
-      ];
-      takes = record { spent = let spent = s.takes.spent in let now = saved.takes.spent in omega (arith, spent, now, one, two, turns) };
-    }
-
--- once turns were made
-pub spent_turns : {P : Type 0} (accounts : Accounts P) (interval first before after shown made : ℕ) (p q r : P) → after ≡ before + made
-    → accounts.next p ≤ accounts.next q → accounts.next q ≤ accounts.next r
-    → 256 * (accounts.next r - accounts.next q) + accounts.stock r ≤ accounts.stock q + 12 * made
-    → SpentOn accounts interval first before shown p q → SpentOn accounts interval first after shown p r
-spent_turns accounts interval first before after shown made p q r counted one two costs s = record {
-  saves = s.saves;
-  grew = let grew = s.grew in omega (arith, grew, counted);
-  spaced = elim s.spaced [
-    | inl none ↦ inl none
-    | inr some ↦ let below = some.2 in let late = some.3 in inr (some.0, some.1, below, omega (arith, late, counted))
-  ];
-  takes = record { spent = let spent = s.takes.spent in let grew = s.grew in omega (arith, spent, grew, costs, counted, one, two) };
-}
-
--- how many saves there were
-pub spent_saves : {P : Type 0} (accounts : Accounts P) (interval first turns shown : ℕ) (p q : P) → SpentOn accounts interval first turns shown p q
-    → (saves : ℕ) × (interval * saves ≤ turns - first + interval) × TakesParts accounts (turns - first) saves p q
-spent_saves accounts interval first turns shown p q s = elim s.spaced [
-  | inl none ↦ let zero_is : interval * s.saves ≡ 0 = ap (λ k. interval * k) none ∙ mul-zero interval in (s.saves, omega (arith, zero_is), s.takes)
-  | inr some ↦
-      let below = some.2 in
-      let late = some.3 in
-      let more : interval * s.saves ≡ interval * some.0 + interval = ap (λ k. interval * k) some.1 ∙ mul-suc interval some.0 in
-      (s.saves, omega (arith, more, below, late), s.takes)
-]

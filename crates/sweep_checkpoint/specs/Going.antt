@@ -1,18 +1,21 @@
 -- What a stop may leave while a sweep goes on and is saved at times.
-use Rattle.std.specs.Prelude.{◌≡◌, ◌≢◌, ◌⊎◌, ℕ, ◌+◌, ◌-◌, ◌*◌, ◌<◌, ◌≤◌, min, max, List, length, take, Some}
+use Rattle.std.specs.Prelude.{◌≡◌, ◌≢◌, ◌⊎◌, ℕ, ◌+◌, ◌-◌, ◌*◌, ◌<◌, ◌≤◌, min, max, List, length, take, Option, Some}
 use Rattle.shelf_model.specs.declared.file_no.FileNo.{FileNo}
 use Rattle.shelf_model.specs.declared.sort_fault.SortFault.{SortFault}
 use Rattle.shelf_model.specs.declared.sort_fault.SortFault.TheVariants.{Shelf, Damaged, RunsSpent}
 use Rattle.shelf_model.specs.Folder.{Folder, Image, file_in, bytes_in, IsImage}
-use Rattle.file_numbers.specs.Files.{checkpoint_part, checkpoint_file, checkpoint_gate}
+use Rattle.shelf_model.specs.World.{World}
+use Rattle.file_numbers.specs.Files.{checkpoint_part, checkpoint_file, checkpoint_gate, first_run_part}
+use Rattle.run_tiers.specs.Parts.{Paid}
 use Rattle.run_tiers.specs.Syncs.{IsFirm}
 use Rattle.sweep_core.specs.declared.checkpoint.Checkpoint.{Checkpoint}
 use Rattle.sweep_core.specs.Accounts.{Accounts, CanBeTaken}
-use Rattle.sweep_core.specs.Saving.{Saving}
+use Rattle.sweep_core.specs.Saving.{Saving, IsRestingPlace}
 use Rattle.sweep_checkpoint.specs.Points.{point_bytes, Fits}
 use Rattle.sweep_checkpoint.specs.Rules.{KeepsRules}
 use Rattle.sweep_checkpoint.specs.Gated.{present, gated_place, last_gated}
 use Rattle.sweep_checkpoint.specs.Saves.{gated_size, IsGateSure}
+use Rattle.sweep_checkpoint.specs.Retires.{first_taken}
 use Rattle.sweep_checkpoint.specs.declared.going.Going.{Going}
 
 -- the files of a step that change while a sweep of it goes on: those that it makes, and all behind the node file
@@ -45,7 +48,8 @@ module _ {Task Job : Type 0} (saving : Saving Task Job) where
     pub stands : saving.stands point (saving.text task) r job left
     pub few : point.turns + left ≤ turns
 
-  -- so it is in each image of the folder: the gate is sure, and so is all that the checkpoint rests on
+  -- so it is in each image of the folder: the gate is sure, and so are the operands, which no sweep of the step writes
+  -- from there on, and all that the checkpoint rests on
   pub record Stands (makes operands : FileNo → Type 0) (step next budget sweep : ℕ) (task : Task) (job : Job)
       (turns : ℕ) (folder : Folder) : Type 0 where
     pub goes_on : GoesOn step budget sweep task job turns (present folder)
@@ -53,6 +57,7 @@ module _ {Task Job : Type 0} (saving : Saving Task Job) where
     pub points : gated_size step folder ≤ (file_in folder (checkpoint_file step)).firm
     pub sure : (f : FileNo) (n : ℕ) → saving.rests goes_on.point f n
         → (operands f × IsFirm (file_in folder f)) ⊎ ((makes f ⊎ (¬ (makes f))) × (n ≤ (file_in folder f).firm))
+    pub operands_are : (f : FileNo) → operands f → IsFirm (file_in folder f) × IsRestingPlace goes_on.point f
     pub taken : goes_on.point.next_part ≤ next
 
 -- the gate is sure, and the operands are
@@ -96,14 +101,33 @@ pub record TakesParts {P : Type 0} (accounts : Accounts P) (turns saves : ℕ) (
   pub spent : 256 * (accounts.next new - accounts.next old) + accounts.stock new
       ≤ accounts.stock old + (12 * turns + 4608 * saves)
 
--- nothing was saved
-pub record WasNotSaved {P : Type 0} (accounts : Accounts P) (old new : Going) (before after : P) : Type 0 where
+-- the part from which on saves may have to cut what was taken: the first one that was taken since the last checkpoint,
+-- or the next one to be taken, whichever is less
+abbrev pub first_owed : Option Checkpoint → ℕ → ℕ
+first_owed last next = min (first_taken last) (max first_run_part next)
+
+-- what so many turns and so many saves take of the calls of the folder: a turn 224, and a save 66,126, of which 65,536
+-- make the sweep sure, 14 save it, and 576 cut the runs that the checkpoint before names; and one more for each part
+-- that was taken from the first one on
+pub record TakesCalls {P : Type 0} (accounts : Accounts P) (turns saves first : ℕ) (before after : World)
+    (old new : P) : Type 0 where
+  pub paid : Paid (224 * turns + 66126 * saves + (accounts.next new - first)) (accounts.credit old)
+      (accounts.credit new) before after
+
+-- nothing was saved, and no call was made
+pub record WasNotSaved {P : Type 0} (accounts : Accounts P) (old new : Going) (old_world new_world : World)
+    (before after : P) : Type 0 where
   pub shown_is : new.shown ≡ old.shown
+  pub last_is : new.last ≡ old.last
   pub next_is : accounts.next after ≡ accounts.next before
   pub stock_is : accounts.stock after ≡ accounts.stock before
+  pub calls : Paid 0 (accounts.credit before) (accounts.credit after) old_world new_world
 
 -- the sweep was saved, an interval of turns or more behind what was shown before
 pub record WasSaved {P : Type 0} (accounts : Accounts P) (old new : Going) (before after : P) : Type 0 where
   pub due : old.shown + interval_of old.budget ≤ old.turns
   pub shown_is : new.shown ≡ old.turns
+  pub point : Checkpoint
+  pub last_is : new.last ≡ Some point
+  pub part_is : point.next_part ≡ accounts.next after
   pub takes : TakesParts accounts 0 1 before after

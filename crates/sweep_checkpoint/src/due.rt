@@ -11,7 +11,8 @@ ghost use Rattle.sweep_core.specs.Saving.{IsOfStep};
 ghost use Rattle.sweep_core.specs.Sweeps.{IsNoDamage};
 ghost use Rattle.sweep_core.specs.Carries.{OnlySaved};
 ghost use Rattle.sweep_checkpoint.specs.Saves.{gated_size};
-ghost use Rattle.sweep_checkpoint.specs.Going.{IsOfGoing, IsAsBefore, GoesOn, Stands, AreSure, IsShort, SameGoing, SameShown, IsShown, interval_of, WasNotSaved, WasSaved};
+ghost use Rattle.sweep_checkpoint.specs.Going.{IsOfGoing, IsAsBefore, GoesOn, Stands, AreSure, IsShort, SameGoing, SameShown, IsShown, interval_of, TakesCalls, WasNotSaved, WasSaved};
+ghost use Rattle.sweep_checkpoint.specs.Retires.{first_taken};
 
 use crate::blank::NO_RUN;
 use crate::going::Going;
@@ -34,6 +35,7 @@ pub(crate) fn save_if_due<'r, P: Resume<'r>, S: Shelf>(
     shelf: &mut S,
 ) -> Result<(), SortFault>
     requires ready { P.ready sweep.old }
+    requires works { 0 < P.fuel sweep.old }
     requires in_step { IsTrue (S.tells shelf.old) → P.in_step sweep.old (S.world shelf.old) }
     requires files { IsOfStep (P.accounts.makes sweep.old) (P.saving.operands (P.task sweep.old))
         (P.accounts.step sweep.old) (P.accounts.next sweep.old) }
@@ -47,8 +49,10 @@ pub(crate) fn save_if_due<'r, P: Resume<'r>, S: Shelf>(
     ensures due { OnOk result (going.new.turns < 2 ^ 61 → P.accounts.next sweep.new ≤ 2 ^ 32 →
         (going.new.turns - going.new.shown < interval_of going.old.budget) ⊎ (going.new.shown ≡ going.new.turns)) }
     ensures parts { OnOk result (P.accounts.next sweep.new ≤ 2 ^ 32 →
-        WasNotSaved P.accounts going.old going.new sweep.old sweep.new
+        WasNotSaved P.accounts going.old going.new (S.world shelf.old) (S.world shelf.new) sweep.old sweep.new
         ⊎ WasSaved P.accounts going.old going.new sweep.old sweep.new) }
+    ensures calls { IsTrue (S.tells shelf.new) → TakesCalls P.accounts 0 1 (first_taken going.old.last)
+        (S.world shelf.old) (S.world shelf.new) sweep.old sweep.new }
     ensures shown { OnOk result (IsTrue (S.tells shelf.new) →
         SameShown going.old going.new (now (S.world shelf.old)).folder (now (S.world shelf.new)).folder
         ⊎ IsShown going.old.step going.new (now (S.world shelf.new)).folder) }

@@ -1,5 +1,5 @@
 //! A sweep that goes on to its end, and is saved at times.
-ghost use Rattle.std.specs.Prelude.{◌≡◌, ◌⊎◌, ◌+◌, ◌-◌, ◌^◌, ◌<◌, ◌≤◌, ◌*◌, ℕ, IsTrue, IsErrOf, OnOk, IfOk, IfErr, length};
+ghost use Rattle.std.specs.Prelude.{◌≡◌, ◌⊎◌, ◌+◌, ◌-◌, ◌^◌, ◌<◌, ◌≤◌, ◌*◌, ℕ, IsTrue, IsErrOf, OnOk, OnErr, IfOk, IfErr, length};
 ghost use Rattle.shelf_model.specs.declared.file_no.FileNo.{FileNo};
 ghost use Rattle.shelf_model.specs.Calls.{Told};
 ghost use Rattle.shelf_model.specs.Folder.{Image, IsImage, bytes_in, file_in};
@@ -11,7 +11,7 @@ ghost use Rattle.sweep_core.specs.Saving.{IsOfStep};
 ghost use Rattle.sweep_core.specs.Sweeps.{IsFirm, IsNoDamage};
 ghost use Rattle.sweep_core.specs.Carries.{OnlySaved};
 ghost use Rattle.sweep_checkpoint.specs.Saves.{gated_size};
-ghost use Rattle.sweep_checkpoint.specs.Going.{IsOfGoing, IsAsBefore, GoesOn, Stands, AreSure, IsShort, SameGoing, SameShown, IsShown, interval_of, TakesParts};
+ghost use Rattle.sweep_checkpoint.specs.Going.{IsOfGoing, IsAsBefore, GoesOn, Stands, AreSure, IsShort, SameGoing, SameShown, IsShown, interval_of, first_owed, TakesParts, TakesCalls};
 
 use crate::due::save_if_due;
 use crate::going::Going;
@@ -30,6 +30,7 @@ pub fn run_saved<'r, P: Resume<'r>, S: Shelf>(
     shelf: &mut S,
 ) -> Result<(), SortFault>
     requires ready { P.ready sweep.old }
+    requires works { 0 < P.fuel sweep.old }
     requires in_step { IsTrue (S.tells shelf.old) → P.in_step sweep.old (S.world shelf.old) }
     requires files { IsOfStep (P.accounts.makes sweep.old) (P.saving.operands (P.task sweep.old))
         (P.accounts.step sweep.old) (P.accounts.next sweep.old) }
@@ -45,7 +46,16 @@ pub fn run_saved<'r, P: Resume<'r>, S: Shelf>(
         going.new.turns - going.new.shown ≤ interval_of going.old.budget) }
     ensures counted { OnOk result (going.new.turns < 2 ^ 64 - 1 → P.accounts.next sweep.new ≤ 2 ^ 32 → (saves : ℕ)
         × (interval_of going.old.budget * saves ≤ going.new.turns - going.old.turns + interval_of going.old.budget)
-        × TakesParts P.accounts (going.new.turns - going.old.turns) saves sweep.old sweep.new) }
+        × TakesParts P.accounts (going.new.turns - going.old.turns) saves sweep.old sweep.new
+        × (IsTrue (S.tells shelf.new) → TakesCalls P.accounts (going.new.turns - going.old.turns) saves
+        (first_owed going.old.last (P.accounts.next sweep.old)) (S.world shelf.old) (S.world shelf.new)
+        sweep.old sweep.new)) }
+    ensures refused { OnErr result (going.new.turns < 2 ^ 64 - 1 → P.accounts.next sweep.new ≤ 2 ^ 32 → (saves : ℕ)
+        × (interval_of going.old.budget * saves ≤ going.new.turns - going.old.turns + interval_of going.old.budget)
+        × (IsTrue (S.tells shelf.new) → TakesCalls P.accounts
+        (going.new.turns - going.old.turns + interval_of going.old.budget) (saves + 1)
+        (first_owed going.old.last (P.accounts.next sweep.old)) (S.world shelf.old) (S.world shelf.new)
+        sweep.old sweep.new)) }
     ensures shown { OnOk result (IsTrue (S.tells shelf.new) →
         SameShown going.old going.new (now (S.world shelf.old)).folder (now (S.world shelf.new)).folder
         ⊎ IsShown going.old.step going.new (now (S.world shelf.new)).folder) }

@@ -1,11 +1,13 @@
-use Rattle.std.proofs.Common.{◌+◌, ◌∙◌, ◌≤◌, length, rules, arith, refl, sym, subst, inr}
+use Rattle.std.proofs.Common.{◌+◌, ◌∙◌, ◌≤◌, length, rules, arith, refl, sym, ap, subst, inr}
 use Rattle.shelf_model.specs.Calls.{Told}
 use Rattle.shelf_model.specs.Moments.{Ran, OnlyChanged}
 use Rattle.shelf_model.specs.World.{now, file}
 use Rattle.file_numbers.specs.Files.{checkpoint_file}
 use Rattle.sweep_checkpoint.specs.Saves.{gated_size}
+use Rattle.sweep_checkpoint.specs.Retires.{first_taken}
 use Rattle.sweep_checkpoint.specs.Going.{IsOfGoing, AreSure, Stands}
 use Rattle.sweep_core.specs.Saving.{IsOfStep}
+use Rattle.sweep_checkpoint.proofs.Spent.{save_calls}
 use Rattle.sweep_checkpoint.proofs.WentOn.{images_none}
 use Rattle.sweep_checkpoint.proofs.SavedHere.{carried_at, images_carry, images_save, images_retire, stands_retire, left_at, save_on, retire_on, works_on, covers_on, ready_by}
 use Rattle.sweep_checkpoint.proofs.due.save_if_due.Goals as goal
@@ -86,7 +88,7 @@ returns-in_err-save-clause-images g c = λ told job remains sure.
     let ready = ready_by g.S.Shelf.tells g.S.Shelf.world g.met.S.Shelf.files_are g.P.Sweep.saving laws.stays laws.apart made read next later budget sweep task point job turns left_now c.args.shelf.now c.carry.new.shelf carried (told_mid)
     c.args.going.now.turns left_before c.in_ok-carry.ensures.head.sweep_is c.in_ok-carry.ensures.head.turns_are c.in_ok-carry.ensures.head.budget_is c.requires.sweep (omega (arith, c.if-going-ge-TURNS_END.false))
     c.in_ok-carry.ensures.filled (omega (arith, c.if-point-gt-MOST_PARTS.false)) c.in_err-save.ensures.fits c.in_ok-carry.ensures.names c.in_ok-carry.ensures.fits
-    (c.in_ok-carry.ensures.stands (told_mid) job remains) (c.in_ok-carry.ensures.left (told_mid) job remains) refl sure_point (c.in_ok-carry.ensures.sure (told_mid)) in
+    (c.in_ok-carry.ensures.stands (told_mid) job remains) (c.in_ok-carry.ensures.left (told_mid) job remains) refl sure_point (c.in_ok-carry.ensures.sure (told_mid) job remains) in
     left_at g.S.Shelf.tells g.S.Shelf.world g.met.S.Shelf.files_are g.P.Sweep.saving laws.stays laws.apart made read next later budget sweep task point job turns left_now (g.S.Shelf.world c.args.shelf.now) (g.S.Shelf.world c.save.new.shelf) (now (g.S.Shelf.world c.args.shelf.now)).folder c.args.going.now.step step_is
     (images_save g.S.Shelf.tells g.S.Shelf.world g.met.S.Shelf.files_are g.P.Sweep.saving laws.stays laws.apart made read next later budget sweep task point job turns left_now c.args.shelf.now c.carry.new.shelf c.save.new.shelf carried sure_point ready c.in_err-save.ensures.content told)
 
@@ -130,7 +132,7 @@ returns-in_err-retire-clause-images g c = λ told job remains sure.
     let ready = ready_by g.S.Shelf.tells g.S.Shelf.world g.met.S.Shelf.files_are g.P.Sweep.saving laws.stays laws.apart made read next later budget sweep task point job turns left_now c.args.shelf.now c.carry.new.shelf carried (told_mid)
     c.args.going.now.turns left_before c.in_ok-carry.ensures.head.sweep_is c.in_ok-carry.ensures.head.turns_are c.in_ok-carry.ensures.head.budget_is c.requires.sweep (omega (arith, c.if-going-ge-TURNS_END.false))
     c.in_ok-carry.ensures.filled (omega (arith, c.if-point-gt-MOST_PARTS.false)) c.in_ok-save.ensures.fits c.in_ok-carry.ensures.names c.in_ok-carry.ensures.fits
-    (c.in_ok-carry.ensures.stands (told_mid) job remains) (c.in_ok-carry.ensures.left (told_mid) job remains) refl sure_point (c.in_ok-carry.ensures.sure (told_mid)) in
+    (c.in_ok-carry.ensures.stands (told_mid) job remains) (c.in_ok-carry.ensures.left (told_mid) job remains) refl sure_point (c.in_ok-carry.ensures.sure (told_mid) job remains) in
     left_at g.S.Shelf.tells g.S.Shelf.world g.met.S.Shelf.files_are g.P.Sweep.saving laws.stays laws.apart made read next later budget sweep task point job turns left_now (g.S.Shelf.world c.args.shelf.now) (g.S.Shelf.world c.retire.new.shelf) (now (g.S.Shelf.world c.args.shelf.now)).folder c.args.going.now.step step_is
     (images_retire g.S.Shelf.tells g.S.Shelf.world g.met.S.Shelf.files_are g.P.Sweep.saving laws.stays laws.apart made read next later budget sweep task point job turns left_now _ c.args.shelf.now c.carry.new.shelf c.save.new.shelf c.retire.new.shelf carried sure_point ready c.in_ok-save.ensures.content c.in_ok-save.ensures.ok c.in_err-retire.ensures.content told)
 
@@ -174,7 +176,7 @@ returns-clause-images g c = λ told job remains sure.
     let ready = ready_by g.S.Shelf.tells g.S.Shelf.world g.met.S.Shelf.files_are g.P.Sweep.saving laws.stays laws.apart made read next later budget sweep task point job turns left_now c.args.shelf.now c.carry.new.shelf carried (told_mid)
     c.args.going.now.turns left_before c.in_ok-carry.ensures.head.sweep_is c.in_ok-carry.ensures.head.turns_are c.in_ok-carry.ensures.head.budget_is c.requires.sweep (omega (arith, c.if-going-ge-TURNS_END.false))
     c.in_ok-carry.ensures.filled (omega (arith, c.if-point-gt-MOST_PARTS.false)) c.in_ok-save.ensures.fits c.in_ok-carry.ensures.names c.in_ok-carry.ensures.fits
-    (c.in_ok-carry.ensures.stands (told_mid) job remains) (c.in_ok-carry.ensures.left (told_mid) job remains) refl sure_point (c.in_ok-carry.ensures.sure (told_mid)) in
+    (c.in_ok-carry.ensures.stands (told_mid) job remains) (c.in_ok-carry.ensures.left (told_mid) job remains) refl sure_point (c.in_ok-carry.ensures.sure (told_mid) job remains) in
     left_at g.S.Shelf.tells g.S.Shelf.world g.met.S.Shelf.files_are g.P.Sweep.saving laws.stays laws.apart made read next later budget sweep task point job turns left_now (g.S.Shelf.world c.args.shelf.now) (g.S.Shelf.world c.retire.new.shelf) (now (g.S.Shelf.world c.args.shelf.now)).folder c.args.going.now.step step_is
     (images_retire g.S.Shelf.tells g.S.Shelf.world g.met.S.Shelf.files_are g.P.Sweep.saving laws.stays laws.apart made read next later budget sweep task point job turns left_now _ c.args.shelf.now c.carry.new.shelf c.save.new.shelf c.retire.new.shelf carried sure_point ready c.in_ok-save.ensures.content c.in_ok-save.ensures.ok c.in_ok-retire.ensures.content told)
 
@@ -201,7 +203,7 @@ returns-clause-stands g c = λ told job remains sure.
     let ready = ready_by g.S.Shelf.tells g.S.Shelf.world g.met.S.Shelf.files_are g.P.Sweep.saving laws.stays laws.apart made read next later budget sweep task point job turns left_now c.args.shelf.now c.carry.new.shelf carried (told_mid)
     c.args.going.now.turns left_before c.in_ok-carry.ensures.head.sweep_is c.in_ok-carry.ensures.head.turns_are c.in_ok-carry.ensures.head.budget_is c.requires.sweep (omega (arith, c.if-going-ge-TURNS_END.false))
     c.in_ok-carry.ensures.filled (omega (arith, c.if-point-gt-MOST_PARTS.false)) c.in_ok-save.ensures.fits c.in_ok-carry.ensures.names c.in_ok-carry.ensures.fits
-    (c.in_ok-carry.ensures.stands (told_mid) job remains) (c.in_ok-carry.ensures.left (told_mid) job remains) refl sure_point (c.in_ok-carry.ensures.sure (told_mid)) in
+    (c.in_ok-carry.ensures.stands (told_mid) job remains) (c.in_ok-carry.ensures.left (told_mid) job remains) refl sure_point (c.in_ok-carry.ensures.sure (told_mid) job remains) in
     inr (subst (λ s. Stands g.P.Sweep.saving made read s later budget sweep task job turns (now (g.S.Shelf.world c.retire.new.shelf)).folder) step_is
     (stands_retire g.S.Shelf.tells g.S.Shelf.world g.met.S.Shelf.files_are g.P.Sweep.saving laws.stays laws.apart made read next later budget sweep task point job turns left_now _ c.carry.new.shelf c.save.new.shelf c.retire.new.shelf ready c.in_ok-save.ensures.content c.in_ok-save.ensures.ok c.in_ok-retire.ensures.content told))
 
@@ -324,3 +326,19 @@ returns-then-going-ge-TURNS_END-clause-images g c = λ told job remains sure.
     images_none g.P.Sweep.saving laws.stays laws.apart made read c.args.going.now.step next c.args.going.now.budget c.args.going.now.sweep (g.P.Sweep.task c.args.sweep.now) job
     (c.args.going.now.turns + g.P.Sweep.left c.args.sweep.now (g.S.Shelf.world c.args.shelf.now) job) (g.S.Shelf.world c.args.shelf.now) (g.met.S.Shelf.files_are c.args.shelf.now told)
     (subst (λ s. IsOfStep made read s next) (sym c.requires.step) c.requires.files)
+
+pub returns-in_err-retire-clause-calls : goal.returns-in_err-retire-clause-calls
+returns-in_err-retire-clause-calls g c = λ told.
+    let told_s = c.in_err-retire.ensures.content.before told in
+    let told_c = c.in_ok-save.ensures.content.before told_s in
+    save_calls g.P.Sweep.accounts c.carry.new.into.next_part _ (first_taken c.args.going.now.last) (g.S.Shelf.world c.args.shelf.now) (g.S.Shelf.world c.carry.new.shelf) (g.S.Shelf.world c.save.new.shelf)
+    (g.S.Shelf.world c.retire.new.shelf) c.args.sweep.now c.carry.new.self c.in_ok-carry.ensures.filled.next_is (ap first_taken c.as_ref.ensures.value)
+    (c.in_ok-carry.ensures.leaves.calls told_c) (c.in_ok-save.ensures.calls told_s) (c.in_err-retire.ensures.calls told)
+
+pub returns-clause-calls : goal.returns-clause-calls
+returns-clause-calls g c = λ told.
+    let told_s = c.in_ok-retire.ensures.content.before told in
+    let told_c = c.in_ok-save.ensures.content.before told_s in
+    save_calls g.P.Sweep.accounts c.carry.new.into.next_part _ (first_taken c.args.going.now.last) (g.S.Shelf.world c.args.shelf.now) (g.S.Shelf.world c.carry.new.shelf) (g.S.Shelf.world c.save.new.shelf)
+    (g.S.Shelf.world c.retire.new.shelf) c.args.sweep.now c.carry.new.self c.in_ok-carry.ensures.filled.next_is (ap first_taken c.as_ref.ensures.value)
+    (c.in_ok-carry.ensures.leaves.calls told_c) (c.in_ok-save.ensures.calls told_s) (c.in_ok-retire.ensures.calls told)

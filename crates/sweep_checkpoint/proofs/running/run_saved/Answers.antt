@@ -10,8 +10,10 @@ use Rattle.sweep_core.specs.Accounts.{OnlyOwn}
 use Rattle.sweep_core.specs.Saving.{IsOfStep}
 use Rattle.sweep_checkpoint.specs.Gated.{present, last_gated}
 use Rattle.sweep_checkpoint.specs.Saves.{gated_size}
-use Rattle.sweep_checkpoint.specs.Going.{IsOfGoing, interval_of}
-use Rattle.sweep_checkpoint.proofs.WentOn.{spent_none, spent_save, spent_turns, spent_saves, own_saved, gated_still, says_then, of_step_later, of_step_as, covers_still, where_ended, fell_ended, fell_more, images_none, images_on, stage_save, stage_turns, left_of, come_of, sure_of, turns_on, saved_none}
+use Rattle.sweep_checkpoint.specs.Going.{IsOfGoing, interval_of, first_owed}
+use Rattle.sweep_checkpoint.proofs.AsBefore.{of_step_later, of_step_as}
+use Rattle.sweep_checkpoint.proofs.Spent.{spent_none, spent_save, spent_turns, spent_saves, refused_save, refused_turns, owed_late, owed_early}
+use Rattle.sweep_checkpoint.proofs.WentOn.{own_saved, gated_still, says_then, covers_still, where_ended, fell_ended, fell_more, images_none, images_on, stage_save, stage_turns, left_of, come_of, sure_of, turns_on, saved_none}
 use Rattle.sweep_checkpoint.proofs.running.run_saved.Goals as goal
 
 pub turns-init : goal.turns-init
@@ -23,6 +25,7 @@ turns-init g c =
     let next = g.P.Sweep.accounts.next c.args.sweep.now in
     record {
       ready = search rules;
+      works = c.requires.works;
       in_step = search rules;
       trusts = search rules;
       keeps = search rules;
@@ -34,7 +37,7 @@ turns-init g c =
       later = omega arith;
       few = λ told job remains. omega arith;
       covers = λ told covered. covered;
-      spent = λ few most. spent_none g.P.Sweep.accounts (interval_of c.args.going.now.budget) c.args.going.now.turns c.args.going.now.shown c.args.sweep.now;
+      spent = λ few most. spent_none g.P.Sweep.accounts (interval_of c.args.going.now.budget) c.args.going.now _ (g.S.Shelf.world c.args.shelf.now) c.args.sweep.now;
       says = λ told. inl (record { shown_is = refl; last_is = refl; gated_is = refl });
       changes = told_changed_none g.S.Shelf.tells g.S.Shelf.world (IsOfGoing made c.args.going.now.step) c.args.shelf.now;
       images = λ told job remains sure. images_none g.P.Sweep.saving laws.stays laws.apart made read c.args.going.now.step next c.args.going.now.budget c.args.going.now.sweep (g.P.Sweep.task c.args.sweep.now) job
@@ -73,10 +76,9 @@ returns-in_err-save_if_due-clause-images g c = λ told job remains sure.
     let told_at = c.in_err-save_if_due.ensures.changes.before (told) in
     let files_0 = g.met.S.Shelf.files_are c.args.shelf.now (inv.changes.before told_at) in
     let files_at = g.met.S.Shelf.files_are c.turns.shelf told_at in
-    let only = ran_end (g.S.Shelf.world c.args.shelf.now) (g.S.Shelf.world c.turns.shelf) (OnlyChanged (IsOfGoing made step) (now (g.S.Shelf.world c.args.shelf.now))) (inv.changes.did told_at) in
     let come = inv.come told_at job remains sure in
     let sure_at = sure_of saving (g.P.Sweep.task c.turns.sweep) task c.turns.going.step step c.turns.going.budget budget c.turns.going.sweep sweep inv.same inv.going.step_is inv.going.budget_is inv.going.sweep_is {turns = turns}
-    made next later job (now (g.S.Shelf.world c.args.shelf.now)) (now (g.S.Shelf.world c.turns.shelf)) files only come sure in
+    made next later job (now (g.S.Shelf.world c.args.shelf.now)) (now (g.S.Shelf.world c.turns.shelf)) files come sure in
     let left = left_of saving (g.P.Sweep.task c.turns.sweep) task c.turns.going.step step c.turns.going.budget budget c.turns.going.sweep sweep inv.same inv.going.step_is inv.going.budget_is inv.going.sweep_is
     (g.P.Sweep.accounts.makes c.turns.sweep) later job fewer (g.S.Shelf.world c.turns.shelf) (g.S.Shelf.world c.save_if_due.new.shelf) (now (g.S.Shelf.world c.turns.shelf)).folder
     (c.in_err-save_if_due.ensures.images (told) job (inv.keeps told_at job remains) sure_at) in
@@ -128,10 +130,9 @@ returns-in_err-made-clause-images g c = λ told job remains sure.
     let told_at = c.in_ok-save_if_due.ensures.changes.before (told_s) in
     let files_0 = g.met.S.Shelf.files_are c.args.shelf.now (inv.changes.before told_at) in
     let files_at = g.met.S.Shelf.files_are c.turns.shelf told_at in
-    let only = ran_end (g.S.Shelf.world c.args.shelf.now) (g.S.Shelf.world c.turns.shelf) (OnlyChanged (IsOfGoing made step) (now (g.S.Shelf.world c.args.shelf.now))) (inv.changes.did told_at) in
     let come = inv.come told_at job remains sure in
     let sure_at = sure_of saving (g.P.Sweep.task c.turns.sweep) task c.turns.going.step step c.turns.going.budget budget c.turns.going.sweep sweep inv.same inv.going.step_is inv.going.budget_is inv.going.sweep_is {turns = turns}
-    made next later job (now (g.S.Shelf.world c.args.shelf.now)) (now (g.S.Shelf.world c.turns.shelf)) files only come sure in
+    made next later job (now (g.S.Shelf.world c.args.shelf.now)) (now (g.S.Shelf.world c.turns.shelf)) files come sure in
     let left = left_of saving (g.P.Sweep.task c.turns.sweep) task c.turns.going.step step c.turns.going.budget budget c.turns.going.sweep sweep inv.same inv.going.step_is inv.going.budget_is inv.going.sweep_is
     (g.P.Sweep.accounts.makes c.turns.sweep) later job fewer (g.S.Shelf.world c.turns.shelf) (g.S.Shelf.world c.save_if_due.new.shelf) (now (g.S.Shelf.world c.turns.shelf)).folder
     (c.in_ok-save_if_due.ensures.images (told_s) job (inv.keeps told_at job remains) sure_at) in
@@ -216,10 +217,9 @@ returns-then-eq-clause-images g c = λ told job remains sure.
     let told_at = c.in_ok-save_if_due.ensures.changes.before (told_s) in
     let files_0 = g.met.S.Shelf.files_are c.args.shelf.now (inv.changes.before told_at) in
     let files_at = g.met.S.Shelf.files_are c.turns.shelf told_at in
-    let only = ran_end (g.S.Shelf.world c.args.shelf.now) (g.S.Shelf.world c.turns.shelf) (OnlyChanged (IsOfGoing made step) (now (g.S.Shelf.world c.args.shelf.now))) (inv.changes.did told_at) in
     let come = inv.come told_at job remains sure in
     let sure_at = sure_of saving (g.P.Sweep.task c.turns.sweep) task c.turns.going.step step c.turns.going.budget budget c.turns.going.sweep sweep inv.same inv.going.step_is inv.going.budget_is inv.going.sweep_is {turns = turns}
-    made next later job (now (g.S.Shelf.world c.args.shelf.now)) (now (g.S.Shelf.world c.turns.shelf)) files only come sure in
+    made next later job (now (g.S.Shelf.world c.args.shelf.now)) (now (g.S.Shelf.world c.turns.shelf)) files come sure in
     let left = left_of saving (g.P.Sweep.task c.turns.sweep) task c.turns.going.step step c.turns.going.budget budget c.turns.going.sweep sweep inv.same inv.going.step_is inv.going.budget_is inv.going.sweep_is
     (g.P.Sweep.accounts.makes c.turns.sweep) later job fewer (g.S.Shelf.world c.turns.shelf) (g.S.Shelf.world c.save_if_due.new.shelf) (now (g.S.Shelf.world c.turns.shelf)).folder
     (c.in_ok-save_if_due.ensures.images (told_s) job (inv.keeps told_at job remains) sure_at) in
@@ -259,10 +259,9 @@ returns-then-eq-clause-stands g c = λ told job remains sure.
     let told_at = c.in_ok-save_if_due.ensures.changes.before (told_s) in
     let files_0 = g.met.S.Shelf.files_are c.args.shelf.now (inv.changes.before told_at) in
     let files_at = g.met.S.Shelf.files_are c.turns.shelf told_at in
-    let only = ran_end (g.S.Shelf.world c.args.shelf.now) (g.S.Shelf.world c.turns.shelf) (OnlyChanged (IsOfGoing made step) (now (g.S.Shelf.world c.args.shelf.now))) (inv.changes.did told_at) in
     let come = inv.come told_at job remains sure in
     let sure_at = sure_of saving (g.P.Sweep.task c.turns.sweep) task c.turns.going.step step c.turns.going.budget budget c.turns.going.sweep sweep inv.same inv.going.step_is inv.going.budget_is inv.going.sweep_is {turns = turns}
-    made next later job (now (g.S.Shelf.world c.args.shelf.now)) (now (g.S.Shelf.world c.turns.shelf)) files only come sure in
+    made next later job (now (g.S.Shelf.world c.args.shelf.now)) (now (g.S.Shelf.world c.turns.shelf)) files come sure in
     let left = left_of saving (g.P.Sweep.task c.turns.sweep) task c.turns.going.step step c.turns.going.budget budget c.turns.going.sweep sweep inv.same inv.going.step_is inv.going.budget_is inv.going.sweep_is
     (g.P.Sweep.accounts.makes c.turns.sweep) later job fewer (g.S.Shelf.world c.turns.shelf) (g.S.Shelf.world c.save_if_due.new.shelf) (now (g.S.Shelf.world c.turns.shelf)).folder
     (c.in_ok-save_if_due.ensures.images (told_s) job (inv.keeps told_at job remains) sure_at) in
@@ -290,15 +289,49 @@ returns-then-eq-clause-counted g c = λ few most.
     let same = first.turns in
     let one = first.later in
     let two = ran.leaves.later in
+    let from = first_owed c.args.going.now.last (g.P.Sweep.accounts.next c.args.sweep.now) in
     let few_s : c.save_if_due.new.going.turns < 2 ^ 64 - 1 = omega (arith, few, counted) in
     let few_at : c.turns.going.turns < 2 ^ 64 - 1 = omega (arith, few_s, same) in
     let most_s : g.P.Sweep.accounts.next c.save_if_due.new.sweep ≤ 2 ^ 32 = omega (arith, most, two) in
     let most_at : g.P.Sweep.accounts.next c.turns.sweep ≤ 2 ^ 32 = omega (arith, most_s, one) in
-    let so_far = spent_save g.P.Sweep.accounts c.args.going.now.turns c.args.going.now c.turns.going c.save_if_due.new.going c.args.sweep.now c.turns.sweep c.save_if_due.new.sweep
-    same inv.going.budget_is inv.later one (inv.spent few_at most_at) (first.parts most_s) in
-    let all = spent_turns g.P.Sweep.accounts (interval_of c.args.going.now.budget) c.args.going.now.turns c.save_if_due.new.going.turns c.saturating_add-going.result c.save_if_due.new.going.shown c.in_ok-made.made.turns
-    c.args.sweep.now c.save_if_due.new.sweep c.run_some.new.sweep (omega (arith, few, counted)) (let zero_one = inv.later in omega (arith, zero_one, one)) two ran.counted.spent so_far in
-    spent_saves g.P.Sweep.accounts (interval_of c.args.going.now.budget) c.args.going.now.turns c.saturating_add-going.result c.save_if_due.new.going.shown c.args.sweep.now c.run_some.new.sweep all
+    let so_far = spent_save g.P.Sweep.accounts from c.args.going.now.turns c.args.going.now c.turns.going c.save_if_due.new.going _ _
+    (g.S.Shelf.world c.args.shelf.now) (g.S.Shelf.world c.turns.shelf) (g.S.Shelf.world c.save_if_due.new.shelf) c.args.sweep.now c.turns.sweep c.save_if_due.new.sweep
+    same inv.going.budget_is (owed_early c.args.going.now.last (g.P.Sweep.accounts.next c.args.sweep.now)) inv.later one first.changes.before (inv.spent few_at most_at) (first.parts most_s) first.calls in
+    let all = spent_turns g.P.Sweep.accounts (interval_of c.args.going.now.budget) from c.args.going.now.turns c.in_ok-made.made.turns c.save_if_due.new.going
+    (record c.save_if_due.new.going { turns = c.saturating_add-going.result }) _ _ (g.S.Shelf.world c.args.shelf.now) (g.S.Shelf.world c.save_if_due.new.shelf) (g.S.Shelf.world c.run_some.new.shelf)
+    c.args.sweep.now c.save_if_due.new.sweep c.run_some.new.sweep (omega (arith, few, counted)) refl refl (let zero_one = inv.later in omega (arith, zero_one, one)) two ran.counted.spent
+    ran.leaves.content.before ran.counted.calls so_far in
+    spent_saves g.P.Sweep.accounts (interval_of c.args.going.now.budget) from c.args.going.now.turns (record c.save_if_due.new.going { turns = c.saturating_add-going.result }) _
+    (g.S.Shelf.world c.args.shelf.now) (g.S.Shelf.world c.run_some.new.shelf) c.args.sweep.now c.run_some.new.sweep (owed_late c.args.going.now.last (g.P.Sweep.accounts.next c.args.sweep.now)) all
+
+pub returns-in_err-save_if_due-clause-refused : goal.returns-in_err-save_if_due-clause-refused
+returns-in_err-save_if_due-clause-refused g c =
+    let inv = c.turns.invariant in
+    let first = c.in_err-save_if_due.ensures in
+    refused_save _ g.P.Sweep.accounts (interval_of c.args.going.now.budget) (first_owed c.args.going.now.last (g.P.Sweep.accounts.next c.args.sweep.now)) c.args.going.now.turns
+    c.turns.going c.save_if_due.new.going _ _ (g.S.Shelf.world c.args.shelf.now) (g.S.Shelf.world c.turns.shelf) (g.S.Shelf.world c.save_if_due.new.shelf)
+    c.args.sweep.now c.turns.sweep c.save_if_due.new.sweep (owed_late c.args.going.now.last (g.P.Sweep.accounts.next c.args.sweep.now)) first.turns first.later first.changes.before inv.spent first.calls
+
+pub returns-in_err-made-clause-refused : goal.returns-in_err-made-clause-refused
+returns-in_err-made-clause-refused g c =
+    let inv = c.turns.invariant in
+    let first = c.in_ok-save_if_due.ensures in
+    let ran = c.in_err-made.ensures in
+    let same = first.turns in
+    let one = first.later in
+    let from = first_owed c.args.going.now.last (g.P.Sweep.accounts.next c.args.sweep.now) in
+    let budget : c.save_if_due.new.going.budget ≡ c.args.going.now.budget = first.going.budget_is ∙ inv.going.budget_is in
+    let interval = c.interval.ensures in
+    let left = c.saturating_sub.ensures in
+    let chosen = c.max-most.ensures in
+    let most_is : c.max-most.result ≤ interval_of c.args.going.now.budget = omega (arith, budget, interval, left, chosen) in
+    refused_turns _ g.P.Sweep.accounts (interval_of c.args.going.now.budget) from c.args.going.now.turns c.max-most.result (g.P.Sweep.fuel c.save_if_due.new.sweep + 1) c.save_if_due.new.going _ _
+    (g.S.Shelf.world c.args.shelf.now) (g.S.Shelf.world c.save_if_due.new.shelf) (g.S.Shelf.world c.run_some.new.shelf) c.args.sweep.now c.save_if_due.new.sweep c.run_some.new.sweep
+    (owed_late c.args.going.now.last (g.P.Sweep.accounts.next c.args.sweep.now)) most_is ran.leaves.later ran.leaves.content.before ran.leaves.calls
+    (λ few most. spent_save g.P.Sweep.accounts from c.args.going.now.turns c.args.going.now c.turns.going c.save_if_due.new.going _ _
+    (g.S.Shelf.world c.args.shelf.now) (g.S.Shelf.world c.turns.shelf) (g.S.Shelf.world c.save_if_due.new.shelf) c.args.sweep.now c.turns.sweep c.save_if_due.new.sweep
+    same inv.going.budget_is (owed_early c.args.going.now.last (g.P.Sweep.accounts.next c.args.sweep.now)) inv.later one first.changes.before
+    (inv.spent (omega (arith, few, same)) (omega (arith, most, one))) (first.parts most) first.calls)
 
 pub returns-then-eq-clause-shown : goal.returns-then-eq-clause-shown
 returns-then-eq-clause-shown g c = λ told.
@@ -341,6 +374,7 @@ turns-preserved g c =
     let ran = c.in_ok-made.ensures in
     record {
       ready = search rules;
+      works = search rules;
       in_step = search rules;
       trusts = λ told trusted.
           let told_s = ran.leaves.content.before told in
@@ -399,14 +433,18 @@ turns-preserved g c =
           let same = first.turns in
           let one = first.later in
           let two = ran.leaves.later in
+          let from = first_owed c.args.going.now.last (g.P.Sweep.accounts.next c.args.sweep.now) in
           let few_s : c.save_if_due.new.going.turns < 2 ^ 64 - 1 = omega (arith, few, counted) in
           let few_at : c.turns.going.turns < 2 ^ 64 - 1 = omega (arith, few_s, same) in
           let most_s : g.P.Sweep.accounts.next c.save_if_due.new.sweep ≤ 2 ^ 32 = omega (arith, most, two) in
           let most_at : g.P.Sweep.accounts.next c.turns.sweep ≤ 2 ^ 32 = omega (arith, most_s, one) in
-          let so_far = spent_save g.P.Sweep.accounts c.args.going.now.turns c.args.going.now c.turns.going c.save_if_due.new.going c.args.sweep.now c.turns.sweep c.save_if_due.new.sweep
-          same inv.going.budget_is inv.later one (inv.spent few_at most_at) (first.parts most_s) in
-          let all = spent_turns g.P.Sweep.accounts (interval_of c.args.going.now.budget) c.args.going.now.turns c.save_if_due.new.going.turns c.saturating_add-going.result c.save_if_due.new.going.shown c.in_ok-made.made.turns
-          c.args.sweep.now c.save_if_due.new.sweep c.run_some.new.sweep (omega (arith, few, counted)) (let zero_one = inv.later in omega (arith, zero_one, one)) two ran.counted.spent so_far in
+          let so_far = spent_save g.P.Sweep.accounts from c.args.going.now.turns c.args.going.now c.turns.going c.save_if_due.new.going _ _
+          (g.S.Shelf.world c.args.shelf.now) (g.S.Shelf.world c.turns.shelf) (g.S.Shelf.world c.save_if_due.new.shelf) c.args.sweep.now c.turns.sweep c.save_if_due.new.sweep
+          same inv.going.budget_is (owed_early c.args.going.now.last (g.P.Sweep.accounts.next c.args.sweep.now)) inv.later one first.changes.before (inv.spent few_at most_at) (first.parts most_s) first.calls in
+          let all = spent_turns g.P.Sweep.accounts (interval_of c.args.going.now.budget) from c.args.going.now.turns c.in_ok-made.made.turns c.save_if_due.new.going
+          (record c.save_if_due.new.going { turns = c.saturating_add-going.result }) _ _ (g.S.Shelf.world c.args.shelf.now) (g.S.Shelf.world c.save_if_due.new.shelf) (g.S.Shelf.world c.run_some.new.shelf)
+          c.args.sweep.now c.save_if_due.new.sweep c.run_some.new.sweep (omega (arith, few, counted)) refl refl (let zero_one = inv.later in omega (arith, zero_one, one)) two ran.counted.spent
+          ran.leaves.content.before ran.counted.calls so_far in
           all;
       says = λ told.
           let inv = c.turns.invariant in
@@ -475,10 +513,9 @@ turns-preserved g c =
           let told_at = c.in_ok-save_if_due.ensures.changes.before (told_s) in
           let files_0 = g.met.S.Shelf.files_are c.args.shelf.now (inv.changes.before told_at) in
           let files_at = g.met.S.Shelf.files_are c.turns.shelf told_at in
-          let only = ran_end (g.S.Shelf.world c.args.shelf.now) (g.S.Shelf.world c.turns.shelf) (OnlyChanged (IsOfGoing made step) (now (g.S.Shelf.world c.args.shelf.now))) (inv.changes.did told_at) in
           let come = inv.come told_at job remains sure in
           let sure_at = sure_of saving (g.P.Sweep.task c.turns.sweep) task c.turns.going.step step c.turns.going.budget budget c.turns.going.sweep sweep inv.same inv.going.step_is inv.going.budget_is inv.going.sweep_is {turns = turns}
-          made next later job (now (g.S.Shelf.world c.args.shelf.now)) (now (g.S.Shelf.world c.turns.shelf)) files only come sure in
+          made next later job (now (g.S.Shelf.world c.args.shelf.now)) (now (g.S.Shelf.world c.turns.shelf)) files come sure in
           let left = left_of saving (g.P.Sweep.task c.turns.sweep) task c.turns.going.step step c.turns.going.budget budget c.turns.going.sweep sweep inv.same inv.going.step_is inv.going.budget_is inv.going.sweep_is
           (g.P.Sweep.accounts.makes c.turns.sweep) later job fewer (g.S.Shelf.world c.turns.shelf) (g.S.Shelf.world c.save_if_due.new.shelf) (now (g.S.Shelf.world c.turns.shelf)).folder
           (c.in_ok-save_if_due.ensures.images (told_s) job (inv.keeps told_at job remains) sure_at) in
@@ -516,10 +553,9 @@ turns-preserved g c =
           let told_at = c.in_ok-save_if_due.ensures.changes.before (told_s) in
           let files_0 = g.met.S.Shelf.files_are c.args.shelf.now (inv.changes.before told_at) in
           let files_at = g.met.S.Shelf.files_are c.turns.shelf told_at in
-          let only = ran_end (g.S.Shelf.world c.args.shelf.now) (g.S.Shelf.world c.turns.shelf) (OnlyChanged (IsOfGoing made step) (now (g.S.Shelf.world c.args.shelf.now))) (inv.changes.did told_at) in
           let come = inv.come told_at job remains sure in
           let sure_at = sure_of saving (g.P.Sweep.task c.turns.sweep) task c.turns.going.step step c.turns.going.budget budget c.turns.going.sweep sweep inv.same inv.going.step_is inv.going.budget_is inv.going.sweep_is {turns = turns}
-          made next later job (now (g.S.Shelf.world c.args.shelf.now)) (now (g.S.Shelf.world c.turns.shelf)) files only come sure in
+          made next later job (now (g.S.Shelf.world c.args.shelf.now)) (now (g.S.Shelf.world c.turns.shelf)) files come sure in
           let left = left_of saving (g.P.Sweep.task c.turns.sweep) task c.turns.going.step step c.turns.going.budget budget c.turns.going.sweep sweep inv.same inv.going.step_is inv.going.budget_is inv.going.sweep_is
           (g.P.Sweep.accounts.makes c.turns.sweep) later job fewer (g.S.Shelf.world c.turns.shelf) (g.S.Shelf.world c.save_if_due.new.shelf) (now (g.S.Shelf.world c.turns.shelf)).folder
           (c.in_ok-save_if_due.ensures.images (told_s) job (inv.keeps told_at job remains) sure_at) in

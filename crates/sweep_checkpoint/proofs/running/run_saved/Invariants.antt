@@ -7,15 +7,17 @@ use Rattle.shelf_model.specs.World.{now, file}
 use Rattle.file_numbers.specs.Files.{checkpoint_file}
 use Rattle.run_tiers.specs.Faults.{OnlySortShelf}
 use Rattle.sweep_checkpoint.specs.Saves.{gated_size}
-use Rattle.sweep_checkpoint.specs.Going.{IsOfGoing, AreSure, SameGoing, interval_of}
+use Rattle.sweep_checkpoint.specs.Going.{IsOfGoing, AreSure, SameGoing, interval_of, first_owed}
 use Rattle.sweep_checkpoint.proofs.SavedHere.{AreLeft}
-use Rattle.sweep_checkpoint.proofs.WentOn.{HasCome, SaysLast, SpentOn}
+use Rattle.sweep_checkpoint.proofs.Spent.{SpentOn}
+use Rattle.sweep_checkpoint.proofs.WentOn.{HasCome, SaysLast}
 use Rattle.sweep_checkpoint.proofs.running.run_saved.Given as goal
 
 -- what the turns and saves so far left
 abbrev pub invariant-turns : goal.invariant-turns
 invariant-turns g l = record {
   ready : g.P.Sweep.ready l.sweep;
+  works : 0 < g.P.Sweep.fuel l.sweep;
   in_step : IsTrue (g.S.Shelf.tells l.shelf) → g.P.Sweep.in_step l.sweep (g.S.Shelf.world l.shelf);
   trusts : IsTrue (g.S.Shelf.tells l.shelf) → g.P.Sweep.trusts l.fn.sweep (g.S.Shelf.world l.fn.shelf)
       → g.P.Sweep.trusts l.sweep (g.S.Shelf.world l.shelf);
@@ -36,7 +38,8 @@ invariant-turns g l = record {
       → gated_size l.fn.going.step (now (g.S.Shelf.world l.shelf)).folder
       ≤ length (file (g.S.Shelf.world l.shelf) (checkpoint_file l.fn.going.step)).bytes;
   spent : l.going.turns < 2 ^ 64 - 1 → g.P.Sweep.accounts.next l.sweep ≤ 2 ^ 32
-      → SpentOn g.P.Sweep.accounts (interval_of l.fn.going.budget) l.fn.going.turns l.going.turns l.going.shown l.fn.sweep l.sweep;
+      → SpentOn g.P.Sweep.accounts (interval_of l.fn.going.budget) (first_owed l.fn.going.last (g.P.Sweep.accounts.next l.fn.sweep))
+      l.fn.going.turns l.going (IsTrue (g.S.Shelf.tells l.shelf)) (g.S.Shelf.world l.fn.shelf) (g.S.Shelf.world l.shelf) l.fn.sweep l.sweep;
   says : IsTrue (g.S.Shelf.tells l.shelf) → SaysLast l.fn.going l.going (now (g.S.Shelf.world l.fn.shelf)).folder (now (g.S.Shelf.world l.shelf)).folder;
   changes : Told g.S.Shelf.tells l.fn.shelf l.shelf (Ran (OnlyChanged (IsOfGoing (g.P.Sweep.accounts.makes l.fn.sweep) l.fn.going.step)
       (now (g.S.Shelf.world l.fn.shelf))) (g.S.Shelf.world l.fn.shelf) (g.S.Shelf.world l.shelf));
