@@ -1,6 +1,7 @@
 -- What is held at the beginning of a reduction.
 use Rattle.std.proofs.Common.{◌≡◌, ◌≢◌, ℕ, ◌<◌, ◌-◌, ◌*◌, refl, ap, sym, subst, ◌∙◌, inl, inr, List}
-use Rattle.std.specs.Prelude.{[], Bool, Option, Ok, None, Result, Err, IfErr}
+use Rattle.std.specs.Prelude.{[], Bool, Option, Ok, None, Result, Err, IfErr, length, take}
+use Rattle.canon_file.specs.Canon.{node_bytes}
 use Rattle.arc_file.specs.declared.arc.Arc.{Arc}
 use Rattle.arc_file.specs.declared.kind.Kind.{Kind}
 use Rattle.arc_file.specs.declared.kind.Kind.TheVariants.{Inner, End}
@@ -36,29 +37,29 @@ use Rattle.reduce_lists.specs.AtWork.{AreInStep, IsAtWork}
 use Rattle.reduce_lists.proofs.Holding.{writer_kept}
 use Rattle.reduce_lists.proofs.NextArcs.{unread_on}
 
--- another file is as it was before the file of the nodes was emptied
-pub emptied : (out f : FileNo) (first second : World) → f ≢ out → Cut 1 out 0 first second
-    → file second f ≡ file first f
-emptied out f first second other cut = (ran_end first second (DuringCut out 0 (now first)) cut.run).others f other
+-- another file is as it was before the file of the nodes was cut
+pub emptied : (out f : FileNo) (to : ℕ) (first second : World) → f ≢ out
+    → Ran (DuringCut out to (now first)) first second → file second f ≡ file first f
+emptied out f to first second other cut = (ran_end first second (DuringCut out to (now first)) cut).others f other
 
--- a file is as it was before the file of the nodes was emptied and the first arcs were read
-pub as_before : (out f : FileNo) (first second third fourth : World) → f ≢ out → Cut 1 out 0 first second
-    → Looked 1 second third → Looked 1 third fourth
+-- a file is as it was before the file of the nodes was cut and the first arcs were read
+pub as_before : (out f : FileNo) (to : ℕ) (first second third fourth : World) → f ≢ out
+    → Ran (DuringCut out to (now first)) first second → Looked 1 second third → Looked 1 third fourth
     → (file second f ≡ file first f) × ((file third f ≡ file second f) × (file fourth f ≡ file third f))
-as_before out f first second third fourth other cut looked again =
+as_before out f to first second third fourth other cut looked again =
     let one : (now third).folder ≡ (now second).folder = ran_end second third (Stays (now second)) looked.run in
     let two : (now fourth).folder ≡ (now third).folder = ran_end third fourth (Stays (now third)) again.run in (
-      emptied out f first second other cut,
+      emptied out f to first second other cut,
       (ap (λ (d : Folder). file_in d f) one, ap (λ (d : Folder). file_in d f) two),
     )
 
--- the writer holds nothing yet
-nothing_written : (w : NodeWriter) (second third fourth : World) → Looked 1 second third → Looked 1 third fourth
-    → writers.Holds w second [] → writers.Holds w fourth []
-nothing_written w second third fourth looked again holds =
+-- the writer holds what it held
+written_still : (w : NodeWriter) (bytes : List ℕ) (second third fourth : World) → Looked 1 second third
+    → Looked 1 third fourth → writers.Holds w second bytes → writers.Holds w fourth bytes
+written_still w bytes second third fourth looked again holds =
     let one : (now third).folder ≡ (now second).folder = ran_end second third (Stays (now second)) looked.run in
     let two : (now fourth).folder ≡ (now third).folder = ran_end third fourth (Stays (now third)) again.run in
-    writer_kept w second fourth [] (ap (λ (d : Folder). (file_in d (writers.filling_of w).file).bytes) (two ∙ one))
+    writer_kept w second fourth bytes (ap (λ (d : Folder). (file_in d (writers.filling_of w).file).bytes) (two ∙ one))
     holds
 
 -- one arc was read of a file
@@ -104,25 +105,24 @@ unread_begun kind f first read last s t u next xs count begun one same before af
     subst (λ v. v) (λ j. IsUnread kind next (sym same j) ((here ∙ sym there) j).bytes xs)
     (unread_on kind s t (file read (file_of s)).bytes xs next one.up left)
 
--- the lists are empty, and nothing is loaded yet
-pub record AreEmpty (a : Ahead) (l : Lists) (world : World) : Type 0 where
-  pub queue_is : QueueLists a.queue world []
-  pub last_is : queues.last_of a.queue ≡ None
-  pub rows_is : RowLists l.rows world []
-  pub names_is : NameLists l.names world []
-  pub in_step : AreInStep a l world
+-- the lists are these
+pub record AreHeld (a : Ahead) (l : Lists) (world : World) (k : Contents) : Type 0 where
+  pub queue_is : QueueLists a.queue world k.queue
+  pub last_is : queues.last_of a.queue ≡ k.last
+  pub rows_is : RowLists l.rows world k.rows
+  pub names_is : NameLists l.names world k.names
 
 -- what a sweep holds at first: all arcs, of which none is handled
 abbrev pub at_first : List Arc → List Arc → Contents
 at_first inner ends = record { queue = []; last = None; inner = inner; ends = ends; rows = []; names = []; nodes = [] }
 
--- what was done at the beginning of a reduction: the file of the nodes was emptied, and an arc of each other file was
--- read
-pub record HasBegun (a : Ahead) (w : NodeWriter) (made : Unreduced) (out : FileNo) (opened read : ArcReader)
-    (first second third last : World) : Type 0 where
+-- what was done at the beginning of a reduction: the file of the nodes was cut to these bytes, and an arc of each other
+-- file was read
+pub record HasBegun (a : Ahead) (w : NodeWriter) (made : Unreduced) (out : FileNo) (to : ℕ) (bytes : List ℕ)
+    (opened read : ArcReader) (first second third last : World) : Type 0 where
   pub apart_inner : out ≢ made.inner
   pub apart_ends : out ≢ made.ends
-  pub cut : Cut 1 out 0 first second
+  pub cut : Ran (DuringCut out to (now first)) first second
   pub looked : Looked 1 second third
   pub again : Looked 1 third last
   pub no_inner : ReadsNothing Inner (inner_of opened) made.inner made.inner_count
@@ -131,53 +131,56 @@ pub record HasBegun (a : Ahead) (w : NodeWriter) (made : Unreduced) (out : FileN
   pub inner_kept : inner_of a.reader ≡ inner_of read
   pub one_inner : ReadsOne Inner second (inner_of opened) (inner_of read) a.inner
   pub one_end : ReadsOne End third (ends_of read) (ends_of a.reader) a.end
-  pub written : writers.Holds w second []
+  pub written : writers.Holds w second bytes
 
-module _ (a : Ahead) (w : NodeWriter) (made : Unreduced) (out : FileNo) (opened read : ArcReader)
-    (first second third last : World) (begun : HasBegun a w made out opened read first second third last) where
+module _ (a : Ahead) (w : NodeWriter) (made : Unreduced) (out : FileNo) (to : ℕ) (bytes : List ℕ)
+    (opened read : ArcReader) (first second third last : World)
+    (begun : HasBegun a w made out to bytes opened read first second third last) where
   inner_stays : (file second made.inner ≡ file first made.inner)
       × ((file third made.inner ≡ file second made.inner) × (file last made.inner ≡ file third made.inner))
-  inner_stays = as_before out made.inner first second third last (λ e. begun.apart_inner (sym e)) begun.cut begun.looked
+  inner_stays = as_before out made.inner to first second third last (λ e. begun.apart_inner (sym e)) begun.cut begun.looked
       begun.again
 
   ends_stays : (file second made.ends ≡ file first made.ends)
       × ((file third made.ends ≡ file second made.ends) × (file last made.ends ≡ file third made.ends))
-  ends_stays = as_before out made.ends first second third last (λ e. begun.apart_ends (sym e)) begun.cut begun.looked
+  ends_stays = as_before out made.ends to first second third last (λ e. begun.apart_ends (sym e)) begun.cut begun.looked
       begun.again
 
   no_end_yet : ReadsNothing End (ends_of read) made.ends made.ends_count
   no_end_yet = subst (λ r. ReadsNothing End r made.ends made.ends_count) (sym begun.ends_kept) begun.no_end
 
   -- so what it knows of its files is as they say
-  pub work_begins : (l : Lists) → AreEmpty a l last → IsAtWork a l w last
-  work_begins l empty = record {
-    writes = (nothing_written w second third last begun.looked begun.again begun.written).in_step;
-    reads_inner = reads_begun Inner made.inner first second last (inner_of opened) (inner_of read) (inner_of a.reader)
+  pub work_begins : (l : Lists) → AreInStep a l last → IsAtWork a l w last
+  work_begins l in_step = record {
+    writes = (written_still w bytes second third last begun.looked begun.again begun.written).in_step;
+    reads_inner = λ some. reads_begun Inner made.inner first second last (inner_of opened) (inner_of read) (inner_of a.reader)
         a.inner made.inner_count begun.no_inner begun.one_inner begun.inner_kept
         inner_stays.0 (inner_stays.1.1 ∙ inner_stays.1.0 ∙ inner_stays.0);
-    reads_ends = reads_begun End made.ends first third last (ends_of read) (ends_of a.reader) (ends_of a.reader) a.end
+    reads_ends = λ some. reads_begun End made.ends first third last (ends_of read) (ends_of a.reader) (ends_of a.reader) a.end
         made.ends_count no_end_yet begun.one_end refl
         (ends_stays.1.0 ∙ ends_stays.0) (ends_stays.1.1 ∙ ends_stays.1.0 ∙ ends_stays.0);
-    lists = empty.in_step;
+    lists = in_step;
   }
 
-  -- and it holds all arcs of whole files
-  pub held_at_first : (l : Lists) (inner ends : List Arc) → AreEmpty a l last → count_of (writers.filling_of w) ≡ 0
-      → HasArcs Inner inner made.inner_count (file first made.inner).bytes
-      → HasArcs End ends made.ends_count (file first made.ends).bytes → Holds a l w last (at_first inner ends)
-  held_at_first l inner ends empty none has_inner has_ends = record {
-    queue_is = empty.queue_is;
-    last_is = empty.last_is;
+  -- and it holds all arcs of whole files, with the lists and the nodes that there are
+  pub held_at_first : (l : Lists) (k : Contents) → AreHeld a l last k → bytes ≡ node_bytes k.nodes
+      → length k.nodes ≡ count_of (writers.filling_of w)
+      → HasArcs Inner k.inner made.inner_count (file first made.inner).bytes
+      → HasArcs End k.ends made.ends_count (file first made.ends).bytes → Holds a l w last k
+  held_at_first l k held nodes many has_inner has_ends = record {
+    queue_is = held.queue_is;
+    last_is = held.last_is;
     inner_is = unread_begun Inner made.inner first second last (inner_of opened) (inner_of read) (inner_of a.reader)
-        a.inner inner made.inner_count begun.no_inner begun.one_inner begun.inner_kept
+        a.inner k.inner made.inner_count begun.no_inner begun.one_inner begun.inner_kept
         inner_stays.0 (inner_stays.1.1 ∙ inner_stays.1.0 ∙ inner_stays.0) has_inner;
     ends_is = unread_begun End made.ends first third last (ends_of read) (ends_of a.reader) (ends_of a.reader) a.end
-        ends made.ends_count no_end_yet begun.one_end refl
+        k.ends made.ends_count no_end_yet begun.one_end refl
         (ends_stays.1.0 ∙ ends_stays.0) (ends_stays.1.1 ∙ ends_stays.1.0 ∙ ends_stays.0) has_ends;
-    rows_is = empty.rows_is;
-    names_is = empty.names_is;
-    nodes_is = nothing_written w second third last begun.looked begun.again begun.written;
-    nodes_many = sym none;
+    rows_is = held.rows_is;
+    names_is = held.names_is;
+    nodes_is = subst (writers.Holds w last) nodes
+        (written_still w bytes second third last begun.looked begun.again begun.written);
+    nodes_many = many;
   }
 
 -- what is damaged in a file of which nothing was read is its last arc
@@ -221,21 +224,22 @@ ends_damaged told made first read s t r (Damaged f at) is begun left given befor
     (λ tells. inr (damaged_last End made.ends made.ends_count first read s t f at begun left given (before tells) up
     (answer tells)))
 
-module _ {S : Type 0} (tells : S → Bool) (world : S → World) (out : FileNo) where
-  -- the file of the nodes was emptied
-  pub was_cut : (s t : S) → Told tells s t (Cut 1 out 0 (world s) (world t))
-      → Told tells s t (Ran (DuringCut out 0 (now (world s))) (world s) (world t))
-  was_cut s t did = told tells s t _ _ did (λ _ cut. cut.run)
+module _ {S : Type 0} (tells : S → Bool) (world : S → World) (out : FileNo) (to : ℕ) where
+  -- the file of the nodes was cut
+  pub was_cut : (n : ℕ) (s t : S) → Told tells s t (Cut n out to (world s) (world t))
+      → Told tells s t (Ran (DuringCut out to (now (world s))) (world s) (world t))
+  was_cut n s t did = told tells s t _ _ did (λ _ cut. cut.run)
 
   -- and another file was looked at
-  pub then_looked : (s t u : S) → Told tells s t (Ran (DuringCut out 0 (now (world s))) (world s) (world t))
+  pub then_looked : (s t u : S) → Told tells s t (Ran (DuringCut out to (now (world s))) (world s) (world t))
       → Told tells t u (Looked 1 (world t) (world u))
-      → Told tells s u (Ran (DuringCut out 0 (now (world s))) (world s) (world u))
+      → Told tells s u (Ran (DuringCut out to (now (world s))) (world s) (world u))
   then_looked s t u first second = told_then tells s t u _ _ _ first second (λ _ a b.
-      let cut = ran_end (world s) (world t) (DuringCut out 0 (now (world s))) a in
-      ran_joins (world s) (world t) (world u) (DuringCut out 0 (now (world s))) a
-      (ran_weakens (world t) (world u) (Stays (now (world t))) (DuringCut out 0 (now (world s))) (λ m same. record {
+      let cut = ran_end (world s) (world t) (DuringCut out to (now (world s))) a in
+      ran_joins (world s) (world t) (world u) (DuringCut out to (now (world s))) a
+      (ran_weakens (world t) (world u) (Stays (now (world t))) (DuringCut out to (now (world s))) (λ m same. record {
         others = λ q other. ap (λ (d : Folder). file_in d q) same ∙ cut.others q other;
+        reads = λ n short. ap (λ (d : Folder). take n (file_in d out).bytes) same ∙ cut.reads n short;
         kept = λ front short kept. subst (λ (d : Folder). IsKept front (file_in d out)) (sym same)
             (cut.kept front short kept);
       }) b.run))

@@ -54,7 +54,8 @@ made parts f was free =
     let from : parts.next ≤ f.part = free.from in
     omega (arith, below, from)
 
-run_made : (a : Ahead) (l : Lists) (w : NodeWriter) (parts : Parts) (f : FileNo) → AreServed a l w parts → IsRun a l f
+-- nor can the file of a run
+pub run_made : (a : Ahead) (l : Lists) (w : NodeWriter) (parts : Parts) (f : FileNo) → AreServed a l w parts → IsRun a l f
     → ¬ CanBeTaken parts.step parts.next f
 run_made a l w parts f served run = elim run [
   | inl q ↦ made parts f (queue_taken a.queue parts f served.queue_served q)

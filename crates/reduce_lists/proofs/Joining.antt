@@ -322,8 +322,10 @@ work_put a l w v parts n old new served wrote step work =
     let still = undisturbed_wrote a l w parts n old new served wrote in
     record {
       writes = step;
-      reads_inner = subst (λ bytes. streams.Reads Inner (inner_of a.reader) bytes) (sym still.inner) work.reads_inner;
-      reads_ends = subst (λ bytes. streams.Reads End (ends_of a.reader) bytes) (sym still.ends) work.reads_ends;
+      reads_inner = λ some. subst (λ bytes. streams.Reads Inner (inner_of a.reader) bytes) (sym still.inner)
+          (work.reads_inner some);
+      reads_ends = λ some. subst (λ bytes. streams.Reads End (ends_of a.reader) bytes) (sym still.ends)
+          (work.reads_ends some);
       lists = in_step_still a l old new still work.lists;
     }
 

@@ -7,3 +7,4 @@ pub mod NextArcs
 pub mod Joining
 pub mod Undamaged
 pub mod Beginning
+pub mod Freezing

@@ -10,17 +10,15 @@ use Rattle.shelf_model.specs.Calls.{Told}
 use Rattle.shelf_model.specs.World.{World, now, file}
 use Rattle.shelf_model.specs.Moments.{Ran, Stays}
 use Rattle.shelf_model.proofs.Runs.{told, ran_end, ran_weakens}
-use Rattle.run_files.specs.Heads.{head_at}
-use Rattle.run_files.proofs.MergeLaws.{step_along}
 use Rattle.run_tiers.specs.declared.parts.Parts.{Parts}
 use Rattle.run_tiers.specs.Parts.{Took, IsTaken, OnlyTaken, Spilled}
 use Rattle.run_merge.specs.Lists.{Joins, Shows, Gives}
 use Rattle.run_merge.specs.declared.sorter.Sorter.{Sorter}
 use Rattle.run_merge.specs.Sorters as sorters
-use Rattle.run_merge.proofs.SorterLaws.{list_kept, serves_on}
+use Rattle.run_merge.proofs.SorterLaws.{in_step_kept, list_kept, serves_on}
 use Rattle.level_queue.specs.declared.queue.LevelQueue.{LevelQueue}
 use Rattle.level_queue.specs.Queues as queues
-use Rattle.level_queue.proofs.QueueLaws.{queue_kept, queue_serves_on}
+use Rattle.level_queue.proofs.QueueLaws.{queue_in_step_kept, queue_kept, queue_serves_on}
 use Rattle.node_file.specs.declared.writer.NodeWriter.{NodeWriter}
 use Rattle.node_file.specs.Writers as writers
 use Rattle.arc_file.specs.declared.arc.Arc.{Arc}
@@ -40,26 +38,13 @@ use Rattle.reduce_lists.specs.AtWork.{AreListed, AreInStep, IsAtWork}
 use Rattle.reduce_lists.specs.Contents.{QueueLists, RowLists, NameLists}
 use Rattle.reduce_lists.proofs.Holding.{BytesStay, Undisturbed, Untaken, untaken_stays, untaken_spilled, undisturbed_untaken}
 
--- the windows of a sorter hold what the files of its runs do while the bytes of these stay
-sorter_step : {T : Type 0} (s : Sorter T) (old new : World)
-    → ((f : FileNo) → sorters.IsRunOf s f → BytesStay old new f) → sorters.IsInStep s old → sorters.IsInStep s new
-unfolding sorters.IsRunOf sorters.IsInStep
-sorter_step s old new same step = step_along s.tiers.width s.tiers.heads s.windows.now old new
-    (λ i within used. same (head_at s.tiers.heads i).file (i, within, used, refl)) step
-
--- and so do those of the queue
-queue_step : {T : Type 0} (q : LevelQueue T) (old new : World)
-    → ((f : FileNo) → queues.IsRunOf q f → BytesStay old new f) → queues.IsInStep q old → queues.IsInStep q new
-unfolding queues.IsRunOf queues.IsInStep
-queue_step q old new same step = sorter_step q.sorter old new same step
-
--- so the windows of all lists do where nothing disturbs them
+-- the windows of all lists hold what the files of their runs do where nothing disturbs them
 pub in_step_still : (a : Ahead) (l : Lists) (old new : World) → Undisturbed a l old new → AreInStep a l old
     → AreInStep a l new
 in_step_still a l old new still lists = record {
-  queue_in_step = queue_step a.queue old new (λ f run. still.runs f (inl run)) lists.queue_in_step;
-  rows_in_step = sorter_step l.rows old new (λ f run. still.runs f (inr (inl run))) lists.rows_in_step;
-  names_in_step = sorter_step l.names old new (λ f run. still.runs f (inr (inr run))) lists.names_in_step;
+  queue_in_step = queue_in_step_kept a.queue old new (λ f run. still.runs f (inl run)) lists.queue_in_step;
+  rows_in_step = in_step_kept l.rows old new (λ f run. still.runs f (inr (inl run))) lists.rows_in_step;
+  names_in_step = in_step_kept l.names old new (λ f run. still.runs f (inr (inr run))) lists.names_in_step;
 }
 
 -- and the lists exist still
@@ -91,8 +76,10 @@ work_untaken a l w parts old new served same work =
     let out : BytesStay old new (writers.filling_of w).file = ap (λ (x : File). x.bytes) (same _ served.out_made) in
     record {
       writes = ap length out ∙ work.writes;
-      reads_inner = subst (λ bytes. streams.Reads Inner (inner_of a.reader) bytes) (sym still.inner) work.reads_inner;
-      reads_ends = subst (λ bytes. streams.Reads End (ends_of a.reader) bytes) (sym still.ends) work.reads_ends;
+      reads_inner = λ some. subst (λ bytes. streams.Reads Inner (inner_of a.reader) bytes) (sym still.inner)
+          (work.reads_inner some);
+      reads_ends = λ some. subst (λ bytes. streams.Reads End (ends_of a.reader) bytes) (sym still.ends)
+          (work.reads_ends some);
       lists = in_step_still a l old new still work.lists;
     }
 
@@ -107,7 +94,7 @@ listed_stays a l w parts old new served ran =
     listed_still a l old new (undisturbed_untaken a l w parts old new served (untaken_stays parts old new ran))
 
 -- one of the lists is another
-with_queue : (a : Ahead) (l : Lists) (w : NodeWriter) (world : World) (q : LevelQueue FinalArc)
+pub with_queue : (a : Ahead) (l : Lists) (w : NodeWriter) (world : World) (q : LevelQueue FinalArc)
     → queues.IsInStep q world → IsAtWork a l w world → IsAtWork (record a { queue = q }) l w world
 with_queue a l w world q step work = record {
   writes = work.writes;
@@ -120,7 +107,7 @@ with_queue a l w world q step work = record {
   };
 }
 
-with_rows : (a : Ahead) (l : Lists) (w : NodeWriter) (world : World) (rows : Sorter SourceRow)
+pub with_rows : (a : Ahead) (l : Lists) (w : NodeWriter) (world : World) (rows : Sorter SourceRow)
     → sorters.IsInStep rows world → IsAtWork a l w world → IsAtWork a (record l { rows = rows }) w world
 with_rows a l w world rows step work = record {
   writes = work.writes;
@@ -133,7 +120,7 @@ with_rows a l w world rows step work = record {
   };
 }
 
-with_names : (a : Ahead) (l : Lists) (w : NodeWriter) (world : World) (names : Sorter Name)
+pub with_names : (a : Ahead) (l : Lists) (w : NodeWriter) (world : World) (names : Sorter Name)
     → sorters.IsInStep names world → IsAtWork a l w world → IsAtWork a (record l { names = names }) w world
 with_names a l w world names step work = record {
   writes = work.writes;
@@ -163,9 +150,10 @@ work_read_inner a l w parts old new r next served ran ends place reads was =
     let work = work_stays a l w parts old new served ran was in
     record {
       writes = work.writes;
-      reads_inner = subst (λ b. streams.Reads Inner (inner_of r) b)
+      reads_inner = λ some. subst (λ b. streams.Reads Inner (inner_of r) b)
           (bytes_stay old new (streams.file_of (inner_of a.reader)) (streams.file_of (inner_of r)) place ran) reads;
-      reads_ends = subst (λ s. streams.Reads End s (file new (streams.file_of s)).bytes) (sym ends) work.reads_ends;
+      reads_ends = λ some. subst (λ s. streams.Reads End s (file new (streams.file_of s)).bytes) (sym ends)
+          (work.reads_ends some);
       lists = record {
         queue_in_step = work.lists.queue_in_step;
         rows_in_step = work.lists.rows_in_step;
@@ -182,9 +170,9 @@ work_read_end a l w parts old new r next served ran inner place reads was =
     let work = work_stays a l w parts old new served ran was in
     record {
       writes = work.writes;
-      reads_inner = subst (λ s. streams.Reads Inner s (file new (streams.file_of s)).bytes) (sym inner)
-          work.reads_inner;
-      reads_ends = subst (λ b. streams.Reads End (ends_of r) b)
+      reads_inner = λ some. subst (λ s. streams.Reads Inner s (file new (streams.file_of s)).bytes) (sym inner)
+          (work.reads_inner some);
+      reads_ends = λ some. subst (λ b. streams.Reads End (ends_of r) b)
           (bytes_stay old new (streams.file_of (ends_of a.reader)) (streams.file_of (ends_of r)) place ran) reads;
       lists = record {
         queue_in_step = work.lists.queue_in_step;
@@ -248,7 +236,7 @@ made_on before after f took not can = not (record {
 })
 
 -- a part that was taken could be taken
-could_be : (before after : Parts) (f : FileNo) → IsTaken before after f → CanBeTaken before.step before.next f
+pub could_be : (before after : Parts) (f : FileNo) → IsTaken before after f → CanBeTaken before.step before.next f
 could_be before after f taken = record { step_is = taken.step_is; from = taken.from }
 
 -- parts that were taken are no files that it makes

@@ -1,5 +1,5 @@
 -- What a reduction knows of its files, and that its lists exist.
-use Rattle.std.specs.Prelude.{List}
+use Rattle.std.specs.Prelude.{List, IsSome}
 use Rattle.shelf_model.specs.World.{World, file}
 use Rattle.block_stream.specs.Writes.{InStep}
 use Rattle.node_file.specs.declared.writer.NodeWriter.{NodeWriter}
@@ -28,10 +28,10 @@ pub record AreInStep (a : Ahead) (l : Lists) (world : World) : Type 0 where
   pub rows_in_step : sorters.IsInStep l.rows world
   pub names_in_step : sorters.IsInStep l.names world
 
--- its writer is in step with the file of the nodes, what it has read is as the bytes of the arc files say, and the
--- windows of its lists hold what the files of their runs do, whatever else stands there
+-- its writer is in step with the file of the nodes, what it has read of an arc file is as its bytes say while an arc is
+-- at hand, and the windows of its lists hold what the files of their runs do, whatever else stands there
 pub record IsAtWork (a : Ahead) (l : Lists) (w : NodeWriter) (world : World) : Type 0 where
   pub writes : InStep (nodes.filling_of w) world
-  pub reads_inner : Reads Inner (inner_of a.reader) (file world (file_of (inner_of a.reader))).bytes
-  pub reads_ends : Reads End (ends_of a.reader) (file world (file_of (ends_of a.reader))).bytes
+  pub reads_inner : IsSome a.inner → Reads Inner (inner_of a.reader) (file world (file_of (inner_of a.reader))).bytes
+  pub reads_ends : IsSome a.end → Reads End (ends_of a.reader) (file world (file_of (ends_of a.reader))).bytes
   pub lists : AreInStep a l world

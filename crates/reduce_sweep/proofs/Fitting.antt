@@ -29,7 +29,7 @@ use Rattle.reduce_lists.specs.Contents.{QueueLists, RowLists, NameLists}
 use Rattle.reduce_lists.proofs.Listing.{serves_queue, serves_rows, serves_names, own_content, queue_works, rows_work, names_work, queue_listed, rows_listed, names_listed}
 use Rattle.reduce_lists.proofs.Refusing.{if_err_weaker}
 use Rattle.reduce_sweep.specs.declared.reduce.ReduceSweep.{ReduceSweep}
-use Rattle.reduce_sweep.specs.Sweeps.{held_of, inner_file, ends_file, credit_of, stock_of, IsSound}
+use Rattle.reduce_sweep.specs.Sweeps.{held_of, inner_file, ends_file, credit_of, stock_of, AreFew, IsSound}
 use Rattle.reduce_sweep.specs.Calls.{IsFit, KeepsLists, Does}
 use Rattle.reduce_sweep.proofs.Refusing.{list_refuses}
 
@@ -41,9 +41,11 @@ module _ {S : Type 0} (tells : S → Bool) (world : S → World) (counts : S →
     abbrev with_lists : ReduceSweep
     with_lists = record s { ahead = a; lists = l; parts = after }
 
-    sound_with : a.reader ≡ s.ahead.reader → AreServed a l s.writer after → IsSound with_lists
-    sound_with reader served = record {
+    sound_with : a.reader ≡ s.ahead.reader → AreFew s.place.arcs a.reader a.inner a.end → AreServed a l s.writer after
+        → IsSound with_lists
+    sound_with reader few served = record {
       served = served;
+      few = few;
       within = subst (AreWithin s.place.arcs) (sym reader) fit.sound.within;
       variables = fit.sound.variables;
       phase = fit.sound.phase;
@@ -92,7 +94,7 @@ module _ {S : Type 0} (tells : S → Bool) (world : S → World) (counts : S →
         → OnOk result (IsFit tells world new queue_changed)
     queue_fits (Err e) values serves runs step = tt
     queue_fits (Ok x) values serves runs step = record {
-      sound = sound_with (record s.ahead { queue = q }) s.lists refl
+      sound = sound_with (record s.ahead { queue = q }) s.lists refl fit.sound.few
           (serves_queue (held_of s) fit.sound.served after took q values serves runs);
       at_work = λ told. queue_works tells world old new (held_of s) fit.sound.served after content fit.at_work told
           q (step told);
@@ -130,7 +132,7 @@ module _ {S : Type 0} (tells : S → Bool) (world : S → World) (counts : S →
         → OnOk result (IsFit tells world new rows_changed)
     rows_fit (Err e) values serves runs step = tt
     rows_fit (Ok x) values serves runs step = record {
-      sound = sound_with s.ahead (record s.lists { rows = rows }) refl
+      sound = sound_with s.ahead (record s.lists { rows = rows }) refl fit.sound.few
           (serves_rows (held_of s) fit.sound.served after took rows values serves runs);
       at_work = λ told. rows_work tells world old new (held_of s) fit.sound.served after content fit.at_work told
           rows (step told);
@@ -168,7 +170,7 @@ module _ {S : Type 0} (tells : S → Bool) (world : S → World) (counts : S →
         → OnOk result (IsFit tells world new names_changed)
     names_fit (Err e) values serves runs step = tt
     names_fit (Ok x) values serves runs step = record {
-      sound = sound_with s.ahead (record s.lists { names = names }) refl
+      sound = sound_with s.ahead (record s.lists { names = names }) refl fit.sound.few
           (serves_names (held_of s) fit.sound.served after took names values serves runs);
       at_work = λ told. names_work tells world old new (held_of s) fit.sound.served after content fit.at_work told
           names (step told);

@@ -1,3 +1,4 @@
+mod Counting
 mod Doing
 mod Refusing
 mod Fitting
@@ -9,3 +10,12 @@ mod Undamaged
 mod StartKeeps
 mod EndKeeps
 mod TurnKeeps
+mod SettleLaws
+mod Freezes
+mod NodesSettled
+mod FrozenTables
+mod Unhandled
+mod Carried
+mod Still
+mod Ending
+mod Rebuilding

@@ -5,3 +5,10 @@ pub mod Calls
 pub mod Remaining
 pub mod RemainingLaws
 pub mod Changes
+pub mod SavedPhase
+pub mod SavedReduction
+pub mod SavedTables
+pub mod Resumes
+pub mod ResumeLaws
+pub mod Saving
+pub mod Settling

@@ -5,6 +5,8 @@ use Rattle.shelf_model.specs.declared.sort_fault.SortFault.{SortFault}
 use Rattle.shelf_model.specs.declared.sort_fault.SortFault.TheVariants.{Shelf, Damaged, RunsSpent}
 use Rattle.block_stream.specs.Writes.{count_of}
 use Rattle.node_file.specs.Writers as nodes
+use Rattle.arc_file.specs.declared.arc.Arc.{Arc}
+use Rattle.arc_file.specs.declared.reader.ArcReader.{ArcReader}
 use Rattle.arc_file.specs.declared.unreduced.Unreduced.{Unreduced}
 use Rattle.arc_file.specs.Streams.{file_of, left_of}
 use Rattle.arc_file.specs.Readers.{inner_of, ends_of}
@@ -141,10 +143,19 @@ IsPhaseAt level count (Number s) = IsNumberedAt level count s
 IsPhaseAt level count Forward = Unit
 IsPhaseAt level count (Ended n) = Unit
 
+-- no more arcs of a file aren't done with than it began with, those at hand counted; and these are no more than the
+-- longest file has
+pub record AreFew (arcs : Unreduced) (r : ArcReader) (inner end : Option Arc) : Type 0 where
+  pub inner_few : left_of (inner_of r) + one_if_some inner ≤ arcs.inner_count
+  pub ends_few : left_of (ends_of r) + one_if_some end ≤ arcs.ends_count
+  pub inner_most : arcs.inner_count ≤ 2 ^ 46
+  pub ends_most : arcs.ends_count ≤ 2 ^ 46
+
 -- what is true of it whatever the folder holds
 pub record IsSound (r : ReduceSweep) : Type 0 where
   pub served : AreServed r.ahead r.lists r.writer r.parts
   pub within : AreWithin (arcs_of r) r.ahead.reader
+  pub few : AreFew (arcs_of r) r.ahead.reader r.ahead.inner r.ahead.end
   pub variables : r.writer.n ≡ r.place.variables
   pub phase : IsPhaseAt r.place.level (count_of (nodes.filling_of r.writer)) r.place.phase
 

@@ -3,6 +3,7 @@
 
 mod ahead;
 mod collecting;
+mod ended;
 mod forwarding;
 mod lists;
 mod numbering;
@@ -10,8 +11,14 @@ mod phase;
 mod place;
 mod queued;
 mod reduce;
+mod resume;
+mod rules;
+mod saved;
+mod saved_phase;
+mod settling;
 mod source;
 mod start;
 mod turning;
 
+pub use ended::ended_point;
 pub use reduce::ReduceSweep;

@@ -14,9 +14,9 @@ use run_merge::{Parts, Sorter};
 use shelf_model::{FileNo, Shelf, SortFault};
 
 /// How many records of the room the reader of arcs has, and the writer of nodes.
-const READING: usize = 256;
+pub(crate) const READING: usize = 256;
 
-const WRITING: usize = 88;
+pub(crate) const WRITING: usize = 88;
 
 impl<'r> ReduceSweep<'r> {
     ghost use Rattle.std.specs.Prelude.{◌≡◌, ◌≢◌, ℕ, ◌+◌, ◌*◌, ◌^◌, ◌≤◌, IsTrue, List, ◌++◌, OnOk, IfOk, IfErr, None, length};

@@ -185,12 +185,12 @@ impl<'r> ReduceSweep<'r> {
 }
 
 impl<'r> Sweep<'r> for ReduceSweep<'r> {
-    ghost use Rattle.sweep_core.specs.Saving.{saves_nothing};
     ghost use Rattle.reduce_sweep.specs.Remaining.{Diagram, RemainsOf};
     ghost use Rattle.reduce_sweep.specs.Sweeps.{Task, task_of, accounts, turns_left, IsSound};
     ghost use Rattle.reduce_sweep.specs.Damage.{IsDamage};
     ghost use Rattle.reduce_sweep.specs.Calls.{IsInStep, HasLists};
     ghost use Rattle.reduce_sweep.specs.RemainingLaws.{lists_remain};
+    ghost use Rattle.reduce_sweep.specs.Resumes.{reduce_saving};
 
     ghost Job = { Diagram };
 
@@ -208,7 +208,7 @@ impl<'r> Sweep<'r> for ReduceSweep<'r> {
 
     ghost task = { task_of };
 
-    ghost saving = { saves_nothing };
+    ghost saving = { reduce_saving };
 
     ghost ready = { IsSound };
 

@@ -1,5 +1,5 @@
 use Rattle.std.proofs.Common.{◌≡◌, ◌<◌, ◌∙◌, ap, sym, subst, refl, arith}
-use Rattle.std.specs.Prelude.{Option}
+use Rattle.std.specs.Prelude.{Option, IsSome}
 use Rattle.rec_words.specs.Words.{level_of}
 use Rattle.arc_file.specs.declared.arc.Arc.{Arc}
 use Rattle.arc_diagrams.specs.declared.final_arc.FinalArc.{FinalArc}
@@ -60,7 +60,7 @@ returns-clause-keeps g c =
     let a = c.in-Some.arc in
     let one : FinalArc = record { source = a.source; high = a.high; target = c.args.name.now.pointer } in
     let work = c.requires.fit.at_work (c.forward_along.ensures.does.leaves.content.before told) in
-    let taken = comes_after s.place d k a left (arc_leads s _ k a c.in-Some.is work.reads_inner holds) (ap level_of (sym to_source) ∙ here) in
+    let taken = comes_after s.place d k a left (arc_leads s _ k a c.in-Some.is (work.reads_inner (subst IsSome (sym c.in-Some.is) refl)) holds) (ap level_of (sym to_source) ∙ here) in
     arc_forwarded s.place c.forward_along.new.self _ d k c.args.name.now names a one c.requires.phase (ap (λ (r : ReduceSweep). r.place) c.forward_along.ensures.rest) left is to_source refl refl refl
     (subst (λ (o : Option Arc). ForwardsAlong o c.forward_along.new.self (g.S.Shelf.world c.forward_along.new.shelf) k one) c.in-Some.is (along told k holds taken)))
     c.forward_along.ensures.along

@@ -39,6 +39,7 @@ returns-clause-fit g c =
       sound = record {
         served = served_put s.ahead s.lists s.writer c.put.new.self s.parts c.put.ensures.same.file_is sound.served;
         within = sound.within;
+        few = sound.few;
         variables = c.put.ensures.variables ∙ sound.variables;
         phase = subst (IsNumberedAt s.place.level (count_of (filling_of c.put.new.self))) (sym c.with-next.ensures)
             (subst (λ m. IsNumberedAt s.place.level m (numbered_with c.args.numbered c.args.row.now))

@@ -14,23 +14,25 @@ use Rattle.reduce_lists.specs.Held.{AreWithin}
 use Rattle.reduce_lists.proofs.Beginning.{at_first, held_at_first, work_begins, as_before, emptied, ReadsNothing, inner_damaged, ends_damaged, was_cut, then_looked}
 use Rattle.reduce_lists.proofs.Undamaged.{begins_undamaged}
 use Rattle.reduce_lists.proofs.Within.{within_read_inner, within_read_end, within_at_first}
+use Rattle.reduce_sweep.specs.Sweeps.{AreFew}
+use Rattle.reduce_sweep.proofs.Counting.{few_at_first, few_read_inner, few_read_end}
 use Rattle.reduce_sweep.proofs.StartKeeps.{begins, few_at_start}
 use Rattle.reduce_sweep.proofs.reduce.ReduceSweep.start.Goals as goal
 
 pub returns-in_err-inner-clause-content : goal.returns-in_err-inner-clause-content
-returns-in_err-inner-clause-content g c = then_looked g.S.Shelf.tells g.S.Shelf.world c.args.out _ _ _
-    (was_cut g.S.Shelf.tells g.S.Shelf.world c.args.out _ _ c.start.ensures.content) c.next_inner.ensures.content
+returns-in_err-inner-clause-content g c = then_looked g.S.Shelf.tells g.S.Shelf.world c.args.out 0 _ _ _
+    (was_cut g.S.Shelf.tells g.S.Shelf.world c.args.out 0 1 _ _ c.start.ensures.content) c.next_inner.ensures.content
 
 pub returns-in_err-end-clause-content : goal.returns-in_err-end-clause-content
-returns-in_err-end-clause-content g c = then_looked g.S.Shelf.tells g.S.Shelf.world c.args.out _ _ _
-    (then_looked g.S.Shelf.tells g.S.Shelf.world c.args.out _ _ _
-    (was_cut g.S.Shelf.tells g.S.Shelf.world c.args.out _ _ c.start.ensures.content) c.next_inner.ensures.content)
+returns-in_err-end-clause-content g c = then_looked g.S.Shelf.tells g.S.Shelf.world c.args.out 0 _ _ _
+    (then_looked g.S.Shelf.tells g.S.Shelf.world c.args.out 0 _ _ _
+    (was_cut g.S.Shelf.tells g.S.Shelf.world c.args.out 0 1 _ _ c.start.ensures.content) c.next_inner.ensures.content)
     c.next_end.ensures.content
 
 pub returns-clause-content : goal.returns-clause-content
-returns-clause-content g c = then_looked g.S.Shelf.tells g.S.Shelf.world c.args.out _ _ _
-    (then_looked g.S.Shelf.tells g.S.Shelf.world c.args.out _ _ _
-    (was_cut g.S.Shelf.tells g.S.Shelf.world c.args.out _ _ c.start.ensures.content) c.next_inner.ensures.content)
+returns-clause-content g c = then_looked g.S.Shelf.tells g.S.Shelf.world c.args.out 0 _ _ _
+    (then_looked g.S.Shelf.tells g.S.Shelf.world c.args.out 0 _ _ _
+    (was_cut g.S.Shelf.tells g.S.Shelf.world c.args.out 0 1 _ _ c.start.ensures.content) c.next_inner.ensures.content)
     c.next_end.ensures.content
 
 -- the files differ, and the lists are empty
@@ -66,6 +68,13 @@ returns-clause-ready g c =
           c.in_ok-inner.ensures.file c.in_ok-inner.ensures.place
           (within_at_first c.args.made c.start-reader.result left c.start-reader.ensures.given.0
           c.start-reader.ensures.given.1)));
+      few = subst (λ arcs. AreFew arcs c.next_end.new.self c.in_ok-inner.inner c.in_ok-end.end)
+          (sym (c.left_over-arcs.ensures ∙ left))
+          (few_read_end c.args.made c.next_inner.new.self c.next_end.new.self _ _ _ c.in_ok-end.ensures.inner
+          c.in_ok-end.ensures.place
+          (few_read_inner c.args.made c.start-reader.result c.next_inner.new.self _ _ _ c.in_ok-inner.ensures.ends
+          c.in_ok-inner.ensures.place
+          (few_at_first c.args.made c.start-reader.result left c.requires.inner_few c.requires.ends_few)));
       variables = c.in_ok-writer.ensures.variables;
       phase = tt;
     }
@@ -83,12 +92,12 @@ returns-clause-in_step g c = λ told.
       queue =
           c.start-2.result;
     } in
-    work_begins a c.in_ok-writer.writer c.args.made c.args.out c.start-reader.result c.next_inner.new.self
+    work_begins a c.in_ok-writer.writer c.args.made c.args.out 0 [] c.start-reader.result c.next_inner.new.self
     (g.S.Shelf.world c.args.shelf.now) (g.S.Shelf.world c.start.new.shelf)
     (g.S.Shelf.world c.next_inner.new.shelf) (g.S.Shelf.world c.next_end.new.shelf) (record {
       apart_inner = c.requires.apart_inner;
       apart_ends = c.requires.apart_ends;
-      cut = c.start.ensures.content.did cut_told;
+      cut = (c.start.ensures.content.did cut_told).run;
       looked = c.next_inner.ensures.content.did read_told;
       again = c.next_end.ensures.content.did told;
       no_inner = record {
@@ -121,17 +130,9 @@ returns-clause-in_step g c = λ told.
       written = c.in_ok-writer.ensures.holds cut_told;
     })
     _ (record {
-      queue_is = c.start-2.ensures.list _;
-      last_is = c.start-2.ensures.last;
-      rows_is = c.start-3.ensures.list
-          _;
-      names_is = c.start-4.ensures.list _;
-      in_step = record {
-        queue_in_step = c.start-2.ensures.in_step _;
-        rows_in_step = c.start-3.ensures.in_step _;
-        names_in_step =
-            c.start-4.ensures.in_step _;
-      };
+      queue_in_step = c.start-2.ensures.in_step _;
+      rows_in_step = c.start-3.ensures.in_step _;
+      names_in_step = c.start-4.ensures.in_step _;
     })
 
 -- so these exist
@@ -159,12 +160,12 @@ returns-clause-remains g c = λ told d inner ends has_inner has_ends arcs diagra
     } in
     record {
       contents = at_first inner ends;
-      holds = held_at_first a c.in_ok-writer.writer c.args.made c.args.out c.start-reader.result c.next_inner.new.self
+      holds = held_at_first a c.in_ok-writer.writer c.args.made c.args.out 0 [] c.start-reader.result c.next_inner.new.self
           (g.S.Shelf.world c.args.shelf.now) (g.S.Shelf.world c.start.new.shelf)
           (g.S.Shelf.world c.next_inner.new.shelf) (g.S.Shelf.world c.next_end.new.shelf) (record {
             apart_inner = c.requires.apart_inner;
             apart_ends = c.requires.apart_ends;
-            cut = c.start.ensures.content.did cut_told;
+            cut = (c.start.ensures.content.did cut_told).run;
             looked = c.next_inner.ensures.content.did read_told;
             again = c.next_end.ensures.content.did told;
             no_inner = record {
@@ -196,21 +197,14 @@ returns-clause-remains g c = λ told d inner ends has_inner has_ends arcs diagra
             };
             written = c.in_ok-writer.ensures.holds cut_told;
           })
-          _ inner ends
+          _ (at_first inner ends)
           (record {
             queue_is = c.start-2.ensures.list _;
             last_is = c.start-2.ensures.last;
-            rows_is =
-                c.start-3.ensures.list _;
+            rows_is = c.start-3.ensures.list _;
             names_is = c.start-4.ensures.list _;
-            in_step = record {
-              queue_in_step = c.start-2.ensures.in_step _;
-              rows_in_step = c.start-3.ensures.in_step _;
-              names_in_step =
-                  c.start-4.ensures.in_step _;
-            };
           })
-          c.in_ok-writer.ensures.count has_inner has_ends;
+          refl (sym c.in_ok-writer.ensures.count) has_inner has_ends;
       left = record {
         is_of = record {
           few = c.requires.variables;
@@ -248,8 +242,8 @@ returns-in_err-inner-clause-damage g c =
           c.start-reader.ensures.inner_arcs;
     })
     (ap (λ (u : Unreduced). u.inner_count) left) c.start-reader.ensures.given.0
-    (λ told. emptied c.args.out c.args.made.inner _ _ (λ e. c.requires.apart_inner (sym e))
-    (c.start.ensures.content.did (c.next_inner.ensures.content.before told)))
+    (λ told. emptied c.args.out c.args.made.inner 0 _ _ (λ e. c.requires.apart_inner (sym e))
+    (c.start.ensures.content.did (c.next_inner.ensures.content.before told)).run)
     c.in_err-inner.ensures.place (λ told. c.in_err-inner.ensures.value told (c.start-reader.ensures.reads_inner _))
 
 pub returns-in_err-end-clause-damage : goal.returns-in_err-end-clause-damage
@@ -272,8 +266,8 @@ returns-in_err-end-clause-damage g c =
     (ap left_of kept ∙ ap (λ (u : Unreduced). u.ends_count) left) (ap given_of kept ∙ c.start-reader.ensures.given.1)
     (λ told.
     let read_told = c.next_end.ensures.content.before told in
-    let stays = as_before c.args.out c.args.made.ends _ _ _ _ (λ e. c.requires.apart_ends (sym e))
-    (c.start.ensures.content.did (c.next_inner.ensures.content.before read_told))
+    let stays = as_before c.args.out c.args.made.ends 0 _ _ _ _ (λ e. c.requires.apart_ends (sym e))
+    (c.start.ensures.content.did (c.next_inner.ensures.content.before read_told)).run
     (c.next_inner.ensures.content.did read_told) (c.next_end.ensures.content.did told) in
     stays.1.0 ∙ stays.0)
     c.in_err-end.ensures.place (λ told. c.in_err-end.ensures.value told (reads.reads _))
