@@ -1,3 +1,4 @@
 mod Given
 mod Refuting
 mod Turning
+mod LeqResumes

@@ -1,6 +1,6 @@
 -- The turns of a sweep that answers whether one function implies another.
-use Rattle.std.proofs.Common.{◌≡◌, ◌^◌, ◌≤◌, Bool, true, false, not, IsTrue, refl, sym, subst, arith}
-use Rattle.std.specs.Prelude.{Result, Ok, Err, OnOk, IfErr, IsErrOf, IsSome}
+use Rattle.std.proofs.Common.{◌≡◌, ℕ, ◌^◌, ◌<◌, ◌≤◌, Bool, true, false, not, IsTrue, refl, sym, subst, arith}
+use Rattle.std.specs.Prelude.{None, Result, Ok, Err, OnOk, IfErr, IsErrOf, IsSome}
 use Rattle.bool_tables.specs.Tables.{is_leq}
 use Rattle.shelf_model.specs.declared.file_no.FileNo.{FileNo}
 use Rattle.shelf_model.specs.declared.sort_fault.SortFault.{SortFault}
@@ -16,6 +16,8 @@ use Rattle.sweep_core.proofs.Leaving.{leaves_more, leaves_ok, leaves_err}
 use Rattle.table_work.specs.declared.sweep.TableSweep.{TableSweep}
 use Rattle.table_work.specs.Jobs.{TableWork, turns_of}
 use Rattle.table_work.specs.Tables.{sweep_of}
+use Rattle.top_down_sweep.specs.declared.place.Phase.{Phase}
+use Rattle.top_down_sweep.specs.declared.place.Phase.TheVariants.{Fresh, Asking, Ended}
 use Rattle.top_down_sweep.specs.declared.product.Product.{Product}
 use Rattle.top_down_sweep.specs.declared.sweep.TopDownSweep.{TopDownSweep}
 use Rattle.top_down_sweep.specs.Beginning as top
@@ -23,7 +25,6 @@ use Rattle.top_down_sweep.specs.Calls as calls
 use Rattle.top_down_sweep.specs.Damage as damage
 use Rattle.top_down_sweep.specs.Fuel as fuel
 use Rattle.top_down_sweep.specs.Making.{accounts_along}
-use Rattle.top_down_sweep.specs.Meaning.{Task, Remains, table_of}
 use Rattle.top_down_sweep.specs.Sweeps as sweeps
 use Rattle.top_down_sweep.proofs.Doing.{refused_spent}
 use Rattle.top_down_sweep.proofs.Makings.{gives, still_ready}
@@ -31,6 +32,7 @@ use Rattle.product_sweep.specs.declared.leq.LeqPhase.{LeqPhase}
 use Rattle.product_sweep.specs.declared.leq.LeqPhase.TheVariants.{Making, Answered}
 use Rattle.product_sweep.specs.declared.leq.LeqSweep.{LeqSweep}
 use Rattle.product_sweep.specs.Implications.{Implication, IsToBeMade, refutation, accounts, Turned}
+use Rattle.product_sweep.specs.LeqPhases.{TellsOne}
 use Rattle.product_sweep.specs.Products.{rule_of, begins_of, MakesTable}
 use Rattle.product_sweep.proofs.Refuting.{leq_nowhere, refuted}
 
@@ -71,16 +73,18 @@ pub record EndsEarly {S : Type 0} (tells : S → Bool) (world : S → World) (co
   pub refused : IfErr result (sweeps.Refused q)
   pub undamaged : IfErr result IsNoDamage
 
--- whether the truth value 1 was met decides whether the table has it, once all is made, and before where it was met
-pub record TellsOne (p : TableSweep Product) (one : Bool) : Type 0 where
-  pub value : one ≡ true → (world : World) (t : Task) → Remains rule_of begins_of (sweep_of p) world t
-      → Has true (table_of t)
-  pub none : one ≡ false → IsSome (sweeps.made_in (sweep_of p)) → (world : World) (t : Task)
-      → Remains rule_of begins_of (sweep_of p) world t → Has true (table_of t) → ⊥
-
 -- the sweep with that product, at that phase
 abbrev pub leq : TableSweep Product → LeqPhase → LeqSweep
 leq p phase = record { product = p; phase = phase }
+
+-- while nothing is made, more is to be made
+works_at : (p : Phase) (n : ℕ) → sweeps.made_at p ≡ None → 0 < fuel.fuel_at p n
+works_at Fresh n none = omega arith
+works_at (Asking s) n none = omega arith
+works_at (Ended made) n none = absurd (cc)
+
+pub unmade_works : (p : TableSweep Product) → sweeps.made_in (sweep_of p) ≡ None → 0 < fuel.fuel_of (sweep_of p)
+unmade_works p none = works_at (sweep_of p).machine.place.phase _ none
 
 -- no file is said to be damaged
 no_damage : (s : TopDownSweep Product) (world : World) (e : SortFault) → IsNoDamage e → damage.IsDamage s world e
@@ -97,7 +101,7 @@ met_refutes p phase world d tells r =
     (subst (Has true) makes.table_is (tells.value refl world makes.task makes.remains))
 
 -- once all is made, that decides
-made_decides : (p : TableSweep Product) (phase : LeqPhase) (one : Bool) (world : World) (d : Implication) → TellsOne p one
+pub made_decides : (p : TableSweep Product) (phase : LeqPhase) (one : Bool) (world : World) (d : Implication) → TellsOne p one
     → IsSome (sweeps.made_in (sweep_of p)) → IsToBeMade (leq p phase) world d → not one ≡ is_leq d.left d.right
 made_decides p phase true world d tells made r = met_refutes p phase world d tells r
 made_decides p phase false world d tells made r =
@@ -126,7 +130,7 @@ module _ {S : Type 0} (tells : S → Bool) (world : S → World) (counts : S →
     pub going_on : ProductTurned tells world counts before after p q (Ok turns.More)
         → Turned tells world counts before after (leq p Making) (leq q Making) (Ok turns.More)
     going_on t = record {
-      ready = t.ready;
+      ready = record { product = t.ready; works = t.falls.0 };
       in_step = t.in_step;
       falls = (omega arith, omega (arith, t.falls.1));
       ended = λ none. absurd (omega (arith, none));
@@ -149,7 +153,7 @@ module _ {S : Type 0} (tells : S → Bool) (world : S → World) (counts : S →
     pub all_made : (one : Bool) → ProductTurned tells world counts before after p q (Ok turns.Ended) → TellsOne q one
         → Turned tells world counts before after (leq p Making) (leq q (Answered (not one))) (Ok turns.Ended)
     all_made one t told = record {
-      ready = t.ready;
+      ready = record { product = t.ready; works = tt };
       in_step = t.firm;
       falls = refl;
       ended = λ none. absurd (omega (arith, none));
@@ -211,7 +215,10 @@ module _ {S : Type 0} (tells : S → Bool) (world : S → World) (counts : S →
         → EndsEarly tells world counts before after (sweep_of p) (sweep_of q) (Ok x)
         → Turned tells world counts before after (leq p Making) (leq q (Answered false)) (Ok turns.Ended)
     ended_early x ready told t = record {
-      ready = still_ready tells world counts 4 0 before after (sweep_of p) (sweep_of q) (Ok x) ready t.leaves t.ready;
+      ready = record {
+        product = still_ready tells world counts 4 0 before after (sweep_of p) (sweep_of q) (Ok x) ready t.leaves t.ready;
+        works = tt;
+      };
       in_step = t.firm;
       falls = refl;
       ended = λ none. absurd (omega (arith, none));

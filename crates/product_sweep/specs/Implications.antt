@@ -1,5 +1,5 @@
 -- Whether one function implies another, seen as a sweep: what remains of that, and how many turns.
-use Rattle.std.specs.Prelude.{◌≡◌, ◌↔◌, ℕ, ◌+◌, ◌^◌, Bool, true, false, IsTrue, List, [], ◌∷◌, Option, Some, None, IsSome, IfSome, Result, OnOk, IfErr, IsErrOf, ◌≤◌}
+use Rattle.std.specs.Prelude.{◌≡◌, ◌↔◌, ℕ, ◌+◌, ◌^◌, ◌<◌, Bool, true, false, IsTrue, List, [], ◌∷◌, Option, Some, None, IsSome, IfSome, Result, OnOk, IfErr, IsErrOf, ◌≤◌}
 use Rattle.bool_tables.specs.Tables.{is_leq}
 use Rattle.bool_tables.specs.declared.steps.Bin.{Bin}
 use Rattle.bool_tables.specs.declared.steps.Step.TheVariants.{Pair}
@@ -77,9 +77,15 @@ accounts = accounts_along product_in (sweeps.accounts Product)
 abbrev pub task_of : LeqSweep → sweeps.SweepTask
 task_of s = sweeps.task_of (product_in s)
 
+-- while arcs are made, more are to be made
+abbrev pub HasWork : LeqPhase → ℕ → Type 0
+HasWork Making making = 0 < making
+HasWork (Answered b) making = Unit
+
 -- what is true of it whatever the folder holds
-abbrev pub IsReady : LeqSweep → Type 0
-IsReady s = top.IsReady (product_in s)
+pub record IsReady (s : LeqSweep) : Type 0 where
+  pub product : top.IsReady (product_in s)
+  pub works : HasWork s.phase (fuel.fuel_of (product_in s))
 
 -- once it is answered, the arcs that were made stand in their files whatever a stop leaves
 abbrev pub AreFirm : LeqSweep → World → Type 0

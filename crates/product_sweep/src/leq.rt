@@ -126,9 +126,9 @@ impl<'r> LeqSweep<'r> {
 }
 
 impl<'r> Sweep<'r> for LeqSweep<'r> {
-    ghost use Rattle.sweep_core.specs.Saving.{saves_nothing};
     ghost use Rattle.top_down_sweep.specs.Sweeps.{SweepTask};
     ghost use Rattle.product_sweep.specs.Implications.{Implication, Refutes, fuel_of, turns_left, accounts, IsDamage, task_of, IsReady, IsInStep, IsTrusted};
+    ghost use Rattle.product_sweep.specs.LeqSaving.{leq_saving};
     ghost use Rattle.product_sweep.specs.Trusting.{refutes_trusted};
 
     ghost Job = { Implication };
@@ -147,7 +147,7 @@ impl<'r> Sweep<'r> for LeqSweep<'r> {
 
     ghost task = { task_of };
 
-    ghost saving = { saves_nothing };
+    ghost saving = { leq_saving };
 
     ghost ready = { IsReady };
 

@@ -3,6 +3,7 @@
 
 mod leq;
 mod product;
+mod resume;
 
 pub use leq::LeqSweep;
 pub use product::ProductSweep;

@@ -3,3 +3,4 @@ pub mod Sources
 mod Starting
 pub mod Turns
 pub mod Workings
+pub mod TableResumes

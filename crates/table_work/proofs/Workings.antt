@@ -46,7 +46,7 @@ module _ {O : Type 0} (rule : O → Rule) (begins : O → Tuple → Tuple) where
     few_sources = λ world job is_made. subst (λ (x : Option Unreduced). IfSome x (HasFewSources job.tuples)) (sym is)
         (few_where is_made.makes.task world (made_in s) is_made.tuples job.tuples is_made.all_met is_made.few
         (made_where is_made.makes.task (begins s.operation) s.machine.place.phase s.machine world
-        is_made.makes.remains.1));
+        is_made.makes.remains.left));
   }
 
   -- of a task on files, of which few tuples are met, the step's table remains to be made

@@ -2,3 +2,4 @@ pub mod Given
 pub mod Works
 pub mod Jobs
 pub mod Tables
+pub mod TableSaving

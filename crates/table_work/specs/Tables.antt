@@ -8,8 +8,9 @@ use Rattle.run_tiers.specs.declared.parts.Parts.{Parts}
 use Rattle.step_work.specs.Works.{work_for}
 use Rattle.sweep_core.specs.Accounts.{CanBeTaken}
 use Rattle.sweep_core.specs.Sweeps.{IsNoDamage}
+use Rattle.top_down.specs.declared.tuple.Tuple.{Tuple}
+use Rattle.top_down.specs.Rules.{Rule}
 use Rattle.top_down_sweep.specs.declared.beginning.OperandFiles.{OperandFiles}
-use Rattle.top_down_sweep.specs.declared.operation.Operation.{Ghosts}
 use Rattle.top_down_sweep.specs.declared.steps.StepOperation.{StepOperation}
 use Rattle.top_down_sweep.specs.declared.sweep.TopDownSweep.{TopDownSweep}
 use Rattle.top_down_sweep.specs.Beginning.{after_two, files_from, Begun, Starts}
@@ -40,9 +41,9 @@ pub record AreGivenTo (step : ℕ) (operation : StepOperation) (n : ℕ) (operan
   pub third_stays : ¬ CanBeTaken step 3 operands.third
 
 -- the operation's table is still to be made, in few turns: no more than half of its step's work
-pub record MakesSoon {O : Type 0} (o : Ghosts O) (operation : StepOperation) (n : ℕ) (g : Tables) (s : TableSweep O)
-    (world : World) : Type 0 where
-  pub makes : MakesWithin o.rule o.begins (sweep_of s) world (work_of operation n g)
+pub record MakesSoon {O : Type 0} (rule : O → Rule) (begins : O → Tuple → Tuple) (operation : StepOperation) (n : ℕ)
+    (g : Tables) (s : TableSweep O) (world : World) : Type 0 where
+  pub makes : MakesWithin rule begins (sweep_of s) world (work_of operation n g)
   pub few : turns_of (sweep_of s) world (work_of operation n g) ≤ arcs_turns n (step_of operation) (used_by operation g)
   pub half : 2 * turns_of (sweep_of s) world (work_of operation n g)
       ≤ work_for n (step_of operation) (used_by operation g)
@@ -50,8 +51,8 @@ pub record MakesSoon {O : Type 0} (o : Ghosts O) (operation : StepOperation) (n 
 -- the sweep reads the operands, makes the next two parts of its step and takes those behind them, and at most eight
 -- calls were made, also where it is refused; of canonical files the operation's table is still to be made, and none of
 -- them is damaged
-pub record StartsTable {S O : Type 0} (o : Ghosts O) (tells : S → Bool) (world : S → World) (counts : S → Faults)
-    (operation : StepOperation) (n : ℕ) (operands : OperandFiles) (parts : Parts) (before after : S)
+pub record StartsTable {S O : Type 0} (rule : O → Rule) (begins : O → Tuple → Tuple) (tells : S → Bool)
+    (world : S → World) (counts : S → Faults) (operation : StepOperation) (n : ℕ) (operands : OperandFiles) (parts : Parts) (before after : S)
     (result : Result (TableSweep O) SortFault) : Type 0 where
   pub begun : IfOk result (λ s. Begun tells world (files_from operands parts) (after_two parts) before after
       (sweep_of s))
@@ -59,6 +60,6 @@ pub record StartsTable {S O : Type 0} (o : Ghosts O) (tells : S → Bool) (world
   pub leaves : Starts tells world counts n (files_from operands parts) parts before after result
   pub few_calls : IsTrue (tells after) → (world after).clock ≤ (world before).clock + 8
   pub remains : IfOk result (λ s. IsTrue (tells after) → (g : Tables)
-      → AreGivenTo parts.step operation n operands (world before) g → MakesSoon o operation n g s (world after))
+      → AreGivenTo parts.step operation n operands (world before) g → MakesSoon rule begins operation n g s (world after))
   pub undamaged : IfErr result (λ e. IsTrue (tells after) → (g : Tables)
       → AreGivenTo parts.step operation n operands (world before) g → IsNoDamage e)

@@ -4,6 +4,7 @@
 
 pub mod laws;
 mod operation;
+mod resume;
 mod starts;
 mod sweep;
 

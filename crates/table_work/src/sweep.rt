@@ -38,7 +38,7 @@ impl<'r, O: TableOperation> TableSweep<'r, O> {
         requires room { 16384 ≤ length room.old }
         requires past_made { 3 ≤ parts.next }
         requires within { IsWithin n (O.step operation) }
-        ensures starts { StartsTable O.Operation S.tells S.world S.faults (O.step operation) n operands parts
+        ensures starts { StartsTable O.rule O.begins S.tells S.world S.faults (O.step operation) n operands parts
             shelf.old shelf.new result }
     {
         operations_on_canonical_files_are_work();
@@ -69,15 +69,16 @@ impl<'r, O: Operation> TableSweep<'r, O> {
 }
 
 impl<'r, O: Operation> Sweep<'r> for TableSweep<'r, O> {
-    ghost use Rattle.sweep_core.specs.Saving.{saves_nothing};
     ghost use Rattle.top_down_sweep.specs.Beginning.{IsReady};
     ghost use Rattle.top_down_sweep.specs.Calls.{IsInStep, IsTrusted};
     ghost use Rattle.top_down_sweep.specs.Damage.{IsDamage};
     ghost use Rattle.top_down_sweep.specs.Fuel.{fuel_of};
     ghost use Rattle.top_down_sweep.specs.Making.{accounts_along};
+    ghost use Rattle.top_down_sweep.specs.Resumes.{top_saving};
     ghost use Rattle.top_down_sweep.specs.Sweeps.{SweepTask, task_of, accounts};
     ghost use Rattle.top_down_sweep.specs.Trusting.{sweep_trusted};
     ghost use Rattle.table_work.specs.Jobs.{TableWork, MakesWithin, turns_of};
+    ghost use Rattle.table_work.specs.TableSaving.{table_saving};
     ghost use Rattle.table_work.specs.Tables.{sweep_of};
 
     ghost Job = { TableWork };
@@ -96,7 +97,7 @@ impl<'r, O: Operation> Sweep<'r> for TableSweep<'r, O> {
 
     ghost task = { λ s. task_of (sweep_of s) };
 
-    ghost saving = { saves_nothing };
+    ghost saving = { table_saving (top_saving O.Carried O.rule O.begins) };
 
     ghost ready = { λ s. IsReady (sweep_of s) };
 

@@ -31,6 +31,7 @@ use Rattle.level_queue.specs.declared.queue.LevelQueue.{LevelQueue}
 use Rattle.level_queue.specs.Queues as queues
 use Rattle.level_queue.proofs.QueueLaws.{queue_kept}
 use Rattle.sweep_core.specs.Accounts.{CanBeTaken}
+use Rattle.sweep_core.proofs.Leaving.{taken_before}
 use Rattle.node_file.specs.declared.reader.NodeReader.{NodeReader}
 use Rattle.node_reading.specs.Reading.{bytes_of, IsReading}
 use Rattle.node_reading.proofs.NodeReading.{still_reading}
@@ -79,7 +80,7 @@ still : (r : NodeReader) (old new : World) → bytes_of r new ≡ bytes_of r old
     → IsReading r new
 still r old new same reading = still_reading r r old new refl same reading reading.reads
 
-operand_still : (n : ℕ) (o : Operand) (old new : World) → IsOperand n o
+pub operand_still : (n : ℕ) (o : Operand) (old new : World) → IsOperand n o
     → (file new o.file).bytes ≡ (file old o.file).bytes → IsReading o.reader old
     → IsReading o.reader new
 operand_still n o old new is same = still o.reader old new
@@ -150,6 +151,34 @@ runs_apart m q after served runs apart f made run = elim (runs f run)
         (record { step_is = t.step_is; from = t.from }))
     untaken (inr is) t = served.ends_made (subst (CanBeTaken m.parts.step m.parts.next) is
         (record { step_is = t.step_is; from = t.from }))
+
+-- a queue that parts were taken for is served as it was
+pub served_on : (m : Machine) (q : LevelQueue Ask) (after : Parts) → IsServed m → Took m.parts after
+    → queues.HoldsValues IsAsk ask_words q → queues.Serves after q
+    → ((f : FileNo) → queues.IsRunOf q f → queues.IsRunOf m.queue f ⊎ IsTaken m.parts after f)
+    → IsServed (record m { queue = q; parts = after })
+served_on m q after served took values serves runs = record {
+  values = values;
+  serves = serves;
+  inner_made = λ free. served.inner_made (taken_before m.parts.step m.parts.next after.step after.next _
+      took.step_is took.later free);
+  ends_made = λ free. served.ends_made (taken_before m.parts.step m.parts.next after.step after.next _
+      took.step_is took.later free);
+  inner_apart = runs_apart m q after served runs no_run (inner_file m.writer) (inl refl);
+  ends_apart = runs_apart m q after served runs no_run (ends_file m.writer) (inr refl);
+}
+  where
+    no_run : (f : FileNo) → IsMade (files_in m) f → ¬ queues.IsRunOf m.queue f
+    no_run f (inl is) run = served.inner_apart (subst (queues.IsRunOf m.queue) is run)
+    no_run f (inr is) run = served.ends_apart (subst (queues.IsRunOf m.queue) is run)
+
+-- and so is one that was looked at
+pub served_shown : (m : Machine) (q : LevelQueue Ask) → IsServed m
+    → queues.HoldsValues IsAsk ask_words q → queues.Serves m.parts q
+    → ((f : FileNo) → queues.IsRunOf q f → queues.IsRunOf m.queue f)
+    → IsServed (record m { queue = q })
+served_shown m q served values serves runs = served_on m q m.parts served
+    (record { step_is = refl; later = omega arith }) values serves (λ f run. inl (runs f run))
 
 module _ (m : Machine) (q : LevelQueue Ask) (after : Parts) (old new : World) (served : IsServed m)
     (are : AreOperands m.place.variables m.operands)

@@ -23,3 +23,16 @@ pub mod Orders
 pub mod Makings
 pub mod Somewhere
 pub mod MetOnes
+pub mod OperandsStay
+pub mod Resuming
+pub mod Restoring
+pub mod MadeSure
+pub mod Begun
+pub mod SavedNow
+pub mod SavedTables
+pub mod StepWords
+pub mod SavedStands
+mod CarriedOver
+mod MachineWords
+mod NamedRuns
+mod StillSame

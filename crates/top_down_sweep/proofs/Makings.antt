@@ -88,7 +88,7 @@ module _ {O : Type 0} (rule : O → Rule) (begins : O → Tuple → Tuple) where
         (λ arcs. AreArcFiles job.n job.table arcs world)) (sym is)
         (diagram_where makes.task job.n job.table world (made_in s) makes.variables_are
         makes.table_is (made_where makes.task (begins s.operation) s.machine.place.phase s.machine
-        world makes.remains.1));
+        world makes.remains.left));
   }
 
   -- where the task of a table remains, the table remains to be made

@@ -20,7 +20,8 @@ unfolding queues.Serves sorters.Serves
 serves_past parts q serves = serves.past_made
 
 -- where a push is refused
-pub push_refuses : (m : Machine) (old : LevelQueue Ask) (result : Result Unit SortFault) → queues.Serves m.parts old
+pub push_refuses : {A : Type 0} (m : Machine) (old : LevelQueue Ask) (result : Result A SortFault)
+    → queues.Serves m.parts old
     → IfErr result (sorters.IsPushCause m.parts old.sorter) → IfErr result (Refuses m)
 unfolding queues.Serves sorters.IsPushCause
 push_refuses m old (Ok u) serves cause = tt

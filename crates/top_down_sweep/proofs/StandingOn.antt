@@ -72,7 +72,7 @@ all_still m old new r are same apart read = record {
 }
 
 -- and what a writer holds stays where its files do
-arcs_still : (w : ArcWriter) (old new : World) (inner ends : List Arc)
+pub arcs_still : (w : ArcWriter) (old new : World) (inner ends : List Arc)
     → file new (inner_file w) ≡ file old (inner_file w)
     → file new (ends_file w) ≡ file old (ends_file w) → HoldsArcs w old inner ends
     → HoldsArcs w new inner ends

@@ -85,7 +85,7 @@ few_stages waiting = sum_by-le (λ (a : forms.Waiting). stages a.form) 3 waiting
     (λ i d within. three_stages (get_or waiting i d).form)
 
 -- the nodes that weren't read
-operand_left : (o : Operand) (world : World) (r : readings.Reading) → IsReadOf o world r
+pub operand_left : (o : Operand) (world : World) (r : readings.Reading) → IsReadOf o world r
     → length r.unread ≡ left_of o.reader
 operand_left o world r read =
     let all = read.left.behind.all in

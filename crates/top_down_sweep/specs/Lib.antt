@@ -18,3 +18,10 @@ pub mod Beginning
 pub mod Making
 pub mod Operations
 pub mod Trusting
+pub mod Spellings
+pub mod OperationWords
+pub mod Saved
+pub mod Resumes
+pub mod Rebuilds
+pub mod ResumeLaws
+pub mod Freezing

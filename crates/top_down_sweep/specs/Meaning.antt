@@ -12,6 +12,7 @@ use Rattle.arc_file.specs.Writers.{HoldsArcs, IsFileOf}
 use Rattle.node_file.specs.Nodes.{HasNodes}
 use Rattle.node_file.specs.Readers.{trailer_of, AreLeft}
 use Rattle.node_reading.specs.Reading.{bytes_of, IsReading}
+use Rattle.sweep_core.specs.Saving.{reads_of}
 use Rattle.level_queue.specs.Queues as queues
 use Rattle.top_down.specs.declared.tuple.Tuple.{Tuple}
 use Rattle.top_down.specs.Rules.{Rule}
@@ -31,7 +32,7 @@ use Rattle.top_down_sweep.specs.declared.place.Phase.TheVariants as phases
 use Rattle.top_down_sweep.specs.declared.machine.Machine.{Machine}
 use Rattle.top_down_sweep.specs.declared.start.Files.{Files}
 use Rattle.top_down_sweep.specs.declared.sweep.TopDownSweep.{TopDownSweep}
-use Rattle.top_down_sweep.specs.Sweeps.{files_in, IsMade}
+use Rattle.top_down_sweep.specs.Sweeps.{files_in, files_of, parts_of, variables_of, IsMade}
 use Rattle.top_down_sweep.specs.Waiting.{Waits, AreApart}
 
 -- an operation on diagrams of n variables: its rule, the diagrams' nodes, and the tuple of pointers
@@ -185,12 +186,16 @@ IsMadeWhere t world (Some made) = IsMadeOf t world made
 abbrev pub IsNodeFile : FileNo → World → ℕ → ℕ → List Node → Type 0
 IsNodeFile f world n root nodes = HasNodes n root nodes (file world f).bytes
 
--- so are the operands' files those of the diagrams
-pub record AreNodeFiles (files : Files) (world : World) (n : ℕ) (roots : Tuple) (d : Diagrams) : Type 0
+-- so are the operands' files, by what they hold, those of the diagrams
+pub record HaveNodes (files : Files) (r : FileNo → List ℕ) (n : ℕ) (roots : Tuple) (d : Diagrams) : Type 0
   where
-    pub first : IsNodeFile files.first world n roots.first d.first
-    pub second : IsNodeFile files.second world n roots.second d.second
-    pub third : IsNodeFile files.third world n roots.third d.third
+    pub first : HasNodes n roots.first d.first (r files.first)
+    pub second : HasNodes n roots.second d.second (r files.second)
+    pub third : HasNodes n roots.third d.third (r files.third)
+
+-- so they are in that world
+abbrev pub AreNodeFiles : Files → World → ℕ → Tuple → Diagrams → Type 0
+AreNodeFiles files world n roots d = HaveNodes files (reads_of world) n roots d
 
 -- nothing was read of an operand that has these nodes, and that root
 pub record IsUnread (o : Operand) (world : World) (root : ℕ) (nodes : List Node) : Type 0 where
@@ -202,19 +207,25 @@ pub record AreUnread (o : Operands) (world : World) (roots : Tuple) (d : Diagram
   pub roots_are : roots_of o ≡ roots
   pub read : AreRead o world (unread_all d)
 
--- the operation of that rule on these files is the task: the files are those of its diagrams, and
--- none of those that the sweep writes
-pub record IsTaskOn (t : Task) (rule : Rule) (begins : Tuple → Tuple) (n : ℕ) (files : Files)
-    (step : ℕ) (world : World) : Type 0 where
+-- the operation of that rule on these files is the task: by what they hold the files are those of its
+-- diagrams, and none of those that the sweep writes
+pub record IsTaskOver (t : Task) (rule : Rule) (begins : Tuple → Tuple) (n : ℕ) (files : Files)
+    (step : ℕ) (r : FileNo → List ℕ) : Type 0 where
   pub variables_are : t.n ≡ n
   pub rule_is : t.rule ≡ rule
   pub roots : Tuple
   pub begins_are : begins roots ≡ t.roots
-  pub nodes_are : AreNodeFiles files world n roots t.diagrams
+  pub nodes_are : HaveNodes files r n roots t.diagrams
   pub apart : AreApart files step
 
--- what the sweep has done, with what remains of it, does the task
-abbrev pub Remains : {O : Type 0} → (O → Rule) → (O → Tuple → Tuple) → TopDownSweep O → World
-    → Task → Type 0
-Remains rule begins s world t = (t.rule ≡ rule s.operation)
-    × RemainsOf t (begins s.operation) s.machine world
+-- so it is in that world
+abbrev pub IsTaskOn : Task → Rule → (Tuple → Tuple) → ℕ → Files → ℕ → World → Type 0
+IsTaskOn t rule begins n files step world = IsTaskOver t rule begins n files step (reads_of world)
+
+-- the operation on the files that the sweep reads is the task, and what it has done, with what is
+-- left of it, does the task
+pub record Remains {O : Type 0} (rule : O → Rule) (begins : O → Tuple → Tuple) (s : TopDownSweep O)
+    (world : World) (t : Task) : Type 0 where
+  pub on_files : IsTaskOn t (rule s.operation) (begins s.operation) (variables_of s) (files_of s)
+      (parts_of s).step world
+  pub left : RemainsOf t (begins s.operation) s.machine world

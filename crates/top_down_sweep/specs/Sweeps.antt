@@ -89,12 +89,15 @@ pub record AreOperands (n : ℕ) (o : Operands) : Type 0 where
   pub second : IsOperand n o.second
   pub third : IsOperand n o.third
 
--- the queue holds asks, its runs have parts that were taken, and the files of arcs have none that can be taken
+-- the queue holds asks, its runs have parts that were taken, and the files of arcs have none that can be taken, and are
+-- no runs
 pub record IsServed (m : Machine) : Type 0 where
   pub values : queues.HoldsValues IsAsk ask_words m.queue
   pub serves : queues.Serves m.parts m.queue
   pub inner_made : ¬ CanBeTaken m.parts.step m.parts.next (arcs.inner_file m.writer)
   pub ends_made : ¬ CanBeTaken m.parts.step m.parts.next (arcs.ends_file m.writer)
+  pub inner_apart : ¬ queues.IsRunOf m.queue (arcs.inner_file m.writer)
+  pub ends_apart : ¬ queues.IsRunOf m.queue (arcs.ends_file m.writer)
 
 -- the arcs that were made stand in these files, and are few
 pub record HasMade (inner ends : FileNo) (made : Unreduced) : Type 0 where

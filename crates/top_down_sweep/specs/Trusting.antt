@@ -308,4 +308,4 @@ remains_trusted t begins m world remains = by m.place.phase remains
 pub sweep_trusted : {O : Type 0} (rule : O → Rule) (begins : O → Tuple → Tuple) (s : TopDownSweep O)
     (world : World) (t : Task) → Remains rule begins s world t → IsTrusted s world
 sweep_trusted rule begins s world t remains =
-    remains_trusted t (begins s.operation) s.machine world remains.1
+    remains_trusted t (begins s.operation) s.machine world remains.left

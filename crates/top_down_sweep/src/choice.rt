@@ -11,6 +11,7 @@ use top_down::{Goal, Tuple};
 pub struct Choice;
 
 impl Operation for Choice {
+    ghost use Rattle.std.proofs.Common.{lit≤};
     ghost use Rattle.top_down.specs.Operations.{choice_rule};
     ghost use Rattle.top_down_sweep.specs.Deepening.{choice_deepens};
 
@@ -31,6 +32,8 @@ impl Operation for Choice {
     }
 
     ghost deepens = { λ o. choice_deepens };
+
+    ghost few_words = { lit≤ tt };
 }
 
 // A truth value as test leaves the chosen diagram alone, and two branches that are the same truth value end.

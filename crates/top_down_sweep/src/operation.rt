@@ -1,10 +1,12 @@
+use saved_words::Carried;
 use top_down::{Goal, Tuple};
 
 /// An operation on up to three diagrams, seen by the tuples of pointers that a sweep from the root down meets.
 ///
-/// A tuple is asked for only where it has a node, and on the sides of a node only where it lies deeper.
-pub trait Operation: Copy {
-    ghost use Rattle.std.specs.Prelude.{◌≡◌};
+/// A tuple is asked for only where it has a node, and on the sides of a node only where it lies deeper. A checkpoint
+/// keeps the operation by few words.
+pub trait Operation: Carried {
+    ghost use Rattle.std.specs.Prelude.{◌≡◌, ◌≤◌};
     ghost use Rattle.top_down.specs.declared.tuple.Tuple.{Tuple};
     ghost use Rattle.top_down.specs.Rules.{Rule};
     ghost use Rattle.top_down_sweep.specs.Rules.{Deepens};
@@ -28,4 +30,6 @@ pub trait Operation: Copy {
         ensures { result ≡ (rule self.now).below level high lows.now highs.now };
 
     ghost deepens: { (operation : Self) → Deepens (rule operation) };
+
+    ghost few_words: { Self.count ≤ 16 };
 }

@@ -13,6 +13,7 @@ pub struct Product {
 }
 
 impl Operation for Product {
+    ghost use Rattle.std.proofs.Common.{lit≤};
     ghost use Rattle.top_down.specs.Operations.{product_rule};
     ghost use Rattle.top_down.specs.Tuples.{unused};
     ghost use Rattle.top_down_sweep.specs.Deepening.{product_deepens};
@@ -38,6 +39,8 @@ impl Operation for Product {
     }
 
     ghost deepens = { λ o. product_deepens o.op };
+
+    ghost few_words = { lit≤ tt };
 }
 
 // A truth value ends where the operator's value doesn't depend on the other operand.

@@ -10,6 +10,7 @@ pub struct Restricted {
 }
 
 impl Operation for Restricted {
+    ghost use Rattle.std.proofs.Common.{lit≤};
     ghost use Rattle.top_down.specs.Operations.{restrict_rule};
     ghost use Rattle.top_down.specs.Tuples.{unused};
     ghost use Rattle.top_down_sweep.specs.Deepening.{restrict_deepens};
@@ -39,4 +40,6 @@ impl Operation for Restricted {
     }
 
     ghost deepens = { λ o. restrict_deepens o.variable o.value };
+
+    ghost few_words = { lit≤ tt };
 }

@@ -13,9 +13,9 @@ use run_merge::Parts;
 use shelf_model::{FileNo, Shelf, SortFault};
 
 /// How many records of the room the reader of an operand has, and the writer of arcs.
-const READING: usize = 88;
+pub(crate) const READING: usize = 88;
 
-const WRITING: usize = 256;
+pub(crate) const WRITING: usize = 256;
 
 /// The files of a sweep: the operands, one of them for each pointer of a tuple, and the two files of arcs that it
 /// makes.
@@ -175,8 +175,8 @@ impl<'r> Operand<'r> {
     ghost use Rattle.sweep_core.specs.Sweeps.{IsNoDamage};
     ghost use Rattle.top_down_sweep.specs.Meaning.{IsNodeFile, IsUnread};
 
-    // Begins with no node at hand.
-    fn start<S: Shelf>(
+    /// Begins with no node at hand.
+    pub(crate) fn start<S: Shelf>(
         file: FileNo,
         n: u32,
         window: &'r mut [Rec],

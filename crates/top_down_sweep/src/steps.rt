@@ -16,6 +16,7 @@ pub enum StepOperation {
 }
 
 impl Operation for StepOperation {
+    ghost use Rattle.std.proofs.Common.{lit≤};
     ghost use Rattle.top_down_sweep.specs.Operations.{rule_of, begins_of, operation_deepens};
 
     ghost rule = { rule_of };
@@ -72,4 +73,6 @@ impl Operation for StepOperation {
     }
 
     ghost deepens = { operation_deepens };
+
+    ghost few_words = { lit≤ tt };
 }

@@ -152,7 +152,7 @@ impl<'r, O: Operation> TopDownSweep<'r, O> {
 
 impl<'r, O: Operation> Sweep<'r> for TopDownSweep<'r, O> {
     ghost use Rattle.top_down_sweep.specs.Trusting.{sweep_trusted};
-    ghost use Rattle.sweep_core.specs.Saving.{saves_nothing};
+    ghost use Rattle.top_down_sweep.specs.Resumes.{top_saving};
     ghost use Rattle.top_down_sweep.specs.Meaning.{Remains};
     ghost use Rattle.top_down_sweep.specs.Turns.{Work, left_of};
     ghost use Rattle.top_down_sweep.specs.Sweeps.{SweepTask, task_of, accounts, IsSound};
@@ -176,7 +176,7 @@ impl<'r, O: Operation> Sweep<'r> for TopDownSweep<'r, O> {
 
     ghost task = { task_of };
 
-    ghost saving = { saves_nothing };
+    ghost saving = { top_saving O.Carried O.rule O.begins };
 
     ghost ready = { IsSound };
 

@@ -8,7 +8,8 @@ use Rattle.top_down_sweep.specs.declared.product.Product.{Product}
 use Rattle.product_sweep.specs.declared.leq.LeqPhase.{LeqPhase}
 use Rattle.product_sweep.specs.declared.leq.LeqPhase.TheVariants.{Making, Answered}
 use Rattle.product_sweep.specs.Implications.{Turned}
-use Rattle.product_sweep.proofs.Turning.{ProductTurned, TellsOne, leq, going_on, all_made, make_refused, ended_early, early_refused}
+use Rattle.product_sweep.specs.LeqPhases.{TellsOne}
+use Rattle.product_sweep.proofs.Turning.{ProductTurned, leq, going_on, all_made, make_refused, ended_early, early_refused}
 use Rattle.product_sweep.proofs.leq.LeqSweep.make.Goals as goal
 
 -- an arc leads to 1, and the files can't be ended
@@ -39,7 +40,7 @@ returns-then-meets_one g c =
     c.end_early.new.shelf (leq c.args.self.now.product phase) (leq q (Answered false)) (Ok Ended))
     (sym c.requires.phase)
     (ended_early g.S.Shelf.tells g.S.Shelf.world g.S.Shelf.faults c.args.shelf.now c.end_early.new.shelf
-    c.args.self.now.product q c.in_ok-end_early.field-0 c.requires.ready
+    c.args.self.now.product q c.in_ok-end_early.field-0 c.requires.ready.product
     (subst (TellsOne c.args.self.now.product) c.if-meets_one.true (record {
       value = c.meets_one.ensures.value;
       none = c.meets_one.ensures.none;

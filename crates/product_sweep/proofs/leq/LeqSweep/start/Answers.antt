@@ -4,7 +4,14 @@ use Rattle.run_tiers.proofs.FaultLaws.{on_fault}
 use Rattle.product_sweep.specs.Implications.{and_not}
 use Rattle.product_sweep.proofs.Given.{two_tables, given_two}
 use Rattle.product_sweep.proofs.Refuting.{work_same}
+use Rattle.product_sweep.proofs.Turning.{unmade_works}
 use Rattle.product_sweep.proofs.leq.LeqSweep.start.Goals as goal
+
+-- nothing was made yet
+pub returns-clause-ready : goal.returns-clause-ready
+returns-clause-ready g c =
+    let begun = c.in_ok-product.ensures.starts.begun in
+    record { product = begun.ready; works = unmade_works c.in_ok-product.product begun.none_made }
 
 -- the table of "left and not right" is to be made, by few turns
 pub returns-clause-means : goal.returns-clause-means

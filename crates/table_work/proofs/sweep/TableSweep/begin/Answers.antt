@@ -13,7 +13,7 @@ returns g c = record {
         (files_from c.args.operands c.args.parts) c.args.parts c.args.shelf.now c.begin.new.shelf
         c.in_ok-sweep.sweep _ c.in_ok-sweep.ensures.leaves;
     few_calls = c.begin.ensures.few_calls;
-    remains = λ told. makes_soon g.O.Operation c.args.operation (g.O.TableOperation.step c.args.operation) c.args.n
+    remains = λ told. makes_soon g.O.Operation.rule g.O.Operation.begins c.args.operation (g.O.TableOperation.step c.args.operation) c.args.n
         c.args.operands c.args.parts c.operations_on_canonical_files_are_work.ensures
         (g.met.O.TableOperation.same_rule c.args.operation) (g.met.O.TableOperation.same_begins c.args.operation)
         c.requires.within c.requires.past_made _ (g.S.Shelf.world c.args.shelf.now)
@@ -24,11 +24,11 @@ returns g c = record {
 
 pub returns-in_err-sweep : goal.returns-in_err-sweep
 returns-in_err-sweep g c = record {
-  starts = start_refused g.O.Operation g.S.Shelf.tells g.S.Shelf.world g.S.Shelf.faults
+  starts = start_refused g.O.Operation.rule g.O.Operation.begins g.S.Shelf.tells g.S.Shelf.world g.S.Shelf.faults
       (g.O.TableOperation.step c.args.operation) c.args.n c.args.operands c.args.parts c.args.shelf.now
       c.begin.new.shelf c.in_err-sweep.field-0.0 c.from_residual.result c.from_residual.ensures.1
       c.in_err-sweep.ensures.leaves c.begin.ensures.few_calls
-      (λ told. no_damage g.O.Operation c.args.operation (g.O.TableOperation.step c.args.operation) c.args.n
+      (λ told. no_damage g.O.Operation.rule g.O.Operation.begins c.args.operation (g.O.TableOperation.step c.args.operation) c.args.n
       c.args.operands c.args.parts c.operations_on_canonical_files_are_work.ensures
       (g.met.O.TableOperation.same_rule c.args.operation) (g.met.O.TableOperation.same_begins c.args.operation)
       c.requires.within c.requires.past_made (g.S.Shelf.world c.args.shelf.now) c.in_err-sweep.field-0.0

@@ -28,6 +28,8 @@ returns-clause-fit g c =
           serves = fit.sound.served.serves;
           inner_made = fit.sound.served.inner_made;
           ends_made = fit.sound.served.ends_made;
+          inner_apart = fit.sound.served.inner_apart;
+          ends_apart = fit.sound.served.ends_apart;
         };
         operands = fit.sound.operands;
         phase = subst (λ (x : Numbered). x.number ≤ inner_count c.put_inner.new.self.writer)

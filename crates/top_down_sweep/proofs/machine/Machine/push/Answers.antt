@@ -1,7 +1,6 @@
 use Rattle.top_down_sweep.proofs.StandingOn.{joins_ask, joins_undamaged, arcs_spilled}
-use Rattle.top_down_sweep.proofs.Holding.{put_at}
+use Rattle.top_down_sweep.proofs.Holding.{put_at, served_on}
 use Rattle.std.proofs.Common.{rules}
-use Rattle.top_down_sweep.specs.Sweeps.{IsServed}
 use Rattle.top_down_sweep.proofs.Doing.{on_ok}
 use Rattle.top_down_sweep.proofs.QueueCalls.{does_put, spilled_at_work}
 use Rattle.top_down_sweep.proofs.machine.Machine.push.Goals as goal
@@ -24,8 +23,8 @@ pub returns-clause-fit : goal.returns-clause-fit
 returns-clause-fit g c =
     let s = c.args.self.now in
     let sound = c.requires.fit.sound in
-    let served : IsServed (record s { queue = c.push.new.self; parts = c.push.new.parts }) = search
-    rules in
+    let served = served_on s c.push.new.self c.push.new.parts sound.served c.push.ensures.parts
+    c.push.ensures.values c.push.ensures.serves c.push.ensures.runs in
     on_ok c.push.result (record {
       sound = record {
         served = served;

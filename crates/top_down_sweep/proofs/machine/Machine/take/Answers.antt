@@ -1,13 +1,11 @@
 use Rattle.node_reading.proofs.NodeReading.{if_handed}
 use Rattle.top_down_sweep.proofs.StandingOn.{first_taken, takes_ask, takes_undamaged, arcs_spilled}
-use Rattle.top_down_sweep.proofs.Holding.{taken_at}
-use Rattle.std.proofs.Common.{rules}
+use Rattle.top_down_sweep.proofs.Holding.{taken_at, served_on}
 use Rattle.level_queue.specs.Queues.{held, shown}
 use Rattle.top_down_sweep.proofs.Doing.{does_ok, does_err}
 use Rattle.top_down_sweep.proofs.QueueCalls.{does_taken, spilled_at_work}
 use Rattle.top_down_sweep.proofs.FuelLaws.{taken_count}
 use Rattle.top_down_sweep.proofs.Phases.{phase_taken}
-use Rattle.top_down_sweep.specs.Sweeps.{IsServed}
 use Rattle.top_down_sweep.proofs.machine.Machine.take.Goals as goal
 
 -- only files of parts that were taken changed
@@ -39,8 +37,8 @@ pub returns-clause-fit : goal.returns-clause-fit
 returns-clause-fit g c =
     let s = c.args.self.now in
     let sound = c.requires.fit.sound in
-    let served : IsServed (record s { queue = c.take.new.self; parts = c.take.new.parts }) = search
-    rules in
+    let served = served_on s c.take.new.self c.take.new.parts sound.served c.take.ensures.parts
+    c.take.ensures.values c.take.ensures.serves c.take.ensures.runs in
     record {
       sound = record {
         served = served;

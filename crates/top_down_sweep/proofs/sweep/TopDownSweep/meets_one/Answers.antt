@@ -8,7 +8,7 @@ use Rattle.top_down_sweep.proofs.sweep.TopDownSweep.meets_one.Goals as goal
 pub returns-then-self-clause-value : goal.returns-then-self-clause-value
 returns-then-self-clause-value g c e world t remains =
     let m = c.args.self.now.machine in
-    met_value t _ m world m.place.phase remains.1
+    met_value t _ m world m.place.phase remains.left
     (ap (λ b. b || has_root_one (made_at m.place.phase)) e)
 
 -- or it is the root of what was made
@@ -19,10 +19,10 @@ returns-in-Ended-clause-is g c = c.eq.ensures ∙ ap (λ w. c.in-Ended.made.root
 pub returns-in-Ended-clause-value : goal.returns-in-Ended-clause-value
 returns-in-Ended-clause-value g c e world t remains =
     let m = c.args.self.now.machine in
-    met_value t _ m world m.place.phase remains.1 (sym (returns-in-Ended-clause-is g c) ∙ e)
+    met_value t _ m world m.place.phase remains.left (sym (returns-in-Ended-clause-is g c) ∙ e)
 
 -- and where neither is so, the table has no 1
 pub returns-in-Ended-clause-none : goal.returns-in-Ended-clause-none
 returns-in-Ended-clause-none g c e made world t remains =
     let m = c.args.self.now.machine in
-    unmet_none t _ m world m.place.phase remains.1 (sym (returns-in-Ended-clause-is g c) ∙ e) made
+    unmet_none t _ m world m.place.phase remains.left (sym (returns-in-Ended-clause-is g c) ∙ e) made

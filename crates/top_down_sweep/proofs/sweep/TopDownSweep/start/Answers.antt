@@ -12,18 +12,28 @@ use Rattle.node_reading.proofs.NodeReading.{if_handed}
 use Rattle.shelf_model.specs.SortFaults.{handed_on}
 use Rattle.top_down_sweep.specs.Damage.{IsStartFault}
 use Rattle.sweep_core.specs.Accounts.{CanBeTaken}
-use Rattle.top_down_sweep.proofs.Starting.{then_cut, others_uncut}
-use Rattle.top_down_sweep.proofs.Holding.{operands_still}
+use Rattle.node_reading.proofs.Staying.{looked_stays}
+use Rattle.top_down_sweep.proofs.Starting.{only_looked, then_cut, others_uncut}
+use Rattle.top_down_sweep.proofs.Holding.{operands_still, looked_same}
+use Rattle.top_down_sweep.proofs.OperandsStay.{task_on}
 use Rattle.top_down_sweep.specs.declared.machine.Machine.{Machine}
 use Rattle.top_down_sweep.specs.declared.place.Phase.TheVariants.{Fresh}
 use Rattle.top_down_sweep.proofs.sweep.TopDownSweep.start.Goals as goal
 
 -- the operands were looked at, and the files of arcs were cut
+pub returns-in_err-operands-clause-content : goal.returns-in_err-operands-clause-content
+returns-in_err-operands-clause-content g c = only_looked g.S.Shelf.tells g.S.Shelf.world c.args.files.inner
+    c.args.files.ends 0 0 _ _ (looked_stays g.S.Shelf.tells g.S.Shelf.world 6 _ _ c.start.ensures.content)
+
 pub returns-in_err-writer-clause-content : goal.returns-in_err-writer-clause-content
-returns-in_err-writer-clause-content g c = then_cut g.S.Shelf.tells g.S.Shelf.world c.args.files.inner c.args.files.ends 6 2 _ _ _ c.start.ensures.content c.start-2.ensures.content
+returns-in_err-writer-clause-content g c = then_cut g.S.Shelf.tells g.S.Shelf.world c.args.files.inner
+    c.args.files.ends 0 0 2 _ _ _ (looked_stays g.S.Shelf.tells g.S.Shelf.world 6 _ _ c.start.ensures.content)
+    c.start-2.ensures.content
 
 pub returns-clause-content : goal.returns-clause-content
-returns-clause-content g c = then_cut g.S.Shelf.tells g.S.Shelf.world c.args.files.inner c.args.files.ends 6 2 _ _ _ c.start.ensures.content c.start-2.ensures.content
+returns-clause-content g c = then_cut g.S.Shelf.tells g.S.Shelf.world c.args.files.inner
+    c.args.files.ends 0 0 2 _ _ _ (looked_stays g.S.Shelf.tells g.S.Shelf.world 6 _ _ c.start.ensures.content)
+    c.start-2.ensures.content
 
 -- the queue is empty, and the files of arcs have no parts that can be taken
 pub returns-clause-ready : goal.returns-clause-ready
@@ -33,6 +43,8 @@ returns-clause-ready g c = record {
     serves = c.start-3.ensures.serves c.args.parts c.requires.past_made;
     inner_made = subst (λ f. ¬ CanBeTaken c.args.parts.step c.args.parts.next f) (sym c.in_ok-writer.ensures.files.0) c.requires.inner_made;
     ends_made = subst (λ f. ¬ CanBeTaken c.args.parts.step c.args.parts.next f) (sym c.in_ok-writer.ensures.files.1) c.requires.ends_made;
+    inner_apart = λ run. c.start-3.ensures.runs _ run;
+    ends_apart = λ run. c.start-3.ensures.runs _ run;
   };
   operands = c.in_ok-operands.ensures.are;
   phase = c.start-3.ensures.last;
@@ -69,7 +81,7 @@ pub returns-in_err-writer-clause-damage : goal.returns-in_err-writer-clause-dama
 returns-in_err-writer-clause-damage g c = if_handed _ c.from_residual-in_err-writer.result _ c.from_residual-in_err-writer.ensures.1
     (λ told. subst (λ e. IsStartFault c.args.files c.args.n (g.S.Shelf.world c.args.shelf.now) (handed_on e)) (sym c.in_err-writer.ensures.cause) (inl tt))
 
--- nothing waits, nothing was read of files of the task's diagrams, and nothing was put
+-- nothing waits, nothing was read of files of the task's diagrams, which stay, and nothing was put
 pub returns-clause-remains : goal.returns-clause-remains
 returns-clause-remains g c told t is =
     let m : Machine = record {
@@ -89,9 +101,15 @@ returns-clause-remains g c told t is =
       ends = made.1 i;
     } in
     let apart : AreApart (files_in m) c.args.parts.step = subst (λ (fs : Files). AreApart fs c.args.parts.step) (sym same) is.apart in
-    let unread = c.in_ok-operands.ensures.nodes (c.start-2.ensures.content.before told) is.roots t.diagrams is.nodes_are in (
-      is.rule_is,
-      record {
+    let before = c.start-2.ensures.content.before told in
+    let unread = c.in_ok-operands.ensures.nodes before is.roots t.diagrams is.nodes_are in
+    record {
+      on_files = task_on t _ _ c.args.n c.args.files (files_in m) c.args.parts.step c.args.parts.step
+          (g.S.Shelf.world c.args.shelf.now) (g.S.Shelf.world c.start-2.new.shelf) same refl
+          (λ f is_apart. others_uncut 2 c.args.files.inner c.args.files.ends f _ _ (c.start-2.ensures.content.did told)
+          is_apart.not_inner is_apart.not_ends
+          ∙ looked_same _ _ (c.start.ensures.content.did before).run f) is;
+      left = record {
         roots_are = ap (g.O.Operation.begins c.args.operation) unread.roots_are ∙ is.begins_are;
         stands = record {
           asks_are = c.start-3.ensures.list (g.S.Shelf.world c.start-2.new.shelf);
@@ -104,8 +122,8 @@ returns-clause-remains g c told t is =
           no_run = λ f own run. c.start-3.ensures.runs f run;
           apart = apart;
         };
-      },
-    )
+      };
+    }
 
 -- and no file of them is damaged
 pub returns-in_err-operands-clause-undamaged : goal.returns-in_err-operands-clause-undamaged
@@ -128,4 +146,4 @@ returns-clause-left g c told w is =
     } in
     ap (λ nodes. 6 * length w.tuples + nodes + 5) (unread_is m
     (g.S.Shelf.world c.start-2.new.shelf) (first_contents w.task)
-    (returns-clause-remains g c told w.task is).1.stands)
+    (returns-clause-remains g c told w.task is).left.stands)
