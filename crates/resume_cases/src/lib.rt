@@ -8,7 +8,11 @@ mod failing;
 #[cfg(test)]
 mod lives;
 #[cfg(test)]
+mod operations;
+#[cfg(test)]
 mod plans;
+#[cfg(test)]
+mod reduced;
 #[cfg(test)]
 mod saved;
 #[cfg(test)]

@@ -66,7 +66,7 @@ fn come_of(case: &Case, lived: Option<Lived>, made: u64, wanted: u64) -> Outcome
 }
 
 // Whether a sweep that is saved and rebuilt behind every few turns ends with the same answer after as many turns, and
-// once more where it is rebuilt behind its end. Lives are in two rooms in turn.
+// once more where it is rebuilt from its last checkpoint again. Lives are in two rooms in turn.
 fn comes_back(
     alloc: Global,
     case: &Case,
