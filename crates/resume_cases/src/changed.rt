@@ -65,21 +65,22 @@ fn is_named(plan: Plan, point: &Checkpoint, f: FileNo, at: u64, bench: &Bench) -
     named && at <= bench.file(f).len() as u64
 }
 
-// A folder in which the sweep was saved behind so many turns, and that checkpoint.
+// A folder in which the sweep was saved behind so many turns, and that checkpoint; none where it had ended by then.
 fn saved_in(
     alloc: Global,
     case: &Case,
     turns: u64,
     room: &mut [Rec],
-) -> Result<(Bench, Checkpoint), Fail>
+) -> Result<Option<(Bench, Checkpoint)>, Fail>
     requires { 16384 ≤ length room.old }
 {
     let mut bench = case.bench(alloc)?;
     live_on(case, Way::Saved(turns), BUDGET, room, &mut bench)?;
-    let Some(point) = load(STEP, BUDGET, &mut bench)? else {
-        return Err(Fail::from("nothing is saved"));
-    };
-    Ok((bench, point))
+    match load(STEP, BUDGET, &mut bench)? {
+        Some(point) => Ok(Some((bench, point))),
+        None if turns > 1 => Ok(None),
+        None => Err(Fail::from("nothing is saved")),
+    }
 }
 
 // The same files in a folder of their own.
@@ -135,7 +136,9 @@ fn wrong_word(
 ) -> Result<Option<usize>, Fail>
     requires { 16384 ≤ length room.old }
 {
-    let (bench, saved) = saved_in(alloc, case, turns, room)?;
+    let Some((bench, saved)) = saved_in(alloc, case, turns, room)? else {
+        return Ok(None);
+    };
     for place in 0..CHANGED {
         for value in [0, 1, saved.carry[place].wrapping_add(1), 1 << 63] {
             let mut point = saved;
@@ -154,7 +157,7 @@ fn wrong_turn(alloc: Global, plan: Plan) -> Result<Option<(u64, usize)>, Fail> {
     let case = plan.case(alloc)?;
     let mut records = vec![in alloc; EMPTY; room_len(0)]?;
     let room = records.as_mut_slice();
-    for turns in 0..5 {
+    for turns in 1..6 {
         if let Some(place) = wrong_word(alloc, &case, turns, room)? {
             return Ok(Some((turns, place)));
         }
