@@ -143,10 +143,18 @@ module _ (c : Checkpoint) (x : Saved) (p : Phase) (holds : HasWords c x) (rules 
   is_rest : (f : FileNo) (n : ℕ) → RestsOn c f n → IsRest c x f n
   is_rest f n on = subst (λ (y : Saved). IsRest c y f n) (one_reduction c on.saved x on.holds holds) on.rests
 
-  pub behind_rests : OnlyCutBehind (RestsOn c) old m
+  whole_same : (f : FileNo) → IsRest c x f (node_size * x.kept + 1) → file_in m.folder f ≡ file_in old.folder f
+  whole_same f (inl (inl (is, some))) = cut.others f (λ made. rules.inner_apart (sym is ∙ made))
+  whole_same f (inl (inr (is, some))) = cut.others f (λ made. rules.ends_apart (sym is ∙ made))
+  whole_same f (inr (inl (is, few))) = absurd (omega (arith, few))
+  whole_same f (inr (inr run)) = cut.others f (run_apart p c x f (node_size * x.kept + 1) rules.kept_at run)
+
+  pub behind_rests : OnlyCutBehind c (RestsOn c) old m
   behind_rests = record {
+    unmade = λ f free. cut.others f (λ is. free (subst (IsMadePart c.step c.next_part) (sym is) rules.made));
     others = λ f free. cut.others f
         (λ made. free (record { saved = x; holds = holds; rests = inr (inl (made, omega arith)) }));
+    whole = λ f all. whole_same f (is_rest f (node_size * x.kept + 1) (all (node_size * x.kept + 1)));
     reads = λ f n on. rest_reads f n (is_rest f n on);
     kept = λ f n on front long. rest_kept f front (subst (IsRest c x f) (sym long) (is_rest f n on));
   }
@@ -154,10 +162,10 @@ module _ (c : Checkpoint) (x : Saved) (p : Phase) (holds : HasWords c x) (rules 
 pub cut_rests : {S : Type 0} (tells : S → Bool) (world : S → World) (c : Checkpoint) (x : Saved) (p : Phase)
     → HasWords c x → KeepsRules c x p → (old new : S)
     → Told tells old new (Ran (DuringCut x.out (x.kept * node_size) (now (world old))) (world old) (world new))
-    → Told tells old new (Ran (OnlyCutBehind (RestsOn c) (now (world old))) (world old) (world new))
+    → Told tells old new (Ran (OnlyCutBehind c (RestsOn c) (now (world old))) (world old) (world new))
 cut_rests tells world c x p holds rules old new did = told tells old new _ _ did
     (λ _ ran. ran_weakens (world old) (world new) (DuringCut x.out (x.kept * node_size) (now (world old)))
-    (OnlyCutBehind (RestsOn c) (now (world old)))
+    (OnlyCutBehind c (RestsOn c) (now (world old)))
     (λ m here. behind_rests c x p holds rules (now (world old)) m here) ran)
 
 picked_going : (c : Checkpoint) (part k : ℕ) (table : RunTable) → k < 5 → AreSavedTables c part → IsPicked c k table
@@ -315,7 +323,7 @@ pub record IsRebuilt (c : Checkpoint) (x : Saved) (p : Phase) (a : Ahead) (l : L
   pub opened_is : left_over_of opened ≡ x.arcs
   pub file_is : (nodes.filling_of w).file ≡ x.out
   pub count_is : count_of (nodes.filling_of w) ≡ x.kept
-  pub rest : OnlyCutBehind (RestsOn c) (now first) (now last)
+  pub rest : OnlyCutBehind c (RestsOn c) (now first) (now last)
   pub thawed : HasThawed c x a l
   pub firm : (count : ℕ) → p ≡ Ended count
       → file second x.out ≡ firm_file (take (x.kept * node_size) (file first x.out).bytes)

@@ -18,6 +18,7 @@ use Rattle.node_file.specs.Readers.{file_of, trailer_of, left_of, AreLeft}
 use Rattle.node_file.proofs.SkipLaws.{as_many_left}
 use Rattle.node_reading.specs.Reading.{bytes_of, IsNodeFault, IsDamagedNode}
 use Rattle.node_reading.proofs.NodeReading.{still_reading}
+use Rattle.sweep_core.specs.declared.checkpoint.Checkpoint.{Checkpoint}
 use Rattle.sweep_core.specs.Saving.{IsReadPart, reads_of}
 use Rattle.shelf_model.specs.Calls.{Told, longest}
 use Rattle.rec_words.specs.Words.{node_size}
@@ -294,14 +295,16 @@ hand_fault x r world reads RunsSpent file_is n_is same fault = fault
 
 module _ {S : Type 0} (tells : S → Bool) (world : S → World) where
   -- where no file changes, none is cut but behind what a checkpoint rests on
-  pub stays_cut : (rests : FileNo → ℕ → Type 0) (old new : S)
+  pub stays_cut : (c : Checkpoint) (rests : FileNo → ℕ → Type 0) (old new : S)
       → Told tells old new (Ran (Stays (now (world old))) (world old) (world new))
-      → Told tells old new (Ran (OnlyCutBehind rests (now (world old))) (world old) (world new))
-  stays_cut rests old new did =
+      → Told tells old new (Ran (OnlyCutBehind c rests (now (world old))) (world old) (world new))
+  stays_cut c rests old new did =
       told tells old new _ _ did (λ _ ran.
-      ran_weakens (world old) (world new) (Stays (now (world old))) (OnlyCutBehind rests (now (world old)))
+      ran_weakens (world old) (world new) (Stays (now (world old))) (OnlyCutBehind c rests (now (world old)))
       (λ m same. record {
+        unmade = λ f free. ap (λ (d : Folder). file_in d f) same;
         others = λ f free. ap (λ (d : Folder). file_in d f) same;
+        whole = λ f all. ap (λ (d : Folder). file_in d f) same;
         reads = λ f n on. ap (λ (d : Folder). take n (file_in d f).bytes) same;
         kept = λ f n on front long. subst (λ d. IsKept front (file_in d f)) (sym same);
       }) ran)

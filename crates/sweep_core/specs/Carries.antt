@@ -14,6 +14,7 @@ use Rattle.run_tiers.specs.Parts.{Paid}
 use Rattle.run_tiers.specs.Syncs.{IsSameOrFirm}
 use Rattle.sweep_core.specs.declared.checkpoint.Checkpoint.{Checkpoint}
 use Rattle.sweep_core.specs.Accounts.{Accounts, CanBeTaken}
+use Rattle.sweep_core.specs.Saving.{IsMadePart}
 use Rattle.sweep_core.specs.Tables.{Names}
 
 -- the file is of that step, behind its checkpoints
@@ -56,10 +57,13 @@ pub record IsStill {Job : Type 0} (in_step trusts : World → Type 0) (remains :
   pub keeps : (job : Job) → remains old job → remains new job
   pub fewer : (job : Job) → remains old job → left new job ≤ left old job
 
--- at a moment while a sweep is rebuilt, each file that its checkpoint doesn't rest on is as it was; and of each other
--- one the front that it rests on gives what it gave, and is kept where it was
-pub record OnlyCutBehind (rests : FileNo → ℕ → Type 0) (old m : Moment) : Type 0 where
+-- at a moment while a sweep is rebuilt, each file that no sweep of its step makes, each that its checkpoint doesn't rest
+-- on, and each of which it rests on all, is as it was; and of each other one the front that it rests on gives what it
+-- gave, and is kept where it was
+pub record OnlyCutBehind (c : Checkpoint) (rests : FileNo → ℕ → Type 0) (old m : Moment) : Type 0 where
+  pub unmade : (f : FileNo) → ¬ IsMadePart c.step c.next_part f → file_in m.folder f ≡ file_in old.folder f
   pub others : (f : FileNo) → ¬ (rests f 0) → file_in m.folder f ≡ file_in old.folder f
+  pub whole : (f : FileNo) → ((n : ℕ) → rests f n) → file_in m.folder f ≡ file_in old.folder f
   pub reads : (f : FileNo) (n : ℕ) → rests f n →
       take n (file_in m.folder f).bytes ≡ take n (file_in old.folder f).bytes
   pub kept : (f : FileNo) (n : ℕ) → rests f n → (front : List ℕ) → length front ≡ n →

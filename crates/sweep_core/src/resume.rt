@@ -110,7 +110,7 @@ pub trait Resume<'r>: Sweep<'r> {
 
         // what the call leaves, and what it costs
         ensures content { Told S.tells shelf.old shelf.new
-            (Ran (OnlyCutBehind (Self.saving.rests from.now) (now (S.world shelf.old)))
+            (Ran (OnlyCutBehind from.now (Self.saving.rests from.now) (now (S.world shelf.old)))
             (S.world shelf.old) (S.world shelf.new)) }
         ensures calls { IsTrue (S.tells shelf.new) → (task : Self.Task) → Self.saving.names from.now task →
             (S.world shelf.new).clock

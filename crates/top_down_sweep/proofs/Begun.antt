@@ -26,7 +26,7 @@ use Rattle.top_down_sweep.specs.declared.saved.SavedMachine.{SavedMachine}
 use Rattle.top_down_sweep.specs.declared.start.Files.{Files}
 use Rattle.top_down_sweep.specs.Calls.{IsStepAt, IsMachineInStep}
 use Rattle.top_down_sweep.specs.Rebuilds.{saved_place, phase_at}
-use Rattle.top_down_sweep.specs.Resumes.{Holds, saved_files, KeepsRules, Fits, GoesOn, StandsFor, Names, operand_calls, reading_calls}
+use Rattle.top_down_sweep.specs.Resumes.{Holds, saved_files, KeepsRules, Fits, GoesOn, StandsFor, Names, NamesAll, operand_calls, reading_calls}
 use Rattle.top_down_sweep.specs.ResumeLaws.{one_machine}
 use Rattle.top_down_sweep.specs.Saved.{machine_spelling}
 use Rattle.top_down_sweep.specs.Sweeps.{SweepTask, IsMade, IsRead}
@@ -40,6 +40,20 @@ one_kept {O} o long differ c x y a b first second =
     (IsPair machine_spelling.is_value o.is_value)
     (pair_differs machine_spelling.count o.count machine_spelling.words o.words machine_spelling.is_value o.is_value
     machine_spelling.long long machine_spelling.differ differ) (x, a) (y, b) c.carry first second
+
+-- so a checkpoint names one operation and one task
+pub one_named : {O : Type 0} (o : Ghosts O) → ((x : O) → o.is_value x → length (o.words x) ≡ o.count)
+    → ((x y : O) → o.is_value x → o.is_value y → o.words x ≡ o.words y → x ≡ y) → (c : Checkpoint) (a b : O)
+    (t u : SweepTask) → NamesAll o c a t → NamesAll o c b u → (a ≡ b) × (t ≡ u)
+one_named {O} o long differ c a b t u first second =
+    let same = one_kept o long differ c first.saved second.saved a b first.holds second.holds in
+    let machines : first.saved ≡ second.saved = ap (λ (p : SavedMachine × O). p.0) same in
+    let files : t.files ≡ u.files = sym first.files_are ∙ ap saved_files machines ∙ second.files_are in
+    let variables : t.variables ≡ u.variables =
+    sym first.variables_are ∙ ap (λ (m : SavedMachine). m.variables) machines ∙ second.variables_are in (
+      ap (λ (p : SavedMachine × O). p.1) same,
+      λ i. record { files = files i; variables = variables i },
+    )
 
 -- its files are those of its step
 pub of_step : (c : Checkpoint) (x : SavedMachine) → KeepsRules c x

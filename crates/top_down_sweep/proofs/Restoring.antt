@@ -34,7 +34,7 @@ use Rattle.node_reading.proofs.NodeReading.{trailer_before}
 use Rattle.saved_words.specs.declared.carried.Carried.{Ghosts}
 use Rattle.sweep_core.specs.declared.checkpoint.Checkpoint.{Checkpoint}
 use Rattle.sweep_core.specs.Carries.{OnlyCutBehind}
-use Rattle.sweep_core.specs.Saving.{reads_of}
+use Rattle.sweep_core.specs.Saving.{IsMadePart, reads_of}
 use Rattle.sweep_core.specs.Sweeps.{IsNoDamage}
 use Rattle.top_down.specs.declared.tuple.Tuple.{Tuple}
 use Rattle.top_down.specs.Rules.{Rule}
@@ -136,9 +136,23 @@ module _ (c : Checkpoint) (x : SavedMachine) (rules : KeepsRules c x) (old m : M
       (cut.second_kept front upto)
   rest_kept f front (OnRun before) = subst (IsKept front) (sym (run_same f (length front) before))
 
+  -- more bytes than it rests on of either file of arcs
+  beyond : ℕ
+  beyond = x.arcs.inner_count * arc_size + x.arcs.ends_count * arc_size + 1
+
+  whole_same : (f : FileNo) → IsRest c x f beyond → file_in m.folder f ≡ file_in old.folder f
+  unfolding beyond
+  whole_same f (OnOperand read) = operand_same f read
+  whole_same f (OnInner is upto) = absurd (omega (arith, upto))
+  whole_same f (OnEnds is upto) = absurd (omega (arith, upto))
+  whole_same f (OnRun before) = run_same f beyond before
+
   pub cut_rests : {O : Type 0} (o : Ghosts O) (operation : O) → Holds o c x operation
-      → OnlyCutBehind (RestsOn o c) old m
+      → OnlyCutBehind c (RestsOn o c) old m
   cut_rests o operation holds = record {
+    unmade = λ f free. cut.others f
+        (λ is. free (subst (IsMadePart c.step c.next_part) (sym is) rules.arcs.inner_made))
+        (λ is. free (subst (IsMadePart c.step c.next_part) (sym is) rules.arcs.ends_made));
     others = λ f free. cut.others f (λ is. free (record {
       saved = x;
       operation = operation;
@@ -150,6 +164,10 @@ module _ (c : Checkpoint) (x : SavedMachine) (rules : KeepsRules c x) (old m : M
       holds = holds;
       rests = OnEnds is (omega arith);
     }));
+    whole = λ f all.
+        let on = all beyond in
+        whole_same f (subst (λ (y : SavedMachine). IsRest c y f beyond)
+        (one_machine o c on.saved x on.operation operation on.holds holds) on.rests);
     reads = λ f n on. rest_reads f n (subst (λ (y : SavedMachine). IsRest c y f n)
         (one_machine o c on.saved x on.operation operation on.holds holds) on.rests);
     kept = λ f n on front long. rest_kept f front (subst (IsRest c x f) (sym long)

@@ -391,7 +391,7 @@ returns-clause-in_step g c = λ told.
       file_is = c.in_ok-writer.ensures.file;
       count_is = c.in_ok-writer.ensures.count;
       rest = ran_end (world c.args.shelf.now) (world c.next_end.new.shelf)
-          (OnlyCutBehind (RestsOn from) (now (world c.args.shelf.now))) ((returns-clause-content g c).did told);
+          (OnlyCutBehind from (RestsOn from) (now (world c.args.shelf.now))) ((returns-clause-content g c).did told);
       thawed = record {
         queue_list = thawed_queue from x (c.table_of.result ∷ c.table_of-2.result ∷ c.table_of-3.result ∷ [])
             c.last_arc.result c.thaw.result picked0 c.last_arc.ensures c.thaw.ensures.list;
@@ -532,7 +532,7 @@ returns-clause-remains g c = λ told d turns stands.
       file_is = c.in_ok-writer.ensures.file;
       count_is = c.in_ok-writer.ensures.count;
       rest = ran_end (world c.args.shelf.now) (world c.next_end.new.shelf)
-          (OnlyCutBehind (RestsOn from) (now (world c.args.shelf.now))) ((returns-clause-content g c).did told);
+          (OnlyCutBehind from (RestsOn from) (now (world c.args.shelf.now))) ((returns-clause-content g c).did told);
       thawed = record {
         queue_list = thawed_queue from x (c.table_of.result ∷ c.table_of-2.result ∷ c.table_of-3.result ∷ [])
             c.last_arc.result c.thaw.result picked0 c.last_arc.ensures c.thaw.ensures.list;

@@ -53,7 +53,7 @@ returns-in_err-passes_some-clause-undamaged g c = if_handed _ c.from_residual-in
 
 pub returns-in_err-passes_some-clause-content : goal.returns-in_err-passes_some-clause-content
 returns-in_err-passes_some-clause-content g c =
-    stays_cut g.S.Shelf.tells g.S.Shelf.world (RestsOn c.args.from.now) _ _
+    stays_cut g.S.Shelf.tells g.S.Shelf.world c.args.from.now (RestsOn c.args.from.now) _ _
     (stays_on g.S.Shelf.tells g.S.Shelf.world _ _ _ c.begin_at.ensures.content c.passes_some.ensures.content)
 
 pub returns-clause-in_step : goal.returns-clause-in_step
@@ -90,7 +90,7 @@ returns-clause-remains g c = λ told d turns stands.
 
 pub returns-clause-content : goal.returns-clause-content
 returns-clause-content g c =
-    stays_cut g.S.Shelf.tells g.S.Shelf.world (RestsOn c.args.from.now) _ _
+    stays_cut g.S.Shelf.tells g.S.Shelf.world c.args.from.now (RestsOn c.args.from.now) _ _
     (stays_on g.S.Shelf.tells g.S.Shelf.world _ _ _ c.begin_at.ensures.content c.passes_some.ensures.content)
 
 -- the file is read again

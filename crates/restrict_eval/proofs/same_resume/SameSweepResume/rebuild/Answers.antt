@@ -40,7 +40,7 @@ returns-in_err-right-clause-undamaged g c = if_handed _ c.from_residual-in_err-r
 
 pub returns-in_err-right-clause-content : goal.returns-in_err-right-clause-content
 returns-in_err-right-clause-content g c =
-    stays_cut g.S.Shelf.tells g.S.Shelf.world (RestsOn c.args.from.now) _ _
+    stays_cut g.S.Shelf.tells g.S.Shelf.world c.args.from.now (RestsOn c.args.from.now) _ _
     (stays_on g.S.Shelf.tells g.S.Shelf.world _ _ _ c.begin_at.ensures.content c.begin_at-2.ensures.content)
 
 -- the first file is read as it was
@@ -89,7 +89,7 @@ returns-in_err-state-clause-undamaged g c = if_handed _ c.from_residual-in_err-s
 
 pub returns-in_err-state-clause-content : goal.returns-in_err-state-clause-content
 returns-in_err-state-clause-content g c =
-    stays_cut g.S.Shelf.tells g.S.Shelf.world (RestsOn c.args.from.now) _ _
+    stays_cut g.S.Shelf.tells g.S.Shelf.world c.args.from.now (RestsOn c.args.from.now) _ _
     (stays_on g.S.Shelf.tells g.S.Shelf.world _ _ _
     (stays_on g.S.Shelf.tells g.S.Shelf.world _ _ _ c.begin_at.ensures.content c.begin_at-2.ensures.content)
     c.state.ensures.content)
@@ -133,7 +133,7 @@ returns-clause-remains g c = λ told d turns stands.
 
 pub returns-clause-content : goal.returns-clause-content
 returns-clause-content g c =
-    stays_cut g.S.Shelf.tells g.S.Shelf.world (RestsOn c.args.from.now) _ _
+    stays_cut g.S.Shelf.tells g.S.Shelf.world c.args.from.now (RestsOn c.args.from.now) _ _
     (stays_on g.S.Shelf.tells g.S.Shelf.world _ _ _
     (stays_on g.S.Shelf.tells g.S.Shelf.world _ _ _ c.begin_at.ensures.content c.begin_at-2.ensures.content)
     c.state.ensures.content)

@@ -50,7 +50,7 @@ returns-in_err-machine-clause-content g c =
     let old = g.S.Shelf.world c.args.shelf.now in
     told g.S.Shelf.tells c.args.shelf.now c.rebuild.new.shelf _ _ c.rebuild.ensures.content (λ _ ran.
     ran_weakens old (g.S.Shelf.world c.rebuild.new.shelf) (DuringCuts x.arcs.inner (x.arcs.inner_count * arc_size)
-    x.arcs.ends (x.arcs.ends_count * arc_size) (now old)) (OnlyCutBehind (RestsOn g.O.Carried from) (now old))
+    x.arcs.ends (x.arcs.ends_count * arc_size) (now old)) (OnlyCutBehind from (RestsOn g.O.Carried from) (now old))
     (λ at during. cut_rests from x
     (rules_of g.O.Carried from x c.in-Some.operation holds c.requires.fits) (now old) at during g.O.Carried
     c.in-Some.operation holds) ran)
@@ -115,7 +115,7 @@ returns-clause-content g c =
     let old = g.S.Shelf.world c.args.shelf.now in
     told g.S.Shelf.tells c.args.shelf.now c.rebuild.new.shelf _ _ c.rebuild.ensures.content (λ _ ran.
     ran_weakens old (g.S.Shelf.world c.rebuild.new.shelf) (DuringCuts x.arcs.inner (x.arcs.inner_count * arc_size)
-    x.arcs.ends (x.arcs.ends_count * arc_size) (now old)) (OnlyCutBehind (RestsOn g.O.Carried from) (now old))
+    x.arcs.ends (x.arcs.ends_count * arc_size) (now old)) (OnlyCutBehind from (RestsOn g.O.Carried from) (now old))
     (λ at during. cut_rests from x
     (rules_of g.O.Carried from x c.in-Some.operation holds c.requires.fits) (now old) at during g.O.Carried
     c.in-Some.operation holds) ran)
