@@ -1,5 +1,6 @@
 //! A copy that is saved between two turns, and goes on from there.
-ghost use Rattle.std.specs.Prelude.{◌≡◌, ◌≢◌, ◌↔◌, ◌+◌, ◌*◌, ◌<◌, ◌≤◌, min, IsTrue, IfOk, IfErr, OnOk, length, take};
+ghost use Rattle.std.specs.Prelude.{◌≡◌, ◌≢◌, ◌↔◌, ◌+◌, ◌*◌, ◌<◌, ◌≤◌, min, IsTrue, IfOk, IfErr, IfSome, IfNone, OnOk, length, take};
+ghost use Rattle.copy_sweep.specs.declared.copy.CopyTask.{CopyTask};
 ghost use Rattle.shelf_model.specs.World.{now, file};
 ghost use Rattle.shelf_model.specs.Calls.{Told, longest, most_piece};
 ghost use Rattle.shelf_model.specs.File.{firm_file};
@@ -7,10 +8,10 @@ ghost use Rattle.shelf_model.specs.Moments.{Ran, Stays};
 ghost use Rattle.run_tiers.specs.Faults.{OnlySortShelf};
 ghost use Rattle.sweep_core.specs.Saving.{reads_of};
 ghost use Rattle.copy_sweep.specs.Copies.{IsFailure};
-ghost use Rattle.copy_sweep.specs.Resumes.{OnlyBehind, IsShortFault, IsMisfitFault, pieces_of, KeepsRules, Fits};
+ghost use Rattle.copy_sweep.specs.Resumes.{OnlyBehind, IsShortFault, IsMisfitFault, pieces_of, KeepsRules, Fits, Names};
 
-use crate::CopySweep;
 use crate::saved::Saved;
+use crate::{CopySweep, CopyTask};
 use file_numbers::{INNER_PART, checkpoint_file};
 use rec_words::{NODE_SIZE, Rec};
 use run_tiers::Parts;
@@ -32,6 +33,19 @@ impl<'r> CopySweep<'r> {
         match value_of::<Saved>(&point.carry) {
             Some(saved) => point.tables == 0 && saved.keeps_rules(point),
             None => false,
+        }
+    }
+}
+
+impl<'r> CopySweep<'r> {
+    /// What a checkpoint says is copied, if its words are those of a copy. It takes no memory.
+    pub fn named(point: &Checkpoint) -> Option<CopyTask>
+        ensures found { IfSome result (Names point.now) }
+        ensures none { IfNone result ((task : CopyTask) → ¬ Names point.now task) }
+    {
+        match value_of::<Saved>(&point.carry) {
+            Some(saved) => Some(saved.task),
+            None => None,
         }
     }
 }

@@ -155,6 +155,13 @@ pub record Names (c : Checkpoint) (task : Task) : Type 0 where
   pub root_is : saved.arcs.root ≡ task.arcs.root
   pub variables_are : saved.variables ≡ task.variables
 
+-- its words say that the nodes of a diagram of so many variables are put into that file
+pub record Makes (c : Checkpoint) (out : FileNo) (n : ℕ) : Type 0 where
+  pub saved : Saved
+  pub holds : HasWords c saved
+  pub out_is : saved.out ≡ out
+  pub variables_are : saved.variables ≡ n
+
 -- its arc files, where it began with some arcs
 abbrev pub IsOperand : Task → FileNo → Type 0
 IsOperand task f = ((f ≡ task.arcs.inner) × (0 < task.arcs.inner_count))

@@ -4,7 +4,7 @@ ghost use Rattle.run_tiers.specs.Tables.{IsInUse, IsTable};
 ghost use Rattle.level_queue.specs.Tables.{table_at};
 ghost use Rattle.reduce_sweep.specs.Sweeps.{IsPhaseAt, IsNumberedAt};
 ghost use Rattle.reduce_sweep.specs.SavedTables.{tables_of, IsSavedTable, AreSavedTables, IsPicked};
-ghost use Rattle.reduce_sweep.specs.Resumes.{IsArcFile, IsKeptAtEnd, IsKeptAt, KeepsRules, Fits};
+ghost use Rattle.reduce_sweep.specs.Resumes.{IsArcFile, IsKeptAtEnd, IsKeptAt, KeepsRules, Fits, Makes};
 
 use crate::phase::{Numbered, Phase};
 use crate::reduce::ReduceSweep;
@@ -36,6 +36,16 @@ impl<'r> ReduceSweep<'r> {
             return false;
         };
         saved.keeps_rules(&phase, point)
+    }
+
+    /// Whether a checkpoint says that the nodes of a diagram of `n` variables are put into that file. It takes no memory.
+    pub fn names(point: &Checkpoint, out: FileNo, n: u32) -> bool
+        ensures { IsTrue result ↔ Makes point.now out n }
+    {
+        match value_of::<Saved>(&point.carry) {
+            Some(saved) => saved.out == out && saved.variables == n,
+            None => false,
+        }
     }
 }
 

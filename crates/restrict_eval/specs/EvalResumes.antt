@@ -123,6 +123,14 @@ pub record Names (c : Checkpoint) (task : Evaluated) : Type 0 where
   pub step_is : c.step ≡ task.parts.step
   pub next_is : c.next_part ≡ task.parts.next
 
+-- its words say that this file of so many variables is evaluated, at the bits from a byte of the text on
+pub record Evaluates (c : Checkpoint) (n : ℕ) (file : FileNo) (at : ℕ) : Type 0 where
+  pub saved : SavedEval
+  pub holds : Holds c saved
+  pub variables_are : saved.n ≡ n
+  pub file_is : saved.unread.file ≡ file
+  pub at_is : saved.at ≡ at
+
 abbrev pub eval_saving : Saving Evaluated OneTable
 eval_saving = record {
   operands = λ task f. f ≡ task.file;

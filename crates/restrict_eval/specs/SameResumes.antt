@@ -118,6 +118,14 @@ pub record Names (c : Checkpoint) (task : Compared) : Type 0 where
   pub step_is : c.step ≡ task.parts.step
   pub next_is : c.next_part ≡ task.parts.next
 
+-- its words say that these two files of so many variables are compared
+pub record Compares (c : Checkpoint) (n : ℕ) (left right : FileNo) : Type 0 where
+  pub saved : SavedSame
+  pub holds : Holds c saved
+  pub variables_are : saved.n ≡ n
+  pub first_is : saved.left.file ≡ left
+  pub second_is : saved.right.file ≡ right
+
 abbrev pub same_saving : Saving Compared Tables
 same_saving = record {
   operands = λ task f. (f ≡ task.first) ⊎ (f ≡ task.second);

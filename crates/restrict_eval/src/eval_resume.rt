@@ -6,7 +6,7 @@ ghost use Rattle.shelf_model.specs.World.{now};
 ghost use Rattle.run_tiers.specs.Faults.{OnlySortShelf};
 ghost use Rattle.sweep_core.specs.Saving.{reads_of};
 ghost use Rattle.restrict_eval.specs.Eval.{IsPlaceAt};
-ghost use Rattle.restrict_eval.specs.EvalResumes.{Fits, KeepsRules, saved_of, IsPassedFault};
+ghost use Rattle.restrict_eval.specs.EvalResumes.{Fits, Evaluates, KeepsRules, saved_of, IsPassedFault};
 
 use crate::EvalSweep;
 use crate::following::Following;
@@ -17,7 +17,7 @@ use node_reading::Unread;
 use rec_words::{NODE_SIZE, Rec};
 use run_merge::Parts;
 use saved_words::{value_of, words_of};
-use shelf_model::{LONGEST, Shelf, SortFault};
+use shelf_model::{FileNo, LONGEST, Shelf, SortFault};
 use sweep_core::{Checkpoint, Resume, checkpoint_place, fill_without_runs, is_read_part};
 
 impl<'r> EvalSweep<'r> {
@@ -27,6 +27,17 @@ impl<'r> EvalSweep<'r> {
     {
         match value_of::<SavedEval>(&point.carry) {
             Some(saved) => point.tables == 0 && saved.keeps_rules(point, text),
+            None => false,
+        }
+    }
+
+    /// Whether a checkpoint says that this file of `n` variables is evaluated, at the bits from that byte of the text on.
+    /// It takes no memory.
+    pub fn names(point: &Checkpoint, n: u32, file: FileNo, at: u32) -> bool
+        ensures { IsTrue result ↔ Evaluates point.now n file at }
+    {
+        match value_of::<SavedEval>(&point.carry) {
+            Some(saved) => saved.n == n && saved.unread.file == file && saved.at == at,
             None => false,
         }
     }

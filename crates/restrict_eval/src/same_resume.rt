@@ -10,7 +10,7 @@ ghost use Rattle.sweep_core.specs.Sweeps.{IsNoDamage};
 ghost use Rattle.node_reading.specs.Reading.{bytes_of, IsBegun, IsReading, IsNodeFault};
 ghost use Rattle.restrict_eval.specs.Canonical.{AreLeftBut};
 ghost use Rattle.restrict_eval.specs.Same.{fuel_at};
-ghost use Rattle.restrict_eval.specs.SameResumes.{Fits, KeepsRules, saved_of, behind_hand, at_hand, turns_of, GoesOnFrom};
+ghost use Rattle.restrict_eval.specs.SameResumes.{Fits, Compares, KeepsRules, saved_of, behind_hand, at_hand, turns_of, GoesOnFrom};
 ghost use Rattle.rec_words.specs.declared.node.Node.{Node};
 
 use crate::SameSweep;
@@ -24,7 +24,7 @@ use node_reading::{Unread, next_node};
 use rec_words::{NODE_SIZE, Rec};
 use run_merge::Parts;
 use saved_words::{value_of, words_of};
-use shelf_model::{LONGEST, Shelf, SortFault};
+use shelf_model::{FileNo, LONGEST, Shelf, SortFault};
 use sweep_core::{Checkpoint, Resume, fill_without_runs, is_read_part};
 
 impl<'r> SameSweep<'r> {
@@ -34,6 +34,16 @@ impl<'r> SameSweep<'r> {
     {
         match value_of::<SavedSame>(&point.carry) {
             Some(saved) => point.tables == 0 && saved.keeps_rules(point),
+            None => false,
+        }
+    }
+
+    /// Whether a checkpoint says that these two files of `n` variables are compared. It takes no memory.
+    pub fn names(point: &Checkpoint, n: u32, left: FileNo, right: FileNo) -> bool
+        ensures { IsTrue result ↔ Compares point.now n left right }
+    {
+        match value_of::<SavedSame>(&point.carry) {
+            Some(saved) => saved.n == n && saved.left.file == left && saved.right.file == right,
             None => false,
         }
     }

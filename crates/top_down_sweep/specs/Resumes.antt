@@ -227,6 +227,13 @@ pub record Names {O : Type 0} (o : Ghosts O) (c : Checkpoint) (task : SweepTask)
   pub files_are : saved_files saved ≡ task.files
   pub variables_are : saved.variables ≡ task.variables
 
+-- and that they are those of the operation
+pub record NamesAll {O : Type 0} (o : Ghosts O) (c : Checkpoint) (operation : O) (task : SweepTask) : Type 0 where
+  pub saved : SavedMachine
+  pub holds : Holds o c saved operation
+  pub files_are : saved_files saved ≡ task.files
+  pub variables_are : saved.variables ≡ task.variables
+
 -- no more calls than these read on in an operand of these bytes
 abbrev pub operand_calls : List ℕ → ℕ
 operand_calls bytes = 5 + count_of bytes / 8

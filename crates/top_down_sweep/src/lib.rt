@@ -39,6 +39,7 @@ pub use operation::Operation;
 pub use product::Product;
 pub use quantified::Quantified;
 pub use restricted::Restricted;
+pub use resume::Named;
 pub use start::Files;
 pub use steps::StepOperation;
 pub use sweep::TopDownSweep;
