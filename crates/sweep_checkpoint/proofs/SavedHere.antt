@@ -1,6 +1,6 @@
 -- A sweep that is saved where it is: what a stop may leave meanwhile, and what stands afterwards.
 use Rattle.std.proofs.Common.{◌≡◌, ◌≢◌, ◌⊎◌, ℕ, ◌+◌, ◌*◌, ◌^◌, ◌<◌, ◌≤◌, Bool, IsTrue, List, [], ◌∷◌, ◌++◌, length, take, refl, sym, ap, subst, ◌∙◌, inl, inr, arith}
-use Rattle.std.specs.Prelude.{Option, Some, All}
+use Rattle.std.specs.Prelude.{Option, All}
 use Rattle.std.proofs.lemmas.List.{length-take-le, length-append}
 use Rattle.shelf_model.specs.declared.file_no.FileNo.{FileNo}
 use Rattle.shelf_model.specs.File.{File}
@@ -19,12 +19,11 @@ use Rattle.sweep_core.specs.Saving.{Saving, IsReadPart, IsOfStep, IsRestingPlace
 use Rattle.sweep_core.specs.Resting.{read_rests}
 use Rattle.sweep_core.specs.Carries.{OnlySaved, IsUsed}
 use Rattle.sweep_checkpoint.specs.Points.{point_bytes, Fits}
-use Rattle.sweep_checkpoint.specs.Gated.{present, last_gated}
 use Rattle.sweep_checkpoint.specs.Saves.{gated_size, IsGateSure, DuringSave, IsSaved}
 use Rattle.sweep_checkpoint.specs.Retires.{IsGivenUp}
-use Rattle.sweep_checkpoint.specs.Going.{IsOfGoing, IsAsBefore, GoesOn, Stands, AreSure}
+use Rattle.sweep_checkpoint.specs.Going.{IsOfGoing, IsPaid, IsAsBefore, GoesOn, Stands, AreSure}
 use Rattle.sweep_checkpoint.proofs.Parts.{length_point}
-use Rattle.sweep_checkpoint.proofs.AsBefore.{of_step_later, as_before, as_before_then, before_saved, points_not_made, gate_not_made, gate_stays, same_last}
+use Rattle.sweep_checkpoint.proofs.AsBefore.{of_step_later, as_before, as_before_then, before_saved, points_not_made, gate_not_made, gate_stays}
 use Rattle.sweep_checkpoint.proofs.Standing.{operand_firm, Ready, stands_image, stands_retired, ready_goes_on, ready_saved}
 
 -- the files of a step that change meanwhile: first those of the sweep
@@ -153,22 +152,13 @@ module _ {Task Job : Type 0} (saving : Saving Task Job)
       (stands_retired saving stays apart makes operands step later budget sweep task job turns older (now mid).folder m.folder s
       (subst (λ d. OnlyChanges (IsGivenUp older d) (now mid).folder m.folder) (sym is) only)) is_image)) run
 
--- the gate and the operands stay sure
-pub sure_stays : (makes operands : FileNo → Type 0) (step next : ℕ) (old m : Moment) → IsOfStep makes operands step next
-    → OnlySaved makes step next old m → AreSure operands step old.folder → AreSure operands step m.folder
-sure_stays makes operands step next old m files saved sure = record {
-  gate = subst IsFirm (sym (gate_stays makes operands step next old m files saved)) sure.gate;
-  operands_are = λ f operand. operand_firm makes operands step next old m f files saved operand (sure.operands_are f operand);
-}
+-- the same under the number of the step
+pub left_at : {Task Job : Type 0} (saving : Saving Task Job) (makes : FileNo → Type 0) (s step next budget sweep : ℕ) (task : Task) (job : Job) (turns : ℕ) (old new : World) (folder : Folder)
+    → s ≡ step → Throughout old new (AreLeft saving makes s next budget sweep task job turns folder) → Throughout old new (AreLeft saving makes step next budget sweep task job turns folder)
+left_at saving makes s step next budget sweep task job turns old new folder at left = subst (λ k. Throughout old new (AreLeft saving makes k next budget sweep task job turns folder)) at left
 
-module _ {S Task Job : Type 0} (tells : S → Bool) (world : S → World)
-    (files_are : (s : S) → IsTrue (tells s) → AreFiles (now (world s)).folder) (saving : Saving Task Job)
-    (stays : (c : Checkpoint) (text : List ℕ) (old new : FileNo → List ℕ) (job : Job) (turns : ℕ) → saving.fits c text
-    → ((f : FileNo) (n : ℕ) → saving.rests c f n → take n (new f) ≡ take n (old f))
-    → saving.stands c text old job turns → saving.stands c text new job turns)
-    (apart : (c : Checkpoint) (text : List ℕ) (f : FileNo) (n : ℕ) → saving.fits c text → saving.rests c f n → IsRestingPlace c f)
-    (makes operands : FileNo → Type 0) (next later budget sweep : ℕ) (task : Task) (d : Checkpoint) where
-  -- a sweep was made ready, and filled the checkpoint
+-- a sweep was made ready, and filled the checkpoint; then that was saved
+module _ {S : Type 0} (tells : S → Bool) (world : S → World) (makes operands : FileNo → Type 0) (next later : ℕ) (d : Checkpoint) where
   pub record IsCarried (old mid : S) : Type 0 where
     pub files : IsOfStep makes operands d.step next
     pub content : Told tells old mid (Ran (OnlySaved makes d.step next (now (world old))) (world old) (world mid))
@@ -226,17 +216,6 @@ module _ {S Task Job : Type 0} (tells : S → Bool) (world : S → World)
       let count : length (file (world end) (checkpoint_gate d.step)).bytes ≡ length (file (world new) (checkpoint_gate d.step)).bytes = ap (λ (x : File). length x.bytes) gate in
       omega (arith, whole, long, count)
 
-  pub gated_on : (older : Option Checkpoint) (mid new end : S)
-      → (IsTrue (tells new) → IsSaved d (now (world mid)).folder (now (world new)).folder)
-      → Told tells new end (Ran (OnlyChanged (IsGivenUp older d) (now (world new))) (world new) (world end))
-      → IsTrue (tells end) → last_gated d.step (present (now (world end)).folder) ≡ Some (point_bytes d)
-  gated_on older mid new end saved retires told_end =
-      let only = ran_end (world new) (world end) (OnlyChanged (IsGivenUp older d) (now (world new))) (retires.did told_end) in
-      same_last d.step (present (now (world end)).folder) (present (now (world new)).folder)
-      (ap (λ (x : File). x.bytes) (only (checkpoint_file d.step) (λ is. let from = is.from in absurd (omega (arith, from)))))
-      (ap (λ (x : File). x.bytes) (only (checkpoint_gate d.step) (λ is. let from = is.from in absurd (omega (arith, from)))))
-      ∙ (saved (retires.before told_end)).reads
-
   pub carried_at : (old mid : S) (step : ℕ) → d.step ≡ step → IsOfStep makes operands step next
       → Told tells old mid (Ran (OnlySaved makes step next (now (world old))) (world old) (world mid)) → next ≤ later → IsCarried old mid
   carried_at old mid step at files content more = record {
@@ -245,103 +224,105 @@ module _ {S Task Job : Type 0} (tells : S → Bool) (world : S → World)
     more = more;
   }
 
-  module _ (job : Job) (turns left : ℕ) where
-    -- the checkpoint is ready: its head was written, and the sweep filled it
-    pub ready_by : (old mid : S) → IsCarried old mid → IsTrue (tells mid) → (turns_made left_before : ℕ) → d.sweep ≡ sweep → d.turns ≡ turns_made
-        → d.budget ≡ budget → sweep ≤ 1 → turns_made < 2 ^ 62 → IsFilled later d → d.next_part ≤ 2 ^ 32 → Fits d → saving.names d task → saving.fits d (saving.text task)
-        → saving.stands d (saving.text task) (reads_of (world mid)) job left → left ≤ left_before → turns ≡ turns_made + left_before
-        → AreSure operands d.step (now (world old)).folder
-        → ((f : FileNo) (n : ℕ) → saving.rests d f n → IsSure makes operands (world mid) f n)
-        → Ready saving makes operands d.step later budget sweep task job turns d left (now (world mid)).folder
-    ready_by old mid carried told_mid turns_made left_before sweep_is turns_are budget_is one few filled most words names fits stands fewer all sure rests =
-        let least : 3 ≤ next = carried.files.parts in
-        let more : next ≤ later = carried.more in
-        let next_is : d.next_part ≡ later = filled.next_is in
-        record {
+module _ {S Task Job : Type 0} (tells : S → Bool) (world : S → World)
+    (files_are : (s : S) → IsTrue (tells s) → AreFiles (now (world s)).folder) (saving : Saving Task Job)
+    (stays : (c : Checkpoint) (text : List ℕ) (old new : FileNo → List ℕ) (job : Job) (turns : ℕ) → saving.fits c text
+    → ((f : FileNo) (n : ℕ) → saving.rests c f n → take n (new f) ≡ take n (old f))
+    → saving.stands c text old job turns → saving.stands c text new job turns)
+    (apart : (c : Checkpoint) (text : List ℕ) (f : FileNo) (n : ℕ) → saving.fits c text → saving.rests c f n → IsRestingPlace c f)
+    (makes operands : FileNo → Type 0) (next later budget sweep : ℕ) (task : Task) (d : Checkpoint) (job : Job) (turns left : ℕ) where
+  -- the checkpoint is ready: its head was written, and the sweep filled it
+  pub ready_by : (old mid : S) → IsCarried tells world makes operands next later d old mid → IsTrue (tells mid) → (turns_made left_before : ℕ) → d.sweep ≡ sweep → d.turns ≡ turns_made
+      → d.budget ≡ budget → sweep ≤ 1 → turns_made < 2 ^ 62 → IsFilled later d → d.next_part ≤ 2 ^ 32 → IsPaid d → Fits d → saving.names d task → saving.fits d (saving.text task)
+      → saving.stands d (saving.text task) (reads_of (world mid)) job left → left ≤ left_before → turns ≡ turns_made + left_before
+      → AreSure operands d.step (now (world old)).folder
+      → ((f : FileNo) (n : ℕ) → saving.rests d f n → IsSure makes operands (world mid) f n)
+      → Ready saving makes operands d.step later budget sweep task job turns d left (now (world mid)).folder
+  ready_by old mid carried told_mid turns_made left_before sweep_is turns_are budget_is one few filled most paid words names fits stands fewer all sure rests =
+      let least : 3 ≤ next = carried.files.parts in
+      let more : next ≤ later = carried.more in
+      let next_is : d.next_part ≡ later = filled.next_is in
+      record {
+        step_is = refl;
+        sweep_is = sweep_is;
+        paid = paid;
+        rules = record {
           step_is = refl;
-          sweep_is = sweep_is;
-          rules = record {
-            step_is = refl;
-            budget_is = budget_is;
-            sweep = omega (arith, sweep_is, one);
-            parts = (omega (arith, least, more, next_is), most);
-            tables = filled.tables.tables;
-            runs = filled.tables.runs;
-            turns = omega (arith, turns_are, few);
-          };
-          words = words;
-          names = names;
-          fits = fits;
-          stands = stands;
-          few = omega (arith, turns_are, fewer, all);
-          sure = λ f n is. elim (rests f n is) [
-            | inl operand ↦ inl (
-              operand,
-              operand_firm makes operands d.step next (now (world old)) (now (world mid)) f carried.files
-                  (saved_by old mid carried told_mid) operand (sure.operands_are f operand),
-            )
-            | inr front ↦ inr front
-          ];
-          operands_are = λ f operand. operand_firm makes operands d.step next (now (world old)) (now (world mid)) f
-              carried.files (saved_by old mid carried told_mid) operand (sure.operands_are f operand);
-          operands_rest = λ f operand. read_rests d f (omega (arith, least, more, next_is))
-              (subst (λ m. IsReadPart d.step m f) (sym next_is)
-              ((of_step_later makes operands d.step next later more carried.files).others f operand));
-          taken = omega (arith, next_is);
-        }
+          budget_is = budget_is;
+          sweep = omega (arith, sweep_is, one);
+          parts = (omega (arith, least, more, next_is), most);
+          tables = filled.tables.tables;
+          runs = filled.tables.runs;
+          turns = omega (arith, turns_are, few);
+        };
+        words = words;
+        names = names;
+        fits = fits;
+        stands = stands;
+        few = omega (arith, turns_are, fewer, all);
+        sure = λ f n is. elim (rests f n is) [
+          | inl operand ↦ inl (
+            operand,
+            operand_firm makes operands d.step next (now (world old)) (now (world mid)) f carried.files
+                (saved_by tells world makes operands next later d old mid carried told_mid) operand (sure.operands_are f operand),
+          )
+          | inr front ↦ inr front
+        ];
+        operands_are = λ f operand. operand_firm makes operands d.step next (now (world old)) (now (world mid)) f
+            carried.files (saved_by tells world makes operands next later d old mid carried told_mid) operand (sure.operands_are f operand);
+        operands_rest = λ f operand. read_rests d f (omega (arith, least, more, next_is))
+            (subst (λ m. IsReadPart d.step m f) (sym next_is)
+            ((of_step_later makes operands d.step next later more carried.files).others f operand));
+        taken = omega (arith, next_is);
+      }
 
-    abbrev pub Left : Folder → Moment → Type 0
-    Left = AreLeft saving makes d.step next budget sweep task job turns
+  abbrev pub Left : Folder → Moment → Type 0
+  Left = AreLeft saving makes d.step next budget sweep task job turns
 
-    -- under the number of the step
-    pub left_at : (old new : World) (folder : Folder) (step : ℕ) → d.step ≡ step → Throughout old new (Left folder)
-        → Throughout old new (AreLeft saving makes step next budget sweep task job turns folder)
-    left_at old new folder step at left = subst (λ s. Throughout old new (AreLeft saving makes s next budget sweep task job turns folder)) at left
+  pub images_carry : (old mid : S) → IsCarried tells world makes operands next later d old mid → IsTrue (tells mid) → Throughout (world old) (world mid) (Left (now (world old)).folder)
+  images_carry old mid carried told_mid = ready_left saving stays apart makes operands d.step next budget sweep task job turns (world old) (world mid)
+      (files_are old (carried.content.before told_mid)) carried.files (carried.content.did told_mid)
 
-    pub images_carry : (old mid : S) → IsCarried old mid → IsTrue (tells mid) → Throughout (world old) (world mid) (Left (now (world old)).folder)
-    images_carry old mid carried told_mid = ready_left saving stays apart makes operands d.step next budget sweep task job turns (world old) (world mid)
-        (files_are old (carried.content.before told_mid)) carried.files (carried.content.did told_mid)
+  pub images_save : (old mid new : S) → IsCarried tells world makes operands next later d old mid → AreSure operands d.step (now (world old)).folder
+      → Ready saving makes operands d.step later budget sweep task job turns d left (now (world mid)).folder
+      → Told tells mid new (Ran (DuringSave d (now (world mid))) (world mid) (world new)) → IsTrue (tells new)
+      → Throughout (world old) (world new) (Left (now (world old)).folder)
+  images_save old mid new carried sure ready saves told_new =
+      let told_mid : IsTrue (tells mid) = saves.before told_new in
+      joins (world old) (world mid) (world new) (Left (now (world old)).folder) (images_carry old mid carried told_mid)
+      (save_left saving stays apart makes operands d.step next budget sweep task job turns (world old) (world mid) (world new) d later left
+      (files_are old (carried.content.before told_mid)) (files_are mid told_mid) carried.files carried.more (saved_by tells world makes operands next later d old mid carried told_mid) sure ready (saves.did told_new))
 
-    pub images_save : (old mid new : S) → IsCarried old mid → AreSure operands d.step (now (world old)).folder
-        → Ready saving makes operands d.step later budget sweep task job turns d left (now (world mid)).folder
-        → Told tells mid new (Ran (DuringSave d (now (world mid))) (world mid) (world new)) → IsTrue (tells new)
-        → Throughout (world old) (world new) (Left (now (world old)).folder)
-    images_save old mid new carried sure ready saves told_new =
-        let told_mid : IsTrue (tells mid) = saves.before told_new in
-        joins (world old) (world mid) (world new) (Left (now (world old)).folder) (images_carry old mid carried told_mid)
-        (save_left saving stays apart makes operands d.step next budget sweep task job turns (world old) (world mid) (world new) d later left
-        (files_are old (carried.content.before told_mid)) (files_are mid told_mid) carried.files carried.more (saved_by old mid carried told_mid) sure ready (saves.did told_new))
+  stands_by : (mid new : S) → Ready saving makes operands d.step later budget sweep task job turns d left (now (world mid)).folder
+      → Told tells mid new (Ran (DuringSave d (now (world mid))) (world mid) (world new))
+      → IsTrue (tells new) → IsSaved d (now (world mid)).folder (now (world new)).folder
+      → Stands saving makes operands d.step later budget sweep task job turns (now (world new)).folder
+  stands_by mid new ready saves told_new saved =
+      ready_saved saving stays apart makes operands d.step later budget sweep task job turns d left (now (world mid)) (now (world new)) ready
+      (ran_end (world mid) (world new) (DuringSave d (now (world mid))) (saves.did told_new)) saved
 
-    stands_by : (mid new : S) → Ready saving makes operands d.step later budget sweep task job turns d left (now (world mid)).folder
-        → Told tells mid new (Ran (DuringSave d (now (world mid))) (world mid) (world new))
-        → IsTrue (tells new) → IsSaved d (now (world mid)).folder (now (world new)).folder
-        → Stands saving makes operands d.step later budget sweep task job turns (now (world new)).folder
-    stands_by mid new ready saves told_new saved =
-        ready_saved saving stays apart makes operands d.step later budget sweep task job turns d left (now (world mid)) (now (world new)) ready
-        (ran_end (world mid) (world new) (DuringSave d (now (world mid))) (saves.did told_new)) saved
+  pub images_retire : (older : Option Checkpoint) (old mid new end : S) → IsCarried tells world makes operands next later d old mid → AreSure operands d.step (now (world old)).folder
+      → Ready saving makes operands d.step later budget sweep task job turns d left (now (world mid)).folder
+      → Told tells mid new (Ran (DuringSave d (now (world mid))) (world mid) (world new))
+      → (IsTrue (tells new) → IsSaved d (now (world mid)).folder (now (world new)).folder)
+      → Told tells new end (Ran (OnlyChanged (IsGivenUp older d) (now (world new))) (world new) (world end)) → IsTrue (tells end)
+      → Throughout (world old) (world end) (Left (now (world old)).folder)
+  unfolding stands_by ready_saved
+  images_retire older old mid new end carried sure ready saves saved retires told_end =
+      let told_new : IsTrue (tells new) = retires.before told_end in
+      joins (world old) (world new) (world end) (Left (now (world old)).folder) (images_save old mid new carried sure ready saves told_new)
+      (retire_left saving stays apart makes operands d.step next budget sweep task job turns (world old) (world new) (world end) d later older
+      (stands_by mid new ready saves told_new (saved told_new)) refl (retires.did told_end))
 
-    pub images_retire : (older : Option Checkpoint) (old mid new end : S) → IsCarried old mid → AreSure operands d.step (now (world old)).folder
-        → Ready saving makes operands d.step later budget sweep task job turns d left (now (world mid)).folder
-        → Told tells mid new (Ran (DuringSave d (now (world mid))) (world mid) (world new))
-        → (IsTrue (tells new) → IsSaved d (now (world mid)).folder (now (world new)).folder)
-        → Told tells new end (Ran (OnlyChanged (IsGivenUp older d) (now (world new))) (world new) (world end)) → IsTrue (tells end)
-        → Throughout (world old) (world end) (Left (now (world old)).folder)
-    unfolding stands_by ready_saved
-    images_retire older old mid new end carried sure ready saves saved retires told_end =
-        let told_new : IsTrue (tells new) = retires.before told_end in
-        joins (world old) (world new) (world end) (Left (now (world old)).folder) (images_save old mid new carried sure ready saves told_new)
-        (retire_left saving stays apart makes operands d.step next budget sweep task job turns (world old) (world new) (world end) d later older
-        (stands_by mid new ready saves told_new (saved told_new)) refl (retires.did told_end))
-
-    pub stands_retire : (older : Option Checkpoint) (mid new end : S)
-        → Ready saving makes operands d.step later budget sweep task job turns d left (now (world mid)).folder
-        → Told tells mid new (Ran (DuringSave d (now (world mid))) (world mid) (world new))
-        → (IsTrue (tells new) → IsSaved d (now (world mid)).folder (now (world new)).folder)
-        → Told tells new end (Ran (OnlyChanged (IsGivenUp older d) (now (world new))) (world new) (world end)) → IsTrue (tells end)
-        → Stands saving makes operands d.step later budget sweep task job turns (now (world end)).folder
-    unfolding stands_by ready_saved
-    stands_retire older mid new end ready saves saved retires told_end =
-        let told_new : IsTrue (tells new) = retires.before told_end in
-        stands_retired saving stays apart makes operands d.step later budget sweep task job turns older (now (world new)).folder (now (world end)).folder
-        (stands_by mid new ready saves told_new (saved told_new))
-        (ran_end (world new) (world end) (OnlyChanged (IsGivenUp older d) (now (world new))) (retires.did told_end))
+  pub stands_retire : (older : Option Checkpoint) (mid new end : S)
+      → Ready saving makes operands d.step later budget sweep task job turns d left (now (world mid)).folder
+      → Told tells mid new (Ran (DuringSave d (now (world mid))) (world mid) (world new))
+      → (IsTrue (tells new) → IsSaved d (now (world mid)).folder (now (world new)).folder)
+      → Told tells new end (Ran (OnlyChanged (IsGivenUp older d) (now (world new))) (world new) (world end)) → IsTrue (tells end)
+      → Stands saving makes operands d.step later budget sweep task job turns (now (world end)).folder
+  unfolding stands_by ready_saved
+  stands_retire older mid new end ready saves saved retires told_end =
+      let told_new : IsTrue (tells new) = retires.before told_end in
+      stands_retired saving stays apart makes operands d.step later budget sweep task job turns older (now (world new)).folder (now (world end)).folder
+      (stands_by mid new ready saves told_new (saved told_new))
+      (ran_end (world new) (world end) (OnlyChanged (IsGivenUp older d) (now (world new))) (retires.did told_end))

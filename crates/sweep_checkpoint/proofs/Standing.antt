@@ -18,7 +18,7 @@ use Rattle.sweep_checkpoint.specs.Rules.{KeepsRules}
 use Rattle.sweep_checkpoint.specs.Gated.{present, last_of, last_gated}
 use Rattle.sweep_checkpoint.specs.Saves.{gated_size, IsGateSure, IsLast, DuringSave, IsSaved}
 use Rattle.sweep_checkpoint.specs.Retires.{IsGivenUp}
-use Rattle.sweep_checkpoint.specs.Going.{IsAsBefore, GoesOn, Stands}
+use Rattle.sweep_checkpoint.specs.Going.{IsPaid, IsAsBefore, GoesOn, Stands}
 use Rattle.file_writes.proofs.Sure.{sure_bytes}
 use Rattle.sweep_checkpoint.proofs.Saved.{last_of-take}
 use Rattle.sweep_checkpoint.proofs.Parts.{length_point}
@@ -76,6 +76,7 @@ pub record Ready {Task Job : Type 0} (saving : Saving Task Job) (makes operands 
     (task : Task) (job : Job) (turns : ℕ) (c : Checkpoint) (left : ℕ) (folder : Folder) : Type 0 where
   pub step_is : c.step ≡ step
   pub rules : KeepsRules step budget c
+  pub paid : IsPaid c
   pub sweep_is : c.sweep ≡ sweep
   pub words : Fits c
   pub names : saving.names c task
@@ -110,6 +111,7 @@ module _ {Task Job : Type 0} (saving : Saving Task Job)
     point = g.point;
     last = last ∙ g.last;
     rules = g.rules;
+    paid = g.paid;
     sweep_is = g.sweep_is;
     words = g.words;
     names = g.names;
@@ -236,6 +238,7 @@ module _ {Task Job : Type 0} (saving : Saving Task Job)
       point = c;
       last = subst (λ k. last_gated k (bytes_in image) ≡ Some (point_bytes c)) o.step_is last;
       rules = o.rules;
+      paid = o.paid;
       sweep_is = o.sweep_is;
       words = o.words;
       names = o.names;
@@ -273,6 +276,7 @@ module _ {Task Job : Type 0} (saving : Saving Task Job)
             point = c;
             last = subst (λ k. last_gated k (present m.folder) ≡ Some (point_bytes c)) o.step_is saved.reads;
             rules = o.rules;
+            paid = o.paid;
             sweep_is = o.sweep_is;
             words = o.words;
             names = o.names;

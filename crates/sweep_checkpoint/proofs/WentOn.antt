@@ -22,7 +22,7 @@ use Rattle.sweep_checkpoint.specs.Saves.{gated_size}
 use Rattle.sweep_checkpoint.specs.Gated.{present, last_gated}
 use Rattle.sweep_checkpoint.specs.declared.going.Going.{Going}
 use Rattle.sweep_checkpoint.specs.Going.{IsOfGoing, IsAsBefore, GoesOn, Stands, AreSure, SameShown, IsShown}
-use Rattle.sweep_checkpoint.proofs.AsBefore.{of_step_later, of_step_as, as_before, as_before_then, points_stay, gate_stays, same_last}
+use Rattle.sweep_checkpoint.proofs.AsBefore.{of_step_later, as_before, as_before_then, points_stay, gate_stays, same_last}
 use Rattle.sweep_checkpoint.proofs.Standing.{operand_firm, stands_saved, stands_later, as_before_stands}
 use Rattle.sweep_checkpoint.proofs.SavedHere.{AreLeft, saved_changes, ran_changes, moments}
 
@@ -71,6 +71,13 @@ abbrev pub HasCome : {Task Job : Type 0} → Saving Task Job → (FileNo → Typ
 HasCome saving makes operands step next budget sweep task job turns later old m = OnlySaved makes step next old m
     ⊎ Stands saving makes operands step later budget sweep task job turns m.folder
 
+-- from the first moment on: what a stop may leave, and where the sweep has come to
+pub record Stage {Task Job : Type 0} (saving : Saving Task Job) (makes operands : FileNo → Type 0) (step next budget sweep : ℕ) (task : Task) (job : Job) (turns later : ℕ)
+    (old at : World) : Type 0 where
+  pub more : next ≤ later
+  pub images : Throughout old at (AreLeft saving makes step next budget sweep task job turns (now old).folder)
+  pub come : HasCome saving makes operands step next budget sweep task job turns later (now old) (now at)
+
 module _ {Task Job : Type 0} (saving : Saving Task Job)
     (stays : (c : Checkpoint) (text : List ℕ) (old new : FileNo → List ℕ) (job : Job) (turns : ℕ) → saving.fits c text
     → ((f : FileNo) (n : ℕ) → saving.rests c f n → take n (new f) ≡ take n (old f))
@@ -82,6 +89,7 @@ module _ {Task Job : Type 0} (saving : Saving Task Job)
     point = g.point;
     last = g.last;
     rules = g.rules;
+    paid = g.paid;
     sweep_is = g.sweep_is;
     words = g.words;
     names = g.names;
@@ -162,18 +170,12 @@ module _ {Task Job : Type 0} (saving : Saving Task Job)
   images_none w are_files files = stands w (AreLeft saving makes step next budget sweep task job turns (now w).folder)
       (λ image is_image. inl (as_before makes operands step next (now w) (now w) image are_files files (saved_none makes step next (now w)) is_image))
 
-  -- from the first moment on: what a stop may leave, and where the sweep has come to
-  pub record Stage (later : ℕ) (old at : World) : Type 0 where
-    pub more : next ≤ later
-    pub images : Throughout old at (AreLeft saving makes step next budget sweep task job turns (now old).folder)
-    pub come : HasCome saving makes operands step next budget sweep task job turns later (now old) (now at)
-
   -- once the sweep was saved, if that was due
   pub stage_save : (makes_now : FileNo → Type 0) (later last fewer : ℕ) (old at new : World) → ((f : FileNo) → makes_now f → makes f) → ((f : FileNo) → makes f → makes_now f)
-      → AreFiles (now old).folder → AreFiles (now at).folder → IsOfStep makes operands step next → later ≤ last → fewer ≤ turns → Stage later old at
+      → AreFiles (now old).folder → AreFiles (now at).folder → IsOfStep makes operands step next → later ≤ last → fewer ≤ turns → Stage saving makes operands step next budget sweep task job turns later old at
       → Throughout at new (AreLeft saving makes_now step later budget sweep task job fewer (now at).folder)
       → (OnlySaved makes_now step later (now at) (now new) ⊎ Stands saving makes_now operands step last budget sweep task job fewer (now new).folder)
-      → Stage last old new
+      → Stage saving makes operands step next budget sweep task job turns last old new
   stage_save makes_now later last fewer old at new made making are_files at_files files again less stage left come = record {
     more = let more = stage.more in omega (arith, more, again);
     images = images_on makes_now later fewer old at new made making are_files files stage.more less stage.come stage.images left;
@@ -182,8 +184,8 @@ module _ {Task Job : Type 0} (saving : Saving Task Job)
 
   -- once turns were made
   pub stage_turns : (makes_now : FileNo → Type 0) (later last : ℕ) (old at new : World) → ((f : FileNo) → makes_now f → makes f) → ((f : FileNo) → makes f → makes_now f)
-      → AreFiles (now old).folder → AreFiles (now at).folder → IsOfStep makes operands step next → later ≤ last → Stage later old at
-      → Ran (OnlyOwn makes_now step later (now at)) at new → Stage last old new
+      → AreFiles (now old).folder → AreFiles (now at).folder → IsOfStep makes operands step next → later ≤ last → Stage saving makes operands step next budget sweep task job turns later old at
+      → Ran (OnlyOwn makes_now step later (now at)) at new → Stage saving makes operands step next budget sweep task job turns last old new
   stage_turns makes_now later last old at new made making are_files at_files files again stage run =
       let then : IsOfStep makes operands step later = of_step_later makes operands step next later stage.more files in
       let own : Ran (OnlyOwn makes step later (now at)) at new = ran_weakens at new (OnlyOwn makes_now step later (now at)) (OnlyOwn makes step later (now at))

@@ -1,5 +1,5 @@
 -- What a stop may leave while a sweep goes on and is saved at times.
-use Rattle.std.specs.Prelude.{◌≡◌, ◌≢◌, ◌⊎◌, ℕ, ◌+◌, ◌-◌, ◌*◌, ◌<◌, ◌≤◌, min, max, List, length, take, Option, Some}
+use Rattle.std.specs.Prelude.{◌≡◌, ◌≢◌, ◌⊎◌, ℕ, ◌+◌, ◌-◌, ◌*◌, ◌^◌, ◌<◌, ◌≤◌, min, max, List, length, take, Option, Some}
 use Rattle.shelf_model.specs.declared.file_no.FileNo.{FileNo}
 use Rattle.shelf_model.specs.declared.sort_fault.SortFault.{SortFault}
 use Rattle.shelf_model.specs.declared.sort_fault.SortFault.TheVariants.{Shelf, Damaged, RunsSpent}
@@ -23,23 +23,29 @@ abbrev pub IsOfGoing : (FileNo → Type 0) → ℕ → FileNo → Type 0
 IsOfGoing makes step f = makes f ⊎ ((f.step ≡ step) × (checkpoint_part ≤ f.part))
 
 -- what a stop leaves agrees with an image of the folder as it was, in all that a checkpoint of then rests on: in the
--- last one that is gated, in each file that no sweep of the step writes from then on, and in what was sure of those that
--- this one makes
+-- last one that is gated, in each file that no sweep of the step writes from then on, and in what was sure of those
+-- that this one makes
 pub record IsAsBefore (makes : FileNo → Type 0) (step next : ℕ) (old : Folder) (r : FileNo → List ℕ) : Type 0 where
   pub before : Image
   pub is_image : IsImage old before
   pub last : last_gated step r ≡ last_gated step (bytes_in before)
-  pub others : (f : FileNo) → ¬ (makes f) → ¬ CanBeTaken step next f → f ≢ checkpoint_file step → f ≢ checkpoint_gate step
-      → r f ≡ bytes_in before f
+  pub others : (f : FileNo) → ¬ (makes f) → ¬ CanBeTaken step next f → f ≢ checkpoint_file step
+      → f ≢ checkpoint_gate step → r f ≡ bytes_in before f
   pub fronts : (f : FileNo) → makes f → (n : ℕ) → n ≤ (file_in old f).firm → take n (r f) ≡ take n (bytes_in before f)
 
+-- few part numbers were taken for the turns that were made
+abbrev pub IsPaid : Checkpoint → Type 0
+IsPaid c = 256 * c.next_part ≤ 131072 + 16 * c.turns
+
 module _ {Task Job : Type 0} (saving : Saving Task Job) where
-  -- the last checkpoint that is gated is one of the kind, of the first or the second sweep of its step, and with what the files hold it does the job; and with the
-  -- turns that were made before it no more than so many are needed
+  -- the last checkpoint that is gated is one of the kind, of the first or the second sweep of its step, and few parts
+  -- were taken for its turns; with what the files hold it does the job, and with the turns that were made before it no
+  -- more than so many are needed
   pub record GoesOn (step budget sweep : ℕ) (task : Task) (job : Job) (turns : ℕ) (r : FileNo → List ℕ) : Type 0 where
     pub point : Checkpoint
     pub last : last_gated step r ≡ Some (point_bytes point)
     pub rules : KeepsRules step budget point
+    pub paid : IsPaid point
     pub sweep_is : point.sweep ≡ sweep
     pub words : Fits point
     pub names : saving.names point task
@@ -65,12 +71,13 @@ pub record AreSure (operands : FileNo → Type 0) (step : ℕ) (folder : Folder)
   pub gate : IsGateSure step folder
   pub operands_are : (f : FileNo) → operands f → IsFirm (file_in folder f)
 
--- damage is at the place of the last checkpoint that is gated, where the file ends before the gate says
-abbrev pub IsShort : ℕ → Folder → SortFault → Type 0
-IsShort step folder Shelf = Unit
-IsShort step folder (Damaged f at) = (f ≡ checkpoint_file step) × (at ≡ gated_place step (present folder))
+-- damage is at the place of the last checkpoint that is gated, where the file ends before the gate says; and parts are
+-- spent where more of their numbers were taken than a checkpoint may say
+abbrev pub IsShort : ℕ → ℕ → Folder → SortFault → Type 0
+IsShort step next folder Shelf = Unit
+IsShort step next folder (Damaged f at) = (f ≡ checkpoint_file step) × (at ≡ gated_place step (present folder))
     × (length (file_in folder (checkpoint_file step)).bytes < gated_size step folder)
-IsShort step folder RunsSpent = ⊥
+IsShort step next folder RunsSpent = 2 ^ 32 < next
 
 -- the step, the sweep and the budget are the same
 pub record SameGoing (old new : Going) : Type 0 where
@@ -94,6 +101,15 @@ pub record IsShown (step : ℕ) (going : Going) (folder : Folder) : Type 0 where
 -- how many turns lie between two checkpoints
 abbrev pub interval_of : ℕ → ℕ
 interval_of budget = max (min budget 65536) 1
+
+-- so few part numbers were taken that the next checkpoint is paid for. It shows 16,384 turns or more beyond those that
+-- the last one shows: each of them pays 16 and takes 12, and of the 65,536 that are left a save takes 4,608, so that
+-- 60,928 may be owed before
+pub record IsPaidTo {P : Type 0} (accounts : Accounts P) (going : Going) (p : P) : Type 0 where
+  pub interval : 16384 ≤ interval_of going.budget
+  pub shown : going.shown ≤ going.turns
+  pub paid : 256 * accounts.next p + accounts.stock p
+      ≤ 131072 + 16 * going.shown + 12 * (going.turns - going.shown) + 60928
 
 -- what so many turns and so many saves take of a step's parts: of the 256 that each part is paid with, a turn 12 and a
 -- save 4,608

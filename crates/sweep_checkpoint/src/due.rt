@@ -1,5 +1,5 @@
 //! Saving a sweep where it is, when that is due.
-ghost use Rattle.std.specs.Prelude.{◌≡◌, ◌⊎◌, ◌+◌, ◌-◌, ◌^◌, ◌<◌, ◌≤◌, IsTrue, IsErrOf, OnOk, IfErr, length};
+ghost use Rattle.std.specs.Prelude.{◌≡◌, ◌⊎◌, ◌+◌, ◌-◌, ◌^◌, ◌<◌, ◌≤◌, IsTrue, IsErrOf, OnOk, OnErr, IfErr, length};
 ghost use Rattle.shelf_model.specs.declared.file_no.FileNo.{FileNo};
 ghost use Rattle.shelf_model.specs.Calls.{Told};
 ghost use Rattle.shelf_model.specs.Folder.{Image, IsImage, bytes_in};
@@ -11,7 +11,7 @@ ghost use Rattle.sweep_core.specs.Saving.{IsOfStep};
 ghost use Rattle.sweep_core.specs.Sweeps.{IsNoDamage};
 ghost use Rattle.sweep_core.specs.Carries.{OnlySaved};
 ghost use Rattle.sweep_checkpoint.specs.Saves.{gated_size};
-ghost use Rattle.sweep_checkpoint.specs.Going.{IsOfGoing, IsAsBefore, GoesOn, Stands, AreSure, IsShort, SameGoing, SameShown, IsShown, interval_of, TakesCalls, WasNotSaved, WasSaved};
+ghost use Rattle.sweep_checkpoint.specs.Going.{IsOfGoing, IsAsBefore, GoesOn, Stands, AreSure, IsShort, SameGoing, SameShown, IsShown, IsPaidTo, interval_of, TakesParts, TakesCalls, WasNotSaved, WasSaved};
 ghost use Rattle.sweep_checkpoint.specs.Retires.{first_taken};
 
 use crate::blank::NO_RUN;
@@ -27,15 +27,18 @@ const TURNS_END: u64 = 1 << 61;
 /// The most parts of a step.
 const MOST_PARTS: u64 = 1 << 32;
 
-/// Saves the sweep where it is, and gives up the runs that the older checkpoint names and the new one doesn't: where the
-/// turns that no checkpoint shows are as many as an interval or more, while those of the step are below 2^61.
+/// Saves the sweep where it is, and gives up the runs that the older checkpoint names and the new one doesn't: where
+/// the turns that no checkpoint shows are as many as an interval or more, while those of the step are below 2^61.
+///
+/// A refusal is one of the sweep's own or of the folder, or more part numbers were taken than a checkpoint may say.
 pub(crate) fn save_if_due<'r, P: Resume<'r>, S: Shelf>(
     sweep: &mut P,
     going: &mut Going,
     shelf: &mut S,
 ) -> Result<(), SortFault>
     requires ready { P.ready sweep.old }
-    requires works { 0 < P.fuel sweep.old }
+    requires works { (0 < P.fuel sweep.old)
+        ⊎ (going.old.turns - going.old.shown < interval_of going.old.budget) }
     requires in_step { IsTrue (S.tells shelf.old) → P.in_step sweep.old (S.world shelf.old) }
     requires files { IsOfStep (P.accounts.makes sweep.old) (P.saving.operands (P.task sweep.old))
         (P.accounts.step sweep.old) (P.accounts.next sweep.old) }
@@ -46,13 +49,16 @@ pub(crate) fn save_if_due<'r, P: Resume<'r>, S: Shelf>(
     ensures fuel { OnOk result (P.fuel sweep.new ≡ P.fuel sweep.old) }
     ensures going { SameGoing going.old going.new }
     ensures turns { going.new.turns ≡ going.old.turns }
-    ensures due { OnOk result (going.new.turns < 2 ^ 61 → P.accounts.next sweep.new ≤ 2 ^ 32 →
+    ensures due { OnOk result (going.new.turns < 2 ^ 61 →
         (going.new.turns - going.new.shown < interval_of going.old.budget) ⊎ (going.new.shown ≡ going.new.turns)) }
-    ensures parts { OnOk result (P.accounts.next sweep.new ≤ 2 ^ 32 →
+    ensures parts { OnOk result (
         WasNotSaved P.accounts going.old going.new (S.world shelf.old) (S.world shelf.new) sweep.old sweep.new
         ⊎ WasSaved P.accounts going.old going.new sweep.old sweep.new) }
+    ensures refused { OnErr result ((going.new ≡ going.old)
+        × (going.old.shown + interval_of going.old.budget ≤ going.old.turns)) }
     ensures calls { IsTrue (S.tells shelf.new) → TakesCalls P.accounts 0 1 (first_taken going.old.last)
         (S.world shelf.old) (S.world shelf.new) sweep.old sweep.new }
+    ensures takes { TakesParts P.accounts 0 1 sweep.old sweep.new }
     ensures shown { OnOk result (IsTrue (S.tells shelf.new) →
         SameShown going.old going.new (now (S.world shelf.old)).folder (now (S.world shelf.new)).folder
         ⊎ IsShown going.old.step going.new (now (S.world shelf.new)).folder) }
@@ -66,11 +72,16 @@ pub(crate) fn save_if_due<'r, P: Resume<'r>, S: Shelf>(
     ensures trusts { OnOk result (IsTrue (S.tells shelf.new) →
         P.trusts sweep.old (S.world shelf.old) → P.trusts sweep.new (S.world shelf.new)) }
     ensures damage { IfErr result (λ e. IsTrue (S.tells shelf.new) → P.trusts sweep.old (S.world shelf.old) →
-        P.damaged sweep.new (S.world shelf.new) e ⊎ IsShort going.old.step (now (S.world shelf.new)).folder e) }
+        P.damaged sweep.new (S.world shelf.new) e
+        ⊎ IsShort going.old.step (P.accounts.next sweep.new) (now (S.world shelf.new)).folder e) }
     ensures undamaged { IfErr result (λ e. IsTrue (S.tells shelf.new) → (job : P.Job) →
         P.remains sweep.old (S.world shelf.old) job →
         gated_size going.old.step (now (S.world shelf.old)).folder
         ≤ length (file (S.world shelf.old) (checkpoint_file going.old.step)).bytes → IsNoDamage e) }
+    ensures covered { IfErr result (λ e. IsTrue (S.tells shelf.new) → P.trusts sweep.old (S.world shelf.old) →
+        gated_size going.old.step (now (S.world shelf.old)).folder
+        ≤ length (file (S.world shelf.old) (checkpoint_file going.old.step)).bytes →
+        P.damaged sweep.new (S.world shelf.new) e ⊎ IsNoDamage e) }
     ensures covers { OnOk result (IsTrue (S.tells shelf.new) →
         gated_size going.old.step (now (S.world shelf.old)).folder
         ≤ length (file (S.world shelf.old) (checkpoint_file going.old.step)).bytes →
@@ -83,6 +94,7 @@ pub(crate) fn save_if_due<'r, P: Resume<'r>, S: Shelf>(
         (S.world shelf.old) (S.world shelf.new)) }
     ensures images { IsTrue (S.tells shelf.new) → (job : P.Job) → P.remains sweep.old (S.world shelf.old) job →
         AreSure (P.saving.operands (P.task sweep.old)) going.old.step (now (S.world shelf.old)).folder →
+        (going.old.turns < 2 ^ 64 - 1 → IsPaidTo P.accounts going.old sweep.old) →
         Throughout (S.world shelf.old) (S.world shelf.new) (λ (m : Moment). (image : Image) → IsImage m.folder image →
         IsAsBefore (P.accounts.makes sweep.old) going.old.step (P.accounts.next sweep.old)
         (now (S.world shelf.old)).folder (bytes_in image)
@@ -91,6 +103,7 @@ pub(crate) fn save_if_due<'r, P: Resume<'r>, S: Shelf>(
     ensures stands { OnOk result (IsTrue (S.tells shelf.new) → (job : P.Job) →
         P.remains sweep.old (S.world shelf.old) job →
         AreSure (P.saving.operands (P.task sweep.old)) going.old.step (now (S.world shelf.old)).folder →
+        (going.old.turns < 2 ^ 64 - 1 → IsPaidTo P.accounts going.old sweep.old) →
         OnlySaved (P.accounts.makes sweep.old) going.old.step (P.accounts.next sweep.old)
         (now (S.world shelf.old)) (now (S.world shelf.new))
         ⊎ Stands P.saving (P.accounts.makes sweep.old) (P.saving.operands (P.task sweep.old)) going.old.step
@@ -121,9 +134,9 @@ pub(crate) fn save_if_due<'r, P: Resume<'r>, S: Shelf>(
         runs: [[NO_RUN; 64]; 9],
     };
     sweep.carry(shelf, &mut point)?;
-    // The last of the part numbers was taken, which no checkpoint may say.
+    // More part numbers were taken than a checkpoint may say.
     if point.next_part > MOST_PARTS {
-        return Ok(());
+        return Err(SortFault::RunsSpent);
     }
     save(&point, shelf)?;
     retire(going.last.as_ref(), &point, shelf)?;

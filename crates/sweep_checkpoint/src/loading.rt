@@ -1,5 +1,5 @@
 //! Loading the last checkpoint that is gated.
-ghost use Rattle.std.specs.Prelude.{◌≡◌, ◌+◌, ◌-◌, ◌*◌, ◌^◌, ◌<◌, ◌≤◌, IsTrue, IfOk, IfErr, length};
+ghost use Rattle.std.specs.Prelude.{◌≡◌, ◌+◌, ◌-◌, ◌*◌, ◌^◌, ◌<◌, ◌≤◌, IsTrue, IfOk, IfErr, IfSome, None, length};
 ghost use Rattle.shelf_model.specs.World.{now, file};
 ghost use Rattle.shelf_model.specs.Calls.{Told};
 ghost use Rattle.shelf_model.specs.Moments.{Ran, Stays};
@@ -7,6 +7,7 @@ ghost use Rattle.shelf_model.specs.Faults.{OnlyFolder, OnlyShelf};
 ghost use Rattle.file_numbers.specs.Files.{checkpoint_file, checkpoint_gate};
 ghost use Rattle.sweep_checkpoint.specs.Points.{point_size};
 ghost use Rattle.sweep_checkpoint.specs.Gated.{present};
+ghost use Rattle.sweep_checkpoint.specs.Rules.{KeepsRules};
 ghost use Rattle.file_writes.specs.Writes.{pieces};
 ghost use Rattle.sweep_checkpoint.specs.Loads.{DuringLoad, IsLoaded, IsLoadFault, ReadWhole, IsPointAt, IsPointFault};
 
@@ -30,12 +31,15 @@ pub fn load<S: Shelf>(
 ) -> Result<Option<Checkpoint>, StreamFault>
     ensures content { Told S.tells shelf.old shelf.new
         (Ran (DuringLoad step (now (S.world shelf.old))) (S.world shelf.old) (S.world shelf.new)) }
+    ensures rules { IfOk result (λ found. IfSome found (KeepsRules step budget)) }
     ensures ok { IfOk result (λ found. IsTrue (S.tells shelf.new)
         → IsLoaded step budget (now (S.world shelf.new)).folder found) }
     ensures err { IfErr result (λ fault. IsTrue (S.tells shelf.new)
         → IsLoadFault step budget (present (now (S.world shelf.old)).folder) fault) }
     ensures calls { IsTrue (S.tells shelf.new)
         → (S.world shelf.new).clock ≤ (S.world shelf.old).clock + 10 }
+    ensures few_calls { IfOk result (λ found. IsTrue (S.tells shelf.new) → found ≡ None
+        → (S.world shelf.new).clock ≤ (S.world shelf.old).clock + 2) }
     ensures faults { OnlyShelf (S.faults shelf.old) (S.faults shelf.new) result }
 {
     let gate = checkpoint_gate(step);
@@ -61,6 +65,7 @@ fn read_point<S: Shelf>(
     requires small { at + point_size ≤ 2 ^ 64 }
     ensures content { Told S.tells shelf.old shelf.new
         (Ran (Stays (now (S.world shelf.old))) (S.world shelf.old) (S.world shelf.new)) }
+    ensures rules { IfOk result (KeepsRules step budget) }
     ensures ok { IfOk result (λ point. IsTrue (S.tells shelf.new)
         → IsPointAt step budget at (file (S.world shelf.old) (checkpoint_file step)).bytes point) }
     ensures err { IfErr result (λ fault. IsTrue (S.tells shelf.new)

@@ -1,344 +1,248 @@
-use Rattle.std.proofs.Common.{◌+◌, ◌∙◌, ◌≤◌, length, rules, arith, refl, sym, ap, subst, inr}
+use Rattle.std.proofs.Common.{ℕ, ◌+◌, ◌-◌, ◌^◌, ◌∙◌, ◌<◌, ◌≤◌, IsTrue, length, rules, arith, refl, sym, ap, subst, inr}
 use Rattle.shelf_model.specs.Calls.{Told}
-use Rattle.shelf_model.specs.Moments.{Ran, OnlyChanged}
-use Rattle.shelf_model.specs.World.{now, file}
+use Rattle.shelf_model.specs.Moments.{Ran, Throughout, OnlyChanged}
+use Rattle.shelf_model.specs.World.{Moment, now, file}
 use Rattle.file_numbers.specs.Files.{checkpoint_file}
+use Rattle.sweep_core.specs.declared.checkpoint.Checkpoint.{Checkpoint}
+use Rattle.sweep_core.specs.Saving.{IsOfStep}
+use Rattle.sweep_core.specs.Carries.{IsStill}
 use Rattle.sweep_checkpoint.specs.Saves.{gated_size}
 use Rattle.sweep_checkpoint.specs.Retires.{first_taken}
-use Rattle.sweep_checkpoint.specs.Going.{IsOfGoing, AreSure, Stands}
-use Rattle.sweep_core.specs.Saving.{IsOfStep}
-use Rattle.sweep_checkpoint.proofs.Spent.{save_calls}
+use Rattle.sweep_checkpoint.specs.declared.going.Going.{Going}
+use Rattle.sweep_checkpoint.specs.Going.{IsOfGoing, IsPaidTo, AreSure, Stands, interval_of, TakesCalls}
+use Rattle.sweep_checkpoint.proofs.Spent.{save_calls, paid_point}
+use Rattle.sweep_checkpoint.proofs.Standing.{Ready}
 use Rattle.sweep_checkpoint.proofs.WentOn.{images_none}
-use Rattle.sweep_checkpoint.proofs.SavedHere.{carried_at, images_carry, images_save, images_retire, stands_retire, left_at, save_on, retire_on, works_on, covers_on, ready_by}
+use Rattle.sweep_checkpoint.proofs.SavedHere.{AreLeft, IsCarried, carried_at, images_carry, images_save, images_retire, stands_retire, left_at, save_on, retire_on, works_on, covers_on, ready_by}
+use Rattle.sweep_checkpoint.proofs.due.save_if_due.Given as given
 use Rattle.sweep_checkpoint.proofs.due.save_if_due.Goals as goal
+use Rattle.sweep_checkpoint.proofs.due.save_if_due.Goals.{After-since, After-carry, After-save, After-retire}
+
+module _ (g : given.Over) where
+  -- what is said of a sweep that is to be saved, with a step that has come so far, over that station:
+  -- no files changed but its own and those of the step
+  abbrev Changed : g.row.P.Denot → Going → g.row.S.Denot → g.row.S.Denot → Type 0
+  Changed sweep going old new = Told g.S.Shelf.tells old new (Ran (OnlyChanged (IsOfGoing (g.P.Sweep.accounts.makes sweep) going.step) (now (g.S.Shelf.world old))) (g.S.Shelf.world old) (g.S.Shelf.world new))
+
+  -- the gate and its operands are sure
+  abbrev Sure : g.row.P.Denot → Going → g.row.S.Denot → Type 0
+  Sure sweep going old = AreSure (g.P.Sweep.saving.operands (g.P.Sweep.task sweep)) going.step (now (g.S.Shelf.world old)).folder
+
+  -- the next checkpoint is paid for
+  abbrev PaidTo : g.row.P.Denot → Going → Type 0
+  PaidTo sweep going = going.turns < 2 ^ 64 - 1 → IsPaidTo g.P.Sweep.accounts going sweep
+
+  -- how many turns its job needs with those that were made
+  abbrev turns_needed : g.row.P.Denot → Going → g.row.S.Denot → g.P.Sweep.Job → ℕ
+  turns_needed sweep going old job = going.turns + g.P.Sweep.left sweep (g.S.Shelf.world old) job
+
+  -- what a stop may leave
+  abbrev Left : g.row.P.Denot → Going → g.row.S.Denot → g.P.Sweep.Job → Moment → Type 0
+  Left sweep going old job = AreLeft g.P.Sweep.saving (g.P.Sweep.accounts.makes sweep) going.step (g.P.Sweep.accounts.next sweep) going.budget going.sweep (g.P.Sweep.task sweep) job
+      (turns_needed sweep going old job) (now (g.S.Shelf.world old)).folder
+
+  -- it filled the checkpoint
+  abbrev Carried : g.row.P.Denot → g.row.S.Denot → g.row.P.Denot → g.row.S.Denot → Checkpoint → Type 0
+  Carried sweep old carried mid point = IsCarried g.S.Shelf.tells g.S.Shelf.world (g.P.Sweep.accounts.makes sweep) (g.P.Sweep.saving.operands (g.P.Sweep.task sweep))
+      (g.P.Sweep.accounts.next sweep) (g.P.Sweep.accounts.next carried) point old mid
+
+  -- no call was made
+  none_images : (c : After-since g) → IsTrue (g.S.Shelf.tells c.args.shelf.now) → (job : g.P.Sweep.Job)
+      → Throughout (g.S.Shelf.world c.args.shelf.now) (g.S.Shelf.world c.args.shelf.now) (Left c.args.sweep.now c.args.going.now c.args.shelf.now job)
+  none_images c told job =
+      let claim : g.claim c.lifetimes = search rules in
+      let laws = g.met.P.Resume c.lifetimes claim in
+      let sweep = c.args.sweep.now in
+      let going = c.args.going.now in
+      images_none g.P.Sweep.saving laws.stays laws.apart (g.P.Sweep.accounts.makes sweep) (g.P.Sweep.saving.operands (g.P.Sweep.task sweep)) going.step (g.P.Sweep.accounts.next sweep)
+      going.budget going.sweep (g.P.Sweep.task sweep) job (turns_needed sweep going c.args.shelf.now job) (g.S.Shelf.world c.args.shelf.now) (g.met.S.Shelf.files_are c.args.shelf.now told)
+      (subst (λ s. IsOfStep (g.P.Sweep.accounts.makes sweep) (g.P.Sweep.saving.operands (g.P.Sweep.task sweep)) s (g.P.Sweep.accounts.next sweep)) (sym c.requires.step) c.requires.files)
+
+  -- the checkpoint was filled
+  carried : (c : After-carry g) → Carried c.args.sweep.now c.args.shelf.now c.carry.new.self c.carry.new.shelf c.carry.new.into
+  carried c = carried_at g.S.Shelf.tells g.S.Shelf.world _ _ _ _ c.carry.new.into c.args.shelf.now c.carry.new.shelf (g.P.Sweep.accounts.step c.args.sweep.now)
+      (c.carry.ensures.head.step_is ∙ c.requires.step) c.requires.files c.carry.ensures.leaves.content c.carry.ensures.leaves.later
+
+  carry_images : (c : After-carry g) → IsTrue (g.S.Shelf.tells c.carry.new.shelf) → (job : g.P.Sweep.Job)
+      → Throughout (g.S.Shelf.world c.args.shelf.now) (g.S.Shelf.world c.carry.new.shelf) (Left c.args.sweep.now c.args.going.now c.args.shelf.now job)
+  carry_images c told job =
+      let claim : g.claim c.lifetimes = search rules in
+      let laws = g.met.P.Resume c.lifetimes claim in
+      let turns = turns_needed c.args.sweep.now c.args.going.now c.args.shelf.now job in
+      left_at g.P.Sweep.saving (g.P.Sweep.accounts.makes c.args.sweep.now) c.carry.new.into.step c.args.going.now.step (g.P.Sweep.accounts.next c.args.sweep.now) c.args.going.now.budget c.args.going.now.sweep
+      (g.P.Sweep.task c.args.sweep.now) job turns
+      (g.S.Shelf.world c.args.shelf.now) (g.S.Shelf.world c.carry.new.shelf) (now (g.S.Shelf.world c.args.shelf.now)).folder c.carry.ensures.head.step_is
+      (images_carry g.S.Shelf.tells g.S.Shelf.world g.met.S.Shelf.files_are g.P.Sweep.saving laws.stays laws.apart _ _ _ _ c.args.going.now.budget c.args.going.now.sweep (g.P.Sweep.task c.args.sweep.now)
+      c.carry.new.into job turns 0 c.args.shelf.now c.carry.new.shelf (carried c) told)
+
+  -- while it is saved: it is ready where something of a job remains, and the sweep before it is such that the next checkpoint is paid for
+  ready : (c : After-save g) → IsTrue (g.S.Shelf.tells c.carry.new.shelf) → (job : g.P.Sweep.Job) → g.P.Sweep.remains c.args.sweep.now (g.S.Shelf.world c.args.shelf.now) job
+      → Sure c.args.sweep.now c.args.going.now c.args.shelf.now → PaidTo c.args.sweep.now c.args.going.now
+      → Ready g.P.Sweep.saving (g.P.Sweep.accounts.makes c.args.sweep.now) (g.P.Sweep.saving.operands (g.P.Sweep.task c.args.sweep.now)) c.carry.new.into.step (g.P.Sweep.accounts.next c.carry.new.self)
+      c.args.going.now.budget c.args.going.now.sweep (g.P.Sweep.task c.args.sweep.now) job (turns_needed c.args.sweep.now c.args.going.now c.args.shelf.now job) c.carry.new.into
+      (g.P.Sweep.left c.carry.new.self (g.S.Shelf.world c.carry.new.shelf) job) (now (g.S.Shelf.world c.carry.new.shelf)).folder
+  ready c told job remains sure paid =
+      let claim : g.claim c.lifetimes = search rules in
+      let laws = g.met.P.Resume c.lifetimes claim in
+      let fill = c.in_ok-carry.ensures in
+      let head = fill.head in
+      let few : c.args.going.now.turns < 2 ^ 61 = omega (arith, c.if-going-ge-TURNS_END.false) in
+      let due : c.args.going.now.shown + interval_of c.args.going.now.budget ≤ c.args.going.now.turns =
+      let interval = c.interval.ensures in let since = c.since.ensures in let no = c.if-since-interval.false in omega (arith, interval, since, no) in
+      ready_by g.S.Shelf.tells g.S.Shelf.world g.met.S.Shelf.files_are g.P.Sweep.saving laws.stays laws.apart _ _ _ (g.P.Sweep.accounts.next c.carry.new.self) c.args.going.now.budget c.args.going.now.sweep
+      (g.P.Sweep.task c.args.sweep.now) c.carry.new.into job (turns_needed c.args.sweep.now c.args.going.now c.args.shelf.now job) (g.P.Sweep.left c.carry.new.self (g.S.Shelf.world c.carry.new.shelf) job)
+      c.args.shelf.now c.carry.new.shelf (carried (goal.at.After-save g c).After-carry) told c.args.going.now.turns (g.P.Sweep.left c.args.sweep.now (g.S.Shelf.world c.args.shelf.now) job)
+      head.sweep_is head.turns_are head.budget_is c.requires.sweep (omega (arith, few)) fill.filled (omega (arith, c.if-point-gt-MOST_PARTS.false))
+      (paid_point g.P.Sweep.accounts c.args.going.now c.carry.new.into c.args.sweep.now c.carry.new.self (paid (omega (arith, few))) due fill.leaves.spent fill.filled.next_is head.turns_are)
+      c.save.ensures.fits fill.names fill.fits (fill.stands told job remains) (fill.left told job remains) refl
+      (subst (λ s. AreSure (g.P.Sweep.saving.operands (g.P.Sweep.task c.args.sweep.now)) s (now (g.S.Shelf.world c.args.shelf.now)).folder) (sym head.step_is) sure) (fill.sure told job remains)
+
+  save_changes : (c : After-save g) → Changed c.args.sweep.now c.args.going.now c.args.shelf.now c.save.new.shelf
+  save_changes c = subst (λ s. Told g.S.Shelf.tells c.args.shelf.now c.save.new.shelf (Ran (OnlyChanged (IsOfGoing (g.P.Sweep.accounts.makes c.args.sweep.now) s) (now (g.S.Shelf.world c.args.shelf.now)))
+      (g.S.Shelf.world c.args.shelf.now) (g.S.Shelf.world c.save.new.shelf))) c.carry.ensures.head.step_is
+      (save_on g.S.Shelf.tells g.S.Shelf.world _ _ _ _ c.carry.new.into c.args.shelf.now c.carry.new.shelf c.save.new.shelf (carried (goal.at.After-save g c).After-carry) c.save.ensures.content)
+
+  save_images : (c : After-save g) → IsTrue (g.S.Shelf.tells c.save.new.shelf) → (job : g.P.Sweep.Job) → g.P.Sweep.remains c.args.sweep.now (g.S.Shelf.world c.args.shelf.now) job
+      → Sure c.args.sweep.now c.args.going.now c.args.shelf.now → PaidTo c.args.sweep.now c.args.going.now
+      → Throughout (g.S.Shelf.world c.args.shelf.now) (g.S.Shelf.world c.save.new.shelf) (Left c.args.sweep.now c.args.going.now c.args.shelf.now job)
+  save_images c told job remains sure paid =
+      let claim : g.claim c.lifetimes = search rules in
+      let laws = g.met.P.Resume c.lifetimes claim in
+      let turns = turns_needed c.args.sweep.now c.args.going.now c.args.shelf.now job in
+      let left = g.P.Sweep.left c.carry.new.self (g.S.Shelf.world c.carry.new.shelf) job in
+      let step_is = c.carry.ensures.head.step_is in
+      left_at g.P.Sweep.saving (g.P.Sweep.accounts.makes c.args.sweep.now) c.carry.new.into.step c.args.going.now.step (g.P.Sweep.accounts.next c.args.sweep.now) c.args.going.now.budget c.args.going.now.sweep
+      (g.P.Sweep.task c.args.sweep.now) job turns
+      (g.S.Shelf.world c.args.shelf.now) (g.S.Shelf.world c.save.new.shelf) (now (g.S.Shelf.world c.args.shelf.now)).folder step_is
+      (images_save g.S.Shelf.tells g.S.Shelf.world g.met.S.Shelf.files_are g.P.Sweep.saving laws.stays laws.apart _ _ _ _ c.args.going.now.budget c.args.going.now.sweep (g.P.Sweep.task c.args.sweep.now)
+      c.carry.new.into job turns left c.args.shelf.now c.carry.new.shelf c.save.new.shelf (carried (goal.at.After-save g c).After-carry)
+      (subst (λ s. AreSure (g.P.Sweep.saving.operands (g.P.Sweep.task c.args.sweep.now)) s (now (g.S.Shelf.world c.args.shelf.now)).folder) (sym step_is) sure)
+      (ready c (c.save.ensures.content.before told) job remains sure paid) c.save.ensures.content told)
+
+  -- once older runs were given up
+  retire_changes : (c : After-retire g) → Changed c.args.sweep.now c.args.going.now c.args.shelf.now c.retire.new.shelf
+  retire_changes c = subst (λ s. Told g.S.Shelf.tells c.args.shelf.now c.retire.new.shelf (Ran (OnlyChanged (IsOfGoing (g.P.Sweep.accounts.makes c.args.sweep.now) s) (now (g.S.Shelf.world c.args.shelf.now)))
+      (g.S.Shelf.world c.args.shelf.now) (g.S.Shelf.world c.retire.new.shelf))) c.carry.ensures.head.step_is
+      (retire_on g.S.Shelf.tells g.S.Shelf.world _ _ _ _ c.carry.new.into _ c.args.shelf.now c.carry.new.shelf c.save.new.shelf c.retire.new.shelf (carried (goal.at.After-retire g c).After-carry)
+      c.save.ensures.content c.retire.ensures.content)
+
+  retire_images : (c : After-retire g) → IsTrue (g.S.Shelf.tells c.retire.new.shelf) → (job : g.P.Sweep.Job) → g.P.Sweep.remains c.args.sweep.now (g.S.Shelf.world c.args.shelf.now) job
+      → Sure c.args.sweep.now c.args.going.now c.args.shelf.now → PaidTo c.args.sweep.now c.args.going.now
+      → Throughout (g.S.Shelf.world c.args.shelf.now) (g.S.Shelf.world c.retire.new.shelf) (Left c.args.sweep.now c.args.going.now c.args.shelf.now job)
+  retire_images c told job remains sure paid =
+      let claim : g.claim c.lifetimes = search rules in
+      let laws = g.met.P.Resume c.lifetimes claim in
+      let turns = turns_needed c.args.sweep.now c.args.going.now c.args.shelf.now job in
+      let left = g.P.Sweep.left c.carry.new.self (g.S.Shelf.world c.carry.new.shelf) job in
+      let step_is = c.carry.ensures.head.step_is in
+      left_at g.P.Sweep.saving (g.P.Sweep.accounts.makes c.args.sweep.now) c.carry.new.into.step c.args.going.now.step (g.P.Sweep.accounts.next c.args.sweep.now) c.args.going.now.budget c.args.going.now.sweep
+      (g.P.Sweep.task c.args.sweep.now) job turns
+      (g.S.Shelf.world c.args.shelf.now) (g.S.Shelf.world c.retire.new.shelf) (now (g.S.Shelf.world c.args.shelf.now)).folder step_is
+      (images_retire g.S.Shelf.tells g.S.Shelf.world g.met.S.Shelf.files_are g.P.Sweep.saving laws.stays laws.apart _ _ _ _ c.args.going.now.budget c.args.going.now.sweep (g.P.Sweep.task c.args.sweep.now)
+      c.carry.new.into job turns left _ c.args.shelf.now c.carry.new.shelf c.save.new.shelf c.retire.new.shelf (carried (goal.at.After-retire g c).After-carry)
+      (subst (λ s. AreSure (g.P.Sweep.saving.operands (g.P.Sweep.task c.args.sweep.now)) s (now (g.S.Shelf.world c.args.shelf.now)).folder) (sym step_is) sure)
+      (ready (goal.at.After-retire g c).After-save (c.save.ensures.content.before (c.retire.ensures.content.before told)) job remains sure paid) c.save.ensures.content c.in_ok-save.ensures.ok
+      c.retire.ensures.content told)
+
+  retire_stands : (c : After-retire g) → IsTrue (g.S.Shelf.tells c.retire.new.shelf) → (job : g.P.Sweep.Job) → g.P.Sweep.remains c.args.sweep.now (g.S.Shelf.world c.args.shelf.now) job
+      → Sure c.args.sweep.now c.args.going.now c.args.shelf.now → PaidTo c.args.sweep.now c.args.going.now
+      → Stands g.P.Sweep.saving (g.P.Sweep.accounts.makes c.args.sweep.now) (g.P.Sweep.saving.operands (g.P.Sweep.task c.args.sweep.now)) c.args.going.now.step (g.P.Sweep.accounts.next c.carry.new.self)
+      c.args.going.now.budget c.args.going.now.sweep (g.P.Sweep.task c.args.sweep.now) job (turns_needed c.args.sweep.now c.args.going.now c.args.shelf.now job) (now (g.S.Shelf.world c.retire.new.shelf)).folder
+  retire_stands c told job remains sure paid =
+      let claim : g.claim c.lifetimes = search rules in
+      let laws = g.met.P.Resume c.lifetimes claim in
+      let turns = turns_needed c.args.sweep.now c.args.going.now c.args.shelf.now job in
+      subst (λ s. Stands g.P.Sweep.saving (g.P.Sweep.accounts.makes c.args.sweep.now) (g.P.Sweep.saving.operands (g.P.Sweep.task c.args.sweep.now)) s (g.P.Sweep.accounts.next c.carry.new.self)
+      c.args.going.now.budget c.args.going.now.sweep (g.P.Sweep.task c.args.sweep.now) job turns (now (g.S.Shelf.world c.retire.new.shelf)).folder) c.carry.ensures.head.step_is
+      (stands_retire g.S.Shelf.tells g.S.Shelf.world g.met.S.Shelf.files_are g.P.Sweep.saving laws.stays laws.apart _ _ (g.P.Sweep.accounts.next c.args.sweep.now) _ _ _ _ c.carry.new.into job turns _ _
+      c.carry.new.shelf c.save.new.shelf c.retire.new.shelf
+      (ready (goal.at.After-retire g c).After-save (c.save.ensures.content.before (c.retire.ensures.content.before told)) job remains sure paid) c.save.ensures.content c.in_ok-save.ensures.ok
+      c.retire.ensures.content told)
+
+  -- the sweep is as it was when it had filled the checkpoint
+  still : (c : After-retire g) → IsTrue (g.S.Shelf.tells c.retire.new.shelf)
+      → IsStill (g.P.Sweep.in_step c.carry.new.self) (g.P.Sweep.trusts c.carry.new.self) (g.P.Sweep.remains c.carry.new.self) (g.P.Sweep.left c.carry.new.self)
+      (g.S.Shelf.world c.carry.new.shelf) (g.S.Shelf.world c.retire.new.shelf)
+  still c told = c.in_ok-carry.ensures.still (g.S.Shelf.world c.retire.new.shelf)
+      (works_on g.S.Shelf.tells g.S.Shelf.world _ _ _ (g.P.Sweep.accounts.next c.carry.new.self) c.carry.new.into _ c.carry.new.shelf c.save.new.shelf c.retire.new.shelf
+      (carried (goal.at.After-retire g c).After-carry).files c.in_ok-carry.ensures.filled.tables c.save.ensures.content c.retire.ensures.content told)
+
+  told_then : (c : After-retire g) → IsTrue (g.S.Shelf.tells c.retire.new.shelf) → IsTrue (g.S.Shelf.tells c.carry.new.shelf)
+  told_then c told = c.save.ensures.content.before (c.retire.ensures.content.before told)
+
+  -- the calls that it took
+  retire_calls : (c : After-retire g) → IsTrue (g.S.Shelf.tells c.retire.new.shelf) → TakesCalls g.P.Sweep.accounts 0 1 (first_taken c.args.going.now.last)
+      (g.S.Shelf.world c.args.shelf.now) (g.S.Shelf.world c.retire.new.shelf) c.args.sweep.now c.carry.new.self
+  retire_calls c told =
+      let told_s = c.retire.ensures.content.before told in
+      save_calls g.P.Sweep.accounts c.carry.new.into.next_part _ (first_taken c.args.going.now.last) (g.S.Shelf.world c.args.shelf.now) (g.S.Shelf.world c.carry.new.shelf) (g.S.Shelf.world c.save.new.shelf)
+      (g.S.Shelf.world c.retire.new.shelf) c.args.sweep.now c.carry.new.self c.in_ok-carry.ensures.filled.next_is (ap first_taken c.as_ref.ensures.value)
+      (c.carry.ensures.leaves.calls (c.save.ensures.content.before told_s)) (c.save.ensures.calls told_s) (c.retire.ensures.calls told)
+
+pub returns-then-since-interval-clause-images : goal.returns-then-since-interval-clause-images
+returns-then-since-interval-clause-images g c = λ told job remains sure paid. none_images g (goal.at.returns-then-since-interval-clause-images g c).After-since told job
+
+pub returns-then-going-ge-TURNS_END-clause-images : goal.returns-then-going-ge-TURNS_END-clause-images
+returns-then-going-ge-TURNS_END-clause-images g c = λ told job remains sure paid. none_images g (goal.at.returns-then-going-ge-TURNS_END-clause-images g c).After-since told job
 
 pub returns-in_err-carry-clause-images : goal.returns-in_err-carry-clause-images
-returns-in_err-carry-clause-images g c = λ told job remains sure.
-    let claim : g.claim c.lifetimes = search rules in
-    let laws = g.met.P.Resume c.lifetimes claim in
-    let made = g.P.Sweep.accounts.makes c.args.sweep.now in
-    let read = g.P.Sweep.saving.operands (g.P.Sweep.task c.args.sweep.now) in
-    let next = g.P.Sweep.accounts.next c.args.sweep.now in
-    let later = g.P.Sweep.accounts.next c.carry.new.self in
-    let task = g.P.Sweep.task c.args.sweep.now in
-    let point = c.carry.new.into in
-    let budget = c.args.going.now.budget in
-    let sweep = c.args.going.now.sweep in
-    let step_is = c.in_err-carry.ensures.head.step_is in
-    let carried = carried_at g.S.Shelf.tells g.S.Shelf.world g.met.S.Shelf.files_are g.P.Sweep.saving laws.stays laws.apart made read next later budget sweep task point
-    c.args.shelf.now c.carry.new.shelf (g.P.Sweep.accounts.step c.args.sweep.now) (step_is ∙ c.requires.step) c.requires.files c.in_err-carry.ensures.leaves.content c.in_err-carry.ensures.leaves.later in
-    left_at g.S.Shelf.tells g.S.Shelf.world g.met.S.Shelf.files_are g.P.Sweep.saving laws.stays laws.apart made read next later budget sweep task point job (c.args.going.now.turns + g.P.Sweep.left c.args.sweep.now (g.S.Shelf.world c.args.shelf.now) job) 0 (g.S.Shelf.world c.args.shelf.now) (g.S.Shelf.world c.carry.new.shelf) (now (g.S.Shelf.world c.args.shelf.now)).folder c.args.going.now.step step_is
-    (images_carry g.S.Shelf.tells g.S.Shelf.world g.met.S.Shelf.files_are g.P.Sweep.saving laws.stays laws.apart made read next later budget sweep task point job (c.args.going.now.turns + g.P.Sweep.left c.args.sweep.now (g.S.Shelf.world c.args.shelf.now) job) 0 c.args.shelf.now c.carry.new.shelf carried told)
+returns-in_err-carry-clause-images g c = λ told job remains sure paid. carry_images g (goal.at.returns-in_err-carry-clause-images g c).After-carry told job
 
 pub returns-then-point-gt-MOST_PARTS-clause-images : goal.returns-then-point-gt-MOST_PARTS-clause-images
-returns-then-point-gt-MOST_PARTS-clause-images g c = λ told job remains sure.
-    let claim : g.claim c.lifetimes = search rules in
-    let laws = g.met.P.Resume c.lifetimes claim in
-    let made = g.P.Sweep.accounts.makes c.args.sweep.now in
-    let read = g.P.Sweep.saving.operands (g.P.Sweep.task c.args.sweep.now) in
-    let next = g.P.Sweep.accounts.next c.args.sweep.now in
-    let later = g.P.Sweep.accounts.next c.carry.new.self in
-    let task = g.P.Sweep.task c.args.sweep.now in
-    let point = c.carry.new.into in
-    let budget = c.args.going.now.budget in
-    let sweep = c.args.going.now.sweep in
-    let step_is = c.in_ok-carry.ensures.head.step_is in
-    let carried = carried_at g.S.Shelf.tells g.S.Shelf.world g.met.S.Shelf.files_are g.P.Sweep.saving laws.stays laws.apart made read next later budget sweep task point
-    c.args.shelf.now c.carry.new.shelf (g.P.Sweep.accounts.step c.args.sweep.now) (step_is ∙ c.requires.step) c.requires.files c.in_ok-carry.ensures.leaves.content c.in_ok-carry.ensures.leaves.later in
-    left_at g.S.Shelf.tells g.S.Shelf.world g.met.S.Shelf.files_are g.P.Sweep.saving laws.stays laws.apart made read next later budget sweep task point job (c.args.going.now.turns + g.P.Sweep.left c.args.sweep.now (g.S.Shelf.world c.args.shelf.now) job) 0 (g.S.Shelf.world c.args.shelf.now) (g.S.Shelf.world c.carry.new.shelf) (now (g.S.Shelf.world c.args.shelf.now)).folder c.args.going.now.step step_is
-    (images_carry g.S.Shelf.tells g.S.Shelf.world g.met.S.Shelf.files_are g.P.Sweep.saving laws.stays laws.apart made read next later budget sweep task point job (c.args.going.now.turns + g.P.Sweep.left c.args.sweep.now (g.S.Shelf.world c.args.shelf.now) job) 0 c.args.shelf.now c.carry.new.shelf carried told)
+returns-then-point-gt-MOST_PARTS-clause-images g c = λ told job remains sure paid. carry_images g (goal.at.returns-then-point-gt-MOST_PARTS-clause-images g c).After-carry told job
 
 pub returns-in_err-save-clause-changes : goal.returns-in_err-save-clause-changes
-returns-in_err-save-clause-changes g c =
-    let claim : g.claim c.lifetimes = search rules in
-    let laws = g.met.P.Resume c.lifetimes claim in
-    let made = g.P.Sweep.accounts.makes c.args.sweep.now in
-    let read = g.P.Sweep.saving.operands (g.P.Sweep.task c.args.sweep.now) in
-    let next = g.P.Sweep.accounts.next c.args.sweep.now in
-    let later = g.P.Sweep.accounts.next c.carry.new.self in
-    let task = g.P.Sweep.task c.args.sweep.now in
-    let point = c.carry.new.into in
-    let budget = c.args.going.now.budget in
-    let sweep = c.args.going.now.sweep in
-    let step_is = c.in_ok-carry.ensures.head.step_is in
-    let carried = carried_at g.S.Shelf.tells g.S.Shelf.world g.met.S.Shelf.files_are g.P.Sweep.saving laws.stays laws.apart made read next later budget sweep task point
-    c.args.shelf.now c.carry.new.shelf (g.P.Sweep.accounts.step c.args.sweep.now) (step_is ∙ c.requires.step) c.requires.files c.in_ok-carry.ensures.leaves.content c.in_ok-carry.ensures.leaves.later in
-    subst (λ s. Told g.S.Shelf.tells c.args.shelf.now c.save.new.shelf (Ran (OnlyChanged (IsOfGoing made s) (now (g.S.Shelf.world c.args.shelf.now))) (g.S.Shelf.world c.args.shelf.now) (g.S.Shelf.world c.save.new.shelf))) step_is (save_on g.S.Shelf.tells g.S.Shelf.world g.met.S.Shelf.files_are g.P.Sweep.saving laws.stays laws.apart made read next later budget sweep task point c.args.shelf.now c.carry.new.shelf c.save.new.shelf carried c.in_err-save.ensures.content)
+returns-in_err-save-clause-changes g c = save_changes g (goal.at.returns-in_err-save-clause-changes g c).After-save
 
 pub returns-in_err-save-clause-images : goal.returns-in_err-save-clause-images
-returns-in_err-save-clause-images g c = λ told job remains sure.
-    let claim : g.claim c.lifetimes = search rules in
-    let laws = g.met.P.Resume c.lifetimes claim in
-    let made = g.P.Sweep.accounts.makes c.args.sweep.now in
-    let read = g.P.Sweep.saving.operands (g.P.Sweep.task c.args.sweep.now) in
-    let next = g.P.Sweep.accounts.next c.args.sweep.now in
-    let later = g.P.Sweep.accounts.next c.carry.new.self in
-    let task = g.P.Sweep.task c.args.sweep.now in
-    let point = c.carry.new.into in
-    let budget = c.args.going.now.budget in
-    let sweep = c.args.going.now.sweep in
-    let step_is = c.in_ok-carry.ensures.head.step_is in
-    let carried = carried_at g.S.Shelf.tells g.S.Shelf.world g.met.S.Shelf.files_are g.P.Sweep.saving laws.stays laws.apart made read next later budget sweep task point
-    c.args.shelf.now c.carry.new.shelf (g.P.Sweep.accounts.step c.args.sweep.now) (step_is ∙ c.requires.step) c.requires.files c.in_ok-carry.ensures.leaves.content c.in_ok-carry.ensures.leaves.later in
-    let told_mid = c.in_err-save.ensures.content.before told in
-    let left_before = g.P.Sweep.left c.args.sweep.now (g.S.Shelf.world c.args.shelf.now) job in
-    let left_now = g.P.Sweep.left c.carry.new.self (g.S.Shelf.world c.carry.new.shelf) job in
-    let turns = c.args.going.now.turns + left_before in
-    let sure_point = subst (λ s. AreSure read s (now (g.S.Shelf.world c.args.shelf.now)).folder) (sym step_is) sure in
-    let ready = ready_by g.S.Shelf.tells g.S.Shelf.world g.met.S.Shelf.files_are g.P.Sweep.saving laws.stays laws.apart made read next later budget sweep task point job turns left_now c.args.shelf.now c.carry.new.shelf carried (told_mid)
-    c.args.going.now.turns left_before c.in_ok-carry.ensures.head.sweep_is c.in_ok-carry.ensures.head.turns_are c.in_ok-carry.ensures.head.budget_is c.requires.sweep (omega (arith, c.if-going-ge-TURNS_END.false))
-    c.in_ok-carry.ensures.filled (omega (arith, c.if-point-gt-MOST_PARTS.false)) c.in_err-save.ensures.fits c.in_ok-carry.ensures.names c.in_ok-carry.ensures.fits
-    (c.in_ok-carry.ensures.stands (told_mid) job remains) (c.in_ok-carry.ensures.left (told_mid) job remains) refl sure_point (c.in_ok-carry.ensures.sure (told_mid) job remains) in
-    left_at g.S.Shelf.tells g.S.Shelf.world g.met.S.Shelf.files_are g.P.Sweep.saving laws.stays laws.apart made read next later budget sweep task point job turns left_now (g.S.Shelf.world c.args.shelf.now) (g.S.Shelf.world c.save.new.shelf) (now (g.S.Shelf.world c.args.shelf.now)).folder c.args.going.now.step step_is
-    (images_save g.S.Shelf.tells g.S.Shelf.world g.met.S.Shelf.files_are g.P.Sweep.saving laws.stays laws.apart made read next later budget sweep task point job turns left_now c.args.shelf.now c.carry.new.shelf c.save.new.shelf carried sure_point ready c.in_err-save.ensures.content told)
+returns-in_err-save-clause-images g c = save_images g (goal.at.returns-in_err-save-clause-images g c).After-save
 
 pub returns-in_err-retire-clause-changes : goal.returns-in_err-retire-clause-changes
-returns-in_err-retire-clause-changes g c =
-    let claim : g.claim c.lifetimes = search rules in
-    let laws = g.met.P.Resume c.lifetimes claim in
-    let made = g.P.Sweep.accounts.makes c.args.sweep.now in
-    let read = g.P.Sweep.saving.operands (g.P.Sweep.task c.args.sweep.now) in
-    let next = g.P.Sweep.accounts.next c.args.sweep.now in
-    let later = g.P.Sweep.accounts.next c.carry.new.self in
-    let task = g.P.Sweep.task c.args.sweep.now in
-    let point = c.carry.new.into in
-    let budget = c.args.going.now.budget in
-    let sweep = c.args.going.now.sweep in
-    let step_is = c.in_ok-carry.ensures.head.step_is in
-    let carried = carried_at g.S.Shelf.tells g.S.Shelf.world g.met.S.Shelf.files_are g.P.Sweep.saving laws.stays laws.apart made read next later budget sweep task point
-    c.args.shelf.now c.carry.new.shelf (g.P.Sweep.accounts.step c.args.sweep.now) (step_is ∙ c.requires.step) c.requires.files c.in_ok-carry.ensures.leaves.content c.in_ok-carry.ensures.leaves.later in
-    subst (λ s. Told g.S.Shelf.tells c.args.shelf.now c.retire.new.shelf (Ran (OnlyChanged (IsOfGoing made s) (now (g.S.Shelf.world c.args.shelf.now))) (g.S.Shelf.world c.args.shelf.now) (g.S.Shelf.world c.retire.new.shelf))) step_is (retire_on g.S.Shelf.tells g.S.Shelf.world g.met.S.Shelf.files_are g.P.Sweep.saving laws.stays laws.apart made read next later budget sweep task point _ c.args.shelf.now c.carry.new.shelf c.save.new.shelf c.retire.new.shelf carried c.in_ok-save.ensures.content c.in_err-retire.ensures.content)
+returns-in_err-retire-clause-changes g c = retire_changes g (goal.at.returns-in_err-retire-clause-changes g c).After-retire
 
 pub returns-in_err-retire-clause-images : goal.returns-in_err-retire-clause-images
-returns-in_err-retire-clause-images g c = λ told job remains sure.
-    let claim : g.claim c.lifetimes = search rules in
-    let laws = g.met.P.Resume c.lifetimes claim in
-    let made = g.P.Sweep.accounts.makes c.args.sweep.now in
-    let read = g.P.Sweep.saving.operands (g.P.Sweep.task c.args.sweep.now) in
-    let next = g.P.Sweep.accounts.next c.args.sweep.now in
-    let later = g.P.Sweep.accounts.next c.carry.new.self in
-    let task = g.P.Sweep.task c.args.sweep.now in
-    let point = c.carry.new.into in
-    let budget = c.args.going.now.budget in
-    let sweep = c.args.going.now.sweep in
-    let step_is = c.in_ok-carry.ensures.head.step_is in
-    let carried = carried_at g.S.Shelf.tells g.S.Shelf.world g.met.S.Shelf.files_are g.P.Sweep.saving laws.stays laws.apart made read next later budget sweep task point
-    c.args.shelf.now c.carry.new.shelf (g.P.Sweep.accounts.step c.args.sweep.now) (step_is ∙ c.requires.step) c.requires.files c.in_ok-carry.ensures.leaves.content c.in_ok-carry.ensures.leaves.later in
-    let told_mid = c.in_ok-save.ensures.content.before (c.in_err-retire.ensures.content.before told) in
-    let left_before = g.P.Sweep.left c.args.sweep.now (g.S.Shelf.world c.args.shelf.now) job in
-    let left_now = g.P.Sweep.left c.carry.new.self (g.S.Shelf.world c.carry.new.shelf) job in
-    let turns = c.args.going.now.turns + left_before in
-    let sure_point = subst (λ s. AreSure read s (now (g.S.Shelf.world c.args.shelf.now)).folder) (sym step_is) sure in
-    let ready = ready_by g.S.Shelf.tells g.S.Shelf.world g.met.S.Shelf.files_are g.P.Sweep.saving laws.stays laws.apart made read next later budget sweep task point job turns left_now c.args.shelf.now c.carry.new.shelf carried (told_mid)
-    c.args.going.now.turns left_before c.in_ok-carry.ensures.head.sweep_is c.in_ok-carry.ensures.head.turns_are c.in_ok-carry.ensures.head.budget_is c.requires.sweep (omega (arith, c.if-going-ge-TURNS_END.false))
-    c.in_ok-carry.ensures.filled (omega (arith, c.if-point-gt-MOST_PARTS.false)) c.in_ok-save.ensures.fits c.in_ok-carry.ensures.names c.in_ok-carry.ensures.fits
-    (c.in_ok-carry.ensures.stands (told_mid) job remains) (c.in_ok-carry.ensures.left (told_mid) job remains) refl sure_point (c.in_ok-carry.ensures.sure (told_mid) job remains) in
-    left_at g.S.Shelf.tells g.S.Shelf.world g.met.S.Shelf.files_are g.P.Sweep.saving laws.stays laws.apart made read next later budget sweep task point job turns left_now (g.S.Shelf.world c.args.shelf.now) (g.S.Shelf.world c.retire.new.shelf) (now (g.S.Shelf.world c.args.shelf.now)).folder c.args.going.now.step step_is
-    (images_retire g.S.Shelf.tells g.S.Shelf.world g.met.S.Shelf.files_are g.P.Sweep.saving laws.stays laws.apart made read next later budget sweep task point job turns left_now _ c.args.shelf.now c.carry.new.shelf c.save.new.shelf c.retire.new.shelf carried sure_point ready c.in_ok-save.ensures.content c.in_ok-save.ensures.ok c.in_err-retire.ensures.content told)
+returns-in_err-retire-clause-images g c = retire_images g (goal.at.returns-in_err-retire-clause-images g c).After-retire
+
+pub returns-in_err-retire-clause-calls : goal.returns-in_err-retire-clause-calls
+returns-in_err-retire-clause-calls g c = retire_calls g (goal.at.returns-in_err-retire-clause-calls g c).After-retire
 
 pub returns-clause-changes : goal.returns-clause-changes
-returns-clause-changes g c =
-    let claim : g.claim c.lifetimes = search rules in
-    let laws = g.met.P.Resume c.lifetimes claim in
-    let made = g.P.Sweep.accounts.makes c.args.sweep.now in
-    let read = g.P.Sweep.saving.operands (g.P.Sweep.task c.args.sweep.now) in
-    let next = g.P.Sweep.accounts.next c.args.sweep.now in
-    let later = g.P.Sweep.accounts.next c.carry.new.self in
-    let task = g.P.Sweep.task c.args.sweep.now in
-    let point = c.carry.new.into in
-    let budget = c.args.going.now.budget in
-    let sweep = c.args.going.now.sweep in
-    let step_is = c.in_ok-carry.ensures.head.step_is in
-    let carried = carried_at g.S.Shelf.tells g.S.Shelf.world g.met.S.Shelf.files_are g.P.Sweep.saving laws.stays laws.apart made read next later budget sweep task point
-    c.args.shelf.now c.carry.new.shelf (g.P.Sweep.accounts.step c.args.sweep.now) (step_is ∙ c.requires.step) c.requires.files c.in_ok-carry.ensures.leaves.content c.in_ok-carry.ensures.leaves.later in
-    subst (λ s. Told g.S.Shelf.tells c.args.shelf.now c.retire.new.shelf (Ran (OnlyChanged (IsOfGoing made s) (now (g.S.Shelf.world c.args.shelf.now))) (g.S.Shelf.world c.args.shelf.now) (g.S.Shelf.world c.retire.new.shelf))) step_is (retire_on g.S.Shelf.tells g.S.Shelf.world g.met.S.Shelf.files_are g.P.Sweep.saving laws.stays laws.apart made read next later budget sweep task point _ c.args.shelf.now c.carry.new.shelf c.save.new.shelf c.retire.new.shelf carried c.in_ok-save.ensures.content c.in_ok-retire.ensures.content)
+returns-clause-changes g c = retire_changes g (goal.at.returns-clause-changes g c).After-retire
 
 pub returns-clause-images : goal.returns-clause-images
-returns-clause-images g c = λ told job remains sure.
-    let claim : g.claim c.lifetimes = search rules in
-    let laws = g.met.P.Resume c.lifetimes claim in
-    let made = g.P.Sweep.accounts.makes c.args.sweep.now in
-    let read = g.P.Sweep.saving.operands (g.P.Sweep.task c.args.sweep.now) in
-    let next = g.P.Sweep.accounts.next c.args.sweep.now in
-    let later = g.P.Sweep.accounts.next c.carry.new.self in
-    let task = g.P.Sweep.task c.args.sweep.now in
-    let point = c.carry.new.into in
-    let budget = c.args.going.now.budget in
-    let sweep = c.args.going.now.sweep in
-    let step_is = c.in_ok-carry.ensures.head.step_is in
-    let carried = carried_at g.S.Shelf.tells g.S.Shelf.world g.met.S.Shelf.files_are g.P.Sweep.saving laws.stays laws.apart made read next later budget sweep task point
-    c.args.shelf.now c.carry.new.shelf (g.P.Sweep.accounts.step c.args.sweep.now) (step_is ∙ c.requires.step) c.requires.files c.in_ok-carry.ensures.leaves.content c.in_ok-carry.ensures.leaves.later in
-    let told_mid = c.in_ok-save.ensures.content.before (c.in_ok-retire.ensures.content.before told) in
-    let left_before = g.P.Sweep.left c.args.sweep.now (g.S.Shelf.world c.args.shelf.now) job in
-    let left_now = g.P.Sweep.left c.carry.new.self (g.S.Shelf.world c.carry.new.shelf) job in
-    let turns = c.args.going.now.turns + left_before in
-    let sure_point = subst (λ s. AreSure read s (now (g.S.Shelf.world c.args.shelf.now)).folder) (sym step_is) sure in
-    let ready = ready_by g.S.Shelf.tells g.S.Shelf.world g.met.S.Shelf.files_are g.P.Sweep.saving laws.stays laws.apart made read next later budget sweep task point job turns left_now c.args.shelf.now c.carry.new.shelf carried (told_mid)
-    c.args.going.now.turns left_before c.in_ok-carry.ensures.head.sweep_is c.in_ok-carry.ensures.head.turns_are c.in_ok-carry.ensures.head.budget_is c.requires.sweep (omega (arith, c.if-going-ge-TURNS_END.false))
-    c.in_ok-carry.ensures.filled (omega (arith, c.if-point-gt-MOST_PARTS.false)) c.in_ok-save.ensures.fits c.in_ok-carry.ensures.names c.in_ok-carry.ensures.fits
-    (c.in_ok-carry.ensures.stands (told_mid) job remains) (c.in_ok-carry.ensures.left (told_mid) job remains) refl sure_point (c.in_ok-carry.ensures.sure (told_mid) job remains) in
-    left_at g.S.Shelf.tells g.S.Shelf.world g.met.S.Shelf.files_are g.P.Sweep.saving laws.stays laws.apart made read next later budget sweep task point job turns left_now (g.S.Shelf.world c.args.shelf.now) (g.S.Shelf.world c.retire.new.shelf) (now (g.S.Shelf.world c.args.shelf.now)).folder c.args.going.now.step step_is
-    (images_retire g.S.Shelf.tells g.S.Shelf.world g.met.S.Shelf.files_are g.P.Sweep.saving laws.stays laws.apart made read next later budget sweep task point job turns left_now _ c.args.shelf.now c.carry.new.shelf c.save.new.shelf c.retire.new.shelf carried sure_point ready c.in_ok-save.ensures.content c.in_ok-save.ensures.ok c.in_ok-retire.ensures.content told)
+returns-clause-images g c = retire_images g (goal.at.returns-clause-images g c).After-retire
 
 pub returns-clause-stands : goal.returns-clause-stands
-returns-clause-stands g c = λ told job remains sure.
-    let claim : g.claim c.lifetimes = search rules in
-    let laws = g.met.P.Resume c.lifetimes claim in
-    let made = g.P.Sweep.accounts.makes c.args.sweep.now in
-    let read = g.P.Sweep.saving.operands (g.P.Sweep.task c.args.sweep.now) in
-    let next = g.P.Sweep.accounts.next c.args.sweep.now in
-    let later = g.P.Sweep.accounts.next c.carry.new.self in
-    let task = g.P.Sweep.task c.args.sweep.now in
-    let point = c.carry.new.into in
-    let budget = c.args.going.now.budget in
-    let sweep = c.args.going.now.sweep in
-    let step_is = c.in_ok-carry.ensures.head.step_is in
-    let carried = carried_at g.S.Shelf.tells g.S.Shelf.world g.met.S.Shelf.files_are g.P.Sweep.saving laws.stays laws.apart made read next later budget sweep task point
-    c.args.shelf.now c.carry.new.shelf (g.P.Sweep.accounts.step c.args.sweep.now) (step_is ∙ c.requires.step) c.requires.files c.in_ok-carry.ensures.leaves.content c.in_ok-carry.ensures.leaves.later in
-    let told_mid = c.in_ok-save.ensures.content.before (c.in_ok-retire.ensures.content.before told) in
-    let left_before = g.P.Sweep.left c.args.sweep.now (g.S.Shelf.world c.args.shelf.now) job in
-    let left_now = g.P.Sweep.left c.carry.new.self (g.S.Shelf.world c.carry.new.shelf) job in
-    let turns = c.args.going.now.turns + left_before in
-    let sure_point = subst (λ s. AreSure read s (now (g.S.Shelf.world c.args.shelf.now)).folder) (sym step_is) sure in
-    let ready = ready_by g.S.Shelf.tells g.S.Shelf.world g.met.S.Shelf.files_are g.P.Sweep.saving laws.stays laws.apart made read next later budget sweep task point job turns left_now c.args.shelf.now c.carry.new.shelf carried (told_mid)
-    c.args.going.now.turns left_before c.in_ok-carry.ensures.head.sweep_is c.in_ok-carry.ensures.head.turns_are c.in_ok-carry.ensures.head.budget_is c.requires.sweep (omega (arith, c.if-going-ge-TURNS_END.false))
-    c.in_ok-carry.ensures.filled (omega (arith, c.if-point-gt-MOST_PARTS.false)) c.in_ok-save.ensures.fits c.in_ok-carry.ensures.names c.in_ok-carry.ensures.fits
-    (c.in_ok-carry.ensures.stands (told_mid) job remains) (c.in_ok-carry.ensures.left (told_mid) job remains) refl sure_point (c.in_ok-carry.ensures.sure (told_mid) job remains) in
-    inr (subst (λ s. Stands g.P.Sweep.saving made read s later budget sweep task job turns (now (g.S.Shelf.world c.retire.new.shelf)).folder) step_is
-    (stands_retire g.S.Shelf.tells g.S.Shelf.world g.met.S.Shelf.files_are g.P.Sweep.saving laws.stays laws.apart made read next later budget sweep task point job turns left_now _ c.carry.new.shelf c.save.new.shelf c.retire.new.shelf ready c.in_ok-save.ensures.content c.in_ok-save.ensures.ok c.in_ok-retire.ensures.content told))
+returns-clause-stands g c = λ told job remains sure paid. inr (retire_stands g (goal.at.returns-clause-stands g c).After-retire told job remains sure paid)
+
+pub returns-clause-calls : goal.returns-clause-calls
+returns-clause-calls g c = retire_calls g (goal.at.returns-clause-calls g c).After-retire
 
 pub returns-clause-in_step : goal.returns-clause-in_step
 returns-clause-in_step g c = λ told.
-    let claim : g.claim c.lifetimes = search rules in
-    let laws = g.met.P.Resume c.lifetimes claim in
-    let made = g.P.Sweep.accounts.makes c.args.sweep.now in
-    let read = g.P.Sweep.saving.operands (g.P.Sweep.task c.args.sweep.now) in
-    let next = g.P.Sweep.accounts.next c.args.sweep.now in
-    let later = g.P.Sweep.accounts.next c.carry.new.self in
-    let task = g.P.Sweep.task c.args.sweep.now in
-    let point = c.carry.new.into in
-    let budget = c.args.going.now.budget in
-    let sweep = c.args.going.now.sweep in
-    let step_is = c.in_ok-carry.ensures.head.step_is in
-    let carried = carried_at g.S.Shelf.tells g.S.Shelf.world g.met.S.Shelf.files_are g.P.Sweep.saving laws.stays laws.apart made read next later budget sweep task point
-    c.args.shelf.now c.carry.new.shelf (g.P.Sweep.accounts.step c.args.sweep.now) (step_is ∙ c.requires.step) c.requires.files c.in_ok-carry.ensures.leaves.content c.in_ok-carry.ensures.leaves.later in
-    let told_mid = c.in_ok-save.ensures.content.before (c.in_ok-retire.ensures.content.before told) in
-    let still = c.in_ok-carry.ensures.still (g.S.Shelf.world c.retire.new.shelf) (works_on g.S.Shelf.tells g.S.Shelf.world g.met.S.Shelf.files_are g.P.Sweep.saving laws.stays laws.apart made read next later budget sweep task point _ c.carry.new.shelf c.save.new.shelf c.retire.new.shelf carried.files c.in_ok-carry.ensures.filled.tables
-    c.in_ok-save.ensures.content c.in_ok-retire.ensures.content told) in
-    still.steps (c.in_ok-carry.ensures.in_step told_mid)
+    let at = (goal.at.returns-clause-in_step g c).After-retire in
+    (still g at told).steps (c.in_ok-carry.ensures.in_step (told_then g at told))
 
 pub returns-clause-keeps : goal.returns-clause-keeps
 returns-clause-keeps g c = λ told job remains.
-    let claim : g.claim c.lifetimes = search rules in
-    let laws = g.met.P.Resume c.lifetimes claim in
-    let made = g.P.Sweep.accounts.makes c.args.sweep.now in
-    let read = g.P.Sweep.saving.operands (g.P.Sweep.task c.args.sweep.now) in
-    let next = g.P.Sweep.accounts.next c.args.sweep.now in
-    let later = g.P.Sweep.accounts.next c.carry.new.self in
-    let task = g.P.Sweep.task c.args.sweep.now in
-    let point = c.carry.new.into in
-    let budget = c.args.going.now.budget in
-    let sweep = c.args.going.now.sweep in
-    let step_is = c.in_ok-carry.ensures.head.step_is in
-    let carried = carried_at g.S.Shelf.tells g.S.Shelf.world g.met.S.Shelf.files_are g.P.Sweep.saving laws.stays laws.apart made read next later budget sweep task point
-    c.args.shelf.now c.carry.new.shelf (g.P.Sweep.accounts.step c.args.sweep.now) (step_is ∙ c.requires.step) c.requires.files c.in_ok-carry.ensures.leaves.content c.in_ok-carry.ensures.leaves.later in
-    let told_mid = c.in_ok-save.ensures.content.before (c.in_ok-retire.ensures.content.before told) in
-    let still = c.in_ok-carry.ensures.still (g.S.Shelf.world c.retire.new.shelf) (works_on g.S.Shelf.tells g.S.Shelf.world g.met.S.Shelf.files_are g.P.Sweep.saving laws.stays laws.apart made read next later budget sweep task point _ c.carry.new.shelf c.save.new.shelf c.retire.new.shelf carried.files c.in_ok-carry.ensures.filled.tables
-    c.in_ok-save.ensures.content c.in_ok-retire.ensures.content told) in
-    still.keeps job (c.in_ok-carry.ensures.keeps told_mid job remains)
+    let at = (goal.at.returns-clause-keeps g c).After-retire in
+    (still g at told).keeps job (c.in_ok-carry.ensures.keeps (told_then g at told) job remains)
 
 pub returns-clause-left : goal.returns-clause-left
 returns-clause-left g c = λ told job remains.
-    let claim : g.claim c.lifetimes = search rules in
-    let laws = g.met.P.Resume c.lifetimes claim in
-    let made = g.P.Sweep.accounts.makes c.args.sweep.now in
-    let read = g.P.Sweep.saving.operands (g.P.Sweep.task c.args.sweep.now) in
-    let next = g.P.Sweep.accounts.next c.args.sweep.now in
-    let later = g.P.Sweep.accounts.next c.carry.new.self in
-    let task = g.P.Sweep.task c.args.sweep.now in
-    let point = c.carry.new.into in
-    let budget = c.args.going.now.budget in
-    let sweep = c.args.going.now.sweep in
-    let step_is = c.in_ok-carry.ensures.head.step_is in
-    let carried = carried_at g.S.Shelf.tells g.S.Shelf.world g.met.S.Shelf.files_are g.P.Sweep.saving laws.stays laws.apart made read next later budget sweep task point
-    c.args.shelf.now c.carry.new.shelf (g.P.Sweep.accounts.step c.args.sweep.now) (step_is ∙ c.requires.step) c.requires.files c.in_ok-carry.ensures.leaves.content c.in_ok-carry.ensures.leaves.later in
-    let told_mid = c.in_ok-save.ensures.content.before (c.in_ok-retire.ensures.content.before told) in
-    let still = c.in_ok-carry.ensures.still (g.S.Shelf.world c.retire.new.shelf) (works_on g.S.Shelf.tells g.S.Shelf.world g.met.S.Shelf.files_are g.P.Sweep.saving laws.stays laws.apart made read next later budget sweep task point _ c.carry.new.shelf c.save.new.shelf c.retire.new.shelf carried.files c.in_ok-carry.ensures.filled.tables
-    c.in_ok-save.ensures.content c.in_ok-retire.ensures.content told) in
-    let less = still.fewer job (c.in_ok-carry.ensures.keeps told_mid job remains) in let first = c.in_ok-carry.ensures.left told_mid job remains in omega (arith, less, first)
+    let at = (goal.at.returns-clause-left g c).After-retire in
+    let told_c = told_then g at told in
+    let less = (still g at told).fewer job (c.in_ok-carry.ensures.keeps told_c job remains) in
+    let first = c.in_ok-carry.ensures.left told_c job remains in
+    omega (arith, less, first)
 
 pub returns-clause-trusts : goal.returns-clause-trusts
 returns-clause-trusts g c = λ told trusted.
-    let claim : g.claim c.lifetimes = search rules in
-    let laws = g.met.P.Resume c.lifetimes claim in
-    let made = g.P.Sweep.accounts.makes c.args.sweep.now in
-    let read = g.P.Sweep.saving.operands (g.P.Sweep.task c.args.sweep.now) in
-    let next = g.P.Sweep.accounts.next c.args.sweep.now in
-    let later = g.P.Sweep.accounts.next c.carry.new.self in
-    let task = g.P.Sweep.task c.args.sweep.now in
-    let point = c.carry.new.into in
-    let budget = c.args.going.now.budget in
-    let sweep = c.args.going.now.sweep in
-    let step_is = c.in_ok-carry.ensures.head.step_is in
-    let carried = carried_at g.S.Shelf.tells g.S.Shelf.world g.met.S.Shelf.files_are g.P.Sweep.saving laws.stays laws.apart made read next later budget sweep task point
-    c.args.shelf.now c.carry.new.shelf (g.P.Sweep.accounts.step c.args.sweep.now) (step_is ∙ c.requires.step) c.requires.files c.in_ok-carry.ensures.leaves.content c.in_ok-carry.ensures.leaves.later in
-    let told_mid = c.in_ok-save.ensures.content.before (c.in_ok-retire.ensures.content.before told) in
-    let still = c.in_ok-carry.ensures.still (g.S.Shelf.world c.retire.new.shelf) (works_on g.S.Shelf.tells g.S.Shelf.world g.met.S.Shelf.files_are g.P.Sweep.saving laws.stays laws.apart made read next later budget sweep task point _ c.carry.new.shelf c.save.new.shelf c.retire.new.shelf carried.files c.in_ok-carry.ensures.filled.tables
-    c.in_ok-save.ensures.content c.in_ok-retire.ensures.content told) in
-    still.trusted (c.in_ok-carry.ensures.trusts told_mid trusted)
+    let at = (goal.at.returns-clause-trusts g c).After-retire in
+    (still g at told).trusted (c.in_ok-carry.ensures.trusts (told_then g at told) trusted)
 
 pub returns-clause-covers : goal.returns-clause-covers
 returns-clause-covers g c = λ told covered.
-    let claim : g.claim c.lifetimes = search rules in
-    let laws = g.met.P.Resume c.lifetimes claim in
-    let made = g.P.Sweep.accounts.makes c.args.sweep.now in
-    let read = g.P.Sweep.saving.operands (g.P.Sweep.task c.args.sweep.now) in
-    let next = g.P.Sweep.accounts.next c.args.sweep.now in
-    let later = g.P.Sweep.accounts.next c.carry.new.self in
-    let task = g.P.Sweep.task c.args.sweep.now in
-    let point = c.carry.new.into in
-    let budget = c.args.going.now.budget in
-    let sweep = c.args.going.now.sweep in
-    let step_is = c.in_ok-carry.ensures.head.step_is in
-    let carried = carried_at g.S.Shelf.tells g.S.Shelf.world g.met.S.Shelf.files_are g.P.Sweep.saving laws.stays laws.apart made read next later budget sweep task point
-    c.args.shelf.now c.carry.new.shelf (g.P.Sweep.accounts.step c.args.sweep.now) (step_is ∙ c.requires.step) c.requires.files c.in_ok-carry.ensures.leaves.content c.in_ok-carry.ensures.leaves.later in
-    subst (λ s. gated_size s (now (g.S.Shelf.world c.retire.new.shelf)).folder ≤ length (file (g.S.Shelf.world c.retire.new.shelf) (checkpoint_file s)).bytes) step_is
-    (covers_on g.S.Shelf.tells g.S.Shelf.world g.met.S.Shelf.files_are g.P.Sweep.saving laws.stays laws.apart made read next later budget sweep task point _ c.carry.new.shelf c.save.new.shelf c.retire.new.shelf c.in_ok-save.ensures.fits c.in_ok-save.ensures.ok c.in_ok-retire.ensures.content told)
-
-pub returns-then-since-interval-clause-images : goal.returns-then-since-interval-clause-images
-returns-then-since-interval-clause-images g c = λ told job remains sure.
-    let claim : g.claim c.lifetimes = search rules in
-    let laws = g.met.P.Resume c.lifetimes claim in
-    let made = g.P.Sweep.accounts.makes c.args.sweep.now in
-    let read = g.P.Sweep.saving.operands (g.P.Sweep.task c.args.sweep.now) in
-    let next = g.P.Sweep.accounts.next c.args.sweep.now in
-    images_none g.P.Sweep.saving laws.stays laws.apart made read c.args.going.now.step next c.args.going.now.budget c.args.going.now.sweep (g.P.Sweep.task c.args.sweep.now) job
-    (c.args.going.now.turns + g.P.Sweep.left c.args.sweep.now (g.S.Shelf.world c.args.shelf.now) job) (g.S.Shelf.world c.args.shelf.now) (g.met.S.Shelf.files_are c.args.shelf.now told)
-    (subst (λ s. IsOfStep made read s next) (sym c.requires.step) c.requires.files)
-
-pub returns-then-going-ge-TURNS_END-clause-images : goal.returns-then-going-ge-TURNS_END-clause-images
-returns-then-going-ge-TURNS_END-clause-images g c = λ told job remains sure.
-    let claim : g.claim c.lifetimes = search rules in
-    let laws = g.met.P.Resume c.lifetimes claim in
-    let made = g.P.Sweep.accounts.makes c.args.sweep.now in
-    let read = g.P.Sweep.saving.operands (g.P.Sweep.task c.args.sweep.now) in
-    let next = g.P.Sweep.accounts.next c.args.sweep.now in
-    images_none g.P.Sweep.saving laws.stays laws.apart made read c.args.going.now.step next c.args.going.now.budget c.args.going.now.sweep (g.P.Sweep.task c.args.sweep.now) job
-    (c.args.going.now.turns + g.P.Sweep.left c.args.sweep.now (g.S.Shelf.world c.args.shelf.now) job) (g.S.Shelf.world c.args.shelf.now) (g.met.S.Shelf.files_are c.args.shelf.now told)
-    (subst (λ s. IsOfStep made read s next) (sym c.requires.step) c.requires.files)
-
-pub returns-in_err-retire-clause-calls : goal.returns-in_err-retire-clause-calls
-returns-in_err-retire-clause-calls g c = λ told.
-    let told_s = c.in_err-retire.ensures.content.before told in
-    let told_c = c.in_ok-save.ensures.content.before told_s in
-    save_calls g.P.Sweep.accounts c.carry.new.into.next_part _ (first_taken c.args.going.now.last) (g.S.Shelf.world c.args.shelf.now) (g.S.Shelf.world c.carry.new.shelf) (g.S.Shelf.world c.save.new.shelf)
-    (g.S.Shelf.world c.retire.new.shelf) c.args.sweep.now c.carry.new.self c.in_ok-carry.ensures.filled.next_is (ap first_taken c.as_ref.ensures.value)
-    (c.in_ok-carry.ensures.leaves.calls told_c) (c.in_ok-save.ensures.calls told_s) (c.in_err-retire.ensures.calls told)
-
-pub returns-clause-calls : goal.returns-clause-calls
-returns-clause-calls g c = λ told.
-    let told_s = c.in_ok-retire.ensures.content.before told in
-    let told_c = c.in_ok-save.ensures.content.before told_s in
-    save_calls g.P.Sweep.accounts c.carry.new.into.next_part _ (first_taken c.args.going.now.last) (g.S.Shelf.world c.args.shelf.now) (g.S.Shelf.world c.carry.new.shelf) (g.S.Shelf.world c.save.new.shelf)
-    (g.S.Shelf.world c.retire.new.shelf) c.args.sweep.now c.carry.new.self c.in_ok-carry.ensures.filled.next_is (ap first_taken c.as_ref.ensures.value)
-    (c.in_ok-carry.ensures.leaves.calls told_c) (c.in_ok-save.ensures.calls told_s) (c.in_ok-retire.ensures.calls told)
+    subst (λ s. gated_size s (now (g.S.Shelf.world c.retire.new.shelf)).folder ≤ length (file (g.S.Shelf.world c.retire.new.shelf) (checkpoint_file s)).bytes) c.in_ok-carry.ensures.head.step_is
+    (covers_on g.S.Shelf.tells g.S.Shelf.world (g.P.Sweep.accounts.makes c.args.sweep.now) (g.P.Sweep.saving.operands (g.P.Sweep.task c.args.sweep.now)) (g.P.Sweep.accounts.next c.args.sweep.now)
+    (g.P.Sweep.accounts.next c.carry.new.self) c.carry.new.into _ c.carry.new.shelf c.save.new.shelf c.retire.new.shelf c.in_ok-save.ensures.fits c.in_ok-save.ensures.ok c.in_ok-retire.ensures.content told)

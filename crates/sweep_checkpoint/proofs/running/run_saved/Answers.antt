@@ -1,20 +1,304 @@
-use Rattle.std.proofs.Common.{◌≡◌, ◌≢◌, ◌^◌, ◌-◌, ◌<◌, ◌+◌, ◌∙◌, ◌≤◌, length, rules, arith, refl, sym, subst, inl, inr}
+use Rattle.std.proofs.Common.{◌≡◌, ◌≢◌, ℕ, ◌^◌, ◌+◌, ◌-◌, ◌∙◌, ◌<◌, ◌≤◌, IsTrue, length, min, max, rules, arith, refl, sym, ap, subst, inl, inr}
 use Rattle.shelf_model.specs.Calls.{Told}
-use Rattle.shelf_model.specs.Moments.{Ran, OnlyChanged}
-use Rattle.shelf_model.specs.World.{now, file}
+use Rattle.shelf_model.specs.Moments.{Ran, Throughout, OnlyChanged}
+use Rattle.shelf_model.specs.World.{Moment, now, file}
 use Rattle.shelf_model.proofs.Runs.{ran_end}
 use Rattle.shelf_model.proofs.Changing.{told_changed_none, told_changed_then}
 use Rattle.file_numbers.specs.Files.{checkpoint_file}
+use Rattle.run_tiers.proofs.FaultLaws.{on_fault}
 use Rattle.sweep_core.specs.declared.turn.Turn.TheVariants.{Ended}
 use Rattle.sweep_core.specs.Accounts.{OnlyOwn}
 use Rattle.sweep_core.specs.Saving.{IsOfStep}
+use Rattle.sweep_core.specs.Carries.{OnlySaved}
 use Rattle.sweep_checkpoint.specs.Gated.{present, last_gated}
 use Rattle.sweep_checkpoint.specs.Saves.{gated_size}
-use Rattle.sweep_checkpoint.specs.Going.{IsOfGoing, interval_of, first_owed}
+use Rattle.sweep_checkpoint.specs.declared.going.Going.{Going}
+use Rattle.sweep_checkpoint.specs.Going.{IsOfGoing, AreSure, IsPaidTo, interval_of, first_owed}
 use Rattle.sweep_checkpoint.proofs.AsBefore.{of_step_later, of_step_as}
-use Rattle.sweep_checkpoint.proofs.Spent.{spent_none, spent_save, spent_turns, spent_saves, refused_save, refused_turns, owed_late, owed_early}
-use Rattle.sweep_checkpoint.proofs.WentOn.{own_saved, gated_still, says_then, covers_still, where_ended, fell_ended, fell_more, images_none, images_on, stage_save, stage_turns, left_of, come_of, sure_of, turns_on, saved_none}
+use Rattle.sweep_checkpoint.proofs.SavedHere.{AreLeft}
+use Rattle.sweep_checkpoint.proofs.Spent.{SpentOn, spent_none, spent_save, spent_turns, spent_saves, refused_save, refused_turns, saved_late, Known, known_save, known_turns, saved_within, paid_save, paid_turns, owed_late, owed_early}
+use Rattle.sweep_checkpoint.proofs.WentOn.{Stage, SaysLast, own_saved, gated_still, says_then, covers_still, where_ended, fell_ended, fell_more, images_none, images_on, stage_save, stage_turns, left_of, come_of, sure_of, turns_on, saved_none}
+use Rattle.sweep_checkpoint.proofs.running.run_saved.Given as given
 use Rattle.sweep_checkpoint.proofs.running.run_saved.Goals as goal
+use Rattle.sweep_checkpoint.proofs.running.run_saved.Goals.{After-save_if_due, In_ok-save_if_due, After-run_some, In_ok-made}
+
+module _ (g : given.Over) where
+  -- what is said of a sweep that began there, with a step that had come so far, over that station:
+  -- it keeps to the files of its step
+  abbrev Files : g.row.P.Denot → Going → Type 0
+  Files sweep going = IsOfStep (g.P.Sweep.accounts.makes sweep) (g.P.Sweep.saving.operands (g.P.Sweep.task sweep)) going.step (g.P.Sweep.accounts.next sweep)
+
+  -- no others changed
+  abbrev Changed : g.row.P.Denot → Going → g.row.S.Denot → g.row.S.Denot → Type 0
+  Changed sweep going old new = Told g.S.Shelf.tells old new (Ran (OnlyChanged (IsOfGoing (g.P.Sweep.accounts.makes sweep) going.step) (now (g.S.Shelf.world old))) (g.S.Shelf.world old) (g.S.Shelf.world new))
+
+  -- the gate and its operands are sure
+  abbrev Sure : g.row.P.Denot → Going → g.row.S.Denot → Type 0
+  Sure sweep going old = AreSure (g.P.Sweep.saving.operands (g.P.Sweep.task sweep)) going.step (now (g.S.Shelf.world old)).folder
+
+  -- what a stop may leave
+  abbrev Left : g.row.P.Denot → Going → g.row.S.Denot → g.P.Sweep.Job → Moment → Type 0
+  Left sweep going old job = AreLeft g.P.Sweep.saving (g.P.Sweep.accounts.makes sweep) going.step (g.P.Sweep.accounts.next sweep) going.budget going.sweep (g.P.Sweep.task sweep) job
+      (going.turns + g.P.Sweep.left sweep (g.S.Shelf.world old) job) (now (g.S.Shelf.world old)).folder
+
+  -- where it has come to
+  abbrev Come : g.row.P.Denot → Going → g.row.S.Denot → g.P.Sweep.Job → ℕ → g.row.S.Denot → Type 0
+  Come sweep going old job later new = Stage g.P.Sweep.saving (g.P.Sweep.accounts.makes sweep) (g.P.Sweep.saving.operands (g.P.Sweep.task sweep)) going.step (g.P.Sweep.accounts.next sweep)
+      going.budget going.sweep (g.P.Sweep.task sweep) job (going.turns + g.P.Sweep.left sweep (g.S.Shelf.world old) job) later (g.S.Shelf.world old) (g.S.Shelf.world new)
+
+  -- what it took so far
+  abbrev Spent : g.row.P.Denot → Going → g.row.S.Denot → ℕ → Going → g.row.P.Denot → g.row.S.Denot → Type 0
+  Spent sweep going old turns after later new = SpentOn g.P.Sweep.accounts (interval_of going.budget) (first_owed going.last (g.P.Sweep.accounts.next sweep)) going.shown turns after (IsTrue (g.S.Shelf.tells new))
+      (g.S.Shelf.world old) (g.S.Shelf.world new) sweep later
+
+  -- it is asked to keep to the files of its step
+  of_step : (c : After-save_if_due g) → Files c.args.sweep.now c.args.going.now
+  of_step c = subst (λ s. IsOfStep (g.P.Sweep.accounts.makes c.args.sweep.now) (g.P.Sweep.saving.operands (g.P.Sweep.task c.args.sweep.now)) s (g.P.Sweep.accounts.next c.args.sweep.now))
+      (sym c.requires.step) c.requires.files
+
+  -- behind a save, whatever its answer
+  save_changes : (c : After-save_if_due g) → Changed c.args.sweep.now c.args.going.now c.args.shelf.now c.save_if_due.new.shelf
+  save_changes c =
+      let inv = c.turns.invariant in
+      let step = c.args.going.now.step in
+      let made_at = g.P.Sweep.accounts.makes c.turns.sweep in
+      let saves = subst (λ s. Told g.S.Shelf.tells c.turns.shelf c.save_if_due.new.shelf (Ran (OnlyChanged (IsOfGoing made_at s) (now (g.S.Shelf.world c.turns.shelf))) (g.S.Shelf.world c.turns.shelf)
+      (g.S.Shelf.world c.save_if_due.new.shelf))) inv.going.step_is c.save_if_due.ensures.changes in
+      told_changed_then g.S.Shelf.tells g.S.Shelf.world (IsOfGoing (g.P.Sweep.accounts.makes c.args.sweep.now) step) (IsOfGoing made_at step) c.args.shelf.now c.turns.shelf c.save_if_due.new.shelf
+      (λ f is. elim is [ inl mine ↦ inl (inv.made f mine) | inr rest ↦ inr rest ]) inv.changes saves
+
+  -- the gate and the operands are sure where the save begins
+  sure_at : (c : After-save_if_due g) → IsTrue (g.S.Shelf.tells c.turns.shelf) → (job : g.P.Sweep.Job) → g.P.Sweep.remains c.args.sweep.now (g.S.Shelf.world c.args.shelf.now) job
+      → Sure c.args.sweep.now c.args.going.now c.args.shelf.now → IsPaidTo g.P.Sweep.accounts c.args.going.now c.args.sweep.now → Sure c.turns.sweep c.turns.going c.turns.shelf
+  sure_at c told job remains sure paid =
+      let inv = c.turns.invariant in
+      sure_of g.P.Sweep.saving _ _ _ _ _ _ _ _ inv.same inv.going.step_is inv.going.budget_is inv.going.sweep_is
+      {turns = c.args.going.now.turns + g.P.Sweep.left c.args.sweep.now (g.S.Shelf.world c.args.shelf.now) job}
+      (g.P.Sweep.accounts.makes c.args.sweep.now) (g.P.Sweep.accounts.next c.args.sweep.now) (g.P.Sweep.accounts.next c.turns.sweep) job (now (g.S.Shelf.world c.args.shelf.now))
+      (now (g.S.Shelf.world c.turns.shelf)) (of_step c) (inv.come told job remains sure paid) sure
+
+  -- what a stop may leave meanwhile, seen from where the save began
+  left_here : (c : After-save_if_due g) → IsTrue (g.S.Shelf.tells c.save_if_due.new.shelf) → (job : g.P.Sweep.Job) → g.P.Sweep.remains c.args.sweep.now (g.S.Shelf.world c.args.shelf.now) job
+      → Sure c.args.sweep.now c.args.going.now c.args.shelf.now → IsPaidTo g.P.Sweep.accounts c.args.going.now c.args.sweep.now
+      → Throughout (g.S.Shelf.world c.turns.shelf) (g.S.Shelf.world c.save_if_due.new.shelf)
+      (AreLeft g.P.Sweep.saving (g.P.Sweep.accounts.makes c.turns.sweep) c.args.going.now.step (g.P.Sweep.accounts.next c.turns.sweep) c.args.going.now.budget c.args.going.now.sweep
+      (g.P.Sweep.task c.args.sweep.now) job (c.turns.going.turns + g.P.Sweep.left c.turns.sweep (g.S.Shelf.world c.turns.shelf) job) (now (g.S.Shelf.world c.turns.shelf)).folder)
+  left_here c told job remains sure paid =
+      let inv = c.turns.invariant in
+      let told_at = c.save_if_due.ensures.changes.before told in
+      left_of g.P.Sweep.saving _ _ _ _ _ _ _ _ inv.same inv.going.step_is inv.going.budget_is inv.going.sweep_is
+      (g.P.Sweep.accounts.makes c.turns.sweep) (g.P.Sweep.accounts.next c.turns.sweep) job (c.turns.going.turns + g.P.Sweep.left c.turns.sweep (g.S.Shelf.world c.turns.shelf) job)
+      (g.S.Shelf.world c.turns.shelf) (g.S.Shelf.world c.save_if_due.new.shelf)
+      (now (g.S.Shelf.world c.turns.shelf)).folder (c.save_if_due.ensures.images told job (inv.keeps told_at job remains) (sure_at c told_at job remains sure paid) (λ few. inv.paid few paid))
+
+  save_images : (c : After-save_if_due g) → IsTrue (g.S.Shelf.tells c.save_if_due.new.shelf) → (job : g.P.Sweep.Job) → g.P.Sweep.remains c.args.sweep.now (g.S.Shelf.world c.args.shelf.now) job
+      → Sure c.args.sweep.now c.args.going.now c.args.shelf.now → IsPaidTo g.P.Sweep.accounts c.args.going.now c.args.sweep.now
+      → Throughout (g.S.Shelf.world c.args.shelf.now) (g.S.Shelf.world c.save_if_due.new.shelf) (Left c.args.sweep.now c.args.going.now c.args.shelf.now job)
+  save_images c told job remains sure paid =
+      let claim : g.claim c.lifetimes = search rules in
+      let laws = g.met.P.Resume c.lifetimes claim in
+      let inv = c.turns.invariant in
+      let told_at = c.save_if_due.ensures.changes.before told in
+      images_on g.P.Sweep.saving laws.stays laws.apart (g.P.Sweep.accounts.makes c.args.sweep.now) (g.P.Sweep.saving.operands (g.P.Sweep.task c.args.sweep.now)) c.args.going.now.step
+      (g.P.Sweep.accounts.next c.args.sweep.now) c.args.going.now.budget c.args.going.now.sweep (g.P.Sweep.task c.args.sweep.now) job
+      (c.args.going.now.turns + g.P.Sweep.left c.args.sweep.now (g.S.Shelf.world c.args.shelf.now) job) (g.P.Sweep.accounts.makes c.turns.sweep) (g.P.Sweep.accounts.next c.turns.sweep)
+      (c.turns.going.turns + g.P.Sweep.left c.turns.sweep (g.S.Shelf.world c.turns.shelf) job) (g.S.Shelf.world c.args.shelf.now) (g.S.Shelf.world c.turns.shelf) (g.S.Shelf.world c.save_if_due.new.shelf)
+      inv.made inv.making (g.met.S.Shelf.files_are c.args.shelf.now (inv.changes.before told_at)) (of_step c) inv.later (inv.few told_at job remains) (inv.come told_at job remains sure paid)
+      (inv.images told_at job remains sure paid) (left_here c told job remains sure paid)
+
+  -- where the sweep has come to behind a save
+  save_stage : (c : In_ok-save_if_due g) → IsTrue (g.S.Shelf.tells c.save_if_due.new.shelf) → (job : g.P.Sweep.Job) → g.P.Sweep.remains c.args.sweep.now (g.S.Shelf.world c.args.shelf.now) job
+      → Sure c.args.sweep.now c.args.going.now c.args.shelf.now → IsPaidTo g.P.Sweep.accounts c.args.going.now c.args.sweep.now
+      → Come c.args.sweep.now c.args.going.now c.args.shelf.now job (g.P.Sweep.accounts.next c.save_if_due.new.sweep) c.save_if_due.new.shelf
+  save_stage c told job remains sure paid =
+      let at = (goal.at.In_ok-save_if_due g c).After-save_if_due in
+      let claim : g.claim c.lifetimes = search rules in
+      let laws = g.met.P.Resume c.lifetimes claim in
+      let inv = c.turns.invariant in
+      let first = c.in_ok-save_if_due.ensures in
+      let told_at = first.changes.before told in
+      stage_save g.P.Sweep.saving laws.stays laws.apart (g.P.Sweep.accounts.makes c.args.sweep.now) (g.P.Sweep.saving.operands (g.P.Sweep.task c.args.sweep.now)) c.args.going.now.step
+      (g.P.Sweep.accounts.next c.args.sweep.now) c.args.going.now.budget c.args.going.now.sweep (g.P.Sweep.task c.args.sweep.now) job
+      (c.args.going.now.turns + g.P.Sweep.left c.args.sweep.now (g.S.Shelf.world c.args.shelf.now) job) (g.P.Sweep.accounts.makes c.turns.sweep) (g.P.Sweep.accounts.next c.turns.sweep)
+      (g.P.Sweep.accounts.next c.save_if_due.new.sweep) (c.turns.going.turns + g.P.Sweep.left c.turns.sweep (g.S.Shelf.world c.turns.shelf) job) (g.S.Shelf.world c.args.shelf.now)
+      (g.S.Shelf.world c.turns.shelf) (g.S.Shelf.world c.save_if_due.new.shelf)
+      inv.made inv.making (g.met.S.Shelf.files_are c.args.shelf.now (inv.changes.before told_at)) (g.met.S.Shelf.files_are c.turns.shelf told_at) (of_step at) first.later (inv.few told_at job remains)
+      (record { more = inv.later; images = inv.images told_at job remains sure paid; come = inv.come told_at job remains sure paid }) (left_here at told job remains sure paid)
+      (come_of g.P.Sweep.saving _ _ _ _ _ _ _ _ inv.same inv.going.step_is inv.going.budget_is inv.going.sweep_is
+      (g.P.Sweep.accounts.makes c.turns.sweep) (g.P.Sweep.accounts.next c.turns.sweep) (g.P.Sweep.accounts.next c.save_if_due.new.sweep) job
+      (c.turns.going.turns + g.P.Sweep.left c.turns.sweep (g.S.Shelf.world c.turns.shelf) job) (now (g.S.Shelf.world c.turns.shelf))
+      (now (g.S.Shelf.world c.save_if_due.new.shelf)) (first.stands told job (inv.keeps told_at job remains) (sure_at at told_at job remains sure paid) (λ few. inv.paid few paid)))
+
+  -- what turns and saves took so far
+  save_spent : (c : In_ok-save_if_due g) → c.save_if_due.new.going.turns < 2 ^ 64 - 1
+      → Spent c.args.sweep.now c.args.going.now c.args.shelf.now (c.save_if_due.new.going.turns - c.args.going.now.turns) c.save_if_due.new.going c.save_if_due.new.sweep c.save_if_due.new.shelf
+  save_spent c few =
+      let inv = c.turns.invariant in
+      let first = c.in_ok-save_if_due.ensures in
+      let same = first.turns in
+      spent_save g.P.Sweep.accounts _ _ _ (c.save_if_due.new.going.turns - c.args.going.now.turns) c.turns.going c.save_if_due.new.going _ _
+      (g.S.Shelf.world c.args.shelf.now) (g.S.Shelf.world c.turns.shelf) (g.S.Shelf.world c.save_if_due.new.shelf) c.args.sweep.now c.turns.sweep c.save_if_due.new.sweep
+      (ap interval_of inv.going.budget_is) (owed_early c.args.going.now.last (g.P.Sweep.accounts.next c.args.sweep.now)) inv.later first.later first.changes.before
+      (subst (λ n. Spent c.args.sweep.now c.args.going.now c.args.shelf.now (n - c.args.going.now.turns) c.turns.going c.turns.sweep c.turns.shelf) (sym same) (inv.spent (omega (arith, few, same))))
+      first.parts first.calls
+
+  -- and where something of a job remains, of which turns were made
+  save_calls : (c : In_ok-save_if_due g) → IsTrue (g.S.Shelf.tells c.save_if_due.new.shelf) → (job : g.P.Sweep.Job) → g.P.Sweep.remains c.args.sweep.now (g.S.Shelf.world c.args.shelf.now) job
+      → Spent c.args.sweep.now c.args.going.now c.args.shelf.now
+      (g.P.Sweep.left c.args.sweep.now (g.S.Shelf.world c.args.shelf.now) job - g.P.Sweep.left c.turns.sweep (g.S.Shelf.world c.turns.shelf) job)
+      c.save_if_due.new.going c.save_if_due.new.sweep c.save_if_due.new.shelf
+  save_calls c told job remains =
+      let inv = c.turns.invariant in
+      let first = c.in_ok-save_if_due.ensures in
+      spent_save g.P.Sweep.accounts _ _ _ _ c.turns.going c.save_if_due.new.going _ _
+      (g.S.Shelf.world c.args.shelf.now) (g.S.Shelf.world c.turns.shelf) (g.S.Shelf.world c.save_if_due.new.shelf) c.args.sweep.now c.turns.sweep c.save_if_due.new.sweep
+      (ap interval_of inv.going.budget_is) (owed_early c.args.going.now.last (g.P.Sweep.accounts.next c.args.sweep.now)) inv.later first.later first.changes.before
+      (inv.calls (first.changes.before told) job remains) first.parts first.calls
+
+  save_within : (c : In_ok-save_if_due g) → IsTrue (g.S.Shelf.tells c.save_if_due.new.shelf) → (job : g.P.Sweep.Job) → g.P.Sweep.remains c.args.sweep.now (g.S.Shelf.world c.args.shelf.now) job
+      → c.save_if_due.new.going.shown ≤ max c.args.going.now.shown (c.args.going.now.turns + g.P.Sweep.left c.args.sweep.now (g.S.Shelf.world c.args.shelf.now) job)
+  save_within c told job remains =
+      let inv = c.turns.invariant in
+      let first = c.in_ok-save_if_due.ensures in
+      let told_at = first.changes.before told in
+      let few = inv.few told_at job remains in
+      saved_within g.P.Sweep.accounts c.turns.going c.save_if_due.new.going (g.S.Shelf.world c.turns.shelf) (g.S.Shelf.world c.save_if_due.new.shelf) c.turns.sweep c.save_if_due.new.sweep
+      c.args.going.now.shown (c.args.going.now.turns + g.P.Sweep.left c.args.sweep.now (g.S.Shelf.world c.args.shelf.now) job) (inv.within told_at job remains) (omega (arith, few)) first.parts
+
+  -- the next checkpoint is paid for
+  save_paid : (c : In_ok-save_if_due g) → c.save_if_due.new.going.turns < 2 ^ 64 - 1 → IsPaidTo g.P.Sweep.accounts c.args.going.now c.args.sweep.now
+      → IsPaidTo g.P.Sweep.accounts c.save_if_due.new.going c.save_if_due.new.sweep
+  save_paid c few paid =
+      let first = c.in_ok-save_if_due.ensures in
+      let same = first.turns in
+      paid_save g.P.Sweep.accounts c.turns.going c.save_if_due.new.going (g.S.Shelf.world c.turns.shelf) (g.S.Shelf.world c.save_if_due.new.shelf) c.turns.sweep c.save_if_due.new.sweep
+      same first.going.budget_is first.later first.parts (c.turns.invariant.paid (omega (arith, few, same)) paid)
+
+  -- the sweep makes files of its step, from the part number of then on
+  files_then : (c : In_ok-save_if_due g) → IsOfStep (g.P.Sweep.accounts.makes c.save_if_due.new.sweep) (g.P.Sweep.saving.operands (g.P.Sweep.task c.args.sweep.now)) c.args.going.now.step
+      (g.P.Sweep.accounts.next c.save_if_due.new.sweep)
+  files_then c =
+      let inv = c.turns.invariant in
+      let first = c.in_ok-save_if_due.ensures in
+      of_step_as (g.P.Sweep.accounts.makes c.args.sweep.now) (g.P.Sweep.accounts.makes c.save_if_due.new.sweep) (g.P.Sweep.saving.operands (g.P.Sweep.task c.args.sweep.now))
+      c.args.going.now.step (g.P.Sweep.accounts.next c.save_if_due.new.sweep) (λ f mine. inv.made f (first.made f mine))
+      (of_step_later (g.P.Sweep.accounts.makes c.args.sweep.now) (g.P.Sweep.saving.operands (g.P.Sweep.task c.args.sweep.now)) c.args.going.now.step (g.P.Sweep.accounts.next c.args.sweep.now)
+      (g.P.Sweep.accounts.next c.save_if_due.new.sweep) (let one = inv.later in let two = first.later in omega (arith, one, two)) (of_step (goal.at.In_ok-save_if_due g c).After-save_if_due))
+
+  -- behind turns, whatever their answer
+  own_step : (c : After-run_some g) → g.P.Sweep.accounts.step c.save_if_due.new.sweep ≡ c.args.going.now.step
+  own_step c = c.in_ok-save_if_due.ensures.step ∙ c.turns.invariant.step ∙ sym c.requires.step
+
+  turn_changes : (c : After-run_some g) → Changed c.args.sweep.now c.args.going.now c.args.shelf.now c.run_some.new.shelf
+  turn_changes c =
+      let at = (goal.at.After-run_some g c).After-save_if_due in
+      let inv = c.turns.invariant in
+      let first = c.in_ok-save_if_due.ensures in
+      turns_on g.S.Shelf.tells g.S.Shelf.world (g.P.Sweep.accounts.makes c.args.sweep.now) (g.P.Sweep.accounts.makes c.save_if_due.new.sweep) (g.P.Sweep.saving.operands (g.P.Sweep.task c.args.sweep.now))
+      c.args.going.now.step (g.P.Sweep.accounts.next c.args.sweep.now) (g.P.Sweep.accounts.next c.save_if_due.new.sweep) c.args.shelf.now c.save_if_due.new.shelf c.run_some.new.shelf
+      (λ f mine. inv.made f (first.made f mine)) (λ f mine. first.making f (inv.making f mine)) (of_step at) (let one = inv.later in let two = first.later in omega (arith, one, two)) (save_changes at)
+      (subst (λ s. Told g.S.Shelf.tells c.save_if_due.new.shelf c.run_some.new.shelf (Ran (OnlyOwn (g.P.Sweep.accounts.makes c.save_if_due.new.sweep) s (g.P.Sweep.accounts.next c.save_if_due.new.sweep)
+      (now (g.S.Shelf.world c.save_if_due.new.shelf))) (g.S.Shelf.world c.save_if_due.new.shelf) (g.S.Shelf.world c.run_some.new.shelf))) (own_step c) c.run_some.ensures.leaves.content)
+
+  turn_stage : (c : After-run_some g) → IsTrue (g.S.Shelf.tells c.run_some.new.shelf) → (job : g.P.Sweep.Job) → g.P.Sweep.remains c.args.sweep.now (g.S.Shelf.world c.args.shelf.now) job
+      → Sure c.args.sweep.now c.args.going.now c.args.shelf.now → IsPaidTo g.P.Sweep.accounts c.args.going.now c.args.sweep.now
+      → Come c.args.sweep.now c.args.going.now c.args.shelf.now job (g.P.Sweep.accounts.next c.run_some.new.sweep) c.run_some.new.shelf
+  turn_stage c told job remains sure paid =
+      let at = goal.at.After-run_some g c in
+      let claim : g.claim c.lifetimes = search rules in
+      let laws = g.met.P.Resume c.lifetimes claim in
+      let inv = c.turns.invariant in
+      let first = c.in_ok-save_if_due.ensures in
+      let ran = c.run_some.ensures.leaves in
+      let told_s = ran.content.before told in
+      let told_at = first.changes.before told_s in
+      stage_turns g.P.Sweep.saving laws.stays laws.apart (g.P.Sweep.accounts.makes c.args.sweep.now) (g.P.Sweep.saving.operands (g.P.Sweep.task c.args.sweep.now)) c.args.going.now.step
+      (g.P.Sweep.accounts.next c.args.sweep.now) c.args.going.now.budget c.args.going.now.sweep (g.P.Sweep.task c.args.sweep.now) job
+      (c.args.going.now.turns + g.P.Sweep.left c.args.sweep.now (g.S.Shelf.world c.args.shelf.now) job) (g.P.Sweep.accounts.makes c.save_if_due.new.sweep) (g.P.Sweep.accounts.next c.save_if_due.new.sweep)
+      (g.P.Sweep.accounts.next c.run_some.new.sweep) (g.S.Shelf.world c.args.shelf.now) (g.S.Shelf.world c.save_if_due.new.shelf) (g.S.Shelf.world c.run_some.new.shelf)
+      (λ f mine. inv.made f (first.made f mine)) (λ f mine. first.making f (inv.making f mine)) (g.met.S.Shelf.files_are c.args.shelf.now (inv.changes.before told_at))
+      (g.met.S.Shelf.files_are c.save_if_due.new.shelf told_s) (of_step at.After-save_if_due) ran.later (save_stage at.In_ok-save_if_due told_s job remains sure paid)
+      (subst (λ s. Ran (OnlyOwn (g.P.Sweep.accounts.makes c.save_if_due.new.sweep) s (g.P.Sweep.accounts.next c.save_if_due.new.sweep) (now (g.S.Shelf.world c.save_if_due.new.shelf)))
+      (g.S.Shelf.world c.save_if_due.new.shelf) (g.S.Shelf.world c.run_some.new.shelf)) (own_step c) (ran.content.did told))
+
+  turn_saved : (c : After-run_some g) → IsTrue (g.S.Shelf.tells c.run_some.new.shelf) → OnlySaved (g.P.Sweep.accounts.makes c.save_if_due.new.sweep) c.args.going.now.step
+      (g.P.Sweep.accounts.next c.save_if_due.new.sweep) (now (g.S.Shelf.world c.save_if_due.new.shelf)) (now (g.S.Shelf.world c.run_some.new.shelf))
+  turn_saved c told =
+      own_saved (g.P.Sweep.accounts.makes c.save_if_due.new.sweep) c.args.going.now.step (g.P.Sweep.accounts.next c.save_if_due.new.sweep) (now (g.S.Shelf.world c.save_if_due.new.shelf))
+      (now (g.S.Shelf.world c.run_some.new.shelf))
+      (subst (λ s. OnlyOwn (g.P.Sweep.accounts.makes c.save_if_due.new.sweep) s (g.P.Sweep.accounts.next c.save_if_due.new.sweep) (now (g.S.Shelf.world c.save_if_due.new.shelf))
+      (now (g.S.Shelf.world c.run_some.new.shelf))) (own_step c)
+      (ran_end (g.S.Shelf.world c.save_if_due.new.shelf) (g.S.Shelf.world c.run_some.new.shelf)
+      (OnlyOwn (g.P.Sweep.accounts.makes c.save_if_due.new.sweep) (g.P.Sweep.accounts.step c.save_if_due.new.sweep) (g.P.Sweep.accounts.next c.save_if_due.new.sweep) (now (g.S.Shelf.world c.save_if_due.new.shelf)))
+      (c.run_some.ensures.leaves.content.did told)))
+
+  -- what is said of the last checkpoint, once turns were made
+  turn_says : (c : After-run_some g) → IsTrue (g.S.Shelf.tells c.run_some.new.shelf) → (turns : ℕ)
+      → SaysLast c.args.going.now (record c.save_if_due.new.going { turns = turns }) (now (g.S.Shelf.world c.args.shelf.now)).folder (now (g.S.Shelf.world c.run_some.new.shelf)).folder
+  turn_says c told turns =
+      let at = goal.at.After-run_some g c in
+      let inv = c.turns.invariant in
+      let first = c.in_ok-save_if_due.ensures in
+      let told_s = c.run_some.ensures.leaves.content.before told in
+      let still = gated_still (g.P.Sweep.accounts.makes c.save_if_due.new.sweep) (g.P.Sweep.saving.operands (g.P.Sweep.task c.args.sweep.now)) c.args.going.now.step
+      (g.P.Sweep.accounts.next c.save_if_due.new.sweep) (now (g.S.Shelf.world c.save_if_due.new.shelf)) (now (g.S.Shelf.world c.run_some.new.shelf)) (files_then at.In_ok-save_if_due) (turn_saved c told) in
+      let step_is = first.going.step_is ∙ inv.going.step_is in
+      says_then c.args.going.now c.save_if_due.new.going _ (now (g.S.Shelf.world c.args.shelf.now)).folder (now (g.S.Shelf.world c.save_if_due.new.shelf)).folder (now (g.S.Shelf.world c.run_some.new.shelf)).folder
+      step_is
+      (says_then c.args.going.now c.turns.going c.save_if_due.new.going (now (g.S.Shelf.world c.args.shelf.now)).folder (now (g.S.Shelf.world c.turns.shelf)).folder
+      (now (g.S.Shelf.world c.save_if_due.new.shelf)).folder inv.going.step_is (inv.says (first.changes.before told_s)) (first.shown told_s))
+      (inl (record {
+        shown_is = refl;
+        last_is = refl;
+        gated_is = subst (λ s. last_gated s (present (now (g.S.Shelf.world c.run_some.new.shelf)).folder)
+            ≡ last_gated s (present (now (g.S.Shelf.world c.save_if_due.new.shelf)).folder)) (sym step_is) still;
+      }))
+
+  -- what turns and saves took, once turns were made
+  turn_spent : (c : In_ok-made g) → (turns : ℕ) → turns ≡ min (c.save_if_due.new.going.turns + c.in_ok-made.made.turns) (2 ^ 64 - 1) → turns < 2 ^ 64 - 1
+      → Spent c.args.sweep.now c.args.going.now c.args.shelf.now (turns - c.args.going.now.turns) (record c.save_if_due.new.going { turns = turns }) c.run_some.new.sweep c.run_some.new.shelf
+  turn_spent c turns counted few =
+      let at = goal.at.In_ok-made g c in
+      let inv = c.turns.invariant in
+      let first = c.in_ok-save_if_due.ensures in
+      let ran = c.in_ok-made.ensures in
+      let grew = inv.grew in
+      let same = first.turns in
+      spent_turns g.P.Sweep.accounts _ _ _ (c.save_if_due.new.going.turns - c.args.going.now.turns) c.in_ok-made.made.turns (turns - c.args.going.now.turns) c.save_if_due.new.going
+      (record c.save_if_due.new.going { turns = turns }) _ _ (g.S.Shelf.world c.args.shelf.now) (g.S.Shelf.world c.save_if_due.new.shelf) (g.S.Shelf.world c.run_some.new.shelf)
+      c.args.sweep.now c.save_if_due.new.sweep c.run_some.new.sweep (omega (arith, few, counted, grew, same)) refl refl
+      (let one = inv.later in let two = first.later in omega (arith, one, two)) ran.leaves.later ran.counted.spent ran.leaves.content.before ran.counted.calls
+      (save_spent at.In_ok-save_if_due (omega (arith, few, counted)))
+
+  turn_paid : (c : In_ok-made g) → (turns : ℕ) → turns ≡ min (c.save_if_due.new.going.turns + c.in_ok-made.made.turns) (2 ^ 64 - 1) → turns < 2 ^ 64 - 1
+      → IsPaidTo g.P.Sweep.accounts c.args.going.now c.args.sweep.now → IsPaidTo g.P.Sweep.accounts (record c.save_if_due.new.going { turns = turns }) c.run_some.new.sweep
+  turn_paid c turns counted few paid =
+      paid_turns g.P.Sweep.accounts c.in_ok-made.made.turns c.save_if_due.new.going (record c.save_if_due.new.going { turns = turns }) c.save_if_due.new.sweep c.run_some.new.sweep
+      (omega (arith, few, counted)) refl refl c.in_ok-made.ensures.leaves.later c.in_ok-made.ensures.counted.spent
+      (save_paid (goal.at.In_ok-made g c).In_ok-save_if_due (omega (arith, few, counted)) paid)
+
+  -- the calls of turns that were made or refused, where something of a job remains
+  turn_calls : (c : After-run_some g) → IsTrue (g.S.Shelf.tells c.run_some.new.shelf) → (job : g.P.Sweep.Job) → g.P.Sweep.remains c.args.sweep.now (g.S.Shelf.world c.args.shelf.now) job
+      → Known g.P.Sweep.accounts (interval_of c.args.going.now.budget) (first_owed c.args.going.now.last (g.P.Sweep.accounts.next c.args.sweep.now)) c.args.going.now.shown
+      (c.args.going.now.turns + g.P.Sweep.left c.args.sweep.now (g.S.Shelf.world c.args.shelf.now) job) (g.P.Sweep.left c.args.sweep.now (g.S.Shelf.world c.args.shelf.now) job + 1)
+      (g.S.Shelf.world c.args.shelf.now) (g.S.Shelf.world c.run_some.new.shelf) c.args.sweep.now c.run_some.new.sweep
+  turn_calls c told job remains =
+      let at = (goal.at.After-run_some g c).In_ok-save_if_due in
+      let inv = c.turns.invariant in
+      let first = c.in_ok-save_if_due.ensures in
+      let ran = c.run_some.ensures in
+      let told_s = ran.leaves.content.before told in
+      let told_at = first.changes.before told_s in
+      let remains_at = inv.keeps told_at job remains in
+      let few = inv.few told_at job remains in
+      let grew = inv.grew in
+      let less = first.left told_s job remains_at in
+      known_turns g.P.Sweep.accounts _ _ _ _ (g.P.Sweep.left c.args.sweep.now (g.S.Shelf.world c.args.shelf.now) job - g.P.Sweep.left c.turns.sweep (g.S.Shelf.world c.turns.shelf) job)
+      (min c.max-most.result (g.P.Sweep.left c.save_if_due.new.sweep (g.S.Shelf.world c.save_if_due.new.shelf) job + 1)) _ c.save_if_due.new.going _ _
+      (g.S.Shelf.world c.args.shelf.now) (g.S.Shelf.world c.save_if_due.new.shelf) (g.S.Shelf.world c.run_some.new.shelf) c.args.sweep.now c.save_if_due.new.sweep c.run_some.new.sweep
+      (owed_late c.args.going.now.last (g.P.Sweep.accounts.next c.args.sweep.now)) (omega (arith, few, grew, less)) (let one = inv.later in let two = first.later in omega (arith, one, two)) ran.leaves.later
+      ran.leaves.content.before (save_within at told_s job remains) (save_calls at told_s job remains) (ran.few told job (first.keeps told_s job remains_at)).spent
+      (ran.few told job (first.keeps told_s job remains_at)).calls told
 
 pub turns-init : goal.turns-init
 turns-init g c =
@@ -37,119 +321,84 @@ turns-init g c =
       later = omega arith;
       few = λ told job remains. omega arith;
       covers = λ told covered. covered;
-      spent = λ few most. spent_none g.P.Sweep.accounts (interval_of c.args.going.now.budget) c.args.going.now _ (g.S.Shelf.world c.args.shelf.now) c.args.sweep.now;
+      grew = omega arith;
+      late = λ late. late;
+      spent = λ few. spent_none g.P.Sweep.accounts (interval_of c.args.going.now.budget) (first_owed c.args.going.now.last next) c.args.going.now.shown (c.args.going.now.turns - c.args.going.now.turns)
+          c.args.going.now (IsTrue (g.S.Shelf.tells c.args.shelf.now)) (g.S.Shelf.world c.args.shelf.now) c.args.sweep.now refl refl;
+      paid = λ few paid. paid;
+      within = λ told job remains. omega arith;
+      calls = λ told job remains. spent_none g.P.Sweep.accounts (interval_of c.args.going.now.budget) (first_owed c.args.going.now.last next) c.args.going.now.shown
+          (g.P.Sweep.left c.args.sweep.now (g.S.Shelf.world c.args.shelf.now) job - g.P.Sweep.left c.args.sweep.now (g.S.Shelf.world c.args.shelf.now) job)
+          c.args.going.now (IsTrue (g.S.Shelf.tells c.args.shelf.now)) (g.S.Shelf.world c.args.shelf.now) c.args.sweep.now refl refl;
       says = λ told. inl (record { shown_is = refl; last_is = refl; gated_is = refl });
       changes = told_changed_none g.S.Shelf.tells g.S.Shelf.world (IsOfGoing made c.args.going.now.step) c.args.shelf.now;
-      images = λ told job remains sure. images_none g.P.Sweep.saving laws.stays laws.apart made read c.args.going.now.step next c.args.going.now.budget c.args.going.now.sweep (g.P.Sweep.task c.args.sweep.now) job
+      images = λ told job remains sure paid. images_none g.P.Sweep.saving laws.stays laws.apart made read c.args.going.now.step next c.args.going.now.budget c.args.going.now.sweep (g.P.Sweep.task c.args.sweep.now) job
           (c.args.going.now.turns + g.P.Sweep.left c.args.sweep.now (g.S.Shelf.world c.args.shelf.now) job) (g.S.Shelf.world c.args.shelf.now) (g.met.S.Shelf.files_are c.args.shelf.now told)
           (subst (λ s. IsOfStep made read s next) (sym c.requires.step) c.requires.files);
-      come = λ told job remains sure. inl (saved_none made c.args.going.now.step next (now (g.S.Shelf.world c.args.shelf.now)));
+      come = λ told job remains sure paid. inl (saved_none made c.args.going.now.step next (now (g.S.Shelf.world c.args.shelf.now)));
       faults = record { later = omega arith; cause = λ is. cc; say_is = refl; text_is = λ path. refl };
     }
 
 pub returns-in_err-save_if_due-clause-changes : goal.returns-in_err-save_if_due-clause-changes
-returns-in_err-save_if_due-clause-changes g c =
-    let made = g.P.Sweep.accounts.makes c.args.sweep.now in
-    let step = c.args.going.now.step in
-    let inv = c.turns.invariant in
-    let saves = subst (λ s. Told g.S.Shelf.tells c.turns.shelf c.save_if_due.new.shelf (Ran (OnlyChanged (IsOfGoing (g.P.Sweep.accounts.makes c.turns.sweep) s) (now (g.S.Shelf.world c.turns.shelf)))
-    (g.S.Shelf.world c.turns.shelf) (g.S.Shelf.world c.save_if_due.new.shelf))) inv.going.step_is c.in_err-save_if_due.ensures.changes in
-    told_changed_then g.S.Shelf.tells g.S.Shelf.world (IsOfGoing made step) (IsOfGoing (g.P.Sweep.accounts.makes c.turns.sweep) step) c.args.shelf.now c.turns.shelf c.save_if_due.new.shelf
-    (λ f is. elim is [ inl mine ↦ inl (inv.made f mine) | inr rest ↦ inr rest ]) inv.changes saves
+returns-in_err-save_if_due-clause-changes g c = save_changes g (goal.at.returns-in_err-save_if_due-clause-changes g c).After-save_if_due
 
 pub returns-in_err-save_if_due-clause-images : goal.returns-in_err-save_if_due-clause-images
-returns-in_err-save_if_due-clause-images g c = λ told job remains sure.
-    let claim : g.claim c.lifetimes = search rules in
-    let laws = g.met.P.Resume c.lifetimes claim in
-    let saving = g.P.Sweep.saving in
-    let made = g.P.Sweep.accounts.makes c.args.sweep.now in
-    let task = g.P.Sweep.task c.args.sweep.now in
-    let step = c.args.going.now.step in
-    let budget = c.args.going.now.budget in
-    let sweep = c.args.going.now.sweep in
-    let next = g.P.Sweep.accounts.next c.args.sweep.now in
+returns-in_err-save_if_due-clause-images g c = save_images g (goal.at.returns-in_err-save_if_due-clause-images g c).After-save_if_due
+
+pub returns-in_err-save_if_due-clause-refused : goal.returns-in_err-save_if_due-clause-refused
+returns-in_err-save_if_due-clause-refused g c =
     let inv = c.turns.invariant in
-    let files = subst (λ s. IsOfStep made (saving.operands task) s next) (sym c.requires.step) c.requires.files in
-    let turns = c.args.going.now.turns + g.P.Sweep.left c.args.sweep.now (g.S.Shelf.world c.args.shelf.now) job in
-    let fewer = c.turns.going.turns + g.P.Sweep.left c.turns.sweep (g.S.Shelf.world c.turns.shelf) job in
-    let later = g.P.Sweep.accounts.next c.turns.sweep in
-    let told_at = c.in_err-save_if_due.ensures.changes.before (told) in
-    let files_0 = g.met.S.Shelf.files_are c.args.shelf.now (inv.changes.before told_at) in
-    let files_at = g.met.S.Shelf.files_are c.turns.shelf told_at in
-    let come = inv.come told_at job remains sure in
-    let sure_at = sure_of saving (g.P.Sweep.task c.turns.sweep) task c.turns.going.step step c.turns.going.budget budget c.turns.going.sweep sweep inv.same inv.going.step_is inv.going.budget_is inv.going.sweep_is {turns = turns}
-    made next later job (now (g.S.Shelf.world c.args.shelf.now)) (now (g.S.Shelf.world c.turns.shelf)) files come sure in
-    let left = left_of saving (g.P.Sweep.task c.turns.sweep) task c.turns.going.step step c.turns.going.budget budget c.turns.going.sweep sweep inv.same inv.going.step_is inv.going.budget_is inv.going.sweep_is
-    (g.P.Sweep.accounts.makes c.turns.sweep) later job fewer (g.S.Shelf.world c.turns.shelf) (g.S.Shelf.world c.save_if_due.new.shelf) (now (g.S.Shelf.world c.turns.shelf)).folder
-    (c.in_err-save_if_due.ensures.images (told) job (inv.keeps told_at job remains) sure_at) in
-    images_on saving laws.stays laws.apart made (saving.operands task) step next budget sweep task job turns (g.P.Sweep.accounts.makes c.turns.sweep) later fewer (g.S.Shelf.world c.args.shelf.now) (g.S.Shelf.world c.turns.shelf) (g.S.Shelf.world c.save_if_due.new.shelf)
-    inv.made inv.making files_0 files inv.later (inv.few told_at job remains) come (inv.images told_at job remains sure) left
+    let first = c.in_err-save_if_due.ensures in
+    let same = first.turns in
+    refused_save g.P.Sweep.accounts _ _ _ _ (c.turns.going.turns - c.args.going.now.turns) _ c.turns.going c.save_if_due.new.going _ _ _ (g.S.Shelf.world c.args.shelf.now)
+    (g.S.Shelf.world c.turns.shelf) (g.S.Shelf.world c.save_if_due.new.shelf) c.args.sweep.now c.turns.sweep c.save_if_due.new.sweep
+    (owed_late c.args.going.now.last (g.P.Sweep.accounts.next c.args.sweep.now)) (omega (arith, same)) (ap (λ (x : Going). x.shown) first.refused.0) first.later first.changes.before
+    (λ few. inv.spent (omega (arith, few, same))) first.calls
+
+pub returns-in_err-save_if_due-clause-few_calls : goal.returns-in_err-save_if_due-clause-few_calls
+returns-in_err-save_if_due-clause-few_calls g c = λ told job remains.
+    let inv = c.turns.invariant in
+    let first = c.in_err-save_if_due.ensures in
+    let told_at = first.changes.before told in
+    let few = inv.few told_at job remains in
+    known_save g.P.Sweep.accounts _ _ _ _ (g.P.Sweep.left c.args.sweep.now (g.S.Shelf.world c.args.shelf.now) job - g.P.Sweep.left c.turns.sweep (g.S.Shelf.world c.turns.shelf) job) _ c.turns.going _ _
+    (g.S.Shelf.world c.args.shelf.now) (g.S.Shelf.world c.turns.shelf) (g.S.Shelf.world c.save_if_due.new.shelf) c.args.sweep.now c.turns.sweep c.save_if_due.new.sweep
+    (owed_late c.args.going.now.last (g.P.Sweep.accounts.next c.args.sweep.now)) (omega arith) inv.later first.later first.changes.before (omega (arith, few)) first.refused.1 (ap interval_of inv.going.budget_is)
+    (inv.calls told_at job remains) first.takes first.calls told
 
 pub returns-in_err-made-clause-changes : goal.returns-in_err-made-clause-changes
-returns-in_err-made-clause-changes g c =
-    let claim : g.claim c.lifetimes = search rules in
-    let laws = g.met.P.Resume c.lifetimes claim in
-    let saving = g.P.Sweep.saving in
-    let made = g.P.Sweep.accounts.makes c.args.sweep.now in
-    let task = g.P.Sweep.task c.args.sweep.now in
-    let step = c.args.going.now.step in
-    let budget = c.args.going.now.budget in
-    let sweep = c.args.going.now.sweep in
-    let next = g.P.Sweep.accounts.next c.args.sweep.now in
-    let inv = c.turns.invariant in
-    let files = subst (λ s. IsOfStep made (saving.operands task) s next) (sym c.requires.step) c.requires.files in
-    let first = c.in_ok-save_if_due.ensures in
-    let run = subst (λ s. Told g.S.Shelf.tells c.save_if_due.new.shelf c.run_some.new.shelf (Ran (OnlyOwn (g.P.Sweep.accounts.makes c.save_if_due.new.sweep) s (g.P.Sweep.accounts.next c.save_if_due.new.sweep)
-    (now (g.S.Shelf.world c.save_if_due.new.shelf))) (g.S.Shelf.world c.save_if_due.new.shelf) (g.S.Shelf.world c.run_some.new.shelf))) (first.step ∙ inv.step ∙ sym c.requires.step) c.in_err-made.ensures.leaves.content in
-    let saves = subst (λ s. Told g.S.Shelf.tells c.turns.shelf c.save_if_due.new.shelf (Ran (OnlyChanged (IsOfGoing (g.P.Sweep.accounts.makes c.turns.sweep) s) (now (g.S.Shelf.world c.turns.shelf)))
-    (g.S.Shelf.world c.turns.shelf) (g.S.Shelf.world c.save_if_due.new.shelf))) inv.going.step_is first.changes in
-    turns_on g.S.Shelf.tells g.S.Shelf.world made (g.P.Sweep.accounts.makes c.save_if_due.new.sweep) (saving.operands task) step next (g.P.Sweep.accounts.next c.save_if_due.new.sweep)
-    c.args.shelf.now c.save_if_due.new.shelf c.run_some.new.shelf (λ f mine. inv.made f (first.made f mine)) (λ f mine. first.making f (inv.making f mine)) files
-    (let one = inv.later in let two = first.later in omega (arith, one, two))
-    (told_changed_then g.S.Shelf.tells g.S.Shelf.world (IsOfGoing made step) (IsOfGoing (g.P.Sweep.accounts.makes c.turns.sweep) step) c.args.shelf.now c.turns.shelf c.save_if_due.new.shelf
-    (λ f is. elim is [ inl mine ↦ inl (inv.made f mine) | inr rest ↦ inr rest ]) inv.changes saves) run
+returns-in_err-made-clause-changes g c = turn_changes g (goal.at.returns-in_err-made-clause-changes g c).After-run_some
 
 pub returns-in_err-made-clause-images : goal.returns-in_err-made-clause-images
-returns-in_err-made-clause-images g c = λ told job remains sure.
-    let claim : g.claim c.lifetimes = search rules in
-    let laws = g.met.P.Resume c.lifetimes claim in
-    let saving = g.P.Sweep.saving in
-    let made = g.P.Sweep.accounts.makes c.args.sweep.now in
-    let task = g.P.Sweep.task c.args.sweep.now in
-    let step = c.args.going.now.step in
-    let budget = c.args.going.now.budget in
-    let sweep = c.args.going.now.sweep in
-    let next = g.P.Sweep.accounts.next c.args.sweep.now in
+returns-in_err-made-clause-images g c = λ told job remains sure paid. (turn_stage g (goal.at.returns-in_err-made-clause-images g c).After-run_some told job remains sure paid).images
+
+pub returns-in_err-made-clause-refused : goal.returns-in_err-made-clause-refused
+returns-in_err-made-clause-refused g c =
+    let first = c.in_ok-save_if_due.ensures in
+    let ran = c.in_err-made.ensures in
+    let budget : c.save_if_due.new.going.budget ≡ c.args.going.now.budget = first.going.budget_is ∙ c.turns.invariant.going.budget_is in
+    let interval = c.interval.ensures in
+    let left = c.saturating_sub.ensures in
+    let chosen = c.max-most.ensures in
+    let most_is : c.max-most.result ≤ interval_of c.args.going.now.budget = omega (arith, budget, interval, left, chosen) in
+    refused_turns g.P.Sweep.accounts _ _ _ _ (c.save_if_due.new.going.turns - c.args.going.now.turns) (min c.max-most.result (g.P.Sweep.fuel c.save_if_due.new.sweep + 1)) _ c.save_if_due.new.going
+    c.save_if_due.new.going _ _ _ (g.S.Shelf.world c.args.shelf.now) (g.S.Shelf.world c.save_if_due.new.shelf) (g.S.Shelf.world c.run_some.new.shelf) c.args.sweep.now c.save_if_due.new.sweep c.run_some.new.sweep
+    (owed_late c.args.going.now.last (g.P.Sweep.accounts.next c.args.sweep.now)) (omega (arith, most_is)) refl ran.leaves.later ran.leaves.content.before
+    (save_spent g (goal.at.returns-in_err-made-clause-refused g c).In_ok-save_if_due) ran.leaves.calls
+
+-- a turn that was refused for damage says so of the sweep
+pub returns-in_err-made-clause-covered : goal.returns-in_err-made-clause-covered
+returns-in_err-made-clause-covered g c = on_fault c.from_residual-in_err-made.result c.in_err-made.field-0.0 _ c.from_residual-in_err-made.ensures.1 (λ told trusted covered.
     let inv = c.turns.invariant in
-    let files = subst (λ s. IsOfStep made (saving.operands task) s next) (sym c.requires.step) c.requires.files in
-    let turns = c.args.going.now.turns + g.P.Sweep.left c.args.sweep.now (g.S.Shelf.world c.args.shelf.now) job in
-    let fewer = c.turns.going.turns + g.P.Sweep.left c.turns.sweep (g.S.Shelf.world c.turns.shelf) job in
-    let later = g.P.Sweep.accounts.next c.turns.sweep in
     let first = c.in_ok-save_if_due.ensures in
     let told_s = c.in_err-made.ensures.leaves.content.before told in
-    let told_at = c.in_ok-save_if_due.ensures.changes.before (told_s) in
-    let files_0 = g.met.S.Shelf.files_are c.args.shelf.now (inv.changes.before told_at) in
-    let files_at = g.met.S.Shelf.files_are c.turns.shelf told_at in
-    let come = inv.come told_at job remains sure in
-    let sure_at = sure_of saving (g.P.Sweep.task c.turns.sweep) task c.turns.going.step step c.turns.going.budget budget c.turns.going.sweep sweep inv.same inv.going.step_is inv.going.budget_is inv.going.sweep_is {turns = turns}
-    made next later job (now (g.S.Shelf.world c.args.shelf.now)) (now (g.S.Shelf.world c.turns.shelf)) files come sure in
-    let left = left_of saving (g.P.Sweep.task c.turns.sweep) task c.turns.going.step step c.turns.going.budget budget c.turns.going.sweep sweep inv.same inv.going.step_is inv.going.budget_is inv.going.sweep_is
-    (g.P.Sweep.accounts.makes c.turns.sweep) later job fewer (g.S.Shelf.world c.turns.shelf) (g.S.Shelf.world c.save_if_due.new.shelf) (now (g.S.Shelf.world c.turns.shelf)).folder
-    (c.in_ok-save_if_due.ensures.images (told_s) job (inv.keeps told_at job remains) sure_at) in
-    let files_s = g.met.S.Shelf.files_are c.save_if_due.new.shelf told_s in
-    let next_s = g.P.Sweep.accounts.next c.save_if_due.new.sweep in
-    let made_s = g.P.Sweep.accounts.makes c.save_if_due.new.sweep in
-    let stood = come_of saving (g.P.Sweep.task c.turns.sweep) task c.turns.going.step step c.turns.going.budget budget c.turns.going.sweep sweep inv.same inv.going.step_is inv.going.budget_is inv.going.sweep_is
-    (g.P.Sweep.accounts.makes c.turns.sweep) later next_s job fewer (now (g.S.Shelf.world c.turns.shelf)) (now (g.S.Shelf.world c.save_if_due.new.shelf))
-    (first.stands told_s job (inv.keeps told_at job remains) sure_at) in
-    let one = stage_save saving laws.stays laws.apart made (saving.operands task) step next budget sweep task job turns (g.P.Sweep.accounts.makes c.turns.sweep) later next_s fewer (g.S.Shelf.world c.args.shelf.now) (g.S.Shelf.world c.turns.shelf) (g.S.Shelf.world c.save_if_due.new.shelf)
-    inv.made inv.making files_0 files_at files first.later (inv.few told_at job remains)
-    (record { more = inv.later; images = inv.images told_at job remains sure; come = come }) left stood in
-    let run = subst (λ s. Ran (OnlyOwn made_s s next_s (now (g.S.Shelf.world c.save_if_due.new.shelf))) (g.S.Shelf.world c.save_if_due.new.shelf) (g.S.Shelf.world c.run_some.new.shelf))
-    (first.step ∙ inv.step ∙ sym c.requires.step) (c.in_err-made.ensures.leaves.content.did told) in
-    let two = stage_turns saving laws.stays laws.apart made (saving.operands task) step next budget sweep task job turns made_s next_s (g.P.Sweep.accounts.next c.run_some.new.sweep) (g.S.Shelf.world c.args.shelf.now) (g.S.Shelf.world c.save_if_due.new.shelf) (g.S.Shelf.world c.run_some.new.shelf)
-    (λ f mine. inv.made f (first.made f mine)) (λ f mine. first.making f (inv.making f mine)) files_0 files_s files c.in_err-made.ensures.leaves.later one run in
-    two.images
+    inl (c.in_err-made.ensures.damage told (first.trusts told_s (inv.trusts (first.changes.before told_s) trusted))))
+
+pub returns-in_err-made-clause-few_calls : goal.returns-in_err-made-clause-few_calls
+returns-in_err-made-clause-few_calls g c = turn_calls g (goal.at.returns-in_err-made-clause-few_calls g c).After-run_some
+
+pub returns-then-eq-clause-few_calls : goal.returns-then-eq-clause-few_calls
+returns-then-eq-clause-few_calls g c = turn_calls g (goal.at.returns-then-eq-clause-few_calls g c).After-run_some
 
 pub returns-then-eq-clause-firm : goal.returns-then-eq-clause-firm
 returns-then-eq-clause-firm g c =
@@ -157,13 +406,14 @@ returns-then-eq-clause-firm g c =
     where_ended c.in_ok-made.made.turn ended c.in_ok-made.ensures.firm
 
 pub returns-then-eq-clause-few : goal.returns-then-eq-clause-few
-returns-then-eq-clause-few g c = λ told job remains.
+returns-then-eq-clause-few g c =
+    let ended : c.in_ok-made.made.turn ≡ Ended = search rules in
+    λ told job remains.
     let inv = c.turns.invariant in
     let first = c.in_ok-save_if_due.ensures in
     let told_s = c.in_ok-made.ensures.leaves.content.before told in
     let told_at = first.changes.before told_s in
     let remains_at = inv.keeps told_at job remains in
-    let ended : c.in_ok-made.made.turn ≡ Ended = search rules in
     let so_far = inv.few told_at job remains in
     let less = first.left told_s job remains_at in
     let made = fell_ended (g.P.Sweep.left c.save_if_due.new.sweep (g.S.Shelf.world c.save_if_due.new.shelf) job) (g.P.Sweep.left c.run_some.new.sweep (g.S.Shelf.world c.run_some.new.shelf) job)
@@ -173,192 +423,24 @@ returns-then-eq-clause-few g c = λ told job remains.
     omega (arith, so_far, less, made, counted, same)
 
 pub returns-then-eq-clause-changes : goal.returns-then-eq-clause-changes
-returns-then-eq-clause-changes g c =
-    let claim : g.claim c.lifetimes = search rules in
-    let laws = g.met.P.Resume c.lifetimes claim in
-    let saving = g.P.Sweep.saving in
-    let made = g.P.Sweep.accounts.makes c.args.sweep.now in
-    let task = g.P.Sweep.task c.args.sweep.now in
-    let step = c.args.going.now.step in
-    let budget = c.args.going.now.budget in
-    let sweep = c.args.going.now.sweep in
-    let next = g.P.Sweep.accounts.next c.args.sweep.now in
-    let inv = c.turns.invariant in
-    let files = subst (λ s. IsOfStep made (saving.operands task) s next) (sym c.requires.step) c.requires.files in
-    let first = c.in_ok-save_if_due.ensures in
-    let run = subst (λ s. Told g.S.Shelf.tells c.save_if_due.new.shelf c.run_some.new.shelf (Ran (OnlyOwn (g.P.Sweep.accounts.makes c.save_if_due.new.sweep) s (g.P.Sweep.accounts.next c.save_if_due.new.sweep)
-    (now (g.S.Shelf.world c.save_if_due.new.shelf))) (g.S.Shelf.world c.save_if_due.new.shelf) (g.S.Shelf.world c.run_some.new.shelf))) (first.step ∙ inv.step ∙ sym c.requires.step) c.in_ok-made.ensures.leaves.content in
-    let saves = subst (λ s. Told g.S.Shelf.tells c.turns.shelf c.save_if_due.new.shelf (Ran (OnlyChanged (IsOfGoing (g.P.Sweep.accounts.makes c.turns.sweep) s) (now (g.S.Shelf.world c.turns.shelf)))
-    (g.S.Shelf.world c.turns.shelf) (g.S.Shelf.world c.save_if_due.new.shelf))) inv.going.step_is first.changes in
-    turns_on g.S.Shelf.tells g.S.Shelf.world made (g.P.Sweep.accounts.makes c.save_if_due.new.sweep) (saving.operands task) step next (g.P.Sweep.accounts.next c.save_if_due.new.sweep)
-    c.args.shelf.now c.save_if_due.new.shelf c.run_some.new.shelf (λ f mine. inv.made f (first.made f mine)) (λ f mine. first.making f (inv.making f mine)) files
-    (let one = inv.later in let two = first.later in omega (arith, one, two))
-    (told_changed_then g.S.Shelf.tells g.S.Shelf.world (IsOfGoing made step) (IsOfGoing (g.P.Sweep.accounts.makes c.turns.sweep) step) c.args.shelf.now c.turns.shelf c.save_if_due.new.shelf
-    (λ f is. elim is [ inl mine ↦ inl (inv.made f mine) | inr rest ↦ inr rest ]) inv.changes saves) run
+returns-then-eq-clause-changes g c = turn_changes g (goal.at.returns-then-eq-clause-changes g c).After-run_some
 
 pub returns-then-eq-clause-images : goal.returns-then-eq-clause-images
-returns-then-eq-clause-images g c = λ told job remains sure.
-    let claim : g.claim c.lifetimes = search rules in
-    let laws = g.met.P.Resume c.lifetimes claim in
-    let saving = g.P.Sweep.saving in
-    let made = g.P.Sweep.accounts.makes c.args.sweep.now in
-    let task = g.P.Sweep.task c.args.sweep.now in
-    let step = c.args.going.now.step in
-    let budget = c.args.going.now.budget in
-    let sweep = c.args.going.now.sweep in
-    let next = g.P.Sweep.accounts.next c.args.sweep.now in
-    let inv = c.turns.invariant in
-    let files = subst (λ s. IsOfStep made (saving.operands task) s next) (sym c.requires.step) c.requires.files in
-    let turns = c.args.going.now.turns + g.P.Sweep.left c.args.sweep.now (g.S.Shelf.world c.args.shelf.now) job in
-    let fewer = c.turns.going.turns + g.P.Sweep.left c.turns.sweep (g.S.Shelf.world c.turns.shelf) job in
-    let later = g.P.Sweep.accounts.next c.turns.sweep in
-    let first = c.in_ok-save_if_due.ensures in
-    let told_s = c.in_ok-made.ensures.leaves.content.before told in
-    let told_at = c.in_ok-save_if_due.ensures.changes.before (told_s) in
-    let files_0 = g.met.S.Shelf.files_are c.args.shelf.now (inv.changes.before told_at) in
-    let files_at = g.met.S.Shelf.files_are c.turns.shelf told_at in
-    let come = inv.come told_at job remains sure in
-    let sure_at = sure_of saving (g.P.Sweep.task c.turns.sweep) task c.turns.going.step step c.turns.going.budget budget c.turns.going.sweep sweep inv.same inv.going.step_is inv.going.budget_is inv.going.sweep_is {turns = turns}
-    made next later job (now (g.S.Shelf.world c.args.shelf.now)) (now (g.S.Shelf.world c.turns.shelf)) files come sure in
-    let left = left_of saving (g.P.Sweep.task c.turns.sweep) task c.turns.going.step step c.turns.going.budget budget c.turns.going.sweep sweep inv.same inv.going.step_is inv.going.budget_is inv.going.sweep_is
-    (g.P.Sweep.accounts.makes c.turns.sweep) later job fewer (g.S.Shelf.world c.turns.shelf) (g.S.Shelf.world c.save_if_due.new.shelf) (now (g.S.Shelf.world c.turns.shelf)).folder
-    (c.in_ok-save_if_due.ensures.images (told_s) job (inv.keeps told_at job remains) sure_at) in
-    let files_s = g.met.S.Shelf.files_are c.save_if_due.new.shelf told_s in
-    let next_s = g.P.Sweep.accounts.next c.save_if_due.new.sweep in
-    let made_s = g.P.Sweep.accounts.makes c.save_if_due.new.sweep in
-    let stood = come_of saving (g.P.Sweep.task c.turns.sweep) task c.turns.going.step step c.turns.going.budget budget c.turns.going.sweep sweep inv.same inv.going.step_is inv.going.budget_is inv.going.sweep_is
-    (g.P.Sweep.accounts.makes c.turns.sweep) later next_s job fewer (now (g.S.Shelf.world c.turns.shelf)) (now (g.S.Shelf.world c.save_if_due.new.shelf))
-    (first.stands told_s job (inv.keeps told_at job remains) sure_at) in
-    let one = stage_save saving laws.stays laws.apart made (saving.operands task) step next budget sweep task job turns (g.P.Sweep.accounts.makes c.turns.sweep) later next_s fewer (g.S.Shelf.world c.args.shelf.now) (g.S.Shelf.world c.turns.shelf) (g.S.Shelf.world c.save_if_due.new.shelf)
-    inv.made inv.making files_0 files_at files first.later (inv.few told_at job remains)
-    (record { more = inv.later; images = inv.images told_at job remains sure; come = come }) left stood in
-    let run = subst (λ s. Ran (OnlyOwn made_s s next_s (now (g.S.Shelf.world c.save_if_due.new.shelf))) (g.S.Shelf.world c.save_if_due.new.shelf) (g.S.Shelf.world c.run_some.new.shelf))
-    (first.step ∙ inv.step ∙ sym c.requires.step) (c.in_ok-made.ensures.leaves.content.did told) in
-    let two = stage_turns saving laws.stays laws.apart made (saving.operands task) step next budget sweep task job turns made_s next_s (g.P.Sweep.accounts.next c.run_some.new.sweep) (g.S.Shelf.world c.args.shelf.now) (g.S.Shelf.world c.save_if_due.new.shelf) (g.S.Shelf.world c.run_some.new.shelf)
-    (λ f mine. inv.made f (first.made f mine)) (λ f mine. first.making f (inv.making f mine)) files_0 files_s files c.in_ok-made.ensures.leaves.later one run in
-    two.images
+returns-then-eq-clause-images g c = λ told job remains sure paid. (turn_stage g (goal.at.returns-then-eq-clause-images g c).After-run_some told job remains sure paid).images
 
 pub returns-then-eq-clause-stands : goal.returns-then-eq-clause-stands
-returns-then-eq-clause-stands g c = λ told job remains sure.
-    let claim : g.claim c.lifetimes = search rules in
-    let laws = g.met.P.Resume c.lifetimes claim in
-    let saving = g.P.Sweep.saving in
-    let made = g.P.Sweep.accounts.makes c.args.sweep.now in
-    let task = g.P.Sweep.task c.args.sweep.now in
-    let step = c.args.going.now.step in
-    let budget = c.args.going.now.budget in
-    let sweep = c.args.going.now.sweep in
-    let next = g.P.Sweep.accounts.next c.args.sweep.now in
-    let inv = c.turns.invariant in
-    let files = subst (λ s. IsOfStep made (saving.operands task) s next) (sym c.requires.step) c.requires.files in
-    let turns = c.args.going.now.turns + g.P.Sweep.left c.args.sweep.now (g.S.Shelf.world c.args.shelf.now) job in
-    let fewer = c.turns.going.turns + g.P.Sweep.left c.turns.sweep (g.S.Shelf.world c.turns.shelf) job in
-    let later = g.P.Sweep.accounts.next c.turns.sweep in
-    let first = c.in_ok-save_if_due.ensures in
-    let told_s = c.in_ok-made.ensures.leaves.content.before told in
-    let told_at = c.in_ok-save_if_due.ensures.changes.before (told_s) in
-    let files_0 = g.met.S.Shelf.files_are c.args.shelf.now (inv.changes.before told_at) in
-    let files_at = g.met.S.Shelf.files_are c.turns.shelf told_at in
-    let come = inv.come told_at job remains sure in
-    let sure_at = sure_of saving (g.P.Sweep.task c.turns.sweep) task c.turns.going.step step c.turns.going.budget budget c.turns.going.sweep sweep inv.same inv.going.step_is inv.going.budget_is inv.going.sweep_is {turns = turns}
-    made next later job (now (g.S.Shelf.world c.args.shelf.now)) (now (g.S.Shelf.world c.turns.shelf)) files come sure in
-    let left = left_of saving (g.P.Sweep.task c.turns.sweep) task c.turns.going.step step c.turns.going.budget budget c.turns.going.sweep sweep inv.same inv.going.step_is inv.going.budget_is inv.going.sweep_is
-    (g.P.Sweep.accounts.makes c.turns.sweep) later job fewer (g.S.Shelf.world c.turns.shelf) (g.S.Shelf.world c.save_if_due.new.shelf) (now (g.S.Shelf.world c.turns.shelf)).folder
-    (c.in_ok-save_if_due.ensures.images (told_s) job (inv.keeps told_at job remains) sure_at) in
-    let files_s = g.met.S.Shelf.files_are c.save_if_due.new.shelf told_s in
-    let next_s = g.P.Sweep.accounts.next c.save_if_due.new.sweep in
-    let made_s = g.P.Sweep.accounts.makes c.save_if_due.new.sweep in
-    let stood = come_of saving (g.P.Sweep.task c.turns.sweep) task c.turns.going.step step c.turns.going.budget budget c.turns.going.sweep sweep inv.same inv.going.step_is inv.going.budget_is inv.going.sweep_is
-    (g.P.Sweep.accounts.makes c.turns.sweep) later next_s job fewer (now (g.S.Shelf.world c.turns.shelf)) (now (g.S.Shelf.world c.save_if_due.new.shelf))
-    (first.stands told_s job (inv.keeps told_at job remains) sure_at) in
-    let one = stage_save saving laws.stays laws.apart made (saving.operands task) step next budget sweep task job turns (g.P.Sweep.accounts.makes c.turns.sweep) later next_s fewer (g.S.Shelf.world c.args.shelf.now) (g.S.Shelf.world c.turns.shelf) (g.S.Shelf.world c.save_if_due.new.shelf)
-    inv.made inv.making files_0 files_at files first.later (inv.few told_at job remains)
-    (record { more = inv.later; images = inv.images told_at job remains sure; come = come }) left stood in
-    let run = subst (λ s. Ran (OnlyOwn made_s s next_s (now (g.S.Shelf.world c.save_if_due.new.shelf))) (g.S.Shelf.world c.save_if_due.new.shelf) (g.S.Shelf.world c.run_some.new.shelf))
-    (first.step ∙ inv.step ∙ sym c.requires.step) (c.in_ok-made.ensures.leaves.content.did told) in
-    let two = stage_turns saving laws.stays laws.apart made (saving.operands task) step next budget sweep task job turns made_s next_s (g.P.Sweep.accounts.next c.run_some.new.sweep) (g.S.Shelf.world c.args.shelf.now) (g.S.Shelf.world c.save_if_due.new.shelf) (g.S.Shelf.world c.run_some.new.shelf)
-    (λ f mine. inv.made f (first.made f mine)) (λ f mine. first.making f (inv.making f mine)) files_0 files_s files c.in_ok-made.ensures.leaves.later one run in
-    two.come
+returns-then-eq-clause-stands g c = λ told job remains sure paid. (turn_stage g (goal.at.returns-then-eq-clause-stands g c).After-run_some told job remains sure paid).come
 
 pub returns-then-eq-clause-counted : goal.returns-then-eq-clause-counted
-returns-then-eq-clause-counted g c = λ few most.
-    let inv = c.turns.invariant in
-    let first = c.in_ok-save_if_due.ensures in
-    let ran = c.in_ok-made.ensures in
-    let counted = c.saturating_add-going.ensures in
-    let same = first.turns in
-    let one = first.later in
-    let two = ran.leaves.later in
-    let from = first_owed c.args.going.now.last (g.P.Sweep.accounts.next c.args.sweep.now) in
-    let few_s : c.save_if_due.new.going.turns < 2 ^ 64 - 1 = omega (arith, few, counted) in
-    let few_at : c.turns.going.turns < 2 ^ 64 - 1 = omega (arith, few_s, same) in
-    let most_s : g.P.Sweep.accounts.next c.save_if_due.new.sweep ≤ 2 ^ 32 = omega (arith, most, two) in
-    let most_at : g.P.Sweep.accounts.next c.turns.sweep ≤ 2 ^ 32 = omega (arith, most_s, one) in
-    let so_far = spent_save g.P.Sweep.accounts from c.args.going.now.turns c.args.going.now c.turns.going c.save_if_due.new.going _ _
-    (g.S.Shelf.world c.args.shelf.now) (g.S.Shelf.world c.turns.shelf) (g.S.Shelf.world c.save_if_due.new.shelf) c.args.sweep.now c.turns.sweep c.save_if_due.new.sweep
-    same inv.going.budget_is (owed_early c.args.going.now.last (g.P.Sweep.accounts.next c.args.sweep.now)) inv.later one first.changes.before (inv.spent few_at most_at) (first.parts most_s) first.calls in
-    let all = spent_turns g.P.Sweep.accounts (interval_of c.args.going.now.budget) from c.args.going.now.turns c.in_ok-made.made.turns c.save_if_due.new.going
-    (record c.save_if_due.new.going { turns = c.saturating_add-going.result }) _ _ (g.S.Shelf.world c.args.shelf.now) (g.S.Shelf.world c.save_if_due.new.shelf) (g.S.Shelf.world c.run_some.new.shelf)
-    c.args.sweep.now c.save_if_due.new.sweep c.run_some.new.sweep (omega (arith, few, counted)) refl refl (let zero_one = inv.later in omega (arith, zero_one, one)) two ran.counted.spent
-    ran.leaves.content.before ran.counted.calls so_far in
-    spent_saves g.P.Sweep.accounts (interval_of c.args.going.now.budget) from c.args.going.now.turns (record c.save_if_due.new.going { turns = c.saturating_add-going.result }) _
-    (g.S.Shelf.world c.args.shelf.now) (g.S.Shelf.world c.run_some.new.shelf) c.args.sweep.now c.run_some.new.sweep (owed_late c.args.going.now.last (g.P.Sweep.accounts.next c.args.sweep.now)) all
+returns-then-eq-clause-counted g c = λ few. spent_saves g.P.Sweep.accounts _ _ _ _ _ _ (g.S.Shelf.world c.args.shelf.now) (g.S.Shelf.world c.run_some.new.shelf) c.args.sweep.now c.run_some.new.sweep
+    (owed_late c.args.going.now.last (g.P.Sweep.accounts.next c.args.sweep.now))
+    (turn_spent g (goal.at.returns-then-eq-clause-counted g c).In_ok-made c.saturating_add-going.result c.saturating_add-going.ensures few)
 
-pub returns-in_err-save_if_due-clause-refused : goal.returns-in_err-save_if_due-clause-refused
-returns-in_err-save_if_due-clause-refused g c =
-    let inv = c.turns.invariant in
-    let first = c.in_err-save_if_due.ensures in
-    refused_save _ g.P.Sweep.accounts (interval_of c.args.going.now.budget) (first_owed c.args.going.now.last (g.P.Sweep.accounts.next c.args.sweep.now)) c.args.going.now.turns
-    c.turns.going c.save_if_due.new.going _ _ (g.S.Shelf.world c.args.shelf.now) (g.S.Shelf.world c.turns.shelf) (g.S.Shelf.world c.save_if_due.new.shelf)
-    c.args.sweep.now c.turns.sweep c.save_if_due.new.sweep (owed_late c.args.going.now.last (g.P.Sweep.accounts.next c.args.sweep.now)) first.turns first.later first.changes.before inv.spent first.calls
-
-pub returns-in_err-made-clause-refused : goal.returns-in_err-made-clause-refused
-returns-in_err-made-clause-refused g c =
-    let inv = c.turns.invariant in
-    let first = c.in_ok-save_if_due.ensures in
-    let ran = c.in_err-made.ensures in
-    let same = first.turns in
-    let one = first.later in
-    let from = first_owed c.args.going.now.last (g.P.Sweep.accounts.next c.args.sweep.now) in
-    let budget : c.save_if_due.new.going.budget ≡ c.args.going.now.budget = first.going.budget_is ∙ inv.going.budget_is in
-    let interval = c.interval.ensures in
-    let left = c.saturating_sub.ensures in
-    let chosen = c.max-most.ensures in
-    let most_is : c.max-most.result ≤ interval_of c.args.going.now.budget = omega (arith, budget, interval, left, chosen) in
-    refused_turns _ g.P.Sweep.accounts (interval_of c.args.going.now.budget) from c.args.going.now.turns c.max-most.result (g.P.Sweep.fuel c.save_if_due.new.sweep + 1) c.save_if_due.new.going _ _
-    (g.S.Shelf.world c.args.shelf.now) (g.S.Shelf.world c.save_if_due.new.shelf) (g.S.Shelf.world c.run_some.new.shelf) c.args.sweep.now c.save_if_due.new.sweep c.run_some.new.sweep
-    (owed_late c.args.going.now.last (g.P.Sweep.accounts.next c.args.sweep.now)) most_is ran.leaves.later ran.leaves.content.before ran.leaves.calls
-    (λ few most. spent_save g.P.Sweep.accounts from c.args.going.now.turns c.args.going.now c.turns.going c.save_if_due.new.going _ _
-    (g.S.Shelf.world c.args.shelf.now) (g.S.Shelf.world c.turns.shelf) (g.S.Shelf.world c.save_if_due.new.shelf) c.args.sweep.now c.turns.sweep c.save_if_due.new.sweep
-    same inv.going.budget_is (owed_early c.args.going.now.last (g.P.Sweep.accounts.next c.args.sweep.now)) inv.later one first.changes.before
-    (inv.spent (omega (arith, few, same)) (omega (arith, most, one))) (first.parts most) first.calls)
+pub returns-then-eq-clause-paid : goal.returns-then-eq-clause-paid
+returns-then-eq-clause-paid g c = turn_paid g (goal.at.returns-then-eq-clause-paid g c).In_ok-made c.saturating_add-going.result c.saturating_add-going.ensures
 
 pub returns-then-eq-clause-shown : goal.returns-then-eq-clause-shown
-returns-then-eq-clause-shown g c = λ told.
-    let inv = c.turns.invariant in
-    let first = c.in_ok-save_if_due.ensures in
-    let told_s = c.in_ok-made.ensures.leaves.content.before told in
-    let told_at = first.changes.before told_s in
-    let files = subst (λ s. IsOfStep (g.P.Sweep.accounts.makes c.args.sweep.now) (g.P.Sweep.saving.operands (g.P.Sweep.task c.args.sweep.now)) s (g.P.Sweep.accounts.next c.args.sweep.now))
-    (sym c.requires.step) c.requires.files in
-    let files_s = of_step_as (g.P.Sweep.accounts.makes c.args.sweep.now) (g.P.Sweep.accounts.makes c.save_if_due.new.sweep) (g.P.Sweep.saving.operands (g.P.Sweep.task c.args.sweep.now))
-    c.args.going.now.step (g.P.Sweep.accounts.next c.save_if_due.new.sweep) (λ f mine. inv.made f (first.made f mine))
-    (of_step_later (g.P.Sweep.accounts.makes c.args.sweep.now) (g.P.Sweep.saving.operands (g.P.Sweep.task c.args.sweep.now)) c.args.going.now.step (g.P.Sweep.accounts.next c.args.sweep.now)
-    (g.P.Sweep.accounts.next c.save_if_due.new.sweep) (let one = inv.later in let two = first.later in omega (arith, one, two)) files) in
-    let own = ran_end (g.S.Shelf.world c.save_if_due.new.shelf) (g.S.Shelf.world c.run_some.new.shelf)
-    (OnlyOwn (g.P.Sweep.accounts.makes c.save_if_due.new.sweep) (g.P.Sweep.accounts.step c.save_if_due.new.sweep) (g.P.Sweep.accounts.next c.save_if_due.new.sweep) (now (g.S.Shelf.world c.save_if_due.new.shelf)))
-    (c.in_ok-made.ensures.leaves.content.did told) in
-    let own_here = subst (λ s. OnlyOwn (g.P.Sweep.accounts.makes c.save_if_due.new.sweep) s (g.P.Sweep.accounts.next c.save_if_due.new.sweep) (now (g.S.Shelf.world c.save_if_due.new.shelf))
-    (now (g.S.Shelf.world c.run_some.new.shelf))) (first.step ∙ inv.step ∙ sym c.requires.step) own in
-    let still = gated_still (g.P.Sweep.accounts.makes c.save_if_due.new.sweep) (g.P.Sweep.saving.operands (g.P.Sweep.task c.args.sweep.now)) c.args.going.now.step (g.P.Sweep.accounts.next c.save_if_due.new.sweep)
-    (now (g.S.Shelf.world c.save_if_due.new.shelf)) (now (g.S.Shelf.world c.run_some.new.shelf)) files_s
-    (own_saved (g.P.Sweep.accounts.makes c.save_if_due.new.sweep) c.args.going.now.step (g.P.Sweep.accounts.next c.save_if_due.new.sweep) (now (g.S.Shelf.world c.save_if_due.new.shelf))
-    (now (g.S.Shelf.world c.run_some.new.shelf)) own_here) in
-    let at = first.going.step_is ∙ inv.going.step_is in
-    says_then c.args.going.now c.save_if_due.new.going _ (now (g.S.Shelf.world c.args.shelf.now)).folder (now (g.S.Shelf.world c.save_if_due.new.shelf)).folder (now (g.S.Shelf.world c.run_some.new.shelf)).folder at
-    (says_then c.args.going.now c.turns.going c.save_if_due.new.going (now (g.S.Shelf.world c.args.shelf.now)).folder (now (g.S.Shelf.world c.turns.shelf)).folder (now (g.S.Shelf.world c.save_if_due.new.shelf)).folder
-    inv.going.step_is (inv.says told_at) (first.shown told_s))
-    (inl (record { shown_is = refl; last_is = refl; gated_is = subst (λ s. last_gated s (present (now (g.S.Shelf.world c.run_some.new.shelf)).folder) ≡ last_gated s (present (now (g.S.Shelf.world c.save_if_due.new.shelf)).folder)) (sym at) still }))
+returns-then-eq-clause-shown g c = λ told. turn_says g (goal.at.returns-then-eq-clause-shown g c).After-run_some told c.saturating_add-going.result
 
 pub returns-then-eq-clause-keeps : goal.returns-then-eq-clause-keeps
 returns-then-eq-clause-keeps g c = λ told job remains.
@@ -372,6 +454,7 @@ turns-preserved g c =
     let so_far = c.turns.invariant in
     let saved = c.in_ok-save_if_due.ensures in
     let ran = c.in_ok-made.ensures in
+    let counted = c.saturating_add-going.ensures in
     record {
       ready = search rules;
       works = search rules;
@@ -401,177 +484,42 @@ turns-preserved g c =
           let two = saved.left told_s job remains_at in
           let three = fell_more (g.P.Sweep.left c.save_if_due.new.sweep (g.S.Shelf.world c.save_if_due.new.shelf) job) (g.P.Sweep.left c.run_some.new.sweep (g.S.Shelf.world c.run_some.new.shelf) job)
           c.in_ok-made.made.turns c.in_ok-made.made.turn goes_on (ran.fewer told job (saved.keeps told_s job remains_at)) in
-          let counted = c.saturating_add-going.ensures in
           let same = saved.turns in
           omega (arith, one, two, three, counted, same);
       covers = λ told covered.
           let told_s = ran.leaves.content.before told in
           let told_at = saved.changes.before told_s in
-          let files = subst (λ s. IsOfStep (g.P.Sweep.accounts.makes c.args.sweep.now) (g.P.Sweep.saving.operands (g.P.Sweep.task c.args.sweep.now)) s (g.P.Sweep.accounts.next c.args.sweep.now))
-          (sym c.requires.step) c.requires.files in
-          let files_s = of_step_as (g.P.Sweep.accounts.makes c.args.sweep.now) (g.P.Sweep.accounts.makes c.save_if_due.new.sweep) (g.P.Sweep.saving.operands (g.P.Sweep.task c.args.sweep.now))
-          c.args.going.now.step (g.P.Sweep.accounts.next c.save_if_due.new.sweep) (λ f mine. so_far.made f (saved.made f mine))
-          (of_step_later (g.P.Sweep.accounts.makes c.args.sweep.now) (g.P.Sweep.saving.operands (g.P.Sweep.task c.args.sweep.now)) c.args.going.now.step (g.P.Sweep.accounts.next c.args.sweep.now)
-          (g.P.Sweep.accounts.next c.save_if_due.new.sweep) (let one = so_far.later in let two = saved.later in omega (arith, one, two)) files) in
-          let own = ran_end (g.S.Shelf.world c.save_if_due.new.shelf) (g.S.Shelf.world c.run_some.new.shelf)
-          (OnlyOwn (g.P.Sweep.accounts.makes c.save_if_due.new.sweep) (g.P.Sweep.accounts.step c.save_if_due.new.sweep) (g.P.Sweep.accounts.next c.save_if_due.new.sweep) (now (g.S.Shelf.world c.save_if_due.new.shelf)))
-          (ran.leaves.content.did told) in
-          let own_here = subst (λ s. OnlyOwn (g.P.Sweep.accounts.makes c.save_if_due.new.sweep) s (g.P.Sweep.accounts.next c.save_if_due.new.sweep) (now (g.S.Shelf.world c.save_if_due.new.shelf))
-          (now (g.S.Shelf.world c.run_some.new.shelf))) (saved.step ∙ so_far.step ∙ sym c.requires.step) own in
-          let here = so_far.covers told_at covered in
           let covers_s = subst (λ s. gated_size s (now (g.S.Shelf.world c.save_if_due.new.shelf)).folder ≤ length (file (g.S.Shelf.world c.save_if_due.new.shelf) (checkpoint_file s)).bytes) so_far.going.step_is
-          (saved.covers told_s (subst (λ s. gated_size s (now (g.S.Shelf.world c.turns.shelf)).folder ≤ length (file (g.S.Shelf.world c.turns.shelf) (checkpoint_file s)).bytes) (sym so_far.going.step_is) here)) in
+          (saved.covers told_s (subst (λ s. gated_size s (now (g.S.Shelf.world c.turns.shelf)).folder ≤ length (file (g.S.Shelf.world c.turns.shelf) (checkpoint_file s)).bytes) (sym so_far.going.step_is)
+          (so_far.covers told_at covered))) in
           covers_still (g.P.Sweep.accounts.makes c.save_if_due.new.sweep) (g.P.Sweep.saving.operands (g.P.Sweep.task c.args.sweep.now)) c.args.going.now.step (g.P.Sweep.accounts.next c.save_if_due.new.sweep)
-          (now (g.S.Shelf.world c.save_if_due.new.shelf)) (now (g.S.Shelf.world c.run_some.new.shelf)) files_s
-          (own_saved (g.P.Sweep.accounts.makes c.save_if_due.new.sweep) c.args.going.now.step (g.P.Sweep.accounts.next c.save_if_due.new.sweep) (now (g.S.Shelf.world c.save_if_due.new.shelf))
-          (now (g.S.Shelf.world c.run_some.new.shelf)) own_here) covers_s;
-      spent = λ few most.
-          let inv = c.turns.invariant in
-          let first = c.in_ok-save_if_due.ensures in
-          let ran = c.in_ok-made.ensures in
-          let counted = c.saturating_add-going.ensures in
-          let same = first.turns in
-          let one = first.later in
-          let two = ran.leaves.later in
-          let from = first_owed c.args.going.now.last (g.P.Sweep.accounts.next c.args.sweep.now) in
-          let few_s : c.save_if_due.new.going.turns < 2 ^ 64 - 1 = omega (arith, few, counted) in
-          let few_at : c.turns.going.turns < 2 ^ 64 - 1 = omega (arith, few_s, same) in
-          let most_s : g.P.Sweep.accounts.next c.save_if_due.new.sweep ≤ 2 ^ 32 = omega (arith, most, two) in
-          let most_at : g.P.Sweep.accounts.next c.turns.sweep ≤ 2 ^ 32 = omega (arith, most_s, one) in
-          let so_far = spent_save g.P.Sweep.accounts from c.args.going.now.turns c.args.going.now c.turns.going c.save_if_due.new.going _ _
-          (g.S.Shelf.world c.args.shelf.now) (g.S.Shelf.world c.turns.shelf) (g.S.Shelf.world c.save_if_due.new.shelf) c.args.sweep.now c.turns.sweep c.save_if_due.new.sweep
-          same inv.going.budget_is (owed_early c.args.going.now.last (g.P.Sweep.accounts.next c.args.sweep.now)) inv.later one first.changes.before (inv.spent few_at most_at) (first.parts most_s) first.calls in
-          let all = spent_turns g.P.Sweep.accounts (interval_of c.args.going.now.budget) from c.args.going.now.turns c.in_ok-made.made.turns c.save_if_due.new.going
-          (record c.save_if_due.new.going { turns = c.saturating_add-going.result }) _ _ (g.S.Shelf.world c.args.shelf.now) (g.S.Shelf.world c.save_if_due.new.shelf) (g.S.Shelf.world c.run_some.new.shelf)
-          c.args.sweep.now c.save_if_due.new.sweep c.run_some.new.sweep (omega (arith, few, counted)) refl refl (let zero_one = inv.later in omega (arith, zero_one, one)) two ran.counted.spent
-          ran.leaves.content.before ran.counted.calls so_far in
-          all;
-      says = λ told.
-          let inv = c.turns.invariant in
-          let first = c.in_ok-save_if_due.ensures in
-          let told_s = c.in_ok-made.ensures.leaves.content.before told in
-          let told_at = first.changes.before told_s in
-          let files = subst (λ s. IsOfStep (g.P.Sweep.accounts.makes c.args.sweep.now) (g.P.Sweep.saving.operands (g.P.Sweep.task c.args.sweep.now)) s (g.P.Sweep.accounts.next c.args.sweep.now))
-          (sym c.requires.step) c.requires.files in
-          let files_s = of_step_as (g.P.Sweep.accounts.makes c.args.sweep.now) (g.P.Sweep.accounts.makes c.save_if_due.new.sweep) (g.P.Sweep.saving.operands (g.P.Sweep.task c.args.sweep.now))
-          c.args.going.now.step (g.P.Sweep.accounts.next c.save_if_due.new.sweep) (λ f mine. inv.made f (first.made f mine))
-          (of_step_later (g.P.Sweep.accounts.makes c.args.sweep.now) (g.P.Sweep.saving.operands (g.P.Sweep.task c.args.sweep.now)) c.args.going.now.step (g.P.Sweep.accounts.next c.args.sweep.now)
-          (g.P.Sweep.accounts.next c.save_if_due.new.sweep) (let one = inv.later in let two = first.later in omega (arith, one, two)) files) in
-          let own = ran_end (g.S.Shelf.world c.save_if_due.new.shelf) (g.S.Shelf.world c.run_some.new.shelf)
-          (OnlyOwn (g.P.Sweep.accounts.makes c.save_if_due.new.sweep) (g.P.Sweep.accounts.step c.save_if_due.new.sweep) (g.P.Sweep.accounts.next c.save_if_due.new.sweep) (now (g.S.Shelf.world c.save_if_due.new.shelf)))
-          (c.in_ok-made.ensures.leaves.content.did told) in
-          let own_here = subst (λ s. OnlyOwn (g.P.Sweep.accounts.makes c.save_if_due.new.sweep) s (g.P.Sweep.accounts.next c.save_if_due.new.sweep) (now (g.S.Shelf.world c.save_if_due.new.shelf))
-          (now (g.S.Shelf.world c.run_some.new.shelf))) (first.step ∙ inv.step ∙ sym c.requires.step) own in
-          let still = gated_still (g.P.Sweep.accounts.makes c.save_if_due.new.sweep) (g.P.Sweep.saving.operands (g.P.Sweep.task c.args.sweep.now)) c.args.going.now.step (g.P.Sweep.accounts.next c.save_if_due.new.sweep)
-          (now (g.S.Shelf.world c.save_if_due.new.shelf)) (now (g.S.Shelf.world c.run_some.new.shelf)) files_s
-          (own_saved (g.P.Sweep.accounts.makes c.save_if_due.new.sweep) c.args.going.now.step (g.P.Sweep.accounts.next c.save_if_due.new.sweep) (now (g.S.Shelf.world c.save_if_due.new.shelf))
-          (now (g.S.Shelf.world c.run_some.new.shelf)) own_here) in
-          let at = first.going.step_is ∙ inv.going.step_is in
-          says_then c.args.going.now c.save_if_due.new.going _ (now (g.S.Shelf.world c.args.shelf.now)).folder (now (g.S.Shelf.world c.save_if_due.new.shelf)).folder (now (g.S.Shelf.world c.run_some.new.shelf)).folder at
-          (says_then c.args.going.now c.turns.going c.save_if_due.new.going (now (g.S.Shelf.world c.args.shelf.now)).folder (now (g.S.Shelf.world c.turns.shelf)).folder (now (g.S.Shelf.world c.save_if_due.new.shelf)).folder
-          inv.going.step_is (inv.says told_at) (first.shown told_s))
-          (inl (record { shown_is = refl; last_is = refl; gated_is = subst (λ s. last_gated s (present (now (g.S.Shelf.world c.run_some.new.shelf)).folder) ≡ last_gated s (present (now (g.S.Shelf.world c.save_if_due.new.shelf)).folder)) (sym at) still }));
-      changes =
-          let claim : g.claim c.lifetimes = search rules in
-          let laws = g.met.P.Resume c.lifetimes claim in
-          let saving = g.P.Sweep.saving in
-          let made = g.P.Sweep.accounts.makes c.args.sweep.now in
-          let task = g.P.Sweep.task c.args.sweep.now in
-          let step = c.args.going.now.step in
-          let budget = c.args.going.now.budget in
-          let sweep = c.args.going.now.sweep in
-          let next = g.P.Sweep.accounts.next c.args.sweep.now in
-          let inv = c.turns.invariant in
-          let files = subst (λ s. IsOfStep made (saving.operands task) s next) (sym c.requires.step) c.requires.files in
-          let first = c.in_ok-save_if_due.ensures in
-          let run = subst (λ s. Told g.S.Shelf.tells c.save_if_due.new.shelf c.run_some.new.shelf (Ran (OnlyOwn (g.P.Sweep.accounts.makes c.save_if_due.new.sweep) s (g.P.Sweep.accounts.next c.save_if_due.new.sweep)
-          (now (g.S.Shelf.world c.save_if_due.new.shelf))) (g.S.Shelf.world c.save_if_due.new.shelf) (g.S.Shelf.world c.run_some.new.shelf))) (first.step ∙ inv.step ∙ sym c.requires.step) c.in_ok-made.ensures.leaves.content in
-          let saves = subst (λ s. Told g.S.Shelf.tells c.turns.shelf c.save_if_due.new.shelf (Ran (OnlyChanged (IsOfGoing (g.P.Sweep.accounts.makes c.turns.sweep) s) (now (g.S.Shelf.world c.turns.shelf)))
-          (g.S.Shelf.world c.turns.shelf) (g.S.Shelf.world c.save_if_due.new.shelf))) inv.going.step_is first.changes in
-          turns_on g.S.Shelf.tells g.S.Shelf.world made (g.P.Sweep.accounts.makes c.save_if_due.new.sweep) (saving.operands task) step next (g.P.Sweep.accounts.next c.save_if_due.new.sweep)
-          c.args.shelf.now c.save_if_due.new.shelf c.run_some.new.shelf (λ f mine. inv.made f (first.made f mine)) (λ f mine. first.making f (inv.making f mine)) files
-          (let one = inv.later in let two = first.later in omega (arith, one, two))
-          (told_changed_then g.S.Shelf.tells g.S.Shelf.world (IsOfGoing made step) (IsOfGoing (g.P.Sweep.accounts.makes c.turns.sweep) step) c.args.shelf.now c.turns.shelf c.save_if_due.new.shelf
-          (λ f is. elim is [ inl mine ↦ inl (inv.made f mine) | inr rest ↦ inr rest ]) inv.changes saves) run;
-      images = λ told job remains sure.
-          let claim : g.claim c.lifetimes = search rules in
-          let laws = g.met.P.Resume c.lifetimes claim in
-          let saving = g.P.Sweep.saving in
-          let made = g.P.Sweep.accounts.makes c.args.sweep.now in
-          let task = g.P.Sweep.task c.args.sweep.now in
-          let step = c.args.going.now.step in
-          let budget = c.args.going.now.budget in
-          let sweep = c.args.going.now.sweep in
-          let next = g.P.Sweep.accounts.next c.args.sweep.now in
-          let inv = c.turns.invariant in
-          let files = subst (λ s. IsOfStep made (saving.operands task) s next) (sym c.requires.step) c.requires.files in
-          let turns = c.args.going.now.turns + g.P.Sweep.left c.args.sweep.now (g.S.Shelf.world c.args.shelf.now) job in
-          let fewer = c.turns.going.turns + g.P.Sweep.left c.turns.sweep (g.S.Shelf.world c.turns.shelf) job in
-          let later = g.P.Sweep.accounts.next c.turns.sweep in
-          let first = c.in_ok-save_if_due.ensures in
-          let told_s = c.in_ok-made.ensures.leaves.content.before told in
-          let told_at = c.in_ok-save_if_due.ensures.changes.before (told_s) in
-          let files_0 = g.met.S.Shelf.files_are c.args.shelf.now (inv.changes.before told_at) in
-          let files_at = g.met.S.Shelf.files_are c.turns.shelf told_at in
-          let come = inv.come told_at job remains sure in
-          let sure_at = sure_of saving (g.P.Sweep.task c.turns.sweep) task c.turns.going.step step c.turns.going.budget budget c.turns.going.sweep sweep inv.same inv.going.step_is inv.going.budget_is inv.going.sweep_is {turns = turns}
-          made next later job (now (g.S.Shelf.world c.args.shelf.now)) (now (g.S.Shelf.world c.turns.shelf)) files come sure in
-          let left = left_of saving (g.P.Sweep.task c.turns.sweep) task c.turns.going.step step c.turns.going.budget budget c.turns.going.sweep sweep inv.same inv.going.step_is inv.going.budget_is inv.going.sweep_is
-          (g.P.Sweep.accounts.makes c.turns.sweep) later job fewer (g.S.Shelf.world c.turns.shelf) (g.S.Shelf.world c.save_if_due.new.shelf) (now (g.S.Shelf.world c.turns.shelf)).folder
-          (c.in_ok-save_if_due.ensures.images (told_s) job (inv.keeps told_at job remains) sure_at) in
-          let files_s = g.met.S.Shelf.files_are c.save_if_due.new.shelf told_s in
-          let next_s = g.P.Sweep.accounts.next c.save_if_due.new.sweep in
-          let made_s = g.P.Sweep.accounts.makes c.save_if_due.new.sweep in
-          let stood = come_of saving (g.P.Sweep.task c.turns.sweep) task c.turns.going.step step c.turns.going.budget budget c.turns.going.sweep sweep inv.same inv.going.step_is inv.going.budget_is inv.going.sweep_is
-          (g.P.Sweep.accounts.makes c.turns.sweep) later next_s job fewer (now (g.S.Shelf.world c.turns.shelf)) (now (g.S.Shelf.world c.save_if_due.new.shelf))
-          (first.stands told_s job (inv.keeps told_at job remains) sure_at) in
-          let one = stage_save saving laws.stays laws.apart made (saving.operands task) step next budget sweep task job turns (g.P.Sweep.accounts.makes c.turns.sweep) later next_s fewer (g.S.Shelf.world c.args.shelf.now) (g.S.Shelf.world c.turns.shelf) (g.S.Shelf.world c.save_if_due.new.shelf)
-          inv.made inv.making files_0 files_at files first.later (inv.few told_at job remains)
-          (record { more = inv.later; images = inv.images told_at job remains sure; come = come }) left stood in
-          let run = subst (λ s. Ran (OnlyOwn made_s s next_s (now (g.S.Shelf.world c.save_if_due.new.shelf))) (g.S.Shelf.world c.save_if_due.new.shelf) (g.S.Shelf.world c.run_some.new.shelf))
-          (first.step ∙ inv.step ∙ sym c.requires.step) (c.in_ok-made.ensures.leaves.content.did told) in
-          let two = stage_turns saving laws.stays laws.apart made (saving.operands task) step next budget sweep task job turns made_s next_s (g.P.Sweep.accounts.next c.run_some.new.sweep) (g.S.Shelf.world c.args.shelf.now) (g.S.Shelf.world c.save_if_due.new.shelf) (g.S.Shelf.world c.run_some.new.shelf)
-          (λ f mine. inv.made f (first.made f mine)) (λ f mine. first.making f (inv.making f mine)) files_0 files_s files c.in_ok-made.ensures.leaves.later one run in
-          two.images;
-      come = λ told job remains sure.
-          let claim : g.claim c.lifetimes = search rules in
-          let laws = g.met.P.Resume c.lifetimes claim in
-          let saving = g.P.Sweep.saving in
-          let made = g.P.Sweep.accounts.makes c.args.sweep.now in
-          let task = g.P.Sweep.task c.args.sweep.now in
-          let step = c.args.going.now.step in
-          let budget = c.args.going.now.budget in
-          let sweep = c.args.going.now.sweep in
-          let next = g.P.Sweep.accounts.next c.args.sweep.now in
-          let inv = c.turns.invariant in
-          let files = subst (λ s. IsOfStep made (saving.operands task) s next) (sym c.requires.step) c.requires.files in
-          let turns = c.args.going.now.turns + g.P.Sweep.left c.args.sweep.now (g.S.Shelf.world c.args.shelf.now) job in
-          let fewer = c.turns.going.turns + g.P.Sweep.left c.turns.sweep (g.S.Shelf.world c.turns.shelf) job in
-          let later = g.P.Sweep.accounts.next c.turns.sweep in
-          let first = c.in_ok-save_if_due.ensures in
-          let told_s = c.in_ok-made.ensures.leaves.content.before told in
-          let told_at = c.in_ok-save_if_due.ensures.changes.before (told_s) in
-          let files_0 = g.met.S.Shelf.files_are c.args.shelf.now (inv.changes.before told_at) in
-          let files_at = g.met.S.Shelf.files_are c.turns.shelf told_at in
-          let come = inv.come told_at job remains sure in
-          let sure_at = sure_of saving (g.P.Sweep.task c.turns.sweep) task c.turns.going.step step c.turns.going.budget budget c.turns.going.sweep sweep inv.same inv.going.step_is inv.going.budget_is inv.going.sweep_is {turns = turns}
-          made next later job (now (g.S.Shelf.world c.args.shelf.now)) (now (g.S.Shelf.world c.turns.shelf)) files come sure in
-          let left = left_of saving (g.P.Sweep.task c.turns.sweep) task c.turns.going.step step c.turns.going.budget budget c.turns.going.sweep sweep inv.same inv.going.step_is inv.going.budget_is inv.going.sweep_is
-          (g.P.Sweep.accounts.makes c.turns.sweep) later job fewer (g.S.Shelf.world c.turns.shelf) (g.S.Shelf.world c.save_if_due.new.shelf) (now (g.S.Shelf.world c.turns.shelf)).folder
-          (c.in_ok-save_if_due.ensures.images (told_s) job (inv.keeps told_at job remains) sure_at) in
-          let files_s = g.met.S.Shelf.files_are c.save_if_due.new.shelf told_s in
-          let next_s = g.P.Sweep.accounts.next c.save_if_due.new.sweep in
-          let made_s = g.P.Sweep.accounts.makes c.save_if_due.new.sweep in
-          let stood = come_of saving (g.P.Sweep.task c.turns.sweep) task c.turns.going.step step c.turns.going.budget budget c.turns.going.sweep sweep inv.same inv.going.step_is inv.going.budget_is inv.going.sweep_is
-          (g.P.Sweep.accounts.makes c.turns.sweep) later next_s job fewer (now (g.S.Shelf.world c.turns.shelf)) (now (g.S.Shelf.world c.save_if_due.new.shelf))
-          (first.stands told_s job (inv.keeps told_at job remains) sure_at) in
-          let one = stage_save saving laws.stays laws.apart made (saving.operands task) step next budget sweep task job turns (g.P.Sweep.accounts.makes c.turns.sweep) later next_s fewer (g.S.Shelf.world c.args.shelf.now) (g.S.Shelf.world c.turns.shelf) (g.S.Shelf.world c.save_if_due.new.shelf)
-          inv.made inv.making files_0 files_at files first.later (inv.few told_at job remains)
-          (record { more = inv.later; images = inv.images told_at job remains sure; come = come }) left stood in
-          let run = subst (λ s. Ran (OnlyOwn made_s s next_s (now (g.S.Shelf.world c.save_if_due.new.shelf))) (g.S.Shelf.world c.save_if_due.new.shelf) (g.S.Shelf.world c.run_some.new.shelf))
-          (first.step ∙ inv.step ∙ sym c.requires.step) (c.in_ok-made.ensures.leaves.content.did told) in
-          let two = stage_turns saving laws.stays laws.apart made (saving.operands task) step next budget sweep task job turns made_s next_s (g.P.Sweep.accounts.next c.run_some.new.sweep) (g.S.Shelf.world c.args.shelf.now) (g.S.Shelf.world c.save_if_due.new.shelf) (g.S.Shelf.world c.run_some.new.shelf)
-          (λ f mine. inv.made f (first.made f mine)) (λ f mine. first.making f (inv.making f mine)) files_0 files_s files c.in_ok-made.ensures.leaves.later one run in
-          two.come;
+          (now (g.S.Shelf.world c.save_if_due.new.shelf)) (now (g.S.Shelf.world c.run_some.new.shelf)) (files_then g (goal.at.turns-preserved g c).In_ok-save_if_due)
+          (turn_saved g (goal.at.turns-preserved g c).After-run_some told) covers_s;
+      grew = let grew = so_far.grew in let same = saved.turns in omega (arith, grew, same, counted);
+      late = λ late.
+          let shown = saved_late g.P.Sweep.accounts c.turns.going c.save_if_due.new.going _ _ c.turns.sweep c.save_if_due.new.sweep saved.turns (so_far.late late) saved.parts in
+          omega (arith, shown, counted);
+      spent = λ few. turn_spent g (goal.at.turns-preserved g c).In_ok-made c.saturating_add-going.result counted few;
+      paid = λ few paid. turn_paid g (goal.at.turns-preserved g c).In_ok-made c.saturating_add-going.result counted few paid;
+      within = λ told job remains. save_within g (goal.at.turns-preserved g c).In_ok-save_if_due (ran.leaves.content.before told) job remains;
+      calls = λ told job remains.
+          let goes_on : c.in_ok-made.made.turn ≢ Ended = search rules in
+          let told_s = ran.leaves.content.before told in
+          let told_at = saved.changes.before told_s in
+          let remains_at = so_far.keeps told_at job remains in
+          let few = so_far.few told_at job remains in
+          let grew = so_far.grew in
+          let less = saved.left told_s job remains_at in
+          let fell = fell_more (g.P.Sweep.left c.save_if_due.new.sweep (g.S.Shelf.world c.save_if_due.new.shelf) job) (g.P.Sweep.left c.run_some.new.sweep (g.S.Shelf.world c.run_some.new.shelf) job)
+          c.in_ok-made.made.turns c.in_ok-made.made.turn goes_on (ran.fewer told job (saved.keeps told_s job remains_at)) in
+          spent_turns g.P.Sweep.accounts _ _ _ (g.P.Sweep.left c.args.sweep.now (g.S.Shelf.world c.args.shelf.now) job - g.P.Sweep.left c.turns.sweep (g.S.Shelf.world c.turns.shelf) job)
+          c.in_ok-made.made.turns _ c.save_if_due.new.going (record c.save_if_due.new.going { turns = c.saturating_add-going.result }) _ _ (g.S.Shelf.world c.args.shelf.now)
+          (g.S.Shelf.world c.save_if_due.new.shelf) (g.S.Shelf.world c.run_some.new.shelf) c.args.sweep.now c.save_if_due.new.sweep c.run_some.new.sweep (omega (arith, few, grew, less, fell)) refl refl
+          (let one = so_far.later in let two = saved.later in omega (arith, one, two)) ran.leaves.later ran.counted.spent ran.leaves.content.before ran.counted.calls
+          (save_calls g (goal.at.turns-preserved g c).In_ok-save_if_due told_s job remains);
+      says = λ told. turn_says g (goal.at.turns-preserved g c).After-run_some told c.saturating_add-going.result;
+      changes = turn_changes g (goal.at.turns-preserved g c).After-run_some;
+      images = λ told job remains sure paid. (turn_stage g (goal.at.turns-preserved g c).After-run_some told job remains sure paid).images;
+      come = λ told job remains sure paid. (turn_stage g (goal.at.turns-preserved g c).After-run_some told job remains sure paid).come;
       faults = search rules;
     }

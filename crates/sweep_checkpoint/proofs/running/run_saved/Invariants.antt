@@ -1,4 +1,4 @@
-use Rattle.std.proofs.Common.{◌≡◌, ◌+◌, ◌-◌, ◌^◌, ◌<◌, ◌≤◌, IsTrue, length}
+use Rattle.std.proofs.Common.{◌≡◌, ◌⊎◌, ◌+◌, ◌-◌, ◌^◌, ◌<◌, ◌≤◌, max, IsTrue, length}
 use Rattle.std.specs.Prelude.{Ok}
 use Rattle.shelf_model.specs.declared.file_no.FileNo.{FileNo}
 use Rattle.shelf_model.specs.Calls.{Told}
@@ -7,7 +7,7 @@ use Rattle.shelf_model.specs.World.{now, file}
 use Rattle.file_numbers.specs.Files.{checkpoint_file}
 use Rattle.run_tiers.specs.Faults.{OnlySortShelf}
 use Rattle.sweep_checkpoint.specs.Saves.{gated_size}
-use Rattle.sweep_checkpoint.specs.Going.{IsOfGoing, AreSure, SameGoing, interval_of, first_owed}
+use Rattle.sweep_checkpoint.specs.Going.{IsOfGoing, AreSure, SameGoing, IsPaidTo, interval_of, first_owed}
 use Rattle.sweep_checkpoint.proofs.SavedHere.{AreLeft}
 use Rattle.sweep_checkpoint.proofs.Spent.{SpentOn}
 use Rattle.sweep_checkpoint.proofs.WentOn.{HasCome, SaysLast}
@@ -17,7 +17,7 @@ use Rattle.sweep_checkpoint.proofs.running.run_saved.Given as goal
 abbrev pub invariant-turns : goal.invariant-turns
 invariant-turns g l = record {
   ready : g.P.Sweep.ready l.sweep;
-  works : 0 < g.P.Sweep.fuel l.sweep;
+  works : (0 < g.P.Sweep.fuel l.sweep) ⊎ (l.going.turns - l.going.shown < interval_of l.going.budget);
   in_step : IsTrue (g.S.Shelf.tells l.shelf) → g.P.Sweep.in_step l.sweep (g.S.Shelf.world l.shelf);
   trusts : IsTrue (g.S.Shelf.tells l.shelf) → g.P.Sweep.trusts l.fn.sweep (g.S.Shelf.world l.fn.shelf)
       → g.P.Sweep.trusts l.sweep (g.S.Shelf.world l.shelf);
@@ -37,19 +37,31 @@ invariant-turns g l = record {
       ≤ length (file (g.S.Shelf.world l.fn.shelf) (checkpoint_file l.fn.going.step)).bytes
       → gated_size l.fn.going.step (now (g.S.Shelf.world l.shelf)).folder
       ≤ length (file (g.S.Shelf.world l.shelf) (checkpoint_file l.fn.going.step)).bytes;
-  spent : l.going.turns < 2 ^ 64 - 1 → g.P.Sweep.accounts.next l.sweep ≤ 2 ^ 32
+  grew : l.fn.going.turns ≤ l.going.turns;
+  late : l.fn.going.shown ≤ l.fn.going.turns → l.going.shown ≤ l.going.turns;
+  spent : l.going.turns < 2 ^ 64 - 1
       → SpentOn g.P.Sweep.accounts (interval_of l.fn.going.budget) (first_owed l.fn.going.last (g.P.Sweep.accounts.next l.fn.sweep))
-      l.fn.going.turns l.going (IsTrue (g.S.Shelf.tells l.shelf)) (g.S.Shelf.world l.fn.shelf) (g.S.Shelf.world l.shelf) l.fn.sweep l.sweep;
+      l.fn.going.shown (l.going.turns - l.fn.going.turns) l.going (IsTrue (g.S.Shelf.tells l.shelf)) (g.S.Shelf.world l.fn.shelf)
+      (g.S.Shelf.world l.shelf) l.fn.sweep l.sweep;
+  paid : l.going.turns < 2 ^ 64 - 1 → IsPaidTo g.P.Sweep.accounts l.fn.going l.fn.sweep → IsPaidTo g.P.Sweep.accounts l.going l.sweep;
+  within : IsTrue (g.S.Shelf.tells l.shelf) → (job : g.P.Sweep.Job) → g.P.Sweep.remains l.fn.sweep (g.S.Shelf.world l.fn.shelf) job
+      → l.going.shown ≤ max l.fn.going.shown (l.fn.going.turns + g.P.Sweep.left l.fn.sweep (g.S.Shelf.world l.fn.shelf) job);
+  calls : IsTrue (g.S.Shelf.tells l.shelf) → (job : g.P.Sweep.Job) → g.P.Sweep.remains l.fn.sweep (g.S.Shelf.world l.fn.shelf) job
+      → SpentOn g.P.Sweep.accounts (interval_of l.fn.going.budget) (first_owed l.fn.going.last (g.P.Sweep.accounts.next l.fn.sweep))
+      l.fn.going.shown (g.P.Sweep.left l.fn.sweep (g.S.Shelf.world l.fn.shelf) job - g.P.Sweep.left l.sweep (g.S.Shelf.world l.shelf) job)
+      l.going (IsTrue (g.S.Shelf.tells l.shelf)) (g.S.Shelf.world l.fn.shelf) (g.S.Shelf.world l.shelf) l.fn.sweep l.sweep;
   says : IsTrue (g.S.Shelf.tells l.shelf) → SaysLast l.fn.going l.going (now (g.S.Shelf.world l.fn.shelf)).folder (now (g.S.Shelf.world l.shelf)).folder;
   changes : Told g.S.Shelf.tells l.fn.shelf l.shelf (Ran (OnlyChanged (IsOfGoing (g.P.Sweep.accounts.makes l.fn.sweep) l.fn.going.step)
       (now (g.S.Shelf.world l.fn.shelf))) (g.S.Shelf.world l.fn.shelf) (g.S.Shelf.world l.shelf));
   images : IsTrue (g.S.Shelf.tells l.shelf) → (job : g.P.Sweep.Job) → g.P.Sweep.remains l.fn.sweep (g.S.Shelf.world l.fn.shelf) job
       → AreSure (g.P.Sweep.saving.operands (g.P.Sweep.task l.fn.sweep)) l.fn.going.step (now (g.S.Shelf.world l.fn.shelf)).folder
+      → IsPaidTo g.P.Sweep.accounts l.fn.going l.fn.sweep
       → Throughout (g.S.Shelf.world l.fn.shelf) (g.S.Shelf.world l.shelf) (AreLeft g.P.Sweep.saving (g.P.Sweep.accounts.makes l.fn.sweep)
       l.fn.going.step (g.P.Sweep.accounts.next l.fn.sweep) l.fn.going.budget l.fn.going.sweep (g.P.Sweep.task l.fn.sweep) job
       (l.fn.going.turns + g.P.Sweep.left l.fn.sweep (g.S.Shelf.world l.fn.shelf) job) (now (g.S.Shelf.world l.fn.shelf)).folder);
   come : IsTrue (g.S.Shelf.tells l.shelf) → (job : g.P.Sweep.Job) → g.P.Sweep.remains l.fn.sweep (g.S.Shelf.world l.fn.shelf) job
       → AreSure (g.P.Sweep.saving.operands (g.P.Sweep.task l.fn.sweep)) l.fn.going.step (now (g.S.Shelf.world l.fn.shelf)).folder
+      → IsPaidTo g.P.Sweep.accounts l.fn.going l.fn.sweep
       → HasCome g.P.Sweep.saving (g.P.Sweep.accounts.makes l.fn.sweep) (g.P.Sweep.saving.operands (g.P.Sweep.task l.fn.sweep))
       l.fn.going.step (g.P.Sweep.accounts.next l.fn.sweep) l.fn.going.budget l.fn.going.sweep (g.P.Sweep.task l.fn.sweep) job
       (l.fn.going.turns + g.P.Sweep.left l.fn.sweep (g.S.Shelf.world l.fn.shelf) job)
