@@ -1,0 +1,9 @@
+mod Parts
+mod Secured
+pub mod Deciding
+pub mod Gated
+pub mod Safe
+pub mod Kept
+pub mod GoneOn
+pub mod Telling
+pub mod LastFound
