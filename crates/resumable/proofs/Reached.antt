@@ -1,12 +1,13 @@
--- A step that goes on is resumable.
-use Rattle.std.specs.Prelude.{◌≡◌, ◌⊎◌, ℕ, List}
-use Rattle.std.proofs.Common.{sym, subst, inl, inr}
+-- A plan may be gone on with where its step goes on, and none behind it has a checkpoint.
+use Rattle.std.specs.Prelude.{◌≡◌, ℕ, ◌<◌, List, length}
+use Rattle.std.proofs.Common.{sym, subst, ◌∙◌, inl, inr, arith}
 use Rattle.bool_tables.specs.declared.steps.Planned.{Planned}
 use Rattle.bool_tables.specs.declared.steps.Step.{Step}
 use Rattle.shelf_model.specs.declared.file_no.FileNo.{FileNo}
 use Rattle.step_work.specs.Plans.{step_at}
-use Rattle.resumable.specs.Kinds.{CopyGoesOn, StepGoesOn}
-use Rattle.resumable.specs.Resumable.{NoneBehind, IsResumable}
+use Rattle.resumable.specs.Kinds.{StepGoesOn}
+use Rattle.resumable.specs.Resumable.{NoneBehind, StartsOrGoesOn, ShowsTheSame, IsResumable}
+use Rattle.resumable.proofs.StepPoints.{at_local, at_last}
 
 pub step_resumes : (n : ℕ) (text : List ℕ) (steps : List Planned) (budget j : ℕ) (step : Step) (r : FileNo → List ℕ)
     → step_at steps j ≡ step → NoneBehind steps j r → StepGoesOn n text steps budget j step r
@@ -16,11 +17,17 @@ step_resumes n text steps budget j step r is none goes = record {
   this_step = λ within. inr (subst (λ s. StepGoesOn n text steps budget j s r) (sym is) goes);
 }
 
--- the copy is one of either operand
-pub one_of_both : (n : ℕ) (steps : List Planned) (budget j left right operand : ℕ) (r : FileNo → List ℕ)
-    → (operand ≡ left) ⊎ (operand ≡ right) → CopyGoesOn n steps budget j operand r
-    → CopyGoesOn n steps budget j left r ⊎ CopyGoesOn n steps budget j right r
-one_of_both n steps budget j left right operand r (inl is) goes =
-    inl (subst (λ k. CopyGoesOn n steps budget j k r) is goes)
-one_of_both n steps budget j left right operand r (inr is) goes =
-    inr (subst (λ k. CopyGoesOn n steps budget j k r) is goes)
+module _ (n : ℕ) (text : List ℕ) (steps : List Planned) (budget j : ℕ) (old new : FileNo → List ℕ)
+    (same : ShowsTheSame steps budget j old new) where
+  starts_still : j < length steps → StartsOrGoesOn n text steps budget j old → StartsOrGoesOn n text steps budget j new
+  starts_still within (inl none) = inl (same.gates j (omega arith) within ∙ none)
+  starts_still within (inr goes) =
+      let last = at_last n text steps budget j old goes in
+      inr (at_local n text steps budget j last.0 old new last.1 same.last (same.fronts last.0 last.1) goes)
+
+  -- and still, where the last checkpoint and what it rests on are the same
+  pub still_resumable : IsResumable n text steps budget j old → IsResumable n text steps budget j new
+  still_resumable is = record {
+    behind = λ k behind within. same.gates k (omega (arith, behind)) within ∙ is.behind k behind within;
+    this_step = λ within. starts_still within (is.this_step within);
+  }

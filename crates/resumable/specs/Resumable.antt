@@ -1,12 +1,11 @@
 -- When an image may be gone on from in the middle of a step. It is taken by its reading, the bytes of each file.
-use Rattle.std.specs.Prelude.{◌≡◌, ◌⊎◌, ℕ, ◌<◌, ◌≤◌, List, [], length, take, Some}
+use Rattle.std.specs.Prelude.{◌≡◌, ℕ, ◌<◌, ◌≤◌, List, [], length, take}
 use Rattle.bool_tables.specs.declared.steps.Planned.{Planned}
 use Rattle.shelf_model.specs.declared.file_no.FileNo.{FileNo}
 use Rattle.file_numbers.specs.Files.{checkpoint_gate}
 use Rattle.sweep_core.specs.declared.checkpoint.Checkpoint.{Checkpoint}
-use Rattle.sweep_checkpoint.specs.Points.{point_bytes, Fits}
-use Rattle.sweep_checkpoint.specs.Rules.{KeepsRules}
 use Rattle.sweep_checkpoint.specs.Gated.{last_gated}
+use Rattle.step_going.specs.Standing.{IsLastOf, IsSafe}
 use Rattle.step_work.specs.Plans.{step_at}
 use Rattle.resumable.specs.Kinds.{StepGoesOn, RestsOn}
 
@@ -15,10 +14,13 @@ use Rattle.resumable.specs.Kinds.{StepGoesOn, RestsOn}
 abbrev pub NoneBehind : List Planned → ℕ → (FileNo → List ℕ) → Type 0
 NoneBehind steps j r = (k : ℕ) → j < k → k < length steps → r (checkpoint_gate k) ≡ []
 
--- nor has step j, or it goes on from its last one
+-- step j of the plan goes on from its last gated checkpoint
+abbrev pub GoesOnAt : ℕ → List ℕ → List Planned → ℕ → ℕ → (FileNo → List ℕ) → Type 0
+GoesOnAt n text steps budget j r = StepGoesOn n text steps budget j (step_at steps j) r
+
+-- it does, or it has none
 abbrev pub StartsOrGoesOn : ℕ → List ℕ → List Planned → ℕ → ℕ → (FileNo → List ℕ) → Type 0
-StartsOrGoesOn n text steps budget j r =
-    (r (checkpoint_gate j) ≡ []) ⊎ StepGoesOn n text steps budget j (step_at steps j) r
+StartsOrGoesOn n text steps budget j r = IsSafe (GoesOnAt n text steps budget j) j r
 
 -- where j steps of the plan are committed, the job can be gone on with
 pub record IsResumable (n : ℕ) (text : List ℕ) (steps : List Planned) (budget j : ℕ) (r : FileNo → List ℕ)
@@ -29,12 +31,6 @@ pub record IsResumable (n : ℕ) (text : List ℕ) (steps : List Planned) (budge
 -- neither step j of the plan nor one behind it has a gated checkpoint
 abbrev pub HasNone : List Planned → ℕ → (FileNo → List ℕ) → Type 0
 HasNone steps j r = (k : ℕ) → j ≤ k → k < length steps → r (checkpoint_gate k) ≡ []
-
--- the checkpoint is the last gated one of step j, whole, of that step and the budget, and keeps the rules
-pub record IsLastOf (j budget : ℕ) (r : FileNo → List ℕ) (c : Checkpoint) : Type 0 where
-  pub last : last_gated j r ≡ Some (point_bytes c)
-  pub rules : KeepsRules j budget c
-  pub words : Fits c
 
 -- another reading has the same gates from step j on, the same last gated checkpoint of step j, and the same fronts of
 -- all files on which that rests

@@ -1,4 +1,4 @@
-use Rattle.resumable.proofs.StillGoing.{still_resumable}
+use Rattle.resumable.proofs.Reached.{still_resumable}
 use Rattle.resumable.proofs.laws.the_same_is_resumable.Goals as goal
 
 pub returns : goal.returns

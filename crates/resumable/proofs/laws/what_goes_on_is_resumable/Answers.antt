@@ -1,34 +1,49 @@
-use Rattle.bool_tables.specs.declared.steps.Step.TheVariants.{Pair, Same, Eval}
-use Rattle.resumable.proofs.Reached.{step_resumes, one_of_both}
+use Rattle.std.specs.Prelude.{◌<◌}
+use Rattle.std.proofs.Common.{refl, subst}
+use Rattle.bool_tables.specs.declared.steps.Step.TheVariants.{Pair, Ite, Quantify, Restrict, Same, Leq, Eval}
+use Rattle.resumable.proofs.Reached.{step_resumes}
+use Rattle.resumable.proofs.Works.{work_at_step}
 use Rattle.resumable.proofs.laws.what_goes_on_is_resumable.Goals as goal
 
 pub returns-clause-comparison : goal.returns-clause-comparison
-returns-clause-comparison c n text steps budget j left right turns parts r is none goes few =
+returns-clause-comparison c n text steps budget j left right turns r is none goes few =
     step_resumes n text steps budget j (Same left right) r is none (record {
-      parts = parts;
       turns = turns;
       goes_on = goes;
-      few = few;
+      few = subst (λ k. turns < k) (work_at_step n steps j (Same left right) (Same 0 1) is refl (λ i h pieces. refl))
+          few;
     })
 
 pub returns-clause-evaluation : goal.returns-clause-evaluation
-returns-clause-evaluation c n text steps budget j operand at turns parts r is none goes few =
+returns-clause-evaluation c n text steps budget j operand at turns r is none goes few =
     step_resumes n text steps budget j (Eval operand at) r is none (record {
-      parts = parts;
       turns = turns;
       goes_on = goes;
-      few = few;
+      few = subst (λ k. turns < k) (work_at_step n steps j (Eval operand at) (Eval 0 at) is refl (λ i h pieces. refl))
+          few;
     })
 
-pub returns-clause-copy : goal.returns-clause-copy
-returns-clause-copy c n text steps budget j left right operand turns op parts r is one same none goes few =
-    step_resumes n text steps budget j (Pair op left right) r is none
-    (one_of_both n steps budget j left right operand r one (record {
-      same_table = same;
-      goes_on = record {
-        parts = parts;
-        turns = turns;
-        goes_on = goes;
-        few = few;
-      };
-    }))
+pub returns-clause-implication : goal.returns-clause-implication
+returns-clause-implication c n text steps budget j left right turns r is none goes few =
+    step_resumes n text steps budget j (Leq left right) r is none (record {
+      turns = turns;
+      goes_on = goes;
+      few = subst (λ k. turns < k) (work_at_step n steps j (Leq left right) (Leq 0 1) is refl (λ i h pieces. refl))
+          few;
+    })
+
+pub returns-clause-operator : goal.returns-clause-operator
+returns-clause-operator c n text steps budget j left right op r =
+    step_resumes n text steps budget j (Pair op left right) r
+
+pub returns-clause-choice : goal.returns-clause-choice
+returns-clause-choice c n text steps budget j test if_one if_zero r =
+    step_resumes n text steps budget j (Ite test if_one if_zero) r
+
+pub returns-clause-quantifier : goal.returns-clause-quantifier
+returns-clause-quantifier c n text steps budget j operand level kind r =
+    step_resumes n text steps budget j (Quantify kind operand level) r
+
+pub returns-clause-restriction : goal.returns-clause-restriction
+returns-clause-restriction c n text steps budget j operand level value r =
+    step_resumes n text steps budget j (Restrict operand level value) r
