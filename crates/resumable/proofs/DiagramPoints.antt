@@ -100,6 +100,7 @@ module _ (n number budget : ℕ) (table : List Bool) (work : ℕ) where
     ends_own = q.ends_own;
     diagram = q.diagram;
     table_is = q.table_is;
+    form = q.form;
     turns = q.turns;
     goes_on = goes_still reduce_saving 1 diagram_rests reductions_local number budget q.task q.diagram q.turns c old new
         is last same q.goes_on;
@@ -124,6 +125,7 @@ module _ (n number budget : ℕ) (table : List Bool) (work : ℕ) where
         ends_own = q.ends_own;
         diagram = q.diagram;
         table_is = q.table_is;
+        form = q.form;
         goes = goes_from reduce_saving number budget 1 q.task q.diagram q.turns r q.goes_on;
         makes = q.makes;
         few = omega (arith, within, few);

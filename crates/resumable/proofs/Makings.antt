@@ -4,6 +4,7 @@ use Rattle.std.proofs.Common.{◌∙◌, inl, inr}
 use Rattle.bool_tables.specs.declared.steps.Step.TheVariants.{Same, Leq, Eval}
 use Rattle.shelf_model.specs.declared.file_no.FileNo.{FileNo}
 use Rattle.canon_file.specs.Canon.{canon_bytes}
+use Rattle.canon_file.specs.Laws.{HasForm}
 use Rattle.file_numbers.specs.Files.{node_file}
 use Rattle.step_work.specs.Works.{work_for}
 use Rattle.sweep_core.specs.declared.checkpoint.Checkpoint.{Checkpoint}
@@ -58,14 +59,15 @@ module _ (operation : StepOperation) (n : ℕ) (operands : OperandFiles) (number
   -- the reduction of its arcs to its node file
   pub reduction_goes : (task : reduce.Task) (diagram : Diagram) → task.out ≡ node_file number → task.variables ≡ n
       → task.inner.step ≡ number → task.ends.step ≡ number → diagram.table ≡ made_by operation n g
-      → GoesOn reduce_saving number budget 1 task diagram turns r → turns < work_by operation n g
+      → HasForm n (made_by operation n g) → GoesOn reduce_saving number budget 1 task diagram turns r → turns < work_by operation n g
       → DiagramGoesOn operation n operands number budget g r
-  reduction_goes task diagram out_is variables_are inner_own ends_own table_is goes few = inr (inr (record {
+  reduction_goes task diagram out_is variables_are inner_own ends_own table_is form goes few = inr (inr (record {
     task = task;
     inner_own = inner_own;
     ends_own = ends_own;
     diagram = diagram;
     table_is = table_is;
+    form = form;
     turns = turns;
     goes_on = goes;
     makes = names_makes goes.point task (node_file number) n goes.names out_is variables_are;

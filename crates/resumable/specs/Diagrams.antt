@@ -4,6 +4,7 @@ use Rattle.std.specs.Prelude.{◌≡◌, ◌⊎◌, ℕ, zero, suc, ◌+◌, ◌
 use Rattle.bool_tables.specs.Steps.{step_table}
 use Rattle.shelf_model.specs.declared.file_no.FileNo.{FileNo}
 use Rattle.canon_file.specs.Canon.{canon_bytes}
+use Rattle.canon_file.specs.Laws.{HasForm}
 use Rattle.file_numbers.specs.Files.{node_file, inner_file, ends_file}
 use Rattle.file_writes.specs.Writes.{pieces}
 use Rattle.saved_words.specs.declared.carried.Carried.{Ghosts}
@@ -91,13 +92,14 @@ pub record ArcsGoOn (operation : StepOperation) (n : ℕ) (operands : OperandFil
   pub goes_on : GoesOn arcs_saving number budget 0 (arcs_of n operands number) (work_of operation n g) turns r
   pub few : turns + (10 * tuples_by operation n g + 10) ≤ work_by operation n g
 
--- the step's arcs are reduced to its node file, which is that of the table
+-- the step's arcs are reduced to its node file, which is that of the table, and that has a canonical form
 pub record ReductionGoesOn (n number budget : ℕ) (table : List Bool) (work : ℕ) (r : FileNo → List ℕ) : Type 0 where
   pub task : reduce.Task
   pub inner_own : task.inner.step ≡ number
   pub ends_own : task.ends.step ≡ number
   pub diagram : Diagram
   pub table_is : diagram.table ≡ table
+  pub form : HasForm n table
   pub turns : ℕ
   pub goes_on : GoesOn reduce_saving number budget 1 task diagram turns r
   pub makes : reductions.Makes goes_on.point (node_file number) n

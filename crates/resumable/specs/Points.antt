@@ -4,6 +4,7 @@ use Rattle.std.specs.Prelude.{◌≡◌, ◌⊎◌, ℕ, ◌+◌, ◌*◌, ◌<�
 use Rattle.bool_tables.specs.declared.steps.Step.TheVariants.{Same, Leq, Eval}
 use Rattle.shelf_model.specs.declared.file_no.FileNo.{FileNo}
 use Rattle.canon_file.specs.Canon.{canon_bytes}
+use Rattle.canon_file.specs.Laws.{HasForm}
 use Rattle.file_numbers.specs.Files.{node_file}
 use Rattle.step_work.specs.Works.{work_for}
 use Rattle.step_going.specs.Standing.{IsLastOf}
@@ -61,6 +62,7 @@ pub record ReducesFrom (n number budget : ℕ) (table : List Bool) (work : ℕ) 
   pub ends_own : task.ends.step ≡ number
   pub diagram : Diagram
   pub table_is : diagram.table ≡ table
+  pub form : HasForm n table
   pub goes : IsFrom reduce_saving number budget 1 task diagram r c
   pub makes : reductions.Makes c (node_file number) n
   pub few : c.turns + goes.left < work

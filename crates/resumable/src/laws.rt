@@ -6,6 +6,7 @@ ghost use Rattle.bool_tables.specs.declared.steps.Quant.{Quant};
 ghost use Rattle.bool_tables.specs.declared.steps.Step.TheVariants.{Pair, Ite, Quantify, Restrict, Same, Leq, Eval};
 ghost use Rattle.shelf_model.specs.declared.file_no.FileNo.{FileNo};
 ghost use Rattle.canon_file.specs.Canon.{canon_bytes};
+ghost use Rattle.canon_file.specs.Laws.{HasForm};
 ghost use Rattle.file_numbers.specs.Files.{node_file};
 ghost use Rattle.sweep_checkpoint.specs.Going.{GoesOn};
 ghost use Rattle.copy_sweep.specs.Resumes.{copy_saving};
@@ -96,7 +97,8 @@ pub fn a_sweep_of_a_diagram_goes_on()
     ensures reduction { (operation : StepOperation) (n : ℕ) (operands : OperandFiles) (number budget turns : ℕ)
         (g : Tables) (task : reduce.Task) (diagram : Diagram) (r : FileNo → List ℕ) → task.out ≡ node_file number →
         task.variables ≡ n → task.inner.step ≡ number → task.ends.step ≡ number →
-        diagram.table ≡ made_by operation n g → GoesOn reduce_saving number budget 1 task diagram turns r →
+        diagram.table ≡ made_by operation n g → HasForm n (made_by operation n g) →
+        GoesOn reduce_saving number budget 1 task diagram turns r →
         turns < work_by operation n g → DiagramGoesOn operation n operands number budget g r }
 {}
 
