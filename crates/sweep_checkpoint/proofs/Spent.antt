@@ -1,6 +1,6 @@
 -- What turns and saves take, in parts of the step and in calls of the folder.
 use Rattle.std.proofs.Common.{◌≡◌, ◌⊎◌, ℕ, suc, ◌+◌, ◌-◌, ◌*◌, ◌≤◌, min, max, refl, sym, ap, subst, ◌∙◌, inl, inr, arith, mul-suc, mul-zero}
-use Rattle.std.specs.Prelude.{Result, Ok, Err, OnErr, Option, Some, None}
+use Rattle.std.specs.Prelude.{Result, Ok, Err, OnOk, OnErr, IsErrAnd, Option, Some, None}
 use Rattle.shelf_model.specs.World.{World}
 use Rattle.run_tiers.specs.Parts.{Paid}
 use Rattle.sweep_core.specs.declared.checkpoint.Checkpoint.{Checkpoint}
@@ -52,10 +52,32 @@ owed_late (Some c) next = omega arith
 pub owed_early : (last : Option Checkpoint) (next : ℕ) → first_owed last next ≤ max 5 next
 owed_early last next = omega arith
 
+-- and it is none that is owed for from a later part on
+pub owed_then : (from : ℕ) (last : Option Checkpoint) (next later : ℕ) → from ≤ first_taken last → from ≤ max 5 next → next ≤ later → from ≤ first_owed last later
+owed_then from last next later owed early more = omega (arith, owed, early, more)
+
+-- a save is owed for from no earlier part on
+pub owed_save : {P : Type 0} (accounts : Accounts P) (old new : Going) (at end : World) (p q : P) (from : ℕ) → from ≤ max 5 (accounts.next q)
+    → WasNotSaved accounts old new at end p q ⊎ WasSaved accounts old new p q → from ≤ first_taken old.last → from ≤ first_taken new.last
+owed_save accounts old new at end p q from early (inl not) owed = subst (λ o. from ≤ first_taken o) (sym not.last_is) owed
+owed_save accounts old new at end p q from early (inr saved) owed =
+    let last : first_taken new.last ≡ max 5 (accounts.next q) = ap first_taken saved.last_is ∙ ap (max 5) saved.part_is in
+    omega (arith, last, early)
+
 -- what holds anyway holds after a refusal
 on_refusal : {T E X : Type 0} (result : Result T E) → X → OnErr result X
 on_refusal (Ok x) holds = tt
 on_refusal (Err e) holds = holds
+
+-- and after a success
+on_success : {T E X : Type 0} (result : Result T E) → X → OnOk result X
+on_success (Ok x) holds = holds
+on_success (Err e) holds = tt
+
+-- of a refusal, nothing is said that is said of a success
+no_success : {T E : Type 0} (result : Result T E) (e : E) (X : Type 0) → IsErrAnd result (λ x. x ≡ e) → OnOk result X
+no_success (Ok x) e X is = absurd is
+no_success (Err x) e X is = tt
 
 module _ {P : Type 0} (accounts : Accounts P) (interval from first : ℕ) where
   -- before the first turn
@@ -182,33 +204,37 @@ module _ {P : Type 0} (accounts : Accounts P) (interval from first : ℕ) where
         λ is. record { paid = let paid = (calls_turns turns made later mid told_mid told start at end p q r late less two before s calls is).paid in omega (arith, paid) },
       ))
 
-  -- no more turns than these were made, of which no more than a number are shown, and with saves that were refused the calls are known
-  abbrev pub Known : ℕ → ℕ → World → World → P → P → Type 0
-  Known most turns start end p q = (saves : ℕ) × (interval * saves + first ≤ max first most) × TakesParts accounts turns saves p q × TakesCalls accounts turns saves from start end p q
+  -- no more turns than these were made, of which no more than a number are shown, and with saves that were refused the calls are known;
+  -- after a success so many turns are shown as its saves are apart
+  abbrev pub Known : {T E : Type 0} → Result T E → ℕ → ℕ → Going → World → World → P → P → Type 0
+  Known result most turns going start end p q = (saves : ℕ) × (interval * saves + first ≤ max first most) × TakesParts accounts turns saves p q × TakesCalls accounts turns saves from start end p q
+      × OnOk result (interval * saves + first ≤ going.shown)
 
   -- where a save was refused, that was due
-  pub known_save : (most turns later : ℕ) (mid : Going) (told_mid told : Type 0) (start at end : World) (p q r : P)
+  pub known_save : {T E : Type 0} (result : Result T E) (e : E) (most turns later : ℕ) (mid new : Going) (told_mid told : Type 0) (start at end : World) (p q r : P) → IsErrAnd result (λ x. x ≡ e)
       → 5 ≤ from → turns ≤ later → accounts.next p ≤ accounts.next q → accounts.next q ≤ accounts.next r → (told → told_mid) → mid.turns ≤ most → mid.shown + interval_of mid.budget ≤ mid.turns → interval_of mid.budget ≡ interval
-      → SpentOn accounts interval from first turns mid told_mid start at p q → TakesParts accounts 0 1 q r → (told → TakesCalls accounts 0 1 (first_taken mid.last) at end q r) → told → Known most later start end p r
-  known_save most turns later mid told_mid told start at end p q r late less one two before few due every s parts costs is = (
+      → SpentOn accounts interval from first turns mid told_mid start at p q → TakesParts accounts 0 1 q r → (told → TakesCalls accounts 0 1 (first_taken mid.last) at end q r) → told → Known result most later new start end p r
+  known_save result e most turns later mid new told_mid told start at end p q r refused late less one two before few due every s parts costs is = (
     s.saves + 1,
     let spaced = s.spaced in
         let more : interval * suc s.saves ≡ interval * s.saves + interval = mul-suc interval s.saves in
         omega (arith, spaced, more, due, few, every),
     record { spent = let spent = s.takes.spent in let now = parts.spent in omega (arith, spent, now, one, two, less) },
     calls_save turns later mid told_mid told start at end p q r late less two before s costs is,
+    no_success result e _ refused,
   )
 
   -- once turns were made, or one was refused
-  pub known_turns : (most turns made later : ℕ) (mid : Going) (told_mid told : Type 0) (start at end : World) (p q r : P)
-      → 5 ≤ from → turns + made ≤ later → accounts.next p ≤ accounts.next q → accounts.next q ≤ accounts.next r → (told → told_mid) → mid.shown ≤ max first most
+  pub known_turns : {T E : Type 0} (result : Result T E) (most turns made later : ℕ) (mid new : Going) (told_mid told : Type 0) (start at end : World) (p q r : P)
+      → 5 ≤ from → turns + made ≤ later → new.shown ≡ mid.shown → accounts.next p ≤ accounts.next q → accounts.next q ≤ accounts.next r → (told → told_mid) → mid.shown ≤ max first most
       → SpentOn accounts interval from first turns mid told_mid start at p q → 256 * (accounts.next r - accounts.next q) + accounts.stock r ≤ accounts.stock q + 12 * made
-      → (told → Paid (224 * made) (accounts.credit q) (accounts.credit r) at end) → told → Known most later start end p r
-  known_turns most turns made later mid told_mid told start at end p q r late less one two before few s costs calls is = (
+      → (told → Paid (224 * made) (accounts.credit q) (accounts.credit r) at end) → told → Known result most later new start end p r
+  known_turns result most turns made later mid new told_mid told start at end p q r late less shown one two before few s costs calls is = (
     s.saves,
     let spaced = s.spaced in omega (arith, spaced, few),
     record { spent = let spent = s.takes.spent in omega (arith, spent, costs, one, two, less) },
     calls_turns turns made later mid told_mid told start at end p q r late less two before s calls is,
+    let spaced = s.spaced in on_success result (omega (arith, spaced, shown)),
   )
 
 -- what is shown is no more than what was made, once it was looked whether a save is due

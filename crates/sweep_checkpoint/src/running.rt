@@ -72,8 +72,11 @@ pub fn run_saved<'r, P: Resume<'r>, S: Shelf>(
         × TakesParts P.accounts (P.left sweep.old (S.world shelf.old) job + 1) saves sweep.old sweep.new
         × TakesCalls P.accounts (P.left sweep.old (S.world shelf.old) job + 1) saves
         (first_owed going.old.last (P.accounts.next sweep.old)) (S.world shelf.old) (S.world shelf.new)
-        sweep.old sweep.new }
+        sweep.old sweep.new
+        × OnOk result (interval_of going.old.budget * saves + going.old.shown ≤ going.new.shown) }
     ensures later { OnOk result (P.accounts.next sweep.old ≤ P.accounts.next sweep.new) }
+    ensures owed { OnOk result (first_owed going.old.last (P.accounts.next sweep.old)
+        ≤ first_owed going.new.last (P.accounts.next sweep.new)) }
     ensures paid { OnOk result (going.new.turns < 2 ^ 64 - 1 → IsPaidTo P.accounts going.old sweep.old →
         IsPaidTo P.accounts going.new sweep.new) }
 
@@ -83,6 +86,8 @@ pub fn run_saved<'r, P: Resume<'r>, S: Shelf>(
     ensures few { OnOk result (IsTrue (S.tells shelf.new) → (job : P.Job) →
         P.remains sweep.old (S.world shelf.old) job →
         going.new.turns ≤ going.old.turns + P.left sweep.old (S.world shelf.old) job + 1) }
+    ensures trusts { OnOk result (IsTrue (S.tells shelf.new) →
+        P.trusts sweep.old (S.world shelf.old) → P.trusts sweep.new (S.world shelf.new)) }
     ensures damage { IfErr result (λ e. IsTrue (S.tells shelf.new) → P.trusts sweep.old (S.world shelf.old) →
         P.damaged sweep.new (S.world shelf.new) e
         ⊎ IsShort going.old.step (P.accounts.next sweep.new) (now (S.world shelf.new)).folder e) }
@@ -94,6 +99,11 @@ pub fn run_saved<'r, P: Resume<'r>, S: Shelf>(
         gated_size going.old.step (now (S.world shelf.old)).folder
         ≤ length (file (S.world shelf.old) (checkpoint_file going.old.step)).bytes →
         P.damaged sweep.new (S.world shelf.new) e ⊎ IsNoDamage e) }
+    ensures covers { OnOk result (IsTrue (S.tells shelf.new) →
+        gated_size going.old.step (now (S.world shelf.old)).folder
+        ≤ length (file (S.world shelf.old) (checkpoint_file going.old.step)).bytes →
+        gated_size going.old.step (now (S.world shelf.new)).folder
+        ≤ length (file (S.world shelf.new) (checkpoint_file going.old.step)).bytes) }
 
     // what a stop may leave at any moment, and what is left at the end
     ensures changes { Told S.tells shelf.old shelf.new
@@ -117,6 +127,7 @@ pub fn run_saved<'r, P: Resume<'r>, S: Shelf>(
         (P.accounts.next sweep.new) going.old.budget going.old.sweep (P.task sweep.old) job
         (going.old.turns + P.left sweep.old (S.world shelf.old) job) (now (S.world shelf.new)).folder) }
     ensures same { P.task sweep.new ≡ P.task sweep.old }
+    ensures step { P.accounts.step sweep.new ≡ P.accounts.step sweep.old }
     ensures spent { IsErrOf result SortFault.RunsSpent → 2 ^ 32 ≤ P.accounts.next sweep.new }
     ensures faults { OnlySortShelf (S.faults shelf.old) (S.faults shelf.new) result }
 {

@@ -1,4 +1,6 @@
 use Rattle.std.proofs.Common.{◌≡◌, ◌≢◌, ℕ, ◌^◌, ◌+◌, ◌-◌, ◌∙◌, ◌<◌, ◌≤◌, IsTrue, length, min, max, rules, arith, refl, sym, ap, subst, inl, inr}
+use Rattle.std.specs.Prelude.{Result, Ok}
+use Rattle.shelf_model.specs.declared.sort_fault.SortFault.{SortFault}
 use Rattle.shelf_model.specs.Calls.{Told}
 use Rattle.shelf_model.specs.Moments.{Ran, Throughout, OnlyChanged}
 use Rattle.shelf_model.specs.World.{Moment, now, file}
@@ -12,11 +14,12 @@ use Rattle.sweep_core.specs.Saving.{IsOfStep}
 use Rattle.sweep_core.specs.Carries.{OnlySaved}
 use Rattle.sweep_checkpoint.specs.Gated.{present, last_gated}
 use Rattle.sweep_checkpoint.specs.Saves.{gated_size}
+use Rattle.sweep_checkpoint.specs.Retires.{first_taken}
 use Rattle.sweep_checkpoint.specs.declared.going.Going.{Going}
 use Rattle.sweep_checkpoint.specs.Going.{IsOfGoing, AreSure, IsPaidTo, interval_of, first_owed}
 use Rattle.sweep_checkpoint.proofs.AsBefore.{of_step_later, of_step_as}
 use Rattle.sweep_checkpoint.proofs.SavedHere.{AreLeft}
-use Rattle.sweep_checkpoint.proofs.Spent.{SpentOn, spent_none, spent_save, spent_turns, spent_saves, refused_save, refused_turns, saved_late, Known, known_save, known_turns, saved_within, paid_save, paid_turns, owed_late, owed_early}
+use Rattle.sweep_checkpoint.proofs.Spent.{SpentOn, spent_none, spent_save, spent_turns, owed_save, owed_then, spent_saves, refused_save, refused_turns, saved_late, Known, known_save, known_turns, saved_within, paid_save, paid_turns, owed_late, owed_early}
 use Rattle.sweep_checkpoint.proofs.WentOn.{Stage, SaysLast, own_saved, gated_still, says_then, covers_still, where_ended, fell_ended, fell_more, images_none, images_on, stage_save, stage_turns, left_of, come_of, sure_of, turns_on, saved_none}
 use Rattle.sweep_checkpoint.proofs.running.run_saved.Given as given
 use Rattle.sweep_checkpoint.proofs.running.run_saved.Goals as goal
@@ -254,6 +257,30 @@ module _ (g : given.Over) where
             ≡ last_gated s (present (now (g.S.Shelf.world c.save_if_due.new.shelf)).folder)) (sym step_is) still;
       }))
 
+  -- the files are trusted still, once turns were made
+  turn_trusts : (c : In_ok-made g) → IsTrue (g.S.Shelf.tells c.run_some.new.shelf) → g.P.Sweep.trusts c.args.sweep.now (g.S.Shelf.world c.args.shelf.now)
+      → g.P.Sweep.trusts c.run_some.new.sweep (g.S.Shelf.world c.run_some.new.shelf)
+  turn_trusts c told trusted =
+      let first = c.in_ok-save_if_due.ensures in
+      let told_s = c.in_ok-made.ensures.leaves.content.before told in
+      c.in_ok-made.ensures.trusts told (first.trusts told_s (c.turns.invariant.trusts (first.changes.before told_s) trusted))
+
+  -- the gated checkpoints are all there, once turns were made
+  turn_covers : (c : After-run_some g) → IsTrue (g.S.Shelf.tells c.run_some.new.shelf)
+      → gated_size c.args.going.now.step (now (g.S.Shelf.world c.args.shelf.now)).folder ≤ length (file (g.S.Shelf.world c.args.shelf.now) (checkpoint_file c.args.going.now.step)).bytes
+      → gated_size c.args.going.now.step (now (g.S.Shelf.world c.run_some.new.shelf)).folder ≤ length (file (g.S.Shelf.world c.run_some.new.shelf) (checkpoint_file c.args.going.now.step)).bytes
+  turn_covers c told covered =
+      let at = goal.at.After-run_some g c in
+      let inv = c.turns.invariant in
+      let first = c.in_ok-save_if_due.ensures in
+      let told_s = c.run_some.ensures.leaves.content.before told in
+      let told_at = first.changes.before told_s in
+      let covers_s = subst (λ s. gated_size s (now (g.S.Shelf.world c.save_if_due.new.shelf)).folder ≤ length (file (g.S.Shelf.world c.save_if_due.new.shelf) (checkpoint_file s)).bytes) inv.going.step_is
+      (first.covers told_s (subst (λ s. gated_size s (now (g.S.Shelf.world c.turns.shelf)).folder ≤ length (file (g.S.Shelf.world c.turns.shelf) (checkpoint_file s)).bytes) (sym inv.going.step_is)
+      (inv.covers told_at covered))) in
+      covers_still (g.P.Sweep.accounts.makes c.save_if_due.new.sweep) (g.P.Sweep.saving.operands (g.P.Sweep.task c.args.sweep.now)) c.args.going.now.step (g.P.Sweep.accounts.next c.save_if_due.new.sweep)
+      (now (g.S.Shelf.world c.save_if_due.new.shelf)) (now (g.S.Shelf.world c.run_some.new.shelf)) (files_then at.In_ok-save_if_due) (turn_saved c told) covers_s
+
   -- what turns and saves took, once turns were made
   turn_spent : (c : In_ok-made g) → (turns : ℕ) → turns ≡ min (c.save_if_due.new.going.turns + c.in_ok-made.made.turns) (2 ^ 64 - 1) → turns < 2 ^ 64 - 1
       → Spent c.args.sweep.now c.args.going.now c.args.shelf.now (turns - c.args.going.now.turns) (record c.save_if_due.new.going { turns = turns }) c.run_some.new.sweep c.run_some.new.shelf
@@ -277,12 +304,21 @@ module _ (g : given.Over) where
       (omega (arith, few, counted)) refl refl c.in_ok-made.ensures.leaves.later c.in_ok-made.ensures.counted.spent
       (save_paid (goal.at.In_ok-made g c).In_ok-save_if_due (omega (arith, few, counted)) paid)
 
+  -- no save is owed for from an earlier part on
+  save_owed : (c : In_ok-save_if_due g) → first_owed c.args.going.now.last (g.P.Sweep.accounts.next c.args.sweep.now) ≤ first_taken c.save_if_due.new.going.last
+  save_owed c =
+      let inv = c.turns.invariant in
+      let first = c.in_ok-save_if_due.ensures in
+      let early = owed_early c.args.going.now.last (g.P.Sweep.accounts.next c.args.sweep.now) in
+      owed_save g.P.Sweep.accounts c.turns.going c.save_if_due.new.going (g.S.Shelf.world c.turns.shelf) (g.S.Shelf.world c.save_if_due.new.shelf) c.turns.sweep c.save_if_due.new.sweep
+      _ (let one = inv.later in let two = first.later in omega (arith, early, one, two)) first.parts inv.owed
+
   -- the calls of turns that were made or refused, where something of a job remains
-  turn_calls : (c : After-run_some g) → IsTrue (g.S.Shelf.tells c.run_some.new.shelf) → (job : g.P.Sweep.Job) → g.P.Sweep.remains c.args.sweep.now (g.S.Shelf.world c.args.shelf.now) job
-      → Known g.P.Sweep.accounts (interval_of c.args.going.now.budget) (first_owed c.args.going.now.last (g.P.Sweep.accounts.next c.args.sweep.now)) c.args.going.now.shown
+  turn_calls : (c : After-run_some g) (result : Result Unit SortFault) (turns : ℕ) → IsTrue (g.S.Shelf.tells c.run_some.new.shelf) → (job : g.P.Sweep.Job) → g.P.Sweep.remains c.args.sweep.now (g.S.Shelf.world c.args.shelf.now) job
+      → Known g.P.Sweep.accounts (interval_of c.args.going.now.budget) (first_owed c.args.going.now.last (g.P.Sweep.accounts.next c.args.sweep.now)) c.args.going.now.shown result
       (c.args.going.now.turns + g.P.Sweep.left c.args.sweep.now (g.S.Shelf.world c.args.shelf.now) job) (g.P.Sweep.left c.args.sweep.now (g.S.Shelf.world c.args.shelf.now) job + 1)
-      (g.S.Shelf.world c.args.shelf.now) (g.S.Shelf.world c.run_some.new.shelf) c.args.sweep.now c.run_some.new.sweep
-  turn_calls c told job remains =
+      (record c.save_if_due.new.going { turns = turns }) (g.S.Shelf.world c.args.shelf.now) (g.S.Shelf.world c.run_some.new.shelf) c.args.sweep.now c.run_some.new.sweep
+  turn_calls c result turns told job remains =
       let at = (goal.at.After-run_some g c).In_ok-save_if_due in
       let inv = c.turns.invariant in
       let first = c.in_ok-save_if_due.ensures in
@@ -293,10 +329,11 @@ module _ (g : given.Over) where
       let few = inv.few told_at job remains in
       let grew = inv.grew in
       let less = first.left told_s job remains_at in
-      known_turns g.P.Sweep.accounts _ _ _ _ (g.P.Sweep.left c.args.sweep.now (g.S.Shelf.world c.args.shelf.now) job - g.P.Sweep.left c.turns.sweep (g.S.Shelf.world c.turns.shelf) job)
-      (min c.max-most.result (g.P.Sweep.left c.save_if_due.new.sweep (g.S.Shelf.world c.save_if_due.new.shelf) job + 1)) _ c.save_if_due.new.going _ _
+      known_turns g.P.Sweep.accounts _ _ _ result _ (g.P.Sweep.left c.args.sweep.now (g.S.Shelf.world c.args.shelf.now) job - g.P.Sweep.left c.turns.sweep (g.S.Shelf.world c.turns.shelf) job)
+      (min c.max-most.result (g.P.Sweep.left c.save_if_due.new.sweep (g.S.Shelf.world c.save_if_due.new.shelf) job + 1)) _ c.save_if_due.new.going
+      (record c.save_if_due.new.going { turns = turns }) _ _
       (g.S.Shelf.world c.args.shelf.now) (g.S.Shelf.world c.save_if_due.new.shelf) (g.S.Shelf.world c.run_some.new.shelf) c.args.sweep.now c.save_if_due.new.sweep c.run_some.new.sweep
-      (owed_late c.args.going.now.last (g.P.Sweep.accounts.next c.args.sweep.now)) (omega (arith, few, grew, less)) (let one = inv.later in let two = first.later in omega (arith, one, two)) ran.leaves.later
+      (owed_late c.args.going.now.last (g.P.Sweep.accounts.next c.args.sweep.now)) (omega (arith, few, grew, less)) refl (let one = inv.later in let two = first.later in omega (arith, one, two)) ran.leaves.later
       ran.leaves.content.before (save_within at told_s job remains) (save_calls at told_s job remains) (ran.few told job (first.keeps told_s job remains_at)).spent
       (ran.few told job (first.keeps told_s job remains_at)).calls told
 
@@ -319,6 +356,7 @@ turns-init g c =
       making = λ f mine. mine;
       step = refl;
       later = omega arith;
+      owed = omega arith;
       few = λ told job remains. omega arith;
       covers = λ told covered. covered;
       grew = omega arith;
@@ -361,8 +399,9 @@ returns-in_err-save_if_due-clause-few_calls g c = λ told job remains.
     let first = c.in_err-save_if_due.ensures in
     let told_at = first.changes.before told in
     let few = inv.few told_at job remains in
-    known_save g.P.Sweep.accounts _ _ _ _ (g.P.Sweep.left c.args.sweep.now (g.S.Shelf.world c.args.shelf.now) job - g.P.Sweep.left c.turns.sweep (g.S.Shelf.world c.turns.shelf) job) _ c.turns.going _ _
+    known_save g.P.Sweep.accounts _ _ _ c.from_residual.result c.in_err-save_if_due.field-0.0 _ (g.P.Sweep.left c.args.sweep.now (g.S.Shelf.world c.args.shelf.now) job - g.P.Sweep.left c.turns.sweep (g.S.Shelf.world c.turns.shelf) job) _ c.turns.going c.save_if_due.new.going _ _
     (g.S.Shelf.world c.args.shelf.now) (g.S.Shelf.world c.turns.shelf) (g.S.Shelf.world c.save_if_due.new.shelf) c.args.sweep.now c.turns.sweep c.save_if_due.new.sweep
+    c.from_residual.ensures.1
     (owed_late c.args.going.now.last (g.P.Sweep.accounts.next c.args.sweep.now)) (omega arith) inv.later first.later first.changes.before (omega (arith, few)) first.refused.1 (ap interval_of inv.going.budget_is)
     (inv.calls told_at job remains) first.takes first.calls told
 
@@ -395,10 +434,10 @@ returns-in_err-made-clause-covered g c = on_fault c.from_residual-in_err-made.re
     inl (c.in_err-made.ensures.damage told (first.trusts told_s (inv.trusts (first.changes.before told_s) trusted))))
 
 pub returns-in_err-made-clause-few_calls : goal.returns-in_err-made-clause-few_calls
-returns-in_err-made-clause-few_calls g c = turn_calls g (goal.at.returns-in_err-made-clause-few_calls g c).After-run_some
+returns-in_err-made-clause-few_calls g c = turn_calls g (goal.at.returns-in_err-made-clause-few_calls g c).After-run_some c.from_residual-in_err-made.result c.save_if_due.new.going.turns
 
 pub returns-then-eq-clause-few_calls : goal.returns-then-eq-clause-few_calls
-returns-then-eq-clause-few_calls g c = turn_calls g (goal.at.returns-then-eq-clause-few_calls g c).After-run_some
+returns-then-eq-clause-few_calls g c = turn_calls g (goal.at.returns-then-eq-clause-few_calls g c).After-run_some (Ok tt) c.saturating_add-going.result
 
 pub returns-then-eq-clause-firm : goal.returns-then-eq-clause-firm
 returns-then-eq-clause-firm g c =
@@ -449,6 +488,18 @@ returns-then-eq-clause-keeps g c = λ told job remains.
     let told_s = c.in_ok-made.ensures.leaves.content.before told in
     c.in_ok-made.ensures.keeps told job (first.keeps told_s job (inv.keeps (first.changes.before told_s) job remains))
 
+pub returns-then-eq-clause-owed : goal.returns-then-eq-clause-owed
+returns-then-eq-clause-owed g c =
+    owed_then _ c.save_if_due.new.going.last (g.P.Sweep.accounts.next c.args.sweep.now) (g.P.Sweep.accounts.next c.run_some.new.sweep) (save_owed g (goal.at.returns-then-eq-clause-owed g c).In_ok-save_if_due)
+    (owed_early c.args.going.now.last (g.P.Sweep.accounts.next c.args.sweep.now))
+    (let one = c.turns.invariant.later in let two = c.in_ok-save_if_due.ensures.later in let three = c.in_ok-made.ensures.leaves.later in omega (arith, one, two, three))
+
+pub returns-then-eq-clause-trusts : goal.returns-then-eq-clause-trusts
+returns-then-eq-clause-trusts g c = turn_trusts g (goal.at.returns-then-eq-clause-trusts g c).In_ok-made
+
+pub returns-then-eq-clause-covers : goal.returns-then-eq-clause-covers
+returns-then-eq-clause-covers g c = turn_covers g (goal.at.returns-then-eq-clause-covers g c).After-run_some
+
 pub turns-preserved : goal.turns-preserved
 turns-preserved g c =
     let so_far = c.turns.invariant in
@@ -459,9 +510,7 @@ turns-preserved g c =
       ready = search rules;
       works = search rules;
       in_step = search rules;
-      trusts = λ told trusted.
-          let told_s = ran.leaves.content.before told in
-          ran.trusts told (saved.trusts told_s (so_far.trusts (saved.changes.before told_s) trusted));
+      trusts = turn_trusts g (goal.at.turns-preserved g c).In_ok-made;
       keeps = λ told job remains.
           let told_s = ran.leaves.content.before told in
           ran.keeps told job (saved.keeps told_s job (so_far.keeps (saved.changes.before told_s) job remains));
@@ -475,6 +524,7 @@ turns-preserved g c =
       making = λ f mine. ran.leaves.making f (saved.making f (so_far.making f mine));
       step = ran.leaves.step_is ∙ saved.step ∙ so_far.step;
       later = let one = so_far.later in let two = saved.later in let three = ran.leaves.later in omega (arith, one, two, three);
+      owed = save_owed g (goal.at.turns-preserved g c).In_ok-save_if_due;
       few = λ told job remains.
           let told_s = ran.leaves.content.before told in
           let told_at = saved.changes.before told_s in
@@ -486,15 +536,7 @@ turns-preserved g c =
           c.in_ok-made.made.turns c.in_ok-made.made.turn goes_on (ran.fewer told job (saved.keeps told_s job remains_at)) in
           let same = saved.turns in
           omega (arith, one, two, three, counted, same);
-      covers = λ told covered.
-          let told_s = ran.leaves.content.before told in
-          let told_at = saved.changes.before told_s in
-          let covers_s = subst (λ s. gated_size s (now (g.S.Shelf.world c.save_if_due.new.shelf)).folder ≤ length (file (g.S.Shelf.world c.save_if_due.new.shelf) (checkpoint_file s)).bytes) so_far.going.step_is
-          (saved.covers told_s (subst (λ s. gated_size s (now (g.S.Shelf.world c.turns.shelf)).folder ≤ length (file (g.S.Shelf.world c.turns.shelf) (checkpoint_file s)).bytes) (sym so_far.going.step_is)
-          (so_far.covers told_at covered))) in
-          covers_still (g.P.Sweep.accounts.makes c.save_if_due.new.sweep) (g.P.Sweep.saving.operands (g.P.Sweep.task c.args.sweep.now)) c.args.going.now.step (g.P.Sweep.accounts.next c.save_if_due.new.sweep)
-          (now (g.S.Shelf.world c.save_if_due.new.shelf)) (now (g.S.Shelf.world c.run_some.new.shelf)) (files_then g (goal.at.turns-preserved g c).In_ok-save_if_due)
-          (turn_saved g (goal.at.turns-preserved g c).After-run_some told) covers_s;
+      covers = turn_covers g (goal.at.turns-preserved g c).After-run_some;
       grew = let grew = so_far.grew in let same = saved.turns in omega (arith, grew, same, counted);
       late = λ late.
           let shown = saved_late g.P.Sweep.accounts c.turns.going c.save_if_due.new.going _ _ c.turns.sweep c.save_if_due.new.sweep saved.turns (so_far.late late) saved.parts in

@@ -7,6 +7,7 @@ use Rattle.shelf_model.specs.World.{now, file}
 use Rattle.file_numbers.specs.Files.{checkpoint_file}
 use Rattle.run_tiers.specs.Faults.{OnlySortShelf}
 use Rattle.sweep_checkpoint.specs.Saves.{gated_size}
+use Rattle.sweep_checkpoint.specs.Retires.{first_taken}
 use Rattle.sweep_checkpoint.specs.Going.{IsOfGoing, AreSure, SameGoing, IsPaidTo, interval_of, first_owed}
 use Rattle.sweep_checkpoint.proofs.SavedHere.{AreLeft}
 use Rattle.sweep_checkpoint.proofs.Spent.{SpentOn}
@@ -30,6 +31,7 @@ invariant-turns g l = record {
   making : (f : FileNo) → g.P.Sweep.accounts.makes l.fn.sweep f → g.P.Sweep.accounts.makes l.sweep f;
   step : g.P.Sweep.accounts.step l.sweep ≡ g.P.Sweep.accounts.step l.fn.sweep;
   later : g.P.Sweep.accounts.next l.fn.sweep ≤ g.P.Sweep.accounts.next l.sweep;
+  owed : first_owed l.fn.going.last (g.P.Sweep.accounts.next l.fn.sweep) ≤ first_taken l.going.last;
   few : IsTrue (g.S.Shelf.tells l.shelf) → (job : g.P.Sweep.Job) → g.P.Sweep.remains l.fn.sweep (g.S.Shelf.world l.fn.shelf) job
       → l.going.turns + g.P.Sweep.left l.sweep (g.S.Shelf.world l.shelf) job
       ≤ l.fn.going.turns + g.P.Sweep.left l.fn.sweep (g.S.Shelf.world l.fn.shelf) job;
