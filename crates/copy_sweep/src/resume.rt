@@ -75,6 +75,7 @@ impl Saved {
             (Ran (Stays (now (S.world shelf.old))) (S.world shelf.old) (S.world shelf.new)) }
         ensures calls { IsTrue (S.tells shelf.new) →
             (S.world shelf.new).clock ≤ (S.world shelf.old).clock + 2 }
+        ensures kind { IfErr result (λ e. e ≢ SortFault.RunsSpent) }
         ensures faults { OnlySortShelf (S.faults shelf.old) (S.faults shelf.new) result }
     {
         let whole = shelf.len(self.task.from)?;
@@ -100,6 +101,7 @@ fn cut_behind<S: Shelf>(made: FileNo, kept: u64, shelf: &mut S) -> Result<(), So
     ensures content { Told S.tells shelf.old shelf.new
         (Ran (OnlyBehind made kept (now (S.world shelf.old))) (S.world shelf.old) (S.world shelf.new)) }
     ensures calls { IsTrue (S.tells shelf.new) → (S.world shelf.new).clock ≤ (S.world shelf.old).clock + 2 }
+    ensures kind { IfErr result (λ e. e ≢ SortFault.RunsSpent) }
     ensures faults { OnlySortShelf (S.faults shelf.old) (S.faults shelf.new) result }
 {
     let len = shelf.len(made)?;

@@ -1,3 +1,4 @@
 pub mod NodeReading
 pub mod Staying
 pub mod Roots
+pub mod Spent

@@ -1,5 +1,5 @@
 //! A reading that begins at a place that was saved.
-ghost use Rattle.std.specs.Prelude.{◌≡◌, ◌+◌, ◌-◌, ◌≤◌, ℕ, IsTrue, List, IfOk, IfErr, length, take};
+ghost use Rattle.std.specs.Prelude.{◌≡◌, ◌≢◌, ◌+◌, ◌-◌, ◌≤◌, ℕ, IsTrue, List, IfOk, IfErr, length, take};
 ghost use Rattle.rec_words.specs.declared.node.Node.{Node};
 ghost use Rattle.shelf_model.specs.Calls.{Told};
 ghost use Rattle.shelf_model.specs.Moments.{Ran, Stays};
@@ -54,6 +54,7 @@ pub fn resume_at<'r, S: Shelf>(
     ensures calls { IsTrue (S.tells shelf.new) → (S.world shelf.new).clock
         ≤ (S.world shelf.old).clock + 3
         + loads_of (count_of (reads_of (S.world shelf.old) unread.file) - unread.place) }
+    ensures kind { IfErr result (λ e. e ≢ SortFault.RunsSpent) }
     ensures faults { OnlySortShelf (S.faults shelf.old) (S.faults shelf.new) result }
 {
     let nodes = NodeReader::resume(unread.file, n, unread.place, window, shelf)?;

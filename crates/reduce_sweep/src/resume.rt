@@ -1,5 +1,5 @@
 //! A reduction that is saved between two turns, and goes on from there.
-ghost use Rattle.std.specs.Prelude.{◌≡◌, ℕ, ◌+◌, ◌*◌, ◌≤◌, ◌^◌, IsTrue, OnOk, IfOk, IfErr, length, take};
+ghost use Rattle.std.specs.Prelude.{◌≡◌, ◌≢◌, ℕ, ◌+◌, ◌*◌, ◌≤◌, ◌^◌, IsTrue, OnOk, IfOk, IfErr, length, take};
 ghost use Rattle.shelf_model.specs.Calls.{Told};
 ghost use Rattle.shelf_model.specs.File.{firm_file};
 ghost use Rattle.shelf_model.specs.Moments.{Ran};
@@ -126,6 +126,7 @@ impl Saved {
             (S.world shelf.old) (S.world shelf.new)) }
         ensures calls { IsTrue (S.tells shelf.new) →
             (S.world shelf.new).clock ≤ (S.world shelf.old).clock + 3 }
+        ensures kind { IfErr result (λ e. e ≢ SortFault.RunsSpent) }
         ensures faults { OnlySortShelf (S.faults shelf.old) (S.faults shelf.new) result }
     {
         let writer = NodeWriter::resume(self.out, self.variables, self.kept, window, shelf)?;

@@ -1,12 +1,15 @@
 //! An evaluation that is saved between two turns, and goes on from there.
-ghost use Rattle.std.specs.Prelude.{◌≡◌, ◌↔◌, ◌+◌, ◌≤◌, IsTrue, OnOk, IfErr};
+ghost use Rattle.std.specs.Prelude.{◌≡◌, ◌≢◌, ◌↔◌, ℕ, ◌+◌, ◌^◌, ◌≤◌, IsTrue, OnOk, IfOk, IfErr, length};
+ghost use Rattle.shelf_model.specs.declared.file_no.FileNo.{FileNo};
 ghost use Rattle.shelf_model.specs.Calls.{Told};
 ghost use Rattle.shelf_model.specs.Moments.{Ran, Stays};
 ghost use Rattle.shelf_model.specs.World.{now};
 ghost use Rattle.run_tiers.specs.Faults.{OnlySortShelf};
-ghost use Rattle.sweep_core.specs.Saving.{reads_of};
-ghost use Rattle.restrict_eval.specs.Eval.{IsPlaceAt};
-ghost use Rattle.restrict_eval.specs.EvalResumes.{Fits, Evaluates, KeepsRules, saved_of, IsPassedFault};
+ghost use Rattle.sweep_core.specs.Carries.{OnlyCutBehind};
+ghost use Rattle.sweep_core.specs.Saving.{IsOfStep, reads_of};
+ghost use Rattle.sweep_core.specs.Sweeps.{IsNoDamage};
+ghost use Rattle.restrict_eval.specs.Eval.{accounts, task_of, turns_left, IsReady, IsInStep, Evaluated, OneTable, RemainsOf, IsPlaceAt};
+ghost use Rattle.restrict_eval.specs.EvalResumes.{eval_saving, Fits, Names, Evaluates, RestsOn, StandsFor, Blames, KeepsRules, saved_of, IsPassedFault};
 
 use crate::EvalSweep;
 use crate::following::Following;
@@ -63,6 +66,66 @@ impl<'r> EvalSweep<'r> {
             answer,
         }
     }
+
+    /// The evaluation that goes on from a checkpoint, as `Resume::rebuild` says, at the bits of that text.
+    pub fn rebuild<S: Shelf>(
+        from: &Checkpoint,
+        text: &'r [u8],
+        room: &'r mut [Rec],
+        shelf: &mut S,
+    ) -> Result<EvalSweep<'r>, SortFault>
+        requires fits { Fits from.now text.now }
+        requires room { 16384 ≤ length room.old }
+        ensures ready { IfOk result IsReady }
+        ensures in_step { IfOk result (λ s. IsTrue (S.tells shelf.new) → IsInStep s (S.world shelf.new)) }
+        ensures reads { IfOk result (λ s. s.text.now ≡ text.entry.now) }
+        ensures parts { IfOk result (λ s. (accounts.step s ≡ from.now.step) × (accounts.next s ≡ from.now.next_part)) }
+        ensures files { IfOk result (λ s. IsOfStep (accounts.makes s) (eval_saving.operands (task_of s))
+            (accounts.step s) (accounts.next s)) }
+        ensures operands { IfOk result (λ s. (f : FileNo) → eval_saving.operands (task_of s) f → (n : ℕ) →
+            RestsOn from.now f n) }
+        ensures names { IfOk result (λ s. Names from.now (task_of s)) }
+        ensures text { IfOk result (λ s. Fits from.now (task_of s).text) }
+
+        // what remains
+        ensures remains { IfOk result (λ s. IsTrue (S.tells shelf.new) → (d : OneTable) (turns : ℕ) →
+            StandsFor from.now text.now (reads_of (S.world shelf.old)) d turns →
+            (RemainsOf s (S.world shelf.new) d) × (turns_left s ≤ turns)) }
+        ensures damage { IfErr result (λ e. IsTrue (S.tells shelf.new) → Blames from.now (S.world shelf.old) e) }
+        ensures undamaged { IfErr result (λ e. IsTrue (S.tells shelf.new) → (d : OneTable) (turns : ℕ) →
+            StandsFor from.now text.now (reads_of (S.world shelf.old)) d turns → IsNoDamage e) }
+
+        // what the call leaves, and what it costs
+        ensures content { Told S.tells shelf.old shelf.new
+            (Ran (OnlyCutBehind from.now (RestsOn from.now) (now (S.world shelf.old)))
+            (S.world shelf.old) (S.world shelf.new)) }
+        ensures calls { IsTrue (S.tells shelf.new) → (task : Evaluated) → Names from.now task →
+            (S.world shelf.new).clock
+            ≤ (S.world shelf.old).clock + 2 ^ 20 + eval_saving.reading task (reads_of (S.world shelf.old)) }
+        ensures kind { IfErr result (λ e. e ≢ SortFault.RunsSpent) }
+        ensures faults { OnlySortShelf (S.faults shelf.old) (S.faults shelf.new) result }
+    {
+        let Some(saved) = value_of::<SavedEval>(&from.carry) else {
+            unreachable!();
+        };
+        let Some(state) = saved.following() else {
+            unreachable!();
+        };
+        let nodes = begin_at(saved.unread, saved.n, from.step, room, shelf)?;
+        let count = nodes.trailer().count;
+        passes_some(&state, count, from.step, shelf)?;
+        Ok(EvalSweep {
+            nodes,
+            file: saved.unread.file,
+            text,
+            at: saved.at,
+            state,
+            parts: Parts {
+                step: from.step,
+                next: from.next_part,
+            },
+        })
+    }
 }
 
 impl SavedEval {
@@ -91,6 +154,7 @@ fn passes_some<S: Shelf>(
     ensures content { Told S.tells shelf.old shelf.new
         (Ran (Stays (now (S.world shelf.old))) (S.world shelf.old) (S.world shelf.new)) }
     ensures calls { IsTrue (S.tells shelf.new) → (S.world shelf.new).clock ≤ (S.world shelf.old).clock + 1 }
+    ensures kind { IfErr result (λ e. e ≢ SortFault.RunsSpent) }
     ensures faults { OnlySortShelf (S.faults shelf.old) (S.faults shelf.new) result }
 {
     let Following::Past(place) = *state else {
@@ -122,26 +186,7 @@ impl<'r> Resume<'r> for EvalSweep<'r> {
         room: &'r mut [Rec],
         shelf: &mut S,
     ) -> Result<EvalSweep<'r>, SortFault> {
-        let Some(saved) = value_of::<SavedEval>(&from.carry) else {
-            unreachable!();
-        };
-        let Some(state) = saved.following() else {
-            unreachable!();
-        };
-        let nodes = begin_at(saved.unread, saved.n, from.step, room, shelf)?;
-        let count = nodes.trailer().count;
-        passes_some(&state, count, from.step, shelf)?;
-        Ok(EvalSweep {
-            nodes,
-            file: saved.unread.file,
-            text,
-            at: saved.at,
-            state,
-            parts: Parts {
-                step: from.step,
-                next: from.next_part,
-            },
-        })
+        EvalSweep::rebuild(from, text, room, shelf)
     }
 
     ghost stays = { stays };

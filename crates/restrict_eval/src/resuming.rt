@@ -1,5 +1,5 @@
 //! A reading of a canonical file that begins at a place that was saved.
-ghost use Rattle.std.specs.Prelude.{◌≡◌, ◌+◌, ◌-◌, ◌≤◌, Bool, IsTrue, List, IfOk, IfErr, length, take};
+ghost use Rattle.std.specs.Prelude.{◌≡◌, ◌≢◌, ◌+◌, ◌-◌, ◌≤◌, Bool, IsTrue, List, IfOk, IfErr, length, take};
 ghost use Rattle.shelf_model.specs.Calls.{Told};
 ghost use Rattle.shelf_model.specs.Moments.{Ran, Stays};
 ghost use Rattle.shelf_model.specs.World.{now};
@@ -49,6 +49,7 @@ pub(crate) fn begin_at<'r, S: Shelf>(
     ensures calls { IsTrue (S.tells shelf.new) → (S.world shelf.new).clock
         ≤ (S.world shelf.old).clock + 3
         + loads_of (count_of (reads_of (S.world shelf.old) unread.file) - unread.place) }
+    ensures kind { IfErr result (λ e. e ≢ SortFault.RunsSpent) }
     ensures faults { OnlySortShelf (S.faults shelf.old) (S.faults shelf.new) result }
 {
     // The file of a table holds the table's nodes.

@@ -1,5 +1,5 @@
 //! A comparison that is saved between two turns, and goes on from there.
-ghost use Rattle.std.specs.Prelude.{◌≡◌, ◌↔◌, ◌+◌, ◌*◌, ◌<◌, ◌≤◌, ℕ, Bool, IsTrue, List, OnOk, IfOk, IfErr};
+ghost use Rattle.std.specs.Prelude.{◌≡◌, ◌≢◌, ◌↔◌, ◌+◌, ◌*◌, ◌<◌, ◌≤◌, ℕ, Bool, IsTrue, List, OnOk, IfOk, IfErr};
 ghost use Rattle.shelf_model.specs.Calls.{Told, longest};
 ghost use Rattle.shelf_model.specs.Moments.{Ran, Stays};
 ghost use Rattle.shelf_model.specs.World.{now};
@@ -121,6 +121,7 @@ impl SavedSame {
             (Ran (Stays (now (S.world shelf.old))) (S.world shelf.old) (S.world shelf.new)) }
         ensures calls { IsTrue (S.tells shelf.new) →
             (S.world shelf.new).clock ≤ (S.world shelf.old).clock + 1 }
+        ensures kind { IfErr result (λ e. e ≢ SortFault.RunsSpent) }
         ensures faults { OnlySortShelf (S.faults shelf.old) (S.faults shelf.new) result }
     {
         if let Some(answer) = self.answer {

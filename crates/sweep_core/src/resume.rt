@@ -117,6 +117,7 @@ pub trait Resume<'r>: Sweep<'r> {
             ≤ (S.world shelf.old).clock + 2 ^ 20 + Self.saving.reading task (reads_of (S.world shelf.old)) }
         ensures credit { IfOk result (λ sweep. Self.accounts.credit sweep ≤ 64 * records_named from.now) }
         ensures stock { IfOk result (λ sweep. Self.accounts.stock sweep ≤ 50688) }
+        ensures kind { IfErr result (λ e. e ≢ SortFault.RunsSpent) }
         ensures faults { OnlySortShelf (S.faults shelf.old) (S.faults shelf.new) result };
 
     /// With the fronts that it rests on alone, a checkpoint stands for the same.

@@ -1,5 +1,5 @@
 //! A machine that is rebuilt from what a checkpoint keeps of it.
-ghost use Rattle.std.specs.Prelude.{◌≡◌, ◌+◌, ◌-◌, ◌*◌, ◌<◌, ◌≤◌, ℕ, List, IsTrue, IfOk, IfErr, IfSome, length};
+ghost use Rattle.std.specs.Prelude.{◌≡◌, ◌≢◌, ◌+◌, ◌-◌, ◌*◌, ◌<◌, ◌≤◌, ℕ, List, IsTrue, IfOk, IfErr, IfSome, length};
 ghost use Rattle.rec_words.specs.declared.node.Node.{Node};
 ghost use Rattle.rec_words.specs.Words.{node_size};
 ghost use Rattle.shelf_model.specs.Calls.{Told, longest};
@@ -63,6 +63,7 @@ impl SavedOperand {
             (Ran (Stays (now (S.world shelf.old))) (S.world shelf.old) (S.world shelf.new)) }
         ensures calls { IsTrue (S.tells shelf.new) → (S.world shelf.new).clock ≤ (S.world shelf.old).clock
             + operand_calls (reads_of (S.world shelf.old) self.now.file) }
+        ensures kind { IfErr result (λ e. e ≢ SortFault.RunsSpent) }
         ensures faults { OnlySortShelf (S.faults shelf.old) (S.faults shelf.new) result }
     {
         match self.read {
@@ -97,6 +98,7 @@ impl<'r> Operand<'r> {
             (Ran (Stays (now (S.world shelf.old))) (S.world shelf.old) (S.world shelf.new)) }
         ensures calls { IsTrue (S.tells shelf.new) → (S.world shelf.new).clock ≤ (S.world shelf.old).clock
             + operand_calls (reads_of (S.world shelf.old) file) }
+        ensures kind { IfErr result (λ e. e ≢ SortFault.RunsSpent) }
         ensures faults { OnlySortShelf (S.faults shelf.old) (S.faults shelf.new) result }
     {
         let unread = Unread {
@@ -137,6 +139,7 @@ impl SavedMachine {
             + operand_calls (reads_of (S.world shelf.old) self.now.first.file)
             + operand_calls (reads_of (S.world shelf.old) self.now.second.file)
             + operand_calls (reads_of (S.world shelf.old) self.now.third.file) }
+        ensures kind { IfErr result (λ e. e ≢ SortFault.RunsSpent) }
         ensures faults { OnlySortShelf (S.faults shelf.old) (S.faults shelf.new) result }
     {
         let (front, back) = room.split_at_mut(READING);
@@ -216,6 +219,7 @@ impl<'r> Machine<'r> {
             + operand_calls (reads_of (S.world shelf.old) saved.now.third.file) + 4 }
         ensures credit { IfOk result (λ m. credit m.queue ≤ 64 * tables_left (queue_tables from.now)) }
         ensures stock { IfOk result (λ m. stock m.queue ≤ 5632) }
+        ensures kind { IfErr result (λ e. e ≢ SortFault.RunsSpent) }
         ensures faults { OnlySortShelf (S.faults shelf.old) (S.faults shelf.new) result }
     {
         let (reading, rest) = room.split_at_mut(3 * READING);

@@ -1,10 +1,16 @@
 use Rattle.std.proofs.Common.{◌∙◌, sym, ap, subst, refl, take}
 use Rattle.shelf_model.specs.World.{file}
 use Rattle.node_file.specs.Readers.{AreLeft}
-use Rattle.node_reading.proofs.NodeReading.{looked_same}
+use Rattle.node_reading.proofs.NodeReading.{if_handed, looked_same}
 use Rattle.node_reading.proofs.Roots.{root_read}
+use Rattle.node_reading.proofs.Spent.{not_spent}
 use Rattle.node_reading.proofs.Staying.{looked_stays, stays_on}
 use Rattle.node_reading.proofs.resuming.resume_at.Goals as goal
+
+-- it isn't for want of a part number that they can't be read
+pub returns-in_err-nodes-clause-kind : goal.returns-in_err-nodes-clause-kind
+returns-in_err-nodes-clause-kind g c = if_handed _ c.from_residual.result _ c.from_residual.ensures.1
+    (not_spent c.in_err-nodes.field-0.0)
 
 -- the nodes were read, and the gate was asked for its length
 pub returns-then-place-unread-clause-content : goal.returns-then-place-unread-clause-content

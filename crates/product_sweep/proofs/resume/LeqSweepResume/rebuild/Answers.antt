@@ -25,3 +25,8 @@ returns-in_err-product-clause-undamaged g c = on_fault c.from_residual.result c.
     c.from_residual.ensures.1 (leq_undamaged c.args.from.now c.args.text.now
     (reads_of (g.S.Shelf.world c.args.shelf.now)) (IsTrue (g.S.Shelf.tells c.rebuild.new.shelf))
     c.in_err-product.field-0.0 c.in_err-product.ensures.undamaged)
+
+-- it never lacks a part number
+pub returns-in_err-product-clause-kind : goal.returns-in_err-product-clause-kind
+returns-in_err-product-clause-kind g c = on_fault c.from_residual.result c.in_err-product.field-0.0 _
+    c.from_residual.ensures.1 c.in_err-product.ensures.kind

@@ -24,3 +24,8 @@ returns-in_err-sweep-clause-undamaged g c = on_fault c.from_residual.result c.in
     (top_saving g.O.Carried g.O.Operation.rule g.O.Operation.begins) c.args.from.now c.args.text.now
     (reads_of (g.S.Shelf.world c.args.shelf.now)) (IsTrue (g.S.Shelf.tells c.rebuild.new.shelf))
     c.in_err-sweep.field-0.0 c.in_err-sweep.ensures.undamaged)
+
+-- it never lacks a part number
+pub returns-in_err-sweep-clause-kind : goal.returns-in_err-sweep-clause-kind
+returns-in_err-sweep-clause-kind g c = on_fault c.from_residual.result c.in_err-sweep.field-0.0 _
+    c.from_residual.ensures.1 c.in_err-sweep.ensures.kind

@@ -8,6 +8,7 @@ use Rattle.arc_file.specs.Pairs.{CutBoth}
 use Rattle.arc_file.specs.Writers.{made_of, HoldsArcs}
 use Rattle.level_queue.specs.Tables.{AreTables, ServeTables, NamesAny, TablesList}
 use Rattle.node_reading.proofs.NodeReading.{if_handed}
+use Rattle.node_reading.proofs.Spent.{not_spent}
 use Rattle.sweep_core.specs.Accounts.{CanBeTaken}
 use Rattle.sweep_core.specs.Resting.{made_rests}
 use Rattle.top_down_sweep.specs.declared.machine.Machine.{Machine}
@@ -36,6 +37,10 @@ returns-in_err-operands-clause-undamaged g c = if_handed _ c.from_residual.resul
     (λ told t rule begins tuples turns goes. c.in_err-operands.ensures.undamaged told goes.on_files.roots t.diagrams
     goes.on_files.nodes_are goes.among)
 
+pub returns-in_err-operands-clause-kind : goal.returns-in_err-operands-clause-kind
+returns-in_err-operands-clause-kind g c = if_handed _ c.from_residual.result _ c.from_residual.ensures.1
+    c.in_err-operands.ensures.kind
+
 pub returns-in_err-operands-clause-content : goal.returns-in_err-operands-clause-content
 returns-in_err-operands-clause-content g c =
     let a = c.args.saved.now.arcs in
@@ -56,6 +61,10 @@ returns-in_err-writer-clause-undamaged g c = if_handed _ c.from_residual-in_err-
     arcs_sound x.arcs c.made.result _ _ c.in_err-writer.field-0.0 x.asking t c.args.from.now x tuples turns refl
     c.made.ensures (c.operands.ensures.content.did (c.resume.ensures.content.before told)) goes.goes_on
     (c.in_err-writer.ensures.short told))
+
+pub returns-in_err-writer-clause-kind : goal.returns-in_err-writer-clause-kind
+returns-in_err-writer-clause-kind g c = if_handed _ c.from_residual-in_err-writer.result _
+    c.from_residual-in_err-writer.ensures.1 (not_spent c.in_err-writer.field-0.0)
 
 pub returns-in_err-writer-clause-content : goal.returns-in_err-writer-clause-content
 returns-in_err-writer-clause-content g c =

@@ -1,5 +1,6 @@
 use Rattle.std.proofs.Common.{◌+◌, ◌<◌, ◌∙◌, take, ap, sym, subst, inl, inr, arith}
 use Rattle.node_reading.proofs.NodeReading.{if_handed}
+use Rattle.node_reading.proofs.Spent.{file_not_spent}
 use Rattle.node_reading.proofs.Staying.{looked_stays, stays_on}
 use Rattle.node_reading.specs.Reading.{bytes_of}
 use Rattle.sweep_core.specs.Saving.{reads_of}
@@ -15,6 +16,10 @@ returns-in_err-reader-clause-damage g c = if_handed _ c.from_residual.result _ c
 pub returns-in_err-reader-clause-undamaged : goal.returns-in_err-reader-clause-undamaged
 returns-in_err-reader-clause-undamaged g c = if_handed _ c.from_residual.result _ c.from_residual.ensures.1
     (λ told root nodes has within. c.in_err-reader.ensures.undamaged told root nodes has (omega (arith, within)))
+
+pub returns-in_err-reader-clause-kind : goal.returns-in_err-reader-clause-kind
+returns-in_err-reader-clause-kind g c = if_handed _ c.from_residual.result _ c.from_residual.ensures.1
+    c.in_err-reader.ensures.kind
 
 -- nor the node at hand
 pub returns-in_err-hand-clause-damage : goal.returns-in_err-hand-clause-damage
@@ -39,6 +44,10 @@ returns-in_err-hand-clause-undamaged g c = if_handed _ c.from_residual-in_err-ha
     let xs = take (c.args.place + 1) nodes in
     next_sound c.next_node.new.nodes (bytes_of c.in_ok-reader.reader (g.S.Shelf.world c.resume_at.new.shelf)) xs _
     (gives.items told xs (c.in_ok-reader.ensures.nodes before root nodes has).2))
+
+pub returns-in_err-hand-clause-kind : goal.returns-in_err-hand-clause-kind
+returns-in_err-hand-clause-kind g c = if_handed _ c.from_residual-in_err-hand.result _
+    c.from_residual-in_err-hand.ensures.1 (file_not_spent _ _ c.in_err-hand.ensures.gives.refused)
 
 pub returns-in_err-hand-clause-content : goal.returns-in_err-hand-clause-content
 returns-in_err-hand-clause-content g c = stays_on g.S.Shelf.tells g.S.Shelf.world _ _ _ c.resume_at.ensures.content

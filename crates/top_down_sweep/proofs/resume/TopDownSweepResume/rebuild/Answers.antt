@@ -42,6 +42,10 @@ returns-in_err-machine-clause-undamaged g c = if_handed _ c.from_residual.result
     g.met.O.Carried.long g.met.O.Carried.differ g.O.Operation.rule g.O.Operation.begins
     (reads_of (g.S.Shelf.world c.args.shelf.now)) w.task (length w.tuples) turns stands))
 
+pub returns-in_err-machine-clause-kind : goal.returns-in_err-machine-clause-kind
+returns-in_err-machine-clause-kind g c = if_handed _ c.from_residual.result _ c.from_residual.ensures.1
+    c.in_err-machine.ensures.kind
+
 pub returns-in_err-machine-clause-content : goal.returns-in_err-machine-clause-content
 returns-in_err-machine-clause-content g c =
     let from = c.args.from.now in

@@ -28,6 +28,19 @@ returns-in_err-third-clause-damage g c = if_handed _ c.from_residual-in_err-thir
     OfThird (fault_before c.args.self.now.variables c.args.step x.file x.read _ _ _
     (both.did (c.resume-3.ensures.content.before told)) (c.in_err-third.ensures.damage told)))
 
+-- and never for want of a part number
+pub returns-in_err-first-clause-kind : goal.returns-in_err-first-clause-kind
+returns-in_err-first-clause-kind g c = if_handed _ c.from_residual.result _ c.from_residual.ensures.1
+    c.in_err-first.ensures.kind
+
+pub returns-in_err-second-clause-kind : goal.returns-in_err-second-clause-kind
+returns-in_err-second-clause-kind g c = if_handed _ c.from_residual-in_err-second.result _
+    c.from_residual-in_err-second.ensures.1 c.in_err-second.ensures.kind
+
+pub returns-in_err-third-clause-kind : goal.returns-in_err-third-clause-kind
+returns-in_err-third-clause-kind g c = if_handed _ c.from_residual-in_err-third.result _
+    c.from_residual-in_err-third.ensures.1 c.in_err-third.ensures.kind
+
 -- where the diagrams' nodes are there, it is
 pub returns-in_err-first-clause-undamaged : goal.returns-in_err-first-clause-undamaged
 returns-in_err-first-clause-undamaged g c = if_handed _ c.from_residual.result _ c.from_residual.ensures.1

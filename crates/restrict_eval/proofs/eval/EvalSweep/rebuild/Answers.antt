@@ -15,7 +15,7 @@ use Rattle.restrict_eval.proofs.Canonical.{canonical_stays}
 use Rattle.node_reading.proofs.Staying.{stays_on}
 use Rattle.restrict_eval.proofs.SameSaving.{stays_cut, reads_stay, file_stays}
 use Rattle.restrict_eval.proofs.EvalSaving.{its_file, remains_again, goes_undamaged}
-use Rattle.restrict_eval.proofs.eval_resume.EvalSweepResume.rebuild.Goals as goal
+use Rattle.restrict_eval.proofs.eval.EvalSweep.rebuild.Goals as goal
 
 -- the place that was passed isn't one of the file
 pub returns-in_err-passes_some-clause-damage : goal.returns-in_err-passes_some-clause-damage
