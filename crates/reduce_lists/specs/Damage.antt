@@ -59,7 +59,7 @@ IsDamageAtStart made world Shelf = Unit
 IsDamageAtStart made world (Damaged f at) =
     IsDamagedAt Inner made.inner made.inner_count None world f at
     ⊎ IsDamagedAt End made.ends made.ends_count None world f at
-IsDamageAtStart made world RunsSpent = Unit
+IsDamageAtStart made world RunsSpent = ⊥
 
 -- why a list is refused: a call of the folder failed; a file is damaged whose part was taken; or no part number is left
 abbrev pub IsListCause : Parts → SortFault → Type 0
