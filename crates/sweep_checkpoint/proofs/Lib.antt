@@ -6,5 +6,6 @@ mod Dropped
 pub mod AsBefore
 mod Standing
 mod SavedHere
+mod LeftAlone
 mod WentOn
 mod Spent

@@ -22,6 +22,14 @@ use Rattle.sweep_checkpoint.specs.declared.going.Going.{Going}
 abbrev pub IsOfGoing : (FileNo → Type 0) → ℕ → FileNo → Type 0
 IsOfGoing makes step f = makes f ⊎ ((f.step ≡ step) × (checkpoint_part ≤ f.part))
 
+-- the file is below the runs, and none that the sweep makes, that it may take, or of the step's checkpoints
+pub record IsLeftAlone (makes : FileNo → Type 0) (step next : ℕ) (f : FileNo) : Type 0 where
+  pub unmade : ¬ (makes f)
+  pub untaken : ¬ CanBeTaken step next f
+  pub below : f.part < first_run_part
+  pub not_points : f ≢ checkpoint_file step
+  pub not_gate : f ≢ checkpoint_gate step
+
 -- what a stop leaves agrees with an image of the folder as it was, in all that a checkpoint of then rests on: in the
 -- last one that is gated, in each file that no sweep of the step writes from then on, and in what was sure of those
 -- that this one makes

@@ -11,7 +11,7 @@ ghost use Rattle.sweep_core.specs.Saving.{IsOfStep};
 ghost use Rattle.sweep_core.specs.Sweeps.{IsNoDamage};
 ghost use Rattle.sweep_core.specs.Carries.{OnlySaved};
 ghost use Rattle.sweep_checkpoint.specs.Saves.{gated_size};
-ghost use Rattle.sweep_checkpoint.specs.Going.{IsOfGoing, IsAsBefore, GoesOn, Stands, AreSure, IsShort, SameGoing, SameShown, IsShown, IsPaidTo, interval_of, TakesParts, TakesCalls, WasNotSaved, WasSaved};
+ghost use Rattle.sweep_checkpoint.specs.Going.{IsOfGoing, IsLeftAlone, IsAsBefore, GoesOn, Stands, AreSure, IsShort, SameGoing, SameShown, IsShown, IsPaidTo, interval_of, TakesParts, TakesCalls, WasNotSaved, WasSaved};
 ghost use Rattle.sweep_checkpoint.specs.Retires.{first_taken};
 
 use crate::blank::NO_RUN;
@@ -92,6 +92,9 @@ pub(crate) fn save_if_due<'r, P: Resume<'r>, S: Shelf>(
     ensures changes { Told S.tells shelf.old shelf.new
         (Ran (OnlyChanged (IsOfGoing (P.accounts.makes sweep.old) going.old.step) (now (S.world shelf.old)))
         (S.world shelf.old) (S.world shelf.new)) }
+    ensures alone { IsTrue (S.tells shelf.new) → (f : FileNo) →
+        IsLeftAlone (P.accounts.makes sweep.old) going.old.step (P.accounts.next sweep.old) f →
+        (file (S.world shelf.new) f).bytes ≡ (file (S.world shelf.old) f).bytes }
     ensures images { IsTrue (S.tells shelf.new) → (job : P.Job) → P.remains sweep.old (S.world shelf.old) job →
         AreSure (P.saving.operands (P.task sweep.old)) going.old.step (now (S.world shelf.old)).folder →
         (going.old.turns < 2 ^ 64 - 1 → IsPaidTo P.accounts going.old sweep.old) →

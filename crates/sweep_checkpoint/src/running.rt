@@ -11,7 +11,7 @@ ghost use Rattle.sweep_core.specs.Saving.{IsOfStep};
 ghost use Rattle.sweep_core.specs.Sweeps.{IsFirm, IsNoDamage};
 ghost use Rattle.sweep_core.specs.Carries.{OnlySaved};
 ghost use Rattle.sweep_checkpoint.specs.Saves.{gated_size};
-ghost use Rattle.sweep_checkpoint.specs.Going.{IsOfGoing, IsAsBefore, GoesOn, Stands, AreSure, IsShort, SameGoing, SameShown, IsShown, IsPaidTo, interval_of, first_owed, TakesParts, TakesCalls};
+ghost use Rattle.sweep_checkpoint.specs.Going.{IsOfGoing, IsLeftAlone, IsAsBefore, GoesOn, Stands, AreSure, IsShort, SameGoing, SameShown, IsShown, IsPaidTo, interval_of, first_owed, TakesParts, TakesCalls};
 
 use crate::due::save_if_due;
 use crate::going::Going;
@@ -47,6 +47,7 @@ pub fn run_saved<'r, P: Resume<'r>, S: Shelf>(
     ensures recent { OnOk result (going.new.turns < 2 ^ 61 →
         going.new.turns - going.new.shown ≤ interval_of going.old.budget) }
     ensures made { OnOk result (min (going.old.turns + 1) (2 ^ 64 - 1) ≤ going.new.turns) }
+    ensures grew { OnOk result ((going.old.turns ≤ going.new.turns) × (0 < going.new.turns)) }
     ensures late { going.old.shown ≤ going.old.turns → going.new.shown ≤ going.new.turns }
     ensures shown { OnOk result (IsTrue (S.tells shelf.new) →
         SameShown going.old going.new (now (S.world shelf.old)).folder (now (S.world shelf.new)).folder
@@ -109,6 +110,9 @@ pub fn run_saved<'r, P: Resume<'r>, S: Shelf>(
     ensures changes { Told S.tells shelf.old shelf.new
         (Ran (OnlyChanged (IsOfGoing (P.accounts.makes sweep.old) going.old.step) (now (S.world shelf.old)))
         (S.world shelf.old) (S.world shelf.new)) }
+    ensures alone { IsTrue (S.tells shelf.new) → (f : FileNo) →
+        IsLeftAlone (P.accounts.makes sweep.old) going.old.step (P.accounts.next sweep.old) f →
+        (file (S.world shelf.new) f).bytes ≡ (file (S.world shelf.old) f).bytes }
     ensures images { IsTrue (S.tells shelf.new) → (job : P.Job) → P.remains sweep.old (S.world shelf.old) job →
         AreSure (P.saving.operands (P.task sweep.old)) going.old.step (now (S.world shelf.old)).folder →
         IsPaidTo P.accounts going.old sweep.old →

@@ -1,4 +1,5 @@
-use Rattle.std.proofs.Common.{ℕ, ◌+◌, ◌-◌, ◌^◌, ◌∙◌, ◌<◌, ◌≤◌, IsTrue, length, rules, arith, refl, sym, ap, subst, inr}
+use Rattle.std.proofs.Common.{◌≡◌, ℕ, ◌+◌, ◌-◌, ◌^◌, ◌∙◌, ◌<◌, ◌≤◌, IsTrue, length, rules, arith, refl, sym, ap, subst, inr}
+use Rattle.shelf_model.specs.declared.file_no.FileNo.{FileNo}
 use Rattle.shelf_model.specs.Calls.{Told}
 use Rattle.shelf_model.specs.Moments.{Ran, Throughout, OnlyChanged}
 use Rattle.shelf_model.specs.World.{Moment, now, file}
@@ -9,11 +10,12 @@ use Rattle.sweep_core.specs.Carries.{IsStill}
 use Rattle.sweep_checkpoint.specs.Saves.{gated_size}
 use Rattle.sweep_checkpoint.specs.Retires.{first_taken}
 use Rattle.sweep_checkpoint.specs.declared.going.Going.{Going}
-use Rattle.sweep_checkpoint.specs.Going.{IsOfGoing, IsPaidTo, AreSure, Stands, interval_of, TakesCalls}
+use Rattle.sweep_checkpoint.specs.Going.{IsOfGoing, IsLeftAlone, IsPaidTo, AreSure, Stands, interval_of, TakesCalls}
 use Rattle.sweep_checkpoint.proofs.Spent.{save_calls, paid_point}
 use Rattle.sweep_checkpoint.proofs.Standing.{Ready}
 use Rattle.sweep_checkpoint.proofs.WentOn.{images_none}
 use Rattle.sweep_checkpoint.proofs.SavedHere.{AreLeft, IsCarried, carried_at, images_carry, images_save, images_retire, stands_retire, left_at, save_on, retire_on, works_on, covers_on, ready_by}
+use Rattle.sweep_checkpoint.proofs.LeftAlone.{carry_alone, save_alone, retire_alone}
 use Rattle.sweep_checkpoint.proofs.due.save_if_due.Given as given
 use Rattle.sweep_checkpoint.proofs.due.save_if_due.Goals as goal
 use Rattle.sweep_checkpoint.proofs.due.save_if_due.Goals.{After-since, After-carry, After-save, After-retire}
@@ -45,6 +47,15 @@ module _ (g : given.Over) where
   abbrev Carried : g.row.P.Denot → g.row.S.Denot → g.row.P.Denot → g.row.S.Denot → Checkpoint → Type 0
   Carried sweep old carried mid point = IsCarried g.S.Shelf.tells g.S.Shelf.world (g.P.Sweep.accounts.makes sweep) (g.P.Sweep.saving.operands (g.P.Sweep.task sweep))
       (g.P.Sweep.accounts.next sweep) (g.P.Sweep.accounts.next carried) point old mid
+
+  -- it is left alone by the sweep and its saves
+  abbrev KeptApart : g.row.P.Denot → ℕ → FileNo → Type 0
+  KeptApart sweep step f = IsLeftAlone (g.P.Sweep.accounts.makes sweep) step (g.P.Sweep.accounts.next sweep) f
+
+  -- such files keep their bytes
+  abbrev Alone : g.row.P.Denot → Going → g.row.S.Denot → g.row.S.Denot → Type 0
+  Alone sweep going old new = IsTrue (g.S.Shelf.tells new) → (f : FileNo) → KeptApart sweep going.step f
+      → (file (g.S.Shelf.world new) f).bytes ≡ (file (g.S.Shelf.world old) f).bytes
 
   -- no call was made
   none_images : (c : After-since g) → IsTrue (g.S.Shelf.tells c.args.shelf.now) → (job : g.P.Sweep.Job)
@@ -159,6 +170,30 @@ module _ (g : given.Over) where
       (ready (goal.at.After-retire g c).After-save (c.save.ensures.content.before (c.retire.ensures.content.before told)) job remains sure paid) c.save.ensures.content c.in_ok-save.ensures.ok
       c.retire.ensures.content told)
 
+  -- files that are left alone keep their bytes
+  alone_at : (c : After-carry g) (f : FileNo) → KeptApart c.args.sweep.now c.args.going.now.step f
+      → KeptApart c.args.sweep.now c.carry.new.into.step f
+  alone_at c f alone =
+      subst (λ s. KeptApart c.args.sweep.now s f) (sym c.carry.ensures.head.step_is) alone
+
+  carry_leaves : (c : After-carry g) → Alone c.args.sweep.now c.args.going.now c.args.shelf.now c.carry.new.shelf
+  carry_leaves c = λ told f alone.
+      carry_alone g.S.Shelf.tells g.S.Shelf.world _ _ _ _ c.carry.new.into f c.args.shelf.now c.carry.new.shelf
+      (carried c) told (alone_at c f alone)
+
+  save_leaves : (c : After-save g) → Alone c.args.sweep.now c.args.going.now c.args.shelf.now c.save.new.shelf
+  save_leaves c = λ told f alone.
+      let at = (goal.at.After-save g c).After-carry in
+      save_alone g.S.Shelf.tells g.S.Shelf.world _ _ _ _ c.carry.new.into f c.args.shelf.now c.carry.new.shelf
+      c.save.new.shelf (carried at) c.save.ensures.content told (alone_at at f alone)
+
+  retire_leaves : (c : After-retire g) → Alone c.args.sweep.now c.args.going.now c.args.shelf.now c.retire.new.shelf
+  retire_leaves c = λ told f alone.
+      let at = (goal.at.After-retire g c).After-carry in
+      retire_alone g.S.Shelf.tells g.S.Shelf.world _ _ _ _ c.carry.new.into f _ c.args.shelf.now c.carry.new.shelf
+      c.save.new.shelf c.retire.new.shelf (carried at) c.save.ensures.content c.retire.ensures.content told
+      (alone_at at f alone)
+
   -- the sweep is as it was when it had filled the checkpoint
   still : (c : After-retire g) → IsTrue (g.S.Shelf.tells c.retire.new.shelf)
       → IsStill (g.P.Sweep.in_step c.carry.new.self) (g.P.Sweep.trusts c.carry.new.self) (g.P.Sweep.remains c.carry.new.self) (g.P.Sweep.left c.carry.new.self)
@@ -185,8 +220,15 @@ returns-then-since-interval-clause-images g c = λ told job remains sure paid. n
 pub returns-then-going-ge-TURNS_END-clause-images : goal.returns-then-going-ge-TURNS_END-clause-images
 returns-then-going-ge-TURNS_END-clause-images g c = λ told job remains sure paid. none_images g (goal.at.returns-then-going-ge-TURNS_END-clause-images g c).After-since told job
 
+pub returns-in_err-carry-clause-alone : goal.returns-in_err-carry-clause-alone
+returns-in_err-carry-clause-alone g c = carry_leaves g (goal.at.returns-in_err-carry-clause-alone g c).After-carry
+
 pub returns-in_err-carry-clause-images : goal.returns-in_err-carry-clause-images
 returns-in_err-carry-clause-images g c = λ told job remains sure paid. carry_images g (goal.at.returns-in_err-carry-clause-images g c).After-carry told job
+
+pub returns-then-point-gt-MOST_PARTS-clause-alone : goal.returns-then-point-gt-MOST_PARTS-clause-alone
+returns-then-point-gt-MOST_PARTS-clause-alone g c =
+    carry_leaves g (goal.at.returns-then-point-gt-MOST_PARTS-clause-alone g c).After-carry
 
 pub returns-then-point-gt-MOST_PARTS-clause-images : goal.returns-then-point-gt-MOST_PARTS-clause-images
 returns-then-point-gt-MOST_PARTS-clause-images g c = λ told job remains sure paid. carry_images g (goal.at.returns-then-point-gt-MOST_PARTS-clause-images g c).After-carry told job
@@ -194,11 +236,17 @@ returns-then-point-gt-MOST_PARTS-clause-images g c = λ told job remains sure pa
 pub returns-in_err-save-clause-changes : goal.returns-in_err-save-clause-changes
 returns-in_err-save-clause-changes g c = save_changes g (goal.at.returns-in_err-save-clause-changes g c).After-save
 
+pub returns-in_err-save-clause-alone : goal.returns-in_err-save-clause-alone
+returns-in_err-save-clause-alone g c = save_leaves g (goal.at.returns-in_err-save-clause-alone g c).After-save
+
 pub returns-in_err-save-clause-images : goal.returns-in_err-save-clause-images
 returns-in_err-save-clause-images g c = save_images g (goal.at.returns-in_err-save-clause-images g c).After-save
 
 pub returns-in_err-retire-clause-changes : goal.returns-in_err-retire-clause-changes
 returns-in_err-retire-clause-changes g c = retire_changes g (goal.at.returns-in_err-retire-clause-changes g c).After-retire
+
+pub returns-in_err-retire-clause-alone : goal.returns-in_err-retire-clause-alone
+returns-in_err-retire-clause-alone g c = retire_leaves g (goal.at.returns-in_err-retire-clause-alone g c).After-retire
 
 pub returns-in_err-retire-clause-images : goal.returns-in_err-retire-clause-images
 returns-in_err-retire-clause-images g c = retire_images g (goal.at.returns-in_err-retire-clause-images g c).After-retire
@@ -208,6 +256,9 @@ returns-in_err-retire-clause-calls g c = retire_calls g (goal.at.returns-in_err-
 
 pub returns-clause-changes : goal.returns-clause-changes
 returns-clause-changes g c = retire_changes g (goal.at.returns-clause-changes g c).After-retire
+
+pub returns-clause-alone : goal.returns-clause-alone
+returns-clause-alone g c = retire_leaves g (goal.at.returns-clause-alone g c).After-retire
 
 pub returns-clause-images : goal.returns-clause-images
 returns-clause-images g c = retire_images g (goal.at.returns-clause-images g c).After-retire

@@ -1,5 +1,6 @@
 use Rattle.std.proofs.Common.{◌≡◌, ◌≢◌, ℕ, ◌^◌, ◌+◌, ◌-◌, ◌∙◌, ◌<◌, ◌≤◌, IsTrue, length, min, max, rules, arith, refl, sym, ap, subst, inl, inr}
 use Rattle.std.specs.Prelude.{Result, Ok}
+use Rattle.shelf_model.specs.declared.file_no.FileNo.{FileNo}
 use Rattle.shelf_model.specs.declared.sort_fault.SortFault.{SortFault}
 use Rattle.shelf_model.specs.Calls.{Told}
 use Rattle.shelf_model.specs.Moments.{Ran, Throughout, OnlyChanged}
@@ -16,9 +17,10 @@ use Rattle.sweep_checkpoint.specs.Gated.{present, last_gated}
 use Rattle.sweep_checkpoint.specs.Saves.{gated_size}
 use Rattle.sweep_checkpoint.specs.Retires.{first_taken}
 use Rattle.sweep_checkpoint.specs.declared.going.Going.{Going}
-use Rattle.sweep_checkpoint.specs.Going.{IsOfGoing, AreSure, IsPaidTo, interval_of, first_owed}
+use Rattle.sweep_checkpoint.specs.Going.{IsOfGoing, IsLeftAlone, AreSure, IsPaidTo, interval_of, first_owed}
 use Rattle.sweep_checkpoint.proofs.AsBefore.{of_step_later, of_step_as}
 use Rattle.sweep_checkpoint.proofs.SavedHere.{AreLeft}
+use Rattle.sweep_checkpoint.proofs.LeftAlone.{alone_later, alone_saved}
 use Rattle.sweep_checkpoint.proofs.Spent.{SpentOn, spent_none, spent_save, spent_turns, owed_save, owed_then, spent_saves, refused_save, refused_turns, saved_late, Known, known_save, known_turns, saved_within, paid_save, paid_turns, owed_late, owed_early}
 use Rattle.sweep_checkpoint.proofs.WentOn.{Stage, SaysLast, own_saved, gated_still, says_then, covers_still, where_ended, fell_ended, fell_more, images_none, images_on, stage_save, stage_turns, left_of, come_of, sure_of, turns_on, saved_none}
 use Rattle.sweep_checkpoint.proofs.running.run_saved.Given as given
@@ -34,6 +36,12 @@ module _ (g : given.Over) where
   -- no others changed
   abbrev Changed : g.row.P.Denot → Going → g.row.S.Denot → g.row.S.Denot → Type 0
   Changed sweep going old new = Told g.S.Shelf.tells old new (Ran (OnlyChanged (IsOfGoing (g.P.Sweep.accounts.makes sweep) going.step) (now (g.S.Shelf.world old))) (g.S.Shelf.world old) (g.S.Shelf.world new))
+
+  -- files that are left alone keep their bytes
+  abbrev Alone : g.row.P.Denot → Going → g.row.S.Denot → g.row.S.Denot → Type 0
+  Alone sweep going old new = IsTrue (g.S.Shelf.tells new) → (f : FileNo)
+      → IsLeftAlone (g.P.Sweep.accounts.makes sweep) going.step (g.P.Sweep.accounts.next sweep) f
+      → (file (g.S.Shelf.world new) f).bytes ≡ (file (g.S.Shelf.world old) f).bytes
 
   -- the gate and its operands are sure
   abbrev Sure : g.row.P.Denot → Going → g.row.S.Denot → Type 0
@@ -69,6 +77,18 @@ module _ (g : given.Over) where
       (g.S.Shelf.world c.save_if_due.new.shelf))) inv.going.step_is c.save_if_due.ensures.changes in
       told_changed_then g.S.Shelf.tells g.S.Shelf.world (IsOfGoing (g.P.Sweep.accounts.makes c.args.sweep.now) step) (IsOfGoing made_at step) c.args.shelf.now c.turns.shelf c.save_if_due.new.shelf
       (λ f is. elim is [ inl mine ↦ inl (inv.made f mine) | inr rest ↦ inr rest ]) inv.changes saves
+
+  save_alone : (c : After-save_if_due g)
+      → Alone c.args.sweep.now c.args.going.now c.args.shelf.now c.save_if_due.new.shelf
+  save_alone c = λ told f alone.
+      let inv = c.turns.invariant in
+      let makes_at = g.P.Sweep.accounts.makes c.turns.sweep in
+      let next_at = g.P.Sweep.accounts.next c.turns.sweep in
+      c.save_if_due.ensures.alone told f
+      (subst (λ s. IsLeftAlone makes_at s next_at f) (sym inv.going.step_is)
+      (alone_later (g.P.Sweep.accounts.makes c.args.sweep.now) makes_at c.args.going.now.step
+      (g.P.Sweep.accounts.next c.args.sweep.now) next_at f inv.made inv.later alone))
+      ∙ inv.alone (c.save_if_due.ensures.changes.before told) f alone
 
   -- the gate and the operands are sure where the save begins
   sure_at : (c : After-save_if_due g) → IsTrue (g.S.Shelf.tells c.turns.shelf) → (job : g.P.Sweep.Job) → g.P.Sweep.remains c.args.sweep.now (g.S.Shelf.world c.args.shelf.now) job
@@ -235,6 +255,22 @@ module _ (g : given.Over) where
       (OnlyOwn (g.P.Sweep.accounts.makes c.save_if_due.new.sweep) (g.P.Sweep.accounts.step c.save_if_due.new.sweep) (g.P.Sweep.accounts.next c.save_if_due.new.sweep) (now (g.S.Shelf.world c.save_if_due.new.shelf)))
       (c.run_some.ensures.leaves.content.did told)))
 
+  turn_alone : (c : After-run_some g)
+      → Alone c.args.sweep.now c.args.going.now c.args.shelf.now c.run_some.new.shelf
+  turn_alone c = λ told f alone.
+      let at = (goal.at.After-run_some g c).After-save_if_due in
+      let inv = c.turns.invariant in
+      let first = c.in_ok-save_if_due.ensures in
+      let step = c.args.going.now.step in
+      let makes_at = g.P.Sweep.accounts.makes c.save_if_due.new.sweep in
+      let next_at = g.P.Sweep.accounts.next c.save_if_due.new.sweep in
+      alone_saved makes_at step next_at f (now (g.S.Shelf.world c.save_if_due.new.shelf))
+      (now (g.S.Shelf.world c.run_some.new.shelf)) (turn_saved c told)
+      (alone_later (g.P.Sweep.accounts.makes c.args.sweep.now) makes_at step (g.P.Sweep.accounts.next c.args.sweep.now)
+      next_at f (λ q mine. inv.made q (first.made q mine))
+      (let one = inv.later in let two = first.later in omega (arith, one, two)) alone)
+      ∙ save_alone at (c.run_some.ensures.leaves.content.before told) f alone
+
   -- what is said of the last checkpoint, once turns were made
   turn_says : (c : After-run_some g) → IsTrue (g.S.Shelf.tells c.run_some.new.shelf) → (turns : ℕ)
       → SaysLast c.args.going.now (record c.save_if_due.new.going { turns = turns }) (now (g.S.Shelf.world c.args.shelf.now)).folder (now (g.S.Shelf.world c.run_some.new.shelf)).folder
@@ -370,6 +406,7 @@ turns-init g c =
           c.args.going.now (IsTrue (g.S.Shelf.tells c.args.shelf.now)) (g.S.Shelf.world c.args.shelf.now) c.args.sweep.now refl refl;
       says = λ told. inl (record { shown_is = refl; last_is = refl; gated_is = refl });
       changes = told_changed_none g.S.Shelf.tells g.S.Shelf.world (IsOfGoing made c.args.going.now.step) c.args.shelf.now;
+      alone = λ told f alone. refl;
       images = λ told job remains sure paid. images_none g.P.Sweep.saving laws.stays laws.apart made read c.args.going.now.step next c.args.going.now.budget c.args.going.now.sweep (g.P.Sweep.task c.args.sweep.now) job
           (c.args.going.now.turns + g.P.Sweep.left c.args.sweep.now (g.S.Shelf.world c.args.shelf.now) job) (g.S.Shelf.world c.args.shelf.now) (g.met.S.Shelf.files_are c.args.shelf.now told)
           (subst (λ s. IsOfStep made read s next) (sym c.requires.step) c.requires.files);
@@ -379,6 +416,10 @@ turns-init g c =
 
 pub returns-in_err-save_if_due-clause-changes : goal.returns-in_err-save_if_due-clause-changes
 returns-in_err-save_if_due-clause-changes g c = save_changes g (goal.at.returns-in_err-save_if_due-clause-changes g c).After-save_if_due
+
+pub returns-in_err-save_if_due-clause-alone : goal.returns-in_err-save_if_due-clause-alone
+returns-in_err-save_if_due-clause-alone g c =
+    save_alone g (goal.at.returns-in_err-save_if_due-clause-alone g c).After-save_if_due
 
 pub returns-in_err-save_if_due-clause-images : goal.returns-in_err-save_if_due-clause-images
 returns-in_err-save_if_due-clause-images g c = save_images g (goal.at.returns-in_err-save_if_due-clause-images g c).After-save_if_due
@@ -405,8 +446,23 @@ returns-in_err-save_if_due-clause-few_calls g c = λ told job remains.
     (owed_late c.args.going.now.last (g.P.Sweep.accounts.next c.args.sweep.now)) (omega arith) inv.later first.later first.changes.before (omega (arith, few)) first.refused.1 (ap interval_of inv.going.budget_is)
     (inv.calls told_at job remains) first.takes first.calls told
 
+-- a save that was refused says so where the gated checkpoints are all there
+pub returns-in_err-save_if_due-clause-covered : goal.returns-in_err-save_if_due-clause-covered
+returns-in_err-save_if_due-clause-covered g c =
+    on_fault c.from_residual.result c.in_err-save_if_due.field-0.0 _ c.from_residual.ensures.1 (λ told trusted covered.
+    let inv = c.turns.invariant in
+    let first = c.in_err-save_if_due.ensures in
+    let told_at = first.changes.before told in
+    let world_at = g.S.Shelf.world c.turns.shelf in
+    first.covered told (inv.trusts told_at trusted)
+    (subst (λ s. gated_size s (now world_at).folder ≤ length (file world_at (checkpoint_file s)).bytes)
+    (sym inv.going.step_is) (inv.covers told_at covered)))
+
 pub returns-in_err-made-clause-changes : goal.returns-in_err-made-clause-changes
 returns-in_err-made-clause-changes g c = turn_changes g (goal.at.returns-in_err-made-clause-changes g c).After-run_some
+
+pub returns-in_err-made-clause-alone : goal.returns-in_err-made-clause-alone
+returns-in_err-made-clause-alone g c = turn_alone g (goal.at.returns-in_err-made-clause-alone g c).After-run_some
 
 pub returns-in_err-made-clause-images : goal.returns-in_err-made-clause-images
 returns-in_err-made-clause-images g c = λ told job remains sure paid. (turn_stage g (goal.at.returns-in_err-made-clause-images g c).After-run_some told job remains sure paid).images
@@ -424,6 +480,17 @@ returns-in_err-made-clause-refused g c =
     c.save_if_due.new.going _ _ _ (g.S.Shelf.world c.args.shelf.now) (g.S.Shelf.world c.save_if_due.new.shelf) (g.S.Shelf.world c.run_some.new.shelf) c.args.sweep.now c.save_if_due.new.sweep c.run_some.new.sweep
     (owed_late c.args.going.now.last (g.P.Sweep.accounts.next c.args.sweep.now)) (omega (arith, most_is)) refl ran.leaves.later ran.leaves.content.before
     (save_spent g (goal.at.returns-in_err-made-clause-refused g c).In_ok-save_if_due) ran.leaves.calls
+
+pub returns-in_err-made-clause-undamaged : goal.returns-in_err-made-clause-undamaged
+returns-in_err-made-clause-undamaged g c =
+    on_fault c.from_residual-in_err-made.result c.in_err-made.field-0.0 _ c.from_residual-in_err-made.ensures.1
+    (λ told job remains covered.
+    let inv = c.turns.invariant in
+    let first = c.in_ok-save_if_due.ensures in
+    let ran = c.in_err-made.ensures in
+    let told_s = ran.leaves.content.before told in
+    let remains_at = inv.keeps (first.changes.before told_s) job remains in
+    ran.undamaged told job (first.keeps told_s job remains_at))
 
 -- a turn that was refused for damage says so of the sweep
 pub returns-in_err-made-clause-covered : goal.returns-in_err-made-clause-covered
@@ -463,6 +530,9 @@ returns-then-eq-clause-few g c =
 
 pub returns-then-eq-clause-changes : goal.returns-then-eq-clause-changes
 returns-then-eq-clause-changes g c = turn_changes g (goal.at.returns-then-eq-clause-changes g c).After-run_some
+
+pub returns-then-eq-clause-alone : goal.returns-then-eq-clause-alone
+returns-then-eq-clause-alone g c = turn_alone g (goal.at.returns-then-eq-clause-alone g c).After-run_some
 
 pub returns-then-eq-clause-images : goal.returns-then-eq-clause-images
 returns-then-eq-clause-images g c = λ told job remains sure paid. (turn_stage g (goal.at.returns-then-eq-clause-images g c).After-run_some told job remains sure paid).images
@@ -561,6 +631,7 @@ turns-preserved g c =
           (save_calls g (goal.at.turns-preserved g c).In_ok-save_if_due told_s job remains);
       says = λ told. turn_says g (goal.at.turns-preserved g c).After-run_some told c.saturating_add-going.result;
       changes = turn_changes g (goal.at.turns-preserved g c).After-run_some;
+      alone = turn_alone g (goal.at.turns-preserved g c).After-run_some;
       images = λ told job remains sure paid. (turn_stage g (goal.at.turns-preserved g c).After-run_some told job remains sure paid).images;
       come = λ told job remains sure paid. (turn_stage g (goal.at.turns-preserved g c).After-run_some told job remains sure paid).come;
       faults = search rules;

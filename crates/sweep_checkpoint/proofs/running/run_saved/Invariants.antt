@@ -8,7 +8,7 @@ use Rattle.file_numbers.specs.Files.{checkpoint_file}
 use Rattle.run_tiers.specs.Faults.{OnlySortShelf}
 use Rattle.sweep_checkpoint.specs.Saves.{gated_size}
 use Rattle.sweep_checkpoint.specs.Retires.{first_taken}
-use Rattle.sweep_checkpoint.specs.Going.{IsOfGoing, AreSure, SameGoing, IsPaidTo, interval_of, first_owed}
+use Rattle.sweep_checkpoint.specs.Going.{IsOfGoing, IsLeftAlone, AreSure, SameGoing, IsPaidTo, interval_of, first_owed}
 use Rattle.sweep_checkpoint.proofs.SavedHere.{AreLeft}
 use Rattle.sweep_checkpoint.proofs.Spent.{SpentOn}
 use Rattle.sweep_checkpoint.proofs.WentOn.{HasCome, SaysLast}
@@ -55,6 +55,9 @@ invariant-turns g l = record {
   says : IsTrue (g.S.Shelf.tells l.shelf) → SaysLast l.fn.going l.going (now (g.S.Shelf.world l.fn.shelf)).folder (now (g.S.Shelf.world l.shelf)).folder;
   changes : Told g.S.Shelf.tells l.fn.shelf l.shelf (Ran (OnlyChanged (IsOfGoing (g.P.Sweep.accounts.makes l.fn.sweep) l.fn.going.step)
       (now (g.S.Shelf.world l.fn.shelf))) (g.S.Shelf.world l.fn.shelf) (g.S.Shelf.world l.shelf));
+  alone : IsTrue (g.S.Shelf.tells l.shelf) → (f : FileNo)
+      → IsLeftAlone (g.P.Sweep.accounts.makes l.fn.sweep) l.fn.going.step (g.P.Sweep.accounts.next l.fn.sweep) f
+      → (file (g.S.Shelf.world l.shelf) f).bytes ≡ (file (g.S.Shelf.world l.fn.shelf) f).bytes;
   images : IsTrue (g.S.Shelf.tells l.shelf) → (job : g.P.Sweep.Job) → g.P.Sweep.remains l.fn.sweep (g.S.Shelf.world l.fn.shelf) job
       → AreSure (g.P.Sweep.saving.operands (g.P.Sweep.task l.fn.sweep)) l.fn.going.step (now (g.S.Shelf.world l.fn.shelf)).folder
       → IsPaidTo g.P.Sweep.accounts l.fn.going l.fn.sweep
