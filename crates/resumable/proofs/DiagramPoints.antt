@@ -33,6 +33,7 @@ module _ (operation : StepOperation) (n : ℕ) (operands : OperandFiles) (number
       record {
         from = q.from;
         operand = q.operand;
+        form = q.form;
         turns = q.turns;
         goes_on = goes_still copy_saving 0 diagram_rests copies_local number budget (copy_of q.from number bytes) bytes
             q.turns c old new is last same q.goes_on;
@@ -56,6 +57,7 @@ module _ (operation : StepOperation) (n : ℕ) (operands : OperandFiles) (number
       record {
         from = q.from;
         operand = q.operand;
+        form = q.form;
         goes = goes_from copy_saving number budget 0 (copy_of q.from number bytes) bytes q.turns r q.goes_on;
         few = omega (arith, within, few);
       }

@@ -39,12 +39,13 @@ module _ (operation : StepOperation) (n : ℕ) (operands : OperandFiles) (number
     (r : FileNo → List ℕ) where
   -- the copy of an operand whose bytes are those of the step's table
   pub copy_goes : (from : FileNo) → (from ≡ operands.first) ⊎ (from ≡ operands.second)
-      → GoesOn copy_saving number budget 0 (copy_of from number (canon_bytes n (made_by operation n g)))
+      → HasForm n (made_by operation n g) → GoesOn copy_saving number budget 0 (copy_of from number (canon_bytes n (made_by operation n g)))
       (canon_bytes n (made_by operation n g)) turns r → turns < work_by operation n g
       → DiagramGoesOn operation n operands number budget g r
-  copy_goes from operand goes few = inl (record {
+  copy_goes from operand form goes few = inl (record {
     from = from;
     operand = operand;
+    form = form;
     turns = turns;
     goes_on = goes;
     few = few;

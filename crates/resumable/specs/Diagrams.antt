@@ -73,12 +73,13 @@ arcs_of n operands number = record {
 abbrev pub copy_of : FileNo → ℕ → List ℕ → CopyTask
 copy_of from number bytes = record { from = from; to = node_file number; pieces = pieces (length bytes) }
 
--- an operand's file, whose bytes are those of the step's table, is copied. The turns that were made, those that remain
--- and the one that ends the copy are within the step's work
+-- an operand's file, whose bytes are those of the step's table, which has a canonical form, is copied. The turns that
+-- were made, those that remain and the one that ends the copy are within the step's work
 pub record CopyGoesOn (operation : StepOperation) (n : ℕ) (operands : OperandFiles) (number budget : ℕ) (g : Tables)
     (r : FileNo → List ℕ) : Type 0 where
   pub from : FileNo
   pub operand : (from ≡ operands.first) ⊎ (from ≡ operands.second)
+  pub form : HasForm n (made_by operation n g)
   pub turns : ℕ
   pub goes_on : GoesOn copy_saving number budget 0 (copy_of from number (canon_bytes n (made_by operation n g)))
       (canon_bytes n (made_by operation n g)) turns r

@@ -45,6 +45,7 @@ module _ (operation : StepOperation) (n : ℕ) (operands : OperandFiles) (number
   pub record CopiesFrom : Type 0 where
     pub from : FileNo
     pub operand : (from ≡ operands.first) ⊎ (from ≡ operands.second)
+    pub form : HasForm n (made_by operation n g)
     pub goes : IsFrom copy_saving number budget 0 (copy_of from number (canon_bytes n (made_by operation n g)))
         (canon_bytes n (made_by operation n g)) r c
     pub few : c.turns + goes.left < work_by operation n g

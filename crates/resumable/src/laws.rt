@@ -86,6 +86,7 @@ pub fn what_goes_on_is_resumable()
 pub fn a_sweep_of_a_diagram_goes_on()
     ensures copy { (operation : StepOperation) (n : ℕ) (operands : OperandFiles) (number budget turns : ℕ) (g : Tables)
         (from : FileNo) (r : FileNo → List ℕ) → (from ≡ operands.first) ⊎ (from ≡ operands.second) →
+        HasForm n (made_by operation n g) →
         GoesOn copy_saving number budget 0 (copy_of from number (canon_bytes n (made_by operation n g)))
         (canon_bytes n (made_by operation n g)) turns r →
         turns < work_by operation n g → DiagramGoesOn operation n operands number budget g r }
