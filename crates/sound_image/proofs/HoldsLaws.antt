@@ -1,13 +1,13 @@
 -- A folder that holds a job's first steps has only sound images, and the other way round.
-use Rattle.std.proofs.Common.{◌≡◌, ◌∙◌, ℕ, zero, suc, ◌+◌, ◌-◌, ◌*◌, ◌<◌, ◌≤◌, min, List, [], length, take, drop, sym, ap, subst, inl, inr, arith}
+use Rattle.std.proofs.Common.{◌≡◌, ◌∙◌, ℕ, zero, suc, ◌+◌, ◌-◌, ◌*◌, ◌<◌, ◌≤◌, min, List, length, take, drop, sym, ap, subst, inl, inr, arith}
 use Rattle.std.specs.Prelude.{IsTrue}
 use Rattle.std.proofs.lemmas.List.{take-take, length-take, length-take-le, length-drop, drop-take}
 use Rattle.bool_tables.specs.Plans.{is_live}
 use Rattle.shelf_model.specs.declared.file_no.FileNo.{FileNo}
-use Rattle.shelf_model.specs.File.{File, firm_file, no_file, IsLeft}
+use Rattle.shelf_model.specs.File.{File, firm_file, IsLeft}
 use Rattle.shelf_model.specs.Folder.{Folder, Image, file_in, bytes_in, IsImage, AreFiles}
 use Rattle.shelf_model.proofs.Files.{only_image, same_image, kept_left}
-use Rattle.shelf_model.proofs.Images.{chosen, each_left, left_of_none, length_is_all, shortest_left, standing_left, standing_image}
+use Rattle.shelf_model.proofs.Images.{chosen, each_left, shortest_left, standing_left, standing_image}
 use Rattle.catalogue.specs.declared.layout.Entry.{Entry}
 use Rattle.catalogue.specs.Files.{job_file, catalogue}
 use Rattle.catalogue.specs.Counts.{HasCount}
@@ -15,10 +15,11 @@ use Rattle.catalogue.specs.Commits.{IsReady}
 use Rattle.catalogue.specs.Entries.{entry_bytes}
 use Rattle.catalogue.proofs.Counted.{ready_counts}
 use Rattle.catalogue.proofs.Places.{length_entry}
-use Rattle.sound_image.specs.Files.{node_file, checkpoint_gate}
+use Rattle.sound_image.specs.Files.{node_file}
 use Rattle.sound_image.specs.Jobs.{Job, file_of}
 use Rattle.sound_image.specs.Entries.{IsEntryOfStep}
-use Rattle.sound_image.specs.Sound.{ShowsSteps}
+use Rattle.sound_image.specs.Sound.{ShowsSteps, IsResumableAt}
+use Rattle.sound_image.proofs.Resuming.{all_sure}
 use Rattle.sound_image.specs.Holds.{KeepsEntries, Holds, AreSound, HaveCount}
 
 -- what stands at an entry's place is what its front has there
@@ -55,7 +56,8 @@ holds_sound job count folder holds image is_image =
         forms = λ s live. holds.forms s (subst (λ c. IsTrue (is_live (take c job.steps) s)) counted.count live);
       });
       resumable = record {
-        no_checkpoint = λ s within. left_of_none (r (checkpoint_gate s)) (same_image folder image (checkpoint_gate s) no_file (holds.gates s within) is_image);
+        unstored = λ none. absurd (let stored = counted.stored in cc);
+        goes_on = subst (λ c. IsResumableAt job c r) (sym counted.count) (holds.resumable image is_image);
       };
     }
 
@@ -120,14 +122,6 @@ module _ (job : Job) (count : ℕ) (folder : Folder) (files : AreFiles folder) (
             (found.0, found.1, sym (entry_in_front k count (take (128 * count) x.bytes) x.bytes size below (ap (λ c. take c x.bytes) size)) ∙ found.2);
       }
 
-  -- a file of which every image has the same bytes
-  all_sure : (f : FileNo) (bytes : List ℕ) → ((image : Image) → IsImage folder image → bytes_in image f ≡ bytes) → file_in folder f ≡ firm_file bytes
-  all_sure f bytes same =
-      let all = length_is_all folder f (length bytes) files (λ image is_image. ap length (same image is_image)) in
-      let there : (file_in folder f).bytes ≡ bytes =
-      each_left folder f (λ left. left ≡ bytes) files same (file_in folder f).bytes (standing_left (file_in folder f) (files f)) in
-      all.0 ∙ ap firm_file there
-
   pub held : file_in folder job_file ≡ firm_file job.bytes → Holds job count folder
   held job_is = record {
     job_is = job_is;
@@ -135,10 +129,10 @@ module _ (job : Job) (count : ℕ) (folder : Folder) (files : AreFiles folder) (
     few = let image : Image = chosen (λ _ x. x.bytes) folder in
         subst (λ c. c ≤ length job.steps) (counts image (standing_image folder files)) (shows image (standing_image folder files)).few;
     entries = keeps;
-    files = λ s live. all_sure (node_file s) (file_of job s) (λ image is_image.
+    files = λ s live. all_sure folder files (node_file s) (file_of job s) (λ image is_image.
         (shows image is_image).files s (subst (λ c. IsTrue (is_live (take c job.steps) s)) (sym (counts image is_image)) live));
     forms = λ s live. let image : Image = chosen (λ _ x. x.bytes) folder in
         (shows image (standing_image folder files)).forms s
         (subst (λ c. IsTrue (is_live (take c job.steps) s)) (sym (counts image (standing_image folder files))) live);
-    gates = λ s within. all_sure (checkpoint_gate s) [] (λ image is_image. (sound image is_image).resumable.no_checkpoint s within);
+    resumable = λ image is_image. subst (λ c. IsResumableAt job c (bytes_in image)) (counts image is_image) (sound image is_image).resumable.goes_on;
   }

@@ -1,4 +1,5 @@
 pub mod Numbers
+pub mod Resuming
 pub mod HoldsLaws
 pub mod Live
 pub mod StepLaws

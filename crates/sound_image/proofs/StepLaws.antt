@@ -5,11 +5,10 @@ use Rattle.std.proofs.lemmas.List.{take_at, drop_at, take_all}
 use Rattle.std.proofs.lemmas.Bool.{cases_lt}
 use Rattle.bool_tables.specs.Plans.{is_live, drops}
 use Rattle.shelf_model.specs.declared.file_no.FileNo.{FileNo}
-use Rattle.shelf_model.specs.File.{File, firm_file, no_file, IsKept}
-use Rattle.shelf_model.specs.Folder.{Folder, Image, file_in, bytes_in, IsImage}
+use Rattle.shelf_model.specs.File.{File, firm_file, IsKept}
+use Rattle.shelf_model.specs.Folder.{Folder, Image, file_in, bytes_in, IsImage, AreFiles}
 use Rattle.shelf_model.specs.World.{Moment}
 use Rattle.shelf_model.proofs.Files.{only_image, same_image, kept_left}
-use Rattle.shelf_model.proofs.Images.{left_of_none}
 use Rattle.catalogue.specs.declared.layout.Entry.{Entry}
 use Rattle.catalogue.specs.Files.{job_step, job_file, job_gate, catalogue, step_gate}
 use Rattle.catalogue.specs.Counts.{is_stored, count_in, entry_at}
@@ -22,26 +21,19 @@ use Rattle.canon_file.specs.Laws.{HasForm}
 use Rattle.step_work.specs.Plans.{no_step}
 use Rattle.sound_image.specs.Jobs.{Job, table_at, file_of, step_at}
 use Rattle.sound_image.specs.Entries.{IsEntryOfStep}
-use Rattle.sound_image.specs.Sound.{IsSound}
-use Rattle.sound_image.specs.Holds.{Holds, IsMade}
+use Rattle.sound_image.specs.Sound.{IsSound, IsResumableAt}
+use Rattle.sound_image.specs.Holds.{Holds, IsMade, AreResumable, NoneGated}
 use Rattle.sound_image.specs.Steps.{IsOwnFile, OnlyOwnFiles, IsCutBy, IsTidied}
 use Rattle.sound_image.proofs.Numbers.{IsOfStep, node_of_step, gate_of_step, not_catalogue, not_step_gate}
 use Rattle.sound_image.proofs.HoldsLaws.{entry_in_front}
+use Rattle.sound_image.proofs.Resuming.{AreFew, RestsOnSteps, early, none_resumes, none_next, none_gated_resumes, none_behind, resumable_kept}
 use Rattle.sound_image.proofs.Live.{live_below, live_earlier, live_last, live_undropped}
 
--- few enough steps that their numbers are none of the job's files
-abbrev pub AreFew : Job → Type 0
-AreFew job = length job.steps ≤ 1048576
-
-early : (job : Job) (s : ℕ) → AreFew job → s < length job.steps → s < job_step
-early job s few within = omega (arith, few, within)
-
--- the files of the job stay, and so do those of the diagrams that are live after so many steps; the gates of checkpoints
--- that are empty stay so
+-- the files of the job stay, and so do those of the diagrams that are live after so many steps; and a run can go on
 pub record KeepsHeld (job : Job) (count : ℕ) (old new : Folder) : Type 0 where
   pub of_job : (f : FileNo) → f.step ≡ job_step → file_in new f ≡ file_in old f
   pub nodes : (s : ℕ) → IsTrue (is_live (take count job.steps) s) → file_in new (node_file s) ≡ file_in old (node_file s)
-  pub gates : (s : ℕ) → s < length job.steps → file_in old (checkpoint_gate s) ≡ no_file → file_in new (checkpoint_gate s) ≡ no_file
+  pub resumable : AreResumable job count new
 
 -- then the steps so far are held
 pub holds_kept : (job : Job) (count : ℕ) (old new : Folder) → Holds job count old → KeepsHeld job count old new → Holds job count new
@@ -66,37 +58,36 @@ holds_kept job count old new holds keeps =
       };
       files = λ s live. keeps.nodes s live ∙ holds.files s live;
       forms = holds.forms;
-      gates = λ s inside. keeps.gates s inside (holds.gates s inside);
+      resumable = keeps.resumable;
     }
 
--- while the files of a step that isn't committed are changed, but those of its checkpoints, the steps before it are held
-pub holds_while_made : (job : Job) (k : ℕ) (old new : Folder) → AreFew job → k < length job.steps → Holds job k old → OnlyOwnFiles k old new → Holds job k new
-holds_while_made job k old new few within holds only = holds_kept job k old new holds (record {
+-- while the files of a step that isn't committed are changed, the steps before it are held, if a run can go on
+pub holds_while_made : (job : Job) (k : ℕ) (old new : Folder) → AreFew job → k < length job.steps → Holds job k old → OnlyOwnFiles k old new
+    → AreResumable job k new → Holds job k new
+holds_while_made job k old new few within holds only resumable = holds_kept job k old new holds (record {
   of_job = λ f step_is. only f (not_own f step_is);
   nodes = λ s live. only (node_file s) (not_node s (live_below job.steps k s live));
-  gates = λ s inside empty. only (checkpoint_gate s) (not_gate s) ∙ empty;
+  resumable = resumable;
 })
   where
     not_own : (f : FileNo) → f.step ≡ job_step → IsOwnFile k f → ⊥
-    not_own f step_is own = let no : k ≡ job_step = sym own.step_is ∙ step_is in omega (arith, no, early job k few within)
+    not_own f step_is own = let no : k ≡ job_step = sym own ∙ step_is in omega (arith, no, early job k few within)
 
     not_node : (s : ℕ) → s < k → IsOwnFile k (node_file s) → ⊥
-    not_node s below own = let same : s ≡ k = own.step_is in omega (arith, same, below)
+    not_node s below own = let same : s ≡ k = own in omega (arith, same, below)
 
-    not_gate : (s : ℕ) → IsOwnFile k (checkpoint_gate s) → ⊥
-    not_gate s own = elim own.part_is [
-      | inl none ↦ omega (arith, none)
-      | inr more ↦ omega (arith, more)
-    ]
+-- while the file of a diagram that a step drops is cut, and the step's checkpoints, their gate and its arcs, no step
+-- behind it has a gated checkpoint
+none_while_tidied : (job : Job) (k : ℕ) (old new : Folder) → NoneGated job (k + 1) old → IsTidied (step_at job k).step k old new → NoneGated job (k + 1) new
+none_while_tidied job k old new none tidied s from within = tidied.empty (checkpoint_gate s) (none s from within)
 
--- while the file of a diagram that a step drops is cut, and the step's checkpoints, their gate and its arcs, the steps up
--- to that one are held
-pub holds_while_tidied : (job : Job) (k : ℕ) (old new : Folder) → AreFew job → k < length job.steps → Holds job (k + 1) old
+-- and the steps up to that one are held
+pub holds_while_tidied : (job : Job) (k : ℕ) (old new : Folder) → AreFew job → k < length job.steps → Holds job (k + 1) old → NoneGated job (k + 1) old
     → ((gone : ℕ) → IsTrue (drops gone (step_at job k).step) → gone < length job.steps) → IsTidied (step_at job k).step k old new → Holds job (k + 1) new
-holds_while_tidied job k old new few within holds inside tidied = holds_kept job (k + 1) old new holds (record {
+holds_while_tidied job k old new few within holds none inside tidied = holds_kept job (k + 1) old new holds (record {
   of_job = λ f step_is. tidied.only f (not_cut f step_is);
   nodes = λ s live. tidied.only (node_file s) (not_live s live);
-  gates = λ s below empty. tidied.empty (checkpoint_gate s) empty;
+  resumable = none_gated_resumes job (k + 1) new (none_while_tidied job k old new none tidied);
 })
   where
     not_cut : (f : FileNo) → f.step ≡ job_step → IsCutBy (step_at job k).step k f → ⊥
@@ -135,15 +126,23 @@ live_form job k s folder within holds made live = elim (cases_lt s k) [
       (made (live_last job.steps k no_step within (subst (λ j. IsTrue (is_live (take (k + 1) job.steps) j)) same live))).1
 ]
 
--- while a step is committed each image is sound, and has no fewer steps
-pub sound_while_committed : (job : Job) (k : ℕ) (e : Entry) (old m : Moment) (image : Image) → AreFew job → k < length job.steps → Holds job k old.folder
-    → IsMade job k old.folder → IsEntryOfStep job k e → DuringCommit e old m → IsImage m.folder image
+-- while a step is committed files of steps stay, so a run can go on from the step
+resumable_committed : (job : Job) (k : ℕ) (e : Entry) (old m : Moment) → AreFiles old.folder → AreFew job → RestsOnSteps job → Holds job k old.folder
+    → DuringCommit e old m → AreResumable job k m.folder
+resumable_committed job k e old m files few rests holds during =
+    resumable_kept job few rests k old.folder m.folder files
+    (λ f apart. let of_step : IsOfStep f = record { early = apart } in during.others f (not_catalogue f of_step) (not_step_gate f of_step))
+    holds.resumable
+
+-- each image is sound then, and has no fewer steps
+pub sound_while_committed : (job : Job) (k : ℕ) (e : Entry) (old m : Moment) (image : Image) → AreFiles old.folder → AreFew job → RestsOnSteps job
+    → k < length job.steps → Holds job k old.folder → IsMade job k old.folder → IsEntryOfStep job k e → DuringCommit e old m → IsImage m.folder image
     → IsSound job (bytes_in image) × (k ≤ count_in (bytes_in image)) × IsTrue (is_stored (bytes_in image))
-sound_while_committed job k e old m image few within holds made is_entry during is_image =
+sound_while_committed job k e old m image files few rests within holds made is_entry during is_image =
     elim (during.images image is_image) [
       | inl before ↦
           let count : count_in r ≡ k = before.count ∙ is_entry.number_is in (
-            sound_with k before.stored count holds.few
+            sound_with k before.stored count holds.few resumable
                 (λ i inside. earlier i inside)
                 (λ s live. others_same (node_file s) (node_of_step s (early job s few (below_all s k holds.few live))) (holds.files s live))
                 holds.forms,
@@ -152,7 +151,7 @@ sound_while_committed job k e old m image few within holds made is_entry during 
           )
       | inr after ↦
           let count : count_in r ≡ k + 1 = after.counts.count ∙ ap (λ c. c + 1) is_entry.number_is in (
-            sound_with (k + 1) after.counts.stored count (omega (arith, within))
+            sound_with (k + 1) after.counts.stored count (omega (arith, within)) (none_resumes job (k + 1) r (none_next job k r resumable))
                 (λ i inside. elim (cases_lt i k) [
                   | inl below ↦ earlier i below
                   | inr beyond ↦
@@ -170,6 +169,9 @@ sound_while_committed job k e old m image few within holds made is_entry during 
     r : FileNo → List ℕ
     r = bytes_in image
 
+    resumable : IsResumableAt job k r
+    resumable = resumable_committed job k e old m files few rests holds during image is_image
+
     others_same : (f : FileNo) → IsOfStep f → {bytes : List ℕ} → file_in old.folder f ≡ firm_file bytes → file_in m.folder f ≡ firm_file bytes
     others_same f of_step same = during.others f (not_catalogue f of_step) (not_step_gate f of_step) ∙ same
 
@@ -184,12 +186,12 @@ sound_while_committed job k e old m image few within holds made is_entry during 
         kept_left holds.entries.front (file_in m.folder catalogue) (r catalogue) (during.kept holds.entries.front short holds.entries.kept) (is_image catalogue) in
         (found.0, found.1, entry_in_front i k holds.entries.front (r catalogue) holds.entries.size inside begins ∙ found.2)
 
-    sound_with : (c : ℕ) → IsTrue (is_stored r) → count_in r ≡ c → c ≤ length job.steps
+    sound_with : (c : ℕ) → IsTrue (is_stored r) → count_in r ≡ c → c ≤ length job.steps → IsResumableAt job c r
         → ((i : ℕ) → i < c → (x : Entry) × IsEntryOfStep job i x × (entry_at i r ≡ entry_bytes x))
         → ((s : ℕ) → IsTrue (is_live (take c job.steps) s) → file_in m.folder (node_file s) ≡ firm_file (file_of job s))
         → ((s : ℕ) → IsTrue (is_live (take c job.steps) s) → HasForm job.n (table_at job s))
         → IsSound job r
-    sound_with c stored count short entries files forms = record {
+    sound_with c stored count short resumes entries nodes forms = record {
       shown = inr (record {
         stored = stored;
         job_is = only_image job.bytes (r job_file) (same_image m.folder image job_file (firm_file job.bytes)
@@ -197,20 +199,27 @@ sound_while_committed job k e old m image few within holds made is_entry during 
         few = subst (λ n. n ≤ length job.steps) (sym count) short;
         entries = λ i inside. entries i (subst (λ n. i < n) count inside);
         files = λ s live. only_image (file_of job s) (r (node_file s)) (same_image m.folder image (node_file s) (firm_file (file_of job s))
-            (files s (subst (λ n. IsTrue (is_live (take n job.steps) s)) count live)) is_image);
+            (nodes s (subst (λ n. IsTrue (is_live (take n job.steps) s)) count live)) is_image);
         forms = λ s live. forms s (subst (λ n. IsTrue (is_live (take n job.steps) s)) count live);
       });
       resumable = record {
-        no_checkpoint = λ s inside. left_of_none (r (checkpoint_gate s)) (same_image m.folder image (checkpoint_gate s) no_file
-            (during.others (checkpoint_gate s) (not_catalogue (checkpoint_gate s) (gate_of_step s (early job s few inside)))
-            (not_step_gate (checkpoint_gate s) (gate_of_step s (early job s few inside))) ∙ holds.gates s inside) is_image);
+        unstored = λ none. absurd (cc);
+        goes_on = subst (λ n. IsResumableAt job n r) (sym count) resumes;
       };
     }
 
--- after it the folder holds one step more
-pub holds_after_commit : (job : Job) (k : ℕ) (e : Entry) (old m : Moment) → AreFew job → k < length job.steps → Holds job k old.folder
+-- after it no step behind has a gated checkpoint
+pub none_after_commit : (job : Job) (k : ℕ) (e : Entry) (old m : Moment) → AreFiles old.folder → AreFew job → Holds job k old.folder → DuringCommit e old m
+    → NoneGated job (k + 1) m.folder
+none_after_commit job k e old m files few holds during s from within =
+    let of_step : IsOfStep (checkpoint_gate s) = gate_of_step s (early job s few within) in
+    during.others (checkpoint_gate s) (not_catalogue (checkpoint_gate s) of_step) (not_step_gate (checkpoint_gate s) of_step)
+    ∙ none_behind job k old.folder files holds.resumable s from within
+
+-- and the folder holds one step more
+pub holds_after_commit : (job : Job) (k : ℕ) (e : Entry) (old m : Moment) → AreFiles old.folder → AreFew job → k < length job.steps → Holds job k old.folder
     → IsMade job k old.folder → IsEntryOfStep job k e → DuringCommit e old m → IsCommitted e old.folder m.folder → Holds job (k + 1) m.folder
-holds_after_commit job k e old m few within holds made is_entry during committed =
+holds_after_commit job k e old m files few within holds made is_entry during committed =
     let number : e.number ≡ k = is_entry.number_is in
     let front : List ℕ = holds.entries.front in
     let entry_size : length (entry_bytes e) ≡ 128 = length_entry e is_entry.entry_is.fits in
@@ -237,9 +246,7 @@ holds_after_commit job k e old m few within holds made is_entry during committed
           let of_step : IsOfStep (node_file s) = node_of_step s (early job s few (inside s live)) in
           during.others (node_file s) (not_catalogue (node_file s) of_step) (not_step_gate (node_file s) of_step) ∙ live_file job k s old.folder within holds made live;
       forms = λ s live. live_form job k s old.folder within holds made live;
-      gates = λ s inside.
-          let of_step : IsOfStep (checkpoint_gate s) = gate_of_step s (early job s few inside) in
-          during.others (checkpoint_gate s) (not_catalogue (checkpoint_gate s) of_step) (not_step_gate (checkpoint_gate s) of_step) ∙ holds.gates s inside;
+      resumable = none_gated_resumes job (k + 1) m.folder (none_after_commit job k e old m files few holds during);
     }
   where
     sums : (a b c : ℕ) → a ≡ 128 * c → b ≡ 128 → a + b ≡ 128 * (c + 1)

@@ -5,11 +5,13 @@ use Rattle.bool_tables.specs.Steps.{plan_tables, table_of_step}
 use Rattle.canon_file.specs.Canon.{canon_nodes, canon_bytes}
 use Rattle.step_work.specs.Plans.{no_step}
 
--- the number of variables, the text of the script, the steps, and the bytes of the job
+-- the number of variables, the text of the script, the steps, the records of the room that its runs work in, and the
+-- bytes of the job
 pub record Job : Type 0 where
   pub n : ℕ
   pub text : List ℕ
   pub steps : List Planned
+  pub budget : ℕ
   pub bytes : List ℕ
 
 abbrev pub step_at : Job → ℕ → Planned

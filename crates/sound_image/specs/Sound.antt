@@ -7,7 +7,8 @@ use Rattle.catalogue.specs.declared.layout.Entry.{Entry}
 use Rattle.catalogue.specs.Files.{job_file, step_gate}
 use Rattle.catalogue.specs.Counts.{is_stored, count_in, entry_at}
 use Rattle.catalogue.specs.Entries.{entry_bytes}
-use Rattle.sound_image.specs.Files.{node_file, checkpoint_gate}
+use Rattle.resumable.specs.Resumable as steps
+use Rattle.sound_image.specs.Files.{node_file}
 use Rattle.canon_file.specs.Laws.{HasForm}
 use Rattle.sound_image.specs.Jobs.{Job, table_at, file_of}
 use Rattle.sound_image.specs.Entries.{IsEntryOfStep}
@@ -26,9 +27,15 @@ pub record ShowsSteps (job : Job) (r : FileNo → List ℕ) : Type 0 where
 abbrev pub IsShown : Job → (FileNo → List ℕ) → Type 0
 IsShown job r = ((is_stored r ≡ false) × (r step_gate ≡ [])) ⊎ ShowsSteps job r
 
--- a run can go on from here: no step has a checkpoint yet
+-- where so many steps of the job are committed a run can go on: no step behind them but the next one has a gated
+-- checkpoint, and that one has none, or goes on from its last one
+abbrev pub IsResumableAt : Job → ℕ → (FileNo → List ℕ) → Type 0
+IsResumableAt job count r = steps.IsResumable job.n job.text job.steps job.budget count r
+
+-- so it is here; where no job is stored no step has a checkpoint
 pub record IsResumable (job : Job) (r : FileNo → List ℕ) : Type 0 where
-  pub no_checkpoint : (s : ℕ) → s < length job.steps → r (checkpoint_gate s) ≡ []
+  pub unstored : is_stored r ≡ false → steps.HasNone job.steps 0 r
+  pub goes_on : IsResumableAt job (count_in r) r
 
 pub record IsSound (job : Job) (r : FileNo → List ℕ) : Type 0 where
   pub shown : IsShown job r

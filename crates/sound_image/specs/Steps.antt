@@ -6,12 +6,11 @@ use Rattle.shelf_model.specs.declared.file_no.FileNo.{FileNo}
 use Rattle.shelf_model.specs.File.{no_file}
 use Rattle.shelf_model.specs.Folder.{Folder, file_in, OnlyChanges}
 use Rattle.step_work.specs.Tuples.{sweeps}
-use Rattle.sound_image.specs.Files.{nodes_part, checkpoint_part, inner_part, ends_part, node_file}
+use Rattle.sound_image.specs.Files.{checkpoint_part, ends_part, node_file}
 
--- the step's node file, its arcs and its runs
-pub record IsOwnFile (step : ℕ) (f : FileNo) : Type 0 where
-  pub step_is : f.step ≡ step
-  pub part_is : (f.part ≡ nodes_part) ⊎ (inner_part ≤ f.part)
+-- a file of the step: its node file, its checkpoints and their gate, its arcs and its runs
+abbrev pub IsOwnFile : ℕ → FileNo → Type 0
+IsOwnFile step f = f.step ≡ step
 
 -- every other file is as it was
 abbrev pub OnlyOwnFiles : ℕ → Folder → Folder → Type 0
