@@ -1,13 +1,35 @@
 pub mod AnswersRuns
 pub mod AnswersFaults
 pub mod AnswersValues
+mod AnswerSums
+mod AnswerQuiet
+mod AnswerRuns
+mod AnswerComparing
+mod AnswerEvaluating
+mod AnswerFronts
+mod AnswerImplying
 mod ImpliedWork
 mod Running
 mod Faults
-mod Reducing
-mod FirstSweeps
-mod Ways
-mod Joins
-mod Copies
-mod SweptArcs
-mod Reductions
+mod UnderWay
+mod Costs
+mod Rebuilt
+mod ArcsPoints
+mod ArcsStart
+mod ArcsAgain
+mod ArcsBegun
+mod WaysAnew
+mod JoinsAnew
+mod MadeAnew
+mod SweptSums
+mod SweptSteps
+mod ArcsReduced
+mod SweptReduction
+mod ReductionRuns
+mod ReductionOn
+mod ReductionRebuilt
+mod ArcsRun
+mod CopyRuns
+mod CopyRebuilt
+mod CopyOn
+mod ArcsMade

@@ -1,7 +1,17 @@
 pub use Rattle.top_down_sweep.specs.Operations
 pub mod Given
 pub mod Made
+pub mod Going
 pub mod Makes
+pub mod Ways
+pub mod Kinds
+pub mod Sweeping
+pub mod Started
+pub mod Reduced
+pub mod Answers
+pub mod Points
+pub mod Begun
 pub mod Pairs
 pub mod Damage
 pub mod Parts
+pub mod Copied

@@ -1,22 +1,29 @@
--- What a step that makes a diagram makes, leaves and costs, in whichever way, and so the reduction of its arcs.
-use Rattle.std.specs.Prelude.{ℕ, ◌+◌, ◌-◌, ◌*◌, ◌^◌, ◌<◌, ◌≤◌, Bool, IsTrue, List, Result, IfOk, IfErr, IsErrOf}
+-- What a step that makes a diagram makes, leaves and costs, from its beginning or from its last checkpoint.
+use Rattle.std.specs.Prelude.{◌≡◌, ℕ, ◌+◌, ◌-◌, ◌*◌, ◌^◌, ◌<◌, ◌≤◌, Bool, IsTrue, List, [], Result, IfOk, IfErr, IsErrOf}
+use Rattle.std.specs.Prelude.{None}
+use Rattle.shelf_model.specs.declared.file_no.FileNo.{FileNo}
 use Rattle.shelf_model.specs.declared.sort_fault.SortFault.{SortFault}
 use Rattle.shelf_model.specs.declared.sort_fault.SortFault.TheVariants.{RunsSpent}
 use Rattle.shelf_model.specs.Calls.{Told}
 use Rattle.shelf_model.specs.Faults.{Faults}
-use Rattle.shelf_model.specs.Moments.{Ran}
-use Rattle.shelf_model.specs.World.{World, now}
+use Rattle.shelf_model.specs.Moments.{Ran, Throughout}
+use Rattle.shelf_model.specs.World.{Moment, World, now, file}
+use Rattle.file_numbers.specs.Files.{checkpoint_gate}
 use Rattle.run_tiers.specs.Faults.{OnlySortShelf}
+use Rattle.run_tiers.specs.Syncs.{IsFirm}
+use Rattle.step_going.specs.Standing.{AreSafe, IsStanding}
+use Rattle.sweep_checkpoint.specs.declared.going.Going.{Going}
+use Rattle.sweep_core.specs.Saving.{reads_of}
 use Rattle.sweep_core.specs.Sweeps.{IsNoDamage}
 use Rattle.node_file.specs.Canonical.{IsMade}
-use Rattle.top_down_sweep.specs.Ordered.{AreOrdered}
-use Rattle.top_down_sweep.specs.Tasks.{AreArcFiles}
-use Rattle.step_sweeps.specs.declared.arcs.MadeArcs.{MadeArcs}
+use Rattle.node_reading.specs.Reading.{count_of}
+use Rattle.resumable.specs.Diagrams.{DiagramGoesOn, diagram_rests}
 use Rattle.step_sweeps.specs.declared.diagram.MadeDiagram.{MadeDiagram}
 use Rattle.step_sweeps.specs.declared.task.Making.{Making}
 use Rattle.step_sweeps.specs.Damage.{IsArcsFault}
 use Rattle.step_sweeps.specs.Given.{Tables, AreGiven, made_by, nodes_by, work_by}
-use Rattle.step_sweeps.specs.Made.{node_file, OnlyStepFiles, Spends, HasSources, IsCounted}
+use Rattle.step_sweeps.specs.Going.{next_of, rest_calls}
+use Rattle.step_sweeps.specs.Made.{node_file, OnlyStep, IsCounted}
 
 -- the step's operands are the canonical files of these tables
 abbrev pub IsGiven : Making → World → Tables → Type 0
@@ -32,65 +39,63 @@ nodes_for making g = nodes_by making.operation making.n g
 abbrev pub work_for : Making → Tables → ℕ
 work_for making g = work_by making.operation making.n g
 
--- the node file is the canonical one of that table, and the turns, of which some were made before, leave so many of
--- the step's work
-pub record IsDiagramOf (making : Making) (g : Tables) (earlier left_over : ℕ) (m : MadeDiagram) (world : World)
-    : Type 0 where
+-- in a reading the step goes on with them from its last gated checkpoint, of that budget
+abbrev pub goes_on_by : Making → ℕ → Tables → (FileNo → List ℕ) → Type 0
+goes_on_by making budget g = DiagramGoesOn making.operation making.n making.operands making.number budget g
+
+-- the files of the operands are their own only images
+pub record AreFirm (making : Making) (world : World) : Type 0 where
+  pub first : IsFirm (file world making.operands.first)
+  pub second : IsFirm (file world making.operands.second)
+  pub third : IsFirm (file world making.operands.third)
+
+-- the operands are the canonical files of these tables, and the step begins, or goes on with them from its last
+-- checkpoint, whatever a stop leaves
+pub record IsGivenFor (making : Making) (going : Going) (world : World) (g : Tables) : Type 0 where
+  pub given : IsGiven making world g
+  pub firm : AreFirm making world
+  pub standing : IsStanding (goes_on_by making going.budget g) diagram_rests making.number going.budget
+      (next_of going.last) (now world).folder going.last
+
+-- how many nodes the files of the operands have
+abbrev pub operand_nodes : Making → (FileNo → List ℕ) → ℕ
+operand_nodes making r = count_of (r making.operands.first) + count_of (r making.operands.second)
+    + count_of (r making.operands.third)
+
+-- no checkpoint of the step is gated, as the gate is read
+abbrev pub HasNoGate : ℕ → World → Type 0
+HasNoGate number world = reads_of world (checkpoint_gate number) ≡ []
+
+-- the node file is the canonical one of the table, and the turns are within the step's work
+pub record IsDiagramOf (making : Making) (g : Tables) (m : MadeDiagram) (world : World) : Type 0 where
   pub made : IsMade making.n (table_by making g) (node_file making.number) m.nodes world
-  pub few : m.turns + left_over ≤ earlier + work_for making g
+  pub few : m.turns ≤ work_for making g
 
--- a step makes its diagram, or is refused, where so many turns were made before
+-- a step makes its diagram, or is refused
 pub record Makes {S : Type 0} (tells : S → Bool) (world : S → World) (counts : S → Faults) (making : Making)
-    (earlier : ℕ) (left_over : Tables → ℕ) (some : ℕ) (before after : S) (result : Result MadeDiagram SortFault)
-    : Type 0 where
-  -- of canonical files the operation's diagram is made, within the step's work, and none of them is damaged
-  pub made : IfOk result (λ m. IsTrue (tells after) → (g : Tables) → IsGiven making (world before) g
-      → IsDiagramOf making g earlier (left_over g) m (world after))
-  pub undamaged : IfErr result (λ e. IsTrue (tells after) → (g : Tables) → IsGiven making (world before) g
+    (going : Going) (before after : S) (result : Result MadeDiagram SortFault) : Type 0 where
+  -- of canonical files the operation's diagram is made, within the step's work, and none of them is damaged; what a stop
+  -- leaves at any moment can be begun or gone on with
+  pub made : IfOk result (λ m. IsTrue (tells after) → (g : Tables) → IsGivenFor making going (world before) g
+      → IsDiagramOf making g m (world after))
+  pub undamaged : IfErr result (λ e. IsTrue (tells after) → (g : Tables) → IsGivenFor making going (world before) g
       → IsNoDamage e)
-  pub spent : IsErrOf result RunsSpent → IsTrue (tells after) → (g : Tables) → IsGiven making (world before) g
-      → 2 ^ 35 ≤ work_for making g
-  pub few_calls : IsTrue (tells after) → (g : Tables) → IsGiven making (world before) g
-      → (world after).clock + 224 * left_over g ≤ (world before).clock + (224 * work_for making g + some)
-  -- whatever the files hold: a place is named only where an operand is damaged, only files of the step are changed,
-  -- and each turn that wasn't made before pays for 224 calls
-  pub damaged : IfErr result (λ e. IsTrue (tells after) → IsArcsFault making.n making.operands (world before) e)
+  pub spent : IsErrOf result RunsSpent → IsTrue (tells after) → (g : Tables)
+      → IsGivenFor making going (world before) g → 2 ^ 35 ≤ work_for making g
+  pub few_calls : IsTrue (tells after) → (g : Tables) → IsGivenFor making going (world before) g
+      → (world after).clock ≤ (world before).clock
+      + (229 * work_for making g + 11 + rest_calls going.last (operand_nodes making (reads_of (world before))))
+  pub images : IsTrue (tells after) → (g : Tables) → IsGivenFor making going (world before) g
+      → Throughout (world before) (world after)
+      (λ (m : Moment). AreSafe (goes_on_by making going.budget g) making.number m.folder)
+  -- whatever the files hold: where the step began anew a place is named only where an operand is damaged, and only files
+  -- of the step are changed
+  pub damaged : IfErr result (λ e. IsTrue (tells after) → going.last ≡ None → HasNoGate making.number (world before)
+      → IsArcsFault making.n making.operands (world before) e)
   pub content : Told tells before after
-      (Ran (OnlyStepFiles making.number (now (world before))) (world before) (world after))
-  pub counted : IfOk result (λ m. (earlier ≤ m.turns) × IsCounted m.turns m.next)
-  pub calls : IfOk result (λ m. IsTrue (tells after) → m.turns < 2 ^ 64 - 1
-      → (world after).clock + 224 * earlier ≤ (world before).clock + (224 * m.turns + some))
-  pub faults : OnlySortShelf (counts before) (counts after) result
-
--- of the work of a step that sweeps two turns are left for each node of its operands, and one
-abbrev pub left_by_sweeps : Making → Tables → ℕ
-left_by_sweeps making g = 2 * nodes_for making g + 1
-
--- the arcs are those of a diagram of the table, which has so many sources
-pub record HaveSources (n : ℕ) (table : List Bool) (sources : ℕ) (m : MadeArcs) (world : World) : Type 0 where
-  pub arcs : AreArcFiles n table m.arcs world
-  pub sources_are : HasSources m.arcs sources
-
--- a step's arcs are reduced to its node file, behind the turns that made them, with so many more for each source
-pub record Reduces {S : Type 0} (tells : S → Bool) (world : S → World) (counts : S → Faults) (n number : ℕ)
-    (arcs : MadeArcs) (each : ℕ) (before after : S) (result : Result MadeDiagram SortFault) : Type 0 where
-  -- of the arcs of a table's diagram
-  pub made : IfOk result (λ m. IsTrue (tells after) → (table : List Bool)
-      → AreArcFiles n table arcs.arcs (world before) → IsMade n table (node_file number) m.nodes (world after))
-  pub few : IfOk result (λ m. IsTrue (tells after) → (table : List Bool) → (sources : ℕ)
-      → HaveSources n table sources arcs (world before) → m.turns ≤ arcs.turns + (each * sources + 9))
-  pub spent : IsErrOf result RunsSpent → IsTrue (tells after) → (table : List Bool) → (sources : ℕ)
-      → HaveSources n table sources arcs (world before)
-      → 256 * (2 ^ 32 - arcs.parts.next) ≤ 12 * (each * sources + 9)
-  pub few_calls : IsTrue (tells after) → (table : List Bool) → (sources : ℕ)
-      → HaveSources n table sources arcs (world before)
-      → (world after).clock ≤ (world before).clock + (224 * (each * sources + 9) + 3)
-  -- of arcs in the order of their files
-  pub undamaged : IfErr result (λ e. IsTrue (tells after) → AreOrdered arcs.arcs (world before) → IsNoDamage e)
-  -- whatever the files hold
-  pub content : Told tells before after
-      (Ran (OnlyStepFiles number (now (world before))) (world before) (world after))
-  pub next : IfOk result (λ m. (5 ≤ m.next) × (m.next ≤ 2 ^ 32))
-  pub counted : IfOk result (λ m. (arcs.turns ≤ m.turns) × ((0 < m.turns) × (m.turns < 2 ^ 64 - 1
-      → Spends tells world (m.turns - arcs.turns) 3 arcs.parts.next m.next before after)))
+      (Ran (OnlyStep making.number (now (world before))) (world before) (world after))
+  pub counted : IfOk result (λ m. IsCounted m.turns m.next)
+  pub calls : IfOk result (λ m. IsTrue (tells after) → m.turns < 2 ^ 64 - 1 → (world after).clock
+      ≤ (world before).clock + (229 * (m.turns - going.turns) + 11
+      + rest_calls going.last (operand_nodes making (reads_of (world before)))))
   pub faults : OnlySortShelf (counts before) (counts after) result

@@ -1,85 +1,123 @@
 //! The first sweep of a step that makes a diagram: from the operands' files to the arcs of a diagram that isn't
 //! reduced.
-ghost use Rattle.std.specs.Prelude.{◌≡◌, ◌+◌, ◌-◌, ◌*◌, ◌^◌, ◌<◌, ◌≤◌, IsTrue, IsErrOf, IfOk, IfErr, length};
-ghost use Rattle.shelf_model.specs.World.{now};
-ghost use Rattle.shelf_model.specs.Calls.{Told};
-ghost use Rattle.shelf_model.specs.Moments.{Ran};
-ghost use Rattle.run_tiers.specs.Faults.{OnlySortShelf};
-ghost use Rattle.sweep_core.specs.Sweeps.{IsNoDamage};
-ghost use Rattle.top_down_sweep.specs.Ordered.{AreOrdered};
+ghost use Rattle.std.specs.Prelude.{◌≡◌, ◌↔◌, ◌≤◌, IsTrue, Err, IfOk, IfErr, None, length};
+ghost use Rattle.top_down_sweep.specs.Calls.{IsTrusted};
+ghost use Rattle.top_down_sweep.specs.Resumes.{Names};
+ghost use Rattle.top_down_sweep.specs.Sweeps.{task_of};
+ghost use Rattle.table_work.specs.Tables.{sweep_of, work_of};
+ghost use Rattle.resumable.specs.Diagrams.{step_words, arcs_of};
 ghost use Rattle.step_sweeps.specs.Operations.{IsWithin};
-ghost use Rattle.step_sweeps.specs.Given.{Tables, AreGiven, AreEarlier, arcs_turns};
-ghost use Rattle.step_sweeps.specs.Made.{HasArcFiles, OnlyParts, Spends, AreArcsOf};
-ghost use Rattle.step_sweeps.specs.Damage.{IsArcsFault};
+ghost use Rattle.step_sweeps.specs.Given.{AreEarlier};
+ghost use Rattle.step_sweeps.specs.Kinds.{arcs_kind};
+ghost use Rattle.step_sweeps.specs.Makes.{HasNoGate};
+ghost use Rattle.step_sweeps.specs.Started.{Starts};
+ghost use Rattle.step_sweeps.specs.Sweeping.{MaySweep, IsEarly, MakesArcs, IsCovered, arcs_most};
 
 use crate::StepOperation;
+use crate::foreign::foreign_point;
+use crate::reduction::PARTS;
+use crate::task::Making;
 use arc_file::Unreduced;
-use file_numbers::INNER_PART;
+use file_numbers::{INNER_PART, ends_file, inner_file};
 use rec_words::Rec;
 use run_merge::Parts;
 use shelf_model::{Shelf, SortFault};
-use sweep_core::run_to_end;
+use sweep_checkpoint::{Going, run_saved};
+use sweep_core::{Checkpoint, Resume};
 use table_work::TableSweep;
-use top_down_sweep::OperandFiles;
+use top_down_sweep::{Files, TopDownSweep};
 
-/// The arcs of a diagram that isn't reduced, the turns that made them, and the part numbers that weren't taken.
+/// The arcs of a diagram that isn't reduced, and the part numbers that weren't taken.
 #[derive(Clone, Copy)]
 pub(crate) struct MadeArcs {
     pub(crate) arcs: Unreduced,
-    pub(crate) turns: u64,
     pub(crate) parts: Parts,
 }
 
 /// Makes the arcs of an operation on the files of diagrams of `n` variables, in parts 3 and 4 of the step, with the
-/// parts from 5 on for the runs of its queue.
+/// parts from 5 on for the runs of its queue: from the beginning on, or from the step's last checkpoint. It is refused
+/// where more part numbers were taken than a step has.
 pub(crate) fn make_arcs<S: Shelf>(
-    operation: StepOperation,
-    n: u32,
-    operands: OperandFiles,
-    number: u32,
+    making: Making,
+    going: &mut Going,
     room: &mut [Rec],
     shelf: &mut S,
 ) -> Result<MadeArcs, SortFault>
     requires room { 16384 ≤ length room.old }
-    requires within { IsWithin n operation }
-    requires earlier { AreEarlier number operands }
-    ensures files { IfOk result (λ m. HasArcFiles number m.arcs) }
-    ensures parts { IfOk result (λ m. (m.parts.step ≡ number) × (5 ≤ m.parts.next)) }
-    ensures ordered { IfOk result (λ m. IsTrue (S.tells shelf.new) → AreOrdered m.arcs (S.world shelf.new)) }
-
-    // of canonical files
-    ensures made { IfOk result (λ m. IsTrue (S.tells shelf.new) → (g : Tables) →
-        AreGiven operation n operands (S.world shelf.old) g → AreArcsOf operation n g m (S.world shelf.new)) }
-    ensures undamaged { IfErr result (λ e. IsTrue (S.tells shelf.new) → (g : Tables) →
-        AreGiven operation n operands (S.world shelf.old) g → IsNoDamage e) }
-    ensures spent { IsErrOf result SortFault.RunsSpent → IsTrue (S.tells shelf.new) → (g : Tables) →
-        AreGiven operation n operands (S.world shelf.old) g →
-        256 * (2 ^ 32 - 5) ≤ 12 * arcs_turns operation n g }
-    ensures few_calls { IsTrue (S.tells shelf.new) → (g : Tables) →
-        AreGiven operation n operands (S.world shelf.old) g →
-        (S.world shelf.new).clock ≤ (S.world shelf.old).clock + (224 * arcs_turns operation n g + 8) }
-
-    // whatever the files hold
-    ensures damaged { IfErr result (λ e. IsTrue (S.tells shelf.new) →
-        IsArcsFault n operands (S.world shelf.old) e) }
-    ensures content { Told S.tells shelf.old shelf.new
-        (Ran (OnlyParts number (now (S.world shelf.old))) (S.world shelf.old) (S.world shelf.new)) }
-    ensures counted { IfOk result (λ m. (0 < m.turns) × (m.turns < 2 ^ 64 - 1 →
-        Spends S.tells S.world m.turns 8 5 m.parts.next shelf.old shelf.new)) }
-    ensures faults { OnlySortShelf (S.faults shelf.old) (S.faults shelf.new) result }
+    requires within { IsWithin making.n making.operation }
+    requires earlier { AreEarlier making.number making.operands }
+    requires going { MaySweep making.number going.old }
+    requires early { IsEarly S.tells S.world making going.old shelf.old }
+    ensures makes { MakesArcs S.tells S.world S.faults making going.old going.new shelf.old shelf.new result }
 {
-    let parts = Parts {
-        step: number,
-        next: INNER_PART,
-    };
-    let mut sweep = TableSweep::begin(operation, n, operands, parts, room, shelf)?;
-    let turns = run_to_end(&mut sweep, shelf)?;
+    let mut sweep = begin_arcs(making, going, room, shelf)?;
+    run_saved(&mut sweep, going, shelf)?;
+    let parts = sweep.parts();
+    if parts.next > PARTS {
+        return Err(SortFault::RunsSpent);
+    }
     let Some(arcs) = sweep.made() else {
         unreachable!();
     };
-    Ok(MadeArcs {
-        arcs,
-        turns,
-        parts: sweep.parts(),
-    })
+    Ok(MadeArcs { arcs, parts })
+}
+
+// The sweep from its beginning on, or from the step's last checkpoint, which has to be one of it.
+fn begin_arcs<'r, S: Shelf>(
+    making: Making,
+    going: &Going,
+    room: &'r mut [Rec],
+    shelf: &mut S,
+) -> Result<TableSweep<'r, StepOperation>, SortFault>
+    requires room { 16384 ≤ length room.old }
+    requires within { IsWithin making.n making.operation }
+    requires earlier { AreEarlier making.number making.operands }
+    requires going { MaySweep making.number going.now }
+    requires early { IsEarly S.tells S.world making going.now shelf.old }
+    ensures starts { IfOk result (Starts S.tells S.world S.faults arcs_kind
+        (λ g job s. job ≡ work_of making.operation making.n g) (arcs_most making going.now) 8 making going.now
+        shelf.old shelf.new) }
+    ensures task { IfOk result (λ s. task_of (sweep_of s) ≡ arcs_of making.n making.operands making.number) }
+    ensures trusts { IfOk result (λ s. IsTrue (S.tells shelf.new) → going.now.last ≡ None →
+        IsTrusted (sweep_of s) (S.world shelf.new)) }
+    ensures covered { IfOk result (λ s. IsTrue (S.tells shelf.new) → going.now.last ≡ None →
+        HasNoGate making.number (S.world shelf.old) → IsCovered making.number (S.world shelf.new)) }
+    ensures refused { IfErr result (λ e. MakesArcs S.tells S.world S.faults making going.now going.now
+        shelf.old shelf.new (Err e)) }
+{
+    let Some(point) = &going.last else {
+        let parts = Parts {
+            step: making.number,
+            next: INNER_PART,
+        };
+        return TableSweep::begin(
+            making.operation,
+            making.n,
+            making.operands,
+            parts,
+            room,
+            shelf,
+        );
+    };
+    if !is_of(point, making) || !TopDownSweep::<StepOperation>::fits(point) {
+        return Err(foreign_point(making.number, shelf));
+    }
+    TableSweep::rebuild(point, &[], room, shelf)
+}
+
+// Whether a checkpoint says that arcs of the step are made of its operands.
+fn is_of(point: &Checkpoint, making: Making) -> bool
+    ensures { IsTrue result ↔ Names step_words point.now (arcs_of making.n making.operands making.number) }
+{
+    let Some(named) = TopDownSweep::<StepOperation>::named(point) else {
+        return false;
+    };
+    let files = Files {
+        first: making.operands.first,
+        second: making.operands.second,
+        third: making.operands.third,
+        inner: inner_file(making.number),
+        ends: ends_file(making.number),
+    };
+    named.variables == making.n && named.files == files
 }

@@ -1,8 +1,9 @@
 //! An operator's diagram that is joined of both operands': in the room where it fits there, and else by sweeps.
-ghost use Rattle.std.specs.Prelude.{ℕ, ◌≤◌, length};
+ghost use Rattle.std.specs.Prelude.{ℕ, ◌≤◌, IsTrue, length};
 ghost use Rattle.step_sweeps.specs.Given.{Tables, AreEarlier, nodes_by};
-ghost use Rattle.step_sweeps.specs.Makes.{Makes};
+ghost use Rattle.step_sweeps.specs.Makes.{IsGiven, nodes_for};
 ghost use Rattle.step_sweeps.specs.Pairs.{IsPairOf};
+ghost use Rattle.step_sweeps.specs.Ways.{IsAnew, MakesAnew};
 
 use crate::MadeDiagram;
 use crate::swept::sweep_diagram;
@@ -13,6 +14,7 @@ use file_numbers::{INNER_PART, NODES_PART};
 use rec_words::Rec;
 use room_products::join_in_room;
 use shelf_model::{FileNo, Shelf, SortFault};
+use sweep_checkpoint::Going;
 
 /// Makes the step's node file in the room, where it holds what that takes, and else by sweeps, for which the look at
 /// the trailers and each node of both operands, which may have been read in vain, count as a turn. So many turns were
@@ -22,6 +24,7 @@ pub(crate) fn join<S: Shelf>(
     pair: Pair,
     making: Making,
     before: u64,
+    going: &mut Going,
     room: &mut [Rec],
     shelf: &mut S,
 ) -> Result<MadeDiagram, SortFault>
@@ -29,8 +32,11 @@ pub(crate) fn join<S: Shelf>(
     requires room { 16384 ≤ length room.old }
     requires earlier { AreEarlier making.number making.operands }
     requires pair { IsPairOf S.tells S.world op making pair shelf.old }
-    ensures makes { Makes S.tells S.world S.faults making before (nodes_by making.operation making.n) 7
-        shelf.old shelf.new result }
+    requires anew { IsAnew making.number going.old }
+    requires few { IsTrue (S.tells shelf.old) → (g : Tables) → IsGiven making (S.world shelf.old) g →
+        before ≤ nodes_for making g }
+    ensures makes { MakesAnew S.tells S.world S.faults making going.old.budget before
+        (nodes_by making.operation making.n) 7 shelf.old shelf.new result }
 {
     let out = FileNo {
         step: making.number,
@@ -50,5 +56,5 @@ pub(crate) fn join<S: Shelf>(
         .count
         .saturating_add(pair.right.trailer.count);
     let looked = before.saturating_add(nodes).saturating_add(1);
-    sweep_diagram(making, looked, room, shelf)
+    sweep_diagram(making, looked, going, room, shelf)
 }

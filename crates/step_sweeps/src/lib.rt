@@ -6,6 +6,7 @@ mod answers;
 mod arcs;
 mod copy;
 mod diagram;
+mod foreign;
 mod implication;
 mod in_room;
 mod joining;

@@ -1,17 +1,26 @@
 //! The second half of a step that makes a diagram: from its arcs to its node file.
-ghost use Rattle.std.specs.Prelude.{◌≡◌, ◌≤◌, length};
-ghost use Rattle.step_sweeps.specs.Made.{HasArcFiles};
-ghost use Rattle.step_sweeps.specs.Makes.{Reduces};
+ghost use Rattle.std.specs.Prelude.{◌≡◌, ◌-◌, ◌≤◌, ◌^◌, min, Some, Err, IfOk, IfErr, length};
+ghost use Rattle.reduce_sweep.specs.Sweeps.{out_of, count_in, parts_of, turns_left};
+ghost use Rattle.step_sweeps.specs.Given.{AreEarlier};
+ghost use Rattle.step_sweeps.specs.Made.{HasArcFiles, node_file};
+ghost use Rattle.step_sweeps.specs.Makes.{work_for};
+ghost use Rattle.step_sweeps.specs.Reduced.{ReducesTo};
+ghost use Rattle.step_sweeps.specs.Kinds.{reduce_kind};
+ghost use Rattle.step_sweeps.specs.Started.{Starts};
+ghost use Rattle.step_sweeps.specs.Sweeping.{MayReduce, MayResume, Reduces, Sweeps};
 
 use crate::MadeDiagram;
 use crate::arcs::MadeArcs;
+use crate::foreign::foreign_point;
 use crate::in_room::reduce_few;
+use crate::task::Making;
 use arc_diagrams::laws::reducing_gives_the_canonical_form;
-use file_numbers::NODES_PART;
+use file_numbers::node_file;
 use rec_words::Rec;
 use reduce_sweep::ReduceSweep;
-use shelf_model::{FileNo, Shelf, SortFault};
-use sweep_core::run_to_end;
+use shelf_model::{Shelf, SortFault};
+use sweep_checkpoint::{Going, run_saved};
+use sweep_core::Resume;
 
 /// How many part numbers a step has.
 pub(crate) const PARTS: u64 = 1 << 32;
@@ -20,67 +29,124 @@ pub(crate) const PARTS: u64 = 1 << 32;
 /// turn of a sweep, so that these turns are fewer than a checkpoint's interval has.
 const FEW_ARCS: u64 = (1 << 18) - 8;
 
-/// Reduces the arcs of a diagram of `n` variables to the step's node file, behind the turns that made them: in the room
-/// where they are few and it holds what that takes, and else by a sweep, for which an attempt in the room counts first.
+/// Reduces the arcs of a diagram to the step's node file, behind the turns that made them: in the room where they are
+/// few and it holds what that takes, and else by a sweep, for which an attempt in the room counts first.
 pub(crate) fn reduce_arcs<S: Shelf>(
-    n: u32,
+    making: Making,
     made: MadeArcs,
-    number: u32,
+    going: &mut Going,
     room: &mut [Rec],
     shelf: &mut S,
 ) -> Result<MadeDiagram, SortFault>
-    requires variables { n ≤ 65535 }
+    requires variables { making.n ≤ 65535 }
     requires room { 16384 ≤ length room.old }
-    requires files { HasArcFiles number made.arcs }
-    requires parts { (made.parts.step ≡ number) × (5 ≤ made.parts.next) }
-    ensures reduces { Reduces S.tells S.world S.faults n number made 10 shelf.old shelf.new result }
+    requires files { HasArcFiles making.number made.arcs }
+    requires may { MayReduce making.number going.old made.parts }
+    ensures reduces { Reduces S.tells S.world S.faults making made going.old 10 shelf.old shelf.new result }
 {
     let arcs = made.arcs.inner_count + made.arcs.ends_count;
     if arcs == 0 || arcs > FEW_ARCS {
-        return sweep_arcs(n, made, number, room, shelf);
+        return sweep_arcs(making, made, going, room, shelf);
     }
-    let tried = reduce_few(n, &made.arcs, number, room, shelf)?;
+    let tried = reduce_few(making.n, &made.arcs, making.number, room, shelf)?;
     if let Some(reduced) = tried {
+        going.turns = going.turns.saturating_add(reduced.turns);
         return Ok(MadeDiagram {
             nodes: reduced.nodes,
-            turns: made.turns.saturating_add(reduced.turns),
-            next: made.parts.next.min(PARTS),
+            turns: going.turns,
+            next: made.parts.next,
         });
     }
     // The attempt's calls are paid by a turn for each 64 arcs, and one.
-    let turns = made.turns.saturating_add(1 + arcs / 64);
-    sweep_arcs(n, MadeArcs { turns, ..made }, number, room, shelf)
+    going.turns = going.turns.saturating_add(1 + arcs / 64);
+    sweep_arcs(making, made, going, room, shelf)
 }
 
 /// Reduces them by a sweep.
 fn sweep_arcs<S: Shelf>(
-    n: u32,
+    making: Making,
     made: MadeArcs,
-    number: u32,
+    going: &mut Going,
     room: &mut [Rec],
     shelf: &mut S,
 ) -> Result<MadeDiagram, SortFault>
-    requires variables { n ≤ 65535 }
+    requires variables { making.n ≤ 65535 }
     requires room { 16384 ≤ length room.old }
-    requires files { HasArcFiles number made.arcs }
-    requires parts { (made.parts.step ≡ number) × (5 ≤ made.parts.next) }
-    ensures reduces { Reduces S.tells S.world S.faults n number made 8 shelf.old shelf.new result }
+    requires files { HasArcFiles making.number made.arcs }
+    requires may { MayReduce making.number going.old made.parts }
+    ensures reduces { Reduces S.tells S.world S.faults making made going.old 8 shelf.old shelf.new result }
 {
     // A diagram of so few arcs has a canonical form.
     reducing_gives_the_canonical_form();
-    let out = FileNo {
-        step: number,
-        part: NODES_PART,
+    going.sweep = 1;
+    let out = node_file(making.number);
+    let mut sweep = ReduceSweep::start(making.n, made.arcs, out, made.parts, room, shelf)?;
+    run_saved(&mut sweep, going, shelf)?;
+    Ok(reduced(&sweep, going.turns))
+}
+
+/// Goes on with such a sweep from the step's last checkpoint, which has to be one of it.
+pub(crate) fn reduce_on<S: Shelf>(
+    making: Making,
+    going: &mut Going,
+    room: &mut [Rec],
+    shelf: &mut S,
+) -> Result<MadeDiagram, SortFault>
+    requires variables { making.n ≤ 65535 }
+    requires room { 16384 ≤ length room.old }
+    requires earlier { AreEarlier making.number making.operands }
+    requires going { MayResume making.number going.old }
+    requires second { going.old.sweep ≡ 1 }
+    ensures sweeps { Sweeps S.tells S.world S.faults making going.old shelf.old shelf.new result }
+{
+    // A diagram of so few arcs has a canonical form.
+    reducing_gives_the_canonical_form();
+    let mut sweep = rebuild_reduction(making, going, room, shelf)?;
+    run_saved(&mut sweep, going, shelf)?;
+    Ok(reduced(&sweep, going.turns))
+}
+
+// The reduction of which the step's last checkpoint has to be one.
+fn rebuild_reduction<'r, S: Shelf>(
+    making: Making,
+    going: &Going,
+    room: &'r mut [Rec],
+    shelf: &mut S,
+) -> Result<ReduceSweep<'r>, SortFault>
+    requires room { 16384 ≤ length room.old }
+    requires earlier { AreEarlier making.number making.operands }
+    requires going { MayResume making.number going.now }
+    requires second { going.now.sweep ≡ 1 }
+    ensures starts { IfOk result (Starts S.tells S.world S.faults reduce_kind
+        (λ g job s. ReducesTo making g job s) (λ g. work_for making g - 1) 0 making going.now shelf.old shelf.new) }
+    ensures task { IfOk result (λ s. (out_of s ≡ node_file making.number) × (s.place.variables ≡ making.n)) }
+    ensures refused { IfErr result (λ e. Sweeps S.tells S.world S.faults making going.now
+        shelf.old shelf.new (Err e)) }
+{
+    let Some(point) = &going.last else {
+        unreachable!();
     };
-    let mut sweep = ReduceSweep::start(n, made.arcs, out, made.parts, room, shelf)?;
-    let turns = run_to_end(&mut sweep, shelf)?;
+    let out = node_file(making.number);
+    if !ReduceSweep::names(point, out, making.n) || !ReduceSweep::fits(point) {
+        return Err(foreign_point(making.number, shelf));
+    }
+    ReduceSweep::rebuild(point, &[], room, shelf)
+}
+
+// What a reduction made that has ended, behind so many turns.
+fn reduced(sweep: &ReduceSweep, turns: u64) -> MadeDiagram
+    requires ended { turns_left sweep.now ≡ 0 }
+    ensures nodes { Some result.nodes ≡ count_in sweep.now }
+    ensures turns { result.turns ≡ turns }
+    ensures next { result.next ≡ min (parts_of sweep.now).next (2 ^ 32) }
+{
     let Some(nodes) = sweep.count() else {
         unreachable!();
     };
-    Ok(MadeDiagram {
+    MadeDiagram {
         nodes,
-        turns: made.turns.saturating_add(turns),
+        turns,
         // None is given from there on.
         next: sweep.parts().next.min(PARTS),
-    })
+    }
 }

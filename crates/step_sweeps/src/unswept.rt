@@ -3,8 +3,8 @@
 ghost use Rattle.std.specs.Prelude.{◌≡◌, ◌+◌, ◌*◌, ◌<◌, ◌≤◌, IfOk, length};
 ghost use Rattle.copied_diagrams.specs.declared.way.Way.TheVariants as ways;
 ghost use Rattle.step_sweeps.specs.Given.{AreEarlier};
-ghost use Rattle.step_sweeps.specs.Makes.{Makes};
 ghost use Rattle.step_sweeps.specs.Pairs.{IsPairOf, Leads};
+ghost use Rattle.step_sweeps.specs.Ways.{IsAnew, MakesAtOnce, MakesAnew};
 
 use crate::MadeDiagram;
 use crate::joining::join;
@@ -15,6 +15,7 @@ use file_numbers::{INNER_PART, NODES_PART};
 use rec_words::Rec;
 use room_reduction::complement_file;
 use shelf_model::{FileNo, Shelf, SortFault};
+use sweep_checkpoint::Going;
 
 /// Makes the step's node file that of a constant.
 pub(crate) fn constant<S: Shelf>(
@@ -26,7 +27,7 @@ pub(crate) fn constant<S: Shelf>(
     requires variables { making.n ≤ 65535 }
     requires room { 8 ≤ length room.old }
     requires leads { Leads S.tells S.world making (ways.Constant value) shelf.old }
-    ensures makes { Makes S.tells S.world S.faults making 0 (λ g. 0) 7 shelf.old shelf.new result }
+    ensures makes { MakesAtOnce S.tells S.world S.faults making shelf.old shelf.new result }
     ensures turns { IfOk result (λ m. m.turns ≡ 1) }
 {
     let out = FileNo {
@@ -46,7 +47,7 @@ pub(crate) fn copy<S: Shelf>(
     requires earlier { source.from.step < making.number }
     requires few { source.trailer.count < 65536 }
     requires leads { Leads S.tells S.world making (ways.Copy source) shelf.old }
-    ensures makes { Makes S.tells S.world S.faults making 0 (λ g. 0) 7 shelf.old shelf.new result }
+    ensures makes { MakesAtOnce S.tells S.world S.faults making shelf.old shelf.new result }
     ensures turns { IfOk result (λ m. m.turns ≡ source.trailer.count + 1) }
 {
     let out = FileNo {
@@ -65,6 +66,7 @@ pub(crate) fn complement<S: Shelf>(
     op: Bin,
     pair: Pair,
     making: Making,
+    going: &mut Going,
     room: &mut [Rec],
     shelf: &mut S,
 ) -> Result<MadeDiagram, SortFault>
@@ -76,7 +78,9 @@ pub(crate) fn complement<S: Shelf>(
     requires few { source.trailer.count < 65536 }
     requires fits { 2 * source.trailer.count + 8 ≤ length room.old }
     requires leads { Leads S.tells S.world making (ways.Complement source) shelf.old }
-    ensures makes { Makes S.tells S.world S.faults making 0 (λ g. 0) 7 shelf.old shelf.new result }
+    requires anew { IsAnew making.number going.old }
+    ensures makes { MakesAnew S.tells S.world S.faults making going.old.budget 0 (λ g. 0) 7
+        shelf.old shelf.new result }
 {
     let out = FileNo {
         step: making.number,
@@ -86,7 +90,7 @@ pub(crate) fn complement<S: Shelf>(
     if complement_file(source.from, out, source.trailer, room, shelf)? {
         Ok(made_at_once(count))
     } else {
-        join(op, pair, making, count, room, shelf)
+        join(op, pair, making, count, going, room, shelf)
     }
 }
 

@@ -1,50 +1,49 @@
-use Rattle.std.proofs.Common.{ℕ, rules, arith}
-use Rattle.top_down_sweep.specs.declared.beginning.OperandFiles.{OperandFiles}
-use Rattle.step_sweeps.specs.declared.task.Making.{Making}
-use Rattle.top_down_sweep.specs.declared.steps.StepOperation.{StepOperation}
-use Rattle.step_sweeps.proofs.Joins.{pair_read, chosen_leads}
-use Rattle.step_sweeps.proofs.Ways.{after_look, answered, look_refused, with_less}
+use Rattle.std.proofs.Common.{◌≡◌, sym, subst}
+use Rattle.sweep_core.specs.declared.checkpoint.Checkpoint.{Checkpoint}
+use Rattle.step_sweeps.proofs.MadeAnew.{is_anew, may_resume, may_sweep, anew_makes, sweeps_make}
 use Rattle.step_sweeps.proofs.diagram.make_diagram.Goals as goal
 
--- no operator
-pub returns-in_default : goal.returns-in_default
-returns-in_default g c = record {
-  makes = with_less g.S.Shelf.tells g.S.Shelf.world g.S.Shelf.faults _ 0 (λ g. 0) _ 11 11 _ _ c.sweep_diagram.result
-      (λ g. omega arith) (omega arith) c.sweep_diagram.ensures.makes;
+-- begun anew
+pub returns-in-Anew : goal.returns-in-Anew
+returns-in-Anew g c = record {
+  makes = anew_makes g.S.Shelf.tells g.S.Shelf.world g.S.Shelf.faults _ c.args.going.now _ _ c.make_anew.result
+      c.in-Anew.ensures (is_anew c.args.going.now c.in-Anew.ensures c.requires.going).turns_are c.make_anew.ensures.makes;
 }
 
--- an operand's trailer wasn't read
-pub returns-in_err-pair : goal.returns-in_err-pair
-returns-in_err-pair g c = record {
-  makes = look_refused g.S.Shelf.tells g.S.Shelf.world g.S.Shelf.faults _ _ _ c.in_err-pair.field-0.0 c.from_residual.result
-      c.from_residual.ensures.1 c.in_err-pair.ensures.sound c.in_err-pair.ensures.damaged c.in_err-pair.ensures.content
-      (search rules);
+-- gone on with from a checkpoint
+pub copy_on-requires-clause-going : goal.copy_on-requires-clause-going
+copy_on-requires-clause-going g c =
+    may_resume c.args.going.now c.in-Copying.ensures.0 c.in-Copying.ensures.1 c.requires.going
+
+pub copy_on-requires-clause-tables : goal.copy_on-requires-clause-tables
+copy_on-requires-clause-tables g c point last =
+    let is = c.in-Copying.ensures.1 in
+    let same : point ≡ c.in-Copying.ensures.0 = cc in
+    subst (λ (x : Checkpoint). x.tables ≡ 0) (sym same) c.in-Copying.ensures.3
+
+pub returns-in-Copying : goal.returns-in-Copying
+returns-in-Copying g c = record {
+  makes = sweeps_make g.S.Shelf.tells g.S.Shelf.world g.S.Shelf.faults _ c.args.going.now _ _ c.copy_on.result
+      c.in-Copying.ensures.0 c.in-Copying.ensures.1 c.copy_on.ensures.sweeps;
 }
 
--- in the way that was chosen
-pub returns : goal.returns
-returns g c = record {
-  makes = after_look g.S.Shelf.tells g.S.Shelf.world g.S.Shelf.faults _ 4 0 0 (λ g. 0) (λ g. 0) 11 7 _ _ _ c.make_by.result
-      (omega arith)
-      (λ told. record { turns = λ g given. omega arith; few_calls = λ g given. omega arith; calls = λ below. omega arith })
-      c.read_pair.ensures.content (answered _ _ _ c.in_ok-pair.ensures.faults) c.make_by.ensures.makes;
+pub sweep_on-requires-clause-going : goal.sweep_on-requires-clause-going
+sweep_on-requires-clause-going g c =
+    may_sweep c.args.going.now c.in-MakingArcs.ensures.0 c.in-MakingArcs.ensures.1 c.in-MakingArcs.ensures.2
+    c.in-MakingArcs.ensures.3 c.requires.going
+
+pub returns-in-MakingArcs : goal.returns-in-MakingArcs
+returns-in-MakingArcs g c = record {
+  makes = sweeps_make g.S.Shelf.tells g.S.Shelf.world g.S.Shelf.faults _ c.args.going.now _ _ c.sweep_on.result
+      c.in-MakingArcs.ensures.0 c.in-MakingArcs.ensures.1 c.sweep_on.ensures.sweeps;
 }
 
--- what the way is given
-abbrev making_of : StepOperation → ℕ → OperandFiles → ℕ → Making
-making_of operation n operands number =
-    record { operation = operation; n = n; operands = operands; number = number }
+pub reduce_on-requires-clause-going : goal.reduce_on-requires-clause-going
+reduce_on-requires-clause-going g c =
+    may_resume c.args.going.now c.in-Reducing.ensures.0 c.in-Reducing.ensures.1 c.requires.going
 
-pub make_by-requires-clause-pair : goal.make_by-requires-clause-pair
-make_by-requires-clause-pair g c = pair_read g.S.Shelf.tells g.S.Shelf.world c.in-Operator.op
-    (making_of c.args.operation c.args.n c.args.operands c.args.number) c.in_ok-pair.pair _ _ c.in-Operator.is
-    c.in_ok-pair.ensures.operands.0 c.in_ok-pair.ensures.operands.1 c.read_pair.ensures.content
-    c.in_ok-pair.ensures.trailers
-
-pub make_by-requires-clause-leads : goal.make_by-requires-clause-leads
-make_by-requires-clause-leads g c =
-    let making = making_of c.args.operation c.args.n c.args.operands c.args.number in
-    chosen_leads g.S.Shelf.tells g.S.Shelf.world g.S.Shelf.faults c.in-Operator.op making c.in_ok-pair.pair _
-    (pair_read g.S.Shelf.tells g.S.Shelf.world c.in-Operator.op making c.in_ok-pair.pair _ _ c.in-Operator.is
-    c.in_ok-pair.ensures.operands.0 c.in_ok-pair.ensures.operands.1 c.read_pair.ensures.content
-    c.in_ok-pair.ensures.trailers) c.way_of-way.result c.way_of-way.ensures.leads
+pub returns-in-Reducing : goal.returns-in-Reducing
+returns-in-Reducing g c = record {
+  makes = sweeps_make g.S.Shelf.tells g.S.Shelf.world g.S.Shelf.faults _ c.args.going.now _ _ c.reduce_on.result
+      c.in-Reducing.ensures.0 c.in-Reducing.ensures.1 c.reduce_on.ensures.sweeps;
+}

@@ -1,5 +1,5 @@
-use Rattle.step_sweeps.proofs.Joins.{of_some}
-use Rattle.step_sweeps.proofs.Reducing.{has_form}
+use Rattle.step_sweeps.proofs.ArcsReduced.{of_some}
+use Rattle.step_sweeps.proofs.SweptReduction.{has_form}
 use Rattle.step_sweeps.proofs.in_room.reduce_few.Goals as goal
 
 -- what the room makes is the canonical file of the table

@@ -1,7 +1,8 @@
 use Rattle.std.proofs.Common.{refl, rules, arith}
-use Rattle.step_sweeps.specs.Makes.{nodes_for, left_by_sweeps}
-use Rattle.step_sweeps.proofs.Joins.{of_some, within, failed_calls, look_pays, joined_makes}
-use Rattle.step_sweeps.proofs.Ways.{after_look, answered, changed_step, failed}
+use Rattle.step_sweeps.specs.Makes.{nodes_for}
+use Rattle.step_sweeps.specs.Ways.{left_by_sweeps}
+use Rattle.step_sweeps.proofs.JoinsAnew.{of_some, within, failed_calls, look_pays, joined_makes}
+use Rattle.step_sweeps.proofs.WaysAnew.{after_look, answered, changed_run, failed}
 use Rattle.step_sweeps.proofs.joining.join.Goals as goal
 
 pub sweep_diagram-requires-clause-within : goal.sweep_diagram-requires-clause-within
@@ -11,11 +12,11 @@ sweep_diagram-requires-clause-within g c = within g.S.Shelf.tells g.S.Shelf.worl
 -- the folder failed
 pub returns-in_err-tried : goal.returns-in_err-tried
 returns-in_err-tried g c = record {
-  makes = failed g.S.Shelf.tells g.S.Shelf.world g.S.Shelf.faults c.args.making c.args.before
+  makes = failed g.S.Shelf.tells g.S.Shelf.world g.S.Shelf.faults c.args.making c.args.going.now.budget c.args.before
       (nodes_for c.args.making) 7 _ _ _ (search rules)
       (λ told. failed_calls g.S.Shelf.tells g.S.Shelf.world g.S.Shelf.faults c.args.op c.args.making c.args.pair _
       c.requires.pair _ (c.join_in_room.ensures.content.before told) (c.join_in_room.ensures.content.did told).few)
-      (changed_step g.S.Shelf.tells g.S.Shelf.world c.args.making.number _ _ _ c.join_in_room.ensures.content)
+      (changed_run g.S.Shelf.tells g.S.Shelf.world c.args.making.number _ _ _ c.join_in_room.ensures.content)
       (search rules);
 }
 
@@ -24,7 +25,7 @@ pub returns-in-Some : goal.returns-in-Some
 returns-in-Some g c =
     let few = of_some _ c.in-Some.joined _ c.in-Some.is c.in_ok-tried.ensures.few in record {
       makes = joined_makes g.S.Shelf.tells g.S.Shelf.world g.S.Shelf.faults c.args.op c.args.making c.args.pair _
-          c.requires.pair c.args.before _ c.in-Some.joined _ _ c.ranges.before.fits refl c.saturating_add.ensures refl
+          c.requires.pair c.args.going.now.budget c.args.before _ c.in-Some.joined _ _ c.ranges.before.fits refl c.saturating_add.ensures refl
           few.0 few.1.1
           (λ told t u left right. of_some _ c.in-Some.joined _ c.in-Some.is
           (c.in_ok-tried.ensures.made told t u left right))
@@ -35,7 +36,7 @@ returns-in-Some g c =
 -- and else the sweeps
 pub returns : goal.returns
 returns g c = record {
-  makes = after_look g.S.Shelf.tells g.S.Shelf.world g.S.Shelf.faults c.args.making _ c.args.before _
+  makes = after_look g.S.Shelf.tells g.S.Shelf.world g.S.Shelf.faults c.args.making c.args.going.now.budget _ c.args.before _
       (nodes_for c.args.making) (left_by_sweeps c.args.making) 7 11 _ _ _ c.sweep_diagram.result
       (search arith)
       (look_pays g.S.Shelf.tells g.S.Shelf.world g.S.Shelf.faults c.args.op c.args.making c.args.pair _ c.requires.pair

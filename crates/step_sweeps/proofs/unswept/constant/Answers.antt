@@ -1,7 +1,7 @@
 use Rattle.std.proofs.Common.{sym, subst, rules, arith}
 use Rattle.node_file.specs.Canonical.{IsMade}
 use Rattle.step_sweeps.specs.Made.{node_file}
-use Rattle.step_sweeps.proofs.Ways.{made_at_once, failed_at_once}
+use Rattle.step_sweeps.proofs.WaysAnew.{made_at_once, failed_at_once}
 use Rattle.step_sweeps.proofs.unswept.constant.Goals as goal
 
 pub returns-in_err-make_constant-clause-makes : goal.returns-in_err-make_constant-clause-makes

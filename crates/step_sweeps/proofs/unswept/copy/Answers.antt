@@ -1,5 +1,5 @@
 use Rattle.std.proofs.Common.{rules}
-use Rattle.step_sweeps.proofs.Ways.{made_at_once, failed_at_once}
+use Rattle.step_sweeps.proofs.WaysAnew.{made_at_once, failed_at_once}
 use Rattle.step_sweeps.proofs.unswept.copy.Goals as goal
 
 pub returns-in_err-copy_diagram-clause-makes : goal.returns-in_err-copy_diagram-clause-makes

@@ -28,10 +28,11 @@ use Rattle.top_down_sweep.specs.declared.steps.StepOperation.{StepOperation}
 use Rattle.top_down_sweep.specs.declared.steps.StepOperation.TheVariants.{Operator}
 use Rattle.step_sweeps.specs.Given.{Tables, AreEarlier, made_by, nodes_by}
 use Rattle.step_sweeps.specs.Made.{node_file}
-use Rattle.step_sweeps.specs.Makes.{IsGiven, Makes, table_by, nodes_for, work_for, left_by_sweeps}
+use Rattle.step_sweeps.specs.Makes.{IsGiven, table_by, nodes_for, work_for}
+use Rattle.step_sweeps.specs.Ways.{MakesAnew, left_by_sweeps}
 use Rattle.step_sweeps.specs.Operations.{IsWithin}
 use Rattle.step_sweeps.specs.Pairs.{IsPairOf, Leads}
-use Rattle.step_sweeps.proofs.Ways.{Pays, changed_step}
+use Rattle.step_sweeps.proofs.WaysAnew.{Pays, changed_run, node_changes, safe_anew}
 
 -- what holds of an answer that was given
 pub of_some : {A : Type 0} (o : Option A) (x : A) (P : A → Type 0) → o ≡ Some x → IfSome o P → P x
@@ -162,7 +163,7 @@ module _ {S : Type 0} (tells : S → Bool) (world : S → World) (counts : S →
   pub failed_calls : (new : S) → IsTrue (tells old) → (world new).clock
       ≤ (world old).clock + (16 * (pair.left.trailer.count + pair.right.trailer.count) + 21)
       → (g : Tables) → IsGiven making (world old) g
-      → (world new).clock + 224 * nodes_for making g ≤ (world old).clock + (224 * work_for making g + 7)
+      → (world new).clock + 229 * nodes_for making g ≤ (world old).clock + (229 * work_for making g + 7)
   failed_calls new told few g given =
       let count = nodes_are told g given in
       omega (arith, count, few)
@@ -180,7 +181,7 @@ module _ {S : Type 0} (tells : S → Bool) (world : S → World) (counts : S →
   }
 
   -- what was joined in the room
-  pub joined_makes : (first most : ℕ) (j : Joined) (m : MadeDiagram) (new : S) → first < 2 ^ 64
+  pub joined_makes : (budget first most : ℕ) (j : Joined) (m : MadeDiagram) (new : S) → first < 2 ^ 64
       → m.nodes ≡ j.nodes → m.turns ≡ min (first + j.turns) (2 ^ 64 - 1) → m.next ≡ 3
       → 0 < j.turns → j.turns ≤ 15 * (pair.left.trailer.count + pair.right.trailer.count + 1)
       → (IsTrue (tells new) → (t u : List Bool) → IsOperandOf making.n t pair.left (world old)
@@ -189,13 +190,14 @@ module _ {S : Type 0} (tells : S → Bool) (world : S → World) (counts : S →
       → (IsTrue (tells new) → (world new).clock ≤ (world old).clock + (8 * j.turns + 6))
       → Told tells old new (Changed most (node_file making.number) (world old) (world new))
       → OnlySortShelf {T = MadeDiagram} (counts old) (counts new) (Ok m)
-      → Makes tells world counts making first (nodes_for making) 7 old new (Ok m)
-  joined_makes first most j m new fits nodes turns next some few made paid content faults =
+      → MakesAnew tells world counts making budget first (nodes_for making) 7 old new (Ok m)
+  joined_makes budget first most j m new fits nodes turns next some few made paid content faults =
+      let run = changed_run tells world making.number most old new content in
       record {
         made = λ told g given.
-            let of = operands_are (content.before told) g given in
+            let of = operands_are (content.before told) g given.given in
             let joined = made told g.first g.second of.0 of.1 in
-            let count = nodes_are (content.before told) g given in
+            let count = nodes_are (content.before told) g given.given in
             record {
               made = subst (λ o. IsMade making.n (made_by o making.n g) (node_file making.number) m.nodes (world new))
                   (sym are.operation_is)
@@ -206,10 +208,11 @@ module _ {S : Type 0} (tells : S → Bool) (world : S → World) (counts : S →
         spent = λ was. absurd (cc);
         few_calls = λ told g given.
             let calls = paid told in
-            let count = nodes_are (content.before told) g given in
+            let count = nodes_are (content.before told) g given.given in
             omega (arith, calls, few, count);
+        images = λ told g given. safe_anew making budget g (world old) (world new) given.none (run.did told);
         damaged = tt;
-        content = changed_step tells world making.number most old new content;
+        content = node_changes tells world making.number old new run;
         counted = (
           omega (arith, turns, fits),
           record {

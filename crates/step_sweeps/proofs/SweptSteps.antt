@@ -1,0 +1,240 @@
+-- A step that makes a diagram by sweeps: its arcs are made, or refused, and then reduced.
+use Rattle.std.proofs.Common.{◌≡◌, ◌∙◌, ℕ, ◌+◌, ◌-◌, ◌*◌, ◌^◌, ◌<◌, ◌≤◌, Bool, IsTrue, List, ap, sym, subst, arith}
+use Rattle.std.specs.Prelude.{Option, None, Result, Ok, Err, IfOk, IfErr, IsErrOf, IsErrAnd}
+use Rattle.shelf_model.specs.declared.sort_fault.SortFault.{SortFault}
+use Rattle.shelf_model.specs.declared.sort_fault.SortFault.TheVariants.{Shelf, Damaged, RunsSpent}
+use Rattle.shelf_model.specs.Faults.{Faults}
+use Rattle.shelf_model.specs.Folder.{AreFiles}
+use Rattle.shelf_model.specs.Moments.{Throughout}
+use Rattle.shelf_model.specs.World.{Moment, World, now}
+use Rattle.shelf_model.proofs.Changing.{told_changed_then}
+use Rattle.shelf_model.proofs.Runs.{joins}
+use Rattle.run_tiers.specs.Faults.{OnlySortShelf}
+use Rattle.run_tiers.proofs.FaultLaws.{sort_shelf_then}
+use Rattle.step_going.specs.Standing.{AreSafe, IsStanding}
+use Rattle.sweep_checkpoint.specs.Going.{first_owed}
+use Rattle.sweep_checkpoint.specs.declared.going.Going.{Going}
+use Rattle.sweep_core.specs.declared.checkpoint.Checkpoint.{Checkpoint}
+use Rattle.sweep_core.specs.Saving.{reads_of}
+use Rattle.sweep_core.specs.Sweeps.{IsNoDamage}
+use Rattle.resumable.specs.Diagrams.{diagram_rests}
+use Rattle.top_down_sweep.specs.declared.beginning.OperandFiles.{OperandFiles}
+use Rattle.top_down_sweep.specs.Ordered.{AreOrdered}
+use Rattle.top_down_sweep.specs.Tasks.{AreArcFiles}
+use Rattle.step_sweeps.specs.declared.arcs.MadeArcs.{MadeArcs}
+use Rattle.step_sweeps.specs.declared.diagram.MadeDiagram.{MadeDiagram}
+use Rattle.step_sweeps.specs.declared.task.Making.{Making}
+use Rattle.step_sweeps.specs.Damage.{IsArcsFault}
+use Rattle.step_sweeps.specs.Given.{Tables, tuples_by}
+use Rattle.step_sweeps.specs.Going.{next_of, rest_calls}
+use Rattle.step_sweeps.specs.Made.{OnlyStep, IsCounted}
+use Rattle.step_sweeps.specs.Makes.{IsGivenFor, goes_on_by, table_by, work_for, operand_nodes}
+use Rattle.step_sweeps.specs.Sweeping.{MakesArcs, AreReducible, Reduces, Sweeps, IsEarly, MaySweep, MayReduce, most_turns, owed_parts}
+use Rattle.step_sweeps.specs.Ways.{IsGivenAnew, MakesAnew, left_by_sweeps}
+use Rattle.step_sweeps.proofs.SweptSums.{first_paid, both_paid, both_made, most_within}
+use Rattle.step_sweeps.proofs.UnderWay.{points_there}
+
+-- what follows of an answer, and of a fault
+pub ok_more : {A E : Type 0} (r : Result A E) (P Q : A → Type 0) → ((x : A) → P x → Q x) → IfOk r P → IfOk r Q
+ok_more (Ok x) P Q more is = more x is
+ok_more (Err e) P Q more is = tt
+
+pub ok_both : {A E : Type 0} (r : Result A E) (P Q R : A → Type 0) → ((x : A) → P x → Q x → R x) → IfOk r P → IfOk r Q
+    → IfOk r R
+ok_both (Ok x) P Q R both p q = both x p q
+ok_both (Err e) P Q R both p q = tt
+
+pub err_more : {A E : Type 0} (r : Result A E) (P Q : E → Type 0) → ((e : E) → P e → Q e) → IfErr r P → IfErr r Q
+err_more (Ok x) P Q more is = tt
+err_more (Err e) P Q more is = more e is
+
+-- a fault that is no damage is one of the step
+no_damage : (n : ℕ) (operands : OperandFiles) (world : World) (e : SortFault) → IsNoDamage e
+    → IsArcsFault n operands world e
+no_damage n operands world Shelf none = tt
+no_damage n operands world (Damaged f at) none = absurd none
+no_damage n operands world RunsSpent none = tt
+
+-- the arcs of a table's diagram are in the order of their files
+in_order : (n : ℕ) (table : List Bool) (m : MadeArcs) (world : World) → AreArcFiles n table m.arcs world
+    → AreOrdered m.arcs world
+in_order n table m world are =
+    record { inner = are.inner; ends = are.ends; inner_has = are.inner_has; ends_has = are.ends_has }
+
+module _ {S : Type 0} (tells : S → Bool) (world : S → World) (counts : S → Faults) (making : Making) where
+  -- a fault that is handed on
+  pub handed_sweeps : (going : Going) (before after : S) (e : SortFault) (r : Result MadeDiagram SortFault)
+      → IsErrAnd r (λ x. x ≡ e) → Sweeps tells world counts making going before after (Err e)
+      → Sweeps tells world counts making going before after r
+  handed_sweeps going before after e (Ok x) is sweeps = absurd is
+  handed_sweeps going before after e (Err x) is sweeps =
+      subst (λ (y : SortFault). Sweeps tells world counts making going before after (Err y)) (sym is) sweeps
+
+  module _ (old mid : Going) (before : S) where
+    -- the arcs weren't made
+    pub arcs_refused : (after : S) (e : SortFault)
+        → MakesArcs tells world counts making old mid before after (Err e)
+        → OnlySortShelf {T = MadeDiagram} (counts before) (counts after) (Err e)
+        → Sweeps tells world counts making old before after (Err e)
+    arcs_refused after e first faults = record {
+      made = tt;
+      undamaged = first.undamaged;
+      spent = λ was. first.spent (is_spent was);
+      few_calls = λ told g given.
+          let few = first.few_calls told g given in
+          let within = few.0.few in
+          first_paid old.turns few.0.left (10 * tuples_by making.operation making.n g)
+          (most_turns old.last making old g) (owed_parts old.last)
+          (rest_calls old.last (operand_nodes making (reads_of (world before)))) _ _ few.0.takes
+          (omega (arith, within)) few.2;
+      images = first.images;
+      damaged = first.damaged;
+      content = first.content;
+      counted = tt;
+      calls = tt;
+      faults = faults;
+    }
+      where
+        is_spent : IsErrOf {T = MadeDiagram} (Err e) RunsSpent → IsErrOf {T = MadeArcs} (Err e) RunsSpent
+        is_spent was = let same : e ≡ RunsSpent = cc in ap (λ (x : SortFault). Err x) same
+
+    module _ (at : S) (m : MadeArcs) (may : MaySweep making.number old) (early : IsEarly tells world making old before)
+        (first : MakesArcs tells world counts making old mid before at (Ok m)) where
+      -- they may be reduced
+      pub may_reduce : MayReduce making.number mid m.parts
+      may_reduce = record {
+        step_is = first.going.step_is ∙ may.step_is;
+        of_step = first.parts.0;
+        past = first.parts.1.0;
+        below = first.parts.1.1;
+        paid = first.paid;
+      }
+
+      -- of the step's tables they are such as can be
+      reducible : IsTrue (tells at) → (g : Tables) → IsGivenFor making old (world before) g
+          → (are : AreReducible making mid g 10 m (world at))
+          × (are.has.sources ≤ tuples_by making.operation making.n g)
+      reducible told g given =
+          let made = first.made told g given in
+          let few = made.few in
+          let sources = made.few_sources in
+          let within = most_within making old g old.last (early (first.content.before told) g given.given) in (
+            record {
+              has = record {
+                arcs = made.has.arcs;
+                sources = made.has.sources;
+                has_sources = made.has.has_sources;
+                inner_firm = made.has.inner_firm;
+                ends_firm = made.has.ends_firm;
+                last = made.has.last;
+                standing = subst (λ b. IsStanding (goes_on_by making b g) diagram_rests making.number b m.parts.next
+                    (now (world at)).folder made.has.last) (sym first.going.budget_is) made.has.standing;
+                apart = made.has.apart;
+              };
+              few = omega (arith, few, sources, within);
+            },
+            sources,
+          )
+
+      -- and so the step's diagram is made, or that is refused
+      pub reduced_then : (after : S) (r : Result MadeDiagram SortFault)
+          → (IsTrue (tells at) → AreFiles (now (world at)).folder)
+          → Reduces tells world counts making m mid 10 at after r
+          → Sweeps tells world counts making old before after r
+      reduced_then after r files_are second =
+          let began : IsTrue (tells after) → IsTrue (tells at) = λ told. second.content.before told in
+          record {
+            made = ok_more r _ _ (λ d made told g given.
+                let are = reducible (began told) g given in
+                let is = made told g are.0 in
+                let few = is.1 in
+                let fewer = are.1 in
+                let arcs = (first.made (began told) g given).few in
+                (is.0, omega (arith, few, fewer, arcs))) second.made;
+            undamaged = err_more r _ _ (λ e none told g given.
+                let made = first.made (began told) g given in
+                none told (in_order making.n (table_by making g) m (world at) made.has.arcs)
+                (points_there (goes_on_by making old.budget g) diagram_rests making.number old.budget m.parts.next
+                (now (world at)).folder made.has.last (files_are (began told)) made.has.standing)) second.undamaged;
+            spent = λ was told g given. second.spent was told g (reducible (began told) g given).0;
+            few_calls = λ told g given.
+                let are = reducible (began told) g given in
+                let few = first.few_calls (began told) g given in
+                let fewer = are.1 in
+                let within = few.0.few in
+                let arcs = (first.made (began told) g given).few in
+                let shown_is = may.shown_is in
+                let saved = few.1.0 in
+                both_paid old.turns mid.turns mid.shown few.0.left (10 * are.0.has.sources)
+                (most_turns old.last making old g) (owed_parts old.last) m.parts.next
+                (first_owed mid.last m.parts.next)
+                (rest_calls old.last (operand_nodes making (reads_of (world before)))) _ _ _ few.0.takes
+                (second.few_calls told g are.0).0 (omega (arith, within, fewer)) (omega (arith, arcs, fewer))
+                first.paid.shown (omega (arith, saved, shown_is)) few.1.1 few.2 (second.few_calls told g are.0).1;
+            images = λ told g given.
+                joins (world before) (world at) (world after)
+                (λ m. AreSafe (goes_on_by making old.budget g) making.number m.folder)
+                (first.images (began told) g given)
+                (subst (λ b. Throughout (world at) (world after)
+                (λ (m : Moment). AreSafe (goes_on_by making b g) making.number m.folder)) first.going.budget_is
+                (second.images told g (reducible (began told) g given).0));
+            damaged = err_more r _ _ (λ e none told anew no_gate.
+                let are = first.ordered (began told) anew no_gate in
+                no_damage making.n making.operands (world before) e (none told are.0 are.1)) second.undamaged;
+            content = told_changed_then tells world _ _ before at after (λ f is. is) first.content second.content;
+            counted = ok_more r _ _ (λ d counted.
+                let grew = first.grew in
+                let more = counted.0 in
+                (omega (arith, grew, more), counted.1)) second.counted;
+            calls = ok_both r _ _ _ (λ d counted calls told below.
+                let more = counted.0 in
+                let grew = first.grew in
+                let one = first.calls (omega (arith, more, below)) in
+                let two = calls below in
+                both_made old.turns old.shown mid.turns d.turns mid.shown (owed_parts old.last) m.parts.next
+                (first_owed mid.last m.parts.next)
+                (rest_calls old.last (operand_nodes making (reads_of (world before)))) _ _ _ one.1 two.0 may.shown_is
+                grew more one.0 first.paid.shown one.2 (one.3 (began told)) (two.1 told))
+                second.counted second.calls;
+            faults = sort_shelf_then _ _ _ (Ok m) r first.faults second.faults;
+          }
+
+  -- a step that began with the sweeps, where turns were made before
+  pub swept_anew : (going : Going) (before after : S) (r : Result MadeDiagram SortFault) → going.last ≡ None
+      → Sweeps tells world counts making going before after r
+      → MakesAnew tells world counts making going.budget going.turns (left_by_sweeps making) 11 before after r
+  swept_anew going before after r anew sweeps =
+      let given_for : (g : Tables) → IsGivenAnew making (world before) g → IsGivenFor making going (world before) g =
+      λ g given. record {
+        given = given.given;
+        firm = given.firm;
+        standing = subst (λ last. IsStanding (goes_on_by making going.budget g) diagram_rests making.number going.budget
+            (next_of last) (now (world before)).folder last) (sym anew) given.none;
+      } in
+      let most : (g : Tables) → most_turns going.last making going g ≡ most_turns None making going g =
+      λ g. ap (λ last. most_turns last making going g) anew in
+      let none : (nodes : ℕ) → rest_calls going.last nodes ≡ 0 = λ nodes. ap (λ last. rest_calls last nodes) anew in
+      let nodes : ℕ = operand_nodes making (reads_of (world before)) in
+      record {
+        made = ok_more r _ _ (λ d made told g given.
+            let is = made told g (given_for g given) in
+            let few = is.1 in
+            let all = most g in
+            record { made = is.0; few = omega (arith, few, all) }) sweeps.made;
+        undamaged = err_more r _ _ (λ e none told g given. none told g (given_for g given)) sweeps.undamaged;
+        spent = λ was told g given. sweeps.spent was told g (given_for g given);
+        few_calls = λ told g given.
+            let few = sweeps.few_calls told g (given_for g given) in
+            let all = most g in
+            let rest = none nodes in
+            omega (arith, few, all, rest);
+        images = λ told g given. sweeps.images told g (given_for g given);
+        damaged = err_more r _ _ (λ e is told no_gate. is told anew no_gate) sweeps.damaged;
+        content = sweeps.content;
+        counted = sweeps.counted;
+        calls = ok_more r _ _ (λ d calls told below.
+            let made = calls told below in
+            let rest = none nodes in
+            omega (arith, made, rest)) sweeps.calls;
+        faults = sweeps.faults;
+      }
