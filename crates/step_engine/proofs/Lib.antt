@@ -1,4 +1,10 @@
 mod Written
+mod Resuming
+mod JobPaid
+mod Told
+mod Went
+mod RunFaults
+mod Found
 pub mod PlanLaws
 mod TableLaws
 pub mod EntryLaws

@@ -16,8 +16,9 @@ use Rattle.shelf_model.specs.declared.sort_fault.SortFault.TheVariants as sort
 use Rattle.shelf_model.specs.declared.fault.StreamFault.{StreamFault}
 use Rattle.shelf_model.specs.declared.fault.StreamFault.TheVariants as stream
 use Rattle.shelf_model.specs.Calls.{Told}
-use Rattle.shelf_model.specs.Faults.{Faults, OnlyShelf}
+use Rattle.shelf_model.specs.Faults.{Faults}
 use Rattle.shelf_model.specs.File.{firm_file}
+use Rattle.shelf_model.specs.Folder.{AreFiles}
 use Rattle.shelf_model.specs.Moments.{Ran, Stays}
 use Rattle.shelf_model.proofs.Runs.{told_here, ran_stands}
 use Rattle.shelf_model.specs.SortFaults.{handed_on}
@@ -30,26 +31,20 @@ use Rattle.catalogue.specs.Counts.{present}
 use Rattle.sound_image.specs.Jobs.{Job, step_at, table_at, file_of}
 use Rattle.sound_image.specs.Entries.{IsEntryOfStep, kind_of, answer_of, count_of, work_of}
 use Rattle.sound_image.specs.Holds.{Holds}
-use Rattle.step_engine.specs.OneFile.{OnlyFile}
+use Rattle.step_engine.specs.OneFile.{OnlyFile, OnlyMade}
 use Rattle.step_engine.specs.Running.{run_calls, RunsStep}
 use Rattle.step_engine.specs.Simple.{reads, MayRun, IsStepOf}
 use Rattle.step_engine.specs.StepEntries.{diagram_entry, nameless_entry, one_turn}
 use Rattle.step_engine.specs.StepFaults.{IsKindFault, IsStepFault, IsSoundFault, IsOfKind}
 use Rattle.step_engine.proofs.EntryLaws.{for_diagram, for_nameless, diagram_entry_is, nameless_entry_is, one_turn_spent, one_within, place_step, size_is_sound}
 use Rattle.step_engine.proofs.TableLaws.{constant_nodes, variable_nodes, constant_is, variable_is, constant_form, variable_form}
+use Rattle.step_engine.proofs.Resuming.{one_resumes}
 use Rattle.step_engine.proofs.Written.{made_only, changes_none}
 
 -- the calls of a step that takes one turn
-pub one_calls : (step : Step) (turns now_clock clock : ℕ) → sweeps step ≡ false → now_clock ≤ clock + 5 → now_clock ≤ clock + run_calls step turns
-one_calls step turns now_clock clock not few = subst (λ b. now_clock ≤ clock + cond b (224 * turns + 11) 5) (sym not) few
-
--- a fault of the folder, as a stream hands it on
-pub shelf_faults : {A B : Type 0} (old new : Faults) (e : StreamFault) → OnlyShelf {T = A} old new (Err e) → OnlySortShelf {T = B} old new (Err (handed_on e))
-shelf_faults {A} {B} old new stream.Shelf only = record { later = only.later; cause = λ is. only.cause refl; say_is = only.say_is; text_is = only.text_is }
-shelf_faults {A} {B} old new (stream.Damaged f at) only = record { later = only.later; cause = λ is. cc; say_is = only.say_is; text_is = only.text_is }
-
-pub shelf_fine : {A B : Type 0} (old new : Faults) (x : A) (y : B) → OnlyShelf old new (Ok x) → OnlySortShelf old new (Ok y)
-shelf_fine old new x y only = record { later = only.later; cause = λ is. cc; say_is = only.say_is; text_is = only.text_is }
+pub one_calls : (step : Step) (turns rest now_clock clock : ℕ) → sweeps step ≡ false → now_clock ≤ clock + 5 → now_clock ≤ clock + (run_calls step turns + rest)
+one_calls step turns rest now_clock clock not few =
+    subst (λ b. now_clock ≤ clock + (cond b (229 * turns + 13) 5 + rest)) (sym not) (omega (arith, few))
 
 -- what is known of a step that makes the diagram of a constant or of a variable, and which it is
 pub record IsSimple (n number : ℕ) (step : Step) (nodes : ℕ) (bytes : List ℕ) : Type 0 where
@@ -58,12 +53,12 @@ pub record IsSimple (n number : ℕ) (step : Step) (nodes : ℕ) (bytes : List �
   pub kind_is : kind_of step ≡ 1
   pub no_answer : (job : Job) → answer_of job step ≡ 0
   pub only_folder : (world : World) (e : SortFault) → e ≡ sort.Shelf → IsStepFault n step world e
-  pub counts : (job : Job) (text : List ℕ) (p : Planned) → p.step ≡ step → IsStepOf job n text number p → count_of job number step ≡ nodes
-  pub bytes_are : (job : Job) (text : List ℕ) (p : Planned) → p.step ≡ step → IsStepOf job n text number p → bytes ≡ file_of job number
-  pub form : (job : Job) (text : List ℕ) (p : Planned) → p.step ≡ step → IsStepOf job n text number p → HasForm job.n (table_at job number)
+  pub counts : (job : Job) (text : List ℕ) (budget : ℕ) (p : Planned) → p.step ≡ step → IsStepOf job n text budget number p → count_of job number step ≡ nodes
+  pub bytes_are : (job : Job) (text : List ℕ) (budget : ℕ) (p : Planned) → p.step ≡ step → IsStepOf job n text budget number p → bytes ≡ file_of job number
+  pub form : (job : Job) (text : List ℕ) (budget : ℕ) (p : Planned) → p.step ≡ step → IsStepOf job n text budget number p → HasForm job.n (table_at job number)
 
-module _ {S : Type 0} (tells : S → Bool) (world : S → World) (counts : S → Faults) (n : ℕ) (text : List ℕ) (number : ℕ) (p : Planned)
-    (f : FileNo) (f_is : f ≡ node_file number)
+module _ {S : Type 0} (tells : S → Bool) (world : S → World) (counts : S → Faults) (n : ℕ) (text : List ℕ) (budget number : ℕ) (p : Planned)
+    (files_are : (s : S) → IsTrue (tells s) → AreFiles (now (world s)).folder) (f : FileNo) (f_is : f ≡ node_file number)
     (nodes : ℕ) (bytes : List ℕ) (simple : IsSimple n number p.step nodes bytes) (may : MayRun n text number p) (before after : S)
     (content : Told tells before after (Ran (OnlyFile f (now (world before))) (world before) (world after)))
     (calls : IsTrue (tells after) → (world after).clock ≤ (world before).clock + 5) where
@@ -71,20 +66,24 @@ module _ {S : Type 0} (tells : S → Bool) (world : S → World) (counts : S →
   own_file : Told tells before after (Ran (OnlyFile (node_file number) (now (world before))) (world before) (world after))
   own_file = subst (λ h. Told tells before after (Ran (OnlyFile h (now (world before))) (world before) (world after))) f_is content
 
+  made_so : Told tells before after (Ran (OnlyMade p.step number (now (world before))) (world before) (world after))
+  made_so = made_only tells world p.step number before after simple.makes own_file
+
   -- such a step that is refused
   pub simple_refused : (e : SortFault) → e ≡ sort.Shelf → OnlySortShelf {T = Entry} (counts before) (counts after) (Err e)
-      → RunsStep tells world counts n text number p before after (Err e)
+      → RunsStep tells world counts n text budget number p before after (Err e)
   simple_refused e folder faults = record {
-    content = made_only tells world p.step number before after simple.makes own_file;
+    content = made_so;
     fits = tt;
     entry = tt;
     made = tt;
+    resumes = one_resumes tells world n text budget number p files_are before after simple.not_swept made_so;
     sound = λ told job is holds. subst (IsSoundFault p.step (work_of job p.step)) (sym folder) tt;
-    damaged = λ told. simple.only_folder (world before) e folder;
+    damaged = λ told. inl (simple.only_folder (world before) e folder);
     kind = subst (IsOfKind p.step) (sym folder) tt;
     calls = tt;
     one_turn = λ told not. calls told;
-    few_calls = λ told job is holds. one_calls p.step _ _ _ simple.not_swept (calls told);
+    few_calls = λ told job is holds rest pays. one_calls p.step _ rest _ _ simple.not_swept (calls told);
     faults = faults;
   }
 
@@ -92,25 +91,26 @@ module _ {S : Type 0} (tells : S → Bool) (world : S → World) (counts : S →
   pub simple_made : (count : ℕ) (e : Entry) → count ≡ nodes → nodes < 2 ^ 64 → e ≡ diagram_entry text p number count one_turn
       → (IsTrue (tells after) → file (world after) f ≡ firm_file bytes)
       → OnlySortShelf (counts before) (counts after) (Ok e)
-      → RunsStep tells world counts n text number p before after (Ok e)
+      → RunsStep tells world counts n text budget number p before after (Ok e)
   simple_made count e count_is small e_is made faults = record {
-    content = made_only tells world p.step number before after simple.makes own_file;
+    content = made_so;
     fits = for_diagram number count one_turn text p e e_is may.few_steps may.named (subst (λ k. k < 2 ^ 64) (sym count_is) small) one_turn_spent simple.kind_is;
     entry = λ told job ready.
         subst (IsEntryOfStep job number) (sym e_is)
         (diagram_entry_is job number count one_turn text p may.few_steps may.named ready.step.text_is ready.step.step_is simple.kind_is simple.makes
-        (simple.no_answer job) (simple.counts job text p refl ready.step ∙ sym count_is) (subst (λ k. k < 2 ^ 64) (sym count_is) small) one_turn_spent
+        (simple.no_answer job) (simple.counts job text budget p refl ready.step ∙ sym count_is) (subst (λ k. k < 2 ^ 64) (sym count_is) small) one_turn_spent
         (one_within job p.step));
     made = λ told job ready _. (
-      ap (file (world after)) (sym f_is) ∙ made told ∙ ap firm_file (simple.bytes_are job text p refl ready.step),
-      simple.form job text p refl ready.step,
+      ap (file (world after)) (sym f_is) ∙ made told ∙ ap firm_file (simple.bytes_are job text budget p refl ready.step),
+      simple.form job text budget p refl ready.step,
     );
+    resumes = one_resumes tells world n text budget number p files_are before after simple.not_swept made_so;
     sound = tt;
     damaged = tt;
     kind = tt;
-    calls = λ told exact. one_calls p.step _ _ _ simple.not_swept (calls told);
+    calls = λ told rest pays exact. one_calls p.step _ rest _ _ simple.not_swept (calls told);
     one_turn = λ told not. calls told;
-    few_calls = λ told job is holds. one_calls p.step _ _ _ simple.not_swept (calls told);
+    few_calls = λ told job is holds rest pays. one_calls p.step _ rest _ _ simple.not_swept (calls told);
     faults = faults;
   }
 
@@ -123,9 +123,9 @@ constant_simple n number value step few step_is = subst (λ s. IsSimple n number
   kind_is = refl;
   no_answer = λ job. refl;
   only_folder = λ world e is. is;
-  counts = λ job text p p_is is. constant_nodes job number value is.within (place_step job number p (Const value) is.step_is p_is);
-  bytes_are = λ job text p p_is is. constant_is job number n value is.n_is is.within (place_step job number p (Const value) is.step_is p_is);
-  form = λ job text p p_is is. constant_form job number value is.well_formed.few_variables is.within (place_step job number p (Const value) is.step_is p_is);
+  counts = λ job text budget p p_is is. constant_nodes job number value is.within (place_step job number p (Const value) is.step_is p_is);
+  bytes_are = λ job text budget p p_is is. constant_is job number n value is.n_is is.within (place_step job number p (Const value) is.step_is p_is);
+  form = λ job text budget p p_is is. constant_form job number value is.well_formed.few_variables is.within (place_step job number p (Const value) is.step_is p_is);
 })
 
 pub variable_simple : (n number level : ℕ) (step : Step) → n ≤ most_variables → level < n → step ≡ Var level
@@ -136,17 +136,17 @@ variable_simple n number level step few below step_is = subst (λ s. IsSimple n 
   kind_is = refl;
   no_answer = λ job. refl;
   only_folder = λ world e is. is;
-  counts = λ job text p p_is is.
+  counts = λ job text budget p p_is is.
       variable_nodes job number level is.within (place_step job number p (Var level) is.step_is p_is) (subst (λ m. level < m) (sym is.n_is) below);
-  bytes_are = λ job text p p_is is. variable_is job number n level is.n_is is.within (place_step job number p (Var level) is.step_is p_is);
-  form = λ job text p p_is is.
+  bytes_are = λ job text budget p p_is is. variable_is job number n level is.n_is is.within (place_step job number p (Var level) is.step_is p_is);
+  form = λ job text budget p p_is is.
       variable_form job number level is.well_formed.few_variables is.within (place_step job number p (Var level) is.step_is p_is)
       (subst (λ m. level < m) (sym is.n_is) below);
 })
 
 -- a size
-pub size_calls : (of : ℕ) (step : Step) → step ≡ Size of → (turns now_clock clock : ℕ) → now_clock ≤ clock + 1 → now_clock ≤ clock + run_calls step turns
-size_calls of step is turns now_clock clock few = one_calls step turns now_clock clock (ap sweeps is) (omega (arith, few))
+pub size_calls : (of : ℕ) (step : Step) → step ≡ Size of → (turns rest now_clock clock : ℕ) → now_clock ≤ clock + 1 → now_clock ≤ clock + (run_calls step turns + rest)
+size_calls of step is turns rest now_clock clock few = one_calls step turns rest now_clock clock (ap sweeps is) (omega (arith, few))
 
 pub size_reads : (of : ℕ) (step : Step) → step ≡ Size of → IsTrue (reads step)
 size_reads of step is = subst (λ s. IsTrue (reads s)) (sym is) refl
@@ -159,37 +159,39 @@ pub size_fault : (n of : ℕ) (step : Step) → step ≡ Size of → (world : Wo
     → IsKindFault of 1 (present (now world).folder) e → IsStepFault n step world (handed_on e)
 size_fault n of step is world e fault = subst (λ s. IsStepFault n s world (handed_on e)) (sym is) (e, refl, fault)
 
-pub size_sound : (job : Job) (n number of : ℕ) (text : List ℕ) (p : Planned) (e : StreamFault) (world : World) → p.step ≡ Size of → IsStepOf job n text number p
+pub size_sound : (job : Job) (n budget number of : ℕ) (text : List ℕ) (p : Planned) (e : StreamFault) (world : World) → p.step ≡ Size of → IsStepOf job n text budget number p
     → of < number → Holds job number (now world).folder → IsKindFault of 1 (present (now world).folder) e
     → IsSoundFault p.step (work_of job p.step) (handed_on e)
-size_sound job n number of text p e world size is below holds fault =
+size_sound job n budget number of text p e world size is below holds fault =
     subst (λ x. IsSoundFault p.step (work_of job p.step) (handed_on x))
     (sym (size_is_sound job number of p e (now world).folder is.within is.well_formed is.step_is size below holds fault)) tt
 
-pub size_makes : (job : Job) (n number of : ℕ) (text : List ℕ) (p : Planned) → p.step ≡ Size of → IsStepOf job n text number p
+pub size_makes : (job : Job) (n budget number of : ℕ) (text : List ℕ) (p : Planned) → p.step ≡ Size of → IsStepOf job n text budget number p
     → IsTrue (makes_diagram (step_at job number).step) → ⊥
-size_makes job n number of text p size is diagram =
+size_makes job n budget number of text p size is diagram =
     let not : makes_diagram (step_at job number).step ≡ false = ap makes_diagram (place_step job number p (Size of) is.step_is size) in cc
 
 -- a drop
-pub drop_runs : {S : Type 0} (tells : S → Bool) (world : S → World) (counts : S → Faults) (n : ℕ) (text : List ℕ) (number gone : ℕ) (p : Planned)
-    (s : S) (e : Entry) → p.step ≡ Drop gone → gone < number → MayRun n text number p → e ≡ nameless_entry number 2 0 gone one_turn
-    → RunsStep tells world counts n text number p s s (Ok e)
-drop_runs tells world counts n text number gone p s e drop below may e_is =
+pub drop_runs : {S : Type 0} (tells : S → Bool) (world : S → World) (counts : S → Faults) (n : ℕ) (text : List ℕ) (budget number gone : ℕ) (p : Planned)
+    (files_are : (s : S) → IsTrue (tells s) → AreFiles (now (world s)).folder) (s : S) (e : Entry) → p.step ≡ Drop gone → gone < number → MayRun n text number p → e ≡ nameless_entry number 2 0 gone one_turn
+    → RunsStep tells world counts n text budget number p s s (Ok e)
+drop_runs tells world counts n text budget number gone p files_are s e drop below may e_is =
     let small : gone < 2 ^ 64 = let few = may.few_steps in omega (arith, few, below) in
+    let content = changes_none tells world p.step number s s (told_here tells s _ (λ _. ran_stands (world s) (Stays (now (world s))) refl)) in
     record {
-      content = changes_none tells world p.step number s s (told_here tells s _ (λ _. ran_stands (world s) (Stays (now (world s))) refl));
+      content = content;
       fits = for_nameless number 2 0 gone one_turn p e e_is may.few_steps (omega arith, omega arith) (inl refl) small one_turn_spent (ap kind_of drop);
       entry = λ told job ready. subst (IsEntryOfStep job number) (sym e_is)
           (nameless_entry_is job number 2 0 gone one_turn p may.few_steps ready.step.step_is (ap kind_of drop) (omega arith, omega arith) (inl refl)
           (ap makes_diagram drop) (ap (answer_of job) drop) (ap (count_of job number) drop) small one_turn_spent (one_within job p.step));
       made = λ told job ready diagram. absurd (
           let not : makes_diagram (step_at job number).step ≡ false = ap makes_diagram (place_step job number p (Drop gone) ready.step.step_is drop) in cc);
+      resumes = one_resumes tells world n text budget number p files_are s s (ap sweeps drop) content;
       sound = tt;
       damaged = tt;
       kind = tt;
-      calls = λ told exact. one_calls p.step _ _ _ (ap sweeps drop) (omega arith);
+      calls = λ told rest pays exact. one_calls p.step _ rest _ _ (ap sweeps drop) (omega arith);
       one_turn = λ told not. omega arith;
-      few_calls = λ told job is holds. one_calls p.step _ _ _ (ap sweeps drop) (omega arith);
+      few_calls = λ told job is holds rest pays. one_calls p.step _ rest _ _ (ap sweeps drop) (omega arith);
       faults = record { later = omega arith; cause = λ is. cc; say_is = refl; text_is = λ path. refl };
     }

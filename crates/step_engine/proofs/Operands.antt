@@ -15,8 +15,9 @@ use Rattle.bool_tables.specs.Tables.{value_at, table_with, with_digit}
 use Rattle.canon_file.specs.Canon.{canon_nodes, canon_bytes}
 use Rattle.canon_file.specs.Laws.{HasForm}
 use Rattle.shelf_model.specs.declared.file_no.FileNo.{FileNo}
-use Rattle.shelf_model.specs.File.{File}
-use Rattle.shelf_model.specs.World.{World, now}
+use Rattle.shelf_model.specs.File.{File, firm_file}
+use Rattle.shelf_model.specs.World.{World, now, file}
+use Rattle.run_tiers.specs.Syncs.{IsFirm}
 use Rattle.sound_image.specs.Files.{node_file}
 use Rattle.sound_image.specs.Jobs.{Job, step_at, table_at, nodes_at, file_of}
 use Rattle.sound_image.specs.Entries.{work_of}
@@ -27,8 +28,13 @@ use Rattle.step_work.specs.Works.{work_for, nodes_of}
 use Rattle.step_work.proofs.SameTuples.{LeadAlike, same_count}
 use Rattle.node_file.specs.Canonical.{IsCanonicalFile}
 use Rattle.top_down_sweep.specs.declared.steps.StepOperation.TheVariants as operations
+use Rattle.top_down_sweep.specs.declared.beginning.OperandFiles.{OperandFiles}
+use Rattle.resumable.specs.Diagrams.{DiagramGoesOn, diagram_rests}
+use Rattle.resumable.specs.Kinds.{StepGoesOn, RestsOn}
+use Rattle.step_sweeps.specs.Answers.{IsFirmFile, AreTwo}
 use Rattle.step_sweeps.specs.Given.{Tables, AreGiven, made_by, work_by}
 use Rattle.step_engine.specs.declared.sweeping.Sweeping.{Sweeping}
+use Rattle.step_engine.specs.Finding.{JobGoesOn, JobRests}
 use Rattle.step_engine.specs.Simple.{IsStepOf}
 use Rattle.step_engine.specs.Sweeping.{files_of, sweeping_of}
 use Rattle.step_engine.proofs.PlanLaws.{follows_at, operands_live}
@@ -41,9 +47,9 @@ pub record IsHeld (job : Job) (number : ℕ) (step : Step) (world : World) : Typ
   pub live : IsTrue (list_all (is_live (take number job.steps)) (operands step))
   pub holds : Holds job number (now world).folder
 
-pub held_step : (job : Job) (n number : ℕ) (text : List ℕ) (p : Planned) (step : Step) (world : World) → IsStepOf job n text number p → p.step ≡ step
+pub held_step : (job : Job) (n budget number : ℕ) (text : List ℕ) (p : Planned) (step : Step) (world : World) → IsStepOf job n text budget number p → p.step ≡ step
     → Holds job number (now world).folder → IsHeld job number step world
-held_step job n number text p step world is step_is holds =
+held_step job n budget number text p step world is step_is holds =
     let found : (step_at job number).step ≡ step = ap (λ (q : Planned). q.step) is.step_is ∙ step_is in
     record {
       within = is.within;
@@ -63,6 +69,17 @@ canonical_at : (job : Job) (n number j : ℕ) (f : FileNo) (world : World) → f
 canonical_at job n number j f world f_is n_is holds live =
     subst (λ v. v) (λ i. IsCanonicalFile (n_is i) (table_at job j) (sym f_is i) world) (canonical job number j world holds live)
 
+-- whatever a stop leaves
+firm : (job : Job) (number j : ℕ) (world : World) → Holds job number (now world).folder → IsTrue (is_live (take number job.steps) j) → IsFirm (file world (node_file j))
+firm job number j world holds live = holds.files j live ∙ ap (λ (f : File). firm_file f.bytes) (sym (holds.files j live))
+
+firm_at : (job : Job) (n number j : ℕ) (f : FileNo) (world : World) → f ≡ node_file j → job.n ≡ n → Holds job number (now world).folder
+    → IsTrue (is_live (take number job.steps) j) → IsFirmFile n (table_at job j) f world
+firm_at job n number j f world f_is n_is holds live = record {
+  canonical = canonical_at job n number j f world f_is n_is holds live;
+  firm = subst (λ g. IsFirm (file world g)) (sym f_is) (firm job number j world holds live);
+}
+
 -- of a list of live diagrams the first, the second and the third one
 first_live : (steps : List Planned) (a : ℕ) (more : List ℕ) → IsTrue (list_all (is_live steps) (a ∷ more)) → IsTrue (is_live steps a)
 first_live steps a more live = (and_parts (is_live steps a) (list_all (is_live steps) more) live).0
@@ -70,11 +87,20 @@ first_live steps a more live = (and_parts (is_live steps a) (list_all (is_live s
 more_live : (steps : List Planned) (a : ℕ) (more : List ℕ) → IsTrue (list_all (is_live steps) (a ∷ more)) → IsTrue (list_all (is_live steps) more)
 more_live steps a more live = (and_parts (is_live steps a) (list_all (is_live steps) more) live).1
 
--- what a step is given that makes a diagram of others: the tables of the operands, whose files are canonical, the
--- step's table as the operation makes it of these, and the step's work
-pub record IsGivenTo (job : Job) (number : ℕ) (step : Step) (sweeping : Sweeping) (world : World) (n : ℕ) : Type 0 where
+-- of three operands the files are firm
+pub record AreFirm (operands : OperandFiles) (world : World) : Type 0 where
+  pub first : IsFirm (file world operands.first)
+  pub second : IsFirm (file world operands.second)
+  pub third : IsFirm (file world operands.third)
+
+-- what a step is given that makes a diagram of others: the tables of the operands, whose files are canonical and firm,
+-- the step's table as the operation makes it of these, and the step's work; and in which words the step goes on
+pub record IsGivenTo (job : Job) (number : ℕ) (step : Step) (sweeping : Sweeping) (world : World) (n : ℕ) : Type 1 where
   pub tables : Tables
   pub are : AreGiven sweeping.operation n sweeping.operands world tables
+  pub firm : AreFirm sweeping.operands world
+  pub goes_is : JobGoesOn job number ≡ DiagramGoesOn sweeping.operation n sweeping.operands number job.budget tables
+  pub rests_is : JobRests job number ≡ diagram_rests
   pub bytes_are : canon_bytes n (made_by sweeping.operation n tables) ≡ file_of job number
   pub nodes_are : length (canon_nodes n (made_by sweeping.operation n tables)) ≡ nodes_at job number
   pub form : HasForm n (made_by sweeping.operation n tables) → HasForm job.n (table_at job number)
@@ -82,11 +108,16 @@ pub record IsGivenTo (job : Job) (number : ℕ) (step : Step) (sweeping : Sweepi
 
 -- so it is given these tables of as many variables as the job has
 given_tables : (job : Job) (number : ℕ) (step : Step) (sweeping : Sweeping) (world : World) (g : Tables)
-    → AreGiven sweeping.operation job.n sweeping.operands world g → made_by sweeping.operation job.n g ≡ table_at job number
+    → AreGiven sweeping.operation job.n sweeping.operands world g → AreFirm sweeping.operands world
+    → JobGoesOn job number ≡ DiagramGoesOn sweeping.operation job.n sweeping.operands number job.budget g → JobRests job number ≡ diagram_rests
+    → made_by sweeping.operation job.n g ≡ table_at job number
     → work_by sweeping.operation job.n g ≡ work_of job step → IsGivenTo job number step sweeping world job.n
-given_tables job number step sweeping world g are table_is work_is = record {
+given_tables job number step sweeping world g are firm goes_is rests_is table_is work_is = record {
   tables = g;
   are = are;
+  firm = firm;
+  goes_is = goes_is;
+  rests_is = rests_is;
   bytes_are = ap (canon_bytes job.n) table_is;
   nodes_are = ap (λ t. length (canon_nodes job.n t)) table_is;
   form = subst (HasForm job.n) table_is;
@@ -115,6 +146,12 @@ module _ (job : Job) (number : ℕ) (world : World) where
         third = canonical job number right world is.holds right_live;
         repeated = refl;
       })
+      (record {
+        first = firm job number left world is.holds left_live;
+        second = firm job number right world is.holds right_live;
+        third = firm job number right world is.holds right_live;
+      })
+      (ap (λ s r. StepGoesOn job.n job.text job.steps job.budget number s r) is.step_is) (ap (λ s c f many. RestsOn s c f many) is.step_is)
       (sym (from.table_is ∙ ap (step_table job.n from.seen) is.step_is
       ∙ ap₂ (λ a b. table_with job.n (λ p. op_value op (value_at a p) (value_at b p)))
       (from.are left (live_below job.steps number left left_live)) (from.are right (live_below job.steps number right right_live))))
@@ -135,6 +172,12 @@ module _ (job : Job) (number : ℕ) (world : World) where
         third = canonical job number if_zero world is.holds if_zero_live;
         repeated = tt;
       })
+      (record {
+        first = firm job number test world is.holds test_live;
+        second = firm job number if_one world is.holds if_one_live;
+        third = firm job number if_zero world is.holds if_zero_live;
+      })
+      (ap (λ s r. StepGoesOn job.n job.text job.steps job.budget number s r) is.step_is) (ap (λ s c f many. RestsOn s c f many) is.step_is)
       (sym (from.table_is ∙ ap (step_table job.n from.seen) is.step_is
       ∙ (λ j. table_with job.n (λ p. cond (value_at (from.are test (live_below job.steps number test test_live) j) p)
       (value_at (from.are if_one (live_below job.steps number if_one if_one_live) j) p) (value_at (from.are if_zero (live_below job.steps number if_zero if_zero_live) j) p)))))
@@ -146,7 +189,10 @@ module _ (job : Job) (number : ℕ) (world : World) where
       let from = made_from job number is.within in
       let live = first_live (take number job.steps) of [] is.live in
       let file = canonical job number of world is.holds live in
+      let sure = firm job number of world is.holds live in
       given_tables job number _ _ world (three job of of of) (record { first = file; second = file; third = file; repeated = (refl, refl) })
+      (record { first = sure; second = sure; third = sure })
+      (ap (λ s r. StepGoesOn job.n job.text job.steps job.budget number s r) is.step_is) (ap (λ s c f many. RestsOn s c f many) is.step_is)
       (sym (from.table_is ∙ ap (step_table job.n from.seen) is.step_is
       ∙ ap (λ a. table_with job.n (λ p. quant_value kind (value_at a (with_digit job.n level false p)) (value_at a (with_digit job.n level true p))))
       (from.are of (live_below job.steps number of live))))
@@ -158,7 +204,10 @@ module _ (job : Job) (number : ℕ) (world : World) where
       let from = made_from job number is.within in
       let live = first_live (take number job.steps) of [] is.live in
       let file = canonical job number of world is.holds live in
+      let sure = firm job number of world is.holds live in
       given_tables job number _ _ world (three job of of of) (record { first = file; second = file; third = file; repeated = (refl, refl) })
+      (record { first = sure; second = sure; third = sure })
+      (ap (λ s r. StepGoesOn job.n job.text job.steps job.budget number s r) is.step_is) (ap (λ s c f many. RestsOn s c f many) is.step_is)
       (sym (from.table_is ∙ ap (step_table job.n from.seen) is.step_is
       ∙ ap (λ a. table_with job.n (λ p. value_at a (with_digit job.n level value p)))
       (from.are of (live_below job.steps number of live))))
@@ -184,37 +233,38 @@ sweeping_given job number world (Eval of at) sweeping none is = cc
 sweeping_given job number world (Size of) sweeping none is = cc
 
 -- and of n variables
-pub step_given : (job : Job) (n number : ℕ) (text : List ℕ) (p : Planned) (sweeping : Sweeping) (world : World) → sweeping_of p.step ≡ Some sweeping
-    → IsStepOf job n text number p → Holds job number (now world).folder → IsGivenTo job number p.step sweeping world n
-step_given job n number text p sweeping world some is holds =
+pub step_given : (job : Job) (n budget number : ℕ) (text : List ℕ) (p : Planned) (sweeping : Sweeping) (world : World) → sweeping_of p.step ≡ Some sweeping
+    → IsStepOf job n text budget number p → Holds job number (now world).folder → IsGivenTo job number p.step sweeping world n
+step_given job n budget number text p sweeping world some is holds =
     subst (IsGivenTo job number p.step sweeping world) is.n_is
-    (sweeping_given job number world p.step sweeping some (held_step job n number text p p.step world is refl holds))
+    (sweeping_given job number world p.step sweeping some (held_step job n budget number text p p.step world is refl holds))
 
--- the files of two operands, and of one, are the canonical ones of their tables
-pub two_given : (job : Job) (n number : ℕ) (text : List ℕ) (p : Planned) (world : World) (step : Step) (left right : ℕ)
+-- the files of two operands, and of one, are the canonical ones of their tables, and firm
+pub two_given : (job : Job) (n budget number : ℕ) (text : List ℕ) (p : Planned) (world : World) (step : Step) (left right : ℕ)
     (f g : FileNo) → f ≡ node_file left → g ≡ node_file right → p.step ≡ step
-    → operands step ≡ left ∷ right ∷ [] → IsStepOf job n text number p → Holds job number (now world).folder
-    → IsCanonicalFile n (table_at job left) f world × IsCanonicalFile n (table_at job right) g world
-two_given job n number text p world step left right f g f_is g_is step_is names is holds =
-    let held = held_step job n number text p step world is step_is holds in
+    → operands step ≡ left ∷ right ∷ [] → IsStepOf job n text budget number p → Holds job number (now world).folder
+    → AreTwo n f g world (record { left = table_at job left; right = table_at job right })
+two_given job n budget number text p world step left right f g f_is g_is step_is names is holds =
+    let held = held_step job n budget number text p step world is step_is holds in
     let live = subst (λ ks. IsTrue (list_all (is_live (take number job.steps)) ks)) names held.live in
-    let second_live = first_live (take number job.steps) right [] (more_live (take number job.steps) left (right ∷ []) live) in (
-      canonical_at job n number left f world f_is is.n_is holds (first_live (take number job.steps) left (right ∷ []) live),
-      canonical_at job n number right g world g_is is.n_is holds second_live,
-    )
+    let second_live = first_live (take number job.steps) right [] (more_live (take number job.steps) left (right ∷ []) live) in
+    record {
+      left_is = firm_at job n number left f world f_is is.n_is holds (first_live (take number job.steps) left (right ∷ []) live);
+      right_is = firm_at job n number right g world g_is is.n_is holds second_live;
+    }
 
-pub one_given : (job : Job) (n number : ℕ) (text : List ℕ) (p : Planned) (world : World) (step : Step) (of : ℕ)
+pub one_given : (job : Job) (n budget number : ℕ) (text : List ℕ) (p : Planned) (world : World) (step : Step) (of : ℕ)
     (f : FileNo) → f ≡ node_file of → p.step ≡ step
-    → operands step ≡ of ∷ [] → IsStepOf job n text number p → Holds job number (now world).folder
-    → IsCanonicalFile n (table_at job of) f world
-one_given job n number text p world step of f f_is step_is names is holds =
-    let held = held_step job n number text p step world is step_is holds in
+    → operands step ≡ of ∷ [] → IsStepOf job n text budget number p → Holds job number (now world).folder
+    → IsFirmFile n (table_at job of) f world
+one_given job n budget number text p world step of f f_is step_is names is holds =
+    let held = held_step job n budget number text p step world is step_is holds in
     let live = subst (λ ks. IsTrue (list_all (is_live (take number job.steps)) ks)) names held.live in
-    canonical_at job n number of f world f_is is.n_is holds (first_live (take number job.steps) of [] live)
+    firm_at job n number of f world f_is is.n_is holds (first_live (take number job.steps) of [] live)
 
 -- the work of a step, by one that leads alike
-pub work_given : (job : Job) (n number : ℕ) (text : List ℕ) (p : Planned) (s t : Step) → p.step ≡ t → joins s ≡ joins t → LeadAlike s t
-    → IsStepOf job n text number p → work_for n s (map (table_at job) (operands t)) ≡ work_of job p.step
-work_given job n number text p s t step_is both alike is =
+pub work_given : (job : Job) (n budget number : ℕ) (text : List ℕ) (p : Planned) (s t : Step) → p.step ≡ t → joins s ≡ joins t → LeadAlike s t
+    → IsStepOf job n text budget number p → work_for n s (map (table_at job) (operands t)) ≡ work_of job p.step
+work_given job n budget number text p s t step_is both alike is =
     ap (λ m. work_for m s (map (table_at job) (operands t))) (sym is.n_is)
     ∙ same_work s t both alike job.n (map (table_at job) (operands t)) ∙ ap (work_of job) (sym step_is)

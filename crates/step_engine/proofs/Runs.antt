@@ -1,6 +1,6 @@
 -- The runs of steps that sweep, from what the sweeps say.
 use Rattle.std.proofs.Common.{◌≡◌, ◌∙◌, ℕ, ◌+◌, ◌-◌, ◌*◌, ◌^◌, ◌<◌, ◌≤◌, Bool, true, false, cond, nat_lt, List, [], ◌∷◌, refl, sym, ap, subst, inl, inr, arith}
-use Rattle.std.specs.Prelude.{IsTrue, Some, Result, Ok, Err, IsErrOf, IsErrAnd}
+use Rattle.std.specs.Prelude.{IsTrue, Some, Result, Ok, Err, IsErrAnd}
 use Rattle.std.specs.List.{list_all}
 use Rattle.std.proofs.lemmas.Bool.{and_parts, ltb-true}
 use Rattle.std.proofs.lemmas.Option.{same_Some}
@@ -8,57 +8,147 @@ use Rattle.bool_tables.specs.declared.steps.Step.{Step}
 use Rattle.bool_tables.specs.declared.steps.Step.TheVariants.{Const, Var, Pair, Ite, Quantify, Restrict, Drop, Same, Leq, Eval, Size}
 use Rattle.bool_tables.specs.declared.steps.Planned.{Planned}
 use Rattle.bool_tables.specs.Plans.{operands, levels_of, makes_diagram}
+use Rattle.shelf_model.specs.declared.file_no.FileNo.{FileNo}
 use Rattle.shelf_model.specs.declared.sort_fault.SortFault.{SortFault}
 use Rattle.shelf_model.specs.declared.sort_fault.SortFault.TheVariants as sort
 use Rattle.shelf_model.specs.Calls.{Told}
 use Rattle.shelf_model.specs.Faults.{Faults}
 use Rattle.shelf_model.specs.File.{firm_file}
-use Rattle.shelf_model.specs.Moments.{Ran}
-use Rattle.shelf_model.specs.World.{World, now}
+use Rattle.shelf_model.specs.Folder.{AreFiles}
+use Rattle.shelf_model.specs.Moments.{Ran, OnlyChanged}
+use Rattle.shelf_model.specs.World.{World, now, file}
 use Rattle.catalogue.specs.declared.layout.Entry.{Entry}
 use Rattle.run_tiers.specs.Faults.{OnlySortShelf}
-use Rattle.run_tiers.proofs.FaultLaws.{sort_shelf_on}
+use Rattle.run_tiers.proofs.FaultLaws.{sort_shelf_on, sort_shelf_then}
 use Rattle.step_work.specs.Tuples.{joins, sweeps}
+use Rattle.node_file.specs.Canonical.{IsMade}
+use Rattle.node_reading.specs.Reading.{count_of}
+use Rattle.sweep_core.specs.Saving.{reads_of}
 use Rattle.sweep_core.specs.Sweeps.{IsNoDamage}
-use Rattle.sound_image.specs.Jobs.{Job, step_at, nodes_at}
-use Rattle.sound_image.specs.Entries.{IsEntryOfStep, kind_of, answer_of, bit_of, count_of, work_of}
+use Rattle.sweep_checkpoint.specs.declared.going.Going.{Going}
+use Rattle.resumable.specs.Diagrams.{DiagramGoesOn, diagram_rests}
+use Rattle.sound_image.specs.Files.{node_file, checkpoint_gate}
+use Rattle.sound_image.specs.Jobs.{Job, nodes_at}
+use Rattle.sound_image.specs.Entries as entries
+use Rattle.sound_image.specs.Entries.{IsEntryOfStep, kind_of, answer_of, work_of}
 use Rattle.sound_image.specs.Holds.{Holds}
-use Rattle.step_sweeps.specs.declared.answers.Answered.{Answered}
+use Rattle.sound_image.specs.Holds as held
 use Rattle.step_sweeps.specs.declared.diagram.MadeDiagram.{MadeDiagram}
 use Rattle.step_sweeps.specs.declared.task.Making.{Making}
 use Rattle.step_sweeps.specs.Damage.{IsArcsFault}
-use Rattle.step_sweeps.specs.Given.{Tables, AreGiven, AreEarlier, work_by}
-use Rattle.step_sweeps.specs.Made.{OnlyParts, OnlyStepFiles, IsCounted}
-use Rattle.step_sweeps.specs.Makes.{IsDiagramOf}
+use Rattle.step_sweeps.specs.Given.{AreEarlier}
+use Rattle.step_sweeps.specs.Going.{rest_calls}
+use Rattle.step_sweeps.specs.Made.{IsCounted}
+use Rattle.step_sweeps.specs.Makes.{table_by, operand_nodes, IsGivenFor, IsDiagramOf, Makes}
 use Rattle.step_sweeps.specs.Operations.{IsWithin}
 use Rattle.step_engine.specs.declared.entries.Spent.{Spent}
 use Rattle.step_engine.specs.declared.sweeping.Sweeping.{Sweeping}
-use Rattle.step_engine.specs.OneFile.{OnlyMade}
+use Rattle.step_engine.specs.Finding.{JobGoesOn, FindsGoing}
 use Rattle.step_engine.specs.Simple.{reads, MayRun, IsStepOf}
 use Rattle.step_engine.specs.Sweeping.{files_of, sweeping_of}
-use Rattle.step_engine.specs.StepEntries.{diagram_entry, answer_entry}
-use Rattle.step_engine.specs.StepFaults.{IsMakingFault, IsStepFault, IsSoundFault, IsOfKind}
-use Rattle.step_engine.specs.Running.{run_calls, RunsStep}
-use Rattle.step_engine.proofs.EntryLaws.{IsSpent, for_diagram, for_nameless, diagram_entry_is, nameless_entry_is, bit_says}
-use Rattle.step_engine.proofs.Operands.{step_given}
-use Rattle.step_engine.proofs.Written.{parts_only, step_only}
-
--- what a call counted that ended well, whatever it gives
-pub faults_ok : {A B : Type 0} (old new : Faults) (x : A) (y : B) → OnlySortShelf old new (Ok x) → OnlySortShelf old new (Ok y)
-faults_ok old new x y only = record {
-  later = only.later;
-  cause = λ is. cc;
-  say_is = only.say_is;
-  text_is = only.text_is;
-}
+use Rattle.step_engine.specs.StepEntries.{diagram_entry, IsEntryFor}
+use Rattle.step_engine.specs.StepFaults.{IsMakingFault, IsStepFault, IsRunFault, IsSoundFault, IsOfKind}
+use Rattle.step_engine.specs.Running.{run_calls, nodes_read, PaysRest, IsReadyFor, RunsStep}
+use Rattle.step_engine.proofs.EntryLaws.{IsSpent, for_diagram, diagram_entry_is}
+use Rattle.step_engine.proofs.Operands.{IsGivenTo, step_given}
+use Rattle.step_engine.proofs.RunFaults.{faults_ok, fault_before, refused_first, refused_then, gate_as, shelf_sound, not_spent_kind}
+use Rattle.step_engine.proofs.Went.{stands_as, safe_as, IsSet, Went, Swept, went_first, set_found, same_reads, pays_for, went_then}
 
 -- a run that is refused, for a fault that is handed on
-pub handed_runs : {S : Type 0} (tells : S → Bool) (world : S → World) (counts : S → Faults) (n : ℕ) (text : List ℕ) (number : ℕ) (p : Planned)
+pub handed_runs : {S : Type 0} (tells : S → Bool) (world : S → World) (counts : S → Faults) (n : ℕ) (text : List ℕ) (budget number : ℕ) (p : Planned)
     (before after : S) (e : SortFault) (r : Result Entry SortFault) → IsErrAnd r (λ f. f ≡ e)
-    → RunsStep tells world counts n text number p before after (Err e) → RunsStep tells world counts n text number p before after r
-handed_runs tells world counts n text number p before after e (Ok x) is runs = absurd is
-handed_runs tells world counts n text number p before after e (Err f) is runs =
-    subst (λ x. RunsStep tells world counts n text number p before after (Err x)) (sym is) runs
+    → RunsStep tells world counts n text budget number p before after (Err e) → RunsStep tells world counts n text budget number p before after r
+handed_runs tells world counts n text budget number p before after e (Ok x) is runs = absurd is
+handed_runs tells world counts n text budget number p before after e (Err f) is runs =
+    subst (λ x. RunsStep tells world counts n text budget number p before after (Err x)) (sym is) runs
+
+-- the calls of a step that sweeps
+pub swept_calls : (step : Step) (turns rest now_clock clock : ℕ) → sweeps step ≡ true → now_clock ≤ clock + (229 * turns + 13 + rest)
+    → now_clock ≤ clock + (run_calls step turns + rest)
+swept_calls step turns rest now_clock clock swept few =
+    subst (λ b. now_clock ≤ clock + (cond b (229 * turns + 13) 5 + rest)) (sym swept) few
+
+-- a step that sweeps isn't one that takes one turn
+never_one : {A : Type 0} (step : Step) → sweeps step ≡ true → sweeps step ≡ false → A
+never_one step swept not = absurd cc
+
+-- what a sound folder allows of a fault: none of damage, and none of parts below so much work
+pub sound_fault : (step : Step) (work bound : ℕ) (e : SortFault) → IsOfKind step e → bound ≡ work → IsNoDamage e
+    → (e ≡ sort.RunsSpent → 2 ^ 35 ≤ bound) → IsSoundFault step work e
+sound_fault step work bound sort.Shelf kind same none spent = tt
+sound_fault step work bound (sort.Damaged f at) kind same none spent = none
+sound_fault step work bound sort.RunsSpent kind same none spent = (kind, subst (λ w. 2 ^ 35 ≤ w) same (spent refl))
+
+pub of_kind : (step : Step) (e : SortFault) → joins step ≡ true → IsOfKind step e
+of_kind step sort.Shelf joined = tt
+of_kind step (sort.Damaged f at) joined = tt
+of_kind step sort.RunsSpent joined = joined
+
+module _ {S : Type 0} (tells : S → Bool) (world : S → World) (counts : S → Faults) (n : ℕ) (text : List ℕ) (budget number : ℕ) (p : Planned)
+    (swept : sweeps p.step ≡ true) (before after : S) (went : Went tells world counts n text budget number p before after) where
+  few_run : IsTrue (tells after) → (job : Job) → IsStepOf job n text budget number p → Holds job number (now (world before)).folder → (rest : ℕ)
+      → PaysRest p.step number budget (reads_of (world before)) rest
+      → (world after).clock ≤ (world before).clock + (run_calls p.step (work_of job p.step) + rest)
+  few_run told job is holds rest pays = swept_calls p.step (work_of job p.step) rest _ _ swept (went.few_calls told job is holds rest pays)
+
+  -- a run that is refused
+  pub refused_runs : (e : SortFault)
+      → (IsTrue (tells after) → (job : Job) → IsStepOf job n text budget number p → Holds job number (now (world before)).folder
+      → IsSoundFault p.step (work_of job p.step) e)
+      → (IsTrue (tells after) → IsRunFault n number p.step (world before) e) → IsOfKind p.step e
+      → OnlySortShelf {T = Entry} (counts before) (counts after) (Err e)
+      → RunsStep tells world counts n text budget number p before after (Err e)
+  refused_runs e sound damaged kind faults = record {
+    content = went.content;
+    fits = tt;
+    entry = tt;
+    made = tt;
+    resumes = went.resumes;
+    sound = sound;
+    damaged = damaged;
+    kind = kind;
+    calls = tt;
+    one_turn = λ told not. never_one p.step swept not;
+    few_calls = few_run;
+    faults = faults;
+  }
+
+  -- and one that ends
+  pub ended_runs : (e : Entry) (turns : ℕ) → e.turns ≡ turns → IsEntryFor p.step number e
+      → (IsTrue (tells after) → (job : Job) → IsReadyFor job n text budget number p (world before) → IsEntryOfStep job number e)
+      → (IsTrue (tells after) → (job : Job) → IsReadyFor job n text budget number p (world before) → held.IsMade job number (now (world after)).folder)
+      → (IsTrue (tells after) → (rest : ℕ) → PaysRest p.step number budget (reads_of (world before)) rest → turns < 2 ^ 64 - 1
+      → (world after).clock ≤ (world before).clock + (229 * turns + 13 + rest))
+      → OnlySortShelf {T = Entry} (counts before) (counts after) (Ok e)
+      → RunsStep tells world counts n text budget number p before after (Ok e)
+  ended_runs e turns turns_is fits entry made calls faults = record {
+    content = went.content;
+    fits = fits;
+    entry = entry;
+    made = made;
+    resumes = went.resumes;
+    sound = tt;
+    damaged = tt;
+    kind = tt;
+    calls = λ told rest pays exact. swept_calls p.step e.turns rest _ _ swept
+        (subst (λ k. (world after).clock ≤ (world before).clock + (229 * k + 13 + rest)) (sym turns_is)
+        (calls told rest pays (subst (λ k. k < 2 ^ 64 - 1) turns_is exact)));
+    one_turn = λ told not. never_one p.step swept not;
+    few_calls = few_run;
+    faults = faults;
+  }
+
+-- a run that is refused before it sweeps
+pub first_refused : {S : Type 0} (tells : S → Bool) (world : S → World) (counts : S → Faults) (n : ℕ) (text : List ℕ) (budget number : ℕ) (p : Planned)
+    (swept : sweeps p.step ≡ true) (before after : S) (e : SortFault) → FindsGoing tells world counts budget number before after (Err e)
+    → RunsStep tells world counts n text budget number p before after (Err e)
+first_refused tells world counts n text budget number p swept before after e found =
+    refused_runs tells world counts n text budget number p swept before after
+    (went_first tells world counts n text budget number p swept before after (Err e) found) e
+    (λ told job is holds. shelf_sound p.step (work_of job p.step) e (found.sound told job
+    (record { well_formed = is.well_formed; budget_is = is.budget_is; within = is.within }) holds))
+    (λ told. refused_first n number p.step swept (world before) e (found.damaged told)) (not_spent_kind p.step e found.kind)
+    (sort_shelf_on (counts before) (counts after) e (Err e) refl found.faults)
 
 -- what is known of a step that makes a diagram of others
 pub record IsOperation (n number : ℕ) (step : Step) (sweeping : Sweeping) : Type 0 where
@@ -67,17 +157,19 @@ pub record IsOperation (n number : ℕ) (step : Step) (sweeping : Sweeping) : Ty
   pub joins_is : joins step ≡ true
   pub kind_is : kind_of step ≡ 1
   pub no_answer : (job : Job) → answer_of job step ≡ 0
-  pub counts : (job : Job) → count_of job number step ≡ nodes_at job number
+  pub counts : (job : Job) → entries.count_of job number step ≡ nodes_at job number
   pub earlier : IsTrue (list_all (λ k. nat_lt k number) (operands step)) → AreEarlier number sweeping.operands
   pub within : IsTrue (list_all (λ level. nat_lt level n) (levels_of step)) → IsWithin n sweeping.operation
   pub fault : (world : World) (e : SortFault) → IsArcsFault n sweeping.operands world e → IsStepFault n step world e
   pub reads_is : reads step ≡ true
+  pub nodes : (r : FileNo → List ℕ)
+      → count_of (r sweeping.operands.first) + count_of (r sweeping.operands.second) + count_of (r sweeping.operands.third) ≤ nodes_read step r
 
 -- of a list of earlier steps the first is one, and so are the others
-first_below : (number a : ℕ) (more : List ℕ) → IsTrue (list_all (λ k. nat_lt k number) (a ∷ more)) → a < number
+pub first_below : (number a : ℕ) (more : List ℕ) → IsTrue (list_all (λ k. nat_lt k number) (a ∷ more)) → a < number
 first_below number a more h = ltb-true a number (and_parts (nat_lt a number) (list_all (λ k. nat_lt k number) more) h).0
 
-more_below : (number a : ℕ) (more : List ℕ) → IsTrue (list_all (λ k. nat_lt k number) (a ∷ more)) → IsTrue (list_all (λ k. nat_lt k number) more)
+pub more_below : (number a : ℕ) (more : List ℕ) → IsTrue (list_all (λ k. nat_lt k number) (a ∷ more)) → IsTrue (list_all (λ k. nat_lt k number) more)
 more_below number a more h = (and_parts (nat_lt a number) (list_all (λ k. nat_lt k number) more) h).1
 
 -- faults of two, three and one operands
@@ -124,6 +216,7 @@ is_operation n number (Pair op left right) sweeping some =
       within = λ h. tt;
       fault = two_faults n left right;
       reads_is = refl;
+      nodes = λ r. omega arith;
     })
 is_operation n number (Ite test if_one if_zero) sweeping some =
     subst (IsOperation n number (Ite test if_one if_zero)) (same_Some _ sweeping some) (record {
@@ -141,6 +234,7 @@ is_operation n number (Ite test if_one if_zero) sweeping some =
       within = λ h. tt;
       fault = three_faults n test if_one if_zero;
       reads_is = refl;
+      nodes = λ r. omega arith;
     })
 is_operation n number (Quantify kind of level) sweeping some =
     subst (IsOperation n number (Quantify kind of level)) (same_Some _ sweeping some) (record {
@@ -158,6 +252,7 @@ is_operation n number (Quantify kind of level) sweeping some =
       within = λ h. first_below n level [] h;
       fault = one_fault n of;
       reads_is = refl;
+      nodes = λ r. omega arith;
     })
 is_operation n number (Restrict of level value) sweeping some =
     subst (IsOperation n number (Restrict of level value)) (same_Some _ sweeping some) (record {
@@ -175,6 +270,7 @@ is_operation n number (Restrict of level value) sweeping some =
       within = λ h. first_below n level [] h;
       fault = one_fault n of;
       reads_is = refl;
+      nodes = λ r. omega arith;
     })
 is_operation n number (Drop gone) sweeping none = cc
 is_operation n number (Same left right) sweeping none = cc
@@ -182,202 +278,126 @@ is_operation n number (Leq left right) sweeping none = cc
 is_operation n number (Eval of at) sweeping none = cc
 is_operation n number (Size of) sweeping none = cc
 
--- what a sound folder allows of a fault: none of damage, and none of parts below so much work
-pub sound_fault : (step : Step) (work bound : ℕ) (e : SortFault) → joins step ≡ true → bound ≡ work → IsNoDamage e
-    → (e ≡ sort.RunsSpent → 2 ^ 35 ≤ bound) → IsSoundFault step work e
-sound_fault step work bound sort.Shelf joined same none spent = tt
-sound_fault step work bound (sort.Damaged f at) joined same none spent = none
-sound_fault step work bound sort.RunsSpent joined same none spent = (joined, subst (λ w. 2 ^ 35 ≤ w) same (spent refl))
-
-pub of_kind : (step : Step) (e : SortFault) → joins step ≡ true → IsOfKind step e
-of_kind step sort.Shelf joined = tt
-of_kind step (sort.Damaged f at) joined = tt
-of_kind step sort.RunsSpent joined = joined
-
 -- what a diagram took
 abbrev pub spent_by : MadeDiagram → Spent
 spent_by m = record { turns = m.turns; parts = m.next }
 
--- the calls of a step that sweeps
-pub swept_calls : (step : Step) (turns now_clock clock : ℕ) → sweeps step ≡ true → now_clock ≤ clock + (224 * turns + 11)
-    → now_clock ≤ clock + run_calls step turns
-swept_calls step turns now_clock clock swept few =
-    subst (λ b. now_clock ≤ clock + cond b (224 * turns + 11) 5) (sym swept) few
-
--- a step that sweeps isn't one that takes one turn
-never_one : {A : Type 0} (step : Step) → sweeps step ≡ true → sweeps step ≡ false → A
-never_one step swept not = absurd cc
-
--- what it is given
+-- what a step is given
 abbrev pub making_of : ℕ → Sweeping → ℕ → Making
 making_of n sweeping number =
     record { operation = sweeping.operation; n = n; operands = sweeping.operands; number = number }
 
-module _ {S : Type 0} (tells : S → Bool) (world : S → World) (counts : S → Faults) (n : ℕ) (text : List ℕ) (number : ℕ) (p : Planned)
-    (sweeping : Sweeping) (some : sweeping_of p.step ≡ Some sweeping) (may : MayRun n text number p) (before after : S)
-    (content : Told tells before after (Ran (OnlyStepFiles number (now (world before))) (world before) (world after)))
-    (few_calls : IsTrue (tells after) → (g : Tables) → AreGiven sweeping.operation n sweeping.operands (world before) g
-    → (world after).clock ≤ (world before).clock + (224 * work_by sweeping.operation n g + 11)) where
+module _ {S : Type 0} (tells : S → Bool) (world : S → World) (counts : S → Faults) (n : ℕ) (text : List ℕ) (budget number : ℕ) (p : Planned)
+    (sweeping : Sweeping) (some : sweeping_of p.step ≡ Some sweeping) (may : MayRun n text number p)
+    (files_are : (s : S) → IsTrue (tells s) → AreFiles (now (world s)).folder) (before mid after : S) (going : Going)
+    (found : FindsGoing tells world counts budget number before mid (Ok going)) where
   is_one : IsOperation n number p.step sweeping
   is_one = is_operation n number p.step sweeping some
 
-  changed : Told tells before after (Ran (OnlyMade p.step number (now (world before))) (world before) (world after))
-  changed = step_only tells world p.step number before after is_one.makes is_one.sweeps_is content
+  step_is : going.step ≡ number
+  step_is = found.going.0
 
-  all_calls : IsTrue (tells after) → (job : Job) → IsStepOf job n text number p → Holds job number (now (world before)).folder
-      → (world after).clock ≤ (world before).clock + run_calls p.step (work_of job p.step)
-  all_calls told job is holds =
-      let given = step_given job n number text p sweeping (world before) some is holds in
-      swept_calls p.step (work_of job p.step) _ _ is_one.sweeps_is
-      (subst (λ w. (world after).clock ≤ (world before).clock + (224 * w + 11)) given.work_is (few_calls told given.tables given.are))
+  -- what the operation is given, where the step is set
+  record IsGivenAs (job : Job) : Type 1 where
+    given : IsGivenTo job number p.step sweeping (world mid) n
+    goes_is : JobGoesOn job number ≡ DiagramGoesOn sweeping.operation n sweeping.operands going.step going.budget given.tables
+    for : IsGivenFor (making_of n sweeping going.step) going (world mid) given.tables
+
+  given_as : (job : Job) → IsSet job n text budget number p going.last (now (world mid)).folder → IsGivenAs job
+  given_as job set =
+      let given : IsGivenTo job number p.step sweeping (world mid) n = step_given job n budget number text p sweeping (world mid) some set.is set.holds in
+      let budget_is : job.budget ≡ going.budget = set.is.budget_is ∙ sym found.going.1 in
+      let goes_is : JobGoesOn job number ≡ DiagramGoesOn sweeping.operation n sweeping.operands going.step going.budget given.tables =
+      given.goes_is ∙ (λ i. DiagramGoesOn sweeping.operation n sweeping.operands (sym step_is i) (budget_is i) given.tables) in
+      record {
+        given = given;
+        goes_is = goes_is;
+        for = record {
+          given = given.are;
+          firm = record {
+            first = given.firm.first;
+            second = given.firm.second;
+            third = given.firm.third;
+          };
+          standing = stands_as job number going.step going.budget _ diagram_rests goes_is given.rests_is (sym step_is) budget_is going.last
+              (now (world mid)).folder set.stands;
+        };
+      }
+
+  module _ (result : Result MadeDiagram SortFault)
+      (said : Makes tells world counts (making_of n sweeping going.step) going mid after result) where
+    swept_by : Swept tells world counts n text budget number p going.last 11 (operand_nodes (making_of n sweeping going.step)) mid after
+    swept_by = record {
+      content = subst (λ k. Told tells mid after (Ran (OnlyChanged (λ f. f.step ≡ k) (now (world mid))) (world mid) (world after))) step_is said.content;
+      safe = λ told job set.
+          let its = given_as job set in
+          safe_as job number going.step _ its.goes_is (sym step_is) (world mid) (world after) (said.images told its.given.tables its.for);
+      few_calls = λ told job set.
+          let its = given_as job set in
+          subst (λ w. (world after).clock ≤ (world mid).clock + (229 * w + 11 + rest_calls going.last (operand_nodes (making_of n sweeping going.step) (reads_of (world mid)))))
+          its.given.work_is (said.few_calls told its.given.tables its.for);
+    }
+
+    went : Went tells world counts n text budget number p before after
+    went = went_then tells world counts n text budget number p files_are is_one.sweeps_is before mid after going found 11
+        (operand_nodes (making_of n sweeping going.step)) (omega arith) is_one.nodes swept_by
+
+    set_in : IsTrue (tells after) → (job : Job) → IsStepOf job n text budget number p → Holds job number (now (world before)).folder
+        → IsSet job n text budget number p going.last (now (world mid)).folder
+    set_in told job is holds =
+        set_found tells world counts n text budget number p files_are is_one.sweeps_is before mid after going found 11
+        (operand_nodes (making_of n sweeping going.step)) (omega arith) is_one.nodes (said.content.before told) job is holds
 
   -- an operation that is refused
-  pub operation_refused : (e : SortFault)
-      → (IsTrue (tells after) → (g : Tables) → AreGiven sweeping.operation n sweeping.operands (world before) g → IsNoDamage e)
-      → (IsErrOf {T = MadeDiagram} (Err e) sort.RunsSpent → IsTrue (tells after) → (g : Tables)
-      → AreGiven sweeping.operation n sweeping.operands (world before) g → 2 ^ 35 ≤ work_by sweeping.operation n g)
-      → (IsTrue (tells after) → IsArcsFault n sweeping.operands (world before) e)
-      → OnlySortShelf {T = MadeDiagram} (counts before) (counts after) (Err e)
-      → RunsStep tells world counts n text number p before after (Err e)
-  operation_refused e undamaged spent damaged faults = record {
-    content = changed;
-    fits = tt;
-    entry = tt;
-    made = tt;
-    sound = λ told job is holds.
-        let given = step_given job n number text p sweeping (world before) some is holds in
-        sound_fault p.step (work_of job p.step) _ e is_one.joins_is given.work_is (undamaged told given.tables given.are)
-        (λ is_spent. spent (ap (λ f. Err f) is_spent) told given.tables given.are);
-    damaged = λ told. is_one.fault (world before) e (damaged told);
-    kind = of_kind p.step e is_one.joins_is;
-    calls = tt;
-    one_turn = λ told not. never_one p.step is_one.sweeps_is not;
-    few_calls = all_calls;
-    faults = sort_shelf_on (counts before) (counts after) e (Err e) refl faults;
-  }
+  pub operation_refused : (e : SortFault) → Makes tells world counts (making_of n sweeping going.step) going mid after (Err e)
+      → RunsStep tells world counts n text budget number p before after (Err e)
+  operation_refused e said =
+      refused_runs tells world counts n text budget number p is_one.sweeps_is before after (went (Err e) said) e
+      (λ told job is holds.
+      let its = given_as job (set_in (Err e) said told job is holds) in
+      sound_fault p.step (work_of job p.step) _ e (of_kind p.step e is_one.joins_is) its.given.work_is (said.undamaged told its.given.tables its.for)
+      (λ is_spent. said.spent (ap (λ f. Err f) is_spent) told its.given.tables its.for))
+      (λ told.
+      let told_mid = said.content.before told in
+      refused_then n number p.step is_one.sweeps_is (world before) budget going.last e (found.last told_mid)
+      (λ none empty.
+      let same : (f : FileNo) → (file (world mid) f).bytes ≡ (file (world before) f).bytes = λ f. ap (λ r. r f)
+      (same_reads tells world counts n text budget number p files_are is_one.sweeps_is before mid after going found 11
+      (operand_nodes (making_of n sweeping going.step)) (omega arith) is_one.nodes told_mid) in
+      fault_before n (world before) (world mid) same p.step e is_one.sweeps_is (is_one.fault (world mid) e
+      (said.damaged told none (gate_as found.going.0 (world mid) (same (checkpoint_gate number) ∙ empty))))))
+      (of_kind p.step e is_one.joins_is)
+      (sort_shelf_then (counts before) (counts mid) (counts after) (Ok going) (Err e) found.faults
+      (sort_shelf_on (counts mid) (counts after) e (Err e) refl said.faults))
 
   -- an operation that made its diagram
   pub operation_made : (m : MadeDiagram) (e : Entry) → e ≡ diagram_entry text p number m.nodes (spent_by m)
-      → m.nodes < 2 ^ 64 → m.turns < 2 ^ 64 → IsCounted m.turns m.next
-      → (IsTrue (tells after) → (g : Tables) → AreGiven sweeping.operation n sweeping.operands (world before) g
-      → IsDiagramOf (making_of n sweeping number) g 0 0 m (world after))
-      → (IsTrue (tells after) → m.turns < 2 ^ 64 - 1 → (world after).clock ≤ (world before).clock + (224 * m.turns + 11))
-      → OnlySortShelf {T = MadeDiagram} (counts before) (counts after) (Ok m)
-      → RunsStep tells world counts n text number p before after (Ok e)
-  operation_made m e e_is small few counted made calls faults = record {
-    content = changed;
-    fits = for_diagram number m.nodes (spent_by m) text p e e_is may.few_steps may.named small took is_one.kind_is;
-    entry = λ told job ready.
-        let holds = ready.holds is_one.reads_is in
-        let given = step_given job n number text p sweeping (world before) some ready.step holds in
-        let diagram = made told given.tables given.are in
-        let few : m.turns ≤ work_by sweeping.operation n given.tables = let few = diagram.few in omega (arith, few) in
-        subst (IsEntryOfStep job number) (sym e_is)
-        (diagram_entry_is job number m.nodes (spent_by m) text p may.few_steps may.named ready.step.text_is ready.step.step_is is_one.kind_is is_one.makes
-        (is_one.no_answer job) (is_one.counts job ∙ sym (diagram.made.nodes_are ∙ given.nodes_are)) small took
-        (subst (λ w. m.turns ≤ w) given.work_is few));
-    made = λ told job ready _.
-        let given = step_given job n number text p sweeping (world before) some ready.step (ready.holds is_one.reads_is) in
-        let diagram = made told given.tables given.are in
-        (diagram.made.file_is ∙ ap firm_file given.bytes_are, given.form diagram.made.form);
-    sound = tt;
-    damaged = tt;
-    kind = tt;
-    calls = λ told exact.
-        let turns_is : e.turns ≡ m.turns = ap (λ (x : Entry). x.turns) e_is in
-        swept_calls p.step e.turns _ _ is_one.sweeps_is
-        (subst (λ k. (world after).clock ≤ (world before).clock + (224 * k + 11)) (sym turns_is)
-        (calls told (subst (λ k. k < 2 ^ 64 - 1) turns_is exact)));
-    one_turn = λ told not. never_one p.step is_one.sweeps_is not;
-    few_calls = all_calls;
-    faults = faults_ok (counts before) (counts after) m e faults;
-  }
+      → m.nodes < 2 ^ 64 → m.turns < 2 ^ 64 → Makes tells world counts (making_of n sweeping going.step) going mid after (Ok m)
+      → RunsStep tells world counts n text budget number p before after (Ok e)
+  operation_made m e e_is small few said =
+      ended_runs tells world counts n text budget number p is_one.sweeps_is before after (went (Ok m) said) e m.turns (ap (λ (x : Entry). x.turns) e_is)
+      (for_diagram number m.nodes (spent_by m) text p e e_is may.few_steps may.named small took is_one.kind_is)
+      (λ told job ready.
+      let its = given_as job (set_in (Ok m) said told job ready.step (ready.holds is_one.reads_is)) in
+      let diagram : IsDiagramOf (making_of n sweeping going.step) its.given.tables m (world after) = said.made told its.given.tables its.for in
+      subst (IsEntryOfStep job number) (sym e_is)
+      (diagram_entry_is job number m.nodes (spent_by m) text p may.few_steps may.named ready.step.text_is ready.step.step_is is_one.kind_is is_one.makes
+      (is_one.no_answer job) (is_one.counts job ∙ sym (diagram.made.nodes_are ∙ its.given.nodes_are)) small took
+      (subst (λ w. m.turns ≤ w) its.given.work_is diagram.few)))
+      (λ told job ready _.
+      let its = given_as job (set_in (Ok m) said told job ready.step (ready.holds is_one.reads_is)) in
+      let making = making_of n sweeping going.step in
+      let made : IsMade n (table_by making its.given.tables) (node_file number) m.nodes (world after) =
+      subst (λ k. IsMade n (table_by making its.given.tables) (node_file k) m.nodes (world after)) step_is (said.made told its.given.tables its.for).made in
+      (made.file_is ∙ ap firm_file its.given.bytes_are, its.given.form made.form))
+      (λ told rest pays exact.
+      pays_for tells world counts n text budget number p files_are is_one.sweeps_is before mid after going found 11
+      (operand_nodes (making_of n sweeping going.step)) (omega arith) is_one.nodes (said.content.before told) m.turns rest pays
+      (let called = said.calls told exact in omega (arith, called)))
+      (sort_shelf_then (counts before) (counts mid) (counts after) (Ok going) (Ok e) found.faults
+      (faults_ok (counts mid) (counts after) m e said.faults))
     where
       took : IsSpent (spent_by m)
-      took = record { some = counted.some; turns = few; from = counted.from; parts = counted.below; few = counted.few }
-
--- what is known of a step that answers by reading diagrams
-pub record IsQuestion (number : ℕ) (step : Step) : Type 0 where
-  pub sweeps_is : sweeps step ≡ true
-  pub kind_is : kind_of step ≡ 3
-  pub no_diagram : makes_diagram step ≡ false
-  pub counts : (job : Job) → count_of job number step ≡ 0
-  pub reads_is : reads step ≡ true
-
-pub same_question : (number left right : ℕ) (step : Step) → step ≡ Same left right → IsQuestion number step
-same_question number left right step is = subst (IsQuestion number) (sym is)
-    (record { sweeps_is = refl; kind_is = refl; no_diagram = refl; counts = λ job. refl; reads_is = refl })
-
-pub leq_question : (number left right : ℕ) (step : Step) → step ≡ Leq left right → IsQuestion number step
-leq_question number left right step is = subst (IsQuestion number) (sym is)
-    (record { sweeps_is = refl; kind_is = refl; no_diagram = refl; counts = λ job. refl; reads_is = refl })
-
-pub eval_question : (number of at : ℕ) (step : Step) → step ≡ Eval of at → IsQuestion number step
-eval_question number of at step is = subst (IsQuestion number) (sym is)
-    (record { sweeps_is = refl; kind_is = refl; no_diagram = refl; counts = λ job. refl; reads_is = refl })
-
--- what an answer took
-abbrev pub spent_on : Answered → Spent
-spent_on a = record { turns = a.turns; parts = a.next }
-
-module _ {S : Type 0} (tells : S → Bool) (world : S → World) (counts : S → Faults) (n : ℕ) (text : List ℕ) (number : ℕ) (p : Planned)
-    (question : IsQuestion number p.step) (may : MayRun n text number p) (before after : S)
-    (content : Told tells before after (Ran (OnlyParts number (now (world before))) (world before) (world after)))
-    (few_calls : IsTrue (tells after) → (job : Job) → IsStepOf job n text number p → Holds job number (now (world before)).folder
-    → (world after).clock ≤ (world before).clock + (224 * work_of job p.step + 11)) where
-  -- a question that is refused
-  pub question_refused : (e : SortFault)
-      → (IsTrue (tells after) → (job : Job) → IsStepOf job n text number p → Holds job number (now (world before)).folder
-      → IsSoundFault p.step (work_of job p.step) e)
-      → (IsTrue (tells after) → IsStepFault n p.step (world before) e) → IsOfKind p.step e
-      → OnlySortShelf {T = Answered} (counts before) (counts after) (Err e)
-      → RunsStep tells world counts n text number p before after (Err e)
-  question_refused e sound damaged kind faults = record {
-    content = parts_only tells world p.step number before after question.sweeps_is content;
-    fits = tt;
-    entry = tt;
-    made = tt;
-    sound = sound;
-    damaged = damaged;
-    kind = kind;
-    calls = tt;
-    one_turn = λ told not. never_one p.step question.sweeps_is not;
-    few_calls = λ told job is holds. swept_calls p.step _ _ _ question.sweeps_is (few_calls told job is holds);
-    faults = sort_shelf_on (counts before) (counts after) e (Err e) refl faults;
-  }
-
-  -- a question that is answered
-  pub question_answered : (a : Answered) (e : Entry) → e ≡ answer_entry number a.answer (spent_on a) → a.turns < 2 ^ 64
-      → IsCounted a.turns a.next
-      → (IsTrue (tells after) → (job : Job) → IsStepOf job n text number p → Holds job number (now (world before)).folder
-      → (answer_of job p.step ≡ bit_of a.answer) × (a.turns ≤ work_of job p.step))
-      → (IsTrue (tells after) → a.turns < 2 ^ 64 - 1 → (world after).clock ≤ (world before).clock + (224 * a.turns + 11))
-      → OnlySortShelf {T = Answered} (counts before) (counts after) (Ok a)
-      → RunsStep tells world counts n text number p before after (Ok e)
-  question_answered a e e_is few counted answers calls faults = record {
-    content = parts_only tells world p.step number before after question.sweeps_is content;
-    fits = for_nameless number 3 (bit_of a.answer) 0 (spent_on a) p e e_is may.few_steps (omega arith, omega arith) (bit_says a.answer) (omega arith)
-        took question.kind_is;
-    entry = λ told job ready.
-        let found = answers told job ready.step (ready.holds question.reads_is) in
-        subst (IsEntryOfStep job number) (sym e_is)
-        (nameless_entry_is job number 3 (bit_of a.answer) 0 (spent_on a) p may.few_steps ready.step.step_is question.kind_is (omega arith, omega arith)
-        (bit_says a.answer) question.no_diagram found.0 (question.counts job) (omega arith) took found.1);
-    made = λ told job ready diagram.
-        absurd (let not : makes_diagram (step_at job number).step ≡ false =
-        ap (λ (q : Planned). makes_diagram q.step) ready.step.step_is ∙ question.no_diagram in cc);
-    sound = tt;
-    damaged = tt;
-    kind = tt;
-    calls = λ told exact.
-        let turns_is : e.turns ≡ a.turns = ap (λ (x : Entry). x.turns) e_is in
-        swept_calls p.step e.turns _ _ question.sweeps_is
-        (subst (λ k. (world after).clock ≤ (world before).clock + (224 * k + 11)) (sym turns_is)
-        (calls told (subst (λ k. k < 2 ^ 64 - 1) turns_is exact)));
-    one_turn = λ told not. never_one p.step question.sweeps_is not;
-    few_calls = λ told job is holds. swept_calls p.step _ _ _ question.sweeps_is (few_calls told job is holds);
-    faults = faults_ok (counts before) (counts after) a e faults;
-  }
-    where
-      took : IsSpent (spent_on a)
-      took = record { some = counted.some; turns = few; from = counted.from; parts = counted.below; few = counted.few }
+      took =
+          let counted : IsCounted m.turns m.next = said.counted in
+          record { some = counted.some; turns = few; from = counted.from; parts = counted.below; few = counted.few }

@@ -1,5 +1,5 @@
 -- What a writer's calls leave, as the canonical file of a constant or a variable.
-use Rattle.std.proofs.Common.{◌≡◌, ◌∙◌, ℕ, ◌<◌, Bool, true, List, [], ◌∷◌, ◌++◌, sym, ap, subst, inl, inr}
+use Rattle.std.proofs.Common.{◌≡◌, ◌∙◌, ℕ, ◌<◌, Bool, true, List, [], ◌∷◌, ◌++◌, sym, ap, subst, inl}
 use Rattle.std.specs.Prelude.{Result, Ok, Err, OnOk}
 use Rattle.rec_words.specs.declared.node.Node.{Node}
 use Rattle.rec_words.specs.Words.{terminal}
@@ -19,8 +19,6 @@ use Rattle.block_stream.specs.Writes.{DuringWrite, DuringCut, Wrote, Cut}
 use Rattle.sound_image.specs.Files.{node_file}
 use Rattle.bool_tables.specs.declared.steps.Step.{Step}
 use Rattle.bool_tables.specs.Plans.{makes_diagram}
-use Rattle.step_work.specs.Tuples.{sweeps}
-use Rattle.step_sweeps.specs.Made.{OnlyParts, OnlyStepFiles}
 use Rattle.step_engine.specs.OneFile.{OnlyFile, OnlyMade}
 
 -- what follows from a fact of an answer that is Ok
@@ -69,25 +67,6 @@ module _ {S : Type 0} (tells : S → Bool) (world : S → World) where
   made_only step number old s diagram ran = told tells old s _ _ ran (λ _ run.
       ran_weakens (world old) (world s) (OnlyFile (node_file number) (now (world old))) (OnlyMade step number (now (world old)))
       (λ m only q apart. only q (λ same. apart (inl (diagram, same)))) run)
-
-  -- its files from part 3 on alone were changed, and it sweeps
-  pub parts_only : (step : Step) (number : ℕ) (old s : S) → sweeps step ≡ true
-      → Told tells old s (Ran (OnlyParts number (now (world old))) (world old) (world s))
-      → Told tells old s (Ran (OnlyMade step number (now (world old))) (world old) (world s))
-  parts_only step number old s swept ran = told tells old s _ _ ran (λ _ run.
-      ran_weakens (world old) (world s) (OnlyParts number (now (world old))) (OnlyMade step number (now (world old)))
-      (λ m only q apart. only q (λ own. apart (inr (swept, own)))) run)
-
-  -- both, and it makes a diagram and sweeps
-  pub step_only : (step : Step) (number : ℕ) (old s : S) → makes_diagram step ≡ true → sweeps step ≡ true
-      → Told tells old s (Ran (OnlyStepFiles number (now (world old))) (world old) (world s))
-      → Told tells old s (Ran (OnlyMade step number (now (world old))) (world old) (world s))
-  step_only step number old s diagram swept ran = told tells old s _ _ ran (λ _ run.
-      ran_weakens (world old) (world s) (OnlyStepFiles number (now (world old))) (OnlyMade step number (now (world old)))
-      (λ m only q apart. only q (λ own. elim own [
-        | inl is ↦ apart (inl (diagram, is))
-        | inr part ↦ apart (inr (swept, part))
-      ])) run)
 
   -- no file was changed
   pub changes_none : (step : Step) (number : ℕ) (old s : S) → Told tells old s (Ran (Stays (now (world old))) (world old) (world s))

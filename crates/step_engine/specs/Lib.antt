@@ -3,4 +3,5 @@ pub mod StepEntries
 pub mod StepFaults
 pub mod OneFile
 pub mod Sweeping
+pub mod Finding
 pub mod Running

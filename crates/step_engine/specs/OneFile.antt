@@ -6,18 +6,17 @@ use Rattle.shelf_model.specs.declared.file_no.FileNo.{FileNo}
 use Rattle.shelf_model.specs.World.{Moment}
 use Rattle.shelf_model.specs.Moments.{OnlyChanged}
 use Rattle.step_work.specs.Tuples.{sweeps}
-use Rattle.sweep_core.specs.Accounts.{CanBeTaken}
-use Rattle.sound_image.specs.Files.{inner_part, node_file}
+use Rattle.sound_image.specs.Files.{node_file}
 use Rattle.sound_image.specs.Steps.{IsTidied}
 
 -- at each moment every file but this one is as it was
 abbrev pub OnlyFile : FileNo → Moment → Moment → Type 0
 OnlyFile f = OnlyChanged (λ q. q ≡ f)
 
--- a step changes its node file where it makes a diagram, and its arcs and runs where it sweeps
+-- a step changes its node file where it makes a diagram, and any file of its own where it sweeps
 abbrev pub ChangesFile : Step → ℕ → FileNo → Type 0
 ChangesFile step number q =
-    (IsTrue (makes_diagram step) × (q ≡ node_file number)) ⊎ (IsTrue (sweeps step) × CanBeTaken number inner_part q)
+    (IsTrue (makes_diagram step) × (q ≡ node_file number)) ⊎ (IsTrue (sweeps step) × (q.step ≡ number))
 
 -- at each moment every other file is as it was
 abbrev pub OnlyMade : Step → ℕ → Moment → Moment → Type 0

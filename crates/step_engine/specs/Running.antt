@@ -1,50 +1,76 @@
 -- What a run of a step does, leaves and costs.
 use Rattle.std.specs.Prelude.{◌≡◌, ℕ, ◌+◌, ◌-◌, ◌*◌, ◌^◌, ◌<◌, ◌≤◌, Bool, false, IsTrue, cond, List, Result, IfOk}
-use Rattle.std.specs.Prelude.{IfErr}
+use Rattle.std.specs.Prelude.{IfErr, Some, sum_by}
 use Rattle.bool_tables.specs.declared.steps.Step.{Step}
 use Rattle.bool_tables.specs.declared.steps.Planned.{Planned}
+use Rattle.bool_tables.specs.Plans.{operands}
+use Rattle.shelf_model.specs.declared.file_no.FileNo.{FileNo}
 use Rattle.shelf_model.specs.declared.sort_fault.SortFault.{SortFault}
 use Rattle.shelf_model.specs.Calls.{Told}
 use Rattle.shelf_model.specs.Faults.{Faults}
-use Rattle.shelf_model.specs.Moments.{Ran}
-use Rattle.shelf_model.specs.World.{World, now}
+use Rattle.shelf_model.specs.Moments.{Ran, Throughout}
+use Rattle.shelf_model.specs.World.{Moment, World, now}
 use Rattle.run_tiers.specs.Faults.{OnlySortShelf}
 use Rattle.catalogue.specs.declared.layout.Entry.{Entry}
 use Rattle.step_work.specs.Tuples.{sweeps}
+use Rattle.node_reading.specs.Reading.{count_of}
+use Rattle.sweep_core.specs.declared.checkpoint.Checkpoint.{Checkpoint}
+use Rattle.sweep_core.specs.Saving.{reads_of}
+use Rattle.sweep_checkpoint.specs.Gated.{last_gated}
+use Rattle.sweep_checkpoint.specs.Loads.{Tells}
+use Rattle.step_sweeps.specs.Going.{rest_calls}
+use Rattle.sound_image.specs.Files.{node_file}
 use Rattle.sound_image.specs.Jobs.{Job}
 use Rattle.sound_image.specs.Entries.{IsEntryOfStep, work_of}
-use Rattle.sound_image.specs.Holds.{Holds, IsMade}
+use Rattle.sound_image.specs.Holds.{Holds, IsMade, AreResumable}
 use Rattle.step_engine.specs.OneFile.{OnlyMade}
 use Rattle.step_engine.specs.Simple.{reads, IsStepOf}
 use Rattle.step_engine.specs.StepEntries.{IsEntryFor}
-use Rattle.step_engine.specs.StepFaults.{IsStepFault, IsSoundFault, IsOfKind}
+use Rattle.step_engine.specs.StepFaults.{IsRunFault, IsSoundFault, IsOfKind}
 
--- the calls of a step of so many turns: five at most where it takes one turn, and else 224 for each turn, and eleven
+-- the calls of a step of so many turns: five at most where it takes one turn, and else 229 for each turn, checkpoints
+-- included, and thirteen
 abbrev pub run_calls : Step → ℕ → ℕ
-run_calls step turns = cond (sweeps step) (224 * turns + 11) 5
+run_calls step turns = cond (sweeps step) (229 * turns + 13) 5
+
+-- no fewer nodes than a step reads of its operands where files hold this, each operand by three readers
+abbrev pub nodes_read : Step → (FileNo → List ℕ) → ℕ
+nodes_read step r = 3 * sum_by (λ k. count_of (r (node_file k))) (operands step)
+
+-- so many calls pay for going on from the checkpoint that the step's last gated bytes are, where there is one
+abbrev pub PaysRest : Step → ℕ → ℕ → (FileNo → List ℕ) → ℕ → Type 0
+PaysRest step number budget r rest = (c : Checkpoint) → Tells number budget (last_gated number r) (Some c)
+    → rest_calls (Some c) (nodes_read step r) + 590 ≤ rest
 
 -- the step is the job's, and the folder holds those before it, where it reads what they left
-pub record IsReadyFor (job : Job) (n : ℕ) (text : List ℕ) (number : ℕ) (p : Planned) (world : World) : Type 0 where
-  pub step : IsStepOf job n text number p
+pub record IsReadyFor (job : Job) (n : ℕ) (text : List ℕ) (budget number : ℕ) (p : Planned) (world : World)
+    : Type 0 where
+  pub step : IsStepOf job n text budget number p
   pub holds : IsTrue (reads p.step) → Holds job number (now world).folder
 
--- the step was run, or refused
+-- the step was run, or refused, in a room of so many records
 pub record RunsStep {S : Type 0} (tells : S → Bool) (world : S → World) (counts : S → Faults) (n : ℕ) (text : List ℕ)
-    (number : ℕ) (p : Planned) (before after : S) (result : Result Entry SortFault) : Type 0 where
+    (budget number : ℕ) (p : Planned) (before after : S) (result : Result Entry SortFault) : Type 0 where
   pub content : Told tells before after (Ran (OnlyMade p.step number (now (world before))) (world before) (world after))
   pub fits : IfOk result (IsEntryFor p.step number)
-  pub entry : IfOk result (λ e. IsTrue (tells after) → (job : Job) → IsReadyFor job n text number p (world before)
-      → IsEntryOfStep job number e)
-  pub made : IfOk result (λ e. IsTrue (tells after) → (job : Job) → IsReadyFor job n text number p (world before)
-      → IsMade job number (now (world after)).folder)
-  pub sound : IfErr result (λ fault. IsTrue (tells after) → (job : Job) → IsStepOf job n text number p
-      → Holds job number (now (world before)).folder → IsSoundFault p.step (work_of job p.step) fault)
-  pub damaged : IfErr result (λ fault. IsTrue (tells after) → IsStepFault n p.step (world before) fault)
-  pub kind : IfErr result (IsOfKind p.step)
-  pub calls : IfOk result (λ e. IsTrue (tells after) → e.turns < 2 ^ 64 - 1
-      → (world after).clock ≤ (world before).clock + run_calls p.step e.turns)
-  pub one_turn : IsTrue (tells after) → sweeps p.step ≡ false → (world after).clock ≤ (world before).clock + 5
-  pub few_calls : IsTrue (tells after) → (job : Job) → IsStepOf job n text number p
+  pub entry : IfOk result (λ e. IsTrue (tells after) → (job : Job)
+      → IsReadyFor job n text budget number p (world before) → IsEntryOfStep job number e)
+  pub made : IfOk result (λ e. IsTrue (tells after) → (job : Job)
+      → IsReadyFor job n text budget number p (world before) → IsMade job number (now (world after)).folder)
+  -- at each moment a run can go on from what a stop leaves
+  pub resumes : IsTrue (tells after) → (job : Job) → IsStepOf job n text budget number p
       → Holds job number (now (world before)).folder
-      → (world after).clock ≤ (world before).clock + run_calls p.step (work_of job p.step)
+      → Throughout (world before) (world after) (λ (m : Moment). AreResumable job number m.folder)
+  pub sound : IfErr result (λ fault. IsTrue (tells after) → (job : Job) → IsStepOf job n text budget number p
+      → Holds job number (now (world before)).folder → IsSoundFault p.step (work_of job p.step) fault)
+  pub damaged : IfErr result (λ fault. IsTrue (tells after) → IsRunFault n number p.step (world before) fault)
+  pub kind : IfErr result (IsOfKind p.step)
+  pub calls : IfOk result (λ e. IsTrue (tells after) → (rest : ℕ)
+      → PaysRest p.step number budget (reads_of (world before)) rest → e.turns < 2 ^ 64 - 1
+      → (world after).clock ≤ (world before).clock + (run_calls p.step e.turns + rest))
+  pub one_turn : IsTrue (tells after) → sweeps p.step ≡ false → (world after).clock ≤ (world before).clock + 5
+  pub few_calls : IsTrue (tells after) → (job : Job) → IsStepOf job n text budget number p
+      → Holds job number (now (world before)).folder → (rest : ℕ)
+      → PaysRest p.step number budget (reads_of (world before)) rest
+      → (world after).clock ≤ (world before).clock + (run_calls p.step (work_of job p.step) + rest)
   pub faults : OnlySortShelf (counts before) (counts after) result

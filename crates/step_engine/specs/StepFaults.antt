@@ -8,16 +8,16 @@ use Rattle.shelf_model.specs.declared.fault.StreamFault.{StreamFault}
 use Rattle.shelf_model.specs.declared.fault.StreamFault.TheVariants as stream
 use Rattle.shelf_model.specs.declared.sort_fault.SortFault.{SortFault}
 use Rattle.shelf_model.specs.declared.sort_fault.SortFault.TheVariants as sort
-use Rattle.shelf_model.specs.World.{World, now}
+use Rattle.shelf_model.specs.World.{World, now, file}
 use Rattle.shelf_model.specs.SortFaults.{handed_on}
 use Rattle.catalogue.specs.declared.layout.Entry.{Entry}
 use Rattle.catalogue.specs.Counts.{present}
 use Rattle.catalogue.specs.Files.{catalogue}
 use Rattle.catalogue.specs.Entries.{IsEntryOf}
-use Rattle.step_work.specs.Tuples.{joins}
+use Rattle.step_work.specs.Tuples.{joins, sweeps}
 use Rattle.step_sweeps.specs.Damage.{IsDamagedBy}
 pub use Rattle.step_sweeps.specs.Damage.{MissesNone, MissesNamed, MissesAsked}
-use Rattle.sound_image.specs.Files.{node_file}
+use Rattle.sound_image.specs.Files.{node_file, checkpoint_gate}
 
 -- the entry of step k is damaged where no entry of that step and of that kind stands whole at its place
 abbrev pub IsKindFault : ℕ → ℕ → (FileNo → List ℕ) → StreamFault → Type 0
@@ -58,6 +58,12 @@ IsStepFault n (Leq left right) world fault = IsMakingFault n (left ∷ right ∷
 IsStepFault n (Eval operand at) world fault = IsReadingFault MissesNamed n (operand ∷ []) world fault
 IsStepFault n (Size operand) world fault =
     (found : StreamFault) × (fault ≡ handed_on found) × IsKindFault operand 1 (present (now world).folder) found
+
+-- so a step is refused that begins anew. Where it has a gated checkpoint any place may be named: it went on from bytes
+-- of which nothing is known
+abbrev pub IsRunFault : ℕ → ℕ → Step → World → SortFault → Type 0
+IsRunFault n number step world fault = IsStepFault n step world fault
+    ⊎ (IsTrue (sweeps step) × ((file world (checkpoint_gate number)).bytes ≢ []))
 
 -- where the folder holds the steps before: a call of it failed, or a step of much work has no part number left
 abbrev pub IsSoundFault : Step → ℕ → SortFault → Type 0

@@ -1,16 +1,11 @@
 -- The operation that a step is, and the files that it is made of.
-use Rattle.std.specs.Prelude.{ℕ, Option, Some, None}
+use Rattle.std.specs.Prelude.{Option, Some, None}
 use Rattle.bool_tables.specs.declared.steps.Step.{Step}
 use Rattle.bool_tables.specs.declared.steps.Step.TheVariants.{Const, Var, Pair, Ite, Quantify, Restrict, Drop, Same}
 use Rattle.bool_tables.specs.declared.steps.Step.TheVariants.{Leq, Eval, Size}
-use Rattle.top_down_sweep.specs.declared.beginning.OperandFiles.{OperandFiles}
 use Rattle.top_down_sweep.specs.declared.steps.StepOperation.TheVariants as operations
-use Rattle.sound_image.specs.Files.{node_file}
+pub use Rattle.resumable.specs.Kinds.{files_of}
 use Rattle.step_engine.specs.declared.sweeping.Sweeping.{Sweeping}
-
--- the node files of three steps
-abbrev pub files_of : ℕ → ℕ → ℕ → OperandFiles
-files_of a b c = record { first = node_file a; second = node_file b; third = node_file c }
 
 -- a step that makes a diagram of others is an operation on their files: the last one stands for those that aren't used
 abbrev pub sweeping_of : Step → Option Sweeping

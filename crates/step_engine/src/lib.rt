@@ -5,6 +5,7 @@
 mod diagrams;
 mod drops;
 mod entries;
+mod going;
 mod kinds;
 mod simple;
 mod step;

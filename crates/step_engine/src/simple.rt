@@ -1,5 +1,5 @@
 //! The steps that take one turn.
-ghost use Rattle.std.specs.Prelude.{◌≡◌, ◌≤◌, IsTrue, length};
+ghost use Rattle.std.specs.Prelude.{◌≡◌, ℕ, ◌≤◌, IsTrue, length};
 ghost use Rattle.bool_tables.specs.declared.steps.Step.TheVariants as variants;
 ghost use Rattle.shelf_model.specs.World.{now};
 ghost use Rattle.catalogue.specs.Counts.{count_in, present};
@@ -28,7 +28,8 @@ pub(crate) fn run_constant<S: Shelf>(
     requires step { MayRun n text.now number planned.now }
     requires kind { planned.now.step ≡ variants.Const value }
     requires room { 16384 ≤ length room.old }
-    ensures runs { RunsStep S.tells S.world S.faults n text.now number planned.now shelf.old shelf.new result }
+    ensures runs { RunsStep S.tells S.world S.faults n text.now (length room.old) number planned.now
+        shelf.old shelf.new result }
 {
     let nodes = write_constant(node_file(number), n, value, room, shelf)?;
     Ok(diagram_entry(text, planned, number, nodes, Spent::ONE_TURN))
@@ -47,7 +48,8 @@ pub(crate) fn run_variable<S: Shelf>(
     requires step { MayRun n text.now number planned.now }
     requires kind { planned.now.step ≡ variants.Var level }
     requires room { 16384 ≤ length room.old }
-    ensures runs { RunsStep S.tells S.world S.faults n text.now number planned.now shelf.old shelf.new result }
+    ensures runs { RunsStep S.tells S.world S.faults n text.now (length room.old) number planned.now
+        shelf.old shelf.new result }
 {
     let nodes = write_variable(node_file(number), n, level as u16, room, shelf)?;
     Ok(diagram_entry(text, planned, number, nodes, Spent::ONE_TURN))
@@ -65,7 +67,8 @@ pub(crate) fn run_size<S: Shelf>(
     requires step { MayRun n text.now number planned.now }
     requires kind { planned.now.step ≡ variants.Size of }
     requires committed { IsTrue (S.tells shelf.old) → number ≤ count_in (present (now (S.world shelf.old)).folder) }
-    ensures runs { RunsStep S.tells S.world S.faults n text.now number planned.now shelf.old shelf.new result }
+    ensures runs { (budget : ℕ) → RunsStep S.tells S.world S.faults n text.now budget number planned.now
+        shelf.old shelf.new result }
 {
     let nodes = entry_of_kind(of, 1, shelf)?.count;
     Ok(nameless_entry(number, 3, nodes))

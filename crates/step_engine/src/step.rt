@@ -17,8 +17,9 @@ use shelf_model::{Shelf, SortFault};
 /// Runs one step of a plan for `n` variables over a script's text, where the steps before it are committed:
 /// makes its diagram's node file, or finds its answer. The answer is the step's entry, which its caller commits.
 ///
-/// It changes the step's own files alone: its node file, and from part 3 on its arcs and its runs. A step that was
-/// interrupted begins anew. It takes no memory: the room, 16,384 to 4,194,304 records of 64 bytes, holds what it sorts.
+/// It changes the step's own files alone: its node file, its checkpoints and their gate, its arcs and its runs. A step
+/// that was interrupted goes on from its last gated checkpoint, or begins anew where it has none. It takes no memory:
+/// the room, 16,384 to 4,194,304 records of 64 bytes, holds what it sorts, and has to have as many records in each run.
 ///
 /// Refuses where a call of the folder fails (`Shelf`), where an operand's node file or the entry that a size reads
 /// isn't what a step leaves (`Damaged`), and where a sweep has no part number left for a new file (`RunsSpent`). The
@@ -34,7 +35,8 @@ pub fn run_step<S: Shelf>(
     requires step { MayRun n text.now number planned.now }
     requires room { (16384 ≤ length room.old) × (length room.old ≤ 4194304) }
     requires committed { IsTrue (S.tells shelf.old) → number ≤ count_in (present (now (S.world shelf.old)).folder) }
-    ensures runs { RunsStep S.tells S.world S.faults n text.now number planned.now shelf.old shelf.new result }
+    ensures runs { RunsStep S.tells S.world S.faults n text.now (length room.old) number planned.now
+        shelf.old shelf.new result }
 {
     if let Some(sweeping) = sweeping_of(planned.step) {
         return run_operation(n, text, planned, sweeping, number, room, shelf);

@@ -8,6 +8,7 @@ ghost use Rattle.step_engine.specs.Sweeping.{files_of, sweeping_of};
 ghost use Rattle.step_engine.specs.Running.{RunsStep};
 
 use crate::entries::{Spent, answer_entry, diagram_entry};
+use crate::going::going_in;
 use bool_tables::{Planned, Step};
 use catalogue::Entry;
 use file_numbers::node_file;
@@ -70,14 +71,16 @@ pub(crate) fn run_operation<S: Shelf>(
 ) -> Result<Entry, SortFault>
     requires step { MayRun n text.now number planned.now }
     requires sweeping { sweeping_of planned.now.step ≡ Some sweeping }
-    requires room { 16384 ≤ length room.old }
-    ensures runs { RunsStep S.tells S.world S.faults n text.now number planned.now shelf.old shelf.new result }
+    requires room { (16384 ≤ length room.old) × (length room.old ≤ 4194304) }
+    ensures runs { RunsStep S.tells S.world S.faults n text.now (length room.old) number planned.now
+        shelf.old shelf.new result }
 {
+    let mut going = going_in(number, room, shelf)?;
     let made = make_diagram(
         sweeping.operation,
         n,
         sweeping.operands,
-        number,
+        &mut going,
         room,
         shelf,
     )?;
@@ -101,12 +104,14 @@ pub(crate) fn run_comparison<S: Shelf>(
 ) -> Result<Entry, SortFault>
     requires step { MayRun n text.now number planned.now }
     requires kind { planned.now.step ≡ variants.Same left right }
-    requires room { 16384 ≤ length room.old }
-    ensures runs { RunsStep S.tells S.world S.faults n text.now number planned.now shelf.old shelf.new result }
+    requires room { (16384 ≤ length room.old) × (length room.old ≤ 4194304) }
+    ensures runs { RunsStep S.tells S.world S.faults n text.now (length room.old) number planned.now
+        shelf.old shelf.new result }
 {
     let left = node_file(left);
     let right = node_file(right);
-    let answered = compare(n, left, right, number, room, shelf)?;
+    let mut going = going_in(number, room, shelf)?;
+    let answered = compare(n, left, right, &mut going, room, shelf)?;
     Ok(answer_entry(number, answered))
 }
 
@@ -123,12 +128,14 @@ pub(crate) fn run_implication<S: Shelf>(
 ) -> Result<Entry, SortFault>
     requires step { MayRun n text.now number planned.now }
     requires kind { planned.now.step ≡ variants.Leq left right }
-    requires room { 16384 ≤ length room.old }
-    ensures runs { RunsStep S.tells S.world S.faults n text.now number planned.now shelf.old shelf.new result }
+    requires room { (16384 ≤ length room.old) × (length room.old ≤ 4194304) }
+    ensures runs { RunsStep S.tells S.world S.faults n text.now (length room.old) number planned.now
+        shelf.old shelf.new result }
 {
     let left = node_file(left);
     let right = node_file(right);
-    let answered = imply(n, left, right, number, room, shelf)?;
+    let mut going = going_in(number, room, shelf)?;
+    let answered = imply(n, left, right, &mut going, room, shelf)?;
     Ok(answer_entry(number, answered))
 }
 
@@ -145,9 +152,12 @@ pub(crate) fn run_evaluation<S: Shelf>(
 ) -> Result<Entry, SortFault>
     requires step { MayRun n text.now number planned.now }
     requires kind { planned.now.step ≡ variants.Eval of at }
-    requires room { 16384 ≤ length room.old }
-    ensures runs { RunsStep S.tells S.world S.faults n text.now number planned.now shelf.old shelf.new result }
+    requires room { (16384 ≤ length room.old) × (length room.old ≤ 4194304) }
+    ensures runs { RunsStep S.tells S.world S.faults n text.now (length room.old) number planned.now
+        shelf.old shelf.new result }
 {
-    let answered = evaluate(n, node_file(of), text, at, number, room, shelf)?;
+    let of = node_file(of);
+    let mut going = going_in(number, room, shelf)?;
+    let answered = evaluate(n, of, text, at, &mut going, room, shelf)?;
     Ok(answer_entry(number, answered))
 }

@@ -3,9 +3,12 @@ use Rattle.std.specs.Prelude.{IsTrue}
 use Rattle.std.specs.List.{list_all}
 use Rattle.bool_tables.specs.Plans.{operands}
 use Rattle.shelf_model.specs.World.{now}
+use Rattle.step_work.specs.Tuples.{sweeps}
 use Rattle.sound_image.specs.Entries.{IsEntryOfStep, kind_of}
 use Rattle.step_engine.proofs.EntryLaws.{for_nameless, size_entry_is, only_below, one_turn_spent}
-use Rattle.step_engine.proofs.OneTurn.{size_calls, size_fault, size_sound, size_kind, size_makes, size_reads, shelf_faults, shelf_fine}
+use Rattle.step_engine.proofs.OneTurn.{size_calls, size_fault, size_sound, size_kind, size_makes, size_reads}
+use Rattle.step_engine.proofs.Resuming.{one_resumes}
+use Rattle.step_engine.proofs.RunFaults.{shelf_faults, shelf_fine}
 use Rattle.step_engine.proofs.Runs.{handed_runs}
 use Rattle.step_engine.proofs.Written.{changes_none}
 use Rattle.step_engine.proofs.simple.run_size.Goals as goal
@@ -17,21 +20,23 @@ returns-in_err-nodes g c =
     let said = c.in_err-nodes.ensures in
     let below : c.args.of < c.args.number =
     only_below c.args.number c.args.of (subst (λ s. IsTrue (list_all (λ k. nat_lt k c.args.number) (operands s))) c.requires.kind c.requires.step.operands_are) in
+    let content = changes_none g.S.Shelf.tells g.S.Shelf.world p.step c.args.number _ _ said.content in
     record {
-      runs = handed_runs g.S.Shelf.tells g.S.Shelf.world g.S.Shelf.faults c.args.n c.args.text.now c.args.number p _ _ _ c.from_residual.result
+      runs = λ budget. handed_runs g.S.Shelf.tells g.S.Shelf.world g.S.Shelf.faults c.args.n c.args.text.now budget c.args.number p _ _ _ c.from_residual.result
           c.from_residual.ensures.1 (record {
-            content = changes_none g.S.Shelf.tells g.S.Shelf.world p.step c.args.number _ _ said.content;
+            content = content;
             fits = tt;
             entry = tt;
             made = tt;
-            sound = λ told job is holds. size_sound job c.args.n c.args.number c.args.of c.args.text.now p e (g.S.Shelf.world c.args.shelf.now) c.requires.kind is below
+            resumes = one_resumes g.S.Shelf.tells g.S.Shelf.world c.args.n c.args.text.now budget c.args.number p g.met.S.Shelf.files_are _ _
+                (ap sweeps c.requires.kind) content;
+            sound = λ told job is holds. size_sound job c.args.n budget c.args.number c.args.of c.args.text.now p e (g.S.Shelf.world c.args.shelf.now) c.requires.kind is below
                 holds (said.err told);
-            damaged = λ told. size_fault c.args.n c.args.of p.step c.requires.kind (g.S.Shelf.world c.args.shelf.now) e
-                (said.err told);
+            damaged = λ told. inl (size_fault c.args.n c.args.of p.step c.requires.kind (g.S.Shelf.world c.args.shelf.now) e (said.err told));
             kind = size_kind p.step e;
             calls = tt;
             one_turn = λ told not. let few = said.calls told in omega (arith, few);
-            few_calls = λ told job is holds. size_calls c.args.of p.step c.requires.kind _ _ _ (said.calls told);
+            few_calls = λ told job is holds rest pays. size_calls c.args.of p.step c.requires.kind _ rest _ _ (said.calls told);
             faults = shelf_faults _ _ e said.faults;
           });
     }
@@ -43,21 +48,24 @@ returns g c =
     let said = c.in_ok-nodes.ensures in
     let below : c.args.of < c.args.number =
     only_below c.args.number c.args.of (subst (λ s. IsTrue (list_all (λ k. nat_lt k c.args.number) (operands s))) c.requires.kind c.requires.step.operands_are) in
+    let content = changes_none g.S.Shelf.tells g.S.Shelf.world p.step c.args.number _ _ said.content in
     record {
-      runs = record {
-        content = changes_none g.S.Shelf.tells g.S.Shelf.world p.step c.args.number _ _ said.content;
+      runs = λ budget. record {
+        content = content;
         fits = for_nameless c.args.number 3 0 found.count _ p _ c.nameless_entry.ensures c.requires.step.few_steps (omega arith, omega arith) (inl refl) (search arith)
             one_turn_spent (ap kind_of c.requires.kind);
         entry = λ told job ready. subst (IsEntryOfStep job c.args.number) (sym c.nameless_entry.ensures)
             (size_entry_is job c.args.number c.args.of p found (now (g.S.Shelf.world c.args.shelf.now)).folder c.requires.step.few_steps ready.step.step_is c.requires.kind below
             (ready.holds (size_reads c.args.of p.step c.requires.kind)) (said.ok told) said.kind);
-        made = λ told job ready diagram. absurd (size_makes job c.args.n c.args.number c.args.of c.args.text.now p c.requires.kind ready.step diagram);
+        made = λ told job ready diagram. absurd (size_makes job c.args.n budget c.args.number c.args.of c.args.text.now p c.requires.kind ready.step diagram);
+        resumes = one_resumes g.S.Shelf.tells g.S.Shelf.world c.args.n c.args.text.now budget c.args.number p g.met.S.Shelf.files_are _ _
+            (ap sweeps c.requires.kind) content;
         sound = tt;
         damaged = tt;
         kind = tt;
-        calls = λ told exact. size_calls c.args.of p.step c.requires.kind _ _ _ (said.calls told);
+        calls = λ told rest pays exact. size_calls c.args.of p.step c.requires.kind _ rest _ _ (said.calls told);
         one_turn = λ told not. let few = said.calls told in omega (arith, few);
-        few_calls = λ told job is holds. size_calls c.args.of p.step c.requires.kind _ _ _ (said.calls told);
+        few_calls = λ told job is holds rest pays. size_calls c.args.of p.step c.requires.kind _ rest _ _ (said.calls told);
         faults = shelf_fine _ _ _ _ said.faults;
       };
     }

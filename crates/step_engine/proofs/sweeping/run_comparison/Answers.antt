@@ -1,52 +1,46 @@
-use Rattle.std.proofs.Common.{◌∙◌, ◌≤◌, refl, sym, ap, subst, arith}
-use Rattle.bool_tables.specs.declared.steps.Step.TheVariants.{Same}
-use Rattle.sound_image.specs.Entries.{bit_of, answer_of}
-use Rattle.step_engine.proofs.Operands.{two_given, work_given}
-use Rattle.step_engine.proofs.Questions.{undamaged_sound, same_fault, not_spent, not_spent_kind, few_more}
-use Rattle.step_engine.proofs.Runs.{handed_runs, same_question, question_refused, question_answered}
+use Rattle.std.proofs.Common.{length, ap, arith}
+use Rattle.bool_tables.specs.Plans.{operands}
+use Rattle.step_engine.proofs.Questions.{earlier_two, same_asks, same_asked, question_refused, question_answered}
+use Rattle.step_engine.proofs.RunFaults.{not_spent_kind}
+use Rattle.step_engine.proofs.Runs.{handed_runs, first_refused}
 use Rattle.step_engine.proofs.sweeping.run_comparison.Goals as goal
+
+pub compare-requires-clause-going : goal.compare-requires-clause-going
+compare-requires-clause-going g c = c.in_ok-going.ensures.finds.going.2
+
+pub compare-requires-clause-earlier : goal.compare-requires-clause-earlier
+compare-requires-clause-earlier g c =
+    earlier_two c.args.number c.args.left c.args.right _ _ c.in_ok-going.going c.args.planned.now.step c.node_file-left.ensures c.node_file-right.ensures
+    (ap operands c.requires.kind) c.in_ok-going.ensures.finds.going.0 c.requires.step.operands_are
+
+pub returns-in_err-going : goal.returns-in_err-going
+returns-in_err-going g c =
+    let p = c.args.planned.now in
+    record {
+      runs = handed_runs g.S.Shelf.tells g.S.Shelf.world g.S.Shelf.faults c.args.n c.args.text.now (length c.args.room.now) c.args.number p _ _
+          c.in_err-going.field-0.0 c.from_residual.result c.from_residual.ensures.1
+          (first_refused g.S.Shelf.tells g.S.Shelf.world g.S.Shelf.faults c.args.n c.args.text.now (length c.args.room.now) c.args.number p
+          (same_asks c.args.n c.args.number c.args.left c.args.right _ _ c.node_file-left.ensures c.node_file-right.ensures p.step c.requires.kind).sweeps_is _ _ c.in_err-going.field-0.0 c.in_err-going.ensures.finds);
+    }
 
 pub returns-in_err-answered : goal.returns-in_err-answered
 returns-in_err-answered g c =
     let p = c.args.planned.now in
-    let said = c.in_err-answered.ensures in
     record {
-      runs = handed_runs g.S.Shelf.tells g.S.Shelf.world g.S.Shelf.faults c.args.n c.args.text.now c.args.number p _ _
-          c.in_err-answered.field-0.0 c.from_residual.result c.from_residual.ensures.1
-          (question_refused g.S.Shelf.tells g.S.Shelf.world g.S.Shelf.faults c.args.n c.args.text.now c.args.number p
-          (same_question c.args.number c.args.left c.args.right p.step c.requires.kind) c.requires.step _ _ said.content
-          (λ told job is holds.
-          let given = two_given job c.args.n c.args.number c.args.text.now p (g.S.Shelf.world c.args.shelf.now) (Same c.args.left c.args.right) c.args.left c.args.right _ _ c.node_file-left.ensures c.node_file-right.ensures c.requires.kind refl is holds in
-          few_more _ _ _ 4 (work_given job c.args.n c.args.number c.args.text.now p (Same 0 1) (Same c.args.left c.args.right) c.requires.kind refl (λ i h x. refl) is)
-          (omega arith) (said.few_calls told _ _ given.0 given.1))
-          c.in_err-answered.field-0.0
-          (λ told job is holds.
-          let given = two_given job c.args.n c.args.number c.args.text.now p (g.S.Shelf.world c.args.shelf.now) (Same c.args.left c.args.right) c.args.left c.args.right _ _ c.node_file-left.ensures c.node_file-right.ensures c.requires.kind refl is holds in
-          undamaged_sound p.step _ c.in_err-answered.field-0.0 (said.undamaged told _ _ given.0 given.1) (not_spent c.in_err-answered.field-0.0 said.kind))
-          (λ told. same_fault c.args.n c.args.left c.args.right _ _ c.node_file-left.ensures c.node_file-right.ensures p.step c.requires.kind
-          (g.S.Shelf.world c.args.shelf.now) c.in_err-answered.field-0.0 (said.damaged told))
-          (not_spent_kind p.step c.in_err-answered.field-0.0 said.kind)
-          said.faults);
+      runs = handed_runs g.S.Shelf.tells g.S.Shelf.world g.S.Shelf.faults c.args.n c.args.text.now (length c.args.room.now) c.args.number p _ _
+          c.in_err-answered.field-0.0 c.from_residual-in_err-answered.result c.from_residual-in_err-answered.ensures.1
+          (question_refused g.S.Shelf.tells g.S.Shelf.world g.S.Shelf.faults c.args.n c.args.text.now (length c.args.room.now) c.args.number p _
+          (same_asks c.args.n c.args.number c.args.left c.args.right _ _ c.node_file-left.ensures c.node_file-right.ensures p.step c.requires.kind) c.requires.step g.met.S.Shelf.files_are _ _ _ c.in_ok-going.going c.in_ok-going.ensures.finds
+          (same_asked c.args.n c.args.number c.args.left c.args.right _ _ c.node_file-left.ensures c.node_file-right.ensures c.args.text.now (length c.args.room.now) p (g.S.Shelf.world c.going_in.new.shelf) c.requires.kind)
+          c.in_err-answered.field-0.0 c.in_err-answered.ensures.answers (not_spent_kind p.step c.in_err-answered.field-0.0 c.in_err-answered.ensures.kind));
     }
 
 pub returns : goal.returns
 returns g c =
     let p = c.args.planned.now in
-    let said = c.in_ok-answered.ensures in
     record {
-      runs = question_answered g.S.Shelf.tells g.S.Shelf.world g.S.Shelf.faults c.args.n c.args.text.now c.args.number p
-          (same_question c.args.number c.args.left c.args.right p.step c.requires.kind) c.requires.step _ _ said.content
-          (λ told job is holds.
-          let given = two_given job c.args.n c.args.number c.args.text.now p (g.S.Shelf.world c.args.shelf.now) (Same c.args.left c.args.right) c.args.left c.args.right _ _ c.node_file-left.ensures c.node_file-right.ensures c.requires.kind refl is holds in
-          few_more _ _ _ 4 (work_given job c.args.n c.args.number c.args.text.now p (Same 0 1) (Same c.args.left c.args.right) c.requires.kind refl (λ i h x. refl) is)
-          (omega arith) (said.few_calls told _ _ given.0 given.1))
-          c.in_ok-answered.answered c.answer_entry.result c.answer_entry.ensures (search arith) said.counted
-          (λ told job is holds.
-          let given = two_given job c.args.n c.args.number c.args.text.now p (g.S.Shelf.world c.args.shelf.now) (Same c.args.left c.args.right) c.args.left c.args.right _ _ c.node_file-left.ensures c.node_file-right.ensures c.requires.kind refl is holds in
-          let answer = said.answer told _ _ given.0 given.1 in (
-            ap (answer_of job) c.requires.kind ∙ ap bit_of (sym answer.answer_is),
-            subst (λ w. c.in_ok-answered.answered.turns ≤ w)
-                (work_given job c.args.n c.args.number c.args.text.now p (Same 0 1) (Same c.args.left c.args.right) c.requires.kind refl (λ i h x. refl) is) answer.few,
-          ))
-          (λ told exact. (let few = said.calls told exact in omega (arith, few))) said.faults;
+      runs = question_answered g.S.Shelf.tells g.S.Shelf.world g.S.Shelf.faults c.args.n c.args.text.now (length c.args.room.now) c.args.number p _
+          (same_asks c.args.n c.args.number c.args.left c.args.right _ _ c.node_file-left.ensures c.node_file-right.ensures p.step c.requires.kind) c.requires.step g.met.S.Shelf.files_are _ _ _ c.in_ok-going.going c.in_ok-going.ensures.finds
+          (same_asked c.args.n c.args.number c.args.left c.args.right _ _ c.node_file-left.ensures c.node_file-right.ensures c.args.text.now (length c.args.room.now) p (g.S.Shelf.world c.going_in.new.shelf) c.requires.kind)
+          c.in_ok-answered.answered c.answer_entry.result c.answer_entry.ensures (search arith) c.in_ok-answered.ensures.answers;
     }

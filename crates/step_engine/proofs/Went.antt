@@ -1,0 +1,152 @@
+-- A step of a job of which it was found how far it has come, and what a sweep of it leaves and costs then.
+use Rattle.std.proofs.Common.{◌≡◌, ℕ, ◌+◌, ◌*◌, ◌≤◌, Bool, true, List, refl, sym, subst, inr, arith}
+use Rattle.std.specs.Prelude.{IsTrue, Option, Some, None, Result, Ok}
+use Rattle.bool_tables.specs.declared.steps.Step.{Step}
+use Rattle.bool_tables.specs.declared.steps.Planned.{Planned}
+use Rattle.shelf_model.specs.declared.file_no.FileNo.{FileNo}
+use Rattle.shelf_model.specs.declared.sort_fault.SortFault.{SortFault}
+use Rattle.shelf_model.specs.Calls.{Told}
+use Rattle.shelf_model.specs.Faults.{Faults}
+use Rattle.shelf_model.specs.Folder.{Folder, AreFiles, OnlyChanges}
+use Rattle.shelf_model.specs.Moments.{Throughout, Ran, OnlyChanged}
+use Rattle.shelf_model.specs.World.{Moment, World, now}
+use Rattle.shelf_model.proofs.Changing.{changes_then}
+use Rattle.shelf_model.proofs.Runs.{told, told_then, joins, weakens, at_end, ran_joins, ran_weakens, ran_end}
+use Rattle.step_work.specs.Tuples.{sweeps}
+use Rattle.sweep_core.specs.declared.checkpoint.Checkpoint.{Checkpoint}
+use Rattle.sweep_core.specs.Saving.{reads_of}
+use Rattle.sweep_checkpoint.specs.Gated.{last_gated}
+use Rattle.sweep_checkpoint.specs.Loads.{Tells}
+use Rattle.sweep_checkpoint.specs.declared.going.Going.{Going}
+use Rattle.step_going.specs.Found.{DuringFind}
+use Rattle.step_going.specs.Standing.{AreSafe, IsStanding}
+use Rattle.step_sweeps.specs.Going.{next_of, rest_calls}
+use Rattle.sound_image.specs.Jobs.{Job}
+use Rattle.sound_image.specs.Entries.{work_of}
+use Rattle.sound_image.specs.Holds.{Holds, AreResumable}
+use Rattle.step_engine.specs.Finding.{IsOfJob, JobGoesOn, JobRests, JobStands, FindsGoing}
+use Rattle.step_engine.specs.OneFile.{ChangesFile, OnlyMade}
+use Rattle.step_engine.specs.Running.{nodes_read, PaysRest}
+use Rattle.step_engine.specs.Simple.{IsStepOf}
+use Rattle.step_engine.proofs.Resuming.{safe_resumes_over}
+
+-- what the job's step stands with, in other words for when it goes on and what its checkpoints rest on
+pub stands_as : (job : Job) (number step budget : ℕ) (Q : (FileNo → List ℕ) → Type 0) (rests : Checkpoint → FileNo → ℕ → Type 0)
+    → JobGoesOn job number ≡ Q → JobRests job number ≡ rests → number ≡ step → job.budget ≡ budget → (last : Option Checkpoint) (folder : Folder)
+    → JobStands job number last folder → IsStanding Q rests step budget (next_of last) folder last
+stands_as job number step budget Q rests goes_is rests_is step_is budget_is last folder stands =
+    subst (λ v. v) (λ i. IsStanding (goes_is i) (rests_is i) (step_is i) (budget_is i) (next_of last) folder last) stands
+
+pub safe_as : (job : Job) (number step : ℕ) (Q : (FileNo → List ℕ) → Type 0) → JobGoesOn job number ≡ Q → number ≡ step → (old new : World)
+    → Throughout old new (λ (m : Moment). AreSafe Q step m.folder) → Throughout old new (λ (m : Moment). AreSafe (JobGoesOn job number) number m.folder)
+safe_as job number step Q goes_is step_is old new safe =
+    subst (λ v. v) (λ i. Throughout old new (λ (m : Moment). AreSafe (sym goes_is i) (sym step_is i) m.folder)) safe
+
+-- the step is the job's, whose steps before it are held, and it stands with this checkpoint
+pub record IsSet (job : Job) (n : ℕ) (text : List ℕ) (budget number : ℕ) (p : Planned) (last : Option Checkpoint) (folder : Folder) : Type 0 where
+  pub is : IsStepOf job n text budget number p
+  pub holds : Holds job number folder
+  pub stands : JobStands job number last folder
+
+pub of_job : (job : Job) (n : ℕ) (text : List ℕ) (budget number : ℕ) (p : Planned) → IsStepOf job n text budget number p → IsOfJob job budget number
+of_job job n text budget number p is = record { well_formed = is.well_formed; budget_is = is.budget_is; within = is.within }
+
+-- sixteen turns are within the work of each step
+work_enough : (job : Job) (step : Step) → 16 ≤ work_of job step
+work_enough job step = omega arith
+
+-- so many calls are paid for
+run_cost : (step : Step) (number budget : ℕ) (r : FileNo → List ℕ) (last : Option Checkpoint) (rest before mid after turns some nodes : ℕ) → some ≤ 11
+    → nodes ≤ nodes_read step r → Tells number budget (last_gated number r) last → PaysRest step number budget r rest
+    → mid ≤ before + 590 → (last ≡ None → mid ≤ before + 2) → after ≤ mid + (229 * turns + some + rest_calls last nodes)
+    → after ≤ before + (229 * turns + 13 + rest)
+run_cost step number budget r None rest before mid after turns some nodes few fewer told pays most least then =
+    let begun : mid ≤ before + 2 = least refl in omega (arith, few, begun, then)
+run_cost step number budget r (Some c) rest before mid after turns some nodes few fewer told pays most least then =
+    let paid = pays c told in omega (arith, few, fewer, most, then, paid)
+
+module _ {S : Type 0} (tells : S → Bool) (world : S → World) (counts : S → Faults) (n : ℕ) (text : List ℕ) (budget number : ℕ) (p : Planned) where
+  -- what is said of each run of a step that sweeps, whether it ends or is refused
+  pub record Went (before after : S) : Type 0 where
+    pub content : Told tells before after (Ran (OnlyMade p.step number (now (world before))) (world before) (world after))
+    pub resumes : IsTrue (tells after) → (job : Job) → IsStepOf job n text budget number p → Holds job number (now (world before)).folder
+        → Throughout (world before) (world after) (λ (m : Moment). AreResumable job number m.folder)
+    pub few_calls : IsTrue (tells after) → (job : Job) → IsStepOf job n text budget number p → Holds job number (now (world before)).folder
+        → (rest : ℕ) → PaysRest p.step number budget (reads_of (world before)) rest
+        → (world after).clock ≤ (world before).clock + (229 * work_of job p.step + 13 + rest)
+
+  -- what a sweep says, of which so many calls are made with no turn, and which goes on with these nodes
+  pub record Swept (last : Option Checkpoint) (some : ℕ) (nodes : (FileNo → List ℕ) → ℕ) (mid after : S) : Type 0 where
+    pub content : Told tells mid after (Ran (OnlyChanged (λ f. f.step ≡ number) (now (world mid))) (world mid) (world after))
+    pub safe : IsTrue (tells after) → (job : Job) → IsSet job n text budget number p last (now (world mid)).folder
+        → Throughout (world mid) (world after) (λ (m : Moment). AreSafe (JobGoesOn job number) number m.folder)
+    pub few_calls : IsTrue (tells after) → (job : Job) → IsSet job n text budget number p last (now (world mid)).folder
+        → (world after).clock ≤ (world mid).clock + (229 * work_of job p.step + some + rest_calls last (nodes (reads_of (world mid))))
+
+  own_only : sweeps p.step ≡ true → (old m : Folder) → OnlyChanges (λ f. f.step ≡ number) old m → OnlyChanges (ChangesFile p.step number) old m
+  own_only swept old m only f apart = only f (λ own. apart (inr (swept, own)))
+
+  found_only : (before mid : S) → Told tells before mid (Ran (DuringFind number (now (world before))) (world before) (world mid))
+      → Told tells before mid (Ran (OnlyChanged (λ f. f.step ≡ number) (now (world before))) (world before) (world mid))
+  found_only before mid found = told tells before mid _ _ found (λ _ run.
+      ran_weakens (world before) (world mid) (DuringFind number (now (world before))) (OnlyChanged (λ f. f.step ≡ number) (now (world before))) (λ m during. during.others) run)
+
+  -- where it was looked for how far the step has come, and that was refused
+  pub went_first : (swept : sweeps p.step ≡ true) (before mid : S) (result : Result Going SortFault) → FindsGoing tells world counts budget number before mid result
+      → Went before mid
+  went_first swept before mid result found = record {
+    content = told tells before mid _ _ (found_only before mid found.content) (λ _ run.
+        ran_weakens (world before) (world mid) (OnlyChanged (λ f. f.step ≡ number) (now (world before))) (OnlyMade p.step number (now (world before)))
+        (λ m only. own_only swept (now (world before)).folder m.folder only) run);
+    resumes = λ tells_mid job is holds.
+        weakens (world before) (world mid) (λ m. Holds job number m.folder) (λ m. AreResumable job number m.folder) (λ m held. held.resumable)
+        (found.holds tells_mid job (of_job job n text budget number p is) holds);
+    few_calls = λ tells_mid job is holds rest pays.
+        let few = found.calls tells_mid in let enough = work_enough job p.step in omega (arith, few, enough);
+  }
+
+  module _ (files_are : (s : S) → IsTrue (tells s) → AreFiles (now (world s)).folder) (swept : sweeps p.step ≡ true) (before mid after : S) (going : Going)
+      (found : FindsGoing tells world counts budget number before mid (Ok going)) (some : ℕ) (nodes : (FileNo → List ℕ) → ℕ) (few : some ≤ 11)
+      (fewer : (r : FileNo → List ℕ) → nodes r ≤ nodes_read p.step r) where
+    -- the step is set as the sweep begins
+    pub set_found : IsTrue (tells mid) → (job : Job) → IsStepOf job n text budget number p → Holds job number (now (world before)).folder
+        → IsSet job n text budget number p going.last (now (world mid)).folder
+    set_found tells_mid job is holds = record {
+      is = is;
+      holds = at_end (world before) (world mid) (λ m. Holds job number m.folder) (found.holds tells_mid job (of_job job n text budget number p is) holds);
+      stands = found.stands tells_mid job (of_job job n text budget number p is) holds;
+    }
+
+    -- reads give what they gave
+    pub same_reads : IsTrue (tells mid) → reads_of (world mid) ≡ reads_of (world before)
+    same_reads tells_mid = λ i f. (ran_end (world before) (world mid) (DuringFind number (now (world before))) (found.content.did tells_mid)).reads f i
+
+    pub pays_for : (tells_mid : IsTrue (tells mid)) (turns rest : ℕ) → PaysRest p.step number budget (reads_of (world before)) rest
+        → (world after).clock ≤ (world mid).clock + (229 * turns + some + rest_calls going.last (nodes (reads_of (world mid))))
+        → (world after).clock ≤ (world before).clock + (229 * turns + 13 + rest)
+    pays_for tells_mid turns rest pays then =
+        run_cost p.step number budget (reads_of (world before)) going.last rest _ _ _ turns some (nodes (reads_of (world before))) few
+        (fewer (reads_of (world before))) (found.last tells_mid) pays (found.calls tells_mid) (found.few_calls tells_mid)
+        (subst (λ r. (world after).clock ≤ (world mid).clock + (229 * turns + some + rest_calls going.last (nodes r))) (same_reads tells_mid) then)
+
+    -- where a sweep followed
+    pub went_then : Swept going.last some nodes mid after → Went before after
+    went_then sweep = record {
+      content = told_then tells before mid after _ _ _ (found_only before mid found.content) sweep.content (λ _ first second.
+          ran_weakens (world before) (world after) (OnlyChanged (λ f. f.step ≡ number) (now (world before))) (OnlyMade p.step number (now (world before)))
+          (λ m only. own_only swept (now (world before)).folder m.folder only)
+          (ran_joins (world before) (world mid) (world after) (OnlyChanged (λ f. f.step ≡ number) (now (world before))) first
+          (ran_weakens (world mid) (world after) (OnlyChanged (λ f. f.step ≡ number) (now (world mid))) (OnlyChanged (λ f. f.step ≡ number) (now (world before)))
+          (λ m only. changes_then (λ f. f.step ≡ number) (now (world before)).folder (now (world mid)).folder m.folder
+          (ran_end (world before) (world mid) (OnlyChanged (λ f. f.step ≡ number) (now (world before))) first) only) second)));
+      resumes = λ tells_after job is holds.
+          let tells_mid : IsTrue (tells mid) = sweep.content.before tells_after in
+          let set = set_found tells_mid job is holds in
+          joins (world before) (world mid) (world after) (λ m. AreResumable job number m.folder)
+          ((went_first swept before mid (Ok going) found).resumes tells_mid job is holds)
+          (safe_resumes_over job number (world mid) (world after) (files_are mid tells_mid) set.holds.resumable (sweep.content.did tells_after)
+          (sweep.safe tells_after job set));
+      few_calls = λ tells_after job is holds rest pays.
+          let tells_mid : IsTrue (tells mid) = sweep.content.before tells_after in
+          pays_for tells_mid (work_of job p.step) rest pays (sweep.few_calls tells_after job (set_found tells_mid job is holds));
+    }

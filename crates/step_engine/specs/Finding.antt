@@ -1,0 +1,72 @@
+-- How far a step has come before it is run, and what a stop leaves while that is found.
+use Rattle.std.specs.Prelude.{◌≡◌, ◌≢◌, ◌⊎◌, ℕ, ◌+◌, ◌<◌, ◌≤◌, Bool, IsTrue, List, [], length, Option, None}
+use Rattle.std.specs.Prelude.{Result, IfOk, IfErr}
+use Rattle.bool_tables.specs.Plans.{IsWellFormed}
+use Rattle.shelf_model.specs.declared.file_no.FileNo.{FileNo}
+use Rattle.shelf_model.specs.declared.sort_fault.SortFault.{SortFault}
+use Rattle.shelf_model.specs.declared.sort_fault.SortFault.TheVariants as sort
+use Rattle.shelf_model.specs.Calls.{Told}
+use Rattle.shelf_model.specs.Faults.{Faults}
+use Rattle.shelf_model.specs.Folder.{Folder}
+use Rattle.shelf_model.specs.Moments.{Ran, Throughout}
+use Rattle.shelf_model.specs.World.{Moment, World, now, file}
+use Rattle.run_tiers.specs.Faults.{OnlySortShelf}
+use Rattle.step_work.specs.Plans as plans
+use Rattle.sweep_core.specs.declared.checkpoint.Checkpoint.{Checkpoint}
+use Rattle.sweep_checkpoint.specs.Gated.{present, last_gated}
+use Rattle.sweep_checkpoint.specs.Loads.{Tells}
+use Rattle.sweep_checkpoint.specs.declared.going.Going.{Going}
+use Rattle.step_going.specs.Found.{DuringFind}
+use Rattle.step_going.specs.Standing.{IsStanding}
+use Rattle.resumable.specs.Kinds.{RestsOn}
+use Rattle.resumable.specs.Resumable.{GoesOnAt}
+use Rattle.step_sweeps.specs.Going.{MayGoOn, next_of}
+use Rattle.sound_image.specs.Files.{checkpoint_gate}
+use Rattle.sound_image.specs.Jobs.{Job}
+use Rattle.sound_image.specs.Holds.{Holds}
+
+-- the number is that of a step in the job's well-formed plan, and so many records are those of the job's room
+pub record IsOfJob (job : Job) (budget number : ℕ) : Type 0 where
+  pub well_formed : IsWellFormed job.n job.text job.steps
+  pub budget_is : job.budget ≡ budget
+  pub within : number < length job.steps
+
+-- when the job's step goes on in a reading, and what its checkpoints rest on
+abbrev pub JobGoesOn : Job → ℕ → (FileNo → List ℕ) → Type 0
+JobGoesOn job number = GoesOnAt job.n job.text job.steps job.budget number
+
+abbrev pub JobRests : Job → ℕ → Checkpoint → FileNo → ℕ → Type 0
+JobRests job number = RestsOn (plans.step_at job.steps number)
+
+-- whatever a stop leaves, the job's step has no gated checkpoint, or goes on from this one
+abbrev pub JobStands : Job → ℕ → Option Checkpoint → Folder → Type 0
+JobStands job number last folder = IsStanding (JobGoesOn job number) (JobRests job number) number job.budget
+    (next_of last) folder last
+
+-- how far the step has come was found, in a room of so many records, or couldn't be
+pub record FindsGoing {S : Type 0} (tells : S → Bool) (world : S → World) (counts : S → Faults) (budget number : ℕ)
+    (before after : S) (result : Result Going SortFault) : Type 0 where
+  -- files of other steps stay, reads give what they gave, and no image is new
+  pub content : Told tells before after
+      (Ran (DuringFind number (now (world before))) (world before) (world after))
+  pub going : IfOk result (λ going. (going.step ≡ number) × (going.budget ≡ budget) × MayGoOn going)
+  -- it was found by the last gated checkpoint
+  pub last : IfOk result (λ going. IsTrue (tells after)
+      → Tells number budget (last_gated number (present (now (world before)).folder)) going.last)
+  -- in a folder that holds the steps before, which it does at each moment, the step stands with that checkpoint, and
+  -- only a call of the folder can fail
+  pub holds : IsTrue (tells after) → (job : Job) → IsOfJob job budget number
+      → Holds job number (now (world before)).folder → Throughout (world before) (world after)
+      (λ (m : Moment). Holds job number m.folder)
+  pub stands : IfOk result (λ going. IsTrue (tells after) → (job : Job) → IsOfJob job budget number
+      → Holds job number (now (world before)).folder → JobStands job number going.last (now (world after)).folder)
+  pub sound : IfErr result (λ fault. IsTrue (tells after) → (job : Job) → IsOfJob job budget number
+      → Holds job number (now (world before)).folder → fault ≡ sort.Shelf)
+  -- otherwise a step without a gated checkpoint finds no damage
+  pub damaged : IfErr result (λ fault. IsTrue (tells after)
+      → (fault ≡ sort.Shelf) ⊎ ((file (world before) (checkpoint_gate number)).bytes ≢ []))
+  pub kind : IfErr result (λ fault. fault ≢ sort.RunsSpent)
+  pub calls : IsTrue (tells after) → (world after).clock ≤ (world before).clock + 590
+  pub few_calls : IfOk result (λ going. IsTrue (tells after) → going.last ≡ None
+      → (world after).clock ≤ (world before).clock + 2)
+  pub faults : OnlySortShelf (counts before) (counts after) result
