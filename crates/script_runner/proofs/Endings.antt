@@ -154,8 +154,8 @@ fetched_calls source fetch most old mid new looked clock within (inl few) = inl 
 fetched_calls source fetch most old mid new looked clock within (inr (plan, plans, calls)) = inr (
   plan,
   plans,
-  λ counted.
-      let few = calls (subst (λ (m : Moment). AreCounted (job_of source plan) m.folder)
+  λ rest counted.
+      let few = calls rest (subst (λ (m : Moment). AreCounted (job_of source plan) m.folder rest)
       (sym (still_there old mid looked)) counted) in
       omega (arith, clock, few, within),
 )

@@ -590,11 +590,11 @@ module _ {S : Type 0} (tells : S → Bool) (world : S → World) where
 -- the calls of entering a folder and of a run of a job
 pub entered_calls : (job : Job) (lines : List LineEnd) (path : List ℕ) (result : Result Unit Failed) (old mid : World) (end : ℕ)
     → Entered path result old mid
-    → (AreCounted job (now mid).folder → end ≤ mid.clock + most_calls job (length lines))
-    → AreCounted job (now old).folder → end ≤ old.clock + 1 + most_calls job (length lines)
-entered_calls job lines path result old mid end entered run counted =
-    within end mid.clock old.clock (most_calls job (length lines)) entered.ticks.clock_is
-    (run (subst (λ (m : Moment). AreCounted job m.folder) (sym entered.same) counted))
+    → ((rest : ℕ) → AreCounted job (now mid).folder rest → end ≤ mid.clock + (most_calls job (length lines) + rest))
+    → (rest : ℕ) → AreCounted job (now old).folder rest → end ≤ old.clock + 1 + (most_calls job (length lines) + rest)
+entered_calls job lines path result old mid end entered run rest counted =
+    within end mid.clock old.clock (most_calls job (length lines) + rest) entered.ticks.clock_is
+    (run rest (subst (λ (m : Moment). AreCounted job m.folder rest) (sym entered.same) counted))
   where
     within : (a b c most : ℕ) → b ≡ c + 1 → a ≤ b + most → a ≤ c + 1 + most
     within a b c most one few = omega (arith, one, few)

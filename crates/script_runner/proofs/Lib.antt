@@ -9,7 +9,9 @@ pub mod SweepDamage
 pub mod RunSteps
 pub mod StepByStep
 pub mod SayingLines
+pub mod Resting
 pub mod Taking
+pub mod Paying
 pub mod Turns
 pub mod EnteredRuns
 pub mod Endings

@@ -21,6 +21,7 @@ use Rattle.sound_image.specs.Entries.{work_of}
 use Rattle.sound_image.specs.Sound.{IsSound}
 use Rattle.sound_image.specs.Holds.{AreSound}
 use Rattle.sound_image.proofs.AttachLaws.{standing}
+use Rattle.sound_image.proofs.Resuming.{none_resumes}
 use Rattle.script_reader.specs.declared.fault.ScriptFault.{ScriptFault}
 use Rattle.script_reader.specs.declared.plan.Plan.{Plan}
 use Rattle.script_runner.specs.Said.{whole_lines, said_count}
@@ -66,7 +67,10 @@ no_list w asked p path is accepts =
 pub empty_is_sound : (job : Job) (r : FileNo → List ℕ) → ((f : FileNo) → r f ≡ []) → IsSound job r
 empty_is_sound job r empty = record {
   shown = inl (ap (λ bytes. nat_lt 0 (length bytes)) (empty job_gate), empty step_gate);
-  resumable = record { no_checkpoint = λ s within. empty (checkpoint_gate s) };
+  resumable = record {
+    unstored = λ none s from within. empty (checkpoint_gate s);
+    goes_on = none_resumes job (count_in r) r (λ s from within. empty (checkpoint_gate s));
+  };
 }
 
 -- a folder without files has no other image

@@ -8,6 +8,7 @@ use Rattle.bool_tables.specs.declared.steps.Step.TheVariants as step
 use Rattle.bool_tables.specs.declared.steps.Planned.{Planned}
 use Rattle.bool_tables.specs.Plans.{IsWellFormed, is_live, operands}
 use Rattle.shelf_model.specs.declared.file_no.FileNo.{FileNo}
+use Rattle.shelf_model.specs.declared.sort_fault.SortFault.TheVariants as sort
 use Rattle.shelf_model.specs.File.{IsKept}
 use Rattle.shelf_model.specs.Folder.{Folder, Image, file_in, bytes_in, IsImage, AreFiles}
 use Rattle.shelf_model.specs.World.{Moment, World, now, said}
@@ -21,7 +22,7 @@ use Rattle.catalogue.specs.Counts.{present, is_stored, count_in, entry_at}
 use Rattle.catalogue.specs.Commits.{IsReady}
 use Rattle.catalogue.specs.Standings.{IsBeginning, DuringAttach}
 use Rattle.catalogue.proofs.Counted.{ready_counts}
-use Rattle.sound_image.specs.Files.{node_file}
+use Rattle.sound_image.specs.Files.{node_file, checkpoint_gate}
 use Rattle.step_work.specs.Plans.{no_step}
 use Rattle.sound_image.specs.Jobs.{Job}
 use Rattle.sound_image.specs.Entries.{IsEntryOfStep}
@@ -29,6 +30,7 @@ use Rattle.sound_image.specs.Holds.{Holds, AreSound, HaveAtLeast}
 use Rattle.sound_image.proofs.HoldsLaws.{holds_sound, holds_count}
 use Rattle.sound_image.proofs.AttachLaws.{standing, sound_while_attached, count_while_attached}
 use Rattle.sound_image.proofs.Live.{live_below}
+use Rattle.step_engine.specs.StepFaults.{IsStepFault}
 use Rattle.step_engine.proofs.PlanLaws.{operands_live, follows_at}
 use Rattle.script_reader.specs.declared.plan.LineEnd.{LineEnd}
 use Rattle.script_reader.specs.Lines.{AreLines}
@@ -41,7 +43,7 @@ use Rattle.script_runner.specs.Said.{whole_lines, acknowledged, said_count, no_l
 use Rattle.diagram_list.specs.Saying.{StaysThere}
 use Rattle.diagram_list.proofs.SayingLaws.{stays_then, stays_on_shelf}
 use Rattle.script_runner.specs.Running.{IsSafe, Begins, AllBegin, WaitsNot, OthersAre, IsRunning, HasSaid, AreEmptied, IsEntryDamage, IsMetDamage, stood_after}
-use Rattle.script_runner.specs.StepRuns.{CountsAbout, IsTaking, HasEntry, HasSteps, HoldsStep, NoneDrops, KeepsDiagrams, TakesStep}
+use Rattle.script_runner.specs.StepRuns.{CountsAbout, IsTaking, HasEntry, HasSteps, HoldsStep, NoneDrops, KeepsDiagrams, KeepsLater, TakesStep}
 use Rattle.script_runner.proofs.LineOrder.{none_before, ended_rises}
 use Rattle.script_runner.proofs.SweepDamage.{fault_passes, live_not_dropped}
 use Rattle.script_runner.proofs.SaidLaws.{whole_lines-append, start_line_is_one, resume_line_is_one, said_below, acknowledged_least}
@@ -69,8 +71,8 @@ pub record IsPlan (job : Job) (lines : List LineEnd) : Type 0 where
   pub are_lines : AreLines job.steps lines
 
 -- the plan of a job that a run is given
-pub plan_in : (job : declared.Job) → IsPlan (job_in job) job.lines.now
-plan_in job = record { well_formed = job.well_formed; are_lines = job.are_lines }
+pub plan_in : (budget : ℕ) (job : declared.Job) → IsPlan (job_in budget job) job.lines.now
+plan_in budget job = record { well_formed = job.well_formed; are_lines = job.are_lines }
 
 -- what holds at a moment of a run that began there
 abbrev pub IsGoing : Job → List LineEnd → World → Moment → Type 0
@@ -87,13 +89,14 @@ pub record Sounds (job : Job) (lines : List LineEnd) (count : ℕ) (since todo :
   pub holds : Holds job count (now new).folder
 
 -- the catalogue so far: the entries that were there at first stay, as they are sure and as they are read, each step since has its entry,
--- what these steps drop is empty, and the diagrams that were there at first and that they don't drop stay
+-- what these steps drop is empty, and the diagrams that were there at first and that they don't drop stay, and so do the files of the steps that remain
 pub record HasMade (steps : List Planned) (done step : ℕ) (old new : Folder) : Type 0 where
   pub kept : (front : List ℕ) → length front ≤ 128 * done → IsKept front (file_in old catalogue) → IsKept front (file_in new catalogue)
   pub reads : take (128 * done) (file_in new catalogue).bytes ≡ take (128 * done) (file_in old catalogue).bytes
   pub made : (k : ℕ) → done ≤ k → k < step → (e : Entry) × HasEntry steps k e (present new)
   pub emptied : AreEmptied steps done step new
   pub keeps : KeepsDiagrams steps done step old new
+  pub later : KeepsLater step old new
 
 -- where a run stands between two steps: so many are committed, and these lines remain to be said
 pub record AtStep (job : Job) (lines : List LineEnd) (step : ℕ) (rest : List LineEnd) (old new : World) : Type 0 where
@@ -382,20 +385,27 @@ module _ (job : Job) (lines : List LineEnd) (plan : IsPlan job lines) (old : Wor
       committed = swept.committed;
       fault = swept.fault;
       uncommitted = let low = swept.uncommitted in let reached = at.reached in omega (arith, low, reached, count);
-      at_first = λ k below is.
+      gate_is =
+          let low = swept.uncommitted in
+          let within = swept.within in
+          let few_steps = plan.well_formed.few_steps in
+          swept.gate_is
+          ∙ at.made.later (checkpoint_gate swept.step) (omega (arith, low, count)) (omega (arith, within, few_steps));
+      at_first = λ anew k below is.
           let reached = at.reached in
-          swept.at_first k (omega (arith, below, reached, count)) is
+          swept.at_first anew k (omega (arith, below, reached, count)) is
           ∙ subst (λ (q : FileNo). file_in (now mid).folder q ≡ file_in (now old).folder q) (sym is)
-          (at.made.keeps k below (undropped k is));
+          (at.made.keeps k below (undropped anew k is));
     })
       where
         -- the diagram is live as the step begins, so none of the steps before it drops it
-        undropped : (k : ℕ) → f ≡ node_file k → NoneDrops job.steps (done_at old) step k
-        undropped k is j from until =
+        undropped : IsStepFault job.n (get_or job.steps swept.step no_step).step (stood_after swept.began new) (sort.Damaged f place)
+            → (k : ℕ) → f ≡ node_file k → NoneDrops job.steps (done_at old) step k
+        undropped anew k is j from until =
             let live = fault_passes (is_live (take swept.step job.steps)) job.n _ (stood_after swept.began new) f place
             swept.swept
             (operands_live job.n job.text (take swept.step job.steps) (get_or job.steps swept.step no_step)
-            (follows_at job.n job.text job.steps swept.step no_step swept.within plan.well_formed)) swept.fault in
+            (follows_at job.n job.text job.steps swept.step no_step swept.within plan.well_formed)) anew in
             let same : live.0 ≡ k = ap (λ (q : FileNo). q.step) (sym live.1 ∙ is) in
             let low = swept.uncommitted in
             let within = swept.within in
@@ -511,6 +521,7 @@ module _ (job : Job) (lines : List LineEnd) (plan : IsPlan job lines) (old : Wor
               takes.keeps k (omega (arith, below, reached))
               (λ j from until. none j (omega (arith, reached, from)) until)
               ∙ at.made.keeps k below (λ j from until. none j from (omega (arith, until)));
+          later = λ f from before. takes.later f from before ∙ at.made.later f (omega (arith, from)) before;
         };
         sound = λ sound. record { text_is = (at.sound sound).text_is; holds = (holds_it sound).ok.0 };
       },

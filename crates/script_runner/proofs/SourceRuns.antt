@@ -22,7 +22,7 @@ use Rattle.script_runner.specs.declared.read_netlist.ReadNetlist.{ReadNetlist}
 use Rattle.script_runner.specs.Calls.{most_calls, fetch_calls, AreCounted}
 use Rattle.script_runner.specs.Entered.{RunsIn, EndingHasCause}
 use Rattle.script_runner.specs.Fetching.{OnlyFetched, OnlyTexts, IsText}
-use Rattle.script_runner.specs.JobOf.{source_of, job_bytes, job_of, IsShort}
+use Rattle.script_runner.specs.JobOf.{source_of, room_in, job_bytes, given_job, job_of, IsShort}
 use Rattle.script_runner.specs.Netlists.{netlist_in, netlist_text, IsSpelled}
 use Rattle.script_runner.specs.Outcome.{SaysLine, EndsSource, Ends, ByWords, IsStatus, StatusHasCause, RunsInCalls, MakesFewCalls, texts_calls}
 use Rattle.script_runner.specs.Running.{SaysOnly}
@@ -62,26 +62,25 @@ faulty_of budget script netlist net fault is spelled refuses = record {
 }
 
 -- the job that is given is the source's
-given_job_is : (source : Source) (plan : Plan) (given : List Planned) (job : List ℕ) → given ≡ plan.steps → job ≡ job_bytes source
-    → record { n = plan.n; text = source.script; steps = given; bytes = job } ≡ job_of source plan
-given_job_is source plan given job steps_are is i =
-    record { n = plan.n; text = source.script; steps = steps_are i; bytes = is i }
+given_job_is : (source : Source) (plan : Plan) (steps : List Planned) (budget : ℕ) (job : List ℕ) → steps ≡ plan.steps → job ≡ job_bytes source
+    → budget ≡ room_in job → given_job plan.n source.script steps budget job ≡ job_of source plan
+given_job_is source plan steps budget job steps_are is room i =
+    given_job plan.n source.script (steps_are i) ((room ∙ ap room_in is) i) (is i)
 
 -- the calls of a run of the plan are those of the source's job
-pub calls_of : (source : Source) (plan : Plan) (given : List Planned) (spoken : List LineEnd) (job : List ℕ) (folder : Folder)
-    (old new : World) → given ≡ plan.steps → spoken ≡ plan.lines → job ≡ job_bytes source
-    → (AreCounted (record { n = plan.n; text = source.script; steps = given; bytes = job }) folder
-    → new.clock ≤ old.clock + 2
-    + most_calls (record { n = plan.n; text = source.script; steps = given; bytes = job }) (length spoken))
-    → AreCounted (job_of source plan) folder
-    → new.clock ≤ old.clock + 0 + 2 + most_calls (job_of source plan) (length plan.lines)
-calls_of source plan given spoken job folder old new steps_are lines_are is few counted =
-    let within = subst IsFew (given_job_is source plan given job steps_are is) few counted in
+pub calls_of : (source : Source) (plan : Plan) (steps : List Planned) (budget : ℕ) (spoken : List LineEnd) (job : List ℕ) (folder : Folder)
+    (old new : World) → steps ≡ plan.steps → spoken ≡ plan.lines → job ≡ job_bytes source → budget ≡ room_in job
+    → ((rest : ℕ) → AreCounted (given_job plan.n source.script steps budget job) folder rest
+    → new.clock ≤ old.clock + 2 + (most_calls (given_job plan.n source.script steps budget job) (length spoken) + rest))
+    → (rest : ℕ) → AreCounted (job_of source plan) folder rest
+    → new.clock ≤ old.clock + 0 + 2 + most_calls (job_of source plan) (length plan.lines) + rest
+calls_of source plan steps budget spoken job folder old new steps_are lines_are is room few rest counted =
+    let within = subst IsFew (given_job_is source plan steps budget job steps_are is room) few rest counted in
     let lines = ap length lines_are in
     omega (arith, within, lines)
   where
     IsFew : Job → Type 0
-    IsFew j = AreCounted j folder → new.clock ≤ old.clock + 2 + most_calls j (length spoken)
+    IsFew j = (rest : ℕ) → AreCounted j folder rest → new.clock ≤ old.clock + 2 + (most_calls j (length spoken) + rest)
 
 -- a status of an ending that is one of two
 pub one_of_two : (P : ℕ → Type 0) (e f : Ending) → (e ≡ f) ⊎ (e ≡ SayFault) → P (status_of f) → P 8 → P (status_of e)
@@ -191,21 +190,20 @@ module _ {S : Type 0} (tells : S → Bool) (world : S → World) where
   }
 
   -- a source's job was run
-  pub ran_source : (folder : List ℕ) (source : Source) (plan : Plan) (given : List Planned) (spoken : List LineEnd)
-      (job : List ℕ) (status : ℕ) (s t : S) → Plans source plan → given ≡ plan.steps → spoken ≡ plan.lines
-      → job ≡ job_bytes source
-      → Told tells s t (RunsIn folder (record { n = plan.n; text = source.script; steps = given; bytes = job })
-      spoken status (world s) (world t))
+  pub ran_source : (folder : List ℕ) (source : Source) (plan : Plan) (steps : List Planned) (budget : ℕ) (spoken : List LineEnd)
+      (job : List ℕ) (status : ℕ) (s t : S) → Plans source plan → steps ≡ plan.steps → spoken ≡ plan.lines
+      → job ≡ job_bytes source → budget ≡ room_in job
+      → Told tells s t (RunsIn folder (given_job plan.n source.script steps budget job) spoken status (world s) (world t))
       → Told tells s t (EndsSource folder source status (world s) (world t))
-  ran_source folder source plan given spoken job status s t plans steps_are lines_are is runs = record {
+  ran_source folder source plan steps budget spoken job status s t plans steps_are lines_are is room runs = record {
     before = runs.before;
     did = λ tells_t. inr (inr (record {
       plan = plan;
       plans = plans;
       run = subst (λ (j : Job). RunsIn folder j plan.lines status (world s) (world t))
-          (given_job_is source plan given job steps_are is)
-          (subst (λ ls. RunsIn folder (record { n = plan.n; text = source.script; steps = given; bytes = job }) ls status
-          (world s) (world t)) lines_are (runs.did tells_t));
+          (given_job_is source plan steps budget job steps_are is room)
+          (subst (λ ls. RunsIn folder (given_job plan.n source.script steps budget job) ls status (world s) (world t)) lines_are
+          (runs.did tells_t));
     }));
   }
 

@@ -147,12 +147,16 @@ same_netlist (Some a) None x y sizes bytes = absurd (no_netlist a x (sym sizes))
 same_netlist (Some a) (Some b) x y sizes bytes = ap Some bytes
 
 -- a job's bytes have the records of its room
-pub room_of_job : (s : Source) → s.budget < 2 ^ 32 → room_in (job_bytes s) ≡ s.budget
+room_of_job : (s : Source) → s.budget < 2 ^ 32 → room_in (job_bytes s) ≡ s.budget
 unfolding room_in job_bytes
 room_of_job s small =
     let rest : List ℕ = big_bytes 4 (length s.script) ++ netlist_size s.netlist ++ s.script ++ netlist_bytes s.netlist in
     ap (big_number 4) (drop_at (codes "ADIARJ01") (big_bytes 4 s.budget ++ rest) 8 refl)
     ∙ big_number-reads_back 4 s.budget rest (omega (arith, small))
+
+-- so a room of as many records as the source asks for has those of its bytes
+pub room_as : (s : Source) (room : ℕ) (job : List ℕ) → s.budget < 2 ^ 32 → room ≡ s.budget → job ≡ job_bytes s → room ≡ room_in job
+room_as s room job small is bytes = is ∙ sym (ap room_in bytes ∙ room_of_job s small)
 
 -- a job is of one script and one netlist
 pub job_has_texts : (a b : Source) (p q : Plan) → Plans a p → Plans b q → job_bytes a ≡ job_bytes b
@@ -217,7 +221,7 @@ job_has_texts a b p q plans_a plans_b same = (scripts, same_netlist a.netlist b.
 -- jobs of the same bytes, scripts and plans are the same
 pub same_job : (a b : Source) (p q : Plan) → job_bytes a ≡ job_bytes b → a.script ≡ b.script → p ≡ q → job_of a p ≡ job_of b q
 same_job a b p q bytes scripts plans i =
-    record { n = (plans i).n; text = scripts i; steps = (plans i).steps; bytes = bytes i }
+    record { n = (plans i).n; text = scripts i; steps = (plans i).steps; budget = room_in (bytes i); bytes = bytes i }
 
 -- words that ask for a plan ask for one source and one plan
 pub one_accepted : (w : World) (asked : Option Reading) (p q : Plan) (a : Accepts w asked p) (b : Accepts w asked q)

@@ -7,6 +7,7 @@ use Rattle.std.proofs.lemmas.List.Folds.{list_all-append}
 use Rattle.std.proofs.lemmas.Grind.{flat_map-append}
 use Rattle.std.proofs.lemmas.Bool.{cases_lt, ltb-true, and_from}
 use Rattle.shelf_model.specs.declared.fault.Failed.{Failed}
+use Rattle.shelf_model.specs.declared.file_no.FileNo.{FileNo}
 use Rattle.shelf_model.specs.Folder.{Folder, file_in, bytes_in, AreFiles}
 use Rattle.shelf_model.specs.File.{File, IsKept}
 use Rattle.shelf_model.specs.World.{Moment, World, now, said}
@@ -15,7 +16,7 @@ use Rattle.shelf_model.specs.Moments.{Throughout, Stays, Ran}
 use Rattle.shelf_model.proofs.Runs.{weakens, at_end, ran_end}
 use Rattle.catalogue.specs.declared.layout.Entry.{Entry}
 use Rattle.catalogue.specs.declared.standing.Standing.{Standing}
-use Rattle.catalogue.specs.Files.{catalogue}
+use Rattle.catalogue.specs.Files.{job_step, catalogue}
 use Rattle.catalogue.specs.Counts.{present, count_in}
 use Rattle.catalogue.specs.Commits.{IsReady}
 use Rattle.catalogue.specs.Standings.{DuringAttach, IsAttached}
@@ -26,7 +27,7 @@ use Rattle.sound_image.specs.Jobs.{Job}
 use Rattle.sound_image.specs.Entries.{IsEntryOfStep}
 use Rattle.sound_image.specs.Holds.{Holds, AreSound, HaveCount}
 use Rattle.sound_image.proofs.AttachLaws.{holds_after_attach}
-use Rattle.sound_image.proofs.Numbers.{IsOfStep, node_of_step, not_job_file, not_job_gate, not_step_gate}
+use Rattle.sound_image.proofs.Numbers.{IsOfStep, not_job_file, not_job_gate, not_step_gate}
 use Rattle.script_reader.specs.declared.plan.LineEnd.{LineEnd}
 use Rattle.script_reader.specs.Lines.{rise_from}
 use Rattle.script_runner.specs.declared.finish.Finish.{Finish}
@@ -123,16 +124,20 @@ module _ (job : Job) (lines : List LineEnd) (plan : IsPlan job lines) (old : Wor
     catalogue_same : file_in (now mid).folder catalogue ≡ file_in (now old).folder catalogue
     catalogue_same = (ran_end old mid (DuringAttach job.bytes (now old)) run).others catalogue catalogue_not_job_file (λ e. job_gate_not_catalogue (sym e)) catalogue_not_step_gate
 
-    -- so is the node file of each step that was committed
+    -- so is each file of a step
+    step_file_same : (f : FileNo) → f.step < job_step → file_in (now mid).folder f ≡ file_in (now old).folder f
+    step_file_same f before =
+        let of_step : IsOfStep f = record { early = λ e. omega (arith, e, before) } in
+        (ran_end old mid (DuringAttach job.bytes (now old)) run).others f (not_job_file f of_step) (not_job_gate f of_step) (not_step_gate f of_step)
+
+    -- and the node file of each step that was committed
     node_file_same : (k : ℕ) → k < done_at old
         → file_in (now mid).folder (node_file k) ≡ file_in (now old).folder (node_file k)
     node_file_same k below =
         let done : s.done ≡ done_at old = is_standing.done in
         let few = is_standing.few in
         let few_steps = plan.well_formed.few_steps in
-        let of_step : IsOfStep (node_file k) = node_of_step k (omega (arith, below, done, few, few_steps)) in
-        (ran_end old mid (DuringAttach job.bytes (now old)) run).others (node_file k)
-        (not_job_file (node_file k) of_step) (not_job_gate (node_file k) of_step) (not_step_gate (node_file k) of_step)
+        step_file_same (node_file k) (omega (arith, below, done, few, few_steps))
 
     pub begun : (result : Result Unit Failed) (new : World) → Said piece result mid new
         → Ongoing job lines old new × OnOk result (AtStep job lines s.done (drop before lines) old new)
@@ -183,6 +188,7 @@ module _ (job : Job) (lines : List LineEnd) (plan : IsPlan job lines) (old : Wor
             emptied = λ k from until. let done : s.done ≡ done_at old = is_standing.done in absurd (omega (arith, from, until, done));
             keeps = λ k below none.
                 ap (λ (folder : Folder). file_in folder (node_file k)) same ∙ node_file_same k below;
+            later = λ f from before. ap (λ (folder : Folder). file_in folder f) same ∙ step_file_same f before;
           };
           sound = λ sound. record {
             text_is = text_parts before within front_done rest_done ∙ ap (λ p. p ++ remains job (drop before lines)) (sym (append-nil (banner_at lines old)));

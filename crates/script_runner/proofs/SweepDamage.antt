@@ -16,9 +16,9 @@ use Rattle.shelf_model.specs.World.{Moment, World, now}
 use Rattle.shelf_model.specs.Moments.{Throughout}
 use Rattle.catalogue.specs.Counts.{present, count_in}
 use Rattle.step_work.specs.Tuples.{sweeps}
-use Rattle.sound_image.specs.Files.{node_file}
+use Rattle.sound_image.specs.Files.{node_file, checkpoint_gate}
 use Rattle.step_work.specs.Plans.{no_step}
-use Rattle.step_engine.specs.StepFaults.{MissesNone, MissesNamed, MissesAsked, IsKindFault, IsDamagedAmong, IsReadingFault, IsMakingFault, IsStepFault}
+use Rattle.step_engine.specs.StepFaults.{MissesNone, MissesNamed, MissesAsked, IsKindFault, IsDamagedAmong, IsReadingFault, IsMakingFault, IsStepFault, IsRunFault}
 use Rattle.script_runner.specs.Running.{IsMetDamage}
 
 -- a station with that folder
@@ -66,6 +66,15 @@ fault_there n (Size operand) a b fault same is = (
   is.0,
   is.1,
   subst (λ (folder : Folder). IsKindFault operand 1 (present folder) is.0) (sym same) is.2,
+)
+
+-- so it is where a step may have gone on from a checkpoint
+pub run_there : (n number : ℕ) (s : Step) (a b : World) (fault : SortFault) → (now b).folder ≡ (now a).folder
+    → IsRunFault n number s a fault → IsRunFault n number s b fault
+run_there n number s a b fault same (inl anew) = inl (fault_there n s a b fault same anew)
+run_there n number s a b fault same (inr again) = inr (
+  again.0,
+  λ empty. again.1 (ap (λ (folder : Folder). (file_in folder (checkpoint_gate number)).bytes) (sym same) ∙ empty),
 )
 
 -- a damaged file among those of some steps is that of a step that passes what all of them pass
@@ -143,6 +152,7 @@ met_since n steps f at first old mid new later (inr swept) = inr (record {
   committed = swept.committed;
   fault = swept.fault;
   uncommitted = swept.uncommitted;
+  gate_is = swept.gate_is;
   at_first = swept.at_first;
 })
 
@@ -161,7 +171,9 @@ met_until n steps f at first old mid new P run (inr swept) =
       since = swept.since;
       until = let until = swept.until in let later = run.later in omega (arith, until, later);
       committed = ap (λ (folder : Folder). count_in (present folder)) same ∙ swept.committed;
-      fault = fault_there n _ _ _ (sort.Damaged f at) same swept.fault;
+      fault = run_there n swept.step _ _ _ (sort.Damaged f at) same swept.fault;
       uncommitted = swept.uncommitted;
-      at_first = λ k below is. ap (λ (folder : Folder). file_in folder f) same ∙ swept.at_first k below is;
+      gate_is = ap (λ (folder : Folder). file_in folder (checkpoint_gate swept.step)) same ∙ swept.gate_is;
+      at_first = λ anew k below is. ap (λ (folder : Folder). file_in folder f) same
+          ∙ swept.at_first (fault_there n _ _ _ (sort.Damaged f at) (sym same) anew) k below is;
     })

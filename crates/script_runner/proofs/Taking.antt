@@ -1,6 +1,6 @@
 -- One step of a run, from its files to its commit and what it leaves behind.
-use Rattle.std.proofs.Common.{◌≡◌, ◌∙◌, ℕ, ◌+◌, ◌*◌, ◌^◌, ◌<◌, ◌≤◌, Bool, nat_lt, [], length, take, get_or, refl, sym, ap, subst, inl, inr, arith}
-use Rattle.std.specs.Prelude.{IsTrue, Ok, Err}
+use Rattle.std.proofs.Common.{◌≡◌, ◌∙◌, ℕ, ◌+◌, ◌*◌, ◌^◌, ◌<◌, ◌≤◌, Bool, true, false, cond, nat_lt, [], length, take, get_or, refl, sym, ap, subst, inl, inr, arith}
+use Rattle.std.specs.Prelude.{IsTrue, Result, Ok, Err}
 use Rattle.std.specs.List.{list_all}
 use Rattle.bool_tables.specs.declared.steps.Step.{Step}
 use Rattle.bool_tables.specs.declared.steps.Step.TheVariants.{Const, Var, Pair, Ite, Quantify, Restrict, Drop, Same, Leq, Eval, Size}
@@ -18,7 +18,7 @@ use Rattle.shelf_model.specs.Folder.{Folder, Image, file_in, bytes_in, IsImage, 
 use Rattle.shelf_model.specs.World.{Moment, World, now, file}
 use Rattle.shelf_model.specs.Calls.{Told}
 use Rattle.shelf_model.specs.Moments.{Throughout, Quiet, Ran}
-use Rattle.shelf_model.proofs.Runs.{joins, weakens, ran_weakens, ran_joins, ran_end}
+use Rattle.shelf_model.proofs.Runs.{joins, weakens, at_end, ran_weakens, ran_joins, ran_end}
 use Rattle.catalogue.specs.declared.layout.Entry.{Entry}
 use Rattle.catalogue.specs.Files.{job_step, job_gate, catalogue, step_gate}
 use Rattle.catalogue.specs.Counts.{HasCount, present, count_in, entry_at}
@@ -27,26 +27,29 @@ use Rattle.catalogue.specs.Commits.{IsReady, DuringCommit, IsCommitted}
 use Rattle.catalogue.proofs.Counted.{ready_counts, entry_placed}
 use Rattle.catalogue.proofs.Places.{length_entry}
 use Rattle.step_work.specs.Tuples.{joins as joins_pieces, sweeps}
-use Rattle.sound_image.specs.Files.{node_file}
+use Rattle.sound_image.specs.Files.{node_file, checkpoint_gate}
 use Rattle.step_work.specs.Plans.{no_step}
 use Rattle.sound_image.specs.Jobs.{Job, step_at}
 use Rattle.sound_image.specs.Entries.{IsEntryOfStep, kind_of, work_of}
-use Rattle.sound_image.specs.Holds.{Holds, IsMade}
+use Rattle.sound_image.specs.Holds.{Holds, IsMade, AreResumable, NoneGated}
 use Rattle.sound_image.specs.Steps.{IsOwnFile, OnlyOwnFiles, IsCutBy, IsTidied}
 use Rattle.sound_image.proofs.Numbers.{IsOfStep, node_of_step, not_catalogue, not_step_gate}
-use Rattle.sound_image.proofs.StepLaws.{AreFew, holds_while_made, holds_while_tidied, sound_while_committed, holds_after_commit}
+use Rattle.sound_image.proofs.Resuming.{AreFew, RestsOnSteps}
+use Rattle.sound_image.proofs.StepLaws.{holds_while_made, holds_while_tidied, sound_while_committed, none_after_commit, holds_after_commit}
 use Rattle.step_engine.specs.Simple.{IsStepOf}
 use Rattle.step_engine.specs.OneFile.{ChangesFile, OnlyMade, OnlyTidied}
 use Rattle.step_engine.specs.StepEntries.{IsEntryFor}
-use Rattle.step_engine.specs.StepFaults.{IsKindFault, IsStepFault, IsSoundFault, IsOfKind}
-use Rattle.step_engine.specs.Running.{RunsStep, IsReadyFor}
+use Rattle.step_engine.specs.StepFaults.{IsKindFault, IsStepFault, IsRunFault, IsSoundFault, IsOfKind}
+use Rattle.step_engine.specs.Running.{RunsStep, IsReadyFor, PaysRest}
 use Rattle.step_engine.proofs.EntryLaws.{only_below, operand_kind}
 use Rattle.script_runner.specs.declared.finish.Finish.{Finish}
 use Rattle.script_runner.specs.declared.finish.Finish.TheVariants.{FolderFault, RunsSpent}
+use Rattle.script_runner.specs.Calls.{step_calls, IsCounted}
 use Rattle.script_runner.specs.Running.{OthersAre, AreEmptied, IsMetDamage, RefusesFolder, IsStop}
-use Rattle.script_runner.specs.StepRuns.{CountsAbout, IsTaking, HasEntry, HasSteps, HoldsStep, NamesMet, NamesSpent, StaysEmpty, KeepsDiagrams, TakesStep, stopped_by}
+use Rattle.script_runner.specs.StepRuns.{CountsAbout, IsTaking, HasEntry, HasSteps, HoldsStep, NamesMet, NamesSpent, StaysEmpty, KeepsDiagrams, KeepsLater, TakesStep, stopped_by}
 use Rattle.script_runner.proofs.RunSteps.{held_steps, present_count}
-use Rattle.script_runner.proofs.SweepDamage.{fault_there}
+use Rattle.script_runner.proofs.Resting.{rests_on_steps}
+use Rattle.script_runner.proofs.SweepDamage.{run_there}
 
 -- each image has so many steps
 abbrev AllHave : Job → ℕ → Moment → Type 0
@@ -70,12 +73,12 @@ OnlyItsFiles k old m = OnlyOwnFiles k old.folder m.folder
 
 -- a file that a step changes is its own
 own_file : (s : Step) (k : ℕ) (f : FileNo) → ChangesFile s k f → IsOwnFile k f
-own_file s k f (inl made) = record { step_is = ap (λ (q : FileNo). q.step) made.1; part_is = inl (ap (λ (q : FileNo). q.part) made.1) }
-own_file s k f (inr taken) = record { step_is = taken.1.step_is; part_is = inr taken.1.from }
+own_file s k f (inl made) = ap (λ (q : FileNo). q.step) made.1
+own_file s k f (inr taken) = taken.1
 
 -- and is none of the job's
 job_apart : (k : ℕ) (f : FileNo) → k < job_step → f.step ≡ job_step → ¬ (IsOwnFile k f)
-job_apart k f early job_step own = let steps : f.step ≡ k = own.step_is in omega (arith, job_step, steps, early)
+job_apart k f early job_step own = let steps : f.step ≡ k = own in omega (arith, job_step, steps, early)
 
 -- a step that drops a diagram is that drop
 dropping : (gone : ℕ) (s : Step) → IsTrue (drops gone s) → s ≡ Drop gone
@@ -158,7 +161,7 @@ module _ (job : Job) (k : ℕ) (few : AreFew job) (within : k < length job.steps
   Takes old m = IsTaking (length job.steps) k (now old).folder m.folder
 
   own_within : (f : FileNo) → IsOwnFile k f → f.step < length job.steps
-  own_within f own = let same : f.step ≡ k = own.step_is in omega (arith, same, within)
+  own_within f own = let same : f.step ≡ k = own in omega (arith, same, within)
 
   pub run_made : (old new : World) → IsReady k (now old).folder → Ran (OnlyItsFiles k (now old)) old new → Ran (Takes old) old new
   run_made old new ready run = ran_weakens old new (OnlyItsFiles k (now old)) (Takes old) (λ m only.
@@ -229,7 +232,7 @@ module _ (job : Job) (k : ℕ) (few : AreFew job) (within : k < length job.steps
       (ran_end mid last (DuringCommit e (now mid)) commits).others (node_file j)
       (not_catalogue (node_file j) of_step) (not_step_gate (node_file j) of_step)
       ∙ ran_end old mid (OnlyItsFiles k (now old)) made (node_file j)
-      (λ own. let same : j ≡ k = own.step_is in omega (arith, same, below))
+      (λ own. let same : j ≡ k = own in omega (arith, same, below))
 
   -- where it was empty it is empty after the step
   pub still_empty : (s : Step) (e : Entry) (old mid last new : World) → Ran (OnlyItsFiles k (now old)) old mid → Ran (DuringCommit e (now mid)) mid last
@@ -252,10 +255,21 @@ module _ (job : Job) (k : ℕ) (few : AreFew job) (within : k < length job.steps
           none k (omega arith) (omega arith) (step ∙ dropping gone s dropped ∙ ap Drop same)
       not_cut (inr (swept, behind)) = let same : j ≡ k = behind.step_is in omega (arith, same, below)
 
+  -- and the files of the steps behind it stay
+  pub keeps_later : (s : Step) (e : Entry) (old mid last new : World) → IsTrue (list_all (λ j. nat_lt j k) (operands s))
+      → Ran (OnlyItsFiles k (now old)) old mid → Ran (DuringCommit e (now mid)) mid last
+      → Ran (OnlyTidied s k (now last)) last new → KeepsLater (k + 1) (now old).folder (now new).folder
+  keeps_later s e old mid last new earlier made commits tidies f from before =
+      let of_step : IsOfStep f = record { early = λ is. omega (arith, is, before) } in
+      (ran_end last new (OnlyTidied s k (now last)) tidies).only f
+      (λ cut. let low : f.step ≤ k = cut_file s k f earlier cut in omega (arith, low, from))
+      ∙ (ran_end mid last (DuringCommit e (now mid)) commits).others f (not_catalogue f of_step) (not_step_gate f of_step)
+      ∙ ran_end old mid (OnlyItsFiles k (now old)) made f (λ own. let same : f.step ≡ k = own in omega (arith, same, from))
+
   -- a place that a step that sweeps found damaged
   swept_damage : (s : Step) (f : FileNo) (at : ℕ) (P : Moment → Type 0) (old new : World) → (get_or job.steps k no_step).step ≡ s
       → IsTrue (sweeps s) → count_in (present (now old).folder) ≡ k → Throughout old new P
-      → IsStepFault job.n s old (sort.Damaged f at) → IsMetDamage job.n job.steps f at (now old).folder old new
+      → IsRunFault job.n k s old (sort.Damaged f at) → IsMetDamage job.n job.steps f at (now old).folder old new
   swept_damage s f at P old new step swept count run fault =
       let same : (new.moment old.clock).folder ≡ (now old).folder =
       ap (λ (m : Moment). m.folder) (run.past old.clock (omega arith)) in
@@ -267,10 +281,11 @@ module _ (job : Job) (k : ℕ) (few : AreFew job) (within : k < length job.steps
         since = omega arith;
         until = run.later;
         committed = ap (λ (folder : Folder). count_in (present folder)) same ∙ count;
-        fault = fault_there job.n _ old _ (sort.Damaged f at) same
-            (subst (λ x. IsStepFault job.n x old (sort.Damaged f at)) (sym step) fault);
+        fault = run_there job.n k _ old _ (sort.Damaged f at) same
+            (subst (λ x. IsRunFault job.n k x old (sort.Damaged f at)) (sym step) fault);
         uncommitted = omega (arith, count);
-        at_first = λ j below is. ap (λ (folder : Folder). file_in folder f) same;
+        gate_is = ap (λ (folder : Folder). file_in folder (checkpoint_gate k)) same;
+        at_first = λ anew j below is. ap (λ (folder : Folder). file_in folder f) same;
       })
 
   -- the entry that a size couldn't use, or the file that a step that sweeps couldn't
@@ -281,20 +296,20 @@ module _ (job : Job) (k : ℕ) (few : AreFew job) (within : k < length job.steps
   step_damage plan (Const value) f at P old new step earlier count run fault = absurd cc
   step_damage plan (Var level) f at P old new step earlier count run fault = absurd cc
   step_damage plan (Pair op left right) f at P old new step earlier count run fault =
-      swept_damage (Pair op left right) f at P old new step refl count run fault
+      swept_damage (Pair op left right) f at P old new step refl count run (inl fault)
   step_damage plan (Ite test if_one if_zero) f at P old new step earlier count run fault =
-      swept_damage (Ite test if_one if_zero) f at P old new step refl count run fault
+      swept_damage (Ite test if_one if_zero) f at P old new step refl count run (inl fault)
   step_damage plan (Quantify kind operand level) f at P old new step earlier count run fault =
-      swept_damage (Quantify kind operand level) f at P old new step refl count run fault
+      swept_damage (Quantify kind operand level) f at P old new step refl count run (inl fault)
   step_damage plan (Restrict operand level value) f at P old new step earlier count run fault =
-      swept_damage (Restrict operand level value) f at P old new step refl count run fault
+      swept_damage (Restrict operand level value) f at P old new step refl count run (inl fault)
   step_damage plan (Drop gone) f at P old new step earlier count run fault = absurd cc
   step_damage plan (Same left right) f at P old new step earlier count run fault =
-      swept_damage (Same left right) f at P old new step refl count run fault
+      swept_damage (Same left right) f at P old new step refl count run (inl fault)
   step_damage plan (Leq left right) f at P old new step earlier count run fault =
-      swept_damage (Leq left right) f at P old new step refl count run fault
+      swept_damage (Leq left right) f at P old new step refl count run (inl fault)
   step_damage plan (Eval operand bits) f at P old new step earlier count run fault =
-      swept_damage (Eval operand bits) f at P old new step refl count run fault
+      swept_damage (Eval operand bits) f at P old new step refl count run (inl fault)
   step_damage plan (Size operand) f at P old new step earlier count run fault = by_fault fault.0 fault.1 fault.2
     where
       below : operand < k
@@ -317,14 +332,17 @@ module _ (job : Job) (k : ℕ) (few : AreFew job) (within : k < length job.steps
   -- what the run says of a fault of the step
   pub names_met : (plan : IsWellFormed job.n job.text job.steps) (s : Step) (fault : SortFault) (P : Moment → Type 0) (old new : World)
       → (get_or job.steps k no_step).step ≡ s → IsTrue (list_all (λ j. nat_lt j k) (operands s))
-      → count_in (present (now old).folder) ≡ k → Throughout old new P → IsStepFault job.n s old fault
+      → count_in (present (now old).folder) ≡ k → Throughout old new P → IsRunFault job.n k s old fault
       → NamesMet job.n job.steps old new (stopped_by k fault)
   names_met plan s sort.Shelf P old new step earlier count run fault = λ f at e. absurd cc
   names_met plan s (sort.Damaged g b) P old new step earlier count run fault = λ f at e.
       let files_are : g ≡ f = cc in
       let places : b ≡ at = cc in
       subst (λ h. IsMetDamage job.n job.steps h at (now old).folder old new) files_are
-      (subst (λ c. IsMetDamage job.n job.steps g c (now old).folder old new) places (step_damage plan s g b P old new step earlier count run fault))
+      (subst (λ c. IsMetDamage job.n job.steps g c (now old).folder old new) places (elim fault [
+        | inl anew ↦ step_damage plan s g b P old new step earlier count run anew
+        | inr again ↦ swept_damage s g b P old new step again.0 count run (inr again)
+      ]))
   names_met plan s sort.RunsSpent P old new step earlier count run fault = λ f at e. absurd cc
 
   pub names_spent : (s : Step) (fault : SortFault) → (get_or job.steps k no_step).step ≡ s → IsOfKind s fault → NamesSpent job.steps k (stopped_by k fault)
@@ -349,88 +367,131 @@ great_work k work s sort.Shelf sound = λ j e. absurd cc
 great_work k work s (sort.Damaged f at) sound = λ j e. absurd sound
 great_work k work s sort.RunsSpent sound = λ j e. sound.1
 
+-- at each moment a run can go on with the step
+abbrev CanGoOn : Job → ℕ → Moment → Type 0
+CanGoOn job k m = AreResumable job k m.folder
+
 -- the images of a folder that holds the steps before, while the step is taken
-module _ (job : Job) (k : ℕ) (few : AreFew job) (within : k < length job.steps) where
-  images_made : (old new : World) → Holds job k (now old).folder → Ran (OnlyItsFiles k (now old)) old new → Throughout old new (AllHave job k)
-  images_made old new holds run = weakens old new (Quiet (now old).said (OnlyItsFiles k (now old))) (AllHave job k) (λ m quiet image is_image.
-      held_steps job k m.folder image (holds_while_made job k (now old).folder m.folder few within holds quiet.holds) is_image) run.moments
+module _ (job : Job) (k : ℕ) (few : AreFew job) (rests : RestsOnSteps job) (within : k < length job.steps) where
+  images_made : (old new : World) → Holds job k (now old).folder → Ran (OnlyItsFiles k (now old)) old new → Throughout old new (CanGoOn job k)
+      → Throughout old new (AllHave job k)
+  images_made old new holds run resumes = record {
+    later = run.moments.later;
+    past = run.moments.past;
+    each = λ t from until image is_image.
+        let m : Moment = new.moment t in
+        held_steps job k m.folder image
+        (holds_while_made job k (now old).folder m.folder few within holds (run.moments.each t from until).holds (resumes.each t from until)) is_image;
+  }
 
-  holds_made : (old new : World) → Holds job k (now old).folder → Ran (OnlyItsFiles k (now old)) old new → Holds job k (now new).folder
-  holds_made old new holds run =
-      holds_while_made job k (now old).folder (now new).folder few within holds (ran_end old new (OnlyItsFiles k (now old)) run)
+  holds_made : (old new : World) → Holds job k (now old).folder → Ran (OnlyItsFiles k (now old)) old new → Throughout old new (CanGoOn job k)
+      → Holds job k (now new).folder
+  holds_made old new holds run resumes = holds_while_made job k (now old).folder (now new).folder few within holds
+      (ran_end old new (OnlyItsFiles k (now old)) run) (at_end old new (CanGoOn job k) resumes)
 
-  images_committed : (e : Entry) (mid new : World) → Holds job k (now mid).folder → IsMade job k (now mid).folder → IsEntryOfStep job k e → Ran (DuringCommit e (now mid)) mid new
-      → Throughout mid new (AllHave job k)
-  images_committed e mid new holds made entry run = weakens mid new (Quiet (now mid).said (DuringCommit e (now mid))) (AllHave job k) (λ m quiet image is_image.
-      let safe = sound_while_committed job k e (now mid) m image few within holds made entry quiet.holds is_image in
+  images_committed : (e : Entry) (mid new : World) → AreFiles (now mid).folder → Holds job k (now mid).folder → IsMade job k (now mid).folder → IsEntryOfStep job k e
+      → Ran (DuringCommit e (now mid)) mid new → Throughout mid new (AllHave job k)
+  images_committed e mid new files holds made entry run = weakens mid new (Quiet (now mid).said (DuringCommit e (now mid))) (AllHave job k) (λ m quiet image is_image.
+      let safe = sound_while_committed job k e (now mid) m image files few rests within holds made entry quiet.holds is_image in
       record { sound = safe.0; counts = safe.1; stored = safe.2 }) run.moments
 
   -- what a step leaves behind is cut
   holds_tidied : (s : Step) (before after : Folder) → (step_at job k).step ≡ s → IsTrue (list_all (λ j. nat_lt j k) (operands s)) → Holds job (k + 1) before
-      → IsTidied s k before after → Holds job (k + 1) after
-  holds_tidied s before after step earlier holds tidied = holds_while_tidied job k before after few within holds
+      → NoneGated job (k + 1) before → IsTidied s k before after → Holds job (k + 1) after
+  holds_tidied s before after step earlier holds none tidied = holds_while_tidied job k before after few within holds none
       (λ gone dropped.
       let below : gone < k = dropped_below k gone s (subst (λ x. IsTrue (drops gone x)) step dropped) earlier in
       omega (arith, below, within))
       (subst (λ x. IsTidied x k before after) (sym step) tidied)
 
   images_tidied : (s : Step) (last new : World) → (step_at job k).step ≡ s → IsTrue (list_all (λ j. nat_lt j k) (operands s)) → Holds job (k + 1) (now last).folder
-      → Ran (OnlyTidied s k (now last)) last new → Throughout last new (AllHave job k)
-  images_tidied s last new step earlier holds run = weakens last new (Quiet (now last).said (OnlyTidied s k (now last))) (AllHave job k) (λ m quiet image is_image.
-      let has = held_steps job (k + 1) m.folder image (holds_tidied s (now last).folder m.folder step earlier holds quiet.holds) is_image in
+      → NoneGated job (k + 1) (now last).folder → Ran (OnlyTidied s k (now last)) last new → Throughout last new (AllHave job k)
+  images_tidied s last new step earlier holds none run = weakens last new (Quiet (now last).said (OnlyTidied s k (now last))) (AllHave job k) (λ m quiet image is_image.
+      let has = held_steps job (k + 1) m.folder image (holds_tidied s (now last).folder m.folder step earlier holds none quiet.holds) is_image in
       let counts = has.counts in
       record { sound = has.sound; counts = omega (arith, counts); stored = has.stored }) run.moments
 
   -- the step couldn't be run
-  pub stopped_making : (fault : SortFault) (old new : World) → Holds job k (now old).folder → Ran (OnlyItsFiles k (now old)) old new
+  pub stopped_making : (fault : SortFault) (old new : World) → Holds job k (now old).folder → Ran (OnlyItsFiles k (now old)) old new → Throughout old new (CanGoOn job k)
       → IsSoundFault (step_at job k).step (work_of job (step_at job k).step) fault → HoldsStep job k (Err (stopped_by k fault)) old new
-  stopped_making fault old new holds run sound = record {
-    images = images_made old new holds run;
+  stopped_making fault old new holds run resumes sound = record {
+    images = images_made old new holds run resumes;
     ok = tt;
     err = not_refused k (work_of job (step_at job k).step) (step_at job k).step fault sound;
     spent = great_work k (work_of job (step_at job k).step) (step_at job k).step fault sound;
   }
 
-  pub stopped_committing : (e : Entry) (old mid new : World) → Holds job k (now old).folder → Ran (OnlyItsFiles k (now old)) old mid
-      → IsMade job k (now mid).folder → IsEntryOfStep job k e → Ran (DuringCommit e (now mid)) mid new → HoldsStep job k (Err FolderFault) old new
-  stopped_committing e old mid new holds made is_made entry commits = record {
-    images = joins old mid new (AllHave job k) (images_made old mid holds made) (images_committed e mid new (holds_made old mid holds made) is_made entry commits);
-    ok = tt;
-    err = λ x. x;
-    spent = λ j e. absurd cc;
-  }
+  -- it was, and its commit failed, or what it leaves behind was cut, or a part of that
+  module _ (e : Entry) (old mid last : World) (files : AreFiles (now mid).folder) (holds : Holds job k (now old).folder) (made : Ran (OnlyItsFiles k (now old)) old mid)
+      (resumes : Throughout old mid (CanGoOn job k)) (is_made : IsMade job k (now mid).folder) (entry : IsEntryOfStep job k e) (commits : Ran (DuringCommit e (now mid)) mid last) where
+    holds_mid : Holds job k (now mid).folder
+    holds_mid = holds_made old mid holds made resumes
 
-  -- the step is committed, and what it leaves behind is cut, or a part of that
-  module _ (s : Step) (step : (step_at job k).step ≡ s) (earlier : IsTrue (list_all (λ j. nat_lt j k) (operands s))) (e : Entry) (old mid last new : World)
-      (holds : Holds job k (now old).folder) (made : Ran (OnlyItsFiles k (now old)) old mid) (is_made : IsMade job k (now mid).folder) (entry : IsEntryOfStep job k e)
-      (commits : Ran (DuringCommit e (now mid)) mid last) (committed : IsCommitted e (now mid).folder (now last).folder) (tidies : Ran (OnlyTidied s k (now last)) last new) where
-    holds_last : Holds job (k + 1) (now last).folder
-    holds_last = holds_after_commit job k e (now mid) (now last) few within (holds_made old mid holds made) is_made entry (ran_end mid last (DuringCommit e (now mid)) commits) committed
+    to_last : Throughout old last (AllHave job k)
+    to_last = joins old mid last (AllHave job k) (images_made old mid holds made resumes) (images_committed e mid last files holds_mid is_made entry commits)
 
-    all_images : Throughout old new (AllHave job k)
-    all_images = joins old last new (AllHave job k)
-        (joins old mid last (AllHave job k) (images_made old mid holds made) (images_committed e mid last (holds_made old mid holds made) is_made entry commits))
-        (images_tidied s last new step earlier holds_last tidies)
+    pub stopped_committing : HoldsStep job k (Err FolderFault) old last
+    stopped_committing = record { images = to_last; ok = tt; err = λ x. x; spent = λ j e. absurd cc }
 
-    pub stopped_tidying : HoldsStep job k (Err FolderFault) old new
-    stopped_tidying = record { images = all_images; ok = tt; err = λ x. x; spent = λ j e. absurd cc }
+    module _ (s : Step) (step : (step_at job k).step ≡ s) (earlier : IsTrue (list_all (λ j. nat_lt j k) (operands s))) (new : World)
+        (committed : IsCommitted e (now mid).folder (now last).folder) (tidies : Ran (OnlyTidied s k (now last)) last new) where
+      during : DuringCommit e (now mid) (now last)
+      during = ran_end mid last (DuringCommit e (now mid)) commits
 
-    pub was_taken : HoldsStep job k (Ok e) old new
-    was_taken = record {
-      images = all_images;
-      ok = (holds_tidied s (now last).folder (now new).folder step earlier holds_last (ran_end last new (OnlyTidied s k (now last)) tidies), entry);
-      err = tt;
-      spent = tt;
-    }
+      holds_last : Holds job (k + 1) (now last).folder
+      holds_last = holds_after_commit job k e (now mid) (now last) files few within holds_mid is_made entry during committed
+
+      none_last : NoneGated job (k + 1) (now last).folder
+      none_last = none_after_commit job k e (now mid) (now last) files few holds_mid during
+
+      all_images : Throughout old new (AllHave job k)
+      all_images = joins old last new (AllHave job k) to_last (images_tidied s last new step earlier holds_last none_last tidies)
+
+      pub stopped_tidying : HoldsStep job k (Err FolderFault) old new
+      stopped_tidying = record { images = all_images; ok = tt; err = λ x. x; spent = λ j e. absurd cc }
+
+      pub was_taken : HoldsStep job k (Ok e) old new
+      was_taken = record {
+        images = all_images;
+        ok = (holds_tidied s (now last).folder (now new).folder step earlier holds_last none_last (ran_end last new (OnlyTidied s k (now last)) tidies), entry);
+        err = tt;
+        spent = tt;
+      }
+
+-- the calls of making a step, of a commit and of cutting what is left behind are those of the step
+step_sum : (swept : Bool) (work rest old mid last new : ℕ) → mid ≤ old + (cond swept (229 * work + 13) 5 + rest) → last ≤ mid + 5 → new ≤ last + cond swept 4 1
+    → new ≤ old + (cond swept (229 * work + 22) 11 + rest)
+step_sum true work rest old mid last new made committed tidied = omega (arith, made, committed, tidied)
+step_sum false work rest old mid last new made committed tidied = omega (arith, made, committed, tidied)
 
 module _ {S : Type 0} (tells : S → Bool) (world : S → World) (counts : S → Faults) (law : (s : S) → IsTrue (tells s) → AreFiles (now (world s)).folder)
     (job : Job) (k : ℕ) (plan : IsWellFormed job.n job.text job.steps) (within : k < length job.steps) (p : Planned) (p_is : p ≡ step_at job k)
     (earlier : IsTrue (list_all (λ j. nat_lt j k) (operands p.step))) where
-  the_step : IsStepOf job job.n job.text k p
-  the_step = record { well_formed = plan; n_is = refl; text_is = refl; within = within; step_is = sym p_is }
+  the_step : IsStepOf job job.n job.text job.budget k p
+  the_step = record { well_formed = plan; n_is = refl; text_is = refl; budget_is = refl; within = within; step_is = sym p_is }
+
+  rests : RestsOnSteps job
+  rests = rests_on_steps job plan
 
   place_is : (step_at job k).step ≡ p.step
   place_is = ap (λ (q : Planned). q.step) (sym p_is)
+
+  -- the calls of making it, of a commit and of cutting what it leaves behind
+  module _ (old s : S) (result : Result Entry SortFault) (runs : RunsStep tells world counts job.n job.text job.budget k p old s result) (tells_s : IsTrue (tells s))
+      (rest : ℕ) (counted : IsCounted job k (now (world old)).folder rest) where
+    few_made : (world s).clock ≤ (world old).clock + (cond (sweeps p.step) (229 * work_of job p.step + 13) 5 + rest)
+    few_made = elim counted [
+      | inl one ↦
+          let unswept : sweeps p.step ≡ false = ap sweeps (sym place_is) ∙ one in
+          let few = runs.one_turn tells_s unswept in
+          subst (λ b. (world s).clock ≤ (world old).clock + (cond b (229 * work_of job p.step + 13) 5 + rest)) (sym unswept) (omega (arith, few))
+      | inr (holds, pays) ↦ runs.few_calls tells_s job the_step holds rest
+          (subst (λ x. PaysRest x k job.budget (present (now (world old)).folder) rest) place_is pays)
+    ]
+
+    pub few_calls : (last new : ℕ) → last ≤ (world s).clock + 5 → new ≤ last + cond (sweeps p.step) 4 1
+        → new ≤ (world old).clock + (step_calls job p + rest)
+    few_calls last new = step_sum (sweeps p.step) (work_of job p.step) rest (world old).clock (world s).clock last new few_made
 
   -- at most the step's own files were changed
   filed : (old s : S) → Told tells old s (Ran (OnlyMade p.step k (now (world old))) (world old) (world s)) → IsTrue (tells s)
@@ -439,7 +500,7 @@ module _ {S : Type 0} (tells : S → Bool) (world : S → World) (counts : S →
       (λ m only f apart. only f (λ changed. apart (own_file p.step k f changed))) (made.did tells_s)
 
   -- the step couldn't be run
-  module _ (fault : SortFault) (old s : S) (runs : RunsStep tells world counts job.n job.text k p old s (Err fault)) where
+  module _ (fault : SortFault) (old s : S) (runs : RunsStep tells world counts job.n job.text job.budget k p old s (Err fault)) where
     stopped_so : (IsTrue (tells old) → IsReady k (now (world old)).folder)
         → Told tells old s (TakesStep job k (Err (stopped_by k fault)) (world old) (world s))
     stopped_so ready = record {
@@ -454,11 +515,13 @@ module _ {S : Type 0} (tells : S → Bool) (world : S → World) (counts : S →
             emptied = tt;
             still_empty = tt;
             keeps = tt;
+            later = tt;
             stops = is_stop k fault;
             damaged = names_met job k plan.few_steps within plan p.step fault _ (world old) (world s) place_is earlier
                 (present_count (now (world old)).folder k (law old tells_old) (ready tells_old)) ran.moments (runs.damaged tells_s);
             spent = names_spent job k plan.few_steps within p.step fault place_is runs.kind;
-            holds = λ holds. stopped_making job k plan.few_steps within fault (world old) (world s) holds ran
+            holds = λ holds. stopped_making job k plan.few_steps rests within fault (world old) (world s) holds ran
+                (runs.resumes tells_s job the_step holds)
                 (subst (λ x. IsSoundFault x (work_of job x) fault) (sym place_is) (runs.sound tells_s job the_step holds));
           };
     }
@@ -468,8 +531,8 @@ module _ {S : Type 0} (tells : S → Bool) (world : S → World) (counts : S →
     was_stopped finish finish_is ready = subst (λ x. Told tells old s (TakesStep job k (Err x) (world old) (world s))) (sym finish_is) (stopped_so ready)
 
   -- what a step that was made leaves for its commit
-  module _ (e : Entry) (old s : S) (runs : RunsStep tells world counts job.n job.text k p old s (Ok e)) (ready : IsTrue (tells old) → IsReady k (now (world old)).folder) where
-    ready_for : Holds job k (now (world old)).folder → IsReadyFor job job.n job.text k p (world old)
+  module _ (e : Entry) (old s : S) (runs : RunsStep tells world counts job.n job.text job.budget k p old s (Ok e)) (ready : IsTrue (tells old) → IsReady k (now (world old)).folder) where
+    ready_for : Holds job k (now (world old)).folder → IsReadyFor job job.n job.text job.budget k p (world old)
     ready_for holds = record { step = the_step; holds = λ reads. holds }
 
     ran_so : IsTrue (tells s) → Ran (OnlyItsFiles k (now (world old))) (world old) (world s)
@@ -499,11 +562,12 @@ module _ {S : Type 0} (tells : S → Bool) (world : S → World) (counts : S →
             emptied = tt;
             still_empty = tt;
             keeps = tt;
+            later = tt;
             stops = tt;
             damaged = λ f at d. absurd cc;
             spent = λ j d. absurd cc;
-            holds = λ holds. stopped_committing job k plan.few_steps within e (world old) (world s) (world t) holds (ran_so tells_s)
-                (runs.made tells_s job (ready_for holds)) (runs.entry tells_s job (ready_for holds)) (commits.did tells_t);
+            holds = λ holds. stopped_committing job k plan.few_steps rests within e (world old) (world s) (world t) (law s tells_s) holds (ran_so tells_s)
+                (runs.resumes tells_s job the_step holds) (runs.made tells_s job (ready_for holds)) (runs.entry tells_s job (ready_for holds)) (commits.did tells_t);
           };
     }
 
@@ -530,12 +594,13 @@ module _ {S : Type 0} (tells : S → Bool) (world : S → World) (counts : S →
               emptied = tt;
               still_empty = tt;
               keeps = tt;
+              later = tt;
               stops = tt;
               damaged = λ f at d. absurd cc;
               spent = λ j d. absurd cc;
-              holds = λ holds. stopped_tidying job k plan.few_steps within p.step place_is earlier e
-                  (world old) (world s) (world t) (world u) holds (ran_so tells_s) (runs.made tells_s job (ready_for holds)) (runs.entry tells_s job (ready_for holds))
-                  (commits.did tells_t) (committed tells_t) (tidies.did tells_u);
+              holds = λ holds. stopped_tidying job k plan.few_steps rests within e (world old) (world s) (world t) (law s tells_s) holds (ran_so tells_s)
+                  (runs.resumes tells_s job the_step holds) (runs.made tells_s job (ready_for holds)) (runs.entry tells_s job (ready_for holds)) (commits.did tells_t)
+                  p.step place_is earlier (world u) (committed tells_t) (tidies.did tells_u);
             };
       }
 
@@ -557,11 +622,13 @@ module _ {S : Type 0} (tells : S → Bool) (world : S → World) (counts : S →
                   (tidies.did tells_u);
               keeps = keeps_diagrams job k plan.few_steps within p.step e
                   (world old) (world s) (world t) (world u) place_is (ran_so tells_s) (commits.did tells_t) (tidies.did tells_u);
+              later = keeps_later job k plan.few_steps within p.step e (world old) (world s) (world t) (world u) earlier (ran_so tells_s) (commits.did tells_t)
+                  (tidies.did tells_u);
               stops = tt;
               damaged = tt;
               spent = tt;
-              holds = λ holds. was_taken job k plan.few_steps within p.step place_is earlier e
-                  (world old) (world s) (world t) (world u) holds (ran_so tells_s) (runs.made tells_s job (ready_for holds)) (runs.entry tells_s job (ready_for holds))
-                  (commits.did tells_t) (committed tells_t) (tidies.did tells_u);
+              holds = λ holds. was_taken job k plan.few_steps rests within e (world old) (world s) (world t) (law s tells_s) holds (ran_so tells_s)
+                  (runs.resumes tells_s job the_step holds) (runs.made tells_s job (ready_for holds)) (runs.entry tells_s job (ready_for holds)) (commits.did tells_t)
+                  p.step place_is earlier (world u) (committed tells_t) (tidies.did tells_u);
             };
       }

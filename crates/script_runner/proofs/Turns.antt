@@ -6,7 +6,7 @@ use Rattle.std.proofs.lemmas.List.{append-nil, length-take, length-drop, take_mo
 use Rattle.std.proofs.lemmas.List.Sums.{sum_by-take-le, sum_by_push}
 use Rattle.shelf_model.specs.declared.fault.Failed.{Failed}
 use Rattle.shelf_model.specs.declared.file_no.FileNo.{FileNo}
-use Rattle.shelf_model.specs.Folder.{Image, AreFiles, bytes_in}
+use Rattle.shelf_model.specs.Folder.{Folder, Image, AreFiles, bytes_in}
 use Rattle.shelf_model.specs.World.{Moment, World, now, said}
 use Rattle.shelf_model.specs.Calls.{Told, Said}
 use Rattle.shelf_model.specs.Moments.{Quiet, Ran, OnlyOldImages}
@@ -32,6 +32,8 @@ use Rattle.script_reader.specs.declared.plan.LineEnd.{LineEnd}
 use Rattle.script_reader.specs.Lines.{rise_from}
 use Rattle.script_runner.specs.declared.finish.Finish.{Finish}
 use Rattle.script_runner.specs.declared.finish.Finish.TheVariants.{Done, OtherJob, FolderFault, SayFault, Damaged, RunsSpent}
+use Rattle.script_runner.specs.declared.given_job.Job as declared
+use Rattle.script_runner.specs.JobOf.{job_in}
 use Rattle.script_runner.specs.Text.{done_line, banner_line, ended_before, start_line, resume_line}
 use Rattle.script_runner.specs.Shapes.{IsShape, IsWholeShape}
 use Rattle.script_runner.specs.Running.{HasSaid, HasOtherJob, IsOther, IsDamage, RefusesFolder, IsStop, IsSpentStep, IsStill, StoodStill, MeetsDamage, MeetsSpent, AreEmptied, RunsSteps}
@@ -40,6 +42,7 @@ use Rattle.script_runner.specs.Calls.{step_calls, IsCounted, AreCounted}
 use Rattle.script_runner.proofs.LineOrder.{ended_is, ended_most}
 use Rattle.script_runner.proofs.Standing.{IsStanding, IsDamaged, standing_says}
 use Rattle.script_runner.proofs.RunSteps.{done_at, text_at, present_count, IsPlan, Ongoing, AtStep, attaching, since, shape_of, damaged_at_first, met_at_first, same_at, taking, has_taken}
+use Rattle.script_runner.proofs.Paying.{unpaid, pays_now}
 use Rattle.script_runner.proofs.StepByStep.{begun, says_lines, whole_behind, has_said_lines, ends}
 
 -- the calls of the steps before that one
@@ -438,10 +441,26 @@ module _ {S : Type 0} (tells : S → Bool) (world : S → World) where
   made_stands job step e s t number takes tells_t =
       subst (λ k. IsEntryOf k (present (now (world t)).folder) e) (sym number) (takes.did tells_t).made.stands
 
+  -- a step that is taken in a room is taken in one of as many records
+  pub taken_in : (job : declared.Job) (room budget step : ℕ) (result : Result Entry Finish) (s t : S) → room ≡ budget
+      → Told tells s t (TakesStep (job_in room job) step result (world s) (world t)) → Told tells s t (TakesStep (job_in budget job) step result (world s) (world t))
+  taken_in job room budget step result s t same =
+      subst (λ n. Told tells s t (TakesStep (job_in n job) step result (world s) (world t))) same
+
   -- where the turns of all steps are bounded, those of the next step are
-  pub is_counted : (job : Job) (lines : List LineEnd) (step : ℕ) (rest : List LineEnd) (old s : S)
-      → step < length job.steps → Told tells old s (Turn job lines step rest (world old) (world s)) → IsTrue (tells s)
-      → AreCounted job (now (world old)).folder → IsCounted job step (now (world s)).folder
-  is_counted job lines step rest old s within so_far tells_s (inl each) = inl (each step within)
-  is_counted job lines step rest old s within so_far tells_s (inr sound) =
-      inr ((so_far.did tells_s).0.sound sound).holds
+  pub is_counted : (law : (s : S) → IsTrue (tells s) → AreFiles (now (world s)).folder) (job : Job) (lines : List LineEnd) (plan : IsPlan job lines) (step : ℕ)
+      (rest : List LineEnd) (old s : S) (paid : ℕ) → step < length job.steps → Told tells old s (Turn job lines step rest (world old) (world s)) → IsTrue (tells s)
+      → AreCounted job (now (world old)).folder paid → IsCounted job step (now (world s)).folder (unpaid (done_at (world old)) step paid)
+  is_counted law job lines plan step rest old s paid within so_far tells_s (inl each) = inl (each step within)
+  is_counted law job lines plan step rest old s paid within so_far tells_s (inr (sound, pays)) =
+      let at : AtStep job lines step rest (world old) (world s) = (so_far.did tells_s).0 in
+      inr (
+        (at.sound sound).holds,
+        pays_now job step paid (now (world old)).folder (now (world s)).folder plan.well_formed (law old (so_far.before tells_s)) sound
+            at.reached within at.made.keeps at.made.later pays,
+      )
+
+-- and in another room of as many records
+pub counted_in : (job : declared.Job) (room budget step : ℕ) (folder : Folder) (rest : ℕ) → room ≡ budget
+    → IsCounted (job_in budget job) step folder rest → IsCounted (job_in room job) step folder rest
+counted_in job room budget step folder rest same = subst (λ n. IsCounted (job_in n job) step folder rest) (sym same)

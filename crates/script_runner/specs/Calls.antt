@@ -7,24 +7,37 @@ use Rattle.step_work.specs.Tuples.{sweeps}
 use Rattle.sound_image.specs.Jobs.{Job, step_at}
 use Rattle.sound_image.specs.Entries.{work_of}
 use Rattle.sound_image.specs.Holds.{Holds, AreSound}
+use Rattle.catalogue.specs.Counts.{present, count_in}
+use Rattle.step_engine.specs.Running.{PaysRest}
 
--- the calls of a step of the job: 11 at most where it takes one turn, which make, commit and tidy it up, and else 224
--- for each turn of its work, and 20
+-- the calls of a step of the job: 11 at most where it takes one turn, which make, commit and tidy it up, and else 229
+-- for each turn of its work, and 22
 abbrev pub step_calls : Job → Planned → ℕ
-step_calls job p = cond (sweeps p.step) (224 * work_of job p.step + 20) 11
+step_calls job p = cond (sweeps p.step) (229 * work_of job p.step + 22) 11
 
 -- 9 and one for each piece of the job while it is attached, those of each step, two for each line, and the banner and
 -- the last line
 abbrev pub most_calls : Job → ℕ → ℕ
 most_calls job lines = 11 + pieces (length job.bytes) + sum_by (step_calls job) job.steps + 2 * lines
 
--- the turns of the step are bounded: it takes one, or the folder holds the steps before it
-abbrev pub IsCounted : Job → ℕ → Folder → Type 0
-IsCounted job k folder = (sweeps (step_at job k).step ≡ false) ⊎ Holds job k folder
+-- so many calls pay for going on from the last checkpoint of step k, where it has one
+abbrev pub PaysStep : Job → ℕ → Folder → ℕ → Type 0
+PaysStep job k folder rest = PaysRest (step_at job k).step k job.budget (present folder) rest
 
--- those of all steps are: each takes one, or the folder is sound for the job
-abbrev pub AreCounted : Job → Folder → Type 0
-AreCounted job folder = ((k : ℕ) → k < length job.steps → sweeps (step_at job k).step ≡ false) ⊎ AreSound job folder
+-- so many pay for that of the first step that isn't committed, where there is one
+abbrev pub PaysFirst : Job → Folder → ℕ → Type 0
+PaysFirst job folder rest = count_in (present folder) < length job.steps
+    → PaysStep job (count_in (present folder)) folder rest
+
+-- the turns of the step are bounded: it takes one, or the folder holds the steps before it, and so many calls pay for
+-- going on with it
+abbrev pub IsCounted : Job → ℕ → Folder → ℕ → Type 0
+IsCounted job k folder rest = (sweeps (step_at job k).step ≡ false) ⊎ (Holds job k folder × PaysStep job k folder rest)
+
+-- those of all steps are: each takes one, or the folder is sound for the job, and so many calls pay for going on in it
+abbrev pub AreCounted : Job → Folder → ℕ → Type 0
+AreCounted job folder rest = ((k : ℕ) → k < length job.steps → sweeps (step_at job k).step ≡ false)
+    ⊎ (AreSound job folder × PaysFirst job folder rest)
 
 -- a text is read in pieces, and once more where it ends
 abbrev pub fetch_calls : ℕ → ℕ

@@ -1,6 +1,7 @@
 -- The job of a source, and the one that a run is given.
 use Rattle.std.specs.Prelude.{ℕ, ◌≤◌, List, [], ◌++◌, length, drop, replicate, codes, Option, Some, None}
 use Rattle.byteorder.specs.Endian.{big_bytes, big_number}
+use Rattle.bool_tables.specs.declared.steps.Planned.{Planned}
 use Rattle.sound_image.specs.Jobs.{Job}
 use Rattle.script_reader.specs.declared.plan.Plan.{Plan}
 use Rattle.script_runner.specs.Source.{Source}
@@ -35,10 +36,15 @@ job_bytes s =
 unfoldable pub room_in : List ℕ → ℕ
 room_in bytes = big_number 4 (drop 8 bytes)
 
--- the job of a source whose script asks for this plan
-abbrev pub job_of : Source → Plan → Job
-job_of s plan = record { n = plan.n; text = s.script; steps = plan.steps; bytes = job_bytes s }
+-- a job that is given part by part
+abbrev pub given_job : ℕ → List ℕ → List Planned → ℕ → List ℕ → Job
+given_job n text steps budget bytes =
+    record { n = n; text = text; steps = steps; budget = budget; bytes = bytes }
 
--- the job that a run is given, as a folder stores and shows it
-abbrev pub job_in : declared.Job → Job
-job_in job = record { n = job.n; text = job.text.now; steps = job.steps.now; bytes = job.bytes.now }
+-- the job of a source whose script asks for this plan, in a room of as many records as its bytes have
+abbrev pub job_of : Source → Plan → Job
+job_of s plan = given_job plan.n s.script plan.steps (room_in (job_bytes s)) (job_bytes s)
+
+-- the job that a run is given, as a folder stores and shows it, in a room of so many records
+abbrev pub job_in : ℕ → declared.Job → Job
+job_in budget job = given_job job.n job.text.now job.steps.now budget job.bytes.now

@@ -154,12 +154,13 @@ abbrev pub texts_calls : ℕ
 texts_calls = fetch_calls 4194304 + fetch_calls 1048576
 
 -- the calls of a run of a source: that of saying a line, or those of entering the folder and of a run of its steps and
--- lines, where each of the steps takes one turn or the folder was sound for the job
+-- lines, where each of the steps takes one turn or the folder was sound for the job, and what pays for going on from
+-- its last checkpoint
 abbrev pub RunsInCalls : ℕ → Source → World → World → Type 0
 RunsInCalls before source old new =
     (new.clock ≤ old.clock + before + 1)
-    ⊎ ((plan : Plan) × Plans source plan × (AreCounted (job_of source plan) (now old).folder
-    → new.clock ≤ old.clock + before + 2 + most_calls (job_of source plan) (length plan.lines)))
+    ⊎ ((plan : Plan) × Plans source plan × ((rest : ℕ) → AreCounted (job_of source plan) (now old).folder rest
+    → new.clock ≤ old.clock + before + 2 + most_calls (job_of source plan) (length plan.lines) + rest))
 
 -- the calls of the station: those of reading the texts and of saying a line, those of a run besides, or those of
 -- entering a folder and reading each entry twice

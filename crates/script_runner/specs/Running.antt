@@ -13,9 +13,9 @@ use Rattle.catalogue.specs.Entries.{IsEntryOf}
 use Rattle.catalogue.specs.Files.{job_step, job_file, catalogue, step_gate}
 use Rattle.catalogue.specs.Counts.{present, is_stored, count_in}
 use Rattle.diagram_list.specs.Saying.{IsSaying, StaysThere}
-use Rattle.sound_image.specs.Files.{node_file}
+use Rattle.sound_image.specs.Files.{node_file, checkpoint_gate}
 use Rattle.shelf_model.specs.declared.sort_fault.SortFault.TheVariants as sort
-use Rattle.step_engine.specs.StepFaults.{IsStepFault}
+use Rattle.step_engine.specs.StepFaults.{IsStepFault, IsRunFault}
 use Rattle.step_work.specs.Tuples.{joins, sweeps}
 use Rattle.step_work.specs.Plans.{no_step}
 use Rattle.sound_image.specs.Jobs.{Job, step_at}
@@ -135,7 +135,7 @@ abbrev pub stood_after : ℕ → World → World
 stood_after calls world = record world { clock = calls }
 
 -- a step that sweeps found that place damaged: it began at a moment of the run at which the steps before it were
--- committed, and that is its fault as the folder stood then
+-- committed, and that is its fault as the folder stood then, or it went on from a checkpoint
 pub record IsSweepDamage (n : ℕ) (steps : List Planned) (f : FileNo) (at : ℕ) (first : Folder)
     (old new : World) : Type 0 where
   pub step : ℕ
@@ -145,11 +145,13 @@ pub record IsSweepDamage (n : ℕ) (steps : List Planned) (f : FileNo) (at : ℕ
   pub since : old.clock ≤ began
   pub until : began ≤ new.clock
   pub committed : count_in (present (new.moment began).folder) ≡ step
-  pub fault : IsStepFault n (get_or steps step no_step).step (stood_after began new) (sort.Damaged f at)
-  -- in the first folder it wasn't committed, and the file is as it was there where it is that of a step that was
+  pub fault : IsRunFault n step (get_or steps step no_step).step (stood_after began new) (sort.Damaged f at)
+  -- in the first folder it wasn't committed, and the gate of its checkpoints was the same. Where the fault is that of a
+  -- step that begins anew, the file is as it was there if it is that of a step that was committed
   pub uncommitted : count_in (present first) ≤ step
-  pub at_first : (k : ℕ) → k < count_in (present first) → f ≡ node_file k
-      → file (stood_after began new) f ≡ file_in first f
+  pub gate_is : file (stood_after began new) (checkpoint_gate step) ≡ file_in first (checkpoint_gate step)
+  pub at_first : IsStepFault n (get_or steps step no_step).step (stood_after began new) (sort.Damaged f at)
+      → (k : ℕ) → k < count_in (present first) → f ≡ node_file k → file (stood_after began new) f ≡ file_in first f
 
 -- the place was damaged: an entry in the first folder, or what a step that sweeps met
 abbrev pub IsMetDamage : ℕ → List Planned → FileNo → ℕ → Folder → World → World → Type 0

@@ -14,7 +14,7 @@ use Rattle.shelf_model.specs.Folder.{Folder, Image, file_in, bytes_in, IsImage}
 use Rattle.shelf_model.specs.World.{World, now, said}
 use Rattle.shelf_model.specs.Moments.{Throughout, Stays, Ran}
 use Rattle.catalogue.specs.declared.layout.Entry.{Entry}
-use Rattle.catalogue.specs.Files.{catalogue}
+use Rattle.catalogue.specs.Files.{job_step, catalogue}
 use Rattle.catalogue.specs.Entries.{IsEntryOf}
 use Rattle.catalogue.specs.Counts.{present, is_stored, count_in}
 use Rattle.catalogue.specs.Commits.{IsReady}
@@ -95,6 +95,10 @@ abbrev pub KeepsDiagrams : List Planned → ℕ → ℕ → Folder → Folder �
 KeepsDiagrams steps from until old new = (k : ℕ) → k < from → NoneDrops steps from until k
     → file_in new (node_file k) ≡ file_in old (node_file k)
 
+-- the files of that step and of those behind it are as they were
+abbrev pub KeepsLater : ℕ → Folder → Folder → Type 0
+KeepsLater from old new = (f : FileNo) → from ≤ f.step → f.step < job_step → file_in new f ≡ file_in old f
+
 -- a step was made, committed and tidied up, or the run stopped there
 pub record TakesStep (job : Job) (step : ℕ) (result : Result Entry Finish) (old new : World) : Type 0 where
   pub run : Ran (λ m. IsTaking (length job.steps) step (now old).folder m.folder) old new
@@ -106,6 +110,8 @@ pub record TakesStep (job : Job) (step : ℕ) (result : Result Entry Finish) (ol
       → StaysEmpty (node_file k) (now old).folder (now new).folder)
   -- those that it doesn't drop are as they were
   pub keeps : OnOk result (KeepsDiagrams job.steps step (step + 1) (now old).folder (now new).folder)
+  -- and so are the files of the steps behind it
+  pub later : OnOk result (KeepsLater (step + 1) (now old).folder (now new).folder)
   pub stops : IfErr result IsStop
   pub damaged : IfErr result (NamesMet job.n job.steps old new)
   pub spent : IfErr result (NamesSpent job.steps step)

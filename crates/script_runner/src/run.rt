@@ -1,4 +1,4 @@
-ghost use Rattle.std.specs.Prelude.{◌+◌, ◌≤◌, IsTrue, length};
+ghost use Rattle.std.specs.Prelude.{◌+◌, ◌≤◌, ℕ, IsTrue, length};
 ghost use Rattle.bool_tables.specs.Plans.{IsWellFormed};
 ghost use Rattle.shelf_model.specs.Calls.{Told};
 ghost use Rattle.script_reader.specs.Lines.{AreLines};
@@ -6,7 +6,7 @@ ghost use Rattle.script_runner.specs.Running.{RunsSteps};
 ghost use Rattle.script_runner.specs.Causes.{FinishHasCause};
 ghost use Rattle.shelf_model.specs.World.{now};
 ghost use Rattle.script_runner.specs.Calls.{most_calls, AreCounted};
-ghost use Rattle.script_runner.specs.JobOf.{job_in};
+ghost use Rattle.script_runner.specs.JobOf.{job_in, given_job};
 
 use crate::Finish;
 use crate::banner::banner_line;
@@ -23,8 +23,9 @@ use shelf_model::Station;
 /// will be, makes and commits each step that isn't committed yet and says the lines that end with it,
 /// and then that all was done.
 ///
-/// It takes no memory. The room, 16,384 to 4,194,304 records of 64 bytes, is for the steps that sweep over diagrams.
-/// The answer says how the run ended. What was committed before stays, whichever it is.
+/// It takes no memory. The room, 16,384 to 4,194,304 records of 64 bytes, is for the steps that sweep over diagrams. A
+/// step that was interrupted goes on from its last checkpoint, in a room of as many records as the one that saved it
+/// had. The answer says how the run ended. What was committed before stays, whichever it is.
 pub fn run_steps<W: Station>(
     n: u32,
     text: &[u8],
@@ -38,12 +39,12 @@ pub fn run_steps<W: Station>(
     requires lines { AreLines steps.now lines.now }
     requires room { (16384 ≤ length room.old) × (length room.old ≤ 4194304) }
     ensures content { Told W.tells station.old station.new
-        (RunsSteps (record { n = n; text = text.now; steps = steps.now; bytes = job.now }) lines.now result
+        (RunsSteps (given_job n text.now steps.now (length room.old) job.now) lines.now result
         (W.world station.old) (W.world station.new)) }
-    ensures calls { IsTrue (W.tells station.new) →
-        AreCounted (record { n = n; text = text.now; steps = steps.now; bytes = job.now })
-        (now (W.world station.old)).folder → (W.world station.new).clock ≤ (W.world station.old).clock
-        + most_calls (record { n = n; text = text.now; steps = steps.now; bytes = job.now }) (length lines.now) }
+    ensures calls { IsTrue (W.tells station.new) → (rest : ℕ)
+        → AreCounted (given_job n text.now steps.now (length room.old) job.now) (now (W.world station.old)).folder rest
+        → (W.world station.new).clock ≤ (W.world station.old).clock
+        + (most_calls (given_job n text.now steps.now (length room.old) job.now) (length lines.now) + rest) }
     ensures causes { FinishHasCause (W.faults station.old) (W.faults station.new) result }
 {
     let job = Job {
@@ -60,10 +61,12 @@ pub fn run_steps<W: Station>(
 pub(crate) fn run_job<W: Station>(job: &Job, room: &mut [Rec], station: &mut W) -> Finish
     requires room { (16384 ≤ length room.old) × (length room.old ≤ 4194304) }
     ensures content { Told W.tells station.old station.new
-        (RunsSteps (job_in job.now) job.now.lines.now result (W.world station.old) (W.world station.new)) }
-    ensures calls { IsTrue (W.tells station.new) → AreCounted (job_in job.now) (now (W.world station.old)).folder
-        → (W.world station.new).clock
-        ≤ (W.world station.old).clock + most_calls (job_in job.now) (length job.now.lines.now) }
+        (RunsSteps (job_in (length room.old) job.now) job.now.lines.now result
+        (W.world station.old) (W.world station.new)) }
+    ensures calls { IsTrue (W.tells station.new) → (rest : ℕ)
+        → AreCounted (job_in (length room.old) job.now) (now (W.world station.old)).folder rest
+        → (W.world station.new).clock ≤ (W.world station.old).clock
+        + (most_calls (job_in (length room.old) job.now) (length job.now.lines.now) + rest) }
     ensures causes { FinishHasCause (W.faults station.old) (W.faults station.new) result }
 {
     let standing = match attach(job.bytes, job.steps.len() as u32, station) {

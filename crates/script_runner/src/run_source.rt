@@ -1,5 +1,5 @@
 //! The run of a source: a script, and maybe a netlist.
-ghost use Rattle.std.specs.Prelude.{◌≡◌, ◌+◌, ◌≤◌, IsTrue, IfOk, length};
+ghost use Rattle.std.specs.Prelude.{◌≡◌, ◌+◌, ◌≤◌, ℕ, IsTrue, IfOk, length};
 ghost use Rattle.shelf_model.specs.World.{now};
 ghost use Rattle.shelf_model.specs.Calls.{Told};
 ghost use Rattle.script_runner.specs.Calls.{most_calls, AreCounted};
@@ -88,11 +88,12 @@ fn run_in<W: Station>(folder: &str, job: &Job, room: &mut [Rec], station: &mut W
     requires own { length room.old ≡ room_in job.now.bytes.now }
     requires room { (16384 ≤ length room.old) × (length room.old ≤ 4194304) }
     ensures content { Told W.tells station.old station.new
-        (RunsIn folder.now (job_in job.now) job.now.lines.now (status_of result)
+        (RunsIn folder.now (job_in (length room.old) job.now) job.now.lines.now (status_of result)
         (W.world station.old) (W.world station.new)) }
-    ensures calls { IsTrue (W.tells station.new) → AreCounted (job_in job.now) (now (W.world station.old)).folder
-        → (W.world station.new).clock
-        ≤ (W.world station.old).clock + 2 + most_calls (job_in job.now) (length job.now.lines.now) }
+    ensures calls { IsTrue (W.tells station.new) → (rest : ℕ)
+        → AreCounted (job_in (length room.old) job.now) (now (W.world station.old)).folder rest
+        → (W.world station.new).clock ≤ (W.world station.old).clock + 2
+        + (most_calls (job_in (length room.old) job.now) (length job.now.lines.now) + rest) }
     ensures which { EndsRun (status_of result) }
     ensures cause { EndingHasCause (W.faults station.old) (W.faults station.new) result }
 {

@@ -1,5 +1,5 @@
 //! One step of a run: it is made, committed and tidied up.
-ghost use Rattle.std.specs.Prelude.{◌≡◌, ◌+◌, ◌≤◌, ◌<◌, IsTrue, IfOk, length, get_or};
+ghost use Rattle.std.specs.Prelude.{◌≡◌, ◌+◌, ◌≤◌, ◌<◌, ℕ, IsTrue, IfOk, length, get_or};
 ghost use Rattle.shelf_model.specs.World.{now};
 ghost use Rattle.shelf_model.specs.Calls.{Told};
 ghost use Rattle.catalogue.specs.Commits.{IsReady};
@@ -27,10 +27,11 @@ pub(crate) fn take_step<S: Shelf>(
     requires room { (16384 ≤ length room.old) × (length room.old ≤ 4194304) }
     requires ready { IsTrue (S.tells shelf.old) → IsReady number (now (S.world shelf.old)).folder }
     ensures content { Told S.tells shelf.old shelf.new
-        (TakesStep (job_in job.now) number result (S.world shelf.old) (S.world shelf.new)) }
-    ensures calls { IsTrue (S.tells shelf.new) → IsCounted (job_in job.now) number (now (S.world shelf.old)).folder →
-        (S.world shelf.new).clock
-        ≤ (S.world shelf.old).clock + step_calls (job_in job.now) (get_or job.now.steps.now number no_step) }
+        (TakesStep (job_in (length room.old) job.now) number result (S.world shelf.old) (S.world shelf.new)) }
+    ensures calls { IsTrue (S.tells shelf.new) → (rest : ℕ)
+        → IsCounted (job_in (length room.old) job.now) number (now (S.world shelf.old)).folder rest
+        → (S.world shelf.new).clock ≤ (S.world shelf.old).clock
+        + (step_calls (job_in (length room.old) job.now) (get_or job.now.steps.now number no_step) + rest) }
     ensures number { IfOk result (λ e. e.number ≡ number) }
     ensures causes { StopHasCause (S.faults shelf.old) (S.faults shelf.new) result }
 {

@@ -12,35 +12,36 @@ use Rattle.script_runner.specs.StepRuns.{SaysLines}
 use Rattle.script_runner.proofs.Tests.{rest_passes}
 use Rattle.script_runner.proofs.LineOrder.{rises_earlier, none_left, shown_in_front, front_passes}
 use Rattle.script_runner.proofs.Shown.{below_next}
-use Rattle.script_runner.proofs.RunSteps.{plan_in}
+use Rattle.script_runner.proofs.RunSteps.{done_at, plan_in}
+use Rattle.script_runner.proofs.Paying.{unpaid, unpaid_few, none_unpaid}
 use Rattle.script_runner.proofs.Saying.{told_second}
-use Rattle.script_runner.proofs.Turns.{Turn, not_attached, refuses_job, refuses_damage, says_banner, stopped_saying, stops_step, takes_step, is_ready, made_stands, stops_lines, said_lines, says_done, is_done, is_counted, calls_of_one_more, calls_before_all}
+use Rattle.script_runner.proofs.Turns.{Turn, not_attached, refuses_job, refuses_damage, says_banner, stopped_saying, stops_step, takes_step, is_ready, made_stands, stops_lines, said_lines, says_done, is_done, taken_in, is_counted, counted_in, calls_of_one_more, calls_before_all}
 use Rattle.script_runner.proofs.run.run_job.Goals as goal
 
 pub returns-in-Err-Shelf-clause-content : goal.returns-in-Err-Shelf-clause-content
 returns-in-Err-Shelf-clause-content g c =
-    let job : Job = job_in c.args.job.now in
-    let plan = plan_in c.args.job.now in
+    let job : Job = job_in (length c.args.room.now) c.args.job.now in
+    let plan = plan_in (length c.args.room.now) c.args.job.now in
     not_attached g.W.Shelf.tells g.W.Shelf.world (λ s told f. g.met.W.Shelf.files_are s told f) job c.args.job.now.lines.now plan _ _ c.in-Err-Shelf.ensures.content
 
 pub returns-in-Err-Damaged-clause-content : goal.returns-in-Err-Damaged-clause-content
 returns-in-Err-Damaged-clause-content g c =
-    let job : Job = job_in c.args.job.now in
-    let plan = plan_in c.args.job.now in
+    let job : Job = job_in (length c.args.room.now) c.args.job.now in
+    let plan = plan_in (length c.args.room.now) c.args.job.now in
     refuses_damage g.W.Shelf.tells g.W.Shelf.world (λ s told f. g.met.W.Shelf.files_are s told f) job c.args.job.now.lines.now plan c.in-Err-Damaged.field-0 _ c.in-Err-Damaged.file c.in-Err-Damaged.at _ _ c.in-Err-Damaged.field-0-is refl
     c.in-Err-Damaged.ensures.content (λ t. c.in-Err-Damaged.ensures.answer t (λ e. let fault = c.in-Err-Damaged.field-0-is in cc))
 
 pub returns-in-Err-OtherJob-clause-content : goal.returns-in-Err-OtherJob-clause-content
 returns-in-Err-OtherJob-clause-content g c =
-    let job : Job = job_in c.args.job.now in
-    let plan = plan_in c.args.job.now in
+    let job : Job = job_in (length c.args.room.now) c.args.job.now in
+    let plan = plan_in (length c.args.room.now) c.args.job.now in
     refuses_job g.W.Shelf.tells g.W.Shelf.world (λ s told f. g.met.W.Shelf.files_are s told f) job c.args.job.now.lines.now plan c.in-Err-OtherJob.field-0 _ c.in-Err-OtherJob.at _ _ c.in-Err-OtherJob.field-0-is refl
     c.in-Err-OtherJob.ensures.content (λ t. c.in-Err-OtherJob.ensures.answer t (λ e. let fault = c.in-Err-OtherJob.field-0-is in cc))
 
 pub returns-in_default-clause-content : goal.returns-in_default-clause-content
 returns-in_default-clause-content g c =
-    let job : Job = job_in c.args.job.now in
-    let plan = plan_in c.args.job.now in
+    let job : Job = job_in (length c.args.room.now) c.args.job.now in
+    let plan = plan_in (length c.args.room.now) c.args.job.now in
     stopped_saying g.W.Shelf.tells g.W.Shelf.world (λ s told f. g.met.W.Shelf.files_are s told f) job c.args.job.now.lines.now plan _ _
     (says_banner g.W.Shelf.tells g.W.Shelf.world (λ s told f. g.met.W.Shelf.files_are s told f) job c.args.job.now.lines.now plan c.in-Ok.standing c.count_before-before.result c.as_bytes.result.now _ _ _ _
     c.in-Ok.ensures.content (λ t. c.in-Ok.ensures.answer t (λ e. cc)) c.in-Ok.ensures.ok
@@ -49,8 +50,8 @@ returns-in_default-clause-content g c =
 
 pub loop-step-init : goal.loop-step-init
 loop-step-init g c =
-    let job : Job = job_in c.args.job.now in
-    let plan = plan_in c.args.job.now in
+    let job : Job = job_in (length c.args.room.now) c.args.job.now in
+    let plan = plan_in (length c.args.room.now) c.args.job.now in
     let attach_faults = c.in-Ok.ensures.faults in
     let say_faults = c.in-Ok-say.ensures.faults in
     let rest : c.split_at.result.1.now ≡ drop c.count_before-before.result c.args.job.now.lines.now = c.split_at.ensures.back in
@@ -60,12 +61,13 @@ loop-step-init g c =
           c.in-Ok.ensures.content (λ t. c.in-Ok.ensures.answer t (λ e. cc)) c.in-Ok.ensures.ok
           c.count_before-before.ensures.within c.count_before-before.ensures.front c.count_before-before.ensures.rest
           (c.as_bytes.ensures.value ∙ c.as_str.ensures.value ∙ c.banner_line-banner.ensures.text) c.in-Ok-say.ensures.content));
-      calls = λ t counted.
+      calls = λ t paid counted.
+          let few = unpaid_few (done_at (g.W.Shelf.world c.args.station.now)) c.in-Ok.standing.done paid in
           let clock = (c.in-Ok-say.ensures.content.did t).elsewhere.ticks.clock_is in
           let attached = c.in-Ok.ensures.calls (c.in-Ok-say.ensures.content.before t) in
           let left : length c.split_at.result.1.now ≡ length c.args.job.now.lines.now - c.count_before-before.result =
           ap length rest ∙ length-drop c.count_before-before.result c.args.job.now.lines.now in
-          omega (arith, clock, attached, left);
+          omega (arith, clock, attached, left, few);
       rise = subst (λ (ls : List LineEnd). IsTrue (rise_from c.in-Ok.standing.done ls)) (sym rest) c.count_before-before.ensures.rest;
       shown = subst (λ (ls : List LineEnd). IsTrue (list_all (shows_past (length c.args.job.now.steps.now)) ls)) (sym rest)
           (rest_passes (shows_past (length c.args.job.now.steps.now)) c.args.job.now.lines.now c.count_before-before.result c.args.job.now.are_lines.show_past);
@@ -76,15 +78,16 @@ loop-step-init g c =
 
 pub take_step-requires-clause-ready : goal.take_step-requires-clause-ready
 take_step-requires-clause-ready g c =
-    let job : Job = job_in c.args.job.now in
-    let plan = plan_in c.args.job.now in
+    let job : Job = job_in (length c.args.room.now) c.args.job.now in
+    let plan = plan_in (length c.args.room.now) c.args.job.now in
     is_ready g.W.Shelf.tells g.W.Shelf.world (λ s told f. g.met.W.Shelf.files_are s told f) job c.args.job.now.lines.now plan c.loop-step.step c.loop-step.rest.now _ _ c.loop-step.invariant.so_far
 
 pub returns-in-Err-clause-content : goal.returns-in-Err-clause-content
 returns-in-Err-clause-content g c =
-    let job : Job = job_in c.args.job.now in
-    let plan = plan_in c.args.job.now in
-    stops_step g.W.Shelf.tells g.W.Shelf.world (λ s told f. g.met.W.Shelf.files_are s told f) job c.args.job.now.lines.now plan c.loop-step.step c.loop-step.rest.now c.in-Err.finish _ _ _ c.loop-step-test.true c.loop-step.invariant.rise c.loop-step.invariant.so_far c.in-Err.ensures.content
+    let job : Job = job_in (length c.args.room.now) c.args.job.now in
+    let plan = plan_in (length c.args.room.now) c.args.job.now in
+    stops_step g.W.Shelf.tells g.W.Shelf.world (λ s told f. g.met.W.Shelf.files_are s told f) job c.args.job.now.lines.now plan c.loop-step.step c.loop-step.rest.now c.in-Err.finish _ _ _ c.loop-step-test.true c.loop-step.invariant.rise c.loop-step.invariant.so_far
+    (taken_in g.W.Shelf.tells g.W.Shelf.world c.args.job.now _ _ c.loop-step.step _ _ _ c.loop-step.auto.room c.in-Err.ensures.content)
 
 pub count_before-requires : goal.count_before-requires
 count_before-requires g c = rises_earlier 0 c.loop-step.step c.loop-step.rest.now (omega arith) c.loop-step.invariant.rise
@@ -96,8 +99,9 @@ say_lines-requires-clause-within g c =
 
 pub say_lines-requires-clause-stands : goal.say_lines-requires-clause-stands
 say_lines-requires-clause-stands g c =
-    made_stands g.W.Shelf.tells g.W.Shelf.world (job_in c.args.job.now) c.loop-step.step c.in-Ok-take_step.entry _ _
-    c.in-Ok-take_step.ensures.number c.in-Ok-take_step.ensures.content
+    made_stands g.W.Shelf.tells g.W.Shelf.world (job_in (length c.args.room.now) c.args.job.now) c.loop-step.step c.in-Ok-take_step.entry _ _
+    c.in-Ok-take_step.ensures.number
+    (taken_in g.W.Shelf.tells g.W.Shelf.world c.args.job.now _ _ c.loop-step.step _ _ _ c.loop-step.auto.room c.in-Ok-take_step.ensures.content)
 
 pub say_lines-requires-clause-shown : goal.say_lines-requires-clause-shown
 say_lines-requires-clause-shown g c =
@@ -110,11 +114,12 @@ say_lines-requires-clause-shown g c =
 
 pub returns-in-Err-say_lines-clause-content : goal.returns-in-Err-say_lines-clause-content
 returns-in-Err-say_lines-clause-content g c =
-    let job : Job = job_in c.args.job.now in
-    let plan = plan_in c.args.job.now in
+    let job : Job = job_in (length c.args.room.now) c.args.job.now in
+    let plan = plan_in (length c.args.room.now) c.args.job.now in
     let e = c.in-Ok-take_step.entry in
     let number : e.number ≡ c.loop-step.step = c.in-Ok-take_step.ensures.number in
-    let taken = takes_step g.W.Shelf.tells g.W.Shelf.world (λ s told f. g.met.W.Shelf.files_are s told f) job c.args.job.now.lines.now plan c.loop-step.step c.loop-step.rest.now e _ _ _ c.loop-step-test.true c.loop-step.invariant.rise c.loop-step.invariant.so_far c.in-Ok-take_step.ensures.content in
+    let taken = takes_step g.W.Shelf.tells g.W.Shelf.world (λ s told f. g.met.W.Shelf.files_are s told f) job c.args.job.now.lines.now plan c.loop-step.step c.loop-step.rest.now e _ _ _ c.loop-step-test.true c.loop-step.invariant.rise c.loop-step.invariant.so_far
+    (taken_in g.W.Shelf.tells g.W.Shelf.world c.args.job.now _ _ c.loop-step.step _ _ _ c.loop-step.auto.room c.in-Ok-take_step.ensures.content) in
     let ending : c.split_at-in-loop-step.result.0.now ≡ take c.count_before.result c.loop-step.rest.now = c.split_at-in-loop-step.ensures.front in
     let shows = below_next c.loop-step.step (take c.count_before.result c.loop-step.rest.now)
     (shown_in_front (length c.args.job.now.steps.now) c.loop-step.step (take c.count_before.result c.loop-step.rest.now)
@@ -125,11 +130,12 @@ returns-in-Err-say_lines-clause-content g c =
 
 pub loop-step-preserved : goal.loop-step-preserved
 loop-step-preserved g c =
-    let job : Job = job_in c.args.job.now in
-    let plan = plan_in c.args.job.now in
+    let job : Job = job_in (length c.args.room.now) c.args.job.now in
+    let plan = plan_in (length c.args.room.now) c.args.job.now in
     let e = c.in-Ok-take_step.entry in
     let number : e.number ≡ c.loop-step.step = c.in-Ok-take_step.ensures.number in
-    let taken = takes_step g.W.Shelf.tells g.W.Shelf.world (λ s told f. g.met.W.Shelf.files_are s told f) job c.args.job.now.lines.now plan c.loop-step.step c.loop-step.rest.now e _ _ _ c.loop-step-test.true c.loop-step.invariant.rise c.loop-step.invariant.so_far c.in-Ok-take_step.ensures.content in
+    let taken = takes_step g.W.Shelf.tells g.W.Shelf.world (λ s told f. g.met.W.Shelf.files_are s told f) job c.args.job.now.lines.now plan c.loop-step.step c.loop-step.rest.now e _ _ _ c.loop-step-test.true c.loop-step.invariant.rise c.loop-step.invariant.so_far
+    (taken_in g.W.Shelf.tells g.W.Shelf.world c.args.job.now _ _ c.loop-step.step _ _ _ c.loop-step.auto.room c.in-Ok-take_step.ensures.content) in
     let ending : c.split_at-in-loop-step.result.0.now ≡ take c.count_before.result c.loop-step.rest.now = c.split_at-in-loop-step.ensures.front in
     let shows = below_next c.loop-step.step (take c.count_before.result c.loop-step.rest.now)
     (shown_in_front (length c.args.job.now.steps.now) c.loop-step.step (take c.count_before.result c.loop-step.rest.now)
@@ -143,13 +149,14 @@ loop-step-preserved g c =
           (said_lines g.W.Shelf.tells g.W.Shelf.world (λ s told f. g.met.W.Shelf.files_are s told f) job c.args.job.now.lines.now plan c.loop-step.step c.count_before.result c.loop-step.rest.now e number _ _ _ c.count_before.ensures.within c.count_before.ensures.front shows taken _
           (subst (λ (ls : List LineEnd). Told g.W.Shelf.tells c.take_step.new.shelf c.say_lines.new.station
           (SaysLines c.args.job.now.steps.now (e.number + 1) ls e (Ok c.in-Ok-say_lines.field-0) (g.W.Shelf.world c.take_step.new.shelf) (g.W.Shelf.world c.say_lines.new.station))) ending c.in-Ok-say_lines.ensures.content));
-      calls = λ t counted.
+      calls = λ t paid counted.
           let told_take = c.in-Ok-say_lines.ensures.content.before t in
           let told_before = c.in-Ok-take_step.ensures.content.before told_take in
-          let before = invariant.calls told_before counted in
-          let took = c.in-Ok-take_step.ensures.calls told_take
-          (is_counted g.W.Shelf.tells g.W.Shelf.world job c.args.job.now.lines.now c.loop-step.step c.loop-step.rest.now _ _
-          c.loop-step-test.true invariant.so_far told_before counted) in
+          let before = invariant.calls told_before paid counted in
+          let took = c.in-Ok-take_step.ensures.calls told_take (unpaid (done_at (g.W.Shelf.world c.args.station.now)) c.loop-step.step paid)
+          (counted_in c.args.job.now _ _ c.loop-step.step _ _ c.loop-step.auto.room (is_counted g.W.Shelf.tells g.W.Shelf.world (λ s told f. g.met.W.Shelf.files_are s told f) job c.args.job.now.lines.now plan c.loop-step.step c.loop-step.rest.now _ _ paid
+          c.loop-step-test.true invariant.so_far told_before counted)) in
+          let paid_all = none_unpaid (done_at (g.W.Shelf.world c.args.station.now)) c.loop-step.step paid (invariant.so_far.did told_before).0.reached in
           let one_more = calls_of_one_more job c.loop-step.step c.loop-step-test.true in
           let said_them = c.in-Ok-say_lines.ensures.calls t in
           let spoken : length c.split_at-in-loop-step.result.0.now ≡ c.count_before.result =
@@ -157,7 +164,7 @@ loop-step-preserved g c =
           let left : length c.split_at-in-loop-step.result.1.now ≡ length c.loop-step.rest.now - c.count_before.result =
           ap length rest ∙ length-drop c.count_before.result c.loop-step.rest.now in
           let few = c.count_before.ensures.within in
-          omega (arith, before, took, one_more, said_them, spoken, left, few);
+          omega (arith, before, took, one_more, said_them, spoken, left, few, paid_all);
       rise = subst (λ (ls : List LineEnd). IsTrue (rise_from (c.loop-step.step + 1) ls)) (sym rest) c.count_before.ensures.rest;
       shown = subst (λ (ls : List LineEnd). IsTrue (list_all (shows_past (length c.args.job.now.steps.now)) ls)) (sym rest)
           (rest_passes (shows_past (length c.args.job.now.steps.now)) c.loop-step.rest.now c.count_before.result invariant.shown);
@@ -168,8 +175,8 @@ loop-step-preserved g c =
 
 pub returns-in_default-say-clause-content : goal.returns-in_default-say-clause-content
 returns-in_default-say-clause-content g c =
-    let job : Job = job_in c.args.job.now in
-    let plan = plan_in c.args.job.now in
+    let job : Job = job_in (length c.args.room.now) c.args.job.now in
+    let plan = plan_in (length c.args.room.now) c.args.job.now in
     let all_made : length c.args.job.now.steps.now ≤ c.loop-step.step = c.loop-step-test.false in
     let none : c.loop-step.rest.now ≡ [] =
     none_left (length c.args.job.now.steps.now) c.loop-step.rest.now (rises_earlier (length c.args.job.now.steps.now) c.loop-step.step c.loop-step.rest.now all_made c.loop-step.invariant.rise) c.loop-step.invariant.shown in
@@ -177,8 +184,8 @@ returns-in_default-say-clause-content g c =
 
 pub returns-clause-content : goal.returns-clause-content
 returns-clause-content g c =
-    let job : Job = job_in c.args.job.now in
-    let plan = plan_in c.args.job.now in
+    let job : Job = job_in (length c.args.room.now) c.args.job.now in
+    let plan = plan_in (length c.args.room.now) c.args.job.now in
     let all_made : length c.args.job.now.steps.now ≤ c.loop-step.step = c.loop-step-test.false in
     let none : c.loop-step.rest.now ≡ [] =
     none_left (length c.args.job.now.steps.now) c.loop-step.rest.now (rises_earlier (length c.args.job.now.steps.now) c.loop-step.step c.loop-step.rest.now all_made c.loop-step.invariant.rise) c.loop-step.invariant.shown in
@@ -186,32 +193,34 @@ returns-clause-content g c =
 
 -- the calls of a run that stops before its end, and of one that comes to it
 pub returns-in_default-clause-calls : goal.returns-in_default-clause-calls
-returns-in_default-clause-calls g c t counted =
+returns-in_default-clause-calls g c t paid counted =
     let clock = (c.in_default.ensures.content.did t).elsewhere.ticks.clock_is in
     let attached = c.in-Ok.ensures.calls (c.in_default.ensures.content.before t) in
     omega (arith, clock, attached)
 
 pub returns-in-Err-clause-calls : goal.returns-in-Err-clause-calls
-returns-in-Err-clause-calls g c t counted =
-    let job : Job = job_in c.args.job.now in
+returns-in-Err-clause-calls g c t paid counted =
+    let job : Job = job_in (length c.args.room.now) c.args.job.now in
+    let plan = plan_in (length c.args.room.now) c.args.job.now in
     let told_before = c.in-Err.ensures.content.before t in
-    let before = c.loop-step.invariant.calls told_before counted in
-    let took = c.in-Err.ensures.calls t
-    (is_counted g.W.Shelf.tells g.W.Shelf.world job c.args.job.now.lines.now c.loop-step.step c.loop-step.rest.now _ _
-    c.loop-step-test.true c.loop-step.invariant.so_far told_before counted) in
+    let before = c.loop-step.invariant.calls told_before paid counted in
+    let took = c.in-Err.ensures.calls t (unpaid (done_at (g.W.Shelf.world c.args.station.now)) c.loop-step.step paid)
+    (counted_in c.args.job.now _ _ c.loop-step.step _ _ c.loop-step.auto.room (is_counted g.W.Shelf.tells g.W.Shelf.world (λ s told f. g.met.W.Shelf.files_are s told f) job c.args.job.now.lines.now plan c.loop-step.step c.loop-step.rest.now _ _ paid
+    c.loop-step-test.true c.loop-step.invariant.so_far told_before counted)) in
     let one_more = calls_of_one_more job c.loop-step.step c.loop-step-test.true in
     let no_more = calls_before_all job (c.loop-step.step + 1) in
     omega (arith, before, took, one_more, no_more)
 
 pub returns-in-Err-say_lines-clause-calls : goal.returns-in-Err-say_lines-clause-calls
-returns-in-Err-say_lines-clause-calls g c t counted =
-    let job : Job = job_in c.args.job.now in
+returns-in-Err-say_lines-clause-calls g c t paid counted =
+    let job : Job = job_in (length c.args.room.now) c.args.job.now in
+    let plan = plan_in (length c.args.room.now) c.args.job.now in
     let told_take = c.in-Err-say_lines.ensures.content.before t in
     let told_before = c.in-Ok-take_step.ensures.content.before told_take in
-    let before = c.loop-step.invariant.calls told_before counted in
-    let took = c.in-Ok-take_step.ensures.calls told_take
-    (is_counted g.W.Shelf.tells g.W.Shelf.world job c.args.job.now.lines.now c.loop-step.step c.loop-step.rest.now _ _
-    c.loop-step-test.true c.loop-step.invariant.so_far told_before counted) in
+    let before = c.loop-step.invariant.calls told_before paid counted in
+    let took = c.in-Ok-take_step.ensures.calls told_take (unpaid (done_at (g.W.Shelf.world c.args.station.now)) c.loop-step.step paid)
+    (counted_in c.args.job.now _ _ c.loop-step.step _ _ c.loop-step.auto.room (is_counted g.W.Shelf.tells g.W.Shelf.world (λ s told f. g.met.W.Shelf.files_are s told f) job c.args.job.now.lines.now plan c.loop-step.step c.loop-step.rest.now _ _ paid
+    c.loop-step-test.true c.loop-step.invariant.so_far told_before counted)) in
     let one_more = calls_of_one_more job c.loop-step.step c.loop-step-test.true in
     let no_more = calls_before_all job (c.loop-step.step + 1) in
     let said_them = c.in-Err-say_lines.ensures.calls t in
@@ -221,17 +230,17 @@ returns-in-Err-say_lines-clause-calls g c t counted =
     omega (arith, before, took, one_more, no_more, said_them, spoken, few)
 
 pub returns-in_default-say-clause-calls : goal.returns-in_default-say-clause-calls
-returns-in_default-say-clause-calls g c t counted =
-    let job : Job = job_in c.args.job.now in
-    let before = c.loop-step.invariant.calls (c.in_default-say.ensures.content.before t) counted in
+returns-in_default-say-clause-calls g c t paid counted =
+    let job : Job = job_in (length c.args.room.now) c.args.job.now in
+    let before = c.loop-step.invariant.calls (c.in_default-say.ensures.content.before t) paid counted in
     let no_more = calls_before_all job c.loop-step.step in
     let clock = (c.in_default-say.ensures.content.did t).elsewhere.ticks.clock_is in
     omega (arith, before, no_more, clock)
 
 pub returns-clause-calls : goal.returns-clause-calls
-returns-clause-calls g c t counted =
-    let job : Job = job_in c.args.job.now in
-    let before = c.loop-step.invariant.calls (c.in-Ok-say-2.ensures.content.before t) counted in
+returns-clause-calls g c t paid counted =
+    let job : Job = job_in (length c.args.room.now) c.args.job.now in
+    let before = c.loop-step.invariant.calls (c.in-Ok-say-2.ensures.content.before t) paid counted in
     let no_more = calls_before_all job c.loop-step.step in
     let clock = (c.in-Ok-say-2.ensures.content.did t).elsewhere.ticks.clock_is in
     omega (arith, before, no_more, clock)

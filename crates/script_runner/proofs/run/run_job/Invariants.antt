@@ -7,6 +7,8 @@ use Rattle.script_reader.specs.Lines.{rise_from, shows_past}
 use Rattle.file_writes.specs.Writes.{pieces}
 use Rattle.script_runner.specs.Calls.{AreCounted}
 use Rattle.script_runner.specs.JobOf.{job_in}
+use Rattle.script_runner.proofs.RunSteps.{done_at}
+use Rattle.script_runner.proofs.Paying.{unpaid}
 use Rattle.script_runner.proofs.Turns.{Turn, calls_before}
 use Rattle.script_runner.proofs.run.run_job.Given as goal
 
@@ -14,12 +16,12 @@ use Rattle.script_runner.proofs.run.run_job.Given as goal
 abbrev pub invariant-loop-step : goal.invariant-loop-step
 invariant-loop-step g l = record {
   so_far : Told g.W.Shelf.tells l.fn.station l.station
-      (Turn (job_in l.fn.job) l.fn.job.lines.now l.step l.rest (g.W.Shelf.world l.fn.station) (g.W.Shelf.world l.station));
-  calls : IsTrue (g.W.Shelf.tells l.station)
-      → AreCounted (job_in l.fn.job) (now (g.W.Shelf.world l.fn.station)).folder
-      → (g.W.Shelf.world l.station).clock + 2 * length l.rest
+      (Turn (job_in (length l.fn.room) l.fn.job) l.fn.job.lines.now l.step l.rest (g.W.Shelf.world l.fn.station) (g.W.Shelf.world l.station));
+  calls : IsTrue (g.W.Shelf.tells l.station) → (paid : ℕ)
+      → AreCounted (job_in (length l.fn.room) l.fn.job) (now (g.W.Shelf.world l.fn.station)).folder paid
+      → (g.W.Shelf.world l.station).clock + 2 * length l.rest + unpaid (done_at (g.W.Shelf.world l.fn.station)) l.step paid
       ≤ (g.W.Shelf.world l.fn.station).clock + 10 + pieces (length l.fn.job.bytes.now)
-      + calls_before (job_in l.fn.job) l.step + 2 * length l.fn.job.lines.now;
+      + calls_before (job_in (length l.fn.room) l.fn.job) l.step + 2 * length l.fn.job.lines.now + paid;
   rise : IsTrue (rise_from l.step l.rest);
   shown : IsTrue (list_all (shows_past (length l.fn.job.steps.now)) l.rest);
   folder_later : (g.W.Shelf.faults l.fn.station).folder ≤ (g.W.Shelf.faults l.station).folder;

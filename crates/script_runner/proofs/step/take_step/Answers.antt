@@ -1,9 +1,10 @@
-use Rattle.std.proofs.Common.{get_or, refl}
+use Rattle.std.proofs.Common.{length, get_or, refl, arith}
+use Rattle.std.specs.Prelude.{Ok, Err}
 use Rattle.step_work.specs.Plans.{no_step}
 use Rattle.step_engine.specs.Simple.{MayRun}
 use Rattle.step_engine.proofs.PlanLaws.{may_run}
 use Rattle.script_runner.specs.JobOf.{job_in}
-use Rattle.script_runner.proofs.Taking.{was_stopped, commit_failed, tidy_failed, took}
+use Rattle.script_runner.proofs.Taking.{few_calls, was_stopped, commit_failed, tidy_failed, took}
 use Rattle.script_runner.proofs.step.take_step.Goals as goal
 
 pub run_step-requires-clause-step : goal.run_step-requires-clause-step
@@ -14,21 +15,21 @@ pub returns-in-Err-clause-content : goal.returns-in-Err-clause-content
 returns-in-Err-clause-content g c =
     let may : MayRun c.args.job.now.n c.args.job.now.text.now c.args.number (get_or c.args.job.now.steps.now c.args.number no_step) =
     may_run c.args.job.now.n c.args.job.now.text.now c.args.job.now.steps.now c.args.number no_step c.requires.within c.args.job.now.well_formed in
-    was_stopped g.S.Shelf.tells g.S.Shelf.world g.S.Shelf.faults (λ s told f. g.met.S.Shelf.files_are s told f) (job_in c.args.job.now) c.args.number
+    was_stopped g.S.Shelf.tells g.S.Shelf.world g.S.Shelf.faults (λ s told f. g.met.S.Shelf.files_are s told f) (job_in (length c.args.room.now) c.args.job.now) c.args.number
     c.args.job.now.well_formed c.requires.within (get_or c.args.job.now.steps.now c.args.number no_step) refl may.operands_are c.in-Err.fault _ _ c.in-Err.ensures.runs _ c.stopped_by.ensures c.requires.ready
 
 pub returns-in_default-clause-content : goal.returns-in_default-clause-content
 returns-in_default-clause-content g c =
     let may : MayRun c.args.job.now.n c.args.job.now.text.now c.args.number (get_or c.args.job.now.steps.now c.args.number no_step) =
     may_run c.args.job.now.n c.args.job.now.text.now c.args.job.now.steps.now c.args.number no_step c.requires.within c.args.job.now.well_formed in
-    commit_failed g.S.Shelf.tells g.S.Shelf.world g.S.Shelf.faults (λ s told f. g.met.S.Shelf.files_are s told f) (job_in c.args.job.now) c.args.number
+    commit_failed g.S.Shelf.tells g.S.Shelf.world g.S.Shelf.faults (λ s told f. g.met.S.Shelf.files_are s told f) (job_in (length c.args.room.now) c.args.job.now) c.args.number
     c.args.job.now.well_formed c.requires.within (get_or c.args.job.now.steps.now c.args.number no_step) refl may.operands_are c.in-Ok.entry _ _ c.in-Ok.ensures.runs c.requires.ready _ c.in_default.ensures.content
 
 pub returns-in_default-tidy-clause-content : goal.returns-in_default-tidy-clause-content
 returns-in_default-tidy-clause-content g c =
     let may : MayRun c.args.job.now.n c.args.job.now.text.now c.args.number (get_or c.args.job.now.steps.now c.args.number no_step) =
     may_run c.args.job.now.n c.args.job.now.text.now c.args.job.now.steps.now c.args.number no_step c.requires.within c.args.job.now.well_formed in
-    tidy_failed g.S.Shelf.tells g.S.Shelf.world g.S.Shelf.faults (λ s told f. g.met.S.Shelf.files_are s told f) (job_in c.args.job.now) c.args.number
+    tidy_failed g.S.Shelf.tells g.S.Shelf.world g.S.Shelf.faults (λ s told f. g.met.S.Shelf.files_are s told f) (job_in (length c.args.room.now) c.args.job.now) c.args.number
     c.args.job.now.well_formed c.requires.within (get_or c.args.job.now.steps.now c.args.number no_step) refl may.operands_are c.in-Ok.entry _ _ c.in-Ok.ensures.runs c.requires.ready _ _
     c.in-Ok-commit.ensures.content c.in-Ok-commit.ensures.ok c.in_default-tidy.ensures.content
 
@@ -36,6 +37,41 @@ pub returns-clause-content : goal.returns-clause-content
 returns-clause-content g c =
     let may : MayRun c.args.job.now.n c.args.job.now.text.now c.args.number (get_or c.args.job.now.steps.now c.args.number no_step) =
     may_run c.args.job.now.n c.args.job.now.text.now c.args.job.now.steps.now c.args.number no_step c.requires.within c.args.job.now.well_formed in
-    took g.S.Shelf.tells g.S.Shelf.world g.S.Shelf.faults (λ s told f. g.met.S.Shelf.files_are s told f) (job_in c.args.job.now) c.args.number
+    took g.S.Shelf.tells g.S.Shelf.world g.S.Shelf.faults (λ s told f. g.met.S.Shelf.files_are s told f) (job_in (length c.args.room.now) c.args.job.now) c.args.number
     c.args.job.now.well_formed c.requires.within (get_or c.args.job.now.steps.now c.args.number no_step) refl may.operands_are c.in-Ok.entry _ _ c.in-Ok.ensures.runs c.requires.ready _ _
     c.in-Ok-commit.ensures.content c.in-Ok-commit.ensures.ok c.in-Ok-tidy.ensures.content c.in-Ok-tidy.ensures.empty
+
+-- the calls, wherever it stops
+pub returns-in-Err-clause-calls : goal.returns-in-Err-clause-calls
+returns-in-Err-clause-calls g c tells_s rest counted =
+    let may : MayRun c.args.job.now.n c.args.job.now.text.now c.args.number (get_or c.args.job.now.steps.now c.args.number no_step) =
+    may_run c.args.job.now.n c.args.job.now.text.now c.args.job.now.steps.now c.args.number no_step c.requires.within c.args.job.now.well_formed in
+    few_calls g.S.Shelf.tells g.S.Shelf.world g.S.Shelf.faults (λ s told f. g.met.S.Shelf.files_are s told f) (job_in (length c.args.room.now) c.args.job.now) c.args.number
+    c.args.job.now.well_formed c.requires.within (get_or c.args.job.now.steps.now c.args.number no_step) refl may.operands_are _ _ (Err c.in-Err.fault) c.in-Err.ensures.runs tells_s rest counted
+    (g.S.Shelf.world c.run_step.new.shelf).clock (g.S.Shelf.world c.run_step.new.shelf).clock (omega arith) (omega arith)
+
+pub returns-in_default-clause-calls : goal.returns-in_default-clause-calls
+returns-in_default-clause-calls g c tells_t rest counted =
+    let may : MayRun c.args.job.now.n c.args.job.now.text.now c.args.number (get_or c.args.job.now.steps.now c.args.number no_step) =
+    may_run c.args.job.now.n c.args.job.now.text.now c.args.job.now.steps.now c.args.number no_step c.requires.within c.args.job.now.well_formed in
+    let committed = c.in_default.ensures.calls tells_t in
+    few_calls g.S.Shelf.tells g.S.Shelf.world g.S.Shelf.faults (λ s told f. g.met.S.Shelf.files_are s told f) (job_in (length c.args.room.now) c.args.job.now) c.args.number
+    c.args.job.now.well_formed c.requires.within (get_or c.args.job.now.steps.now c.args.number no_step) refl may.operands_are _ _ (Ok c.in-Ok.entry) c.in-Ok.ensures.runs (c.in_default.ensures.content.before tells_t) rest counted _ _ committed (omega arith)
+
+pub returns-in_default-tidy-clause-calls : goal.returns-in_default-tidy-clause-calls
+returns-in_default-tidy-clause-calls g c tells_u rest counted =
+    let may : MayRun c.args.job.now.n c.args.job.now.text.now c.args.number (get_or c.args.job.now.steps.now c.args.number no_step) =
+    may_run c.args.job.now.n c.args.job.now.text.now c.args.job.now.steps.now c.args.number no_step c.requires.within c.args.job.now.well_formed in
+    let tells_t = c.in_default-tidy.ensures.content.before tells_u in
+    few_calls g.S.Shelf.tells g.S.Shelf.world g.S.Shelf.faults (λ s told f. g.met.S.Shelf.files_are s told f) (job_in (length c.args.room.now) c.args.job.now) c.args.number
+    c.args.job.now.well_formed c.requires.within (get_or c.args.job.now.steps.now c.args.number no_step) refl may.operands_are _ _ (Ok c.in-Ok.entry) c.in-Ok.ensures.runs (c.in-Ok-commit.ensures.content.before tells_t) rest counted _ _
+    (c.in-Ok-commit.ensures.calls tells_t) (c.in_default-tidy.ensures.calls tells_u)
+
+pub returns-clause-calls : goal.returns-clause-calls
+returns-clause-calls g c tells_u rest counted =
+    let may : MayRun c.args.job.now.n c.args.job.now.text.now c.args.number (get_or c.args.job.now.steps.now c.args.number no_step) =
+    may_run c.args.job.now.n c.args.job.now.text.now c.args.job.now.steps.now c.args.number no_step c.requires.within c.args.job.now.well_formed in
+    let tells_t = c.in-Ok-tidy.ensures.content.before tells_u in
+    few_calls g.S.Shelf.tells g.S.Shelf.world g.S.Shelf.faults (λ s told f. g.met.S.Shelf.files_are s told f) (job_in (length c.args.room.now) c.args.job.now) c.args.number
+    c.args.job.now.well_formed c.requires.within (get_or c.args.job.now.steps.now c.args.number no_step) refl may.operands_are _ _ (Ok c.in-Ok.entry) c.in-Ok.ensures.runs (c.in-Ok-commit.ensures.content.before tells_t) rest counted _ _
+    (c.in-Ok-commit.ensures.calls tells_t) (c.in-Ok-tidy.ensures.calls tells_u)

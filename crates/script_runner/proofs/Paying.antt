@@ -1,0 +1,90 @@
+-- What pays for going on with a step of a run: what did at first, for the first step that wasn't committed then, and
+-- nothing for those behind it.
+use Rattle.std.proofs.Common.{◌≡◌, ◌∙◌, ℕ, ◌+◌, ◌*◌, ◌<◌, ◌≤◌, Bool, true, false, cond, nat_lt, List, [], ◌∷◌, length, refl, sym, ap, ap₂, subst, inl, inr, arith}
+use Rattle.std.specs.Prelude.{IsTrue, Some}
+use Rattle.std.specs.List.{list_all, sum_by}
+use Rattle.std.proofs.lemmas.Bool.{cases_lt, and_parts, ltb-true, lt-ltb, le-ltb}
+use Rattle.std.proofs.lemmas.List.Sums.{sum_by-cons}
+use Rattle.bool_tables.specs.declared.steps.Step.{Step}
+use Rattle.bool_tables.specs.Plans.{IsWellFormed, operands}
+use Rattle.shelf_model.specs.declared.file_no.FileNo.{FileNo}
+use Rattle.shelf_model.specs.File.{File}
+use Rattle.shelf_model.specs.Folder.{Folder, file_in, AreFiles}
+use Rattle.catalogue.specs.Counts.{present, count_in}
+use Rattle.file_numbers.specs.Files.{checkpoint_file}
+use Rattle.step_work.specs.Plans.{no_step}
+use Rattle.node_reading.specs.Reading.{count_of}
+use Rattle.sweep_checkpoint.specs.Gated.{last_gated, last_of}
+use Rattle.sweep_checkpoint.specs.Loads.{Tells}
+use Rattle.step_sweeps.specs.Going.{rest_calls}
+use Rattle.sound_image.specs.Files.{node_file, checkpoint_gate}
+use Rattle.sound_image.specs.Jobs.{Job, step_at}
+use Rattle.sound_image.specs.Holds.{AreSound}
+use Rattle.sound_image.proofs.AttachLaws.{none_behind_first}
+use Rattle.step_engine.specs.Running.{nodes_read, PaysRest}
+use Rattle.step_engine.proofs.PlanLaws.{may_run}
+use Rattle.script_runner.specs.Calls.{PaysStep, PaysFirst}
+use Rattle.script_runner.specs.StepRuns.{KeepsDiagrams, KeepsLater}
+
+-- what remains of what pays for going on, with so many steps committed where so many were at first
+pub unpaid : ℕ → ℕ → ℕ → ℕ
+unpaid done step rest = cond (nat_lt done step) 0 rest
+
+-- it is no more, and nothing once a step was taken
+pub unpaid_few : (done step rest : ℕ) → unpaid done step rest ≤ rest
+unfolding unpaid
+unpaid_few done step rest = by_test (nat_lt done step)
+  where
+    by_test : (b : Bool) → cond b 0 rest ≤ rest
+    by_test true = omega arith
+    by_test false = omega arith
+
+pub none_unpaid : (done step rest : ℕ) → done ≤ step → unpaid done (step + 1) rest ≡ 0
+unfolding unpaid
+none_unpaid done step rest reached = ap (λ b. cond b 0 rest) (lt-ltb done (step + 1) (omega (arith, reached)))
+
+-- where the gate is empty nothing is paid
+no_checkpoint : (step : Step) (number budget : ℕ) (r : FileNo → List ℕ) (rest : ℕ) → r (checkpoint_gate number) ≡ [] → PaysRest step number budget r rest
+no_checkpoint step number budget r rest empty c tells =
+    absurd (subst (λ found. Tells number budget found (Some c)) (ap (λ gate. last_of (length gate) (r (checkpoint_file number))) empty) tells)
+
+-- the same is paid where the same is read of the checkpoints and of the operands
+nodes_same : (xs : List ℕ) (bound : ℕ) (old new : FileNo → List ℕ) → IsTrue (list_all (λ x. nat_lt x bound) xs)
+    → ((k : ℕ) → k < bound → new (node_file k) ≡ old (node_file k)) → sum_by (λ k. count_of (new (node_file k))) xs ≡ sum_by (λ k. count_of (old (node_file k))) xs
+nodes_same [] bound old new below same = refl
+nodes_same (x ∷ xs) bound old new below same =
+    let parts = and_parts (nat_lt x bound) (list_all (λ y. nat_lt y bound) xs) below in
+    sum_by-cons (λ k. count_of (new (node_file k))) x xs
+    ∙ ap₂ (λ a b. a + b) (ap count_of (same x (ltb-true x bound parts.0))) (nodes_same xs bound old new parts.1 same)
+    ∙ sym (sum_by-cons (λ k. count_of (old (node_file k))) x xs)
+
+pays_still : (step : Step) (number budget rest : ℕ) (old new : FileNo → List ℕ) → IsTrue (list_all (λ x. nat_lt x number) (operands step))
+    → new (checkpoint_gate number) ≡ old (checkpoint_gate number) → new (checkpoint_file number) ≡ old (checkpoint_file number)
+    → ((k : ℕ) → k < number → new (node_file k) ≡ old (node_file k)) → PaysRest step number budget old rest → PaysRest step number budget new rest
+pays_still step number budget rest old new below gate points nodes pays c tells =
+    let same : last_gated number new ≡ last_gated number old = λ i. last_of (length (gate i)) (points i) in
+    let read : nodes_read step new ≡ nodes_read step old = ap (λ n. 3 * n) (nodes_same (operands step) number old new below nodes) in
+    subst (λ n. rest_calls (Some c) n + 590 ≤ rest) (sym read)
+    (pays c (subst (λ found. Tells number budget found (Some c)) same tells))
+
+-- so it is at each step of a run in a folder that was sound at first
+pub pays_now : (job : Job) (step rest : ℕ) (old new : Folder) → IsWellFormed job.n job.text job.steps → AreFiles old → AreSound job old
+    → count_in (present old) ≤ step → step < length job.steps → KeepsDiagrams job.steps (count_in (present old)) step old new → KeepsLater step old new
+    → PaysFirst job old rest → PaysStep job step new (unpaid (count_in (present old)) step rest)
+unfolding unpaid
+pays_now job step rest old new plan files sound reached within keeps later pays = elim (cases_lt (count_in (present old)) step) [
+  | inl behind ↦ no_checkpoint (step_at job step).step step job.budget (present new) (unpaid (count_in (present old)) step rest)
+      (ap (λ (x : File). x.bytes) (of_step (checkpoint_gate step) refl) ∙ none_behind_first job old files sound step behind within)
+  | inr first ↦
+      let here : step ≡ count_in (present old) = omega (arith, reached, first) in
+      let still : PaysStep job step new rest =
+      pays_still (step_at job step).step step job.budget rest (present old) (present new)
+      (may_run job.n job.text job.steps step no_step within plan).operands_are
+      (ap (λ (x : File). x.bytes) (of_step (checkpoint_gate step) refl)) (ap (λ (x : File). x.bytes) (of_step (checkpoint_file step) refl))
+      (λ k below. ap (λ (x : File). x.bytes) (keeps k (omega (arith, below, here)) (λ j from until. absurd (omega (arith, from, until, here)))))
+      (subst (λ k. PaysStep job k old rest) (sym here) (pays (omega (arith, here, within)))) in
+      subst (PaysStep job step new) (ap (λ b. cond b 0 rest) (sym (le-ltb (count_in (present old)) step first))) still
+]
+  where
+    of_step : (f : FileNo) → f.step ≡ step → file_in new f ≡ file_in old f
+    of_step f is = let few = plan.few_steps in later f (omega (arith, is)) (omega (arith, is, within, few))
