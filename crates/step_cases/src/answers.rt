@@ -2,7 +2,7 @@
 ghost use Rattle.std.specs.Prelude.{◌+◌, ◌<◌, ◌≤◌, length};
 ghost use Rattle.step_cases.specs.declared.steps.TheConstants.{LEAST_ROOM};
 
-use crate::steps::{EMPTY, LARGE_ROOM, LEAST_ROOM, NUMBER, file};
+use crate::steps::{EMPTY, LARGE_ROOM, LEAST_ROOM, begun, file};
 use crate::triples::triple;
 use case_tables::{FIRST, bench_of, product_of};
 use rec_words::Rec;
@@ -24,7 +24,8 @@ fn compares(n: u32, tables: [&[bool]; 3], room: &mut [Rec], bench: &mut Bench) -
     for left in 0..3 {
         for right in 0..3 {
             let same = tables[left as usize] == tables[right as usize];
-            match compare(n, file(left), file(right), NUMBER, room, bench) {
+            let mut going = begun(room);
+            match compare(n, file(left), file(right), &mut going, room, bench) {
                 Ok(answered) => {
                     if answered.answer != same || answered.next != 3 {
                         return false;
@@ -89,7 +90,8 @@ fn implies(n: u32, tables: [&[bool]; 3], room: &mut [Rec], bench: &mut Bench) ->
     for left in 0..3 {
         for right in 0..3 {
             let holds = is_leq(tables[left as usize], tables[right as usize]);
-            match imply(n, file(left), file(right), NUMBER, room, bench) {
+            let mut going = begun(room);
+            match imply(n, file(left), file(right), &mut going, room, bench) {
                 Ok(answered) => {
                     if answered.answer != holds {
                         return false;
@@ -163,7 +165,8 @@ fn evaluates(n: u32, table: &[bool], room: &mut [Rec], bench: &mut Bench) -> boo
     let mut place = 0usize;
     for value in table {
         write_bits(n, place, &mut text);
-        match evaluate(n, FIRST, &text, AT, NUMBER, room, bench) {
+        let mut going = begun(room);
+        match evaluate(n, FIRST, &text, AT, &mut going, room, bench) {
             Ok(answered) => {
                 if answered.answer != *value || answered.next != 3 {
                     return false;

@@ -5,7 +5,7 @@ ghost use Rattle.step_cases.specs.declared.steps.TheConstants.{LARGE_ROOM, LEAST
 
 use crate::copies::{complement_calls, is_unswept};
 use crate::failing::NEITHER;
-use crate::steps::{EMPTY, LARGE_ROOM, LEAST_ROOM, NUMBER, ONE, is_made};
+use crate::steps::{EMPTY, LARGE_ROOM, LEAST_ROOM, ONE, begun, is_made};
 use case_tables::{FIRST, Random, bench_of, operator, product_of, put_bytes};
 use rec_words::{Ptr, Rec};
 use shelf_memory::Bench;
@@ -26,7 +26,8 @@ fn complement(n: u32, room: &mut [Rec], bench: &mut Bench) -> Result<MadeDiagram
     requires enough { LEAST_ROOM ≤ length room.old }
 {
     let operation = StepOperation::Operator(operator(NEITHER));
-    make_diagram(operation, n, ONE, NUMBER, room, bench)
+    let mut going = begun(room);
+    make_diagram(operation, n, ONE, &mut going, room, bench)
 }
 
 // The least room doesn't hold two records for each node, so it is made as any product is. More room does.

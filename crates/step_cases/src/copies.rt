@@ -5,7 +5,7 @@ ghost use Rattle.step_sweeps.specs.Given.{AreEarlier};
 ghost use Rattle.step_sweeps.specs.Operations.{IsWithin};
 ghost use Rattle.step_cases.specs.declared.steps.TheConstants.{NUMBER, LEAST_ROOM};
 
-use crate::steps::{EMPTY, LEAST_ROOM, NUMBER, ONE, TWO, is_made};
+use crate::steps::{EMPTY, LEAST_ROOM, ONE, TWO, begun, is_made};
 use case_tables::{FIRST, Random, SECOND, bench_of, operator, product_of};
 use rec_words::Rec;
 use shelf_memory::Bench;
@@ -125,7 +125,8 @@ pub(crate) fn is_unswept(
     requires earlier { AreEarlier NUMBER operands }
 {
     let before = bench.clock();
-    let Ok(made) = make_diagram(operation, n, operands, NUMBER, room, bench) else {
+    let mut going = begun(room);
+    let Ok(made) = make_diagram(operation, n, operands, &mut going, room, bench) else {
         return Ok(false);
     };
     Ok(
@@ -213,7 +214,8 @@ fn calls_of(operation: StepOperation, n: u32, room: &mut [Rec], bench: &mut Benc
     requires within { IsWithin n operation }
 {
     let before = bench.clock();
-    let made = make_diagram(operation, n, ONE, NUMBER, room, bench);
+    let mut going = begun(room);
+    let made = make_diagram(operation, n, ONE, &mut going, room, bench);
     made.ok()?;
     Some(bench.clock().wrapping_sub(before))
 }
@@ -257,7 +259,9 @@ fn copies_many_nodes(rt: HostRuntime) -> Result<bool, Fail> {
     let calls = copy_calls(&bench);
     let before = bench.clock();
     let both = StepOperation::Operator(operator(0b1000));
-    let made = make_diagram(both, MANY, ONE, NUMBER, room.as_mut_slice(), &mut bench);
+    let room = room.as_mut_slice();
+    let mut going = begun(room);
+    let made = make_diagram(both, MANY, ONE, &mut going, room, &mut bench);
     let made = made.ok().ok_or("copy")?;
     Ok(
         are_many

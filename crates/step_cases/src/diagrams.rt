@@ -2,7 +2,7 @@
 ghost use Rattle.std.specs.Prelude.{◌≤◌, length};
 ghost use Rattle.step_cases.specs.declared.steps.TheConstants.{LEAST_ROOM};
 
-use crate::steps::{EMPTY, LARGE_ROOM, LEAST_ROOM, NUMBER, ONE, THREE, TWO, is_made, makes};
+use crate::steps::{EMPTY, LARGE_ROOM, LEAST_ROOM, ONE, THREE, TWO, begun, is_made, makes};
 use crate::triples::triple;
 use bool_tables::Quant;
 use case_tables::{bench_of, choice_of, operator, product_of, quantified_of, restricted_of};
@@ -196,7 +196,8 @@ fn makes_with_runs(rt: HostRuntime) -> Result<bool, Fail> {
     let mut room = vec![in alloc; EMPTY; LEAST_ROOM]?;
     let room = room.as_mut_slice();
     let operation = StepOperation::Operator(operator(DIFFER));
-    match make_diagram(operation, MANY, TWO, NUMBER, room, &mut bench) {
+    let mut going = begun(room);
+    match make_diagram(operation, MANY, TWO, &mut going, room, &mut bench) {
         Ok(made) => Ok(
             made.next > FIRST_RUN_PART && is_made(alloc, MANY, made, wanted.as_slice(), &bench)?,
         ),

@@ -5,7 +5,7 @@ ghost use Rattle.step_sweeps.specs.Operations.{IsWithin};
 ghost use Rattle.step_cases.specs.declared.failing.TheConstants.{FEWEST, MOST};
 ghost use Rattle.step_cases.specs.declared.steps.TheConstants.{NUMBER, LEAST_ROOM};
 
-use crate::steps::{EMPTY, LEAST_ROOM, NUMBER, ONE, THREE, TWO, is_made, makes};
+use crate::steps::{EMPTY, LEAST_ROOM, ONE, THREE, TWO, begun, is_made, makes};
 use crate::triples::triple;
 use bool_tables::Quant;
 use case_tables::{
@@ -99,7 +99,8 @@ fn makes_at(
     let mut bench = bench_of(alloc, n, tables)?;
     let fails = bench.clock().saturating_add(call);
     bench.fail_at(fails)?;
-    match make_diagram(operation, n, operands, NUMBER, room, &mut bench) {
+    let mut going = begun(room);
+    match make_diagram(operation, n, operands, &mut going, room, &mut bench) {
         Ok(made) => {
             let right = is_made(alloc, n, made, wanted, &bench)?;
             Ok(Some(right && bench.clock() <= fails))
@@ -169,10 +170,11 @@ pub(crate) fn answer_of(
     requires few { n ≤ MOST }
     requires enough { LEAST_ROOM ≤ length room.old }
 {
+    let mut going = begun(room);
     match asked {
-        Asked::Same => compare(n, FIRST, SECOND, NUMBER, room, bench),
-        Asked::Leq => imply(n, FIRST, SECOND, NUMBER, room, bench),
-        Asked::Value => evaluate(n, FIRST, b"000000000", 0, NUMBER, room, bench),
+        Asked::Same => compare(n, FIRST, SECOND, &mut going, room, bench),
+        Asked::Leq => imply(n, FIRST, SECOND, &mut going, room, bench),
+        Asked::Value => evaluate(n, FIRST, b"000000000", 0, &mut going, room, bench),
     }
 }
 

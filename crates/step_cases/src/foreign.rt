@@ -3,7 +3,7 @@ ghost use Rattle.std.specs.Prelude.{◌≤◌, length};
 ghost use Rattle.step_cases.specs.declared.steps.TheConstants.{LEAST_ROOM};
 
 use crate::failing::{Asked, CASES, FEWEST, answer_of, operands_of, operation_of};
-use crate::steps::{EMPTY, LEAST_ROOM, NUMBER};
+use crate::steps::{EMPTY, LEAST_ROOM, begun};
 use crate::triples::triple;
 use case_tables::{FIRST, bench_of, put_bytes};
 use rec_words::Rec;
@@ -23,7 +23,8 @@ fn fault_of(case: u32, room: &mut [Rec], bench: &mut Bench) -> Option<SortFault>
         _ => {
             let operation = operation_of(case - 3, FEWEST);
             let operands = operands_of(case - 3);
-            let made = make_diagram(operation, FEWEST, operands, NUMBER, room, bench);
+            let mut going = begun(room);
+            let made = make_diagram(operation, FEWEST, operands, &mut going, room, bench);
             return made.err();
         }
     };

@@ -2,7 +2,7 @@
 ghost use Rattle.std.specs.Prelude.{◌≤◌, length};
 ghost use Rattle.step_cases.specs.declared.steps.TheConstants.{LEAST_ROOM};
 
-use crate::steps::{EMPTY, LARGE_ROOM, LEAST_ROOM, NUMBER, TWO, is_made, makes};
+use crate::steps::{EMPTY, LARGE_ROOM, LEAST_ROOM, NUMBER, TWO, begun, is_made, makes};
 use crate::triples::triple;
 use case_tables::{FIRST, bench_of, operator, product_of, put_bytes};
 use file_numbers::{ends_file, inner_file};
@@ -119,7 +119,8 @@ fn joins_with_more_room(rt: HostRuntime) -> Result<bool, Fail> {
     let mut bench = bench_of(alloc, MANY, tables)?;
     let mut least = vec![in alloc; EMPTY; LEAST_ROOM]?;
     let least = least.as_mut_slice();
-    let Ok(swept) = make_diagram(operation, MANY, TWO, NUMBER, least, &mut bench) else {
+    let mut going = begun(least);
+    let Ok(swept) = make_diagram(operation, MANY, TWO, &mut going, least, &mut bench) else {
         return Ok(false);
     };
     if !has_arcs(&bench) || !is_made(alloc, MANY, swept, wanted, &bench)? {
@@ -128,7 +129,8 @@ fn joins_with_more_room(rt: HostRuntime) -> Result<bool, Fail> {
     let mut bench = bench_of(alloc, MANY, tables)?;
     let mut large = vec![in alloc; EMPTY; LARGE_ROOM]?;
     let large = large.as_mut_slice();
-    let Ok(made) = make_diagram(operation, MANY, TWO, NUMBER, large, &mut bench) else {
+    let mut going = begun(large);
+    let Ok(made) = make_diagram(operation, MANY, TWO, &mut going, large, &mut bench) else {
         return Ok(false);
     };
     Ok(!has_arcs(&bench) && made.turns < swept.turns && is_made(alloc, MANY, made, wanted, &bench)?)
@@ -147,7 +149,8 @@ fn finds_damage(n: u32, room: &mut [Rec], bench: &mut Bench) -> bool
     requires few { n ≤ 20 }
 {
     let operation = StepOperation::Operator(operator(DIFFER));
-    let made = make_diagram(operation, n, TWO, NUMBER, room, bench);
+    let mut going = begun(room);
+    let made = make_diagram(operation, n, TWO, &mut going, room, bench);
     matches!(made, Err(SortFault::Damaged { file, .. }) if file == FIRST)
 }
 

@@ -1,5 +1,5 @@
 //! Diagrams whose arcs are reduced in the room, where it holds what that takes.
-use crate::steps::{EMPTY, LARGE_ROOM, LEAST_ROOM, NUMBER, THREE, is_made};
+use crate::steps::{EMPTY, LARGE_ROOM, LEAST_ROOM, NUMBER, THREE, begun, is_made};
 use crate::triples::triple;
 use case_tables::{bench_of, choice_of};
 use file_numbers::{ends_file, inner_file};
@@ -28,29 +28,19 @@ fn reduces_with_more_room(rt: HostRuntime) -> Result<bool, Fail> {
     let tables = [first.as_slice(), second.as_slice(), third.as_slice()];
     let mut bench = bench_of(alloc, MANY, tables)?;
     let mut least = vec![in alloc; EMPTY; LEAST_ROOM]?;
+    let least = least.as_mut_slice();
     let operation = StepOperation::Choice;
-    let Ok(swept) = make_diagram(
-        operation,
-        MANY,
-        THREE,
-        NUMBER,
-        least.as_mut_slice(),
-        &mut bench,
-    ) else {
+    let mut going = begun(least);
+    let Ok(swept) = make_diagram(operation, MANY, THREE, &mut going, least, &mut bench) else {
         return Ok(false);
     };
     if !is_made(alloc, MANY, swept, wanted, &bench)? {
         return Ok(false);
     }
     let mut large = vec![in alloc; EMPTY; LARGE_ROOM]?;
-    let Ok(made) = make_diagram(
-        operation,
-        MANY,
-        THREE,
-        NUMBER,
-        large.as_mut_slice(),
-        &mut bench,
-    ) else {
+    let large = large.as_mut_slice();
+    let mut going = begun(large);
+    let Ok(made) = make_diagram(operation, MANY, THREE, &mut going, large, &mut bench) else {
         return Ok(false);
     };
     let sources = source_count(&bench);

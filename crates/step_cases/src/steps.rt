@@ -1,6 +1,7 @@
 //! Steps that make diagrams of the canonical files of tables.
-ghost use Rattle.std.specs.Prelude.{◌<◌, ◌≤◌, length};
+ghost use Rattle.std.specs.Prelude.{◌≡◌, ◌<◌, ◌≤◌, length};
 ghost use Rattle.step_sweeps.specs.Given.{AreEarlier};
+ghost use Rattle.step_sweeps.specs.Going.{MayGoOn};
 ghost use Rattle.step_sweeps.specs.Operations.{IsWithin};
 ghost use Rattle.step_cases.specs.declared.steps.TheConstants.{NUMBER, LEAST_ROOM};
 
@@ -12,6 +13,7 @@ use shelf_model::FileNo;
 use std::alloc::Global;
 use std::test::Fail;
 use step_sweeps::{MadeDiagram, StepOperation, make_diagram};
+use sweep_checkpoint::Going;
 use top_down_sweep::OperandFiles;
 
 /// The step that is done.
@@ -24,6 +26,25 @@ pub(crate) const LEAST_ROOM: usize = 16_384;
 pub(crate) const LARGE_ROOM: usize = 50_000;
 
 pub(crate) const EMPTY: Rec = Rec { w: [0; 8] };
+
+/// The most records of a run's room.
+const MOST_RECORDS: usize = 4_194_304;
+
+/// The step, of which nothing was done, in a run with that room.
+pub(crate) fn begun(room: &[Rec]) -> Going
+    requires enough { LEAST_ROOM ≤ length room.now }
+    ensures step { result.step ≡ NUMBER }
+    ensures going { MayGoOn result }
+{
+    Going {
+        step: NUMBER,
+        sweep: 0,
+        budget: room.len().min(MOST_RECORDS) as u32,
+        turns: 0,
+        shown: 0,
+        last: None,
+    }
+}
 
 /// The file of the first, of the second or of the third table.
 pub(crate) fn file(index: u32) -> FileNo
@@ -67,7 +88,8 @@ pub(crate) fn makes(
     requires within { IsWithin n operation }
     requires earlier { AreEarlier NUMBER operands }
 {
-    match make_diagram(operation, n, operands, NUMBER, room, bench) {
+    let mut going = begun(room);
+    match make_diagram(operation, n, operands, &mut going, room, bench) {
         Ok(made) => is_made(alloc, n, made, wanted, bench),
         Err(_) => Ok(false),
     }

@@ -1,0 +1,278 @@
+//! Checkpoints that the step can't have saved: they are refused at their place, and without them it begins anew.
+ghost use Rattle.std.specs.Prelude.{◌≤◌, length};
+
+use crate::folders::{copied, folder_of};
+use crate::lives::{EMPTY, LEAST_ROOM, ends_like, live, whole_in};
+use crate::steps::{NUMBER, Request, Tried};
+use case_tables::put_bytes;
+use file_numbers::{checkpoint_file, checkpoint_gate};
+use rec_words::Rec;
+use shelf_memory::{Bench, Choice};
+use shelf_model::SortFault;
+use std::alloc::{AllocError, Global};
+use std::process::Abort;
+use std::test::Fail;
+
+/// The bytes of a checkpoint.
+const POINT_SIZE: usize = 16_384;
+
+/// Its words in front: the step, the sweep, the turns, the next part number, the budget, and how many tables it has.
+const STEP: usize = 0;
+
+const SWEEP: usize = 1;
+
+const TURNS: usize = 2;
+
+const NEXT_PART: usize = 3;
+
+const BUDGET: usize = 4;
+
+const TABLES: usize = 5;
+
+/// What a word of a checkpoint is changed to.
+#[derive(Clone, Copy, Debug, PartialEq, Eq)]
+enum Change {
+    /// The next number.
+    Next,
+    /// The number of the other sweep.
+    Other,
+    /// A sweep that no step has.
+    NoSweep,
+    /// The first part number that is too great for the turns.
+    TooGreat,
+    /// More tables than there may be.
+    TooMany,
+}
+
+/// What is changed in each case.
+const CHANGES: [(usize, Change); 6] = [
+    (STEP, Change::Next),
+    (SWEEP, Change::Other),
+    (SWEEP, Change::NoSweep),
+    (NEXT_PART, Change::TooGreat),
+    (BUDGET, Change::Next),
+    (TABLES, Change::TooMany),
+];
+
+/// The words that name files in a checkpoint, with what they are: where two operands and the arcs are named, one operand
+/// and the arcs, the nodes alone, two operands that are compared, and one that is evaluated.
+const OF_TWO: &[(usize, u64)] = &[
+    (8, 0),
+    (9, 0),
+    (12, 1),
+    (13, 0),
+    (16, 1),
+    (17, 0),
+    (20, 2),
+    (21, 3),
+    (23, 2),
+    (24, 4),
+];
+
+const OF_ONE: &[(usize, u64)] = &[
+    (8, 0),
+    (9, 0),
+    (12, 0),
+    (13, 0),
+    (16, 0),
+    (17, 0),
+    (20, 2),
+    (21, 3),
+    (23, 2),
+    (24, 4),
+];
+
+const OF_NODES: &[(usize, u64)] = &[(16, 2), (17, 0)];
+
+const COMPARED: &[(usize, u64)] = &[(7, 0), (8, 0), (10, 1), (11, 0)];
+
+const EVALUATED: &[(usize, u64)] = &[(8, 0), (9, 0)];
+
+// The word at a place, the highest byte first.
+fn word_at(bytes: &[u8], at: usize) -> u64 {
+    let mut word = 0u64;
+    if let Some(eight) = bytes.get(at..at.saturating_add(8)) {
+        for byte in eight {
+            word = (word << 8) | u64::from(*byte);
+        }
+    }
+    word
+}
+
+// The bytes with another word at a place.
+fn with_word(alloc: Global, bytes: &[u8], at: usize, word: u64) -> Result<Vec<u8>, AllocError> {
+    let mut changed = Vec::from_slice(alloc, bytes)?;
+    for (k, byte) in word.to_be_bytes().iter().enumerate() {
+        if let Some(place) = changed.as_mut_slice().get_mut(at.saturating_add(k)) {
+            *place = *byte;
+        }
+    }
+    Ok(changed)
+}
+
+// What a word of the checkpoint at a place is changed to.
+fn changed_word(points: &[u8], place: usize, word: usize, change: Change) -> u64 {
+    let old = word_at(points, place.saturating_add(8 * (word % 2048)));
+    match change {
+        Change::Next => old.wrapping_add(1),
+        Change::Other => 1u64.saturating_sub(old),
+        Change::NoSweep => 2,
+        Change::TooGreat => 513 + word_at(points, place.saturating_add(8 * TURNS)) / 16,
+        Change::TooMany => 10,
+    }
+}
+
+// A folder in which a step was stopped once its gate counted so many checkpoints, as it is read.
+fn saved_in(
+    request: &Request,
+    saves: u64,
+    room: &mut [Rec],
+    bench: Bench,
+) -> Result<Option<Bench>, Fail>
+    requires room { (16384 ≤ length room.old) × (length room.old ≤ 4194304) }
+{
+    let mut bench = bench;
+    bench.fail_when(checkpoint_gate(NUMBER), saves);
+    let stopped = live(request, None, room, &mut bench).err() == Some(SortFault::Shelf);
+    let next = bench.stop(Choice::Present)?;
+    let gated = next.file(checkpoint_gate(NUMBER)).len() as u64;
+    Ok(if stopped && gated == saves {
+        Some(next)
+    } else {
+        None
+    })
+}
+
+// Whether a step is refused at the place of its last checkpoint, of which a word is changed.
+fn is_refused(
+    alloc: Global,
+    request: &Request,
+    saved: &Bench,
+    place: usize,
+    word: usize,
+    change: Change,
+    room: &mut [Rec],
+) -> Result<bool, Fail>
+    requires room { (16384 ≤ length room.old) × (length room.old ≤ 4194304) }
+{
+    let mut bench = copied(alloc, NUMBER, saved)?;
+    let points = saved.file(checkpoint_file(NUMBER));
+    let other = changed_word(points, place, word, change);
+    let at = place.saturating_add(8 * (word % 2048));
+    let changed = with_word(alloc, points, at, other)?;
+    put_bytes(&mut bench, checkpoint_file(NUMBER), changed.as_slice())?;
+    let refused = SortFault::Damaged {
+        file: checkpoint_file(NUMBER),
+        at: place as u64,
+    };
+    Ok(live(request, None, room, &mut bench).err() == Some(refused))
+}
+
+// The first word of a case whose change isn't refused, or which isn't as it should be.
+fn wrong_word(
+    alloc: Global,
+    request: &Request,
+    saved: &Bench,
+    place: usize,
+    files: &[(usize, u64)],
+    room: &mut [Rec],
+) -> Result<Option<usize>, Fail>
+    requires room { (16384 ≤ length room.old) × (length room.old ≤ 4194304) }
+{
+    for (word, change) in CHANGES {
+        if !is_refused(alloc, request, saved, place, word, change, room)? {
+            return Ok(Some(word));
+        }
+    }
+    let points = saved.file(checkpoint_file(NUMBER));
+    for (word, named) in files {
+        let at = place.saturating_add(8 * (*word % 2048));
+        let is_named = word_at(points, at) == *named;
+        if !is_named || !is_refused(alloc, request, saved, place, *word, Change::Next, room)? {
+            return Ok(Some(*word));
+        }
+    }
+    Ok(None)
+}
+
+// Whether a step whose gate of checkpoints is cut begins anew.
+fn begins_anew(
+    alloc: Global,
+    request: &Request,
+    folder: &Bench,
+    saved: &Bench,
+    room: &mut [Rec],
+) -> Result<bool, Fail>
+    requires room { (16384 ≤ length room.old) × (length room.old ≤ 4194304) }
+{
+    let whole = whole_in(request, room, copied(alloc, NUMBER, folder)?)?;
+    let mut bench = copied(alloc, NUMBER, saved)?;
+    put_bytes(&mut bench, checkpoint_gate(NUMBER), b"")?;
+    let lived = ends_like(request, &whole, room, &mut bench);
+    Ok(lived.is_some_and(|lived| lived.calls >= whole.lived.calls))
+}
+
+// Of the step's checkpoint of that number, counted from 1, the first word is told whose change isn't refused, or none,
+// and whether the step begins anew without its gate.
+fn wrong_change(
+    alloc: Global,
+    tried: Tried,
+    saves: u64,
+    files: &[(usize, u64)],
+) -> Result<(Option<usize>, bool), Fail> {
+    let request = tried.request();
+    let folder = folder_of(alloc, tried)?;
+    let mut records = vec![in alloc; EMPTY; LEAST_ROOM]?;
+    let room = records.as_mut_slice();
+    let bench = copied(alloc, NUMBER, &folder)?;
+    let Some(saved) = saved_in(&request, saves, room, bench)? else {
+        return Err(Fail::from("so many checkpoints aren't gated"));
+    };
+    let place = POINT_SIZE.wrapping_mul(saves.saturating_sub(1) as usize);
+    let wrong = wrong_word(alloc, &request, &saved, place, files, room)?;
+    let anew = begins_anew(alloc, &request, &folder, &saved, room)?;
+    Ok((wrong, anew))
+}
+
+// Each such checkpoint is refused, and without them the step begins anew.
+fn is_guarded(
+    rt: &impl Abort,
+    alloc: Global,
+    tried: Tried,
+    saves: u64,
+    files: &[(usize, u64)],
+) -> Result<(), Fail> {
+    let (wrong, anew) = wrong_change(alloc, tried, saves, files)?;
+    assert!(rt; wrong.is_none() && anew, "word {wrong:?}, {anew}");
+    Ok(())
+}
+
+#[test]
+fn a_checkpoint_of_other_arcs_is_refused(rt: HostRuntime) -> Result<(), Fail> {
+    is_guarded(&rt, rt.alloc(), Tried::Both, 2, OF_TWO)
+}
+
+#[test]
+fn a_checkpoint_of_another_reduction_is_refused(rt: HostRuntime) -> Result<(), Fail> {
+    is_guarded(&rt, rt.alloc(), Tried::Both, 8, OF_NODES)
+}
+
+#[test]
+fn a_checkpoint_of_another_quantifier_is_refused(rt: HostRuntime) -> Result<(), Fail> {
+    is_guarded(&rt, rt.alloc(), Tried::Some, 1, OF_ONE)
+}
+
+#[test]
+fn a_checkpoint_of_another_implication_is_refused(rt: HostRuntime) -> Result<(), Fail> {
+    is_guarded(&rt, rt.alloc(), Tried::Implies, 1, OF_TWO)
+}
+
+#[test]
+fn a_checkpoint_of_another_comparison_is_refused(rt: HostRuntime) -> Result<(), Fail> {
+    is_guarded(&rt, rt.alloc(), Tried::Same, 1, COMPARED)
+}
+
+#[test]
+fn a_checkpoint_of_another_evaluation_is_refused(rt: HostRuntime) -> Result<(), Fail> {
+    is_guarded(&rt, rt.alloc(), Tried::Value, 1, EVALUATED)
+}

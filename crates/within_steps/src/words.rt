@@ -1,0 +1,163 @@
+//! The step of the example script that takes longest, and whole runs of it.
+ghost use Rattle.std.specs.Prelude.{◌≤◌, length};
+
+use crate::lives::{EMPTY, LEAST_ROOM, ends_like, is_stopped, whole_in};
+use crate::steps::{AND, Request};
+use bool_tables::{Planned, Step};
+use case_runs::{SMALL, bench_with, run, same_job};
+use example_script::gen_script;
+use file_numbers::{STEP_GATE, checkpoint_gate, node_file};
+use script_reader::read_script;
+use shelf_memory::{Bench, Choice};
+use shelf_model::FileNo;
+use std::alloc::Global;
+use std::process::Abort;
+use std::test::Fail;
+
+/// The step that tells whether two words of fifteen bits are equal.
+const EQUAL: u32 = 60;
+
+/// How many nodes its diagram has.
+const NODES: u64 = 98_301;
+
+// Step 60 of the script of size 15, a conjunction of steps 56 and 59.
+fn equality() -> Request {
+    Request {
+        n: 30,
+        text: b"p15",
+        number: EQUAL,
+        planned: Planned {
+            step: Step::Pair {
+                op: AND,
+                left: 56,
+                right: 59,
+            },
+            name_at: 0,
+            name_len: 3,
+        },
+    }
+}
+
+// Whether the script has that step.
+fn has_step(alloc: Global, script: &[u8], request: &Request) -> Result<bool, Fail> {
+    let plan = read_script(alloc, script, None)?;
+    let planned = plan.steps.items().get(request.number as usize);
+    Ok(plan.n == request.n && planned.is_some_and(|p| p.step == request.planned.step))
+}
+
+// A folder in which a run of the script has committed all steps before that one, as it is read.
+fn committed_to(alloc: Global, script: &[u8], step: u32) -> Result<Bench, Fail> {
+    let mut bench = bench_with(alloc, script, None)?;
+    bench.fail_when(STEP_GATE, u64::from(step));
+    if run(alloc, &SMALL, &mut bench) != 7 {
+        return Err(Fail::from("the run isn't stopped"));
+    }
+    Ok(bench.stop(Choice::Present)?)
+}
+
+// Where the last call of the step fails, it goes on with less than half of its calls.
+fn half_is_saved(alloc: Global) -> Result<bool, Fail> {
+    let script = gen_script(alloc, 15)?;
+    let script = script.as_slice();
+    let request = equality();
+    let mut records = vec![in alloc; EMPTY; LEAST_ROOM]?;
+    let room = records.as_mut_slice();
+    let whole = whole_in(&request, room, committed_to(alloc, script, EQUAL)?)?;
+    let calls = whole.lived.calls;
+    let mut bench = committed_to(alloc, script, EQUAL)?;
+    let stopped = is_stopped(&request, calls.saturating_sub(1), room, &mut bench);
+    let mut next = bench.stop(Choice::Present)?;
+    let Some(lived) = ends_like(&request, &whole, room, &mut next) else {
+        return Ok(false);
+    };
+    Ok(
+        has_step(alloc, script, &request)?
+            && stopped
+            && lived.entry.count == NODES
+            && lived.calls < calls / 2,
+    )
+}
+
+#[test]
+fn a_step_that_is_stopped_at_its_last_call_makes_less_than_half_of_its_calls_again(
+    rt: HostRuntime,
+) -> Result<(), Fail> {
+    let saved = half_is_saved(rt.alloc())?;
+    assert!(rt; saved);
+    Ok(())
+}
+
+/// How many steps the script of size 14 has.
+const STEPS: u32 = 74;
+
+/// How many parts of a step are compared: those that are left besides its runs.
+const PARTS: u64 = 5;
+
+/// The last conjunctions of both ways, and the comparison of the two.
+const FIRST_WAY: u32 = 56;
+
+const SECOND_WAY: u32 = 71;
+
+const COMPARISON: u32 = 72;
+
+// The first file that two folders don't have in common, but for runs.
+fn other_file(a: &Bench, b: &Bench) -> Option<FileNo> {
+    for step in 0..STEPS {
+        for part in 0..PARTS {
+            let f = FileNo { step, part };
+            if a.file(f) != b.file(f) {
+                return Some(f);
+            }
+        }
+    }
+    None
+}
+
+// Whether a run of the script that is stopped once a file has so many bytes goes on, in the next run, to the same
+// entries and the same files as a run that nothing stops.
+fn run_goes_on(
+    alloc: Global,
+    script: &[u8],
+    whole: &Bench,
+    moment: (FileNo, u64, Choice),
+) -> Result<bool, Fail> {
+    let (file, size, choice) = moment;
+    let mut bench = bench_with(alloc, script, None)?;
+    bench.fail_when(file, size);
+    let stopped = run(alloc, &SMALL, &mut bench) == 7;
+    let mut next = bench.stop(choice)?;
+    let ended = run(alloc, &SMALL, &mut next) == 0;
+    Ok(stopped && ended && same_job(&next, whole) && other_file(&next, whole).is_none())
+}
+
+// So it is at each of these moments.
+fn runs_go_on(
+    rt: &impl Abort,
+    alloc: Global,
+    moments: &[(FileNo, u64, Choice)],
+) -> Result<(), Fail> {
+    let script = gen_script(alloc, 14)?;
+    let script = script.as_slice();
+    let mut whole = bench_with(alloc, script, None)?;
+    let status = run(alloc, &SMALL, &mut whole);
+    assert!(rt; status == 0);
+    for moment in moments {
+        let goes_on = run_goes_on(alloc, script, &whole, *moment)?;
+        assert!(rt; goes_on, "{moment:?}");
+    }
+    Ok(())
+}
+
+#[test]
+fn a_run_goes_on_within_a_conjunction(rt: HostRuntime) -> Result<(), Fail> {
+    let arcs = (checkpoint_gate(FIRST_WAY), 2, Choice::Firm);
+    let nodes = (node_file(SECOND_WAY), 600_000, Choice::Mixed(1));
+    runs_go_on(&rt, rt.alloc(), &[arcs, nodes])
+}
+
+#[test]
+fn a_run_goes_on_within_a_comparison(rt: HostRuntime) -> Result<(), Fail> {
+    let first = (checkpoint_gate(COMPARISON), 1, Choice::Present);
+    let third = (checkpoint_gate(COMPARISON), 3, Choice::Fill(255));
+    runs_go_on(&rt, rt.alloc(), &[first, third])
+}
