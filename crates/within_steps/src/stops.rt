@@ -1,5 +1,5 @@
 //! Steps that are stopped at many of their calls.
-ghost use Rattle.std.specs.Prelude.{◌≤◌, length};
+ghost use Rattle.std.specs.Prelude.{◌<◌, ◌≤◌, length};
 
 use crate::folders::{copied, folder_of};
 use crate::lives::{EMPTY, LEAST_ROOM, Whole, ends_like, is_stopped, whole_in};
@@ -58,7 +58,9 @@ pub(crate) fn first_loss(
     first: u64,
     apart: usize,
     stops: (Choice, Choice),
-) -> Result<Option<u64>, Fail> {
+) -> Result<Option<u64>, Fail>
+    requires apart { 0 < apart }
+{
     let request = tried.request();
     let folder = folder_of(alloc, tried)?;
     let mut records = vec![in alloc; EMPTY; LEAST_ROOM]?;
