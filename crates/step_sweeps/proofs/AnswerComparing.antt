@@ -10,7 +10,7 @@ use Rattle.shelf_model.specs.Faults.{Faults}
 use Rattle.shelf_model.specs.Moments.{Ran, Stays}
 use Rattle.shelf_model.specs.World.{World, now, file}
 use Rattle.shelf_model.proofs.Numbers.{cases_file}
-use Rattle.shelf_model.proofs.Runs.{told, ran_weakens}
+use Rattle.shelf_model.proofs.Runs.{told}
 use Rattle.block_stream.specs.Reads.{Looked}
 use Rattle.node_file.specs.Canonical.{IsCanonicalFile}
 use Rattle.node_file.specs.Readers.{file_of, trailer_of}
@@ -36,10 +36,11 @@ use Rattle.step_sweeps.specs.Begun.{Begun}
 use Rattle.step_sweeps.specs.Damage.{IsReadFault, MissesNone}
 use Rattle.step_sweeps.specs.Going.{MayGoOn, next_of, rest_calls}
 use Rattle.step_sweeps.specs.Points.{IsOfComparison}
-use Rattle.step_sweeps.proofs.AnswerQuiet.{Unchanged, stays_unchanged, refuses, quiet_images, quiet_content, OnlyReads, begun_reading}
+use Rattle.step_sweeps.proofs.AnswerQuiet.{refuses_foreign, Unchanged, stays_unchanged, refuses, quiet_images, quiet_content, OnlyReads, begun_reading, rebuilt_unchanged}
 use Rattle.step_sweeps.proofs.AnswerRuns.{IsAnsweredBy}
 use Rattle.step_sweeps.proofs.AnswersFaults.{same_fault}
 use Rattle.step_sweeps.proofs.AnswersRuns.{two_within}
+use Rattle.step_sweeps.proofs.Running.{not_spent}
 
 -- a fault of either file's trailer is one of the comparison
 trailer_fault : (n : ℕ) (left right : FileNo) (world : World) (e : SortFault)
@@ -50,24 +51,13 @@ trailer_fault n left right world (Damaged f at) (inr fault) = inr (fault.0, inl 
 trailer_fault n left right world RunsSpent (inl fault) = fault
 trailer_fault n left right world RunsSpent (inr fault) = fault
 
-no_spent : (f g : FileNo) (e : SortFault) → IsFaultOfEither f g e → e ≢ RunsSpent
-no_spent f g e fault same = subst (IsFaultOfEither f g) same fault
-
-no_blame : (c : Checkpoint) (world : World) (e : SortFault) → Blames c world e → e ≢ RunsSpent
-no_blame c world e blames same =
-    let spent : Blames c world RunsSpent = subst (Blames c world) same blames in
-    elim spent.cause [ inl fault ↦ fault | inr (inl fault) ↦ fault | inr (inr fault) ↦ fault ]
-
 -- a checkpoint of the comparison of two files of an earlier step rests on all of each, and on no other file
-rests_whole : (c : Checkpoint) (f : FileNo) (n : ℕ) → RestsOn c f 0 → RestsOn c f n
-rests_whole c f n on = record { saved = on.saved; holds = on.holds; read = on.read }
-
 compared_files : (c : Checkpoint) (n : ℕ) (left right f : FileNo) → Compares c n left right
-    → RestsOn c f 0 ⊎ (¬ (RestsOn c f 0))
+    → ((m : ℕ) → RestsOn c f m) ⊎ (¬ (RestsOn c f 0))
 compared_files c n left right f names = elim (cases_file f names.saved.left.file) [
-  | inl first ↦ inl (record { saved = names.saved; holds = names.holds; read = inl first })
+  | inl first ↦ inl (λ m. record { saved = names.saved; holds = names.holds; read = inl first })
   | inr other ↦ elim (cases_file f names.saved.right.file) [
-    | inl second ↦ inl (record { saved = names.saved; holds = names.holds; read = inr second })
+    | inl second ↦ inl (λ m. record { saved = names.saved; holds = names.holds; read = inr second })
     | inr neither ↦ inr (λ on.
         let one = one_comparison c on.saved names.saved on.holds names.holds in
         elim on.read [
@@ -76,15 +66,6 @@ compared_files c n left right f names = elim (cases_file f names.saved.left.file
         ])
   ]
 ]
-
--- so a rebuild of it changes no file
-rebuilt_unchanged : (c : Checkpoint) (n : ℕ) (left right : FileNo) (old new : World) → Compares c n left right
-    → Ran (OnlyCutBehind c (RestsOn c) (now old)) old new → Unchanged old new
-rebuilt_unchanged c n left right old new names ran = ran_weakens old new (OnlyCutBehind c (RestsOn c) (now old)) _
-    (λ m cut f outside. elim (compared_files c n left right f names) [
-      | inl on ↦ cut.whole f (λ many. rests_whole c f many on)
-      | inr none ↦ cut.others f none
-    ]) ran
 
 -- what a start says
 pub record Starts {S : Type 0} (tells : S → Bool) (world : S → World) (counts : S → Faults) (n : ℕ)
@@ -226,7 +207,7 @@ module _ {S : Type 0} (tells : S → Bool) (world : S → World) (counts : S →
       refuses tells world counts (comparing n left right) going local before after (Err e) (record {
         undamaged = λ told_new g asked. starts.undamaged told_new g.left g.right asked.given.left_is.canonical
             asked.given.right_is.canonical;
-        kind = λ told_new. no_spent left right e starts.refused;
+        kind = λ told_new. not_spent (IsFaultOfEither left right) e (λ spent. spent) starts.refused;
         damaged = λ told_new none gate. trailer_fault n left right (world before) e (starts.damage told_new);
         images = quiet_images tells world counts (comparing n left right) going local before after quiet;
         content = quiet_content tells world counts (comparing n left right) going local before after quiet;
@@ -275,24 +256,16 @@ module _ {S : Type 0} (tells : S → Bool) (world : S → World) (counts : S →
         → (IsTrue (tells after) → (world after).clock ≤ (world before).clock + 1)
         → OnlySortShelf {T = Unit} (counts before) (counts after) (Err e) → IsRefused e
     foreign_refused e foreign kind content calls faults =
-        let quiet = told tells before after _ _ content
-        (λ _ stays. stays_unchanged (world before) (world after) stays) in
-        refuses tells world counts (comparing n left right) going local before after (Err e) (record {
-          undamaged = λ told_new g asked. absurd (foreign (is_ours g asked));
-          kind = λ told_new. kind;
-          damaged = λ told_new none gate. absurd (not_none none);
-          images = quiet_images tells world counts (comparing n left right) going local before after quiet;
-          content = quiet_content tells world counts (comparing n left right) going local before after quiet;
-          calls = λ told_new. let few = calls told_new in omega (arith, few);
-          faults = faults;
-        })
+        refuses_foreign tells world counts (comparing n left right) going local before after c last (omega arith) e
+        (λ g asked. foreign (is_ours g asked)) kind content calls faults
 
     -- and then it is rebuilt
     module _ (ours : IsOfComparison c n left right) (result : Result SameSweep SortFault)
         (rebuilds : Rebuilds tells world counts c before after result) where
       rebuild_quiet : Told tells before after (Unchanged (world before) (world after))
       rebuild_quiet = told tells before after _ _ rebuilds.content
-          (λ _ ran. rebuilt_unchanged c n left right (world before) (world after) ours.compares ran)
+          (λ _ ran. rebuilt_unchanged c (RestsOn c) (world before) (world after)
+          (λ f. compared_files c n left right f ours.compares) ran)
 
       rebuild_calls : IsTrue (tells after) → (world after).clock ≤ (world before).clock
           + (4 + rest_calls going.last (count_of (reads_of (world before) left) + count_of (reads_of (world before) right)))
@@ -363,7 +336,9 @@ module _ {S : Type 0} (tells : S → Bool) (world : S → World) (counts : S →
           undamaged = λ told_new g asked.
               let from = (from_point g asked).goes in
               rebuilds.undamaged told_new (two_tables n g.left g.right) from.left from.stands;
-          kind = λ told_new. no_blame c (world before) e (rebuilds.damage told_new);
+          kind = λ told_new. not_spent (Blames c (world before)) e
+              (λ spent. elim spent.cause [ inl fault ↦ fault | inr (inl fault) ↦ fault | inr (inr fault) ↦ fault ])
+              (rebuilds.damage told_new);
           damaged = λ told_new none gate. absurd (not_none none);
           images = quiet_images tells world counts (comparing n left right) going local before after quiet;
           content = quiet_content tells world counts (comparing n left right) going local before after quiet;

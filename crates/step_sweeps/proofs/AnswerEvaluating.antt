@@ -10,7 +10,7 @@ use Rattle.shelf_model.specs.Faults.{Faults}
 use Rattle.shelf_model.specs.Moments.{Ran, Stays}
 use Rattle.shelf_model.specs.World.{World, now, file}
 use Rattle.shelf_model.proofs.Numbers.{cases_file}
-use Rattle.shelf_model.proofs.Runs.{told, ran_weakens}
+use Rattle.shelf_model.proofs.Runs.{told}
 use Rattle.block_stream.specs.Reads.{Looked}
 use Rattle.node_file.specs.Canonical.{IsCanonicalFile}
 use Rattle.node_file.specs.Readers.{file_of, trailer_of}
@@ -36,10 +36,11 @@ use Rattle.step_sweeps.specs.Begun.{Begun}
 use Rattle.step_sweeps.specs.Damage.{IsReadFault, MissesNamed}
 use Rattle.step_sweeps.specs.Going.{MayGoOn, next_of, rest_calls}
 use Rattle.step_sweeps.specs.Points.{IsOfEvaluation}
-use Rattle.step_sweeps.proofs.AnswerQuiet.{Unchanged, stays_unchanged, refuses, quiet_images, quiet_content, OnlyReads, begun_reading}
+use Rattle.step_sweeps.proofs.AnswerQuiet.{refuses_foreign, Unchanged, stays_unchanged, refuses, quiet_images, quiet_content, OnlyReads, begun_reading, rebuilt_unchanged}
 use Rattle.step_sweeps.proofs.AnswerRuns.{IsAnsweredBy}
 use Rattle.step_sweeps.proofs.AnswersFaults.{eval_fault}
 use Rattle.step_sweeps.proofs.AnswersRuns.{one_within}
+use Rattle.step_sweeps.proofs.Running.{not_spent}
 
 -- a fault of the file's trailer is one of the evaluation
 trailer_fault : (n : ℕ) (f : FileNo) (world : World) (e : SortFault) → IsTrailerFault f n world e
@@ -48,35 +49,15 @@ trailer_fault n f world Shelf fault = tt
 trailer_fault n f world (Damaged g at) fault = inl (fault.0, inl fault)
 trailer_fault n f world RunsSpent fault = fault
 
-no_spent : (f : FileNo) (e : SortFault) → IsFaultOf f e → e ≢ RunsSpent
-no_spent f e fault same = subst (IsFaultOf f) same fault
-
-no_blame : (c : Checkpoint) (world : World) (e : SortFault) → Blames c world e → e ≢ RunsSpent
-no_blame c world e blames same =
-    let spent : Blames c world RunsSpent = subst (Blames c world) same blames in
-    elim spent.cause [ inl fault ↦ fault | inr fault ↦ fault ]
-
 -- a checkpoint of the evaluation of a file rests on all of it, and on no other file
-rests_whole : (c : Checkpoint) (f : FileNo) (n : ℕ) → RestsOn c f 0 → RestsOn c f n
-rests_whole c f n on = record { saved = on.saved; holds = on.holds; read = on.read }
-
 evaluated_file : (c : Checkpoint) (n : ℕ) (read f : FileNo) (at : ℕ) → Evaluates c n read at
-    → RestsOn c f 0 ⊎ (¬ (RestsOn c f 0))
+    → ((m : ℕ) → RestsOn c f m) ⊎ (¬ (RestsOn c f 0))
 evaluated_file c n read f at names = elim (cases_file f names.saved.unread.file) [
-  | inl same ↦ inl (record { saved = names.saved; holds = names.holds; read = same })
+  | inl same ↦ inl (λ m. record { saved = names.saved; holds = names.holds; read = same })
   | inr other ↦ inr (λ on.
       let one = one_evaluation c on.saved names.saved on.holds names.holds in
       other (on.read ∙ (λ i. (one i).unread.file)))
 ]
-
--- so a rebuild of it changes no file
-rebuilt_unchanged : (c : Checkpoint) (n : ℕ) (read : FileNo) (at : ℕ) (old new : World) → Evaluates c n read at
-    → Ran (OnlyCutBehind c (RestsOn c) (now old)) old new → Unchanged old new
-rebuilt_unchanged c n read at old new names ran = ran_weakens old new (OnlyCutBehind c (RestsOn c) (now old)) _
-    (λ m cut f outside. elim (evaluated_file c n read f at names) [
-      | inl on ↦ cut.whole f (λ many. rests_whole c f many on)
-      | inr none ↦ cut.others f none
-    ]) ran
 
 -- what a start says
 pub record Starts {S : Type 0} (tells : S → Bool) (world : S → World) (counts : S → Faults) (n : ℕ) (read : FileNo)
@@ -209,7 +190,7 @@ module _ {S : Type 0} (tells : S → Bool) (world : S → World) (counts : S →
       let quiet = start_quiet none (Err e) starts in
       refuses tells world counts (evaluating n read text place) going local before after (Err e) (record {
         undamaged = λ told_new t asked. starts.undamaged told_new t asked.given.canonical;
-        kind = λ told_new. no_spent read e starts.refused;
+        kind = λ told_new. not_spent (IsFaultOf read) e (λ spent. spent) starts.refused;
         damaged = λ told_new none gate. trailer_fault n read (world before) e (starts.damage told_new);
         images = quiet_images tells world counts (evaluating n read text place) going local before after quiet;
         content = quiet_content tells world counts (evaluating n read text place) going local before after quiet;
@@ -257,24 +238,16 @@ module _ {S : Type 0} (tells : S → Bool) (world : S → World) (counts : S →
         → (IsTrue (tells after) → (world after).clock ≤ (world before).clock + 1)
         → OnlySortShelf {T = Unit} (counts before) (counts after) (Err e) → IsRefused e
     foreign_refused e foreign kind content calls faults =
-        let quiet = told tells before after _ _ content
-        (λ _ stays. stays_unchanged (world before) (world after) stays) in
-        refuses tells world counts (evaluating n read text place) going local before after (Err e) (record {
-          undamaged = λ told_new t asked. absurd (foreign (is_ours t asked));
-          kind = λ told_new. kind;
-          damaged = λ told_new none gate. absurd (not_none none);
-          images = quiet_images tells world counts (evaluating n read text place) going local before after quiet;
-          content = quiet_content tells world counts (evaluating n read text place) going local before after quiet;
-          calls = λ told_new. let few = calls told_new in omega (arith, few);
-          faults = faults;
-        })
+        refuses_foreign tells world counts (evaluating n read text place) going local before after c last (omega arith)
+        e (λ t asked. foreign (is_ours t asked)) kind content calls faults
 
     -- and then it is rebuilt
     module _ (ours : IsOfEvaluation c n read text place) (result : Result EvalSweep SortFault)
         (rebuilds : Rebuilds tells world counts c text before after result) where
       rebuild_quiet : Told tells before after (Unchanged (world before) (world after))
       rebuild_quiet = told tells before after _ _ rebuilds.content
-          (λ _ ran. rebuilt_unchanged c n read place (world before) (world after) ours.evaluates ran)
+          (λ _ ran. rebuilt_unchanged c (RestsOn c) (world before) (world after)
+          (λ f. evaluated_file c n read f place ours.evaluates) ran)
 
       rebuild_calls : IsTrue (tells after) → (world after).clock ≤ (world before).clock
           + (2 + rest_calls going.last (count_of (reads_of (world before) read)))
@@ -347,7 +320,8 @@ module _ {S : Type 0} (tells : S → Bool) (world : S → World) (counts : S →
           undamaged = λ told_new t asked.
               let from = (from_point t asked).goes in
               rebuilds.undamaged told_new (one_table n t) from.left from.stands;
-          kind = λ told_new. no_blame c (world before) e (rebuilds.damage told_new);
+          kind = λ told_new. not_spent (Blames c (world before)) e
+              (λ spent. elim spent.cause [ inl fault ↦ fault | inr fault ↦ fault ]) (rebuilds.damage told_new);
           damaged = λ told_new none gate. absurd (not_none none);
           images = quiet_images tells world counts (evaluating n read text place) going local before after quiet;
           content = quiet_content tells world counts (evaluating n read text place) going local before after quiet;

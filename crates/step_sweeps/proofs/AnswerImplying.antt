@@ -1,6 +1,6 @@
 -- An implication that is begun, anew or from the step's last checkpoint, and the question that its sweeps answer.
 use Rattle.std.proofs.Common.{◌≡◌, ◌≢◌, ◌⊎◌, ◌∙◌, ℕ, ◌+◌, ◌*◌, ◌/◌, ◌^◌, ◌<◌, ◌≤◌, Bool, List, [], ◌∷◌, ap, sym, subst, refl, inl, inr, arith}
-use Rattle.std.specs.Prelude.{IsTrue, Option, Some, None, Result, Ok, Err, IfOk, IfErr}
+use Rattle.std.specs.Prelude.{IsTrue, Some, None, Result, Ok, Err, IfOk, IfErr}
 use Rattle.bool_tables.specs.declared.steps.Step.TheVariants.{Leq}
 use Rattle.shelf_model.specs.declared.file_no.FileNo.{FileNo}
 use Rattle.shelf_model.specs.declared.sort_fault.SortFault.{SortFault}
@@ -29,7 +29,7 @@ use Rattle.sweep_core.specs.Tables.{records_named}
 use Rattle.step_work.specs.Works.{work_for}
 use Rattle.top_down_sweep.specs.Beginning as top
 use Rattle.top_down_sweep.specs.Beginning.{files_from, after_two}
-use Rattle.top_down_sweep.specs.Resumes.{RestsOn, Names, Blames, IsOperandFault, OfFirst, OfSecond, OfThird, OfArcs, reading_calls, saved_files}
+use Rattle.top_down_sweep.specs.Resumes.{RestsOn, Names, Blames, reading_calls, saved_files}
 use Rattle.top_down_sweep.specs.ResumeLaws.{one_machine, apart}
 use Rattle.top_down_sweep.specs.declared.start.Files.{Files}
 use Rattle.top_down_sweep.specs.Sweeps.{SweepTask, IsRead, IsMade, variables_of}
@@ -53,40 +53,20 @@ use Rattle.step_sweeps.specs.Begun.{Begun}
 use Rattle.step_sweeps.specs.Damage.{IsImplicationFault}
 use Rattle.step_sweeps.specs.Going.{MayGoOn, next_of, rest_calls}
 use Rattle.step_sweeps.specs.Points.{IsOfImplication}
-use Rattle.step_sweeps.proofs.AnswerFronts.{made_front, front_sure, made_sure, front_kept, cut_behind_points}
-use Rattle.step_sweeps.proofs.AnswerQuiet.{stays_unchanged, refuses, quiet_images, quiet_content, taken_from}
+use Rattle.step_sweeps.proofs.AnswerFronts.{cut_behind_points}
+use Rattle.step_sweeps.proofs.AnswerQuiet.{refuses_foreign, refuses, taken_from}
 use Rattle.step_sweeps.proofs.AnswerRuns.{IsAnsweredBy}
-use Rattle.step_sweeps.proofs.Faults.{start_fault, turn_fault}
+use Rattle.step_sweeps.proofs.ArcsPoints.{front_there}
+use Rattle.step_sweeps.proofs.Faults.{start_fault, turn_fault, never_blamed}
 use Rattle.step_sweeps.proofs.ImpliedWork.{implication_fault, turn_fault_at, within_work}
-use Rattle.step_sweeps.proofs.Running.{not_of_step, file_stays}
+use Rattle.step_sweeps.proofs.Rebuilt.{made_sure, sure_still}
+use Rattle.step_sweeps.proofs.Running.{not_of_step, file_stays, one_point, not_spent}
 
 -- a file of an earlier step isn't behind the step's checkpoints
 earlier_apart : (number : ℕ) (f : FileNo) → f.step < number → ¬ (IsBehindPoints number f)
 earlier_apart number f before behind =
     let same : f.step ≡ number = behind.step_is in
     absurd (omega (arith, same, before))
-
--- no part number is taken while a sweep is rebuilt
-no_operand_spent : (n step : ℕ) (f : FileNo) (read : Option ℕ) (world : World)
-    → ¬ (IsOperandFault n step f read world RunsSpent)
-no_operand_spent n step f None world fault = fault
-no_operand_spent n step f (Some place) world (inl fault) = fault
-no_operand_spent n step f (Some place) world (inr fault) = fault
-
-no_blame : (c : Checkpoint) (world : World) (e : SortFault) → Blames product_words c world e → e ≢ RunsSpent
-no_blame c world e blames same =
-    let spent : Blames product_words c world RunsSpent = subst (Blames product_words c world) same blames in
-    let m = spent.saved in
-    elim spent.cause [
-      | OfFirst fault ↦ no_operand_spent m.variables c.step m.first.file m.first.read world fault
-      | OfSecond fault ↦ no_operand_spent m.variables c.step m.second.file m.second.read world fault
-      | OfThird fault ↦ no_operand_spent m.variables c.step m.third.file m.third.read world fault
-      | OfArcs fault ↦ fault
-    ]
-
--- a checkpoint is one
-one_point : (x y : Checkpoint) → Some x ≡ Some y → x ≡ y
-one_point x y same = cc
 
 -- the files that such a sweep makes
 module _ (n : ℕ) (left right : FileNo) (number : ℕ) (earlier : (left.step < number) × (right.step < number))
@@ -360,17 +340,8 @@ module _ {S : Type 0} (tells : S → Bool) (world : S → World) (counts : S →
         → (IsTrue (tells after) → (world after).clock ≤ (world before).clock + 1)
         → OnlySortShelf {T = Unit} (counts before) (counts after) (Err e) → IsRefused e
     foreign_refused e foreign kind content calls faults =
-        let quiet = told tells before after _ _ content
-        (λ _ stays. stays_unchanged (world before) (world after) stays) in
-        refuses tells world counts (implying n left right) going local before after (Err e) (record {
-          undamaged = λ told_new g asked. absurd (foreign (is_ours g asked));
-          kind = λ told_new. kind;
-          damaged = λ told_new none gate. absurd (not_none none);
-          images = quiet_images tells world counts (implying n left right) going local before after quiet;
-          content = quiet_content tells world counts (implying n left right) going local before after quiet;
-          calls = λ told_new. let few = calls told_new in omega (arith, few);
-          faults = faults;
-        })
+        refuses_foreign tells world counts (implying n left right) going local before after c last (omega arith) e
+        (λ g asked. foreign (is_ours g asked)) kind content calls faults
 
     -- and then it is rebuilt
     module _ (files : IsTrue (tells before) → AreFiles (now (world before)).folder) (ours : IsOfImplication c n left right)
@@ -411,8 +382,8 @@ module _ {S : Type 0} (tells : S → Bool) (world : S → World) (counts : S →
             (stands_at g asked).goes_on (stands_at g asked).last
 
         all_sure : MadeSure implication_rests (implication_rests c) (now (world before)).folder c
-        all_sure = made_sure (Goes g) implication_rests going.step going.budget c.next_part (now (world before)).folder c
-            (stands_at g asked) all_there
+        all_sure = made_sure (Goes g) implication_rests going.step going.budget c.next_part (implication_rests c) c
+            (now (world before)).folder (stands_at g asked) (λ f m on made. all_there f m on)
 
         rebuild_images : Throughout (world before) (world after) (λ (m : Moment). AreSafe (Goes g) going.step m.folder)
         rebuild_images = safe_rebuilt (Goes g) implication_rests going.step going.budget (local g) (implication_rests c)
@@ -423,23 +394,26 @@ module _ {S : Type 0} (tells : S → Bool) (world : S → World) (counts : S →
         cut = ran_end (world before) (world after) (OnlyCutBehind c (RestsOn product_words c) (now (world before)))
             (rebuilds.content.did told_new)
 
+        stands_still : StandsIn (Goes g) implication_rests going.step going.budget c.next_part
+            (now (world after)).folder c
+        stands_still = standing_rebuilt (Goes g) implication_rests going.step going.budget (local g)
+            (implication_rests c) c.next_part (now (world before)) (now (world after)) c
+            (files (rebuilds.content.before told_new)) cut (λ f m on. on) all_sure (stands_at g asked)
+
         rebuild_standing : (next : ℕ) → next ≡ c.next_part → IsStanding (Goes g) implication_rests going.step going.budget
             next (now (world after)).folder going.last
         rebuild_standing next next_is =
             subst (IsStanding (Goes g) implication_rests going.step going.budget next (now (world after)).folder) (sym last)
             (subst (λ k. StandsIn (Goes g) implication_rests going.step going.budget k (now (world after)).folder c)
-            (sym next_is)
-            (standing_rebuilt (Goes g) implication_rests going.step going.budget (local g) (implication_rests c)
-            c.next_part (now (world before)) (now (world after)) c (files (rebuilds.content.before told_new)) cut
-            (λ f m on. on) all_sure (stands_at g asked)))
+            (sym next_is) stands_still)
 
         arcs_sure : (f : FileNo) (m : ℕ) → IsMade (arcs_of n (two_files left right) going.step).files f
             → implication_rests c f m → m ≤ (file (world after) f).firm
-        arcs_sure f m made on = front_kept (implication_rests c) c (now (world before)) (now (world after)) f m
-            (files (rebuilds.content.before told_new)) cut on
-            (front_sure (Goes g) implication_rests going.step going.budget c.next_part (now (world before)).folder c
-            (stands_at g asked) all_there f m
-            (made_front product_words c (arcs_of n (two_files left right) going.step) ours.fits its_names f made) on)
+        arcs_sure f m made on = sure_still (Goes g) implication_rests going.step going.budget c.next_part
+            (implication_rests c) c (IsMade (arcs_of n (two_files left right) going.step).files) (now (world before))
+            (now (world after)) cut stands_still (λ h k at. at)
+            (λ h k at mine. front_there product_words c (arcs_of n (two_files left right) going.step) ours.fits
+            its_names (reads_of (world before)) all_there h mine k at) f m on made
 
     rebuild_task : IsOfImplication c n left right → (s : LeqSweep) → Names product_words c (task_of s)
         → task_of s ≡ arcs_of n (two_files left right) going.step
@@ -489,7 +463,7 @@ module _ {S : Type 0} (tells : S → Bool) (world : S → World) (counts : S →
                 operands = operands_firm s task_is (content.did told_new) g asked;
                 standing = rebuild_standing files ours (Ok s) rebuilds told_new g asked (accounts.next s) next_is;
                 sure = λ d its f m on made.
-                    let same : d ≡ c = one_point d c (sym its ∙ last) in
+                    let same : d ≡ c = one_point c d _ last its in
                     arcs_sure files ours (Ok s) rebuilds told_new g asked f m
                     (subst (λ (t : SweepTask). IsMade t.files f) task_is made)
                     (subst (λ k. implication_rests k f m) same on);
@@ -522,7 +496,8 @@ module _ {S : Type 0} (tells : S → Bool) (world : S → World) (counts : S →
           undamaged = λ told_new g asked.
               let from = (from_point g asked).goes in
               rebuilds.undamaged told_new (refutation_of n g) from.left from.stands;
-          kind = λ told_new. no_blame c (world before) e (rebuilds.damage told_new);
+          kind = λ told_new. not_spent (Blames product_words c (world before)) e
+              (never_blamed product_words c (world before)) (rebuilds.damage told_new);
           damaged = λ told_new none gate. absurd (not_none none);
           images = rebuild_images files ours (Err e) rebuilds;
           content = rebuild_content files ours (Err e) rebuilds;

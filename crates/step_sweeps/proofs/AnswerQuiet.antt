@@ -1,6 +1,6 @@
 -- The beginning of a question's sweep that changes no file: each image stays safe, and the step stands with its last
 -- checkpoint.
-use Rattle.std.proofs.Common.{◌≡◌, ◌≢◌, ◌∙◌, ℕ, ◌+◌, ◌≤◌, Bool, [], ap, sym, subst, refl, inl, arith}
+use Rattle.std.proofs.Common.{◌≡◌, ◌≢◌, ◌⊎◌, ◌∙◌, ℕ, ◌+◌, ◌≤◌, Bool, [], ap, sym, subst, refl, inl, inr, arith}
 use Rattle.std.specs.Prelude.{◌<◌, IsTrue, Result, Ok, Err, IfErr, IsErrOf, Option, Some, None}
 use Rattle.shelf_model.specs.declared.file_no.FileNo.{FileNo}
 use Rattle.shelf_model.specs.declared.sort_fault.SortFault.{SortFault}
@@ -11,7 +11,7 @@ use Rattle.shelf_model.specs.Folder.{Folder, file_in}
 use Rattle.shelf_model.specs.Moments.{Ran, Stays, Throughout, OnlyChanged}
 use Rattle.shelf_model.specs.World.{Moment, World, now, file}
 use Rattle.shelf_model.proofs.Changing.{told_changed_more}
-use Rattle.shelf_model.proofs.Runs.{ran_weakens, ran_end}
+use Rattle.shelf_model.proofs.Runs.{told, ran_weakens, ran_end}
 use Rattle.file_numbers.specs.Files.{inner_part, checkpoint_gate}
 use Rattle.run_tiers.specs.Faults.{OnlySortShelf}
 use Rattle.run_tiers.specs.Syncs.{IsFirm}
@@ -22,7 +22,7 @@ use Rattle.sweep_checkpoint.specs.Retires.{first_taken}
 use Rattle.sweep_checkpoint.specs.declared.going.Going.{Going}
 use Rattle.sweep_core.specs.declared.checkpoint.Checkpoint.{Checkpoint}
 use Rattle.sweep_core.specs.declared.sweep.Sweep as sweep
-use Rattle.sweep_core.specs.Carries.{IsBehindPoints}
+use Rattle.sweep_core.specs.Carries.{OnlyCutBehind, IsBehindPoints}
 use Rattle.sweep_core.specs.Saving.{reads_of}
 use Rattle.sweep_core.specs.Sweeps.{IsNoDamage}
 use Rattle.step_sweeps.specs.declared.answers.Answered.{Answered}
@@ -34,10 +34,17 @@ use Rattle.step_sweeps.specs.Going.{MayGoOn, next_of, rest_calls}
 abbrev pub Unchanged : World → World → Type 0
 Unchanged old new = Ran (OnlyChanged (λ f. ⊥) (now old)) old new
 
--- where the folder stays as it is
+-- none is changed where the folder stays as it is
 pub stays_unchanged : (old new : World) → Ran (Stays (now old)) old new → Unchanged old new
 stays_unchanged old new run = ran_weakens old new (Stays (now old)) (OnlyChanged (λ f. ⊥) (now old))
     (λ m stays f outside. ap (λ (d : Folder). file_in d f) stays) run
+
+-- nor by a rebuild from a checkpoint that rests on all of each file on which it rests
+pub rebuilt_unchanged : (c : Checkpoint) (held : FileNo → ℕ → Type 0) (old new : World)
+    → ((f : FileNo) → ((n : ℕ) → held f n) ⊎ (¬ (held f 0))) → Ran (OnlyCutBehind c held (now old)) old new
+    → Unchanged old new
+rebuilt_unchanged c held old new each ran = ran_weakens old new (OnlyCutBehind c held (now old)) _
+    (λ m cut f outside. elim (each f) [ inl all ↦ cut.whole f all | inr none ↦ cut.others f none ]) ran
 
 -- what is behind the checkpoints is behind the node file
 pub behind_nodes : (step : ℕ) (f : FileNo) → IsBehindPoints step f → IsBehindNodes step f
@@ -109,6 +116,26 @@ module _ {S Given : Type 0} (tells : S → Bool) (world : S → World) (counts :
         going.budget (local g) (λ f. ⊥) (next_of going.last) going.last (λ none. none)
         (rests_apart q.rests (λ f. ⊥) going.step going.last (λ none. none) (λ c f n is none. none)) tells world before after
         quiet (λ tells_old. asked.standing) tells_new
+
+  -- the step's last checkpoint is none of the question's sweep, so that doesn't begin, and nothing was changed
+  pub refuses_foreign : (c : Checkpoint) → going.last ≡ Some c → 1 ≤ q.some → (e : SortFault)
+      → ((g : Given) → ¬ (IsAsked q going (world before) g)) → e ≢ RunsSpent
+      → Told tells before after (Ran (Stays (now (world before))) (world before) (world after))
+      → (IsTrue (tells after) → (world after).clock ≤ (world before).clock + 1)
+      → OnlySortShelf {T = Unit} (counts before) (counts after) (Err e)
+      → Answers tells world counts q going before after (Err e)
+  refuses_foreign c last some e foreign kind content calls faults =
+      let quiet = told tells before after _ _ content
+      (λ _ stays. stays_unchanged (world before) (world after) stays) in
+      refuses (Err e) (record {
+        undamaged = λ told_new g asked. absurd (foreign g asked);
+        kind = λ told_new. kind;
+        damaged = λ told_new none gate. absurd (cc);
+        images = quiet_images quiet;
+        content = quiet_content quiet;
+        calls = λ told_new. let few = calls told_new in omega (arith, few, some);
+        faults = faults;
+      })
 
 -- the first part that was taken since a checkpoint is one of a run
 pub taken_from : (last : Option Checkpoint) → 5 ≤ first_taken last

@@ -1,27 +1,25 @@
 -- A question's sweep that was begun, and then run and saved, to its end or until it was refused.
 use Rattle.std.proofs.Common.{◌≡◌, ◌⊎◌, ◌∙◌, ℕ, ◌+◌, ◌-◌, ◌*◌, ◌^◌, ◌<◌, ◌≤◌, max, Bool, List, [], length, ap, sym, subst, refl}
 use Rattle.std.proofs.Common.{inl, inr, arith}
-use Rattle.std.specs.Prelude.{IsTrue, Option, Some, None, Result, Ok, Err, IsErrOf, IsErrAnd}
+use Rattle.std.specs.Prelude.{IsTrue, Result, Ok, Err, IsErrOf, IsErrAnd}
 use Rattle.shelf_model.specs.declared.file_no.FileNo.{FileNo}
 use Rattle.shelf_model.specs.declared.sort_fault.SortFault.{SortFault}
 use Rattle.shelf_model.specs.declared.sort_fault.SortFault.TheVariants.{RunsSpent}
 use Rattle.shelf_model.specs.Calls.{Told}
 use Rattle.shelf_model.specs.Faults.{Faults}
 use Rattle.shelf_model.specs.File.{File}
-use Rattle.shelf_model.specs.Folder.{Folder, Image, AreFiles, IsImage, bytes_in, file_in}
+use Rattle.shelf_model.specs.Folder.{Image, AreFiles, IsImage, bytes_in}
 use Rattle.shelf_model.specs.Moments.{Ran, Throughout, OnlyChanged}
 use Rattle.shelf_model.specs.World.{Moment, World, now, file}
 use Rattle.shelf_model.proofs.Changing.{told_changed_then, told_changed_more}
 use Rattle.shelf_model.proofs.Runs.{joins}
 use Rattle.file_numbers.specs.Files.{checkpoint_file, checkpoint_gate}
 use Rattle.run_tiers.specs.Faults.{OnlySortShelf}
-use Rattle.run_tiers.specs.Syncs.{IsFirm}
 use Rattle.run_tiers.proofs.FaultLaws.{sort_shelf_on, sort_shelf_then}
-use Rattle.step_going.specs.Standing.{IsLocal, AreSafe, IsStanding}
+use Rattle.step_going.specs.Standing.{IsLocal, AreSafe}
 use Rattle.step_going.proofs.GoneOn.{GoesOnBy, went_safe}
-use Rattle.step_going.proofs.Safe.{RestsSure}
 use Rattle.sweep_checkpoint.specs.Going.{IsOfGoing, IsAsBefore, GoesOn, AreSure, TakesParts, TakesCalls, interval_of, first_owed}
-use Rattle.sweep_checkpoint.specs.Saves.{gated_size, IsGateSure}
+use Rattle.sweep_checkpoint.specs.Saves.{gated_size}
 use Rattle.sweep_checkpoint.specs.declared.going.Going.{Going}
 use Rattle.sweep_core.specs.declared.checkpoint.Checkpoint.{Checkpoint}
 use Rattle.sweep_core.specs.declared.sweep.Sweep as sweep
@@ -36,33 +34,10 @@ use Rattle.step_sweeps.specs.Going.{MayGoOn, rest_calls}
 use Rattle.step_sweeps.specs.Made.{IsCounted}
 use Rattle.sweep_checkpoint.specs.Going.{IsPaidTo}
 use Rattle.step_sweeps.proofs.AnswerQuiet.{behind_nodes}
+use Rattle.step_sweeps.proofs.Costs.{few_saves}
 use Rattle.step_sweeps.proofs.Running.{file_stays}
-use Rattle.step_sweeps.proofs.AnswerSums.{few_saves, calls_of, spent_of}
-
--- where a step stands its gate is sure, and all that it counts is there
-pub gate_sure : (Q : (FileNo → List ℕ) → Type 0) (rests : Checkpoint → FileNo → ℕ → Type 0) (step budget next : ℕ)
-    (folder : Folder) (last : Option Checkpoint) → IsStanding Q rests step budget next folder last → IsGateSure step folder
-gate_sure Q rests step budget next folder None none = subst IsFirm (sym none) refl
-gate_sure Q rests step budget next folder (Some c) s = s.gate
-
-pub points_there : (Q : (FileNo → List ℕ) → Type 0) (rests : Checkpoint → FileNo → ℕ → Type 0) (step budget next : ℕ)
-    (folder : Folder) (last : Option Checkpoint) → AreFiles folder → IsStanding Q rests step budget next folder last
-    → gated_size step folder ≤ length (file_in folder (checkpoint_file step)).bytes
-points_there Q rests step budget next folder None files none =
-    let empty : length (file_in folder (checkpoint_gate step)).bytes ≡ 0 = ap (λ (x : File). length x.bytes) none in
-    omega (arith, empty)
-points_there Q rests step budget next folder (Some c) files s =
-    let within = (files (checkpoint_file step)).firm_within in
-    let points = s.points in
-    omega (arith, within, points)
-
--- what is sure of the files that a sweep makes
-rests_sure : (rests : Checkpoint → FileNo → ℕ → Type 0) (makes : FileNo → Type 0) (folder : Folder)
-    (last : Option Checkpoint)
-    → ((c : Checkpoint) → last ≡ Some c → (f : FileNo) (n : ℕ) → rests c f n → makes f → n ≤ (file_in folder f).firm)
-    → RestsSure rests makes folder last
-rests_sure rests makes folder None sure = tt
-rests_sure rests makes folder (Some c) sure = sure c refl
+use Rattle.step_sweeps.proofs.AnswerSums.{calls_of, spent_of}
+use Rattle.step_sweeps.proofs.StepStands.{gate_sure, points_there, rests_sure}
 
 -- so many turns and saves were made, and this is what they took, whether the sweep was refused or not
 pub record Took {P : Type 0} (accounts : Accounts P) (going : Going) (turns : ℕ) (old new : World) (s t : P) : Type 0 where
@@ -182,8 +157,8 @@ module _ {S Given P : Type 0} (tells : S → Bool) (world : S → World) (counts
     took_few =
         let shown : going.shown ≡ going.turns = may.going_of.shown_is in
         let few = went_took.few in
-        few_saves (interval_of going.budget) went_took.saves (kind.left s (world mid) (job_of g)) begun.paid.interval
-        (omega (arith, shown, few))
+        let saves = few_saves (interval_of going.budget) went_took.saves going.shown _ begun.paid.interval few in
+        omega (arith, shown, saves)
 
     pub went_few_calls : (world after).clock ≤ (world before).clock
         + (229 * q.work g + q.some + rest_calls going.last (q.nodes (reads_of (world before))))
@@ -259,14 +234,13 @@ module _ {S Given P : Type 0} (tells : S → Bool) (world : S → World) (counts
       + rest_calls going.last (q.nodes (reads_of (world before))))
   went_calls turns tells_new cost =
       let shown : going.shown ≡ going.turns = may.going_of.shown_is in
-      let few = cost.few in
+      let saves = few_saves (interval_of going.budget) cost.saves going.shown turns begun.paid.interval cost.few in
       let calls = calls_of (turns - going.turns) cost.saves
       (first_owed going.last (kind.accounts.next s)) (kind.accounts.next s) (kind.accounts.next t)
       (kind.accounts.stock s) (kind.accounts.stock t) (kind.accounts.credit s) (kind.accounts.credit t)
       (q.some + rest_calls going.last (q.nodes (reads_of (world before)))) (world before).clock (world mid).clock
       (world after).clock (begun.calls (went.content.before tells_new)) (cost.calls tells_new).paid cost.parts.spent
-      begun.owed (few_saves (interval_of going.budget) cost.saves (turns - going.turns) begun.paid.interval
-      (omega (arith, shown, few))) in
+      begun.owed (omega (arith, shown, saves)) in
       omega (arith, calls)
 
   pub answered : (a : Answered) → HasEnded a.turns → IsCounted a.turns a.next

@@ -1,17 +1,11 @@
 -- What the turns and the saves of a question's sweep cost together, in calls of the folder and in parts.
-use Rattle.std.proofs.Common.{ℕ, ◌+◌, ◌-◌, ◌*◌, ◌/◌, ◌^◌, ◌<◌, ◌≤◌, mul-le-mul_right, inl, inr, arith}
+use Rattle.std.proofs.Common.{ℕ, ◌+◌, ◌-◌, ◌*◌, ◌/◌, ◌^◌, ◌<◌, ◌≤◌, inl, inr, arith}
 use Rattle.std.proofs.lemmas.Bool.{cases_lt}
 use Rattle.step_sweeps.specs.Made.{IsCounted}
 
 -- what a sweep's turns and saves take of its parts
 abbrev pub TakesOf : ℕ → ℕ → ℕ → ℕ → ℕ → ℕ → Type 0
 TakesOf turns saves next last stock later = 256 * (last - next) + later ≤ stock + (12 * turns + 4608 * saves)
-
--- saves are as many as intervals at most
-pub few_saves : (interval saves turns : ℕ) → 16384 ≤ interval → interval * saves ≤ turns → 16384 * saves ≤ turns
-few_saves interval saves turns long within =
-    let less : 16384 * saves ≤ interval * saves = mul-le-mul_right saves long in
-    omega (arith, less, within)
 
 -- the calls of a beginning, of so many turns and of so many saves, and one for each part that has to be cut
 pub calls_of : (turns saves first next last stock later credit left start : ℕ) (old mid new : ℕ)

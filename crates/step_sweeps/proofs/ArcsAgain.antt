@@ -1,6 +1,6 @@
 -- The sweep that makes a step's arcs, rebuilt from the step's last checkpoint.
-use Rattle.std.proofs.Common.{◌≡◌, ◌≢◌, ◌⊎◌, ◌∙◌, ℕ, ◌+◌, ◌-◌, ◌*◌, ◌^◌, ◌/◌, ◌<◌, ◌≤◌, Bool, List, [], length, ap, sym, subst, refl, inl, inr, arith}
-use Rattle.std.specs.Prelude.{IsTrue, Option, Some, None, Result, Ok, Err}
+use Rattle.std.proofs.Common.{◌≡◌, ◌≢◌, ◌∙◌, ℕ, ◌+◌, ◌*◌, ◌^◌, ◌/◌, ◌≤◌, Bool, List, [], ap, sym, subst, refl, inr, arith}
+use Rattle.std.specs.Prelude.{IsTrue, Some, Ok, Err}
 use Rattle.shelf_model.specs.declared.file_no.FileNo.{FileNo}
 use Rattle.shelf_model.specs.declared.sort_fault.SortFault.{SortFault}
 use Rattle.shelf_model.specs.declared.sort_fault.SortFault.TheVariants.{RunsSpent}
@@ -8,18 +8,15 @@ use Rattle.shelf_model.specs.Calls.{Told}
 use Rattle.shelf_model.specs.Faults.{Faults}
 use Rattle.shelf_model.specs.Folder.{AreFiles}
 use Rattle.shelf_model.specs.Moments.{Ran, Stays, Throughout}
-use Rattle.shelf_model.specs.World.{Moment, World, now, file}
+use Rattle.shelf_model.specs.World.{World, now}
 use Rattle.shelf_model.proofs.Runs.{told, ran_weakens, ran_end}
-use Rattle.run_tiers.specs.declared.parts.Parts.{Parts}
-use Rattle.run_tiers.specs.Syncs.{IsFirm}
 use Rattle.run_tiers.specs.Faults.{OnlySortShelf}
-use Rattle.run_tiers.proofs.FaultLaws.{sort_shelf_on}
 use Rattle.step_going.specs.Standing.{IsLocal, StandsIn}
 use Rattle.step_going.proofs.Kept.{MadeSure, standing_rebuilt, safe_rebuilt}
 use Rattle.sweep_checkpoint.specs.declared.going.Going.{Going}
 use Rattle.sweep_core.specs.declared.checkpoint.Checkpoint.{Checkpoint}
 use Rattle.sweep_core.specs.Carries.{OnlyCutBehind}
-use Rattle.sweep_core.specs.Saving.{IsOfStep, IsMadePart, reads_of}
+use Rattle.sweep_core.specs.Saving.{IsOfStep, reads_of}
 use Rattle.sweep_core.specs.Sweeps.{IsNoDamage}
 use Rattle.sweep_core.specs.Tables.{records_named}
 use Rattle.top_down_sweep.specs.declared.start.Files.{Files}
@@ -33,17 +30,17 @@ use Rattle.table_work.specs.Tables.{sweep_of, work_of}
 use Rattle.resumable.specs.Diagrams.{arcs_of, arcs_saving, step_words, diagram_rests}
 use Rattle.resumable.specs.Points.{ArcsFrom}
 use Rattle.resumable.proofs.DiagramPoints.{diagram_local, makes_arcs_from}
+use Rattle.resumable.proofs.MadeFronts.{AreThere, arcs_there}
 use Rattle.resumable.proofs.Rests.{arcs_rests}
 use Rattle.step_sweeps.specs.declared.arcs.MadeArcs.{MadeArcs}
 use Rattle.step_sweeps.specs.declared.task.Making.{Making}
-use Rattle.step_sweeps.specs.Given.{Tables, AreEarlier, tuples_by, nodes_by}
-use Rattle.step_sweeps.specs.Going.{rest_calls}
+use Rattle.step_sweeps.specs.Given.{Tables, AreEarlier}
 use Rattle.step_sweeps.specs.Kinds.{arcs_kind}
-use Rattle.step_sweeps.specs.Made.{OnlyStep, inner_file, ends_file}
-use Rattle.step_sweeps.specs.Makes.{IsGivenFor, AreFirm, goes_on_by, operand_nodes, work_for}
-use Rattle.step_sweeps.specs.Started.{IsUnderWay, MayRun, Starts}
-use Rattle.step_sweeps.specs.Sweeping.{MaySweep, IsEarly, MakesArcs, arcs_most}
-use Rattle.step_sweeps.proofs.ArcsPoints.{arcs_there, fronts_there}
+use Rattle.step_sweeps.specs.Made.{OnlyStep}
+use Rattle.step_sweeps.specs.Makes.{IsGivenFor, goes_on_by, operand_nodes}
+use Rattle.step_sweeps.specs.Started.{IsUnderWay, Starts}
+use Rattle.step_sweeps.specs.Sweeping.{MaySweep, MakesArcs, arcs_most}
+use Rattle.step_sweeps.proofs.ArcsPoints.{front_there}
 use Rattle.step_sweeps.proofs.ArcsStart.{read_firm}
 use Rattle.step_sweeps.proofs.Rebuilt.{made_sure, sure_still}
 use Rattle.step_sweeps.proofs.Running.{earlier_stays, stays_step}
@@ -100,17 +97,16 @@ module _ {S : Type 0} (tells : S → Bool) (world : S → World) (counts : S →
       within f k = arcs_rests c f k from.goes.sweep_is fits
 
       -- the arcs that were put are there
-      there : (f : FileNo) (k : ℕ) → diagram_rests c f k → IsMadePart c.step c.next_part f
-          → (k ≤ length (reads_of (world before) f)) ⊎ ((j : ℕ) → RestsOn step_words c f j)
-      there f k on = arcs_there making.n making.operands making.number c step_is fits names (reads_of (world before))
-          from.goes.stands.work.task (length from.goes.stands.work.tuples) from.goes.left from.goes.stands.stands f k (within f k on)
+      there : AreThere (RestsOn step_words c) (reads_of (world before))
+      there = arcs_there c [] (reads_of (world before)) (work_of making.operation making.n g) from.goes.left fits
+          from.goes.stands
 
       local : IsLocal (Q g) diagram_rests making.number base.budget
       local = diagram_local making.operation making.n making.operands making.number base.budget g
 
       sure : MadeSure diagram_rests (RestsOn step_words c) (now (world before)).folder c
       sure = made_sure (Q g) diagram_rests making.number base.budget c.next_part (RestsOn step_words c) c
-          (now (world before)).folder given.standing there
+          (now (world before)).folder given.standing (λ f k on made. there f k (within f k on))
 
       pub again_safe : Throughout (world before) (world mid) (IsSafeAt making base.budget g)
       again_safe = safe_rebuilt (Q g) diagram_rests making.number base.budget local (RestsOn step_words c) c.next_part
@@ -144,18 +140,10 @@ module _ {S : Type 0} (tells : S → Bool) (world : S → World) (counts : S →
                 let same : c ≡ d = cc in
                 sure_still (Q g) diagram_rests making.number base.budget c.next_part (RestsOn step_words c) c
                 (IsMade (files_of (sweep_of s))) (now (world before)) (now (world mid)) only stands within
-                (λ h j at made. fronts_there making.n making.operands making.number c step_is fits names
-                (reads_of (world before)) from.goes.stands.work.task (length from.goes.stands.work.tuples)
-                from.goes.left from.goes.stands.stands h j (within h j at)
-                (made_is (files_of (sweep_of s)) h are made)
-                (subst (λ k. IsMadePart k c.next_part h) (sym step_is) (files.made h made)))
+                (λ h j at made. front_there step_words c (arcs_of making.n making.operands making.number) fits names
+                (reads_of (world before)) there h (subst (λ (x : Files). IsMade x h) are made) j (within h j at))
                 f k (subst (λ e. diagram_rests e f k) (sym same) on) mine;
           }
-        where
-          made_is : (files : Files) (h : FileNo) → files ≡ (arcs_of making.n making.operands making.number).files
-              → IsMade files h → (h ≡ inner_file making.number) ⊎ (h ≡ ends_file making.number)
-          made_is files h are (inl is) = inl (is ∙ ap (λ (x : Files). x.inner) are)
-          made_is files h are (inr is) = inr (is ∙ ap (λ (x : Files). x.ends) are)
 
     -- what a rebuild says of the sweep
     pub record Rebuilds (s : TableSweep StepOperation) : Type 0 where

@@ -1,9 +1,8 @@
 -- The sweep that makes a step's arcs, begun or rebuilt, or refused to be.
-use Rattle.std.proofs.Common.{◌≡◌, ◌≢◌, ℕ, ◌+◌, ◌*◌, ◌^◌, ◌/◌, ◌≤◌, Bool, List, [], refl, sym, subst, inl, inr, arith}
-use Rattle.std.specs.Prelude.{IsTrue, Option, Some, None, Result, Ok, Err, IfOk, IfErr}
-use Rattle.shelf_model.specs.declared.file_no.FileNo.{FileNo}
+use Rattle.std.proofs.Common.{◌≡◌, ◌≢◌, ℕ, ◌+◌, ◌*◌, ◌^◌, ◌≤◌, Bool, [], refl, sym, subst, arith}
+use Rattle.std.specs.Prelude.{IsTrue, Some, None, Result, Ok, Err, IfOk, IfErr}
 use Rattle.shelf_model.specs.declared.sort_fault.SortFault.{SortFault}
-use Rattle.shelf_model.specs.declared.sort_fault.SortFault.TheVariants.{Shelf, Damaged, RunsSpent}
+use Rattle.shelf_model.specs.declared.sort_fault.SortFault.TheVariants.{RunsSpent}
 use Rattle.shelf_model.specs.Calls.{Told}
 use Rattle.shelf_model.specs.Faults.{Faults}
 use Rattle.shelf_model.specs.Folder.{AreFiles}
@@ -19,23 +18,21 @@ use Rattle.sweep_core.specs.Sweeps.{IsNoDamage}
 use Rattle.sweep_core.specs.Tables.{records_named}
 use Rattle.top_down_sweep.specs.declared.steps.StepOperation.{StepOperation}
 use Rattle.top_down_sweep.specs.Operations.{rule_of, begins_of}
-use Rattle.top_down_sweep.specs.Resumes.{Names, RestsOn, Fits, Blames, IsOperandFault}
-use Rattle.top_down_sweep.specs.Resumes.{OfFirst, OfSecond, OfThird, OfArcs}
+use Rattle.top_down_sweep.specs.Resumes.{Names, RestsOn, Fits, Blames}
 use Rattle.top_down_sweep.specs.Sweeps.{SweepTask, task_of}
 use Rattle.table_work.specs.declared.sweep.TableSweep.{TableSweep}
 use Rattle.table_work.specs.Jobs.{TableWork}
 use Rattle.table_work.specs.Tables.{sweep_of, work_of, StartsTable}
 use Rattle.resumable.specs.Diagrams.{arcs_of, arcs_saving, step_words}
-use Rattle.step_sweeps.specs.declared.arcs.MadeArcs.{MadeArcs}
 use Rattle.step_sweeps.specs.declared.task.Making.{Making}
-use Rattle.step_sweeps.specs.Given.{Tables, AreEarlier}
+use Rattle.step_sweeps.specs.Given.{AreEarlier}
 use Rattle.step_sweeps.specs.Kinds.{arcs_kind}
-use Rattle.step_sweeps.specs.Makes.{operand_nodes}
 use Rattle.step_sweeps.specs.Parts.{parts_of}
 use Rattle.step_sweeps.specs.Started.{Starts}
 use Rattle.step_sweeps.specs.Sweeping.{MaySweep, IsEarly, MakesArcs, arcs_most}
 use Rattle.step_sweeps.proofs.ArcsStart.{starts_arcs, start_refused}
 use Rattle.step_sweeps.proofs.ArcsAgain.{Rebuilds, again_task, restarts_arcs, again_refused, foreign_refused}
+use Rattle.step_sweeps.proofs.Faults.{never_blamed}
 
 module _ {S : Type 0} (tells : S → Bool) (world : S → World) (counts : S → Faults) (making : Making)
     (earlier : AreEarlier making.number making.operands) (before mid : S) (result : Result (TableSweep StepOperation) SortFault)
@@ -66,20 +63,6 @@ module _ {S : Type 0} (tells : S → Bool) (world : S → World) (counts : S →
             (record going { last = None }) before mid (Err e))
         by (Ok s) may early started = (starts_arcs tells world counts making going before mid may earlier early s started, tt)
         by (Err e) may early started = (tt, start_refused tells world counts making going before mid earlier e started)
-
--- a cause that a sweep isn't rebuilt is no want of a part number
-no_spent : (c : Checkpoint) (w : World) → Blames step_words c w RunsSpent → ⊥
-no_spent c w blames = elim blames.cause [
-  | OfFirst fault ↦ operand _ _ _ blames.saved.first.read fault
-  | OfSecond fault ↦ operand _ _ _ blames.saved.second.read fault
-  | OfThird fault ↦ operand _ _ _ blames.saved.third.read fault
-  | OfArcs fault ↦ fault
-]
-  where
-    operand : (n step : ℕ) (f : FileNo) (read : Option ℕ) → IsOperandFault n step f read w RunsSpent → ⊥
-    operand n step f None fault = fault
-    operand n step f (Some place) (inl fault) = fault
-    operand n step f (Some place) (inr fault) = fault
 
 module _ {S : Type 0} (tells : S → Bool) (world : S → World) (counts : S → Faults) (making : Making)
     (earlier : AreEarlier making.number making.operands) (c : Checkpoint) (before mid : S)
@@ -144,7 +127,7 @@ module _ {S : Type 0} (tells : S → Bool) (world : S → World) (counts : S →
         tt,
         tt,
         again_refused tells world counts making going c before mid may fits names it.content files_at e
-            (λ told same. no_spent c (world before)
+            (λ told same. never_blamed step_words c (world before)
             (subst (Blames step_words c (world before)) same (it.damage told))) it.undamaged
             (λ told. let calls = it.calls told (arcs_of making.n making.operands making.number) names in
             omega (arith, calls))

@@ -1,7 +1,7 @@
 -- The sweep that makes a step's arcs, which was run to its end: its arcs, or it took too many parts.
 use Rattle.std.proofs.Common.{◌≡◌, ◌≢◌, ◌⊎◌, ◌∙◌, ℕ, ◌+◌, ◌-◌, ◌*◌, ◌^◌, ◌<◌, ◌≤◌, Bool, mul-le-mul_right, ap, refl, sym, subst, inl, inr, arith}
 use Rattle.std.proofs.lemmas.Bool.{cases_lt}
-use Rattle.std.specs.Prelude.{IsTrue, Option, Some, None, IfSome, Result, Ok, Err, IsErrAnd}
+use Rattle.std.specs.Prelude.{IsTrue, Option, Some, None, IfSome, Result, Ok, Err, OnOk, IsErrAnd}
 use Rattle.shelf_model.specs.declared.file_no.FileNo.{FileNo}
 use Rattle.shelf_model.specs.declared.sort_fault.SortFault.{SortFault}
 use Rattle.shelf_model.specs.declared.sort_fault.SortFault.TheVariants.{RunsSpent}
@@ -9,9 +9,8 @@ use Rattle.shelf_model.specs.Faults.{Faults}
 use Rattle.shelf_model.specs.Folder.{AreFiles}
 use Rattle.shelf_model.specs.Moments.{Ran}
 use Rattle.shelf_model.specs.World.{World, now, file}
-use Rattle.file_numbers.specs.Files.{inner_file, ends_file}
+use Rattle.file_numbers.specs.Files.{ends_file}
 use Rattle.run_tiers.specs.declared.parts.Parts.{Parts}
-use Rattle.run_tiers.specs.Faults.{OnlySortShelf}
 use Rattle.run_tiers.specs.Syncs.{IsFirm}
 use Rattle.step_going.specs.Standing.{IsStanding}
 use Rattle.step_going.proofs.GoneOn.{StandsBehind}
@@ -22,11 +21,9 @@ use Rattle.sweep_core.specs.Carries.{OnlySaved}
 use Rattle.sweep_core.specs.Saving.{reads_of}
 use Rattle.sweep_core.specs.Sweeps.{IsNoDamage}
 use Rattle.arc_file.specs.declared.unreduced.Unreduced.{Unreduced}
-use Rattle.top_down_sweep.specs.declared.start.Files.{Files}
 use Rattle.top_down_sweep.specs.declared.steps.StepOperation.{StepOperation}
 use Rattle.top_down_sweep.specs.Calls.{IsTrusted}
 use Rattle.top_down_sweep.specs.Operations.{rule_of, begins_of}
-use Rattle.top_down_sweep.specs.Ordered.{AreOrdered}
 use Rattle.top_down_sweep.specs.Sweeps.{SweepTask, HasMade, files_of, parts_of, task_of}
 use Rattle.top_down_sweep.specs.Tasks.{AreArcFiles}
 use Rattle.top_down_sweep.specs.Waiting.{AreApart}
@@ -37,19 +34,18 @@ use Rattle.table_work.specs.Jobs.{TableWork, GivesWithin, HasFewSources, table_j
 use Rattle.table_work.specs.Tables.{sweep_of, work_of}
 use Rattle.resumable.specs.Diagrams.{arcs_of, arcs_saving, diagram_rests}
 use Rattle.resumable.proofs.DiagramPoints.{diagram_local, makes_arcs_from}
-use Rattle.resumable.proofs.Resting.{arcs_spare_nodes, arcs_see_no_nodes}
+use Rattle.resumable.proofs.Resting.{arcs_spare_nodes}
 use Rattle.resumable.proofs.Rests.{arcs_rests}
 use Rattle.step_sweeps.specs.declared.arcs.MadeArcs.{MadeArcs}
 use Rattle.step_sweeps.specs.declared.task.Making.{Making}
 use Rattle.step_sweeps.specs.Damage.{IsArcsFault}
 use Rattle.step_sweeps.specs.Given.{Tables, AreEarlier, tuples_by}
-use Rattle.step_sweeps.specs.Going.{rest_calls}
 use Rattle.step_sweeps.specs.Kinds.{arcs_kind}
 use Rattle.step_sweeps.specs.Made.{node_file, OnlyStep, HasArcFiles}
-use Rattle.step_sweeps.specs.Makes.{IsGivenFor, HasNoGate, goes_on_by, operand_nodes, table_by}
+use Rattle.step_sweeps.specs.Makes.{IsGivenFor, HasNoGate, goes_on_by, table_by}
 use Rattle.step_sweeps.specs.Parts as step_parts
 use Rattle.step_sweeps.specs.Started.{Starts, IsUnderWay}
-use Rattle.step_sweeps.specs.Sweeping.{MaySweep, IsEarly, MakesArcs, HasArcsOf, AreArcsOf, IsCovered, IsPaidUp, arcs_most, owed_parts, Takes, calls_of}
+use Rattle.step_sweeps.specs.Sweeping.{MaySweep, IsEarly, MakesArcs, AreArcsOf, IsCovered, arcs_most}
 use Rattle.step_sweeps.proofs.ArcsRun.{HasRun, most_fits, run_content, run_safe, run_few, run_spent, way, few, by}
 use Rattle.step_sweeps.proofs.Faults.{turn_fault, no_damage}
 use Rattle.step_sweeps.proofs.Running.{not_of_step, earlier_stays, faults_ok}
@@ -57,34 +53,38 @@ use Rattle.step_sweeps.proofs.UnderWay.{way_sure, way_stands}
 
 -- what a run to the end leaves
 pub record HasEnded {S : Type 0} (tells : S → Bool) (world : S → World) (going later : Going)
-    (s t : TableSweep StepOperation) (mid after : S) : Type 0 where
-  pub ready : arcs_kind.ready t
-  pub firm : IsTrue (tells after) → (f : FileNo) → arcs_kind.accounts.makes t f → IsFirm (file (world after) f)
+    (s t : TableSweep StepOperation) (mid after : S) (result : Result Unit SortFault) : Type 0 where
+  pub ready : OnOk result (arcs_kind.ready t)
+  pub firm : OnOk result (IsTrue (tells after) → (f : FileNo) → arcs_kind.accounts.makes t f
+      → IsFirm (file (world after) f))
   pub task_is : task_of (sweep_of t) ≡ task_of (sweep_of s)
   pub step_is : arcs_kind.accounts.step t ≡ arcs_kind.accounts.step s
-  pub next : arcs_kind.accounts.next s ≤ arcs_kind.accounts.next t
+  pub next : OnOk result (arcs_kind.accounts.next s ≤ arcs_kind.accounts.next t)
   pub late : going.shown ≤ going.turns → later.shown ≤ later.turns
-  pub grew : going.turns ≤ later.turns
-  pub owed : first_owed going.last (arcs_kind.accounts.next s) ≤ first_owed later.last (arcs_kind.accounts.next t)
-  pub counted : later.turns < 2 ^ 64 - 1 → (saves : ℕ)
+  pub grew : OnOk result ((going.turns ≤ later.turns) × (0 < later.turns))
+  pub owed : OnOk result (first_owed going.last (arcs_kind.accounts.next s)
+      ≤ first_owed later.last (arcs_kind.accounts.next t))
+  pub counted : OnOk result (later.turns < 2 ^ 64 - 1 → (saves : ℕ)
       × (interval_of going.budget * saves + going.shown ≤ later.shown)
       × TakesParts arcs_kind.accounts (later.turns - going.turns) saves s t
       × (IsTrue (tells after) → TakesCalls arcs_kind.accounts (later.turns - going.turns) saves
-      (first_owed going.last (arcs_kind.accounts.next s)) (world mid) (world after) s t)
-  pub paid : later.turns < 2 ^ 64 - 1 → IsPaidTo arcs_kind.accounts going s → IsPaidTo arcs_kind.accounts later t
-  pub keeps : IsTrue (tells after) → (job : TableWork) → arcs_kind.remains s (world mid) job
-      → arcs_kind.remains t (world after) job
-  pub few : IsTrue (tells after) → (job : TableWork) → arcs_kind.remains s (world mid) job
-      → later.turns ≤ going.turns + arcs_kind.left s (world mid) job + 1
-  pub stands : IsTrue (tells after) → (job : TableWork) → arcs_kind.remains s (world mid) job
+      (first_owed going.last (arcs_kind.accounts.next s)) (world mid) (world after) s t))
+  pub paid : OnOk result (later.turns < 2 ^ 64 - 1 → IsPaidTo arcs_kind.accounts going s
+      → IsPaidTo arcs_kind.accounts later t)
+  pub keeps : OnOk result (IsTrue (tells after) → (job : TableWork) → arcs_kind.remains s (world mid) job
+      → arcs_kind.remains t (world after) job)
+  pub few : OnOk result (IsTrue (tells after) → (job : TableWork) → arcs_kind.remains s (world mid) job
+      → later.turns ≤ going.turns + arcs_kind.left s (world mid) job + 1)
+  pub stands : OnOk result (IsTrue (tells after) → (job : TableWork) → arcs_kind.remains s (world mid) job
       → AreSure (arcs_kind.saving.operands (arcs_kind.task s)) going.step (now (world mid)).folder
       → IsPaidTo arcs_kind.accounts going s
       → OnlySaved (arcs_kind.accounts.makes s) going.step (arcs_kind.accounts.next s) (now (world mid)) (now (world after))
       ⊎ Stands arcs_kind.saving (arcs_kind.accounts.makes s) (arcs_kind.saving.operands (arcs_kind.task s)) going.step
       (arcs_kind.accounts.next t) going.budget going.sweep (arcs_kind.task s) job
-      (going.turns + arcs_kind.left s (world mid) job) (now (world after)).folder
-  pub trusts : IsTrue (tells after) → arcs_kind.trusts s (world mid) → arcs_kind.trusts t (world after)
-  pub covers : IsTrue (tells after) → IsCovered going.step (world mid) → IsCovered going.step (world after)
+      (going.turns + arcs_kind.left s (world mid) job) (now (world after)).folder)
+  pub trusts : OnOk result (IsTrue (tells after) → arcs_kind.trusts s (world mid) → arcs_kind.trusts t (world after))
+  pub covers : OnOk result (IsTrue (tells after) → IsCovered going.step (world mid)
+      → IsCovered going.step (world after))
 
 -- what the sweep gives, and what is answered of it
 pub record IsGivenBy (t : TableSweep StepOperation) (made : Option Unreduced) (m : MadeArcs) : Type 0 where
@@ -117,7 +117,7 @@ module _ {S : Type 0} (tells : S → Bool) (world : S → World) (counts : S →
     (task : task_of (sweep_of s) ≡ arcs_of making.n making.operands making.number)
     (files_at : IsTrue (tells mid) → AreFiles (now (world mid)).folder) (later : Going)
     (run : HasRun tells world counts going later s t mid after (Ok tt))
-    (ended : HasEnded tells world going later s t mid after) where
+    (ended : HasEnded tells world going later s t mid after (Ok tt)) where
   -- it took more parts than a step has
   pub ran_out : 2 ^ 32 ≤ arcs_kind.accounts.next t
       → MakesArcs tells world counts making going later before after (Err RunsSpent)
@@ -273,7 +273,7 @@ module _ {S : Type 0} (tells : S → Bool) (world : S → World) (counts : S →
           );
       content = run_content tells world counts making going may before mid after early s t started task files_at later
           (Ok tt) run;
-      grew = ended.grew;
+      grew = ended.grew.0;
       paid =
           let same = next_is in
           let below = gave.below in

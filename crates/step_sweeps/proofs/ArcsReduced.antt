@@ -1,11 +1,11 @@
 -- The reduction of a step's arcs: in the room, by a sweep, and by a sweep after the room was tried.
 use Rattle.std.proofs.Common.{◌≡◌, ◌≢◌, ◌∙◌, ℕ, ◌+◌, ◌-◌, ◌*◌, ◌/◌, ◌^◌, ◌<◌, ◌≤◌, Bool, IsTrue, List, length, refl, ap, sym, subst, arith}
-use Rattle.std.specs.Prelude.{min, max, Option, Some, None, IfSome, Result, Ok, Err, IsErrAnd}
+use Rattle.std.specs.Prelude.{min, max, Option, Some, None, Result, Ok, Err, IsErrAnd}
 use Rattle.shelf_model.specs.declared.file_no.FileNo.{FileNo}
 use Rattle.shelf_model.specs.declared.sort_fault.SortFault.{SortFault}
 use Rattle.shelf_model.specs.declared.sort_fault.SortFault.TheVariants.{Shelf, RunsSpent}
 use Rattle.shelf_model.specs.Calls.{Told}
-use Rattle.shelf_model.specs.Faults.{Faults, OnlyShelf}
+use Rattle.shelf_model.specs.Faults.{Faults}
 use Rattle.shelf_model.specs.File.{File}
 use Rattle.shelf_model.specs.Moments.{Ran, Throughout, OnlyChanged}
 use Rattle.shelf_model.specs.World.{Moment, World, now, file}
@@ -15,7 +15,7 @@ use Rattle.file_numbers.specs.Files.{checkpoint_file, checkpoint_gate}
 use Rattle.run_tiers.specs.Faults.{OnlySortShelf}
 use Rattle.run_tiers.specs.Syncs.{IsFirm}
 use Rattle.run_tiers.proofs.FaultLaws.{sort_shelf_then}
-use Rattle.step_going.specs.Standing.{AreSafe, IsStanding}
+use Rattle.step_going.specs.Standing.{AreSafe}
 use Rattle.step_going.proofs.Kept.{RestsApart, safe_over, standing_over}
 use Rattle.sweep_checkpoint.specs.Going.{first_owed}
 use Rattle.sweep_checkpoint.specs.declared.going.Going.{Going}
@@ -34,20 +34,10 @@ use Rattle.step_sweeps.specs.declared.arcs.MadeArcs.{MadeArcs}
 use Rattle.step_sweeps.specs.declared.diagram.MadeDiagram.{MadeDiagram}
 use Rattle.step_sweeps.specs.declared.task.Making.{Making}
 use Rattle.step_sweeps.specs.Given.{Tables}
-use Rattle.step_sweeps.specs.Made.{node_file, OnlyStep, HasArcFiles, IsCounted, arc_count}
-use Rattle.step_sweeps.specs.Makes.{goes_on_by, table_by, work_for}
+use Rattle.step_sweeps.specs.Made.{node_file, OnlyStep, HasArcFiles, arc_count}
+use Rattle.step_sweeps.specs.Makes.{goes_on_by, table_by}
 use Rattle.step_sweeps.specs.Sweeping.{HasArcsOf, AreReducible, MayReduce, Reduces, Takes, IsCovered, calls_of}
-use Rattle.step_sweeps.proofs.SweptSteps.{ok_more, ok_both, err_more}
-
--- what holds of an answer that was given
-pub of_some : {A : Type 0} (o : Option A) (x : A) (P : A → Type 0) → o ≡ Some x → IfSome o P → P x
-of_some o x P is held = subst (λ q. IfSome q P) is held
-
--- an answer with no other count of faults than the folder's
-pub answered : {A : Type 0} (old new : Faults) (x : A) → OnlyShelf old new (Ok x)
-    → OnlySortShelf {T = Unit} old new (Ok tt)
-answered old new x only =
-    record { later = only.later; cause = λ is. absurd (cc); say_is = only.say_is; text_is = only.text_is }
+use Rattle.step_sweeps.proofs.Running.{ok_more, ok_both, err_more, gate_apart, points_apart}
 
 -- files of a step that aren't its node file: the two of arcs, its checkpoints and their gate
 inner_apart : (number : ℕ) (arcs : Unreduced) → HasArcFiles number arcs → ¬ (arcs.inner ≡ node_file number)
@@ -61,16 +51,6 @@ ends_apart number arcs files same = absurd (
     let ends : arcs.ends.part ≡ 4 = ap (λ (f : FileNo). f.part) files.ends_are in
     let part : arcs.ends.part ≡ 0 = ap (λ (f : FileNo). f.part) same in
     omega (arith, ends, part))
-
-gate_apart : (number : ℕ) → ¬ (checkpoint_gate number ≡ node_file number)
-gate_apart number same = absurd (
-    let part : 2 ≡ 0 = ap (λ (f : FileNo). f.part) same in
-    omega (arith, part))
-
-points_apart : (number : ℕ) → ¬ (checkpoint_file number ≡ node_file number)
-points_apart number same = absurd (
-    let part : 1 ≡ 0 = ap (λ (f : FileNo). f.part) same in
-    omega (arith, part))
 
 last_apart : (number : ℕ) (last : Option Checkpoint)
     → ((c : Checkpoint) → last ≡ Some c → (f : FileNo) (n : ℕ) → diagram_rests c f n → f ≢ node_file number)
@@ -162,24 +142,6 @@ module _ {S : Type 0} (tells : S → Bool) (world : S → World) (counts : S →
   handed_reduction each old new e (Ok x) is reduces = absurd is
   handed_reduction each old new e (Err x) is reduces =
       subst (λ (y : SortFault). Reduces tells world counts making m going each old new (Err y)) (sym is) reduces
-
-  -- they may be reduced behind more turns too
-  pub may_later : (turns : ℕ) → going.turns ≤ turns → MayReduce making.number going m.parts
-      → MayReduce making.number (record going { turns = turns }) m.parts
-  may_later turns more may =
-      let shown = may.paid.shown in
-      let paid = may.paid.paid in
-      record {
-        step_is = may.step_is;
-        of_step = may.of_step;
-        past = may.past;
-        below = may.below;
-        paid = record {
-          interval = may.paid.interval;
-          shown = omega (arith, shown, more);
-          paid = omega (arith, paid, shown, more);
-        };
-      }
 
   -- with ten turns for each source there are eight
   fewer : (g : Tables) (w : World) (are : AreReducible making going g 10 m w)

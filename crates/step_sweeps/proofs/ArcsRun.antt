@@ -1,14 +1,13 @@
 -- The sweep that makes a step's arcs, which was begun, and then run and saved.
-use Rattle.std.proofs.Common.{◌≡◌, ◌≢◌, ◌⊎◌, ◌∙◌, ℕ, ◌+◌, ◌-◌, ◌*◌, ◌^◌, ◌<◌, ◌≤◌, max, Bool, length, ap, refl, sym, subst, inl, inr, arith}
+use Rattle.std.proofs.Common.{◌≡◌, ◌⊎◌, ◌∙◌, ℕ, ◌+◌, ◌-◌, ◌*◌, ◌^◌, ◌≤◌, max, Bool, refl, sym, subst, inl, inr, arith}
 use Rattle.std.specs.Prelude.{IsTrue, Option, Some, None, Result, Ok, Err, OnOk, IfErr, IsErrOf}
-use Rattle.shelf_model.specs.declared.file_no.FileNo.{FileNo}
 use Rattle.shelf_model.specs.declared.sort_fault.SortFault.{SortFault}
 use Rattle.shelf_model.specs.declared.sort_fault.SortFault.TheVariants.{RunsSpent}
 use Rattle.shelf_model.specs.Calls.{Told}
 use Rattle.shelf_model.specs.Faults.{Faults}
 use Rattle.shelf_model.specs.Folder.{AreFiles, Image, IsImage, bytes_in}
 use Rattle.shelf_model.specs.Moments.{Ran, Throughout, OnlyChanged}
-use Rattle.shelf_model.specs.World.{Moment, World, now, file}
+use Rattle.shelf_model.specs.World.{Moment, World, now}
 use Rattle.shelf_model.proofs.Changing.{told_changed_then}
 use Rattle.shelf_model.proofs.Runs.{joins}
 use Rattle.run_tiers.specs.Faults.{OnlySortShelf}
@@ -21,17 +20,16 @@ use Rattle.sweep_core.specs.Saving.{reads_of}
 use Rattle.sweep_core.specs.Sweeps.{IsNoDamage}
 use Rattle.top_down_sweep.specs.declared.steps.StepOperation.{StepOperation}
 use Rattle.top_down_sweep.specs.ResumeLaws as laws
-use Rattle.top_down_sweep.specs.Sweeps.{SweepTask, task_of}
+use Rattle.top_down_sweep.specs.Sweeps.{task_of}
 use Rattle.table_work.specs.declared.sweep.TableSweep.{TableSweep}
 use Rattle.table_work.specs.Jobs.{TableWork}
 use Rattle.table_work.specs.Tables.{sweep_of, work_of}
-use Rattle.resumable.specs.Diagrams.{arcs_of, arcs_saving, step_words, diagram_rests}
+use Rattle.resumable.specs.Diagrams.{arcs_of, step_words, diagram_rests}
 use Rattle.resumable.proofs.Makings.{arcs_go}
 use Rattle.resumable.proofs.Resting.{arcs_see}
-use Rattle.step_sweeps.specs.declared.arcs.MadeArcs.{MadeArcs}
 use Rattle.step_sweeps.specs.declared.task.Making.{Making}
 use Rattle.step_sweeps.specs.Damage.{IsArcsFault}
-use Rattle.step_sweeps.specs.Given.{Tables, AreEarlier, tuples_by}
+use Rattle.step_sweeps.specs.Given.{Tables, tuples_by}
 use Rattle.step_sweeps.specs.Going.{rest_calls}
 use Rattle.step_sweeps.specs.Kinds.{arcs_kind}
 use Rattle.step_sweeps.specs.Makes.{IsGivenFor, HasNoGate, goes_on_by, operand_nodes, nodes_for, work_for}
@@ -95,9 +93,6 @@ module _ {S : Type 0} (tells : S → Bool) (world : S → World) (counts : S →
       ]) started.content run.changes
 
   module _ (told : IsTrue (tells after)) (g : Tables) (given : IsGivenFor making going (world before) g) where
-    work : TableWork
-    work = work_of making.operation making.n g
-
     pub way : IsUnderWay arcs_kind making going.budget g going.last (work_of making.operation making.n g) s (world mid)
     way =
         let at = started.under_way (run.changes.before told) g given in

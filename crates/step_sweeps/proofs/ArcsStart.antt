@@ -1,9 +1,8 @@
 -- The sweep that makes a step's arcs, from its beginning on.
-use Rattle.std.proofs.Common.{◌≡◌, ◌≢◌, ◌⊎◌, ◌∙◌, ℕ, ◌+◌, ◌-◌, ◌*◌, ◌<◌, ◌≤◌, Bool, length, ap, sym, subst, refl, inl, inr, arith}
-use Rattle.std.specs.Prelude.{IsTrue, Option, Some, None, Result, Ok, Err}
+use Rattle.std.proofs.Common.{◌≡◌, ◌≢◌, ◌∙◌, ℕ, ◌+◌, ◌*◌, ◌<◌, ◌≤◌, Bool, length, ap, sym, subst, refl, inl, inr, arith}
+use Rattle.std.specs.Prelude.{IsTrue, None, Ok, Err}
 use Rattle.shelf_model.specs.declared.file_no.FileNo.{FileNo}
 use Rattle.shelf_model.specs.declared.sort_fault.SortFault.{SortFault}
-use Rattle.shelf_model.specs.declared.sort_fault.SortFault.TheVariants.{RunsSpent}
 use Rattle.shelf_model.specs.Calls.{Told}
 use Rattle.shelf_model.specs.Faults.{Faults}
 use Rattle.shelf_model.specs.File.{File}
@@ -17,16 +16,14 @@ use Rattle.run_tiers.specs.Syncs.{IsFirm}
 use Rattle.run_tiers.proofs.FaultLaws.{sort_shelf_on}
 use Rattle.step_going.specs.Standing.{HasNone}
 use Rattle.step_going.proofs.Kept.{safe_along, standing_along}
-use Rattle.sweep_checkpoint.specs.Going.{interval_of}
 use Rattle.sweep_checkpoint.specs.declared.going.Going.{Going}
-use Rattle.sweep_core.specs.Accounts.{CanBeTaken}
-use Rattle.sweep_core.specs.Saving.{IsOfStep, IsMadePart, IsReadPart}
+use Rattle.sweep_core.specs.Saving.{IsOfStep, IsMadePart}
 use Rattle.top_down_sweep.specs.declared.beginning.OperandFiles.{OperandFiles}
 use Rattle.top_down_sweep.specs.declared.start.Files.{Files}
 use Rattle.top_down_sweep.specs.declared.steps.StepOperation.{StepOperation}
 use Rattle.top_down_sweep.specs.Beginning.{files_from, after_two}
 use Rattle.top_down_sweep.specs.Operations.{rule_of, begins_of}
-use Rattle.top_down_sweep.specs.Sweeps.{IsMade, IsRead, files_of, task_of}
+use Rattle.top_down_sweep.specs.Sweeps.{IsMade, IsRead, files_of}
 use Rattle.table_work.specs.declared.sweep.TableSweep.{TableSweep}
 use Rattle.table_work.specs.Tables.{sweep_of, work_of, StartsTable, AreGivenTo}
 use Rattle.resumable.specs.Diagrams.{arcs_of, diagram_rests}
@@ -34,10 +31,10 @@ use Rattle.resumable.proofs.DiagramPoints.{diagram_local}
 use Rattle.step_sweeps.specs.declared.task.Making.{Making}
 use Rattle.step_sweeps.specs.Given.{Tables, AreEarlier, tuples_by, nodes_by}
 use Rattle.step_sweeps.specs.Kinds.{arcs_kind}
-use Rattle.step_sweeps.specs.Made.{OnlyStep, inner_file, ends_file}
+use Rattle.step_sweeps.specs.Made.{OnlyStep}
 use Rattle.step_sweeps.specs.Makes.{IsGivenFor, AreFirm, HasNoGate, goes_on_by}
 use Rattle.step_sweeps.specs.Parts.{parts_of}
-use Rattle.step_sweeps.specs.Started.{IsUnderWay, MayRun, Starts}
+use Rattle.step_sweeps.specs.Started.{Starts}
 use Rattle.step_sweeps.specs.Sweeping.{MaySweep, IsEarly, MakesArcs, IsCovered, arcs_most}
 use Rattle.step_sweeps.proofs.Faults.{start_fault}
 use Rattle.step_sweeps.proofs.Running.{not_of_step, file_stays, earlier_stays, the_fault}

@@ -8,11 +8,10 @@ use Rattle.shelf_model.specs.Calls.{Told}
 use Rattle.shelf_model.specs.Faults.{Faults}
 use Rattle.shelf_model.specs.Folder.{AreFiles}
 use Rattle.shelf_model.specs.Moments.{Ran, Stays, Throughout}
-use Rattle.shelf_model.specs.World.{Moment, World, now, file}
+use Rattle.shelf_model.specs.World.{Moment, World, now}
 use Rattle.shelf_model.proofs.Runs.{told, ran_end, ran_weakens}
 use Rattle.canon_file.specs.Canon.{canon_bytes}
 use Rattle.run_tiers.specs.Faults.{OnlySortShelf}
-use Rattle.run_tiers.specs.Syncs.{IsFirm}
 use Rattle.run_tiers.proofs.FaultLaws.{sort_shelf_on}
 use Rattle.step_going.specs.Standing.{AreSafe, IsStanding, StandsIn}
 use Rattle.step_going.proofs.Kept.{MadeSure, safe_rebuilt, standing_rebuilt}
@@ -43,16 +42,8 @@ use Rattle.step_sweeps.specs.Made.{node_file, OnlyStep}
 use Rattle.step_sweeps.specs.Makes.{IsGivenFor, goes_on_by, table_by, work_for, operand_nodes}
 use Rattle.step_sweeps.specs.Started.{Starts, MayRun, IsUnderWay}
 use Rattle.step_sweeps.specs.Sweeping.{MayResume, Sweeps, IsOperand, IsCopyFor, most_turns, owed_parts}
-use Rattle.step_sweeps.proofs.Rebuilt.{made_sure, sure_still}
+use Rattle.step_sweeps.proofs.Rebuilt.{made_sure, sure_still, all_sure}
 use Rattle.step_sweeps.proofs.Running.{stays_step}
-
--- a file of which all is sure that may be asked for is its own only image
-all_sure : (world : World) (f : FileNo) → ((n : ℕ) → IsFirm (file world f) ⊎ (n ≤ (file world f).firm))
-    → IsFirm (file world f)
-all_sure world f sure = elim (sure ((file world f).firm + 1)) [
-  | inl firm ↦ firm
-  | inr less ↦ absurd (omega (arith, less))
-]
 
 -- both name one task
 one_task : (c : Checkpoint) (t u : CopyTask) → resumes.Names c t → resumes.Names c u → t ≡ u

@@ -50,9 +50,10 @@ use Rattle.step_sweeps.specs.Pairs.{Leads}
 use Rattle.step_sweeps.specs.Started.{IsUnderWay}
 use Rattle.step_sweeps.specs.Sweeping.{IsCovered, IsOperand}
 use Rattle.step_sweeps.specs.Ways.{IsAnew, IsGivenAnew, MakesAnew}
+use Rattle.step_sweeps.proofs.Faults.{no_damage}
 use Rattle.step_sweeps.proofs.UnderWay.{way_sure, way_safe}
-use Rattle.step_sweeps.proofs.Running.{file_stays}
-use Rattle.step_sweeps.proofs.WaysAnew.{apart, no_damage, node_changes, safe_anew}
+use Rattle.step_sweeps.proofs.Running.{file_stays, nodes_apart}
+use Rattle.step_sweeps.proofs.WaysAnew.{node_changes, safe_anew}
 
 -- the file is that of a step before
 operand_before : (making : Making) (f : FileNo) → AreEarlier making.number making.operands → IsOperand making f
@@ -206,7 +207,8 @@ module _ {S : Type 0} (tells : S → Bool) (world : S → World) (counts : S →
 
   source_stays : IsTrue (tells mid) → file (world mid) source.from ≡ file (world old) source.from
   source_stays told_mid = file_stays (λ q. q ≡ node_file making.number) (world old) (world mid) source.from
-      (apart making.number source.from (operand_before making source.from earlier operand)) (nodes_alone.did told_mid)
+      (nodes_apart making.number source.from (operand_before making source.from earlier operand))
+      (nodes_alone.did told_mid)
 
   gate_stays : IsTrue (tells mid) → file (world mid) (checkpoint_gate making.number)
       ≡ file (world old) (checkpoint_gate making.number)

@@ -1,16 +1,19 @@
 -- Where a step that sweeps finds a file damaged.
 use Rattle.std.proofs.Common.{◌≡◌, ◌≢◌, ◌⊎◌, ℕ, subst, inl, inr}
+use Rattle.std.specs.Prelude.{Option, Some, None}
 use Rattle.shelf_model.specs.declared.file_no.FileNo.{FileNo}
 use Rattle.shelf_model.specs.declared.sort_fault.SortFault.{SortFault}
 use Rattle.shelf_model.specs.declared.sort_fault.SortFault.TheVariants.{Shelf, Damaged, RunsSpent}
 use Rattle.shelf_model.specs.File.{File}
 use Rattle.shelf_model.specs.World.{World, file}
+use Rattle.sweep_core.specs.declared.checkpoint.Checkpoint.{Checkpoint}
 use Rattle.sweep_core.specs.Sweeps.{IsNoDamage}
 use Rattle.node_reading.specs.Reading.{IsDamagedNode, IsTrailerFault}
 use Rattle.top_down_sweep.specs.declared.beginning.OperandFiles.{OperandFiles}
 use Rattle.top_down_sweep.specs.declared.machine.Machine.{Machine}
 use Rattle.top_down_sweep.specs.declared.start.Files.{Files}
 use Rattle.top_down_sweep.specs.Damage.{IsAbsent, IsReadDamage, IsStartFault, IsMachineDamage}
+use Rattle.top_down_sweep.specs.Resumes.{Blames, IsOperandFault, OfFirst, OfSecond, OfThird, OfArcs}
 use Rattle.top_down_sweep.specs.Sweeps.{files_in}
 use Rattle.top_down_sweep.specs.Waiting.{AreApart}
 use Rattle.step_sweeps.specs.Damage.{IsDamagedFile, IsArcsFault}
@@ -78,3 +81,17 @@ pub no_damage : (n : ℕ) (operands : OperandFiles) (world : World) (e : SortFau
 no_damage n operands world Shelf none = tt
 no_damage n operands world (Damaged f at) none = absurd none
 no_damage n operands world RunsSpent none = tt
+
+-- a cause that a sweep isn't rebuilt is no want of a part number
+pub never_blamed : {O : Type 0} (o : _) (c : Checkpoint) (world : World) → ¬ (Blames {O = O} o c world RunsSpent)
+never_blamed o c world blames = elim blames.cause [
+  | OfFirst fault ↦ operand _ _ _ blames.saved.first.read fault
+  | OfSecond fault ↦ operand _ _ _ blames.saved.second.read fault
+  | OfThird fault ↦ operand _ _ _ blames.saved.third.read fault
+  | OfArcs fault ↦ fault
+]
+  where
+    operand : (n step : ℕ) (f : FileNo) (read : Option ℕ) → ¬ (IsOperandFault n step f read world RunsSpent)
+    operand n step f None fault = fault
+    operand n step f (Some place) (inl fault) = fault
+    operand n step f (Some place) (inr fault) = fault

@@ -1,6 +1,6 @@
 -- The diagram of an operator: the ways to it, and how it is made in the room, or by sweeps after the room was tried.
 use Rattle.std.proofs.Common.{◌≡◌, ◌∙◌, ℕ, ◌+◌, ◌-◌, ◌*◌, ◌^◌, ◌<◌, ◌≤◌, Bool, IsTrue, List, ap, sym, subst, inl, inr, arith}
-use Rattle.std.specs.Prelude.{min, Option, Some, IfSome, Ok}
+use Rattle.std.specs.Prelude.{min, Ok}
 use Rattle.bool_tables.specs.declared.steps.Bin.{Bin}
 use Rattle.shelf_model.specs.declared.file_no.FileNo.{FileNo}
 use Rattle.shelf_model.specs.Calls.{Told}
@@ -33,10 +33,6 @@ use Rattle.step_sweeps.specs.Ways.{MakesAnew, left_by_sweeps}
 use Rattle.step_sweeps.specs.Operations.{IsWithin}
 use Rattle.step_sweeps.specs.Pairs.{IsPairOf, Leads}
 use Rattle.step_sweeps.proofs.WaysAnew.{Pays, changed_run, node_changes, safe_anew}
-
--- what holds of an answer that was given
-pub of_some : {A : Type 0} (o : Option A) (x : A) (P : A → Type 0) → o ≡ Some x → IfSome o P → P x
-of_some o x P is held = subst (λ q. IfSome q P) is held
 
 -- a file that is canonical after a look was so before
 was_canonical : (looked n : ℕ) (t : List Bool) (f : FileNo) (old mid : World) → Looked looked old mid

@@ -11,6 +11,7 @@ mod AnswerImplying
 mod ImpliedWork
 mod Running
 mod Faults
+mod StepStands
 mod UnderWay
 mod Costs
 mod Rebuilt

@@ -1,5 +1,5 @@
 -- A step that makes a diagram, by what it does where it begins anew, and where it goes on from its last checkpoint.
-use Rattle.std.proofs.Common.{◌≡◌, ◌≢◌, ◌∙◌, ◌-◌, ◌<◌, ◌≤◌, Bool, refl, sym, subst, ap, arith}
+use Rattle.std.proofs.Common.{◌≡◌, ◌≢◌, ◌∙◌, ◌<◌, ◌≤◌, Bool, refl, sym, subst, ap, arith}
 use Rattle.std.specs.Prelude.{Option, Some, None, Result}
 use Rattle.shelf_model.specs.declared.sort_fault.SortFault.{SortFault}
 use Rattle.shelf_model.specs.Faults.{Faults}
@@ -16,7 +16,7 @@ use Rattle.step_sweeps.specs.Going.{MayGoOn, next_of}
 use Rattle.step_sweeps.specs.Makes.{IsGivenFor, Makes, goes_on_by}
 use Rattle.step_sweeps.specs.Sweeping.{IsAtPoint, IsComeToArcs, MayResume, MaySweep, Sweeps, most_turns}
 use Rattle.step_sweeps.specs.Ways.{IsAnew, IsGivenAnew, MakesAnew}
-use Rattle.step_sweeps.proofs.WaysAnew.{ok_more, ok_both, err_more}
+use Rattle.step_sweeps.proofs.Running.{ok_more, ok_both, err_more}
 
 -- where no checkpoint was found, the step is given what one is that begins anew
 pub given_anew : (making : Making) (going : Going) (world : World) (g : Tables) → going.last ≡ None

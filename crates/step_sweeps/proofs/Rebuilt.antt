@@ -1,11 +1,10 @@
 -- A sweep of a step that is rebuilt from its last checkpoint: what was sure of the files that it makes is sure still.
-use Rattle.std.proofs.Common.{◌≡◌, ◌⊎◌, ℕ, ◌+◌, ◌≤◌, min, List, length, take, ap, sym, subst, inl, inr, arith}
+use Rattle.std.proofs.Common.{◌≡◌, ◌⊎◌, ℕ, ◌+◌, ◌≤◌, min, List, length, take, ap, inl, inr, arith}
 use Rattle.std.proofs.lemmas.List.{length-take}
-use Rattle.std.specs.Prelude.{Option, Some}
 use Rattle.shelf_model.specs.declared.file_no.FileNo.{FileNo}
 use Rattle.shelf_model.specs.File.{File}
 use Rattle.shelf_model.specs.Folder.{Folder, file_in}
-use Rattle.shelf_model.specs.World.{Moment}
+use Rattle.shelf_model.specs.World.{Moment, World, file}
 use Rattle.run_tiers.specs.Syncs.{IsFirm}
 use Rattle.step_going.specs.Standing.{StandsIn}
 use Rattle.step_going.proofs.Kept.{MadeSure}
@@ -15,11 +14,19 @@ use Rattle.sweep_core.specs.Carries.{OnlyCutBehind}
 use Rattle.sweep_core.specs.Saving.{IsMadePart}
 
 -- what is sure of a file, as far as it has bytes
-sure_there : (x : File) (n : ℕ) → IsFirm x ⊎ (n ≤ x.firm) → n ≤ length x.bytes → n ≤ x.firm
+pub sure_there : (x : File) (n : ℕ) → IsFirm x ⊎ (n ≤ x.firm) → n ≤ length x.bytes → n ≤ x.firm
 sure_there x n (inl firm) there =
     let all : x.firm ≡ length x.bytes = ap (λ (y : File). y.firm) firm in
     omega (arith, all, there)
 sure_there x n (inr sure) there = sure
+
+-- a file of which all is sure that may be asked for is its own only image
+pub all_sure : (world : World) (f : FileNo) → ((n : ℕ) → IsFirm (file world f) ⊎ (n ≤ (file world f).firm))
+    → IsFirm (file world f)
+all_sure world f sure = elim (sure ((file world f).firm + 1)) [
+  | inl firm ↦ firm
+  | inr less ↦ absurd (omega (arith, less))
+]
 
 -- where a file gives so much of what it gave it has as many bytes
 still_there : (n : ℕ) (old new : List ℕ) → take n new ≡ take n old → n ≤ length old → n ≤ length new

@@ -1,6 +1,6 @@
 -- A reduction that goes on from a step's last checkpoint: what it makes and takes, whether a turn was refused or it ended.
-use Rattle.std.proofs.Common.{◌≡◌, ◌⊎◌, ◌∙◌, ℕ, ◌+◌, ◌-◌, ◌*◌, ◌/◌, ◌^◌, ◌<◌, ◌≤◌, Bool, IsTrue, List, refl, ap, sym, subst, inl, inr, mul-le-mul_right, arith}
-use Rattle.std.specs.Prelude.{min, max, Option, Some, None, Result, Ok, Err, IsErrOf, length}
+use Rattle.std.proofs.Common.{◌≡◌, ◌⊎◌, ◌∙◌, ℕ, ◌+◌, ◌-◌, ◌*◌, ◌^◌, ◌<◌, ◌≤◌, Bool, IsTrue, ap, sym, subst, inl, inr, mul-le-mul_right, arith}
+use Rattle.std.specs.Prelude.{min, max, Some, Ok, Err, IsErrOf}
 use Rattle.std.proofs.lemmas.Bool.{cases_lt}
 use Rattle.shelf_model.specs.declared.file_no.FileNo.{FileNo}
 use Rattle.shelf_model.specs.declared.sort_fault.SortFault.{SortFault}
@@ -9,7 +9,7 @@ use Rattle.shelf_model.specs.Calls.{Told}
 use Rattle.shelf_model.specs.Faults.{Faults}
 use Rattle.shelf_model.specs.Folder.{Image, AreFiles, IsImage, bytes_in}
 use Rattle.shelf_model.specs.Moments.{Ran, Throughout, OnlyChanged}
-use Rattle.shelf_model.specs.World.{Moment, World, now, file}
+use Rattle.shelf_model.specs.World.{Moment, World, now}
 use Rattle.shelf_model.proofs.Changing.{told_changed_then}
 use Rattle.shelf_model.proofs.Runs.{joins}
 use Rattle.run_tiers.specs.Faults.{OnlySortShelf}
@@ -34,8 +34,8 @@ use Rattle.step_sweeps.specs.declared.task.Making.{Making}
 use Rattle.step_sweeps.specs.Given.{Tables}
 use Rattle.step_sweeps.specs.Going.{rest_calls}
 use Rattle.step_sweeps.specs.Kinds.{reduce_kind}
-use Rattle.step_sweeps.specs.Made.{node_file, OnlyStep, IsCounted}
-use Rattle.step_sweeps.specs.Makes.{IsGivenFor, goes_on_by, table_by, work_for, operand_nodes}
+use Rattle.step_sweeps.specs.Made.{node_file, OnlyStep}
+use Rattle.step_sweeps.specs.Makes.{IsGivenFor, goes_on_by, work_for, operand_nodes}
 use Rattle.step_sweeps.specs.Reduced.{ReducesTo}
 use Rattle.step_sweeps.specs.Started.{Starts, IsUnderWay}
 use Rattle.step_sweeps.specs.Sweeping.{MayResume, Sweeps, IsCovered, most_turns, owed_parts}

@@ -1,7 +1,7 @@
 -- A reduction that is rebuilt from a step's last checkpoint.
-use Rattle.std.proofs.Common.{◌≡◌, ◌≢◌, ◌⊎◌, ◌∙◌, ℕ, ◌+◌, ◌-◌, ◌*◌, ◌/◌, ◌^◌, ◌<◌, ◌≤◌, Bool, IsTrue, List, [], refl, ap, sym, subst, inl, inr, arith}
+use Rattle.std.proofs.Common.{◌≡◌, ◌≢◌, ◌∙◌, ℕ, ◌+◌, ◌-◌, ◌*◌, ◌^◌, ◌≤◌, Bool, IsTrue, [], refl, ap, sym, subst, inl, inr, arith}
 use Rattle.std.proofs.lemmas.List.Elements.{All-get_or}
-use Rattle.std.specs.Prelude.{min, max, Option, Some, None, Result, Ok, Err, IfOk, IfErr, length}
+use Rattle.std.specs.Prelude.{Some, Result, Ok, Err, IfOk, IfErr, length}
 use Rattle.shelf_model.specs.declared.file_no.FileNo.{FileNo}
 use Rattle.shelf_model.specs.declared.sort_fault.SortFault.{SortFault}
 use Rattle.shelf_model.specs.declared.sort_fault.SortFault.TheVariants.{RunsSpent}
@@ -9,7 +9,7 @@ use Rattle.shelf_model.specs.Calls.{Told}
 use Rattle.shelf_model.specs.Faults.{Faults}
 use Rattle.shelf_model.specs.Folder.{AreFiles}
 use Rattle.shelf_model.specs.Moments.{Ran, Stays, Throughout}
-use Rattle.shelf_model.specs.World.{Moment, World, now, file}
+use Rattle.shelf_model.specs.World.{Moment, World, now}
 use Rattle.shelf_model.proofs.Runs.{told, ran_end, ran_weakens}
 use Rattle.run_tiers.specs.declared.run.Run.{Run}
 use Rattle.run_tiers.specs.declared.run.RunTable.{RunTable}
@@ -17,15 +17,14 @@ use Rattle.run_tiers.specs.Faults.{OnlySortShelf}
 use Rattle.run_tiers.specs.Tables.{IsInUse}
 use Rattle.run_tiers.proofs.FaultLaws.{sort_shelf_on}
 use Rattle.run_merge.specs.Tables.{IsBeforeEnd}
-use Rattle.run_tiers.specs.Syncs.{IsFirm}
 use Rattle.step_going.specs.Standing.{AreSafe, IsStanding, StandsIn}
 use Rattle.step_going.proofs.Kept.{MadeSure, safe_rebuilt, standing_rebuilt}
 use Rattle.sweep_checkpoint.specs.Gated.{present}
-use Rattle.sweep_checkpoint.specs.Going.{IsPaidTo, interval_of, first_owed}
+use Rattle.sweep_checkpoint.specs.Going.{first_owed}
 use Rattle.sweep_checkpoint.specs.declared.going.Going.{Going}
 use Rattle.sweep_core.specs.declared.checkpoint.Checkpoint.{Checkpoint}
 use Rattle.sweep_core.specs.Carries.{OnlyCutBehind}
-use Rattle.sweep_core.specs.Saving.{IsOfStep, IsMadePart, reads_of}
+use Rattle.sweep_core.specs.Saving.{IsOfStep, reads_of}
 use Rattle.sweep_core.specs.Sweeps.{IsNoDamage}
 use Rattle.sweep_core.specs.Tables.{records_named}
 use Rattle.resumable.specs.Diagrams.{diagram_rests}
@@ -52,16 +51,8 @@ use Rattle.step_sweeps.specs.Makes.{IsGivenFor, goes_on_by, table_by, work_for, 
 use Rattle.step_sweeps.specs.Reduced.{ReducesTo}
 use Rattle.step_sweeps.specs.Started.{Starts, MayRun, IsUnderWay}
 use Rattle.step_sweeps.specs.Sweeping.{MayResume, Sweeps, most_turns, owed_parts}
-use Rattle.step_sweeps.proofs.Rebuilt.{made_sure, sure_still}
+use Rattle.step_sweeps.proofs.Rebuilt.{made_sure, sure_still, all_sure}
 use Rattle.step_sweeps.proofs.Running.{stays_step}
-
--- a file of which all is sure that may be asked for is its own only image
-all_sure : (world : World) (f : FileNo) → ((n : ℕ) → IsFirm (file world f) ⊎ (n ≤ (file world f).firm))
-    → IsFirm (file world f)
-all_sure world f sure = elim (sure ((file world f).firm + 1)) [
-  | inl firm ↦ firm
-  | inr less ↦ absurd (omega (arith, less))
-]
 
 -- a run's part is none of the file that is made
 not_a_run : (c : Checkpoint) (part : ℕ) (table : RunTable) (f : FileNo) (n : ℕ) → IsSavedTable c part table
@@ -351,15 +342,6 @@ module _ (making : Making) (going : Going) (may : MayResume making.number going)
       faults = rebuilt.faults;
     }
 
--- it makes the file, of the variables, that the checkpoint's words say
-pub task_so : (c : Checkpoint) (out : FileNo) (n : ℕ) (s : ReduceSweep) → resumes.Makes c out n
-    → resumes.Names c (reduce.task_of s) → (reduce.out_of s ≡ out) × (s.place.variables ≡ n)
-task_so c out n s makes names =
-    let one = one_reduction c names.saved makes.saved names.holds makes.holds in (
-      sym names.out_is ∙ (λ i. (one i).out) ∙ makes.out_is,
-      sym names.variables_are ∙ (λ i. (one i).variables) ∙ makes.variables_are,
-    )
-
 -- the same of what a rebuild answers
 module _ (making : Making) (going : Going) (may : MayResume making.number going) (second : going.sweep ≡ 1)
     {S : Type 0} (tells : S → Bool) (world : S → World) (counts : S → Faults) (old mid : S)
@@ -370,11 +352,3 @@ module _ (making : Making) (going : Going) (may : MayResume making.number going)
       (λ g. work_for making g - 1) 0 making going old mid s)
   starts_of (Ok s) rebuilt = starts_so making going may second tells world counts s old mid files_are (rebuilt s refl)
   starts_of (Err e) rebuilt = tt
-
--- what holds of an answer that was given
-pub of_ok : {A E : Type 0} (r : Result A E) (x : A) (P : A → Type 0) → r ≡ Ok x → IfOk r P → P x
-of_ok r x P is held = subst (λ q. IfOk q P) is held
-
--- a step's last checkpoint is one
-pub one_point : (c d : Checkpoint) (last : Option Checkpoint) → last ≡ Some c → last ≡ Some d → d ≡ c
-one_point c d last one other = cc

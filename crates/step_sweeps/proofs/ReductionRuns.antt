@@ -1,6 +1,6 @@
 -- The reduction of a step's arcs by a sweep: what it makes and takes, whether its start or a turn was refused, or it ended.
-use Rattle.std.proofs.Common.{◌≡◌, ◌≢◌, ◌⊎◌, ◌∙◌, ℕ, ◌+◌, ◌-◌, ◌*◌, ◌/◌, ◌^◌, ◌<◌, ◌≤◌, Bool, IsTrue, List, ◌++◌, refl, ap, sym, subst, inl, inr, mul-le-mul_right, arith}
-use Rattle.std.specs.Prelude.{min, max, Some, Result, Ok, Err, IsErrOf, length}
+use Rattle.std.proofs.Common.{◌≡◌, ◌⊎◌, ◌∙◌, ℕ, ◌+◌, ◌-◌, ◌*◌, ◌^◌, ◌<◌, ◌≤◌, Bool, IsTrue, refl, ap, sym, subst, inl, inr, mul-le-mul_right, arith}
+use Rattle.std.specs.Prelude.{min, max, Ok, Err, IsErrOf, length}
 use Rattle.std.proofs.lemmas.Bool.{cases_lt}
 use Rattle.shelf_model.specs.declared.file_no.FileNo.{FileNo}
 use Rattle.shelf_model.specs.declared.sort_fault.SortFault.{SortFault}
@@ -12,7 +12,7 @@ use Rattle.shelf_model.specs.Folder.{Image, IsImage, bytes_in}
 use Rattle.shelf_model.specs.Moments.{Ran, Throughout, OnlyChanged}
 use Rattle.shelf_model.specs.World.{Moment, World, now, file}
 use Rattle.shelf_model.proofs.Changing.{changed_more, told_changed_then}
-use Rattle.shelf_model.proofs.Runs.{told, ran_weakens}
+use Rattle.shelf_model.proofs.Runs.{told}
 use Rattle.block_stream.specs.Writes.{DuringCut}
 use Rattle.run_tiers.specs.declared.parts.Parts.{Parts}
 use Rattle.run_tiers.specs.Faults.{OnlySortShelf}
@@ -20,9 +20,7 @@ use Rattle.run_tiers.specs.Parts.{Paid}
 use Rattle.step_going.specs.Standing.{AreSafe}
 use Rattle.sweep_checkpoint.specs.Going.{IsOfGoing, IsLeftAlone, IsAsBefore, GoesOn, AreSure, TakesParts, TakesCalls, IsPaidTo, interval_of, first_owed}
 use Rattle.sweep_checkpoint.specs.declared.going.Going.{Going}
-use Rattle.sweep_core.specs.Accounts.{CanBeTaken}
 use Rattle.sweep_core.specs.Sweeps.{IsNoDamage}
-use Rattle.canon_file.specs.Laws.{HasForm}
 use Rattle.node_file.specs.Canonical.{IsMade}
 use Rattle.arc_file.specs.declared.kind.Kind.TheVariants.{Inner, End}
 use Rattle.arc_file.specs.Files.{HasArcs}
@@ -40,10 +38,11 @@ use Rattle.step_sweeps.specs.declared.arcs.MadeArcs.{MadeArcs}
 use Rattle.step_sweeps.specs.declared.diagram.MadeDiagram.{MadeDiagram}
 use Rattle.step_sweeps.specs.declared.task.Making.{Making}
 use Rattle.step_sweeps.specs.Given.{Tables}
-use Rattle.step_sweeps.specs.Made.{node_file, OnlyStep, HasArcFiles, IsCounted, arc_count}
+use Rattle.step_sweeps.specs.Made.{node_file, OnlyStep, HasArcFiles}
 use Rattle.step_sweeps.specs.Makes.{goes_on_by, table_by, work_for}
 use Rattle.step_sweeps.specs.Sweeping.{AreReducible, MayReduce, Reduces, Takes, IsCovered, calls_of}
 use Rattle.step_sweeps.proofs.ArcsReduced.{safe_meanwhile}
+use Rattle.step_sweeps.proofs.Costs.{few_saves, spent_turns}
 use Rattle.step_sweeps.proofs.Running.{file_stays}
 use Rattle.step_sweeps.proofs.SweptReduction.{HasBegun, job_for, reduced_safe, few_left, cut_only}
 
@@ -66,28 +65,6 @@ sums sources left shown turns interval saves next from first owed stock later_st
       },
       omega (arith, bound, begun, calls),
     )
-
--- no part number is left only after long work
-spent_work : (left shown turns interval saves next first stock later_stock work : ℕ) → 16384 ≤ interval → shown ≤ turns
-    → interval * saves + shown ≤ max shown (turns + left) → stock ≡ 0
-    → 256 * (first - next) + later_stock ≤ stock + (12 * (left + 1) + 4608 * saves)
-    → 256 * next ≤ 131072 + 16 * shown + 12 * (turns - shown) + 60928 → 2 ^ 32 ≤ first → turns + left < work
-    → 2 ^ 35 ≤ work
-spent_work left shown turns interval saves next first stock later_stock work long late few none parts paid spent within =
-    let less : 16384 * saves ≤ interval * saves = mul-le-mul_right saves long in
-    omega (arith, late, few, less, none, parts, paid, spent, within)
-
--- the counts of faults over two calls, where something else is answered in the end
-pub faults_ok : {A B C : Type 0} (old mid new : Faults) (first : Result A SortFault) (second : Result B SortFault)
-    (x : C) → OnlySortShelf old mid first → OnlySortShelf mid new second → OnlySortShelf {T = C} old new (Ok x)
-faults_ok old mid new first second x one two = record {
-  later = let a : old.folder ≤ mid.folder = one.later in
-      let b : mid.folder ≤ new.folder = two.later in
-      omega (arith, a, b);
-  cause = λ is. absurd (cc);
-  say_is = two.say_is ∙ one.say_is;
-  text_is = λ path. two.text_is path ∙ one.text_is path;
-}
 
 -- the file that was cut is the step's node file
 pub cut_here : {S : Type 0} (tells : S → Bool) (world : S → World) (number : ℕ) (out : FileNo) (old mid : S)
@@ -194,10 +171,11 @@ module _ {S : Type 0} (tells : S → Bool) (world : S → World) (counts : S →
           let its = run.took told_new (job_for tells world making m going s old mid files may begun g are.has) remains in
           let paid = may.paid.paid in
           let same = next_is in
-          spent_work (reduce.turns_left s) going.shown going.turns (interval_of going.budget) its.0 s.parts.next
-          t.parts.next (reduce.stock_of s) (reduce.stock_of t) (work_for making g) may.paid.interval may.paid.shown its.1
-          stock its.2.spent (omega (arith, paid, same)) spent
-          (few_left tells world making m going s old mid files may begun told_mid g are)
+          let none = stock in
+          spent_turns going.turns going.shown (reduce.turns_left s) its.0 s.parts.next t.parts.next (reduce.stock_of s)
+          (reduce.stock_of t) (work_for making g) may.paid.shown (omega (arith, paid, same, none))
+          (few_saves (interval_of going.budget) its.0 going.shown _ may.paid.interval its.1) its.2.spent
+          (few_left tells world making m going s old mid files may begun told_mid g are) spent
 
       its_images : Throughout (world old) (world new)
           (λ (x : Moment). AreSafe (goes_on_by making going.budget g) making.number x.folder)

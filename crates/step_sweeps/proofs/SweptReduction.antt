@@ -1,32 +1,21 @@
 -- The reduction of a step's arcs by a sweep, which was begun, and then run and saved, to its end or until it was refused.
-use Rattle.std.proofs.Common.{◌≡◌, ◌≢◌, ◌⊎◌, ◌∙◌, ℕ, ◌+◌, ◌-◌, ◌*◌, ◌/◌, ◌^◌, ◌<◌, ◌≤◌, Bool, IsTrue, List, ◌++◌, refl, ap, sym, subst, inl, inr, mul-le-mul_right, arith}
-use Rattle.std.specs.Prelude.{min, max, Option, Some, None, Result, Ok, Err, IsErrOf, OnOk, length}
-use Rattle.std.proofs.lemmas.Bool.{cases_lt}
+use Rattle.std.proofs.Common.{◌≡◌, ◌⊎◌, ◌∙◌, ℕ, ◌+◌, ◌*◌, ◌^◌, ◌<◌, ◌≤◌, Bool, IsTrue, List, ◌++◌, refl, ap, sym, subst, inl, inr, arith}
+use Rattle.std.specs.Prelude.{Option, Some, length}
 use Rattle.std.proofs.lemmas.List.{length-append}
 use Rattle.shelf_model.specs.declared.file_no.FileNo.{FileNo}
-use Rattle.shelf_model.specs.declared.sort_fault.SortFault.{SortFault}
-use Rattle.shelf_model.specs.declared.sort_fault.SortFault.TheVariants.{RunsSpent}
 use Rattle.shelf_model.specs.Calls.{Told}
-use Rattle.shelf_model.specs.Faults.{Faults}
-use Rattle.shelf_model.specs.File.{File, firm_file}
+use Rattle.shelf_model.specs.File.{firm_file}
 use Rattle.shelf_model.specs.Folder.{Image, IsImage, bytes_in}
 use Rattle.shelf_model.specs.Moments.{Ran, Throughout, OnlyChanged}
 use Rattle.shelf_model.specs.World.{Moment, World, now, file}
-use Rattle.shelf_model.proofs.Changing.{changed_more, told_changed_then}
-use Rattle.shelf_model.proofs.Runs.{joins, told, ran_weakens}
+use Rattle.shelf_model.proofs.Runs.{joins, ran_weakens}
 use Rattle.block_stream.specs.Writes.{DuringCut}
 use Rattle.run_tiers.specs.declared.parts.Parts.{Parts}
-use Rattle.run_tiers.specs.Faults.{OnlySortShelf}
-use Rattle.run_tiers.specs.Parts.{Paid}
 use Rattle.run_tiers.specs.Syncs.{IsFirm}
-use Rattle.run_tiers.proofs.FaultLaws.{sort_shelf_then}
 use Rattle.step_going.specs.Standing.{AreSafe, IsStanding}
 use Rattle.step_going.proofs.GoneOn.{GoesOnBy}
-use Rattle.sweep_checkpoint.specs.Going.{IsOfGoing, IsAsBefore, GoesOn, AreSure}
+use Rattle.sweep_checkpoint.specs.Going.{IsAsBefore, GoesOn, AreSure}
 use Rattle.sweep_checkpoint.specs.declared.going.Going.{Going}
-use Rattle.sweep_core.specs.declared.checkpoint.Checkpoint.{Checkpoint}
-use Rattle.sweep_core.specs.Saving.{IsOfStep, IsMadePart}
-use Rattle.sweep_core.specs.Sweeps.{IsNoDamage}
 use Rattle.resumable.specs.Diagrams.{diagram_rests}
 use Rattle.resumable.proofs.Makings.{reduction_goes}
 use Rattle.resumable.proofs.Resting.{reduction_sees}
@@ -48,14 +37,13 @@ use Rattle.reduce_sweep.specs.Remaining as sweep
 use Rattle.reduce_sweep.specs.Resumes.{reduce_saving, IsOperand}
 use Rattle.reduce_sweep.specs.Sweeps as reduce
 use Rattle.step_sweeps.specs.declared.arcs.MadeArcs.{MadeArcs}
-use Rattle.step_sweeps.specs.declared.diagram.MadeDiagram.{MadeDiagram}
 use Rattle.step_sweeps.specs.declared.task.Making.{Making}
 use Rattle.step_sweeps.specs.Given.{Tables}
 use Rattle.step_sweeps.specs.Kinds.{reduce_kind}
-use Rattle.step_sweeps.specs.Made.{node_file, OnlyStep, HasArcFiles, IsCounted, arc_count}
+use Rattle.step_sweeps.specs.Made.{node_file, HasArcFiles, arc_count}
 use Rattle.step_sweeps.specs.Makes.{goes_on_by, table_by, work_for}
 use Rattle.step_sweeps.specs.Started.{IsUnderWay}
-use Rattle.step_sweeps.specs.Sweeping.{HasArcsOf, AreReducible, MayReduce, Takes, calls_of}
+use Rattle.step_sweeps.specs.Sweeping.{HasArcsOf, AreReducible, MayReduce}
 use Rattle.step_sweeps.proofs.ArcsReduced.{safe_meanwhile, still_has}
 use Rattle.step_sweeps.proofs.UnderWay.{way_sure, way_safe}
 
@@ -122,57 +110,6 @@ pub record HasBegun {S : Type 0} (tells : S → Bool) (world : S → World) (mak
       → d.arcs ≡ inner ++ ends → IsDiagramOf making.n m.arcs.root d.arcs d.table → sweep.RemainsOf s (world mid) d
   pub content : Told tells old mid (Ran (DuringCut (node_file making.number) 0 (now (world old))) (world old) (world mid))
   pub forms : (table : List Bool) → AreArcFiles making.n table m.arcs (world old) → HasForm making.n table
-
--- where no node is counted a turn is left
-pub goes_still : (s : ReduceSweep) → reduce.count_in s ≡ None → 0 < reduce.turns_left s
-goes_still s none = at s.place.phase (reduce.arcs_weight s.ahead + reduce.lists_weight s.lists) none
-  where
-    at : (p : Phase) (k : ℕ) → reduce.count_at p ≡ None → 0 < reduce.fuel_at p k
-    at Between k none = omega arith
-    at (Collect source) k none = omega arith
-    at (Number numbered) k none = omega arith
-    at Forward k none = omega arith
-    at (Ended count) k none = absurd (cc)
-
--- its files are those of a step: the nodes are none of the arcs
-pub files_of_step : (making : Making) (m : MadeArcs) (s : ReduceSweep) → HasArcFiles making.number m.arcs
-    → reduce.out_of s ≡ node_file making.number → reduce.arcs_of s ≡ m.arcs → s.parts ≡ m.parts
-    → m.parts.step ≡ making.number → 5 ≤ m.parts.next
-    → IsOfStep (reduce.accounts.makes s) (IsOperand (reduce.task_of s)) s.parts.step s.parts.next
-files_of_step making m s files out_is arcs_are parts_are of_step past =
-    let step_is : s.parts.step ≡ making.number = ap (λ (p : Parts). p.step) parts_are ∙ of_step in
-    let next_is : s.parts.next ≡ m.parts.next = ap (λ (p : Parts). p.next) parts_are in
-    let inner : (reduce.arcs_of s).inner ≡ m.arcs.inner = ap (λ (u : Unreduced). u.inner) arcs_are in
-    let ends : (reduce.arcs_of s).ends ≡ m.arcs.ends = ap (λ (u : Unreduced). u.ends) arcs_are in
-    let part : FileNo → ℕ = λ f. f.part in
-    let step : FileNo → ℕ = λ f. f.step in
-    record {
-      parts = omega (arith, next_is, past);
-      made = λ f is. record {
-        step_is = ap step (is ∙ out_is) ∙ sym step_is;
-        part = inl (ap part (is ∙ out_is));
-      };
-      others = λ f is. elim is [
-        | inl at ↦ inr (record {
-          step_is = ap step (at.0 ∙ inner ∙ files.inner_is) ∙ sym step_is;
-          part = inr (let at_part = ap part (at.0 ∙ inner ∙ files.inner_is) in
-              (omega (arith, at_part), omega (arith, at_part), omega (arith, at_part, next_is, past)));
-        })
-        | inr at ↦ inr (record {
-          step_is = ap step (at.0 ∙ ends ∙ files.ends_are) ∙ sym step_is;
-          part = inr (let at_part = ap part (at.0 ∙ ends ∙ files.ends_are) in
-              (omega (arith, at_part), omega (arith, at_part), omega (arith, at_part, next_is, past)));
-        })
-      ];
-      apart = λ f is mine. elim is [
-        | inl at ↦ (let one : f.part ≡ 3 = ap part (at.0 ∙ inner ∙ files.inner_is) in
-            let other : f.part ≡ 0 = ap part (mine ∙ out_is) in
-            absurd (omega (arith, one, other)))
-        | inr at ↦ (let one : f.part ≡ 4 = ap part (at.0 ∙ ends ∙ files.ends_are) in
-            let other : f.part ≡ 0 = ap part (mine ∙ out_is) in
-            absurd (omega (arith, one, other)))
-      ];
-    }
 
 module _ {S : Type 0} (tells : S → Bool) (world : S → World) (making : Making) (m : MadeArcs) (going : Going)
     (s : ReduceSweep) (old mid : S) (files : HasArcFiles making.number m.arcs) (may : MayReduce making.number going m.parts)

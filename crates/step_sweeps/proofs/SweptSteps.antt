@@ -1,8 +1,8 @@
 -- A step that makes a diagram by sweeps: its arcs are made, or refused, and then reduced.
-use Rattle.std.proofs.Common.{◌≡◌, ◌∙◌, ℕ, ◌+◌, ◌-◌, ◌*◌, ◌^◌, ◌<◌, ◌≤◌, Bool, IsTrue, List, ap, sym, subst, arith}
-use Rattle.std.specs.Prelude.{Option, None, Result, Ok, Err, IfOk, IfErr, IsErrOf, IsErrAnd}
+use Rattle.std.proofs.Common.{◌≡◌, ℕ, ◌*◌, ◌≤◌, Bool, IsTrue, List, ap, sym, subst, arith}
+use Rattle.std.specs.Prelude.{None, Result, Ok, Err, IsErrOf, IsErrAnd}
 use Rattle.shelf_model.specs.declared.sort_fault.SortFault.{SortFault}
-use Rattle.shelf_model.specs.declared.sort_fault.SortFault.TheVariants.{Shelf, Damaged, RunsSpent}
+use Rattle.shelf_model.specs.declared.sort_fault.SortFault.TheVariants.{RunsSpent}
 use Rattle.shelf_model.specs.Faults.{Faults}
 use Rattle.shelf_model.specs.Folder.{AreFiles}
 use Rattle.shelf_model.specs.Moments.{Throughout}
@@ -14,46 +14,22 @@ use Rattle.run_tiers.proofs.FaultLaws.{sort_shelf_then}
 use Rattle.step_going.specs.Standing.{AreSafe, IsStanding}
 use Rattle.sweep_checkpoint.specs.Going.{first_owed}
 use Rattle.sweep_checkpoint.specs.declared.going.Going.{Going}
-use Rattle.sweep_core.specs.declared.checkpoint.Checkpoint.{Checkpoint}
 use Rattle.sweep_core.specs.Saving.{reads_of}
-use Rattle.sweep_core.specs.Sweeps.{IsNoDamage}
 use Rattle.resumable.specs.Diagrams.{diagram_rests}
-use Rattle.top_down_sweep.specs.declared.beginning.OperandFiles.{OperandFiles}
 use Rattle.top_down_sweep.specs.Ordered.{AreOrdered}
 use Rattle.top_down_sweep.specs.Tasks.{AreArcFiles}
 use Rattle.step_sweeps.specs.declared.arcs.MadeArcs.{MadeArcs}
 use Rattle.step_sweeps.specs.declared.diagram.MadeDiagram.{MadeDiagram}
 use Rattle.step_sweeps.specs.declared.task.Making.{Making}
-use Rattle.step_sweeps.specs.Damage.{IsArcsFault}
 use Rattle.step_sweeps.specs.Given.{Tables, tuples_by}
 use Rattle.step_sweeps.specs.Going.{next_of, rest_calls}
-use Rattle.step_sweeps.specs.Made.{OnlyStep, IsCounted}
-use Rattle.step_sweeps.specs.Makes.{IsGivenFor, goes_on_by, table_by, work_for, operand_nodes}
-use Rattle.step_sweeps.specs.Sweeping.{MakesArcs, AreReducible, Reduces, Sweeps, IsEarly, MaySweep, MayReduce, most_turns, owed_parts}
+use Rattle.step_sweeps.specs.Makes.{IsGivenFor, goes_on_by, table_by, operand_nodes}
+use Rattle.step_sweeps.specs.Sweeping.{MakesArcs, AreReducible, Reduces, Sweeps, IsEarly, MaySweep, most_turns, owed_parts}
 use Rattle.step_sweeps.specs.Ways.{IsGivenAnew, MakesAnew, left_by_sweeps}
+use Rattle.step_sweeps.proofs.Faults.{no_damage}
+use Rattle.step_sweeps.proofs.Running.{ok_more, ok_both, err_more}
+use Rattle.step_sweeps.proofs.StepStands.{points_there}
 use Rattle.step_sweeps.proofs.SweptSums.{first_paid, both_paid, both_made, most_within}
-use Rattle.step_sweeps.proofs.UnderWay.{points_there}
-
--- what follows of an answer, and of a fault
-pub ok_more : {A E : Type 0} (r : Result A E) (P Q : A → Type 0) → ((x : A) → P x → Q x) → IfOk r P → IfOk r Q
-ok_more (Ok x) P Q more is = more x is
-ok_more (Err e) P Q more is = tt
-
-pub ok_both : {A E : Type 0} (r : Result A E) (P Q R : A → Type 0) → ((x : A) → P x → Q x → R x) → IfOk r P → IfOk r Q
-    → IfOk r R
-ok_both (Ok x) P Q R both p q = both x p q
-ok_both (Err e) P Q R both p q = tt
-
-pub err_more : {A E : Type 0} (r : Result A E) (P Q : E → Type 0) → ((e : E) → P e → Q e) → IfErr r P → IfErr r Q
-err_more (Ok x) P Q more is = tt
-err_more (Err e) P Q more is = more e is
-
--- a fault that is no damage is one of the step
-no_damage : (n : ℕ) (operands : OperandFiles) (world : World) (e : SortFault) → IsNoDamage e
-    → IsArcsFault n operands world e
-no_damage n operands world Shelf none = tt
-no_damage n operands world (Damaged f at) none = absurd none
-no_damage n operands world RunsSpent none = tt
 
 -- the arcs of a table's diagram are in the order of their files
 in_order : (n : ℕ) (table : List Bool) (m : MadeArcs) (world : World) → AreArcFiles n table m.arcs world
@@ -100,16 +76,6 @@ module _ {S : Type 0} (tells : S → Bool) (world : S → World) (counts : S →
 
     module _ (at : S) (m : MadeArcs) (may : MaySweep making.number old) (early : IsEarly tells world making old before)
         (first : MakesArcs tells world counts making old mid before at (Ok m)) where
-      -- they may be reduced
-      pub may_reduce : MayReduce making.number mid m.parts
-      may_reduce = record {
-        step_is = first.going.step_is ∙ may.step_is;
-        of_step = first.parts.0;
-        past = first.parts.1.0;
-        below = first.parts.1.1;
-        paid = first.paid;
-      }
-
       -- of the step's tables they are such as can be
       reducible : IsTrue (tells at) → (g : Tables) → IsGivenFor making old (world before) g
           → (are : AreReducible making mid g 10 m (world at))

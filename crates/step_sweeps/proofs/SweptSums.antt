@@ -1,5 +1,5 @@
 -- What both sweeps of a step that makes a diagram take together, in turns and in calls of the folder.
-use Rattle.std.proofs.Common.{◌≡◌, ℕ, ◌+◌, ◌-◌, ◌*◌, ◌^◌, ◌<◌, ◌≤◌, max, refl, arith}
+use Rattle.std.proofs.Common.{◌≡◌, ℕ, ◌+◌, ◌-◌, ◌*◌, ◌≤◌, max, refl, arith}
 use Rattle.std.specs.Prelude.{Option, Some, None}
 use Rattle.sweep_core.specs.declared.checkpoint.Checkpoint.{Checkpoint}
 use Rattle.sweep_checkpoint.specs.declared.going.Going.{Going}

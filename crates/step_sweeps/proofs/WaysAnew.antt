@@ -1,6 +1,6 @@
 -- What a step that begins anew makes, leaves and costs, by what a way of it does, and after files were looked at.
 use Rattle.std.proofs.Common.{◌≡◌, ◌⊎◌, ◌∙◌, ℕ, ◌+◌, ◌-◌, ◌*◌, ◌^◌, ◌<◌, ◌≤◌, Bool, IsTrue, List, length, refl, sym, subst, ap, inl, inr, arith}
-use Rattle.std.specs.Prelude.{Result, Ok, Err, IfOk, IfErr, IsErrAnd, None}
+use Rattle.std.specs.Prelude.{Result, Ok, Err, IsErrAnd, None}
 use Rattle.rec_words.specs.Words.{node_size}
 use Rattle.shelf_model.specs.declared.file_no.FileNo.{FileNo}
 use Rattle.shelf_model.specs.declared.fault.StreamFault.{StreamFault}
@@ -8,7 +8,7 @@ use Rattle.shelf_model.specs.declared.fault.StreamFault.TheVariants as stream
 use Rattle.shelf_model.specs.declared.sort_fault.SortFault.{SortFault}
 use Rattle.shelf_model.specs.declared.sort_fault.SortFault.TheVariants.{Shelf, Damaged, RunsSpent}
 use Rattle.shelf_model.specs.Calls.{Told}
-use Rattle.shelf_model.specs.Faults.{Faults, OnlyShelf}
+use Rattle.shelf_model.specs.Faults.{Faults}
 use Rattle.shelf_model.specs.File.{File}
 use Rattle.shelf_model.specs.Folder.{Folder, file_in}
 use Rattle.shelf_model.specs.Moments.{Ran, Stays, Throughout, OnlyChanged}
@@ -41,35 +41,8 @@ use Rattle.step_sweeps.specs.Given.{Tables}
 use Rattle.step_sweeps.specs.Made.{node_file, OnlyStep}
 use Rattle.step_sweeps.specs.Makes.{IsGiven, HasNoGate, table_by, nodes_for, work_for, goes_on_by}
 use Rattle.step_sweeps.specs.Ways.{IsGivenAnew, MakesAtOnce, MakesAnew}
-
--- what follows of an answer, and of a fault
-pub ok_more : {A E : Type 0} (r : Result A E) (P Q : A → Type 0) → ((x : A) → P x → Q x) → IfOk r P → IfOk r Q
-ok_more (Ok x) P Q more is = more x is
-ok_more (Err e) P Q more is = tt
-
-pub ok_both : {A E : Type 0} (r : Result A E) (P Q R : A → Type 0) → ((x : A) → P x → Q x → R x) → IfOk r P → IfOk r Q
-    → IfOk r R
-ok_both (Ok x) P Q R both p q = both x p q
-ok_both (Err e) P Q R both p q = tt
-
-pub err_more : {A E : Type 0} (r : Result A E) (P Q : E → Type 0) → ((e : E) → P e → Q e) → IfErr r P → IfErr r Q
-err_more (Ok x) P Q more is = tt
-err_more (Err e) P Q more is = more e is
-
--- a node file of another step isn't the step's
-pub apart : (number : ℕ) (f : FileNo) → f.step < number → ¬ (f ≡ node_file number)
-apart number f before same = absurd (let step = ap (λ (x : FileNo). x.step) same in omega (arith, step, before))
-
--- the gate of the step's checkpoints isn't its node file
-gate_apart : (number : ℕ) → ¬ (checkpoint_gate number ≡ node_file number)
-gate_apart number same = absurd (let part = ap (λ (x : FileNo). x.part) same in omega (arith, part))
-
--- a fault that is no damage is one of the step
-pub no_damage : (n : ℕ) (operands : OperandFiles) (world : World) (e : SortFault) → IsNoDamage e
-    → IsArcsFault n operands world e
-no_damage n operands world Shelf none = tt
-no_damage n operands world (Damaged f at) none = absurd none
-no_damage n operands world RunsSpent none = tt
+use Rattle.step_sweeps.proofs.Faults.{no_damage}
+use Rattle.step_sweeps.proofs.Running.{gate_apart, ok_more, ok_both, err_more}
 
 -- damage of a file that is as it was
 still_damaged : (n : ℕ) (read : FileNo) (old new : World) (f : FileNo) (at : ℕ) → file new read ≡ file old read
@@ -125,12 +98,6 @@ still_none : (number looked : ℕ) (old mid : World) → Looked looked old mid �
     → HasNoGate number mid
 still_none number looked old mid look none =
     ap (λ (x : File). x.bytes) (looked_same looked (checkpoint_gate number) old mid look) ∙ none
-
--- an answer with no other count of faults than the folder's
-pub answered : {A : Type 0} (old new : Faults) (x : A) → OnlyShelf old new (Ok x)
-    → OnlySortShelf {T = Unit} old new (Ok tt)
-answered old new x only =
-    record { later = only.later; cause = λ is. absurd (cc); say_is = only.say_is; text_is = only.text_is }
 
 -- a look changes no file, and so not the step's node file either
 looked_changed : (number looked : ℕ) (old new : World) → Looked looked old new

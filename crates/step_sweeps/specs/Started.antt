@@ -1,7 +1,6 @@
 -- A sweep of a step that makes a diagram, as it is begun anew, or rebuilt from the step's last checkpoint.
-use Rattle.std.specs.Prelude.{◌≡◌, ◌≢◌, ◌⊎◌, ℕ, ◌+◌, ◌-◌, ◌*◌, ◌<◌, ◌≤◌, Bool, IsTrue, Ok, Option, Some, None}
+use Rattle.std.specs.Prelude.{◌≡◌, ◌⊎◌, ℕ, ◌+◌, ◌-◌, ◌*◌, ◌<◌, ◌≤◌, Bool, IsTrue, Ok, Option, Some}
 use Rattle.shelf_model.specs.declared.file_no.FileNo.{FileNo}
-use Rattle.shelf_model.specs.declared.sort_fault.SortFault.{SortFault}
 use Rattle.shelf_model.specs.Calls.{Told}
 use Rattle.shelf_model.specs.Faults.{Faults}
 use Rattle.shelf_model.specs.Moments.{Ran, Throughout}
@@ -18,7 +17,7 @@ use Rattle.resumable.specs.Diagrams.{diagram_rests}
 use Rattle.step_sweeps.specs.declared.task.Making.{Making}
 use Rattle.step_sweeps.specs.Given.{Tables}
 use Rattle.step_sweeps.specs.Going.{rest_calls}
-use Rattle.step_sweeps.specs.Made.{node_file, OnlyStep}
+use Rattle.step_sweeps.specs.Made.{OnlyStep}
 use Rattle.step_sweeps.specs.Makes.{IsGivenFor, goes_on_by, operand_nodes}
 use Rattle.step_sweeps.specs.Sweeping.{owed_parts}
 

@@ -1,10 +1,10 @@
-use Rattle.std.proofs.Common.{◌≡◌, refl, ap, rules, arith}
-use Rattle.std.specs.Prelude.{Ok, Err}
+use Rattle.std.proofs.Common.{◌≡◌, refl, ap, arith}
+use Rattle.std.specs.Prelude.{Err}
 use Rattle.run_tiers.proofs.FaultLaws.{sort_shelf_on, sort_shelf_then}
 use Rattle.shelf_model.specs.declared.sort_fault.SortFault.{SortFault}
 use Rattle.shelf_model.specs.declared.sort_fault.SortFault.TheVariants.{RunsSpent}
-use Rattle.step_sweeps.proofs.ReductionRuns.{faults_ok}
 use Rattle.step_sweeps.proofs.CopyRuns.{begun_at, handed_anew, copy_refused, copy_ended}
+use Rattle.step_sweeps.proofs.Running.{faults_ok}
 use Rattle.step_sweeps.proofs.copy.copy_in_turns.Goals as goal
 
 -- a turn or a save was refused

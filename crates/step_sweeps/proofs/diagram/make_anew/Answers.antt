@@ -1,7 +1,8 @@
-use Rattle.std.proofs.Common.{rules, ◌≤◌, arith}
+use Rattle.std.proofs.Common.{rules, arith}
 use Rattle.step_sweeps.specs.Ways.{left_by_sweeps}
 use Rattle.step_sweeps.proofs.JoinsAnew.{pair_read, chosen_leads}
-use Rattle.step_sweeps.proofs.WaysAnew.{after_look, answered, look_refused, with_less}
+use Rattle.step_sweeps.proofs.Running.{folder_ok}
+use Rattle.step_sweeps.proofs.WaysAnew.{after_look, look_refused, with_less}
 use Rattle.step_sweeps.proofs.diagram.make_anew.Goals as goal
 
 -- no operator
@@ -39,5 +40,5 @@ returns g c = record {
   makes = after_look g.S.Shelf.tells g.S.Shelf.world g.S.Shelf.faults c.args.making c.args.going.now.budget 4 0 0
       (λ g. 0) (λ g. 0) 11 7 _ _ _ c.make_by.result (omega arith)
       (λ told. record { turns = λ g given. omega arith; few_calls = λ g given. omega arith; calls = λ below. omega arith })
-      c.read_pair.ensures.content (answered _ _ _ c.in_ok-pair.ensures.faults) c.make_by.ensures.makes;
+      c.read_pair.ensures.content (folder_ok _ _ _ c.in_ok-pair.ensures.faults) c.make_by.ensures.makes;
 }

@@ -1,4 +1,4 @@
-use Rattle.std.proofs.Common.{◌≤◌, subst, arith}
+use Rattle.std.proofs.Common.{subst, arith}
 use Rattle.copied_diagrams.specs.Ways.{IsOfPair}
 use Rattle.step_sweeps.specs.Makes.{nodes_for}
 use Rattle.step_sweeps.proofs.JoinsAnew.{of_earlier}

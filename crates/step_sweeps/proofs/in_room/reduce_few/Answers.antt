@@ -1,4 +1,4 @@
-use Rattle.step_sweeps.proofs.ArcsReduced.{of_some}
+use Rattle.step_sweeps.proofs.Running.{of_some}
 use Rattle.step_sweeps.proofs.SweptReduction.{has_form}
 use Rattle.step_sweeps.proofs.in_room.reduce_few.Goals as goal
 

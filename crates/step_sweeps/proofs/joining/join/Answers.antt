@@ -1,8 +1,9 @@
 use Rattle.std.proofs.Common.{refl, rules, arith}
 use Rattle.step_sweeps.specs.Makes.{nodes_for}
 use Rattle.step_sweeps.specs.Ways.{left_by_sweeps}
-use Rattle.step_sweeps.proofs.JoinsAnew.{of_some, within, failed_calls, look_pays, joined_makes}
-use Rattle.step_sweeps.proofs.WaysAnew.{after_look, answered, changed_run, failed}
+use Rattle.step_sweeps.proofs.JoinsAnew.{within, failed_calls, look_pays, joined_makes}
+use Rattle.step_sweeps.proofs.Running.{of_some, folder_ok}
+use Rattle.step_sweeps.proofs.WaysAnew.{after_look, changed_run, failed}
 use Rattle.step_sweeps.proofs.joining.join.Goals as goal
 
 pub sweep_diagram-requires-clause-within : goal.sweep_diagram-requires-clause-within
@@ -42,5 +43,5 @@ returns g c = record {
       (look_pays g.S.Shelf.tells g.S.Shelf.world g.S.Shelf.faults c.args.op c.args.making c.args.pair _ c.requires.pair
       c.args.before c.saturating_add-nodes.result c.saturating_add-2.result c.saturating_add-looked.result
       c.saturating_add-nodes.ensures c.saturating_add-2.ensures c.saturating_add-looked.ensures)
-      (search rules) (answered _ _ _ c.in_ok-tried.ensures.faults) c.sweep_diagram.ensures.makes;
+      (search rules) (folder_ok _ _ _ c.in_ok-tried.ensures.faults) c.sweep_diagram.ensures.makes;
 }

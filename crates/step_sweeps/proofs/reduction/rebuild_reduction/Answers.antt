@@ -1,8 +1,9 @@
-use Rattle.std.proofs.Common.{◌≡◌, ◌∙◌, refl, sym, subst, true≢false}
+use Rattle.std.proofs.Common.{◌∙◌, sym, subst, true≢false}
 use Rattle.run_tiers.specs.Faults.{OnlySortShelf}
 use Rattle.reduce_sweep.specs.Resumes.{Makes, Fits}
 use Rattle.step_sweeps.specs.Made.{node_file}
-use Rattle.step_sweeps.proofs.ReductionRebuilt.{WasRebuilt, WasRefused, starts_of, foreign_refused, rebuild_refused, of_ok, one_point}
+use Rattle.step_sweeps.proofs.ReductionRebuilt.{WasRebuilt, WasRefused, starts_of, foreign_refused, rebuild_refused}
+use Rattle.step_sweeps.proofs.Running.{of_ok, one_point}
 use Rattle.step_sweeps.proofs.reduction.rebuild_reduction.Goals as goal
 use Rattle.step_sweeps.proofs.reduction.rebuild_reduction.Goals.{then-not-names-via-then-not-names, then-not-names-via-else-not-names+then-not-fits}
 

@@ -1,6 +1,6 @@
 use Rattle.std.proofs.Common.{refl, rules, arith}
-use Rattle.std.specs.Prelude.{Option, Some, IfSome}
-use Rattle.step_sweeps.proofs.ArcsReduced.{by_sweep, room_failed, room_makes, after_attempt, may_later, of_some, answered}
+use Rattle.step_sweeps.proofs.ArcsReduced.{by_sweep, room_failed, room_makes, after_attempt}
+use Rattle.step_sweeps.proofs.Running.{of_some, folder_ok}
 use Rattle.step_sweeps.proofs.reduction.reduce_arcs.Goals as goal
 
 -- by a sweep alone
@@ -33,5 +33,5 @@ returns g c = record {
   reduces = after_attempt g.S.Shelf.tells g.S.Shelf.world g.S.Shelf.faults c.args.making c.args.made c.args.going.now
       c.requires.files c.requires.may _ refl c.saturating_add-going-2.result _ _ _ c.sweep_arcs-2.result (search arith)
       (search arith) c.saturating_add-going-2.ensures c.reduce_few.ensures.content
-      (answered _ _ _ c.in_ok-tried.ensures.faults) c.sweep_arcs-2.ensures.reduces;
+      (folder_ok _ _ _ c.in_ok-tried.ensures.faults) c.sweep_arcs-2.ensures.reduces;
 }

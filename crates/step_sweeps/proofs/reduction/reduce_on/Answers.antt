@@ -1,11 +1,11 @@
-use Rattle.std.proofs.Common.{◌≡◌, refl, ap, rules, arith}
+use Rattle.std.proofs.Common.{◌≡◌, refl, ap, arith}
 use Rattle.std.specs.Prelude.{Ok, Err}
 use Rattle.run_tiers.proofs.FaultLaws.{sort_shelf_on, sort_shelf_then}
 use Rattle.shelf_model.specs.declared.sort_fault.SortFault.{SortFault}
 use Rattle.shelf_model.specs.declared.sort_fault.SortFault.TheVariants.{RunsSpent}
 use Rattle.reduce_sweep.specs.Sweeps.{Task}
+use Rattle.step_sweeps.proofs.Running.{faults_ok}
 use Rattle.step_sweeps.proofs.SweptSteps.{handed_sweeps}
-use Rattle.step_sweeps.proofs.ReductionRuns.{faults_ok}
 use Rattle.step_sweeps.proofs.ReductionOn.{on_refused, on_ended}
 use Rattle.step_sweeps.proofs.reduction.reduce_on.Goals as goal
 

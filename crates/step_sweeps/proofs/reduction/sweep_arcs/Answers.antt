@@ -1,4 +1,4 @@
-use Rattle.std.proofs.Common.{◌≡◌, ◌∙◌, ◌^◌, ◌<◌, refl, ap, subst, rules, arith}
+use Rattle.std.proofs.Common.{◌≡◌, ◌∙◌, refl, ap, subst, rules}
 use Rattle.std.specs.Prelude.{Err}
 use Rattle.run_tiers.proofs.FaultLaws.{sort_shelf_on, sort_shelf_then}
 use Rattle.shelf_model.specs.declared.sort_fault.SortFault.{SortFault}
@@ -6,9 +6,42 @@ use Rattle.shelf_model.specs.declared.sort_fault.SortFault.TheVariants.{RunsSpen
 use Rattle.reduce_sweep.specs.Sweeps.{Task, IsArcDamage}
 use Rattle.step_sweeps.specs.Makes.{table_by}
 use Rattle.step_sweeps.proofs.ArcsReduced.{handed_reduction}
+use Rattle.step_sweeps.proofs.Running.{faults_ok}
 use Rattle.step_sweeps.proofs.SweptReduction.{HasBegun, has_form, reduced_at_end}
-use Rattle.step_sweeps.proofs.ReductionRuns.{HasRun, not_begun, cut_here, ordered_undamaged, run_refused, run_ended, faults_ok}
+use Rattle.step_sweeps.proofs.ReductionRuns.{HasRun, not_begun, cut_here, ordered_undamaged, run_refused, run_ended}
 use Rattle.step_sweeps.proofs.reduction.sweep_arcs.Goals as goal
+use Rattle.step_sweeps.proofs.reduction.sweep_arcs.Goals.{After-run_saved}
+use Rattle.step_sweeps.proofs.reduction.sweep_arcs.Given.{Over}
+
+-- how the sweep began
+begun : (g : Over) (c : After-run_saved g) → HasBegun g.S.Shelf.tells g.S.Shelf.world c.args.making c.args.made
+    c.in_ok-sweep.sweep c.args.shelf.now c.start.new.shelf
+begun g c =
+    let began = c.in_ok-sweep.ensures in record {
+      out_is = began.files.0 ∙ c.node_file-out.ensures;
+      inner_is = began.files.1;
+      ends_are = began.files.2;
+      arcs_are = began.arcs;
+      variables_are = began.variables;
+      parts_are = began.parts;
+      bound = began.bound;
+      remains = began.remains;
+      content = cut_here g.S.Shelf.tells g.S.Shelf.world c.args.making.number c.node_file-out.result _ _
+          c.node_file-out.ensures c.start.ensures.content;
+      forms = λ table are. has_form c.args.making.n table c.args.made.arcs _
+          (c.reducing_gives_the_canonical_form.ensures c.args.making.n) c.requires.variables c.requires.files.inner_few
+          c.requires.files.ends_few are;
+    }
+
+-- and how its turns and its saves went
+ran : (g : Over) (c : After-run_saved g) → HasRun g.S.Shelf.tells g.S.Shelf.world c.args.making c.args.going.now
+    c.in_ok-sweep.sweep c.run_saved.new.sweep c.start.new.shelf c.run_saved.new.shelf
+ran g c =
+    let said = c.run_saved.ensures in record {
+      changes = said.changes;
+      took = λ told job remains. let its = said.few_calls told job remains in (its.0, its.1, its.2, its.3);
+      images = said.images;
+    }
 
 -- the sweep didn't begin
 pub returns-in_err-sweep : goal.returns-in_err-sweep
@@ -30,38 +63,17 @@ returns-in_err-run_saved g c =
     let said = c.in_err-run_saved.ensures in
     let began = c.in_ok-sweep.ensures in
     let e = c.in_err-run_saved.field-0.0 in
-    let begun_so : HasBegun g.S.Shelf.tells g.S.Shelf.world c.args.making c.args.made c.in_ok-sweep.sweep c.args.shelf.now
-    c.start.new.shelf = record {
-      out_is = began.files.0 ∙ c.node_file-out.ensures;
-      inner_is = began.files.1;
-      ends_are = began.files.2;
-      arcs_are = began.arcs;
-      variables_are = began.variables;
-      parts_are = began.parts;
-      bound = began.bound;
-      remains = began.remains;
-      content = cut_here g.S.Shelf.tells g.S.Shelf.world c.args.making.number c.node_file-out.result _ _
-          c.node_file-out.ensures c.start.ensures.content;
-      forms = λ table are. has_form c.args.making.n table c.args.made.arcs _
-          (c.reducing_gives_the_canonical_form.ensures c.args.making.n) c.requires.variables c.requires.files.inner_few
-          c.requires.files.ends_few are;
-    } in
-    let run_so : HasRun g.S.Shelf.tells g.S.Shelf.world c.args.making c.args.going.now c.in_ok-sweep.sweep
-    c.run_saved.new.sweep c.start.new.shelf c.run_saved.new.shelf = record {
-      changes = said.changes;
-      took = λ told job remains. let its = said.few_calls told job remains in (its.0, its.1, its.2, its.3);
-      images = said.images;
-    } in
+    let here = (goal.at.returns-in_err-run_saved g c).After-run_saved in
     record {
       reduces = handed_reduction g.S.Shelf.tells g.S.Shelf.world g.S.Shelf.faults c.args.making c.args.made
           c.args.going.now 8 _ _ e c.from_residual-in_err-run_saved.result c.from_residual-in_err-run_saved.ensures.1
           (run_refused g.S.Shelf.tells g.S.Shelf.world g.S.Shelf.faults c.args.making c.args.made c.args.going.now
           c.requires.files c.requires.may c.in_ok-sweep.sweep c.run_saved.new.sweep c.args.shelf.now c.start.new.shelf
-          c.run_saved.new.shelf begun_so began.calls began.stock run_so e
+          c.run_saved.new.shelf (begun g here) began.calls began.stock (ran g here) e
           (λ was. let same : e ≡ RunsSpent = cc in said.spent (ap (λ (x : SortFault). Err x) same))
           (λ told. ordered_undamaged g.S.Shelf.tells g.S.Shelf.world g.S.Shelf.faults c.args.making c.args.made
           c.args.going.now c.requires.files c.requires.may c.in_ok-sweep.sweep c.run_saved.new.sweep c.args.shelf.now
-          c.start.new.shelf c.run_saved.new.shelf begun_so began.calls began.stock run_so said.alone told e
+          c.start.new.shelf c.run_saved.new.shelf (begun g here) began.calls began.stock (ran g here) said.alone told e
           (ap (λ (x : Task). x.arcs) said.same) began.trusts said.covered)
           (sort_shelf_on _ _ e (Err e) refl
           (sort_shelf_then _ _ _ c.start.result _ c.start.ensures.faults said.faults)));
@@ -72,30 +84,13 @@ pub returns : goal.returns
 returns g c =
     let said = c.in_ok-run_saved.ensures in
     let began = c.in_ok-sweep.ensures in
+    let here = (goal.at.returns g c).After-run_saved in
     let t = c.run_saved.new.sweep in record {
       reduces = run_ended g.S.Shelf.tells g.S.Shelf.world g.S.Shelf.faults c.args.making c.args.made c.args.going.now
           c.requires.files c.requires.may c.in_ok-sweep.sweep t c.args.shelf.now c.start.new.shelf
           c.run_saved.new.shelf
-          (record {
-            out_is = began.files.0 ∙ c.node_file-out.ensures;
-            inner_is = began.files.1;
-            ends_are = began.files.2;
-            arcs_are = began.arcs;
-            variables_are = began.variables;
-            parts_are = began.parts;
-            bound = began.bound;
-            remains = began.remains;
-            content = cut_here g.S.Shelf.tells g.S.Shelf.world c.args.making.number c.node_file-out.result _ _
-                c.node_file-out.ensures c.start.ensures.content;
-            forms = λ table are. has_form c.args.making.n table c.args.made.arcs _
-                (c.reducing_gives_the_canonical_form.ensures c.args.making.n) c.requires.variables c.requires.files.inner_few
-                c.requires.files.ends_few are;
-          }) began.calls began.stock
-          (record {
-            changes = said.changes;
-            took = λ told job remains. let its = said.few_calls told job remains in (its.0, its.1, its.2, its.3);
-            images = said.images;
-          }) c.run_saved.new.going c.reduced.result c.reduced.ensures.turns c.reduced.ensures.next
+          (begun g here) began.calls began.stock (ran g here) c.run_saved.new.going c.reduced.result
+          c.reduced.ensures.turns c.reduced.ensures.next
           said.grew said.late said.later said.paid said.counted said.few
           (λ told g are remains.
           reduced_at_end c.args.making.n c.args.making.number (table_by c.args.making g) t _ _ _ said.ended

@@ -1,5 +1,5 @@
 use Rattle.std.proofs.Common.{rules}
-use Rattle.step_sweeps.proofs.SweptSteps.{handed_sweeps, arcs_refused, may_reduce, reduced_then}
+use Rattle.step_sweeps.proofs.SweptSteps.{handed_sweeps, arcs_refused, reduced_then}
 use Rattle.step_sweeps.proofs.swept.sweep_on.Goals as goal
 
 -- the arcs weren't made

@@ -1,7 +1,8 @@
 use Rattle.std.proofs.Common.{rules, arith}
 use Rattle.step_sweeps.specs.Makes.{nodes_for}
 use Rattle.step_sweeps.proofs.JoinsAnew.{complement_is}
-use Rattle.step_sweeps.proofs.WaysAnew.{after_look, answered, made_at_once, failed_at_once, at_once_anew}
+use Rattle.step_sweeps.proofs.Running.{folder_ok}
+use Rattle.step_sweeps.proofs.WaysAnew.{after_look, made_at_once, failed_at_once, at_once_anew}
 use Rattle.step_sweeps.proofs.unswept.complement.Goals as goal
 
 -- the folder failed
@@ -38,6 +39,6 @@ returns-else-branch g c = record {
         few_calls = λ tables given. let few = (c.requires.leads told tables given).2.few in omega (arith, few);
         calls = λ below. omega arith;
       })
-      (c.in_ok-complement_file.ensures.left (search rules)) (answered _ _ _ c.in_ok-complement_file.ensures.faults)
+      (c.in_ok-complement_file.ensures.left (search rules)) (folder_ok _ _ _ c.in_ok-complement_file.ensures.faults)
       c.join.ensures.makes;
 }
