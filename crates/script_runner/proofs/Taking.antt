@@ -1,5 +1,5 @@
 -- One step of a run, from its files to its commit and what it leaves behind.
-use Rattle.std.proofs.Common.{◌≡◌, ◌∙◌, ℕ, ◌+◌, ◌*◌, ◌^◌, ◌<◌, ◌≤◌, Bool, true, false, cond, nat_lt, [], length, take, get_or, refl, sym, ap, subst, inl, inr, arith}
+use Rattle.std.proofs.Common.{◌≡◌, ◌∙◌, ℕ, ◌+◌, ◌-◌, ◌*◌, ◌/◌, ◌^◌, ◌<◌, ◌≤◌, ◌⊎◌, Bool, true, false, cond, nat_lt, [], length, take, get_or, refl, sym, ap, subst, inl, inr, arith}
 use Rattle.std.specs.Prelude.{IsTrue, Result, Ok, Err}
 use Rattle.std.specs.List.{list_all}
 use Rattle.bool_tables.specs.declared.steps.Step.{Step}
@@ -32,7 +32,7 @@ use Rattle.step_work.specs.Plans.{no_step}
 use Rattle.sound_image.specs.Jobs.{Job, step_at}
 use Rattle.sound_image.specs.Entries.{IsEntryOfStep, kind_of, work_of}
 use Rattle.sound_image.specs.Holds.{Holds, IsMade, AreResumable, NoneGated}
-use Rattle.sound_image.specs.Steps.{IsOwnFile, OnlyOwnFiles, IsCutBy, IsTidied}
+use Rattle.sound_image.specs.Steps.{IsOwnFile, OnlyOwnFiles, IsCutBy, IsTidied, parts_end}
 use Rattle.sound_image.proofs.Numbers.{IsOfStep, node_of_step, not_catalogue, not_step_gate}
 use Rattle.sound_image.proofs.Resuming.{AreFew, RestsOnSteps}
 use Rattle.sound_image.proofs.StepLaws.{holds_while_made, holds_while_tidied, sound_while_committed, none_after_commit, holds_after_commit}
@@ -100,12 +100,12 @@ dropped_below k gone s dropped earlier =
     only_below k gone (subst (λ x. IsTrue (list_all (λ j. nat_lt j k) (operands x))) (dropping gone s dropped) earlier)
 
 -- a file that is cut behind a step is that of the step or of an earlier one
-cut_file : (s : Step) (k : ℕ) (f : FileNo) → IsTrue (list_all (λ j. nat_lt j k) (operands s)) → IsCutBy s k f → f.step ≤ k
-cut_file s k f earlier (inl (gone, dropped, is)) =
+cut_file : (s : Step) (k next : ℕ) (f : FileNo) → IsTrue (list_all (λ j. nat_lt j k) (operands s)) → IsCutBy s k next f → f.step ≤ k
+cut_file s k next f earlier (inl (gone, dropped, is)) =
     let below : gone < k = dropped_below k gone s dropped earlier in
     let steps : f.step ≡ gone = ap (λ (q : FileNo). q.step) is in
     omega (arith, below, steps)
-cut_file s k f earlier (inr (swept, own)) = let steps : f.step ≡ k = own.step_is in omega (arith, steps)
+cut_file s k next f earlier (inr (swept, own)) = let steps : f.step ≡ k = own.step_is in omega (arith, steps)
 
 -- each image of a folder that is ready has its count
 counts_about : (step count : ℕ) (folder : Folder) → step ≤ count → count ≤ step + 1 → IsReady count folder → (image : Image) → IsImage folder image
@@ -175,26 +175,26 @@ module _ (job : Job) (k : ℕ) (few : AreFew job) (within : k < length job.steps
       (ran_weakens mid new (DuringCommit e (now mid)) (Takes old)
       (λ m during. taking_commits (length job.steps) k e (now old).folder (now mid) m number (ran_end old mid (Takes old) first) during) second)
 
-  cut_within : (s : Step) (f : FileNo) → IsTrue (list_all (λ j. nat_lt j k) (operands s)) → IsCutBy s k f → f.step < length job.steps
-  cut_within s f earlier cut = let low : f.step ≤ k = cut_file s k f earlier cut in omega (arith, low, within)
+  cut_within : (s : Step) (next : ℕ) (f : FileNo) → IsTrue (list_all (λ j. nat_lt j k) (operands s)) → IsCutBy s k next f → f.step < length job.steps
+  cut_within s next f earlier cut = let low : f.step ≤ k = cut_file s k next f earlier cut in omega (arith, low, within)
 
   -- the job's files stay while what a step leaves behind is cut
-  job_tidied : (s : Step) (last m : Moment) → IsTrue (list_all (λ j. nat_lt j k) (operands s)) → OnlyTidied s k last m → JobStays last.folder m.folder
-  job_tidied s last m earlier tidied f job_step =
-      tidied.only f (λ cut. let own : f.step < length job.steps = cut_within s f earlier cut in omega (arith, own, job_step, few))
+  job_tidied : (s : Step) (next : ℕ) (last m : Moment) → IsTrue (list_all (λ j. nat_lt j k) (operands s)) → OnlyTidied s k next last m → JobStays last.folder m.folder
+  job_tidied s next last m earlier tidied f job_step =
+      tidied.only f (λ cut. let own : f.step < length job.steps = cut_within s next f earlier cut in omega (arith, own, job_step, few))
 
-  pub run_tidied : (s : Step) (old last new : World) → IsTrue (list_all (λ j. nat_lt j k) (operands s)) → IsReady (k + 1) (now last).folder
-      → Ran (Takes old) old last → Ran (OnlyTidied s k (now last)) last new → Ran (Takes old) old new
-  run_tidied s old last new earlier ready first second = ran_joins old last new (Takes old) first
-      (ran_weakens last new (OnlyTidied s k (now last)) (Takes old) (λ m tidied.
-      taking_same (length job.steps) k (k + 1) (now old).folder (now last).folder m.folder (omega arith) (omega arith) ready (job_tidied s (now last) m earlier tidied)
-      (λ f apart. tidied.only f (λ cut. apart (inl (cut_within s f earlier cut)))) (ran_end old last (Takes old) first)) second)
+  pub run_tidied : (s : Step) (next : ℕ) (old last new : World) → IsTrue (list_all (λ j. nat_lt j k) (operands s)) → IsReady (k + 1) (now last).folder
+      → Ran (Takes old) old last → Ran (OnlyTidied s k next (now last)) last new → Ran (Takes old) old new
+  run_tidied s next old last new earlier ready first second = ran_joins old last new (Takes old) first
+      (ran_weakens last new (OnlyTidied s k next (now last)) (Takes old) (λ m tidied.
+      taking_same (length job.steps) k (k + 1) (now old).folder (now last).folder m.folder (omega arith) (omega arith) ready (job_tidied s next (now last) m earlier tidied)
+      (λ f apart. tidied.only f (λ cut. apart (inl (cut_within s next f earlier cut)))) (ran_end old last (Takes old) first)) second)
 
   -- the folder is as ready once what a step leaves behind is cut
-  pub ready_tidied : (s : Step) (count : ℕ) (last new : World) → IsTrue (list_all (λ j. nat_lt j k) (operands s)) → Ran (OnlyTidied s k (now last)) last new
+  pub ready_tidied : (s : Step) (next count : ℕ) (last new : World) → IsTrue (list_all (λ j. nat_lt j k) (operands s)) → Ran (OnlyTidied s k next (now last)) last new
       → IsReady count (now last).folder → IsReady count (now new).folder
-  ready_tidied s count last new earlier tidies ready =
-      ready_same count (now last).folder (now new).folder (job_tidied s (now last) (now new) earlier (ran_end last new (OnlyTidied s k (now last)) tidies)) ready
+  ready_tidied s next count last new earlier tidies ready =
+      ready_same count (now last).folder (now new).folder (job_tidied s next (now last) (now new) earlier (ran_end last new (OnlyTidied s k next (now last)) tidies)) ready
 
   -- and while a step's files are made
   pub ready_made : (count : ℕ) (old new : World) → Ran (OnlyItsFiles k (now old)) old new → IsReady count (now old).folder → IsReady count (now new).folder
@@ -203,7 +203,7 @@ module _ (job : Job) (k : ℕ) (few : AreFew job) (within : k < length job.steps
 
   -- the entry of the step stands at its place, once it is committed and tidied up
   pub entry_made : (s : Step) (e : Entry) (mid last new : World) → (get_or job.steps k no_step).step ≡ s → IsTrue (list_all (λ j. nat_lt j k) (operands s)) → IsEntryFor s k e
-      → IsReady e.number (now mid).folder → IsCommitted e (now mid).folder (now last).folder → Ran (OnlyTidied s k (now last)) last new
+      → IsReady e.number (now mid).folder → IsCommitted e (now mid).folder (now last).folder → Ran (OnlyTidied s k e.parts (now last)) last new
       → HasEntry job.steps k e (present (now new).folder)
   entry_made s e mid last new step earlier is ready committed tidies = record {
     stands = record {
@@ -211,7 +211,7 @@ module _ (job : Job) (k : ℕ) (few : AreFew job) (within : k < length job.steps
       number = is.number_is;
       bytes = subst (λ j. entry_at j (present (now new).folder) ≡ entry_bytes e) is.number_is
           (entry_placed e.number (file_in (now mid).folder catalogue).bytes (entry_bytes e) (present (now new).folder) ready.covers (length_entry e is.entry_is.fits)
-          (ap (λ (x : File). x.bytes) (job_tidied s (now last) (now new) earlier (ran_end last new (OnlyTidied s k (now last)) tidies) catalogue refl ∙ committed.catalogue_is)));
+          (ap (λ (x : File). x.bytes) (job_tidied s e.parts (now last) (now new) earlier (ran_end last new (OnlyTidied s k e.parts (now last)) tidies) catalogue refl ∙ committed.catalogue_is)));
     };
     kind_is = is.kind_is ∙ ap kind_of (sym step);
   }
@@ -236,20 +236,20 @@ module _ (job : Job) (k : ℕ) (few : AreFew job) (within : k < length job.steps
 
   -- where it was empty it is empty after the step
   pub still_empty : (s : Step) (e : Entry) (old mid last new : World) → Ran (OnlyItsFiles k (now old)) old mid → Ran (DuringCommit e (now mid)) mid last
-      → Ran (OnlyTidied s k (now last)) last new → (j : ℕ) → j < k → StaysEmpty (node_file j) (now old).folder (now new).folder
+      → Ran (OnlyTidied s k e.parts (now last)) last new → (j : ℕ) → j < k → StaysEmpty (node_file j) (now old).folder (now new).folder
   still_empty s e old mid last new made commits tidies j below before =
-      (ran_end last new (OnlyTidied s k (now last)) tidies).stays (node_file j)
+      (ran_end last new (OnlyTidied s k e.parts (now last)) tidies).stays (node_file j)
       (ap (λ (x : File). x.bytes) (until_tidied e old mid last made commits j below) ∙ before)
 
   -- and unless the step drops it, it is as it was
   pub keeps_diagrams : (s : Step) (e : Entry) (old mid last new : World) → (get_or job.steps k no_step).step ≡ s
       → Ran (OnlyItsFiles k (now old)) old mid → Ran (DuringCommit e (now mid)) mid last
-      → Ran (OnlyTidied s k (now last)) last new → KeepsDiagrams job.steps k (k + 1) (now old).folder (now new).folder
+      → Ran (OnlyTidied s k e.parts (now last)) last new → KeepsDiagrams job.steps k (k + 1) (now old).folder (now new).folder
   keeps_diagrams s e old mid last new step made commits tidies j below none =
-      (ran_end last new (OnlyTidied s k (now last)) tidies).only (node_file j) not_cut
+      (ran_end last new (OnlyTidied s k e.parts (now last)) tidies).only (node_file j) not_cut
       ∙ until_tidied e old mid last made commits j below
     where
-      not_cut : ¬ (IsCutBy s k (node_file j))
+      not_cut : ¬ (IsCutBy s k e.parts (node_file j))
       not_cut (inl (gone, dropped, is)) =
           let same : gone ≡ j = ap (λ (q : FileNo). q.step) (sym is) in
           none k (omega arith) (omega arith) (step ∙ dropping gone s dropped ∙ ap Drop same)
@@ -258,11 +258,11 @@ module _ (job : Job) (k : ℕ) (few : AreFew job) (within : k < length job.steps
   -- and the files of the steps behind it stay
   pub keeps_later : (s : Step) (e : Entry) (old mid last new : World) → IsTrue (list_all (λ j. nat_lt j k) (operands s))
       → Ran (OnlyItsFiles k (now old)) old mid → Ran (DuringCommit e (now mid)) mid last
-      → Ran (OnlyTidied s k (now last)) last new → KeepsLater (k + 1) (now old).folder (now new).folder
+      → Ran (OnlyTidied s k e.parts (now last)) last new → KeepsLater (k + 1) (now old).folder (now new).folder
   keeps_later s e old mid last new earlier made commits tidies f from before =
       let of_step : IsOfStep f = record { early = λ is. omega (arith, is, before) } in
-      (ran_end last new (OnlyTidied s k (now last)) tidies).only f
-      (λ cut. let low : f.step ≤ k = cut_file s k f earlier cut in omega (arith, low, from))
+      (ran_end last new (OnlyTidied s k e.parts (now last)) tidies).only f
+      (λ cut. let low : f.step ≤ k = cut_file s k e.parts f earlier cut in omega (arith, low, from))
       ∙ (ran_end mid last (DuringCommit e (now mid)) commits).others f (not_catalogue f of_step) (not_step_gate f of_step)
       ∙ ran_end old mid (OnlyItsFiles k (now old)) made f (λ own. let same : f.step ≡ k = own in omega (arith, same, from))
 
@@ -396,18 +396,18 @@ module _ (job : Job) (k : ℕ) (few : AreFew job) (rests : RestsOnSteps job) (wi
       record { sound = safe.0; counts = safe.1; stored = safe.2 }) run.moments
 
   -- what a step leaves behind is cut
-  holds_tidied : (s : Step) (before after : Folder) → (step_at job k).step ≡ s → IsTrue (list_all (λ j. nat_lt j k) (operands s)) → Holds job (k + 1) before
-      → NoneGated job (k + 1) before → IsTidied s k before after → Holds job (k + 1) after
-  holds_tidied s before after step earlier holds none tidied = holds_while_tidied job k before after few within holds none
+  holds_tidied : (s : Step) (next : ℕ) (before after : Folder) → (step_at job k).step ≡ s → IsTrue (list_all (λ j. nat_lt j k) (operands s)) → Holds job (k + 1) before
+      → NoneGated job (k + 1) before → IsTidied s k next before after → Holds job (k + 1) after
+  holds_tidied s next before after step earlier holds none tidied = holds_while_tidied job k next before after few within holds none
       (λ gone dropped.
       let below : gone < k = dropped_below k gone s (subst (λ x. IsTrue (drops gone x)) step dropped) earlier in
       omega (arith, below, within))
-      (subst (λ x. IsTidied x k before after) (sym step) tidied)
+      (subst (λ x. IsTidied x k next before after) (sym step) tidied)
 
-  images_tidied : (s : Step) (last new : World) → (step_at job k).step ≡ s → IsTrue (list_all (λ j. nat_lt j k) (operands s)) → Holds job (k + 1) (now last).folder
-      → NoneGated job (k + 1) (now last).folder → Ran (OnlyTidied s k (now last)) last new → Throughout last new (AllHave job k)
-  images_tidied s last new step earlier holds none run = weakens last new (Quiet (now last).said (OnlyTidied s k (now last))) (AllHave job k) (λ m quiet image is_image.
-      let has = held_steps job (k + 1) m.folder image (holds_tidied s (now last).folder m.folder step earlier holds none quiet.holds) is_image in
+  images_tidied : (s : Step) (next : ℕ) (last new : World) → (step_at job k).step ≡ s → IsTrue (list_all (λ j. nat_lt j k) (operands s)) → Holds job (k + 1) (now last).folder
+      → NoneGated job (k + 1) (now last).folder → Ran (OnlyTidied s k next (now last)) last new → Throughout last new (AllHave job k)
+  images_tidied s next last new step earlier holds none run = weakens last new (Quiet (now last).said (OnlyTidied s k next (now last))) (AllHave job k) (λ m quiet image is_image.
+      let has = held_steps job (k + 1) m.folder image (holds_tidied s next (now last).folder m.folder step earlier holds none quiet.holds) is_image in
       let counts = has.counts in
       record { sound = has.sound; counts = omega (arith, counts); stored = has.stored }) run.moments
 
@@ -434,7 +434,7 @@ module _ (job : Job) (k : ℕ) (few : AreFew job) (rests : RestsOnSteps job) (wi
     stopped_committing = record { images = to_last; ok = tt; err = λ x. x; spent = λ j e. absurd cc }
 
     module _ (s : Step) (step : (step_at job k).step ≡ s) (earlier : IsTrue (list_all (λ j. nat_lt j k) (operands s))) (new : World)
-        (committed : IsCommitted e (now mid).folder (now last).folder) (tidies : Ran (OnlyTidied s k (now last)) last new) where
+        (committed : IsCommitted e (now mid).folder (now last).folder) (tidies : Ran (OnlyTidied s k e.parts (now last)) last new) where
       during : DuringCommit e (now mid) (now last)
       during = ran_end mid last (DuringCommit e (now mid)) commits
 
@@ -445,7 +445,7 @@ module _ (job : Job) (k : ℕ) (few : AreFew job) (rests : RestsOnSteps job) (wi
       none_last = none_after_commit job k e (now mid) (now last) files few holds_mid during
 
       all_images : Throughout old new (AllHave job k)
-      all_images = joins old last new (AllHave job k) to_last (images_tidied s last new step earlier holds_last none_last tidies)
+      all_images = joins old last new (AllHave job k) to_last (images_tidied s e.parts last new step earlier holds_last none_last tidies)
 
       pub stopped_tidying : HoldsStep job k (Err FolderFault) old new
       stopped_tidying = record { images = all_images; ok = tt; err = λ x. x; spent = λ j e. absurd cc }
@@ -453,16 +453,27 @@ module _ (job : Job) (k : ℕ) (few : AreFew job) (rests : RestsOnSteps job) (wi
       pub was_taken : HoldsStep job k (Ok e) old new
       was_taken = record {
         images = all_images;
-        ok = (holds_tidied s (now last).folder (now new).folder step earlier holds_last none_last (ran_end last new (OnlyTidied s k (now last)) tidies), entry);
+        ok = (holds_tidied s e.parts (now last).folder (now new).folder step earlier holds_last none_last (ran_end last new (OnlyTidied s k e.parts (now last)) tidies), entry);
         err = tt;
         spent = tt;
       }
 
+-- the cuts of a step: one, or where it sweeps one for each part below its next one, of which its turns took few
+abbrev pub most_cuts : Bool → ℕ → ℕ
+most_cuts swept work = cond swept (1023 + work / 16) 1
+
 -- the calls of making a step, of a commit and of cutting what is left behind are those of the step
-step_sum : (swept : Bool) (work rest old mid last new : ℕ) → mid ≤ old + (cond swept (229 * work + 13) 5 + rest) → last ≤ mid + 5 → new ≤ last + cond swept 4 1
-    → new ≤ old + (cond swept (229 * work + 22) 11 + rest)
+step_sum : (swept : Bool) (work rest old mid last new : ℕ) → mid ≤ old + (cond swept (229 * work + 13) 5 + rest) → last ≤ mid + 5 → new ≤ last + most_cuts swept work
+    → new ≤ old + (cond swept (229 * work + work / 16 + 1041) 11 + rest)
 step_sum true work rest old mid last new made committed tidied = omega (arith, made, committed, tidied)
 step_sum false work rest old mid last new made committed tidied = omega (arith, made, committed, tidied)
+
+-- the cuts of a step with that next part, which few turns of its work took, are as few
+cuts_few : (swept : Bool) (next turns work : ℕ) → (swept ≡ false) ⊎ ((next ≤ 1024 + turns / 16) × (turns ≤ work)) → cond swept (parts_end next - 1) 1 ≤ most_cuts swept work
+cuts_few true next turns work (inl not) = absurd cc
+cuts_few false next turns work (inl not) = omega arith
+cuts_few true next turns work (inr (few, within)) = omega (arith, few, within)
+cuts_few false next turns work (inr (few, within)) = omega arith
 
 module _ {S : Type 0} (tells : S → Bool) (world : S → World) (counts : S → Faults) (law : (s : S) → IsTrue (tells s) → AreFiles (now (world s)).folder)
     (job : Job) (k : ℕ) (plan : IsWellFormed job.n job.text job.steps) (within : k < length job.steps) (p : Planned) (p_is : p ≡ step_at job k)
@@ -489,9 +500,29 @@ module _ {S : Type 0} (tells : S → Bool) (world : S → World) (counts : S →
           (subst (λ x. PaysRest x k job.budget (present (now (world old)).folder) rest) place_is pays)
     ]
 
-    pub few_calls : (last new : ℕ) → last ≤ (world s).clock + 5 → new ≤ last + cond (sweeps p.step) 4 1
+    pub few_calls : (last new : ℕ) → last ≤ (world s).clock + 5 → new ≤ last + most_cuts (sweeps p.step) (work_of job p.step)
         → new ≤ (world old).clock + (step_calls job p + rest)
     few_calls last new = step_sum (sweeps p.step) (work_of job p.step) rest (world old).clock (world s).clock last new few_made
+
+  -- and where it was made those of cutting all parts below its next one
+  pub taken_calls : (e : Entry) (old s : S) → RunsStep tells world counts job.n job.text job.budget k p old s (Ok e) → IsTrue (tells s)
+      → (rest : ℕ) → IsCounted job k (now (world old)).folder rest → (last new : ℕ) → last ≤ (world s).clock + 5
+      → new ≤ last + cond (sweeps p.step) (parts_end e.parts - 1) 1 → new ≤ (world old).clock + (step_calls job p + rest)
+  taken_calls e old s runs tells_s rest counted last new committed tidied =
+      few_calls old s (Ok e) runs tells_s rest counted last new committed
+      (fewer new last (cond (sweeps p.step) (parts_end e.parts - 1) 1) (most_cuts (sweeps p.step) (work_of job p.step)) tidied
+      (cuts_few (sweeps p.step) e.parts e.turns (work_of job p.step) of_entry))
+    where
+      fewer : (new last cuts most : ℕ) → new ≤ last + cuts → cuts ≤ most → new ≤ last + most
+      fewer new last cuts most tidied few = omega (arith, tidied, few)
+
+      of_entry : (sweeps p.step ≡ false) ⊎ ((e.parts ≤ 1024 + e.turns / 16) × (e.turns ≤ work_of job p.step))
+      of_entry = elim counted [
+        | inl one ↦ inl (ap sweeps (sym place_is) ∙ one)
+        | inr (holds, pays) ↦
+            let entry : IsEntryOfStep job k e = runs.entry tells_s job (record { step = the_step; holds = λ reads. holds }) in
+            inr (entry.parts_are.2, subst (λ x. e.turns ≤ work_of job x) place_is entry.turns_are.1)
+      ]
 
   -- at most the step's own files were changed
   filed : (old s : S) → Told tells old s (Ran (OnlyMade p.step k (now (world old))) (world old) (world s)) → IsTrue (tells s)
@@ -573,9 +604,9 @@ module _ {S : Type 0} (tells : S → Bool) (world : S → World) (counts : S →
 
     module _ (t u : S) (commits : Told tells s t (Ran (DuringCommit e (now (world s))) (world s) (world t)))
         (committed : IsTrue (tells t) → IsCommitted e (now (world s)).folder (now (world t)).folder)
-        (cuts : Told tells t u (Ran (OnlyTidied p.step e.number (now (world t))) (world t) (world u))) where
-      tidies : Told tells t u (Ran (OnlyTidied p.step k (now (world t))) (world t) (world u))
-      tidies = subst (λ j. Told tells t u (Ran (OnlyTidied p.step j (now (world t))) (world t) (world u))) runs.fits.number_is cuts
+        (cuts : Told tells t u (Ran (OnlyTidied p.step e.number e.parts (now (world t))) (world t) (world u))) where
+      tidies : Told tells t u (Ran (OnlyTidied p.step k e.parts (now (world t))) (world t) (world u))
+      tidies = subst (λ j. Told tells t u (Ran (OnlyTidied p.step j e.parts (now (world t))) (world t) (world u))) runs.fits.number_is cuts
 
       ready_last : IsTrue (tells t) → IsReady (k + 1) (now (world t)).folder
       ready_last tells_t = subst (λ c. IsReady (c + 1) (now (world t)).folder) runs.fits.number_is (committed tells_t).ready
@@ -587,7 +618,7 @@ module _ {S : Type 0} (tells : S → Bool) (world : S → World) (counts : S →
             let tells_t : IsTrue (tells t) = tidies.before tells_u in
             let tells_s : IsTrue (tells s) = commits.before tells_t in
             record {
-              run = run_tidied job k plan.few_steps within p.step (world old) (world t) (world u) earlier (ready_last tells_t)
+              run = run_tidied job k plan.few_steps within p.step e.parts (world old) (world t) (world u) earlier (ready_last tells_t)
                   (to_commit t tells_s (commits.did tells_t)) (tidies.did tells_u);
               ready = tt;
               made = tt;
@@ -612,9 +643,9 @@ module _ {S : Type 0} (tells : S → Bool) (world : S → World) (counts : S →
             let tells_t : IsTrue (tells t) = tidies.before tells_u in
             let tells_s : IsTrue (tells s) = commits.before tells_t in
             record {
-              run = run_tidied job k plan.few_steps within p.step (world old) (world t) (world u) earlier (ready_last tells_t)
+              run = run_tidied job k plan.few_steps within p.step e.parts (world old) (world t) (world u) earlier (ready_last tells_t)
                   (to_commit t tells_s (commits.did tells_t)) (tidies.did tells_u);
-              ready = ready_tidied job k plan.few_steps within p.step (k + 1) (world t) (world u) earlier (tidies.did tells_u) (ready_last tells_t);
+              ready = ready_tidied job k plan.few_steps within p.step e.parts (k + 1) (world t) (world u) earlier (tidies.did tells_u) (ready_last tells_t);
               made = entry_made job k plan.few_steps within p.step e (world s) (world t) (world u) place_is earlier runs.fits
                   (made_ready tells_s) (committed tells_t) (tidies.did tells_u);
               emptied = emptied_here job k plan.few_steps within p.step (now (world u)).folder place_is (empty tells_u);

@@ -76,27 +76,27 @@ holds_while_made job k old new few within holds only resumable = holds_kept job 
     not_node : (s : ℕ) → s < k → IsOwnFile k (node_file s) → ⊥
     not_node s below own = let same : s ≡ k = own in omega (arith, same, below)
 
--- while the file of a diagram that a step drops is cut, and the step's checkpoints, their gate and its arcs, no step
--- behind it has a gated checkpoint
-none_while_tidied : (job : Job) (k : ℕ) (old new : Folder) → NoneGated job (k + 1) old → IsTidied (step_at job k).step k old new → NoneGated job (k + 1) new
-none_while_tidied job k old new none tidied s from within = tidied.empty (checkpoint_gate s) (none s from within)
+-- while the file of a diagram that a step drops is cut, and the step's files behind its node file, no step behind it
+-- has a gated checkpoint
+none_while_tidied : (job : Job) (k next : ℕ) (old new : Folder) → NoneGated job (k + 1) old → IsTidied (step_at job k).step k next old new → NoneGated job (k + 1) new
+none_while_tidied job k next old new none tidied s from within = tidied.empty (checkpoint_gate s) (none s from within)
 
 -- and the steps up to that one are held
-pub holds_while_tidied : (job : Job) (k : ℕ) (old new : Folder) → AreFew job → k < length job.steps → Holds job (k + 1) old → NoneGated job (k + 1) old
-    → ((gone : ℕ) → IsTrue (drops gone (step_at job k).step) → gone < length job.steps) → IsTidied (step_at job k).step k old new → Holds job (k + 1) new
-holds_while_tidied job k old new few within holds none inside tidied = holds_kept job (k + 1) old new holds (record {
+pub holds_while_tidied : (job : Job) (k next : ℕ) (old new : Folder) → AreFew job → k < length job.steps → Holds job (k + 1) old → NoneGated job (k + 1) old
+    → ((gone : ℕ) → IsTrue (drops gone (step_at job k).step) → gone < length job.steps) → IsTidied (step_at job k).step k next old new → Holds job (k + 1) new
+holds_while_tidied job k next old new few within holds none inside tidied = holds_kept job (k + 1) old new holds (record {
   of_job = λ f step_is. tidied.only f (not_cut f step_is);
   nodes = λ s live. tidied.only (node_file s) (not_live s live);
-  resumable = none_gated_resumes job (k + 1) new (none_while_tidied job k old new none tidied);
+  resumable = none_gated_resumes job (k + 1) new (none_while_tidied job k next old new none tidied);
 })
   where
-    not_cut : (f : FileNo) → f.step ≡ job_step → IsCutBy (step_at job k).step k f → ⊥
+    not_cut : (f : FileNo) → f.step ≡ job_step → IsCutBy (step_at job k).step k next f → ⊥
     not_cut f step_is (inl (gone, dropped, is)) =
         let no : gone ≡ job_step = sym (ap (λ (q : FileNo). q.step) is) ∙ step_is in
         omega (arith, no, early job gone few (inside gone dropped))
     not_cut f step_is (inr (swept, own)) = let no : k ≡ job_step = sym own.step_is ∙ step_is in omega (arith, no, early job k few within)
 
-    not_live : (s : ℕ) → IsTrue (is_live (take (k + 1) job.steps) s) → IsCutBy (step_at job k).step k (node_file s) → ⊥
+    not_live : (s : ℕ) → IsTrue (is_live (take (k + 1) job.steps) s) → IsCutBy (step_at job k).step k next (node_file s) → ⊥
     not_live s live (inl (gone, dropped, is)) =
         live_undropped job.steps k s no_step within
         (subst (λ j. IsTrue (drops j (step_at job k).step)) (sym (ap (λ (q : FileNo). q.step) is)) dropped) live

@@ -35,10 +35,10 @@ cut_stays f (Err e) old new was none = torn (file old f) (file new f) none was.f
     torn a b none t = elim t.which [ inl same ↦ same ∙ none | inr cut ↦ cut ]
 
 -- a cut of one of the step's files changes no other, and leaves what was empty empty
-pub cut_tidies : (step : Step) (number : ℕ) (f : FileNo) (r : Result Unit Failed) (old new : World) → IsCutBy step number f → WasCut f 0 r old new
-    → IsTidied step number (now old).folder (now new).folder
-cut_tidies step number f r old new cut_by was = record {
-  only = λ q apart. was.others q (λ same. apart (subst (IsCutBy step number) (sym same) cut_by));
+pub cut_tidies : (step : Step) (number next : ℕ) (f : FileNo) (r : Result Unit Failed) (old new : World) → IsCutBy step number next f → WasCut f 0 r old new
+    → IsTidied step number next (now old).folder (now new).folder
+cut_tidies step number next f r old new cut_by was = record {
+  only = λ q apart. was.others q (λ same. apart (subst (IsCutBy step number next) (sym same) cut_by));
   empty = λ q none. elim (cases_file q f) [
     | inl same ↦
         subst (λ x. file new x ≡ no_file) (sym same) (cut_empty f r old new was (subst (λ x. file old x ≡ no_file) same none))
@@ -51,41 +51,41 @@ cut_tidies step number f r old new cut_by was = record {
   ];
 }
 
-pub stays_tidy : (step : Step) (number : ℕ) (folder : Folder) → IsTidied step number folder folder
-stays_tidy step number folder = record { only = λ q apart. refl; empty = λ q none. none; stays = λ q none. none }
+pub stays_tidy : (step : Step) (number next : ℕ) (folder : Folder) → IsTidied step number next folder folder
+stays_tidy step number next folder = record { only = λ q apart. refl; empty = λ q none. none; stays = λ q none. none }
 
-tidy_then : (step : Step) (number : ℕ) (old mid new : Folder) → IsTidied step number old mid → IsTidied step number mid new → IsTidied step number old new
-tidy_then step number old mid new first second = record {
+tidy_then : (step : Step) (number next : ℕ) (old mid new : Folder) → IsTidied step number next old mid → IsTidied step number next mid new → IsTidied step number next old new
+tidy_then step number next old mid new first second = record {
   only = λ q apart. second.only q apart ∙ first.only q apart;
   empty = λ q none. second.empty q (first.empty q none);
   stays = λ q none. second.stays q (first.stays q none);
 }
 
-module _ {S : Type 0} (tells : S → Bool) (world : S → World) (step : Step) (number : ℕ) where
+module _ {S : Type 0} (tells : S → Bool) (world : S → World) (step : Step) (number next : ℕ) where
   -- one cut
-  pub cut_runs : (f : FileNo) (r : Result Unit Failed) (old new : S) → IsCutBy step number f
+  pub cut_runs : (f : FileNo) (r : Result Unit Failed) (old new : S) → IsCutBy step number next f
       → Told tells old new (WasCut f 0 r (world old) (world new))
-      → Told tells old new (Ran (OnlyTidied step number (now (world old))) (world old) (world new))
+      → Told tells old new (Ran (OnlyTidied step number next (now (world old))) (world old) (world new))
   cut_runs f r old new cut_by did = told tells old new _ _ did (λ _ was.
-      ran_call (world old) (world new) (OnlyTidied step number (now (world old))) was.shelf (stays_tidy step number (now (world old)).folder)
-      (cut_tidies step number f r (world old) (world new) cut_by was))
+      ran_call (world old) (world new) (OnlyTidied step number next (now (world old))) was.shelf (stays_tidy step number next (now (world old)).folder)
+      (cut_tidies step number next f r (world old) (world new) cut_by was))
 
   -- and one behind others
-  pub cut_on : (f : FileNo) (r : Result Unit Failed) (old mid new : S) → IsCutBy step number f
-      → Told tells old mid (Ran (OnlyTidied step number (now (world old))) (world old) (world mid))
+  pub cut_on : (f : FileNo) (r : Result Unit Failed) (old mid new : S) → IsCutBy step number next f
+      → Told tells old mid (Ran (OnlyTidied step number next (now (world old))) (world old) (world mid))
       → Told tells mid new (WasCut f 0 r (world mid) (world new))
-      → Told tells old new (Ran (OnlyTidied step number (now (world old))) (world old) (world new))
+      → Told tells old new (Ran (OnlyTidied step number next (now (world old))) (world old) (world new))
   cut_on f r old mid new cut_by first did = told_then tells old mid new _ _ _ first (cut_runs f r mid new cut_by did) (λ _ ran more.
-      let P : Moment → Type 0 = OnlyTidied step number (now (world old)) in
+      let P : Moment → Type 0 = OnlyTidied step number next (now (world old)) in
       ran_joins (world old) (world mid) (world new) P ran
-      (ran_weakens (world mid) (world new) (OnlyTidied step number (now (world mid))) P
-      (λ m then. tidy_then step number (now (world old)).folder (now (world mid)).folder m.folder (ran_end (world old) (world mid) P ran) then) more))
+      (ran_weakens (world mid) (world new) (OnlyTidied step number next (now (world mid))) P
+      (λ m then. tidy_then step number next (now (world old)).folder (now (world mid)).folder m.folder (ran_end (world old) (world mid) P ran) then) more))
 
 -- the file of a part that was cut well is empty, and so are those that were
-pub behind_then : (number part : ℕ) (old new : World) → ((f : FileNo) → IsBehind number f → f.part < part → (file old f).bytes ≡ [])
+pub behind_then : (number next part : ℕ) (old new : World) → ((f : FileNo) → IsBehind number next f → f.part < part → (file old f).bytes ≡ [])
     → WasCut (record { step = number; part = part }) 0 (Ok tt) old new
-    → (f : FileNo) → IsBehind number f → f.part < part + 1 → (file new f).bytes ≡ []
-behind_then number part old new before was f behind less = elim (cases_lt f.part part) [
+    → (f : FileNo) → IsBehind number next f → f.part < part + 1 → (file new f).bytes ≡ []
+behind_then number next part old new before was f behind less = elim (cases_lt f.part part) [
   | inl earlier ↦
       ap (λ (x : File). x.bytes) (was.others f (λ same.
       let parts : f.part ≡ part = ap (λ (q : FileNo). q.part) same in omega (arith, earlier, parts))) ∙ before f behind earlier

@@ -23,6 +23,6 @@ abbrev pub OnlyMade : Step → ℕ → Moment → Moment → Type 0
 OnlyMade step number = OnlyChanged (ChangesFile step number)
 
 -- at each moment every file is as it was, but that of a dropped diagram, and where the step sweeps its checkpoints,
--- their gate and its arcs; and what was empty is empty
-abbrev pub OnlyTidied : Step → ℕ → Moment → Moment → Type 0
-OnlyTidied step number old m = IsTidied step number old.folder m.folder
+-- their gate, its arcs and its runs up to its next part; and what was empty is empty
+abbrev pub OnlyTidied : Step → ℕ → ℕ → Moment → Moment → Type 0
+OnlyTidied step number next old m = IsTidied step number next old.folder m.folder

@@ -4,7 +4,7 @@ use Rattle.step_work.specs.Plans.{no_step}
 use Rattle.step_engine.specs.Simple.{MayRun}
 use Rattle.step_engine.proofs.PlanLaws.{may_run}
 use Rattle.script_runner.specs.JobOf.{job_in}
-use Rattle.script_runner.proofs.Taking.{few_calls, was_stopped, commit_failed, tidy_failed, took}
+use Rattle.script_runner.proofs.Taking.{few_calls, taken_calls, was_stopped, commit_failed, tidy_failed, took}
 use Rattle.script_runner.proofs.step.take_step.Goals as goal
 
 pub run_step-requires-clause-step : goal.run_step-requires-clause-step
@@ -63,8 +63,8 @@ returns-in_default-tidy-clause-calls g c tells_u rest counted =
     let may : MayRun c.args.job.now.n c.args.job.now.text.now c.args.number (get_or c.args.job.now.steps.now c.args.number no_step) =
     may_run c.args.job.now.n c.args.job.now.text.now c.args.job.now.steps.now c.args.number no_step c.requires.within c.args.job.now.well_formed in
     let tells_t = c.in_default-tidy.ensures.content.before tells_u in
-    few_calls g.S.Shelf.tells g.S.Shelf.world g.S.Shelf.faults (λ s told f. g.met.S.Shelf.files_are s told f) (job_in (length c.args.room.now) c.args.job.now) c.args.number
-    c.args.job.now.well_formed c.requires.within (get_or c.args.job.now.steps.now c.args.number no_step) refl may.operands_are _ _ (Ok c.in-Ok.entry) c.in-Ok.ensures.runs (c.in-Ok-commit.ensures.content.before tells_t) rest counted _ _
+    taken_calls g.S.Shelf.tells g.S.Shelf.world g.S.Shelf.faults (λ s told f. g.met.S.Shelf.files_are s told f) (job_in (length c.args.room.now) c.args.job.now) c.args.number
+    c.args.job.now.well_formed c.requires.within (get_or c.args.job.now.steps.now c.args.number no_step) refl may.operands_are c.in-Ok.entry _ _ c.in-Ok.ensures.runs (c.in-Ok-commit.ensures.content.before tells_t) rest counted _ _
     (c.in-Ok-commit.ensures.calls tells_t) (c.in_default-tidy.ensures.calls tells_u)
 
 pub returns-clause-calls : goal.returns-clause-calls
@@ -72,6 +72,6 @@ returns-clause-calls g c tells_u rest counted =
     let may : MayRun c.args.job.now.n c.args.job.now.text.now c.args.number (get_or c.args.job.now.steps.now c.args.number no_step) =
     may_run c.args.job.now.n c.args.job.now.text.now c.args.job.now.steps.now c.args.number no_step c.requires.within c.args.job.now.well_formed in
     let tells_t = c.in-Ok-tidy.ensures.content.before tells_u in
-    few_calls g.S.Shelf.tells g.S.Shelf.world g.S.Shelf.faults (λ s told f. g.met.S.Shelf.files_are s told f) (job_in (length c.args.room.now) c.args.job.now) c.args.number
-    c.args.job.now.well_formed c.requires.within (get_or c.args.job.now.steps.now c.args.number no_step) refl may.operands_are _ _ (Ok c.in-Ok.entry) c.in-Ok.ensures.runs (c.in-Ok-commit.ensures.content.before tells_t) rest counted _ _
+    taken_calls g.S.Shelf.tells g.S.Shelf.world g.S.Shelf.faults (λ s told f. g.met.S.Shelf.files_are s told f) (job_in (length c.args.room.now) c.args.job.now) c.args.number
+    c.args.job.now.well_formed c.requires.within (get_or c.args.job.now.steps.now c.args.number no_step) refl may.operands_are c.in-Ok.entry _ _ c.in-Ok.ensures.runs (c.in-Ok-commit.ensures.content.before tells_t) rest counted _ _
     (c.in-Ok-commit.ensures.calls tells_t) (c.in-Ok-tidy.ensures.calls tells_u)

@@ -8,8 +8,8 @@ use Rattle.step_engine.proofs.drops.empty_parts.Goals as goal
 pub loop-part-init : goal.loop-part-init
 loop-part-init g c = record {
   so_far = told_here g.S.Shelf.tells c.args.shelf.now _ (λ _. ran_stands (g.S.Shelf.world c.args.shelf.now)
-      (OnlyTidied c.args.step c.args.number (now (g.S.Shelf.world c.args.shelf.now)))
-      (stays_tidy c.args.step c.args.number (now (g.S.Shelf.world c.args.shelf.now)).folder));
+      (OnlyTidied c.args.step c.args.number c.args.next (now (g.S.Shelf.world c.args.shelf.now)))
+      (stays_tidy c.args.step c.args.number c.args.next (now (g.S.Shelf.world c.args.shelf.now)).folder));
   calls = λ _. omega arith;
   behind = λ _ f behind less. absurd (let from = behind.from in omega (arith, from, less));
   folder_later = omega arith;
@@ -19,7 +19,7 @@ loop-part-init g c = record {
 
 pub returns-in_err-cut-clause-content : goal.returns-in_err-cut-clause-content
 returns-in_err-cut-clause-content g c =
-    cut_on g.S.Shelf.tells g.S.Shelf.world c.args.step c.args.number _ _ _ _ _
+    cut_on g.S.Shelf.tells g.S.Shelf.world c.args.step c.args.number c.args.next _ _ _ _ _
     (inr (c.requires.swept, record { step_is = refl; from = search arith; until = search arith }))
     c.loop-part.invariant.so_far c.in_err-cut.ensures.content
 
@@ -32,7 +32,7 @@ returns-in_err-cut-clause-calls g c told =
 
 pub loop-part-preserved : goal.loop-part-preserved
 loop-part-preserved g c = record {
-  so_far = cut_on g.S.Shelf.tells g.S.Shelf.world c.args.step c.args.number _ _ _ _ _
+  so_far = cut_on g.S.Shelf.tells g.S.Shelf.world c.args.step c.args.number c.args.next _ _ _ _ _
       (inr (c.requires.swept, record { step_is = refl; from = search arith; until = search arith }))
       c.loop-part.invariant.so_far c.in_ok-cut.ensures.content;
   calls = λ told.
@@ -40,7 +40,7 @@ loop-part-preserved g c = record {
       let ticks = did.shelf.ticks.clock_is in
       let before = c.loop-part.invariant.calls (c.in_ok-cut.ensures.content.before told) in
       omega (arith, ticks, before);
-  behind = λ told. behind_then c.args.number c.loop-part.part _ _ (c.loop-part.invariant.behind (c.in_ok-cut.ensures.content.before told))
+  behind = λ told. behind_then c.args.number c.args.next c.loop-part.part _ _ (c.loop-part.invariant.behind (c.in_ok-cut.ensures.content.before told))
       (c.in_ok-cut.ensures.content.did told);
   folder_later = let a = c.loop-part.invariant.folder_later in let b = c.in_ok-cut.ensures.faults.later in omega (arith, a, b);
   say_is = c.in_ok-cut.ensures.faults.say_is ∙ c.loop-part.invariant.say_is;

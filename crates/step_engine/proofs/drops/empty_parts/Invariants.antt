@@ -12,9 +12,9 @@ use Rattle.step_engine.proofs.drops.empty_parts.Given as goal
 abbrev pub invariant-loop-part : goal.invariant-loop-part
 invariant-loop-part g l = record {
   so_far : Told g.S.Shelf.tells l.fn.shelf l.shelf
-      (Ran (OnlyTidied l.fn.step l.number (now (g.S.Shelf.world l.fn.shelf))) (g.S.Shelf.world l.fn.shelf) (g.S.Shelf.world l.shelf));
+      (Ran (OnlyTidied l.fn.step l.number l.next (now (g.S.Shelf.world l.fn.shelf))) (g.S.Shelf.world l.fn.shelf) (g.S.Shelf.world l.shelf));
   calls : IsTrue (g.S.Shelf.tells l.shelf) → (g.S.Shelf.world l.shelf).clock + 1 ≤ (g.S.Shelf.world l.fn.shelf).clock + l.part;
-  behind : IsTrue (g.S.Shelf.tells l.shelf) → (f : FileNo) → IsBehind l.number f → f.part < l.part → (file (g.S.Shelf.world l.shelf) f).bytes ≡ [];
+  behind : IsTrue (g.S.Shelf.tells l.shelf) → (f : FileNo) → IsBehind l.number l.next f → f.part < l.part → (file (g.S.Shelf.world l.shelf) f).bytes ≡ [];
   folder_later : (g.S.Shelf.faults l.fn.shelf).folder ≤ (g.S.Shelf.faults l.shelf).folder;
   say_is : (g.S.Shelf.faults l.shelf).say ≡ (g.S.Shelf.faults l.fn.shelf).say;
   text_is : (path : List ℕ) → (g.S.Shelf.faults l.shelf).text path ≡ (g.S.Shelf.faults l.fn.shelf).text path;
