@@ -4,9 +4,9 @@ ghost use Rattle.std.specs.Prelude.{◌≤◌, length};
 use crate::lives::{EMPTY, LEAST_ROOM, ends_like, is_stopped, whole_in};
 use crate::steps::{AND, Request};
 use bool_tables::{Planned, Step};
-use case_runs::{SMALL, bench_with, run, same_job};
+use case_runs::{SMALL, bench_with, run};
 use example_script::gen_script;
-use file_numbers::{STEP_GATE, checkpoint_gate, node_file};
+use file_numbers::{CATALOGUE, JOB, JOB_GATE, STEP_GATE, checkpoint_gate, node_file};
 use script_reader::read_script;
 use shelf_memory::{Bench, Choice};
 use shelf_model::FileNo;
@@ -90,8 +90,10 @@ fn a_step_that_is_stopped_at_its_last_call_makes_less_than_half_of_its_calls_aga
 /// How many steps the script of size 14 has.
 const STEPS: u32 = 74;
 
-/// How many parts of a step are compared: those that are left besides its runs.
-const PARTS: u64 = 5;
+/// The bytes of an entry, and the word of it that is the next part number.
+const ENTRY_SIZE: usize = 128;
+
+const NEXT_PART: usize = 3;
 
 /// The last conjunctions of both ways, and the comparison of the two.
 const FIRST_WAY: u32 = 56;
@@ -100,21 +102,35 @@ const SECOND_WAY: u32 = 71;
 
 const COMPARISON: u32 = 72;
 
-// The first file that two folders don't have in common, but for runs.
-fn other_file(a: &Bench, b: &Bench) -> Option<FileNo> {
-    for step in 0..STEPS {
-        for part in 0..PARTS {
-            let f = FileNo { step, part };
-            if a.file(f) != b.file(f) {
-                return Some(f);
-            }
+// Whether two catalogues have the same entries but for next part numbers: a sweep that was rebuilt may take fewer parts.
+fn same_entries(a: &[u8], b: &[u8]) -> bool {
+    if a.len() != b.len() {
+        return false;
+    }
+    for at in 0..a.len() {
+        if at % ENTRY_SIZE / 8 != NEXT_PART && a[at] != b[at] {
+            return false;
         }
     }
-    None
+    true
+}
+
+// Whether two folders have the same job, as many committed steps with the same entries, and the same diagrams.
+fn are_alike(a: &Bench, b: &Bench) -> bool {
+    let stored = a.file(JOB) == b.file(JOB) && a.file(JOB_GATE).len() == b.file(JOB_GATE).len();
+    if !stored || a.file(STEP_GATE).len() != b.file(STEP_GATE).len() {
+        return false;
+    }
+    for step in 0..STEPS {
+        if a.file(node_file(step)) != b.file(node_file(step)) {
+            return false;
+        }
+    }
+    same_entries(a.file(CATALOGUE), b.file(CATALOGUE))
 }
 
 // Whether a run of the script that is stopped once a file has so many bytes goes on, in the next run, to the same
-// entries and the same files as a run that nothing stops.
+// entries and the same diagrams as a run that nothing stops.
 fn run_goes_on(
     alloc: Global,
     script: &[u8],
@@ -127,7 +143,7 @@ fn run_goes_on(
     let stopped = run(alloc, &SMALL, &mut bench) == 7;
     let mut next = bench.stop(choice)?;
     let ended = run(alloc, &SMALL, &mut next) == 0;
-    Ok(stopped && ended && same_job(&next, whole) && other_file(&next, whole).is_none())
+    Ok(stopped && ended && are_alike(&next, whole))
 }
 
 // So it is at each of these moments.
