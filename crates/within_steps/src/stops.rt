@@ -20,6 +20,11 @@ pub(crate) const STOPS: [(Choice, Choice); 6] = [
     (Choice::Mixed(2), Choice::Firm),
 ];
 
+/// How many calls lie between two stops of the conjunction, and of the other steps. `checks/every_stop` tries fewer.
+const FAR_APART: usize = 500;
+
+const APART: usize = 100;
+
 /// Whether a step in that folder that is stopped behind so many calls ends as one that nothing stops: where it goes on
 /// to its end, and where a second stop comes behind half of the calls that were left.
 pub(crate) fn outlives(
@@ -86,7 +91,8 @@ fn conjunction_goes_on(
     first: u64,
     stops: (Choice, Choice),
 ) -> Result<(), Fail> {
-    let lost = first_loss(alloc, Tried::Both, first, 500, stops)?;
+    let first = first % FAR_APART as u64;
+    let lost = first_loss(alloc, Tried::Both, first, FAR_APART, stops)?;
     assert!(rt; lost.is_none(), "call {lost:?}");
     Ok(())
 }
@@ -125,7 +131,7 @@ fn a_conjunction_goes_on_from_a_third_mixture(rt: HostRuntime) -> Result<(), Fai
 pub(crate) fn goes_on(rt: &impl Abort, alloc: Global, tried: Tried) -> Result<(), Fail> {
     let mut first = 17u64;
     for stops in STOPS {
-        let lost = first_loss(alloc, tried, first, 100, stops)?;
+        let lost = first_loss(alloc, tried, first % APART as u64, APART, stops)?;
         assert!(rt; lost.is_none(), "{tried:?}, {stops:?}, call {lost:?}");
         first = first.saturating_add(13);
     }
