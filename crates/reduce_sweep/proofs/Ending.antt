@@ -1,5 +1,5 @@
 -- The checkpoint of a reduction that has ended.
-use Rattle.std.proofs.Common.{◌≡◌, ◌≢◌, ℕ, ◌+◌, ◌*◌, ◌≤◌, ◌∙◌, List, length, take, sym, ap, subst, arith, inl, inr}
+use Rattle.std.proofs.Common.{◌≡◌, ◌≢◌, ℕ, ◌+◌, ◌*◌, ◌≤◌, ◌∙◌, List, length, take, refl, sym, ap, subst, arith, inl, inr}
 use Rattle.rec_words.specs.Words.{node_size}
 use Rattle.shelf_model.specs.declared.file_no.FileNo.{FileNo}
 use Rattle.file_numbers.specs.Files.{checkpoint_file}
@@ -9,6 +9,7 @@ use Rattle.sweep_core.specs.declared.checkpoint.Checkpoint.{Checkpoint}
 use Rattle.sweep_core.specs.Saving.{IsMadePart}
 use Rattle.reduce_sweep.specs.declared.phase.Phase.TheVariants.{Ended}
 use Rattle.reduce_sweep.specs.declared.saved.Saved.{Saved}
+use Rattle.reduce_sweep.specs.Ended.{NamesEnded}
 use Rattle.reduce_sweep.specs.Remaining.{Diagram}
 use Rattle.reduce_sweep.specs.SavedPhase.{phase_of, saved_phase}
 use Rattle.reduce_sweep.specs.SavedReduction.{saved_count, saved_words, IsSaved}
@@ -83,4 +84,28 @@ module _ (c : Checkpoint) (x : Saved) (count : ℕ) (carry : List ℕ)
     phase = Ended count;
     phase_is = ap phase_of end.phase_is;
     stands = record { bytes_are = bytes; count_is = many };
+  }
+
+  pub ended_names : NamesEnded c x.out x.variables
+  ended_names = record {
+    task = record {
+      out = x.out;
+      inner = x.arcs.inner;
+      ends = x.arcs.ends;
+      arcs = x.arcs;
+      variables = x.variables;
+    };
+    names = record {
+      saved = x;
+      holds = holds;
+      out_is = refl;
+      inner_is = refl;
+      ends_are = refl;
+      root_is = refl;
+      variables_are = refl;
+    };
+    out_is = refl;
+    variables_are = refl;
+    inner_own = ap (λ (f : FileNo). f.step) end.inner_is;
+    ends_own = ap (λ (f : FileNo). f.step) end.ends_is;
   }

@@ -9,6 +9,7 @@ pub mod SavedPhase
 pub mod SavedReduction
 pub mod SavedTables
 pub mod Resumes
+pub mod Ended
 pub mod ResumeLaws
 pub mod Saving
 pub mod Settling

@@ -4,6 +4,7 @@ ghost use Rattle.shelf_model.specs.declared.file_no.FileNo.{FileNo};
 ghost use Rattle.rec_words.specs.Words.{node_size};
 ghost use Rattle.canon_file.specs.Canon.{canon_bytes, canon_nodes};
 ghost use Rattle.sweep_core.specs.Saving.{SameHead, IsFilled, IsMadePart};
+ghost use Rattle.reduce_sweep.specs.Ended.{NamesEnded};
 ghost use Rattle.reduce_sweep.specs.Remaining.{Diagram};
 ghost use Rattle.reduce_sweep.specs.Resumes.{Fits, StandsFor};
 
@@ -24,6 +25,7 @@ pub fn ended_point(into: &mut Checkpoint, out: FileNo, variables: u32, count: u6
     ensures head { SameHead into.old into.new }
     ensures filled { IsFilled next_part into.new }
     ensures fits { 3 ≤ next_part → IsMadePart into.old.step next_part out → Fits into.new }
+    ensures names { NamesEnded into.new out variables }
     ensures stands { (r : FileNo → List ℕ) → (d : Diagram) → (turns : ℕ) →
         take (node_size * (count + 1)) (r out) ≡ canon_bytes variables d.table →
         count ≡ length (canon_nodes variables d.table) → StandsFor into.new r d turns }
