@@ -147,7 +147,7 @@ module _ {S : Type 0} (tells : S → Bool) (world : S → World) (counts : S →
   )
 
   -- the trailers count the nodes of both
-  nodes_are : IsTrue (tells old) → (g : Tables) → IsGiven making (world old) g
+  pub nodes_are : IsTrue (tells old) → (g : Tables) → IsGiven making (world old) g
       → pair.left.trailer.count + pair.right.trailer.count ≡ nodes_for making g
   nodes_are told g given =
       let first = (are.trailers told g given).0.count_is in

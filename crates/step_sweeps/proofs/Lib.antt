@@ -25,6 +25,9 @@ mod MadeAnew
 mod SweptSums
 mod SweptSteps
 mod ArcsReduced
+mod EndedKept
+mod RoomKept
+mod JoinKept
 mod SweptReduction
 mod ReductionRuns
 mod ReductionOn

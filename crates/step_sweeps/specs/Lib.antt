@@ -6,6 +6,7 @@ pub mod Makes
 pub mod Ways
 pub mod Kinds
 pub mod Sweeping
+pub mod Ended
 pub mod Started
 pub mod Reduced
 pub mod Answers

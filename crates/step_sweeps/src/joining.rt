@@ -6,6 +6,7 @@ ghost use Rattle.step_sweeps.specs.Pairs.{IsPairOf};
 ghost use Rattle.step_sweeps.specs.Ways.{IsAnew, MakesAnew};
 
 use crate::MadeDiagram;
+use crate::ended::keep_if_due;
 use crate::swept::sweep_diagram;
 use crate::task::Making;
 use bool_tables::Bin;
@@ -16,9 +17,9 @@ use room_products::join_in_room;
 use shelf_model::{FileNo, Shelf, SortFault};
 use sweep_checkpoint::Going;
 
-/// Makes the step's node file in the room, where it holds what that takes, and else by sweeps, for which the look at
-/// the trailers and each node of both operands, which may have been read in vain, count as a turn. So many turns were
-/// made before. Of the step's work at least a turn for each node of the operands is left.
+/// Makes the step's node file in the room, where it holds what that takes, which is saved where that is due, and else
+/// by sweeps, for which the look at the trailers and each node of both operands, which may have been read in vain, count
+/// as a turn. So many turns were made before. Of the step's work at least a turn for each node of the operands is left.
 pub(crate) fn join<S: Shelf>(
     op: Bin,
     pair: Pair,
@@ -44,9 +45,11 @@ pub(crate) fn join<S: Shelf>(
     };
     let tried = join_in_room(op, making.n, pair.left, pair.right, out, room, shelf)?;
     if let Some(joined) = tried {
+        going.turns = before.saturating_add(joined.turns);
+        keep_if_due(making, joined.turns, joined.nodes, INNER_PART, going, shelf)?;
         return Ok(MadeDiagram {
             nodes: joined.nodes,
-            turns: before.saturating_add(joined.turns),
+            turns: going.turns,
             next: INNER_PART,
         });
     }

@@ -6,6 +6,7 @@ mod answers;
 mod arcs;
 mod copy;
 mod diagram;
+mod ended;
 mod foreign;
 mod implication;
 mod in_room;

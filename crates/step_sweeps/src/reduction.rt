@@ -11,6 +11,7 @@ ghost use Rattle.step_sweeps.specs.Sweeping.{MayReduce, MayResume, Reduces, Swee
 
 use crate::MadeDiagram;
 use crate::arcs::MadeArcs;
+use crate::ended::keep_if_due;
 use crate::foreign::foreign_point;
 use crate::in_room::reduce_few;
 use crate::task::Making;
@@ -30,7 +31,8 @@ pub(crate) const PARTS: u64 = 1 << 32;
 const FEW_ARCS: u64 = (1 << 18) - 8;
 
 /// Reduces the arcs of a diagram to the step's node file, behind the turns that made them: in the room where they are
-/// few and it holds what that takes, and else by a sweep, for which an attempt in the room counts first.
+/// few and it holds what that takes, which is saved where that is due, and else by a sweep, for which an attempt in the
+/// room counts first.
 pub(crate) fn reduce_arcs<S: Shelf>(
     making: Making,
     made: MadeArcs,
@@ -51,10 +53,12 @@ pub(crate) fn reduce_arcs<S: Shelf>(
     let tried = reduce_few(making.n, &made.arcs, making.number, room, shelf)?;
     if let Some(reduced) = tried {
         going.turns = going.turns.saturating_add(reduced.turns);
+        let next = made.parts.next;
+        keep_if_due(making, reduced.turns, reduced.nodes, next, going, shelf)?;
         return Ok(MadeDiagram {
             nodes: reduced.nodes,
             turns: going.turns,
-            next: made.parts.next,
+            next,
         });
     }
     // The attempt's calls are paid by a turn for each 64 arcs, and one.
