@@ -1,7 +1,7 @@
-//! The step of the example script that takes longest, and whole runs of it.
+//! Steps of the example script, and whole runs of it.
 ghost use Rattle.std.specs.Prelude.{◌≤◌, length};
 
-use crate::lives::{EMPTY, LEAST_ROOM, ends_like, is_stopped, whole_in};
+use crate::lives::{EMPTY, LEAST_ROOM, Lived, ends_like, is_stopped, whole_in};
 use crate::steps::{AND, Request};
 use bool_tables::{Planned, Step};
 use case_runs::{SMALL, bench_with, run};
@@ -55,27 +55,38 @@ fn committed_to(alloc: Global, script: &[u8], step: u32) -> Result<Bench, Fail> 
     Ok(bench.stop(Choice::Present)?)
 }
 
-// Where the last call of the step fails, it goes on with less than half of its calls.
+// Where the last call of a step and all behind it fail: how many calls the step makes that nothing stops, and what the
+// life behind the stop came to, if it ends like it.
+fn stopped_at_its_end(
+    alloc: Global,
+    script: &[u8],
+    request: &Request,
+) -> Result<Option<(u64, Lived)>, Fail> {
+    let number = request.number;
+    let mut records = vec![in alloc; EMPTY; LEAST_ROOM]?;
+    let room = records.as_mut_slice();
+    let whole = whole_in(request, room, committed_to(alloc, script, number)?)?;
+    let calls = whole.lived.calls;
+    let mut bench = committed_to(alloc, script, number)?;
+    if !is_stopped(request, calls.saturating_sub(1), room, &mut bench) {
+        return Ok(None);
+    }
+    let mut next = bench.stop(Choice::Present)?;
+    let Some(lived) = ends_like(request, &whole, room, &mut next) else {
+        return Ok(None);
+    };
+    Ok(Some((calls, lived)))
+}
+
+// So the largest step of the script of size 15 goes on with less than half of its calls.
 fn half_is_saved(alloc: Global) -> Result<bool, Fail> {
     let script = gen_script(alloc, 15)?;
     let script = script.as_slice();
     let request = equality();
-    let mut records = vec![in alloc; EMPTY; LEAST_ROOM]?;
-    let room = records.as_mut_slice();
-    let whole = whole_in(&request, room, committed_to(alloc, script, EQUAL)?)?;
-    let calls = whole.lived.calls;
-    let mut bench = committed_to(alloc, script, EQUAL)?;
-    let stopped = is_stopped(&request, calls.saturating_sub(1), room, &mut bench);
-    let mut next = bench.stop(Choice::Present)?;
-    let Some(lived) = ends_like(&request, &whole, room, &mut next) else {
+    let Some((calls, lived)) = stopped_at_its_end(alloc, script, &request)? else {
         return Ok(false);
     };
-    Ok(
-        has_step(alloc, script, &request)?
-            && stopped
-            && lived.entry.count == NODES
-            && lived.calls < calls / 2,
-    )
+    Ok(has_step(alloc, script, &request)? && lived.entry.count == NODES && lived.calls < calls / 2)
 }
 
 #[test]
@@ -83,6 +94,99 @@ fn a_step_that_is_stopped_at_its_last_call_makes_less_than_half_of_its_calls_aga
     rt: HostRuntime,
 ) -> Result<(), Fail> {
     let saved = half_is_saved(rt.alloc())?;
+    assert!(rt; saved);
+    Ok(())
+}
+
+// Whether a step whose diagram has so many nodes goes on so with fewer calls than its node file has pieces of 2,048
+// bytes: none of it is made again.
+fn made_is_saved(
+    alloc: Global,
+    script: &[u8],
+    request: &Request,
+    nodes: u64,
+) -> Result<bool, Fail> {
+    let Some((calls, lived)) = stopped_at_its_end(alloc, script, request)? else {
+        return Ok(false);
+    };
+    let pieces = nodes.saturating_add(1).saturating_mul(24) / 2048;
+    Ok(lived.entry.count == nodes && lived.calls < calls.min(pieces))
+}
+
+/// The step that tells whether two words of twelve bits are equal.
+const SHORTER: u32 = 48;
+
+/// How many nodes its diagram has.
+const SHORTER_NODES: u64 = 12_285;
+
+// Step 48 of the script of size 12, a conjunction of steps 44 and 47. The room holds both operands and the pairs that
+// are met, and a sweep would have as many arcs to reduce as an interval has turns, and more.
+fn shorter_equality() -> Request {
+    Request {
+        n: 24,
+        text: b"p12",
+        number: SHORTER,
+        planned: Planned {
+            step: Step::Pair {
+                op: AND,
+                left: 44,
+                right: 47,
+            },
+            name_at: 0,
+            name_len: 3,
+        },
+    }
+}
+
+fn joined_is_saved(alloc: Global) -> Result<bool, Fail> {
+    let script = gen_script(alloc, 12)?;
+    let script = script.as_slice();
+    let request = shorter_equality();
+    Ok(has_step(alloc, script, &request)? && made_is_saved(alloc, script, &request, SHORTER_NODES)?)
+}
+
+#[test]
+fn a_step_that_the_room_joined_is_not_joined_again(rt: HostRuntime) -> Result<(), Fail> {
+    let saved = joined_is_saved(rt.alloc())?;
+    assert!(rt; saved);
+    Ok(())
+}
+
+/// The step behind those of the script of size 13 that make its largest diagram.
+const RESTRICTED: u32 = 53;
+
+/// How many nodes its diagram has.
+const RESTRICTED_NODES: u64 = 16_381;
+
+// That diagram where its first variable is 1, which is none of the script's: its arcs are as many as an interval has
+// turns, and more, but few enough for the room.
+fn restriction() -> Request {
+    Request {
+        n: 26,
+        text: b"d",
+        number: RESTRICTED,
+        planned: Planned {
+            step: Step::Restrict {
+                of: 52,
+                level: 0,
+                value: true,
+            },
+            name_at: 0,
+            name_len: 1,
+        },
+    }
+}
+
+fn reduced_is_saved(alloc: Global) -> Result<bool, Fail> {
+    let script = gen_script(alloc, 13)?;
+    made_is_saved(alloc, script.as_slice(), &restriction(), RESTRICTED_NODES)
+}
+
+#[test]
+fn a_step_whose_arcs_the_room_reduced_does_not_reduce_them_again(
+    rt: HostRuntime,
+) -> Result<(), Fail> {
+    let saved = reduced_is_saved(rt.alloc())?;
     assert!(rt; saved);
     Ok(())
 }
