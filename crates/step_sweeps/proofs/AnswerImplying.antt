@@ -273,6 +273,7 @@ module _ {S : Type 0} (tells : S → Bool) (world : S → World) (counts : S →
         trusts = λ told_new none. starts.trusts told_new;
         content = content;
         owed = omega (arith, next_is, taken);
+        stock = λ none. stock_is;
         calls = λ told_new. let paid = begun.calls told_new in omega (arith, paid, stock_is);
         faults = starts.leaves.faults;
       }
@@ -472,6 +473,7 @@ module _ {S : Type 0} (tells : S → Bool) (world : S → World) (counts : S →
           trusts = λ told_new none. absurd (not_none none);
           content = content;
           owed = subst (λ l. accounts.next s ≤ first_owed l (accounts.next s)) (sym last) (omega (arith, next_is));
+          stock = λ none. absurd (not_none none);
           calls = λ told_new.
               let few = rebuild_calls files ours (Ok s) rebuilds told_new in
               subst (λ l. (world after).clock + (accounts.credit s + accounts.stock s / 256)

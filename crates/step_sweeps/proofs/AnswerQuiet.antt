@@ -90,6 +90,7 @@ module _ {S Given : Type 0} (tells : S → Bool) (world : S → World) (counts :
     content = told_changed_more tells world (IsBehindPoints going.step) (IsBehindNodes going.step) before after
         (λ f behind. behind_nodes going.step f behind) r.content;
     counted = tt;
+    few_anew = tt;
     calls = tt;
     faults = sort_shelf_on _ _ e (Err e) refl r.faults;
   }
@@ -213,6 +214,7 @@ module _ {S Given P : Type 0} (tells : S → Bool) (world : S → World) (counts
         trusts = b.trusts;
         content = quiet_content tells world counts q going local before after b.quiet;
         owed = omega (arith, next, taken);
+        stock = λ none. omega (arith, owed);
         calls = λ told. let few = b.calls told in omega (arith, few, owed);
         faults = b.faults;
       }

@@ -1,7 +1,7 @@
 -- A question's sweep that was begun, and then run and saved, to its end or until it was refused.
 use Rattle.std.proofs.Common.{◌≡◌, ◌⊎◌, ◌∙◌, ℕ, ◌+◌, ◌-◌, ◌*◌, ◌^◌, ◌<◌, ◌≤◌, max, Bool, List, [], length, ap, sym, subst, refl}
 use Rattle.std.proofs.Common.{inl, inr, arith}
-use Rattle.std.specs.Prelude.{IsTrue, Result, Ok, Err, IsErrOf, IsErrAnd}
+use Rattle.std.specs.Prelude.{IsTrue, None, Result, Ok, Err, IsErrOf, IsErrAnd}
 use Rattle.shelf_model.specs.declared.file_no.FileNo.{FileNo}
 use Rattle.shelf_model.specs.declared.sort_fault.SortFault.{SortFault}
 use Rattle.shelf_model.specs.declared.sort_fault.SortFault.TheVariants.{RunsSpent}
@@ -36,7 +36,7 @@ use Rattle.sweep_checkpoint.specs.Going.{IsPaidTo}
 use Rattle.step_sweeps.proofs.AnswerQuiet.{behind_nodes}
 use Rattle.step_sweeps.proofs.Costs.{few_saves}
 use Rattle.step_sweeps.proofs.Running.{file_stays}
-use Rattle.step_sweeps.proofs.AnswerSums.{calls_of, spent_of}
+use Rattle.step_sweeps.proofs.AnswerSums.{calls_of, spent_of, few_anew_of}
 use Rattle.step_sweeps.proofs.StepStands.{gate_sure, points_there, rests_sure}
 
 -- so many turns and saves were made, and this is what they took, whether the sweep was refused or not
@@ -215,6 +215,7 @@ module _ {S Given P : Type 0} (tells : S → Bool) (world : S → World) (counts
         fault tells_new (r.covered tells_new (begun.trusts told_mid none) (none_gated told_mid empty));
     content = went_content;
     counted = tt;
+    few_anew = tt;
     calls = tt;
     faults = sort_shelf_then (counts before) (counts mid) (counts after) (Ok s) (Err e) begun.faults
         (sort_shelf_on (counts mid) (counts after) e (Err e) refl r.faults);
@@ -244,9 +245,10 @@ module _ {S Given P : Type 0} (tells : S → Bool) (world : S → World) (counts
       omega (arith, calls)
 
   pub answered : (a : Answered) → HasEnded a.turns → IsCounted a.turns a.next
+      → a.next ≤ kind.accounts.next t
       → (IsTrue (tells after) → (g : Given) → kind.remains t (world after) (job_of g) → a.answer ≡ q.answer g)
       → Answers tells world counts q going before after (Ok a)
-  answered a ended counted right = record {
+  answered a ended counted within right = record {
     answer = λ tells_new g asked.
         let way = on_the_way tells_new g asked in
         let few = ended.few tells_new (job_of g) way.remains in
@@ -262,6 +264,15 @@ module _ {S Given P : Type 0} (tells : S → Bool) (world : S → World) (counts
     damaged = tt;
     content = went_content;
     counted = counted;
+    few_anew = λ none.
+        let first : first_owed going.last (kind.accounts.next s) ≡ first_owed None (kind.accounts.next s) =
+        ap (λ last. first_owed last (kind.accounts.next s)) none in
+        let owed = begun.owed in
+        few_anew_of a.turns going.turns a.next (kind.accounts.next s) (kind.accounts.next t) (kind.accounts.stock s)
+        (kind.accounts.stock t) (omega (arith, owed, first)) (begun.stock none) within counted.below (λ below.
+        let cost = ended.cost below in
+        let saves = few_saves (interval_of going.budget) cost.saves going.shown a.turns begun.paid.interval cost.few in
+        (cost.saves, omega (arith, saves), cost.parts.spent));
     calls = λ tells_new below. went_calls a.turns tells_new (ended.cost below);
     faults = sort_shelf_then (counts before) (counts mid) (counts after) (Ok s) (Ok a) begun.faults
         (record {

@@ -1,7 +1,7 @@
 -- What the turns and the saves of a question's sweep cost together, in calls of the folder and in parts.
-use Rattle.std.proofs.Common.{ℕ, ◌+◌, ◌-◌, ◌*◌, ◌/◌, ◌^◌, ◌<◌, ◌≤◌, inl, inr, arith}
+use Rattle.std.proofs.Common.{◌≡◌, ℕ, ◌+◌, ◌-◌, ◌*◌, ◌/◌, ◌^◌, ◌<◌, ◌≤◌, inl, inr, arith}
 use Rattle.std.proofs.lemmas.Bool.{cases_lt}
-use Rattle.step_sweeps.specs.Made.{IsCounted}
+use Rattle.step_sweeps.specs.Made.{IsCounted, FewAnew}
 
 -- what a sweep's turns and saves take of its parts
 abbrev pub TakesOf : ℕ → ℕ → ℕ → ℕ → ℕ → ℕ → Type 0
@@ -35,3 +35,16 @@ counted_of turns next stock some from below paid = record {
     | inr many ↦ omega (arith, many, below)
   ];
 }
+
+-- and fewer where none was taken before
+pub few_anew_of : (turns before next first last stock later : ℕ) → first ≤ 5 → stock ≡ 0 → next ≤ last → next ≤ 2 ^ 32
+    → (turns < 2 ^ 64 - 1 → (saves : ℕ) × (16384 * saves ≤ turns)
+    × TakesOf (turns - before) saves first last stock later) → FewAnew turns next
+few_anew_of turns before next first last stock later from none within below takes = elim (cases_lt turns (2 ^ 64 - 1)) [
+  | inl few ↦
+      let its = takes few in
+      let saves = its.1 in
+      let parts = its.2 in
+      omega (arith, from, none, within, saves, parts)
+  | inr many ↦ omega (arith, many, below)
+]

@@ -241,6 +241,7 @@ module _ {S : Type 0} (tells : S → Bool) (world : S → World) (counts : S →
       content = again_content;
       grew = tt;
       paid = tt;
+      taken = tt;
       calls = tt;
       few_calls = λ told g given.
           let at = from told g given in
@@ -277,6 +278,7 @@ module _ {S : Type 0} (tells : S → Bool) (world : S → World) (counts : S →
     content = stays_step tells world making.number before mid content;
     grew = tt;
     paid = tt;
+    taken = tt;
     calls = tt;
     few_calls = λ told g given. absurd (not_given g given);
     faults = faults;

@@ -45,8 +45,9 @@ use Rattle.step_sweeps.specs.Made.{node_file, OnlyStep, HasArcFiles}
 use Rattle.step_sweeps.specs.Makes.{IsGivenFor, HasNoGate, goes_on_by, table_by}
 use Rattle.step_sweeps.specs.Parts as step_parts
 use Rattle.step_sweeps.specs.Started.{Starts, IsUnderWay}
-use Rattle.step_sweeps.specs.Sweeping.{MaySweep, IsEarly, MakesArcs, AreArcsOf, IsCovered, arcs_most}
+use Rattle.step_sweeps.specs.Sweeping.{MaySweep, IsEarly, MakesArcs, AreArcsOf, IsCovered, arcs_most, owed_parts}
 use Rattle.step_sweeps.proofs.ArcsRun.{HasRun, most_fits, run_content, run_safe, run_few, run_spent, way, few, by}
+use Rattle.step_sweeps.proofs.Costs.{few_saves}
 use Rattle.step_sweeps.proofs.Faults.{turn_fault, no_damage}
 use Rattle.step_sweeps.proofs.Running.{not_of_step, earlier_stays, faults_ok}
 use Rattle.step_sweeps.proofs.UnderWay.{way_sure, way_stands}
@@ -137,6 +138,7 @@ module _ {S : Type 0} (tells : S → Bool) (world : S → World) (counts : S →
         (Ok tt) run;
     grew = tt;
     paid = tt;
+    taken = tt;
     calls = tt;
     few_calls = λ told g given.
         let few = run_few tells world counts making going may before mid after early s t started task files_at later
@@ -286,6 +288,20 @@ module _ {S : Type 0} (tells : S → Bool) (world : S → World) (counts : S →
               | inr above ↦ omega (arith, above, below, shows)
             ];
           };
+      taken = λ none.
+          let same = next_is in
+          let below = gave.below in
+          let from = (began_from none).0 in
+          let stock = (began_from none).1 in
+          elim (cases_lt later.turns (2 ^ 64 - 1)) [
+            | inl exact ↦
+                let its = ended.counted exact in
+                let shown = few_saves (interval_of going.budget) its.0 going.shown later.shown
+                started.may.paid.interval its.1 in
+                let spent = its.2.spent in
+                omega (arith, from, stock, shown, spent, same)
+            | inr above ↦ omega (arith, above, below)
+          ];
       calls = λ exact.
           let its = ended.counted exact in
           let saves : ℕ = its.0 in
@@ -324,6 +340,16 @@ module _ {S : Type 0} (tells : S → Bool) (world : S → World) (counts : S →
         first_after : first_owed going.last (arcs_kind.accounts.next s) ≤ first_owed later.last m.parts.next
         first_after = subst (λ k. first_owed going.last (arcs_kind.accounts.next s) ≤ first_owed later.last k)
             (sym next_is) ended.owed
+
+        -- a step that begins anew has none of its runs
+        began_from : going.last ≡ None → (arcs_kind.accounts.next s ≤ 5) × (arcs_kind.accounts.stock s ≡ 0)
+        began_from none =
+            let next : ℕ = arcs_kind.accounts.next s in
+            let first : first_owed going.last next ≡ first_owed None next = ap (λ last. first_owed last next) none in
+            let parts : owed_parts going.last ≡ 0 = ap owed_parts none in
+            let owed = started.owed in
+            let stock = started.stock in
+            (omega (arith, owed, first), omega (arith, stock, parts))
 
 -- damage that a turn finds is that of an operand as it was
 pub arcs_fault : (making : Making) (t : TableSweep StepOperation) (old new : World) (e : SortFault)

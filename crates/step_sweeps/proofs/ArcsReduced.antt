@@ -165,6 +165,7 @@ module _ {S : Type 0} (tells : S → Bool) (world : S → World) (counts : S →
     undamaged = reduces.undamaged;
     content = reduces.content;
     counted = reduces.counted;
+    taken = reduces.taken;
     calls = reduces.calls;
     few_calls = λ told g are.
         let less = fewer g (world old) are in
@@ -211,6 +212,7 @@ module _ {S : Type 0} (tells : S → Bool) (world : S → World) (counts : S →
       undamaged = λ told are covered. subst IsNoDamage (sym is) tt;
       content = node_changes (2 * arcs + 8) old new content;
       counted = tt;
+      taken = tt;
       calls = tt;
       few_calls = λ told g are. calls_alone old new are.has.sources are.has.has_sources (content.did told);
       faults = faults;
@@ -250,6 +252,7 @@ module _ {S : Type 0} (tells : S → Bool) (world : S → World) (counts : S →
               few = omega (arith, paid, shown, next_is, turns_are, fits);
             },
           );
+          taken = λ before. omega (arith, before, shown, next_is, turns_are, fits);
           calls = λ exact. (
             record { saves = 0; parts = 0; few_saves = omega arith; few_parts = omega arith },
             λ told. let calls = (content.did told).few in omega (arith, calls, is, turns_are, exact),
@@ -301,6 +304,7 @@ module _ {S : Type 0} (tells : S → Bool) (world : S → World) (counts : S →
           counted = ok_more r _ _ (λ d counted.
               let more = counted.0 in
               (omega (arith, more, is, fits), counted.1)) reduces.counted;
+          taken = ok_more r _ _ (λ d few before. few (omega (arith, before, is, fits))) reduces.taken;
           calls = ok_both r _ _ _ (λ d counted calls exact.
               let more = counted.0 in
               let its = calls exact in

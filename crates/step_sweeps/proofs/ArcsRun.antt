@@ -225,6 +225,7 @@ module _ {S : Type 0} (tells : S → Bool) (world : S → World) (counts : S →
         (Err e) run;
     grew = tt;
     paid = tt;
+    taken = tt;
     calls = tt;
     few_calls = λ told g given.
         let few = run_few tells world counts making going may before mid after early s t started task files_at later

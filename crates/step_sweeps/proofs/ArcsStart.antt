@@ -212,6 +212,7 @@ module _ {S : Type 0} (tells : S → Bool) (world : S → World) (counts : S →
     content = start_content started.leaves.content;
     grew = tt;
     paid = tt;
+    taken = tt;
     calls = tt;
     few_calls = λ told g given.
         let few = started.few_calls told in (

@@ -209,6 +209,7 @@ module _ {S : Type 0} (tells : S → Bool) (world : S → World) (counts : S →
     damaged = λ told anew none. absurd (let last_is = may.at_point.last_is in cc);
     content = on_content;
     counted = tt;
+    few_anew = tt;
     calls = tt;
     faults = faults;
   }
@@ -255,6 +256,7 @@ module _ {S : Type 0} (tells : S → Bool) (world : S → World) (counts : S →
       damaged = λ told anew none. absurd (let last_is = may.at_point.last_is in cc);
       content = end_content;
       counted = tt;
+      few_anew = tt;
       calls = tt;
       faults = faults;
     }
@@ -320,6 +322,7 @@ module _ {S : Type 0} (tells : S → Bool) (world : S → World) (counts : S →
               few = omega (arith, next, paid, shows, more, turns_are);
             },
           );
+      few_anew = λ anew. absurd (let last_is = may.at_point.last_is in cc);
       calls = λ told_end exact.
           let told = look.before told_end in
           let once = (look.did told_end).shelf.ticks.clock_is in

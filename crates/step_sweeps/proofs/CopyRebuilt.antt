@@ -185,6 +185,7 @@ module _ (making : Making) (going : Going) (may : MayResume making.number going)
       damaged = λ told anew gate. absurd (let last_is = may.at_point.last_is in cc);
       content = cut_content;
       counted = tt;
+      few_anew = tt;
       calls = tt;
       faults = faults;
     }
@@ -315,6 +316,7 @@ module _ (making : Making) (going : Going) (may : MayResume making.number going)
     damaged = λ told anew gate. absurd (let last_is = may.at_point.last_is in cc);
     content = stays_step tells world making.number old mid content;
     counted = tt;
+    few_anew = tt;
     calls = tt;
     faults = faults;
   }

@@ -352,6 +352,7 @@ module _ {S : Type 0} (tells : S → Bool) (world : S → World) (counts : S →
     damaged = λ told empty. no_damage making.n making.operands (world old) e (none told empty);
     content = copy_content;
     counted = tt;
+    few_anew = tt;
     calls = tt;
     faults = faults;
   }
@@ -398,6 +399,7 @@ module _ {S : Type 0} (tells : S → Bool) (world : S → World) (counts : S →
         few = omega (arith, next);
       },
     );
+    few_anew = omega (arith, next);
     calls = λ told below.
         let its = counted (omega (arith, below, turns_are)) in
         let saves = its.1 in

@@ -127,6 +127,7 @@ module _ {S : Type 0} (tells : S → Bool) (world : S → World) (counts : S →
         damaged = λ told_new none. no_damage making.n making.operands (world old) x (spared told_new none);
         content = both_change (Err e) keeps;
         counted = tt;
+        few_anew = tt;
         calls = tt;
         faults = sort_shelf_then _ _ _ (Ok tt) (Err x) calm (faults_on (counts mid) (counts new) e x at keeps.faults);
       }
@@ -149,6 +150,7 @@ module _ {S : Type 0} (tells : S → Bool) (world : S → World) (counts : S →
     damaged = tt;
     content = both_change (Ok tt) keeps;
     counted = was_joined.counted;
+    few_anew = was_joined.few_anew;
     calls = λ told_new below.
         let calls = paid (keeps.content.before told_new) in
         let more = keeps.calls told_new in

@@ -218,6 +218,7 @@ module _ {S : Type 0} (tells : S → Bool) (world : S → World) (counts : S →
             few = omega (arith, next);
           },
         );
+        few_anew = omega (arith, next);
         calls = λ told below. let calls = paid told in omega (arith, calls, turns, below);
         faults = faults;
       }

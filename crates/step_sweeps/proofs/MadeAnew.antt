@@ -105,6 +105,7 @@ module _ {S : Type 0} (tells : S → Bool) (world : S → World) (counts : S →
     damaged = err_more r _ _ (λ e damaged told _. damaged told) makes.damaged;
     content = makes.content;
     counted = ok_more r _ _ (λ m is. is.1) makes.counted;
+    few_anew = ok_more r _ _ (λ m few anew. few) makes.few_anew;
     calls = ok_more r _ _ (λ m calls told below.
         let first = calls told below in
         omega (arith, first, turns)) makes.calls;
@@ -132,6 +133,7 @@ module _ {S : Type 0} (tells : S → Bool) (world : S → World) (counts : S →
     damaged = sweeps.damaged;
     content = sweeps.content;
     counted = ok_more r _ _ (λ m counted. counted.1) sweeps.counted;
+    few_anew = sweeps.few_anew;
     calls = ok_both r _ _ _ (λ m counted calls told below.
         let more = counted.0 in
         let first = calls told below in

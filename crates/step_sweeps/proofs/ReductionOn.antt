@@ -182,6 +182,7 @@ module _ {S : Type 0} (tells : S → Bool) (world : S → World) (counts : S →
     damaged = λ told anew none. absurd (let last_is = may.at_point.last_is in cc);
     content = on_content;
     counted = tt;
+    few_anew = tt;
     calls = tt;
     faults = faults;
   }
@@ -237,6 +238,7 @@ module _ {S : Type 0} (tells : S → Bool) (world : S → World) (counts : S →
             ];
           },
         );
+        few_anew = λ anew. absurd (let last_is = may.at_point.last_is in cc);
         calls = λ told exact.
             let below : later.turns < 2 ^ 64 - 1 = omega (arith, exact, turns_are) in
             let its = counted below in

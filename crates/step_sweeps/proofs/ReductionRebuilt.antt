@@ -211,6 +211,7 @@ module _ (making : Making) (going : Going) (may : MayResume making.number going)
       damaged = λ told anew none. absurd (let last_is = may.at_point.last_is in cc);
       content = stays_step tells world making.number old mid content;
       counted = tt;
+      few_anew = tt;
       calls = tt;
       faults = sort_shelf_on _ _ e (Err e) refl faults;
     }
@@ -238,6 +239,7 @@ module _ (making : Making) (going : Going) (may : MayResume making.number going)
       damaged = λ told anew none. absurd (let last_is = may.at_point.last_is in cc);
       content = cut_content tells world old mid files_are it.content;
       counted = tt;
+      few_anew = tt;
       calls = tt;
       faults = sort_shelf_on _ _ e (Err e) refl it.faults;
     }

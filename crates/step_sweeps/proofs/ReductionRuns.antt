@@ -111,6 +111,7 @@ module _ {S : Type 0} (tells : S → Bool) (world : S → World) (counts : S →
         (λ q. q.step ≡ making.number) (world old) (world new) (λ f is. ap (λ (x : FileNo). x.step) is)
         (cut_only making (world old) (world new) run));
     counted = tt;
+    taken = tt;
     calls = tt;
     few_calls = λ told g are.
         let few = calls told in (
@@ -247,6 +248,7 @@ module _ {S : Type 0} (tells : S → Bool) (world : S → World) (counts : S →
       undamaged = undamaged;
       content = step_content;
       counted = tt;
+      taken = tt;
       calls = tt;
       few_calls = its_calls;
       faults = faults;
@@ -294,6 +296,18 @@ module _ {S : Type 0} (tells : S → Bool) (world : S → World) (counts : S →
           ];
         },
       );
+      taken = λ before.
+          let same = next_is in
+          let shows = late may.paid.shown in
+          elim (cases_lt later.turns (2 ^ 64 - 1)) [
+            | inl exact ↦
+                let its = counted exact in
+                let shown = few_saves (interval_of going.budget) its.0 going.shown later.shown
+                may.paid.interval its.1 in
+                let spent = its.2.spent in
+                omega (arith, before, same, stock, shown, shows, spent, turns_are, next_is_d)
+            | inr above ↦ omega (arith, above, turns_are, next_is_d)
+          ];
       calls = λ exact.
           let its = counted (omega (arith, exact, turns_are)) in
           let long = may.paid.interval in

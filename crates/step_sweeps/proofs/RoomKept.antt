@@ -95,6 +95,7 @@ module _ {S : Type 0} (tells : S → Bool) (world : S → World) (counts : S →
         covered));
     content = both_change (Err e) keeps;
     counted = tt;
+    taken = tt;
     calls = tt;
     few_calls = λ told_new g are. both_calls (Err e) keeps told_new are.has.sources are.has.has_sources;
     faults = sort_shelf_then _ _ _ (Ok tt) (Err x) calm (faults_on (counts mid) (counts new) e x at keeps.faults);
@@ -119,6 +120,7 @@ module _ {S : Type 0} (tells : S → Bool) (world : S → World) (counts : S →
         undamaged = tt;
         content = both_change (Ok tt) keeps;
         counted = first.counted;
+        taken = first.taken;
         calls = λ exact. (
           record { saves = 0; parts = 0; few_saves = omega arith; few_parts = omega arith },
           λ told_new.

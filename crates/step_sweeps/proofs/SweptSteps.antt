@@ -67,6 +67,7 @@ module _ {S : Type 0} (tells : S → Bool) (world : S → World) (counts : S →
       damaged = first.damaged;
       content = first.content;
       counted = tt;
+      few_anew = tt;
       calls = tt;
       faults = faults;
     }
@@ -152,6 +153,7 @@ module _ {S : Type 0} (tells : S → Bool) (world : S → World) (counts : S →
                 let grew = first.grew in
                 let more = counted.0 in
                 (omega (arith, grew, more), counted.1)) second.counted;
+            few_anew = ok_more r _ _ (λ d few anew. few (first.taken anew)) second.taken;
             calls = ok_both r _ _ _ (λ d counted calls told below.
                 let more = counted.0 in
                 let grew = first.grew in
@@ -198,6 +200,7 @@ module _ {S : Type 0} (tells : S → Bool) (world : S → World) (counts : S →
         damaged = err_more r _ _ (λ e is told no_gate. is told anew no_gate) sweeps.damaged;
         content = sweeps.content;
         counted = sweeps.counted;
+        few_anew = ok_more r _ _ (λ d few. few anew) sweeps.few_anew;
         calls = ok_more r _ _ (λ d calls told below.
             let made = calls told below in
             let rest = none nodes in

@@ -178,6 +178,7 @@ module _ {S : Type 0} (tells : S → Bool) (world : S → World) (counts : S →
           below = omega (arith, next);
           few = omega (arith, next);
         };
+        few_anew = omega (arith, next);
         calls = λ told below. let calls = (content.did told).few in omega (arith, calls, turns_are);
         faults = faults;
       }
@@ -202,6 +203,7 @@ module _ {S : Type 0} (tells : S → Bool) (world : S → World) (counts : S →
         omega (arith, calls, within);
     content = changed_run tells world making.number (2 * count + 4) old new content;
     counted = tt;
+    few_anew = tt;
     calls = tt;
     faults = faults;
   }
@@ -219,6 +221,7 @@ module _ {S : Type 0} (tells : S → Bool) (world : S → World) (counts : S →
       damaged = tt;
       content = node_changes tells world making.number old new makes.content;
       counted = (omega arith, makes.counted);
+      few_anew = makes.few_anew;
       calls = λ told below. let calls = makes.calls told below in omega (arith, calls);
       faults = makes.faults;
     }
@@ -231,6 +234,7 @@ module _ {S : Type 0} (tells : S → Bool) (world : S → World) (counts : S →
       damaged = λ told none. no_damage making.n making.operands (world old) e (makes.cause told).0;
       content = node_changes tells world making.number old new makes.content;
       counted = tt;
+      few_anew = tt;
       calls = tt;
       faults = makes.faults;
     }
@@ -254,6 +258,7 @@ module _ {S : Type 0} (tells : S → Bool) (world : S → World) (counts : S →
       damaged = λ told none. subst (IsArcsFault making.n making.operands (world old)) (sym (is told)) tt;
       content = node_changes tells world making.number old new content;
       counted = tt;
+      few_anew = tt;
       calls = tt;
       faults = faults;
     }
@@ -300,6 +305,7 @@ module _ {S : Type 0} (tells : S → Bool) (world : S → World) (counts : S →
               (looked_step tells world making.number looked old mid look) makes.content;
           counted = ok_more r _ _ (λ m is.
               let within = is.0 in (omega (arith, counts_on, within), is.1)) makes.counted;
+          few_anew = makes.few_anew;
           calls = ok_both r _ _ _ (λ m is calls told below.
               let first_calls = (looked_at told).few in
               let within = is.0 in
@@ -351,6 +357,7 @@ module _ {S : Type 0} (tells : S → Bool) (world : S → World) (counts : S →
           (pair_fault making.n making.operands (world old) e (damaged told));
       content = looked_step tells world making.number 4 old new look;
       counted = tt;
+      few_anew = tt;
       calls = tt;
       faults = faults;
     }

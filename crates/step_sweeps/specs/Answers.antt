@@ -27,7 +27,7 @@ use Rattle.resumable.specs.Answers.{ComparisonGoesOn, EvaluationGoesOn, Implicat
 use Rattle.resumable.specs.Answers.{comparison_rests, evaluation_rests, implication_rests}
 use Rattle.step_sweeps.specs.declared.answers.Answered.{Answered}
 use Rattle.step_sweeps.specs.Going.{next_of, rest_calls}
-use Rattle.step_sweeps.specs.Made.{IsAnswer, IsCounted}
+use Rattle.step_sweeps.specs.Made.{IsAnswer, IsCounted, FewAnew}
 use Rattle.step_sweeps.specs.Damage.{IsReadFault, IsImplicationFault, MissesNone, MissesNamed}
 
 -- a question on diagrams: when files are those of the tables that it is asked of, its answer and its work, when a step
@@ -133,6 +133,7 @@ pub record Answers {S Given : Type 0} (tells : S → Bool) (world : S → World)
   pub content : Told tells before after
       (Ran (OnlyChanged (IsBehindNodes going.step) (now (world before))) (world before) (world after))
   pub counted : IfOk result (λ a. IsCounted a.turns a.next)
+  pub few_anew : IfOk result (λ a. going.last ≡ None → FewAnew a.turns a.next)
   pub calls : IfOk result (λ a. IsTrue (tells after) → a.turns < 2 ^ 64 - 1 → (world after).clock
       ≤ (world before).clock + (229 * (a.turns - going.turns) + q.some
       + rest_calls going.last (q.nodes (reads_of (world before)))))

@@ -55,6 +55,7 @@ pub record Begun {S Given P : Type 0} (tells : S → Bool) (world : S → World)
       (Ran (OnlyChanged (IsBehindPoints going.step) (now (world before))) (world before) (world after))
   -- the next save cuts no part that was taken before, and what was made or is paid for, in calls and in parts, is few
   pub owed : kind.accounts.next s ≤ first_owed going.last (kind.accounts.next s)
+  pub stock : going.last ≡ None → kind.accounts.stock s ≡ 0
   pub calls : IsTrue (tells after) → (world after).clock + (kind.accounts.credit s + kind.accounts.stock s / 256)
       ≤ (world before).clock + (q.some + rest_calls going.last (q.nodes (reads_of (world before))))
   pub faults : OnlySortShelf (counts before) (counts after) (Ok s)

@@ -32,6 +32,10 @@ pub record IsCounted (turns next : ℕ) : Type 0 where
   pub below : next ≤ 2 ^ 32
   pub few : next ≤ 1024 + turns / 16
 
+-- of a step that began anew: they were taken from that of its first run on, few for so many turns
+abbrev pub FewAnew : ℕ → ℕ → Type 0
+FewAnew turns next = next ≤ 5 + turns / 16
+
 -- the answer is that value, and the turns are within the work
 pub record IsAnswer (value : Bool) (work : ℕ) (a : Answered) : Type 0 where
   pub answer_is : a.answer ≡ value

@@ -23,7 +23,7 @@ use Rattle.step_sweeps.specs.declared.task.Making.{Making}
 use Rattle.step_sweeps.specs.Damage.{IsArcsFault}
 use Rattle.step_sweeps.specs.Given.{Tables, AreGiven, made_by, nodes_by, work_by}
 use Rattle.step_sweeps.specs.Going.{next_of, rest_calls}
-use Rattle.step_sweeps.specs.Made.{node_file, OnlyStep, IsCounted}
+use Rattle.step_sweeps.specs.Made.{node_file, OnlyStep, IsCounted, FewAnew}
 
 -- the step's operands are the canonical files of these tables
 abbrev pub IsGiven : Making → World → Tables → Type 0
@@ -95,6 +95,7 @@ pub record Makes {S : Type 0} (tells : S → Bool) (world : S → World) (counts
   pub content : Told tells before after
       (Ran (OnlyStep making.number (now (world before))) (world before) (world after))
   pub counted : IfOk result (λ m. IsCounted m.turns m.next)
+  pub few_anew : IfOk result (λ m. going.last ≡ None → FewAnew m.turns m.next)
   pub calls : IfOk result (λ m. IsTrue (tells after) → m.turns < 2 ^ 64 - 1 → (world after).clock
       ≤ (world before).clock + (229 * (m.turns - going.turns) + 11
       + rest_calls going.last (operand_nodes making (reads_of (world before)))))

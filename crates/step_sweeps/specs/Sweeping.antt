@@ -34,7 +34,7 @@ use Rattle.step_sweeps.specs.declared.task.Making.{Making}
 use Rattle.step_sweeps.specs.Damage.{IsArcsFault}
 use Rattle.step_sweeps.specs.Given.{Tables, tuples_by}
 use Rattle.step_sweeps.specs.Going.{rest_calls}
-use Rattle.step_sweeps.specs.Made.{node_file, OnlyStep, HasArcFiles, HasSources, IsCounted}
+use Rattle.step_sweeps.specs.Made.{node_file, OnlyStep, HasArcFiles, HasSources, IsCounted, FewAnew}
 use Rattle.step_sweeps.specs.Makes.{IsGiven, IsGivenFor, HasNoGate, table_by, nodes_for, work_for, goes_on_by}
 use Rattle.step_sweeps.specs.Makes.{operand_nodes}
 
@@ -125,6 +125,7 @@ pub record Sweeps {S : Type 0} (tells : S → Bool) (world : S → World) (count
   pub content : Told tells before after
       (Ran (OnlyStep making.number (now (world before))) (world before) (world after))
   pub counted : IfOk result (λ m. (going.turns ≤ m.turns) × IsCounted m.turns m.next)
+  pub few_anew : IfOk result (λ m. going.last ≡ None → FewAnew m.turns m.next)
   pub calls : IfOk result (λ m. IsTrue (tells after) → m.turns < 2 ^ 64 - 1
       → (world after).clock + 229 * going.turns ≤ (world before).clock
       + (229 * m.turns + 11 + rest_calls going.last (operand_nodes making (reads_of (world before)))))
@@ -139,6 +140,11 @@ pub record IsPaidUp (going : Going) (next : ℕ) : Type 0 where
   pub interval : 16384 ≤ interval_of going.budget
   pub shown : going.shown ≤ going.turns
   pub paid : 256 * next ≤ 131072 + 16 * going.shown + 12 * (going.turns - going.shown) + 60928
+
+-- a step that began anew took them from 5 on, where 256 pay for each: a turn pays 12, and a save 4,608, which shows
+-- 16,384 turns or more, so nine of 32 for each turn that is shown
+abbrev pub IsTakenFor : Going → ℕ → Type 0
+IsTakenFor going next = 32 * (256 * next) ≤ 32 * (1280 + 12 * going.turns) + 9 * going.shown
 
 -- the arcs of a step of that number may be reduced: the parts are the step's, behind the first ones, and few were taken
 pub record MayReduce (number : ℕ) (going : Going) (parts : Parts) : Type 0 where
@@ -215,6 +221,7 @@ pub record MakesArcs {S : Type 0} (tells : S → Bool) (world : S → World) (co
   -- the turns grew, and few parts were taken for them
   pub grew : OnOk result (old.turns ≤ new.turns)
   pub paid : IfOk result (λ m. IsPaidUp new m.parts.next)
+  pub taken : IfOk result (λ m. old.last ≡ None → IsTakenFor new m.parts.next)
   -- what it cost, and how many parts a save may have to cut from then on
   pub calls : IfOk result (λ m. new.turns < 2 ^ 64 - 1 → (old.shown ≤ new.shown)
       × (t : Takes (new.turns - old.turns) (new.shown - old.shown) (owed_parts old.last)) × (m.parts.next ≤ first_owed new.last m.parts.next + t.parts)
@@ -252,6 +259,7 @@ pub record Reduces {S : Type 0} (tells : S → Bool) (world : S → World) (coun
     pub content : Told tells before after
         (Ran (OnlyStep making.number (now (world before))) (world before) (world after))
     pub counted : IfOk result (λ m. (going.turns ≤ m.turns) × IsCounted m.turns m.next)
+    pub taken : IfOk result (λ m. IsTakenFor going arcs.parts.next → FewAnew m.turns m.next)
     -- what that cost, where so many parts may have to be cut that were taken before
     pub calls : IfOk result (λ m. m.turns < 2 ^ 64 - 1 → (t : Takes (m.turns - going.turns) (m.turns - going.shown) 0)
         × (IsTrue (tells after) → (world after).clock ≤ (world before).clock

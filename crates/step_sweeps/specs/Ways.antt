@@ -15,7 +15,7 @@ use Rattle.step_sweeps.specs.declared.diagram.MadeDiagram.{MadeDiagram}
 use Rattle.step_sweeps.specs.declared.task.Making.{Making}
 use Rattle.step_sweeps.specs.Damage.{IsArcsFault}
 use Rattle.step_sweeps.specs.Given.{Tables}
-use Rattle.step_sweeps.specs.Made.{node_file, OnlyStep, IsCounted}
+use Rattle.step_sweeps.specs.Made.{node_file, OnlyStep, IsCounted, FewAnew}
 use Rattle.step_sweeps.specs.Makes.{IsGiven, AreFirm, HasNoGate, table_by, nodes_for, work_for, goes_on_by}
 
 -- nothing was done of a step of that number, and a checkpoint is due after no fewer turns than the least room has records
@@ -51,6 +51,7 @@ pub record MakesAtOnce {S : Type 0} (tells : S → Bool) (world : S → World) (
   pub content : Told tells before after
       (Ran (OnlyChanged (λ q. q ≡ node_file making.number) (now (world before))) (world before) (world after))
   pub counted : IfOk result (λ m. IsCounted m.turns m.next)
+  pub few_anew : IfOk result (λ m. FewAnew m.turns m.next)
   pub calls : IfOk result (λ m. IsTrue (tells after) → m.turns < 2 ^ 64 - 1
       → (world after).clock ≤ (world before).clock + (229 * m.turns + 7))
   pub faults : OnlySortShelf (counts before) (counts after) result
@@ -75,6 +76,7 @@ pub record MakesAnew {S : Type 0} (tells : S → Bool) (world : S → World) (co
   pub content : Told tells before after
       (Ran (OnlyStep making.number (now (world before))) (world before) (world after))
   pub counted : IfOk result (λ m. (earlier ≤ m.turns) × IsCounted m.turns m.next)
+  pub few_anew : IfOk result (λ m. FewAnew m.turns m.next)
   pub calls : IfOk result (λ m. IsTrue (tells after) → m.turns < 2 ^ 64 - 1
       → (world after).clock + 229 * earlier ≤ (world before).clock + (229 * m.turns + some))
   pub faults : OnlySortShelf (counts before) (counts after) result

@@ -77,5 +77,6 @@ returns-clause-answers g c =
       faults = ended.faults;
     })
     (record { some = omega (arith, made); from = omega arith; below = omega arith; few = omega arith })
+    (let from = c.in_ok-sweep.ensures.begun.files.parts in let later = ended.later in omega (arith, from, later))
     (λ told d remains. same_answer c.run_saved.new.sweep (g.S.Shelf.world c.run_saved.new.shelf)
     (two_tables c.args.n d.left d.right) c.in-Some.answer (sym c.answer.ensures ∙ c.in-Some.is) remains)

@@ -77,6 +77,7 @@ returns-clause-answers g c =
       faults = ended.faults;
     })
     (record { some = omega (arith, made); from = omega arith; below = omega arith; few = omega arith })
+    (let from = c.in_ok-sweep.ensures.begun.files.parts in let later = ended.later in omega (arith, from, later))
     (λ told t remains. let task_is = ended.same ∙ c.in_ok-sweep.ensures.begun.task_is in
     eval_answer c.run_saved.new.sweep (g.S.Shelf.world c.run_saved.new.shelf) (one_table c.args.n t) c.args.n c.args.at
     c.args.text.now c.in-Some.answer (sym c.answer.ensures ∙ c.in-Some.is)

@@ -89,7 +89,7 @@ returns g c =
           let paid_to = ended.paid below c.in_ok-sweep.ensures.begun.paid in
           let paid = paid_to.paid in
           let shown = paid_to.shown in
-          omega (arith, paid, shown, next)))
+          omega (arith, paid, shown, next))) (omega (arith, next))
           (λ told d remains. c.in-Some.ensures.is_right (g.S.Shelf.world c.run_saved.new.shelf) (refutation_of c.args.n d)
           remains);
     }
