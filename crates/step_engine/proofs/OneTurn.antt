@@ -1,5 +1,5 @@
 -- The runs of steps that take one turn.
-use Rattle.std.proofs.Common.{◌≡◌, ◌∙◌, ℕ, ◌+◌, ◌*◌, ◌^◌, ◌<◌, ◌≤◌, Bool, true, false, cond, List, refl, sym, ap, subst, inl, arith}
+use Rattle.std.proofs.Common.{◌≡◌, ◌∙◌, ℕ, ◌+◌, ◌*◌, ◌/◌, ◌^◌, ◌<◌, ◌≤◌, Bool, true, false, cond, List, refl, sym, ap, subst, inl, arith}
 use Rattle.std.specs.Prelude.{IsTrue, Ok, Err}
 use Rattle.rec_words.specs.Words.{most_variables}
 use Rattle.bool_tables.specs.declared.steps.Step.{Step}
@@ -46,6 +46,10 @@ pub one_calls : (step : Step) (turns rest now_clock clock : ℕ) → sweeps step
 one_calls step turns rest now_clock clock not few =
     subst (λ b. now_clock ≤ clock + (cond b (229 * turns + 13) 5 + rest)) (sym not) (omega (arith, few))
 
+-- it takes no part number
+pub first_parts : (parts turns spare : ℕ) → parts ≡ 3 → parts ≤ 5 + turns / 16 + spare
+first_parts parts turns spare is = omega (arith, is)
+
 -- what is known of a step that makes the diagram of a constant or of a variable, and which it is
 pub record IsSimple (n number : ℕ) (step : Step) (nodes : ℕ) (bytes : List ℕ) : Type 0 where
   pub not_swept : sweeps step ≡ false
@@ -82,6 +86,7 @@ module _ {S : Type 0} (tells : S → Bool) (world : S → World) (counts : S →
     damaged = λ told. inl (simple.only_folder (world before) e folder);
     kind = subst (IsOfKind p.step) (sym folder) tt;
     calls = tt;
+    few_parts = tt;
     one_turn = λ told not. calls told;
     few_calls = λ told job is holds rest pays. one_calls p.step _ rest _ _ simple.not_swept (calls told);
     faults = faults;
@@ -109,6 +114,7 @@ module _ {S : Type 0} (tells : S → Bool) (world : S → World) (counts : S →
     damaged = tt;
     kind = tt;
     calls = λ told rest pays exact. one_calls p.step _ rest _ _ simple.not_swept (calls told);
+    few_parts = λ told spare spares. first_parts e.parts e.turns spare (ap (λ (x : Entry). x.parts) e_is);
     one_turn = λ told not. calls told;
     few_calls = λ told job is holds rest pays. one_calls p.step _ rest _ _ simple.not_swept (calls told);
     faults = faults;
@@ -191,6 +197,7 @@ drop_runs tells world counts n text budget number gone p files_are s e drop belo
       damaged = tt;
       kind = tt;
       calls = λ told rest pays exact. one_calls p.step _ rest _ _ (ap sweeps drop) (omega arith);
+      few_parts = λ told spare spares. first_parts e.parts e.turns spare (ap (λ (x : Entry). x.parts) e_is);
       one_turn = λ told not. omega arith;
       few_calls = λ told job is holds rest pays. one_calls p.step _ rest _ _ (ap sweeps drop) (omega arith);
       faults = record { later = omega arith; cause = λ is. cc; say_is = refl; text_is = λ path. refl };

@@ -1,5 +1,5 @@
 -- The runs of steps that answer by reading diagrams, from what the sweeps say.
-use Rattle.std.proofs.Common.{◌≡◌, ◌∙◌, ℕ, ◌+◌, ◌*◌, ◌^◌, ◌<◌, ◌≤◌, Bool, true, false, nat_le, nat_lt, List, [], ◌∷◌, length, take, drop, refl, sym, ap, subst, inl, inr, arith}
+use Rattle.std.proofs.Common.{◌≡◌, ◌∙◌, ℕ, ◌+◌, ◌*◌, ◌/◌, ◌^◌, ◌<◌, ◌≤◌, Bool, true, false, nat_le, nat_lt, List, [], ◌∷◌, length, take, drop, refl, sym, ap, subst, inl, inr, arith}
 use Rattle.std.specs.Prelude.{IsTrue, Result, Ok, Err}
 use Rattle.std.specs.List.{list_all}
 use Rattle.std.proofs.lemmas.Bool.{and_parts, leb-true}
@@ -42,7 +42,7 @@ use Rattle.step_engine.proofs.EntryLaws.{IsSpent, for_nameless, nameless_entry_i
 use Rattle.step_engine.proofs.Operands.{two_given, one_given, work_given}
 use Rattle.step_engine.proofs.RunFaults.{faults_ok, fault_before, refused_then, gate_as}
 use Rattle.step_engine.proofs.Runs.{first_below, more_below, sound_fault, refused_runs, ended_runs}
-use Rattle.step_engine.proofs.Went.{stands_as, safe_as, IsSet, Went, Swept, set_found, same_reads, pays_for, went_then}
+use Rattle.step_engine.proofs.Went.{stands_as, safe_as, IsSet, Went, Swept, set_found, same_reads, pays_for, parts_for, went_then}
 
 -- what is known of a step that asks such a question
 pub record AsksFor {Given : Type 0} (q : Question Given) (n number : ℕ) (step : Step) : Type 0 where
@@ -160,6 +160,9 @@ module _ {S Given : Type 0} (tells : S → Bool) (world : S → World) (counts :
       (λ told rest pays exact.
       pays_for tells world counts n text budget number p files_are asks.sweeps_is before mid after going found q.some q.nodes asks.few asks.nodes
       (said.content.before told) a.turns rest pays (let called = said.calls told exact in omega (arith, called)))
+      (λ told spare spares. subst (λ k. k ≤ 5 + a.turns / 16 + spare) (sym (ap (λ (x : Entry). x.parts) e_is))
+      (parts_for number budget (reads_of (world before)) going.last a.turns a.next spare
+      (found.last (said.content.before told)) spares said.few_anew took.few))
       (sort_shelf_then (counts before) (counts mid) (counts after) (Ok going) (Ok e) found.faults
       (faults_ok (counts mid) (counts after) a e said.faults))
     where

@@ -1,5 +1,5 @@
 -- The runs of steps that sweep, from what the sweeps say.
-use Rattle.std.proofs.Common.{◌≡◌, ◌∙◌, ℕ, ◌+◌, ◌-◌, ◌*◌, ◌^◌, ◌<◌, ◌≤◌, Bool, true, false, cond, nat_lt, List, [], ◌∷◌, refl, sym, ap, subst, inl, inr, arith}
+use Rattle.std.proofs.Common.{◌≡◌, ◌∙◌, ℕ, ◌+◌, ◌-◌, ◌*◌, ◌/◌, ◌^◌, ◌<◌, ◌≤◌, Bool, true, false, cond, nat_lt, List, [], ◌∷◌, refl, sym, ap, subst, inl, inr, arith}
 use Rattle.std.specs.Prelude.{IsTrue, Some, Result, Ok, Err, IsErrAnd}
 use Rattle.std.specs.List.{list_all}
 use Rattle.std.proofs.lemmas.Bool.{and_parts, ltb-true}
@@ -48,11 +48,11 @@ use Rattle.step_engine.specs.Simple.{reads, MayRun, IsStepOf}
 use Rattle.step_engine.specs.Sweeping.{files_of, sweeping_of}
 use Rattle.step_engine.specs.StepEntries.{diagram_entry, IsEntryFor}
 use Rattle.step_engine.specs.StepFaults.{IsMakingFault, IsStepFault, IsRunFault, IsSoundFault, IsOfKind}
-use Rattle.step_engine.specs.Running.{run_calls, nodes_read, PaysRest, IsReadyFor, RunsStep}
+use Rattle.step_engine.specs.Running.{run_calls, nodes_read, PaysRest, SparesParts, IsReadyFor, RunsStep}
 use Rattle.step_engine.proofs.EntryLaws.{IsSpent, for_diagram, diagram_entry_is}
 use Rattle.step_engine.proofs.Operands.{IsGivenTo, step_given}
 use Rattle.step_engine.proofs.RunFaults.{faults_ok, fault_before, refused_first, refused_then, gate_as, shelf_sound, not_spent_kind}
-use Rattle.step_engine.proofs.Went.{stands_as, safe_as, IsSet, Went, Swept, went_first, set_found, same_reads, pays_for, went_then}
+use Rattle.step_engine.proofs.Went.{stands_as, safe_as, IsSet, Went, Swept, went_first, set_found, same_reads, pays_for, parts_for, went_then}
 
 -- a run that is refused, for a fault that is handed on
 pub handed_runs : {S : Type 0} (tells : S → Bool) (world : S → World) (counts : S → Faults) (n : ℕ) (text : List ℕ) (budget number : ℕ) (p : Planned)
@@ -108,6 +108,7 @@ module _ {S : Type 0} (tells : S → Bool) (world : S → World) (counts : S →
     damaged = damaged;
     kind = kind;
     calls = tt;
+    few_parts = tt;
     one_turn = λ told not. never_one p.step swept not;
     few_calls = few_run;
     faults = faults;
@@ -119,9 +120,11 @@ module _ {S : Type 0} (tells : S → Bool) (world : S → World) (counts : S →
       → (IsTrue (tells after) → (job : Job) → IsReadyFor job n text budget number p (world before) → held.IsMade job number (now (world after)).folder)
       → (IsTrue (tells after) → (rest : ℕ) → PaysRest p.step number budget (reads_of (world before)) rest → turns < 2 ^ 64 - 1
       → (world after).clock ≤ (world before).clock + (229 * turns + 13 + rest))
+      → (IsTrue (tells after) → (spare : ℕ) → SparesParts number budget (reads_of (world before)) spare
+      → e.parts ≤ 5 + turns / 16 + spare)
       → OnlySortShelf {T = Entry} (counts before) (counts after) (Ok e)
       → RunsStep tells world counts n text budget number p before after (Ok e)
-  ended_runs e turns turns_is fits entry made calls faults = record {
+  ended_runs e turns turns_is fits entry made calls few_parts faults = record {
     content = went.content;
     fits = fits;
     entry = entry;
@@ -133,6 +136,8 @@ module _ {S : Type 0} (tells : S → Bool) (world : S → World) (counts : S →
     calls = λ told rest pays exact. swept_calls p.step e.turns rest _ _ swept
         (subst (λ k. (world after).clock ≤ (world before).clock + (229 * k + 13 + rest)) (sym turns_is)
         (calls told rest pays (subst (λ k. k < 2 ^ 64 - 1) turns_is exact)));
+    few_parts = λ told spare spares. subst (λ k. e.parts ≤ 5 + k / 16 + spare) (sym turns_is)
+        (few_parts told spare spares);
     one_turn = λ told not. never_one p.step swept not;
     few_calls = few_run;
     faults = faults;
@@ -394,6 +399,9 @@ module _ {S : Type 0} (tells : S → Bool) (world : S → World) (counts : S →
       pays_for tells world counts n text budget number p files_are is_one.sweeps_is before mid after going found 11
       (operand_nodes (making_of n sweeping going.step)) (omega arith) is_one.nodes (said.content.before told) m.turns rest pays
       (let called = said.calls told exact in omega (arith, called)))
+      (λ told spare spares. subst (λ k. k ≤ 5 + m.turns / 16 + spare) (sym (ap (λ (x : Entry). x.parts) e_is))
+      (parts_for number budget (reads_of (world before)) going.last m.turns m.next spare
+      (found.last (said.content.before told)) spares said.few_anew took.few))
       (sort_shelf_then (counts before) (counts mid) (counts after) (Ok going) (Ok e) found.faults
       (faults_ok (counts mid) (counts after) m e said.faults))
     where

@@ -1,5 +1,5 @@
 -- A step of a job of which it was found how far it has come, and what a sweep of it leaves and costs then.
-use Rattle.std.proofs.Common.{◌≡◌, ℕ, ◌+◌, ◌*◌, ◌≤◌, Bool, true, List, refl, sym, subst, inr, arith}
+use Rattle.std.proofs.Common.{◌≡◌, ℕ, ◌+◌, ◌*◌, ◌/◌, ◌≤◌, Bool, true, List, refl, sym, subst, inr, arith}
 use Rattle.std.specs.Prelude.{IsTrue, Option, Some, None, Result, Ok}
 use Rattle.bool_tables.specs.declared.steps.Step.{Step}
 use Rattle.bool_tables.specs.declared.steps.Planned.{Planned}
@@ -21,12 +21,13 @@ use Rattle.sweep_checkpoint.specs.declared.going.Going.{Going}
 use Rattle.step_going.specs.Found.{DuringFind}
 use Rattle.step_going.specs.Standing.{AreSafe, IsStanding}
 use Rattle.step_sweeps.specs.Going.{next_of, rest_calls}
+use Rattle.step_sweeps.specs.Made.{FewAnew}
 use Rattle.sound_image.specs.Jobs.{Job}
 use Rattle.sound_image.specs.Entries.{work_of}
 use Rattle.sound_image.specs.Holds.{Holds, AreResumable}
 use Rattle.step_engine.specs.Finding.{IsOfJob, JobGoesOn, JobRests, JobStands, FindsGoing}
 use Rattle.step_engine.specs.OneFile.{ChangesFile, OnlyMade}
-use Rattle.step_engine.specs.Running.{nodes_read, PaysRest}
+use Rattle.step_engine.specs.Running.{nodes_read, PaysRest, SparesParts}
 use Rattle.step_engine.specs.Simple.{IsStepOf}
 use Rattle.step_engine.proofs.Resuming.{safe_resumes_over}
 
@@ -64,6 +65,14 @@ run_cost step number budget r None rest before mid after turns some nodes few fe
     let begun : mid ≤ before + 2 = least refl in omega (arith, few, begun, then)
 run_cost step number budget r (Some c) rest before mid after turns some nodes few fewer told pays most least then =
     let paid = pays c told in omega (arith, few, fewer, most, then, paid)
+
+-- few part numbers were taken, and turns before the last checkpoint may have taken more
+pub parts_for : (number budget : ℕ) (r : FileNo → List ℕ) (last : Option Checkpoint) (turns next spare : ℕ)
+    → Tells number budget (last_gated number r) last → SparesParts number budget r spare
+    → (last ≡ None → FewAnew turns next) → next ≤ 1024 + turns / 16 → next ≤ 5 + turns / 16 + spare
+parts_for number budget r None turns next spare told spares anew few = let fewer = anew refl in omega (arith, fewer)
+parts_for number budget r (Some c) turns next spare told spares anew few =
+    let more = spares c told in omega (arith, more, few)
 
 module _ {S : Type 0} (tells : S → Bool) (world : S → World) (counts : S → Faults) (n : ℕ) (text : List ℕ) (budget number : ℕ) (p : Planned) where
   -- what is said of each run of a step that sweeps, whether it ends or is refused

@@ -1,5 +1,5 @@
 -- What a run of a step does, leaves and costs.
-use Rattle.std.specs.Prelude.{◌≡◌, ℕ, ◌+◌, ◌-◌, ◌*◌, ◌^◌, ◌<◌, ◌≤◌, Bool, false, IsTrue, cond, List, Result, IfOk}
+use Rattle.std.specs.Prelude.{◌≡◌, ℕ, ◌+◌, ◌-◌, ◌*◌, ◌/◌, ◌^◌, ◌<◌, ◌≤◌, Bool, false, IsTrue, cond, List, Result, IfOk}
 use Rattle.std.specs.Prelude.{IfErr, Some, sum_by}
 use Rattle.bool_tables.specs.declared.steps.Step.{Step}
 use Rattle.bool_tables.specs.declared.steps.Planned.{Planned}
@@ -42,6 +42,11 @@ abbrev pub PaysRest : Step → ℕ → ℕ → (FileNo → List ℕ) → ℕ →
 PaysRest step number budget r rest = (c : Checkpoint) → Tells number budget (last_gated number r) (Some c)
     → rest_calls (Some c) (nodes_read step r) + 590 ≤ rest
 
+-- so many part numbers may have been taken by what the step goes on from: 1,019, where there is such a checkpoint
+abbrev pub SparesParts : ℕ → ℕ → (FileNo → List ℕ) → ℕ → Type 0
+SparesParts number budget r spare = (c : Checkpoint) → Tells number budget (last_gated number r) (Some c)
+    → 1019 ≤ spare
+
 -- the step is the job's, and the folder holds those before it, where it reads what they left
 pub record IsReadyFor (job : Job) (n : ℕ) (text : List ℕ) (budget number : ℕ) (p : Planned) (world : World)
     : Type 0 where
@@ -68,6 +73,9 @@ pub record RunsStep {S : Type 0} (tells : S → Bool) (world : S → World) (cou
   pub calls : IfOk result (λ e. IsTrue (tells after) → (rest : ℕ)
       → PaysRest p.step number budget (reads_of (world before)) rest → e.turns < 2 ^ 64 - 1
       → (world after).clock ≤ (world before).clock + (run_calls p.step e.turns + rest))
+  -- a step that began anew took few part numbers, from 5 on; one that went on from a checkpoint may have taken more
+  pub few_parts : IfOk result (λ e. IsTrue (tells after) → (spare : ℕ)
+      → SparesParts number budget (reads_of (world before)) spare → e.parts ≤ 5 + e.turns / 16 + spare)
   pub one_turn : IsTrue (tells after) → sweeps p.step ≡ false → (world after).clock ≤ (world before).clock + 5
   pub few_calls : IsTrue (tells after) → (job : Job) → IsStepOf job n text budget number p
       → Holds job number (now (world before)).folder → (rest : ℕ)

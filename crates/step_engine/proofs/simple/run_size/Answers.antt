@@ -2,11 +2,12 @@ use Rattle.std.proofs.Common.{◌<◌, nat_lt, refl, ap, sym, subst, inl, arith}
 use Rattle.std.specs.Prelude.{IsTrue}
 use Rattle.std.specs.List.{list_all}
 use Rattle.bool_tables.specs.Plans.{operands}
+use Rattle.catalogue.specs.declared.layout.Entry.{Entry}
 use Rattle.shelf_model.specs.World.{now}
 use Rattle.step_work.specs.Tuples.{sweeps}
 use Rattle.sound_image.specs.Entries.{IsEntryOfStep, kind_of}
 use Rattle.step_engine.proofs.EntryLaws.{for_nameless, size_entry_is, only_below, one_turn_spent}
-use Rattle.step_engine.proofs.OneTurn.{size_calls, size_fault, size_sound, size_kind, size_makes, size_reads}
+use Rattle.step_engine.proofs.OneTurn.{first_parts, size_calls, size_fault, size_sound, size_kind, size_makes, size_reads}
 use Rattle.step_engine.proofs.Resuming.{one_resumes}
 use Rattle.step_engine.proofs.RunFaults.{shelf_faults, shelf_fine}
 use Rattle.step_engine.proofs.Runs.{handed_runs}
@@ -35,6 +36,7 @@ returns-in_err-nodes g c =
             damaged = λ told. inl (size_fault c.args.n c.args.of p.step c.requires.kind (g.S.Shelf.world c.args.shelf.now) e (said.err told));
             kind = size_kind p.step e;
             calls = tt;
+            few_parts = tt;
             one_turn = λ told not. let few = said.calls told in omega (arith, few);
             few_calls = λ told job is holds rest pays. size_calls c.args.of p.step c.requires.kind _ rest _ _ (said.calls told);
             faults = shelf_faults _ _ e said.faults;
@@ -64,6 +66,7 @@ returns g c =
         damaged = tt;
         kind = tt;
         calls = λ told rest pays exact. size_calls c.args.of p.step c.requires.kind _ rest _ _ (said.calls told);
+        few_parts = λ told spare spares. first_parts _ _ spare (ap (λ (x : Entry). x.parts) c.nameless_entry.ensures);
         one_turn = λ told not. let few = said.calls told in omega (arith, few);
         few_calls = λ told job is holds rest pays. size_calls c.args.of p.step c.requires.kind _ rest _ _ (said.calls told);
         faults = shelf_fine _ _ _ _ said.faults;
