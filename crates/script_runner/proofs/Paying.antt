@@ -1,6 +1,6 @@
 -- What pays for going on with a step of a run: what did at first, for the first step that wasn't committed then, and
 -- nothing for those behind it.
-use Rattle.std.proofs.Common.{◌≡◌, ◌∙◌, ℕ, ◌+◌, ◌*◌, ◌<◌, ◌≤◌, Bool, true, false, cond, nat_lt, List, [], ◌∷◌, length, refl, sym, ap, ap₂, subst, inl, inr, arith}
+use Rattle.std.proofs.Common.{◌≡◌, ◌∙◌, ℕ, ◌+◌, ◌-◌, ◌*◌, ◌<◌, ◌≤◌, Bool, true, false, cond, nat_lt, List, [], ◌∷◌, length, refl, sym, ap, ap₂, subst, inl, inr, arith}
 use Rattle.std.specs.Prelude.{IsTrue, Some}
 use Rattle.std.specs.List.{list_all, sum_by}
 use Rattle.std.proofs.lemmas.Bool.{cases_lt, and_parts, ltb-true, lt-ltb, le-ltb}
@@ -73,12 +73,13 @@ pub pays_now : (job : Job) (step rest : ℕ) (old new : Folder) → IsWellFormed
     → PaysFirst job old rest → PaysStep job step new (unpaid (count_in (present old)) step rest)
 unfolding unpaid
 pays_now job step rest old new plan files sound reached within keeps later pays = elim (cases_lt (count_in (present old)) step) [
-  | inl behind ↦ no_checkpoint (step_at job step).step step job.budget (present new) (unpaid (count_in (present old)) step rest)
+  | inl behind ↦ no_checkpoint (step_at job step).step step job.budget (present new)
+      (unpaid (count_in (present old)) step rest - 1019)
       (ap (λ (x : File). x.bytes) (of_step (checkpoint_gate step) refl) ∙ none_behind_first job old files sound step behind within)
   | inr first ↦
       let here : step ≡ count_in (present old) = omega (arith, reached, first) in
       let still : PaysStep job step new rest =
-      pays_still (step_at job step).step step job.budget rest (present old) (present new)
+      pays_still (step_at job step).step step job.budget (rest - 1019) (present old) (present new)
       (may_run job.n job.text job.steps step no_step within plan).operands_are
       (ap (λ (x : File). x.bytes) (of_step (checkpoint_gate step) refl)) (ap (λ (x : File). x.bytes) (of_step (checkpoint_file step) refl))
       (λ k below. ap (λ (x : File). x.bytes) (keeps k (omega (arith, below, here)) (λ j from until. absurd (omega (arith, from, until, here)))))

@@ -1,5 +1,5 @@
 -- One step of a run, from its files to its commit and what it leaves behind.
-use Rattle.std.proofs.Common.{◌≡◌, ◌∙◌, ℕ, ◌+◌, ◌-◌, ◌*◌, ◌/◌, ◌^◌, ◌<◌, ◌≤◌, ◌⊎◌, Bool, true, false, cond, nat_lt, [], length, take, get_or, refl, sym, ap, subst, inl, inr, arith}
+use Rattle.std.proofs.Common.{◌≡◌, ◌∙◌, ℕ, ◌+◌, ◌-◌, ◌*◌, ◌/◌, ◌^◌, ◌<◌, ◌≤◌, ◌⊎◌, Bool, true, false, cond, nat_lt, min, [], length, take, get_or, refl, sym, ap, subst, inl, inr, arith}
 use Rattle.std.specs.Prelude.{IsTrue, Result, Ok, Err}
 use Rattle.std.specs.List.{list_all}
 use Rattle.bool_tables.specs.declared.steps.Step.{Step}
@@ -458,22 +458,31 @@ module _ (job : Job) (k : ℕ) (few : AreFew job) (rests : RestsOnSteps job) (wi
         spent = tt;
       }
 
--- the cuts of a step: one, or where it sweeps one for each part below its next one, of which its turns took few
-abbrev pub most_cuts : Bool → ℕ → ℕ
-most_cuts swept work = cond swept (1023 + work / 16) 1
+-- of what pays for going on with a step so much is for part numbers that it may have taken before
+abbrev pub spare_of : ℕ → ℕ
+spare_of rest = min rest 1019
+
+-- the cuts of a step: one, or where it sweeps one for each part below its next one, of which its turns took few, and
+-- those before its last checkpoint so many more
+abbrev pub most_cuts : Bool → ℕ → ℕ → ℕ
+most_cuts swept work spare = cond swept (4 + work / 16 + spare) 1
 
 -- the calls of making a step, of a commit and of cutting what is left behind are those of the step
-step_sum : (swept : Bool) (work rest old mid last new : ℕ) → mid ≤ old + (cond swept (229 * work + 13) 5 + rest) → last ≤ mid + 5 → new ≤ last + most_cuts swept work
-    → new ≤ old + (cond swept (229 * work + work / 16 + 1041) 11 + rest)
+step_sum : (swept : Bool) (work rest old mid last new : ℕ)
+    → mid ≤ old + (cond swept (229 * work + 13) 5 + (rest - 1019)) → last ≤ mid + 5
+    → new ≤ last + most_cuts swept work (spare_of rest)
+    → new ≤ old + (cond swept (229 * work + work / 16 + 22) 11 + rest)
 step_sum true work rest old mid last new made committed tidied = omega (arith, made, committed, tidied)
 step_sum false work rest old mid last new made committed tidied = omega (arith, made, committed, tidied)
 
 -- the cuts of a step with that next part, which few turns of its work took, are as few
-cuts_few : (swept : Bool) (next turns work : ℕ) → (swept ≡ false) ⊎ ((next ≤ 1024 + turns / 16) × (turns ≤ work)) → cond swept (parts_end next - 1) 1 ≤ most_cuts swept work
-cuts_few true next turns work (inl not) = absurd cc
-cuts_few false next turns work (inl not) = omega arith
-cuts_few true next turns work (inr (few, within)) = omega (arith, few, within)
-cuts_few false next turns work (inr (few, within)) = omega arith
+cuts_few : (swept : Bool) (next turns work spare : ℕ)
+    → (swept ≡ false) ⊎ ((next ≤ 5 + turns / 16 + spare) × (turns ≤ work))
+    → cond swept (parts_end next - 1) 1 ≤ most_cuts swept work spare
+cuts_few true next turns work spare (inl not) = absurd cc
+cuts_few false next turns work spare (inl not) = omega arith
+cuts_few true next turns work spare (inr (few, within)) = omega (arith, few, within)
+cuts_few false next turns work spare (inr (few, within)) = omega arith
 
 module _ {S : Type 0} (tells : S → Bool) (world : S → World) (counts : S → Faults) (law : (s : S) → IsTrue (tells s) → AreFiles (now (world s)).folder)
     (job : Job) (k : ℕ) (plan : IsWellFormed job.n job.text job.steps) (within : k < length job.steps) (p : Planned) (p_is : p ≡ step_at job k)
@@ -490,17 +499,20 @@ module _ {S : Type 0} (tells : S → Bool) (world : S → World) (counts : S →
   -- the calls of making it, of a commit and of cutting what it leaves behind
   module _ (old s : S) (result : Result Entry SortFault) (runs : RunsStep tells world counts job.n job.text job.budget k p old s result) (tells_s : IsTrue (tells s))
       (rest : ℕ) (counted : IsCounted job k (now (world old)).folder rest) where
-    few_made : (world s).clock ≤ (world old).clock + (cond (sweeps p.step) (229 * work_of job p.step + 13) 5 + rest)
+    few_made : (world s).clock
+        ≤ (world old).clock + (cond (sweeps p.step) (229 * work_of job p.step + 13) 5 + (rest - 1019))
     few_made = elim counted [
       | inl one ↦
           let unswept : sweeps p.step ≡ false = ap sweeps (sym place_is) ∙ one in
           let few = runs.one_turn tells_s unswept in
-          subst (λ b. (world s).clock ≤ (world old).clock + (cond b (229 * work_of job p.step + 13) 5 + rest)) (sym unswept) (omega (arith, few))
-      | inr (holds, pays) ↦ runs.few_calls tells_s job the_step holds rest
-          (subst (λ x. PaysRest x k job.budget (present (now (world old)).folder) rest) place_is pays)
+          subst (λ b. (world s).clock ≤ (world old).clock + (cond b (229 * work_of job p.step + 13) 5 + (rest - 1019)))
+          (sym unswept) (omega (arith, few))
+      | inr (holds, pays) ↦ runs.few_calls tells_s job the_step holds (rest - 1019)
+          (subst (λ x. PaysRest x k job.budget (present (now (world old)).folder) (rest - 1019)) place_is pays)
     ]
 
-    pub few_calls : (last new : ℕ) → last ≤ (world s).clock + 5 → new ≤ last + most_cuts (sweeps p.step) (work_of job p.step)
+    pub few_calls : (last new : ℕ) → last ≤ (world s).clock + 5
+        → new ≤ last + most_cuts (sweeps p.step) (work_of job p.step) (spare_of rest)
         → new ≤ (world old).clock + (step_calls job p + rest)
     few_calls last new = step_sum (sweeps p.step) (work_of job p.step) rest (world old).clock (world s).clock last new few_made
 
@@ -510,18 +522,23 @@ module _ {S : Type 0} (tells : S → Bool) (world : S → World) (counts : S →
       → new ≤ last + cond (sweeps p.step) (parts_end e.parts - 1) 1 → new ≤ (world old).clock + (step_calls job p + rest)
   taken_calls e old s runs tells_s rest counted last new committed tidied =
       few_calls old s (Ok e) runs tells_s rest counted last new committed
-      (fewer new last (cond (sweeps p.step) (parts_end e.parts - 1) 1) (most_cuts (sweeps p.step) (work_of job p.step)) tidied
-      (cuts_few (sweeps p.step) e.parts e.turns (work_of job p.step) of_entry))
+      (fewer new last (cond (sweeps p.step) (parts_end e.parts - 1) 1)
+      (most_cuts (sweeps p.step) (work_of job p.step) (spare_of rest)) tidied
+      (cuts_few (sweeps p.step) e.parts e.turns (work_of job p.step) (spare_of rest) of_entry))
     where
       fewer : (new last cuts most : ℕ) → new ≤ last + cuts → cuts ≤ most → new ≤ last + most
       fewer new last cuts most tidied few = omega (arith, tidied, few)
 
-      of_entry : (sweeps p.step ≡ false) ⊎ ((e.parts ≤ 1024 + e.turns / 16) × (e.turns ≤ work_of job p.step))
+      of_entry : (sweeps p.step ≡ false)
+          ⊎ ((e.parts ≤ 5 + e.turns / 16 + spare_of rest) × (e.turns ≤ work_of job p.step))
       of_entry = elim counted [
         | inl one ↦ inl (ap sweeps (sym place_is) ∙ one)
         | inr (holds, pays) ↦
             let entry : IsEntryOfStep job k e = runs.entry tells_s job (record { step = the_step; holds = λ reads. holds }) in
-            inr (entry.parts_are.2, subst (λ x. e.turns ≤ work_of job x) place_is entry.turns_are.1)
+            inr (
+              runs.few_parts tells_s (spare_of rest) (λ c told. let paid = pays c told in omega (arith, paid)),
+              subst (λ x. e.turns ≤ work_of job x) place_is entry.turns_are.1,
+            )
       ]
 
   -- at most the step's own files were changed
