@@ -4,7 +4,10 @@ ghost use Rattle.std.specs.Prelude.{◌^◌, ◌<◌, ◌≤◌, IfOk, IfSome, l
 use crate::handle::{Handle, are_one};
 use crate::handles::Handles;
 use crate::known::Known;
-use file_numbers::{ENDS_PART, INNER_PART, JOB_GATE, ends_file, node_file};
+use file_numbers::{
+    CHECKPOINT_PART, ENDS_PART, FIRST_RUN_PART, INNER_PART, JOB_GATE, checkpoint_file,
+    checkpoint_gate, ends_file, node_file,
+};
 use shelf_model::{FileNo, LONGEST};
 use std::alloc::Global;
 use std::fs::{Metadata, OpenFile, OpenOptions};
@@ -12,6 +15,9 @@ use std::io::ErrorKind;
 use std::os::unix::fs::FileExt;
 use std::rt::Files;
 use std::{fs, io};
+
+/// How many runs of a step are made at once: their names take one sync of the folder.
+const RUNS_AT_ONCE: u64 = 8;
 
 /// A real folder, whose file `(step, part)` is `sSTEPpPART`. A file that isn't there is empty, and
 /// nothing but an append makes one. Only regular files are files of the folder.
@@ -239,8 +245,9 @@ impl<F: FileExt + OpenFile + Drop> Folder<F> {
 
     /// Makes a file that isn't there, and answers the place of its handle.
     ///
-    /// With a step's arcs the files are made that it writes after them, so that one sync of the folder covers
-    /// all their names. They are empty, as those are that aren't there.
+    /// With a step's arcs the files are made that it writes after them, with a checkpoint its gate, and with a run the
+    /// step's checkpoints and the next runs, so that one sync of the folder covers all their names. They are empty, as
+    /// those are that aren't there.
     fn make<R: Files<File = F>>(&mut self, rt: &R, f: FileNo) -> io::Result<usize>
         ensures { IfOk result (λ i. i < vec_len self.new.handles.all) }
     {
@@ -250,7 +257,23 @@ impl<F: FileExt + OpenFile + Drop> Folder<F> {
         if f.part == INNER_PART || f.part == ENDS_PART {
             self.make_early(rt, node_file(f.step))?;
         }
+        if f.part == CHECKPOINT_PART || f.part >= FIRST_RUN_PART {
+            self.make_early(rt, checkpoint_gate(f.step))?;
+        }
+        if f.part >= FIRST_RUN_PART {
+            self.make_early(rt, checkpoint_file(f.step))?;
+            self.make_runs_early(rt, f)?;
+        }
         self.make_alone(rt, f)
+    }
+
+    /// Makes the runs of a step behind that one.
+    fn make_runs_early<R: Files<File = F>>(&mut self, rt: &R, f: FileNo) -> io::Result<()> {
+        let behind = f.part.saturating_add(1);
+        for part in behind..f.part.saturating_add(RUNS_AT_ONCE) {
+            self.make_early(rt, FileNo { step: f.step, part })?;
+        }
+        Ok(())
     }
 
     /// Makes a part of a step that isn't written yet, unless it may be there.

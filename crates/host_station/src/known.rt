@@ -12,8 +12,9 @@ const PARTS: u64 = 64;
 /// A listing takes at most so many reads.
 const MOST_READS: u32 = u32::MAX;
 
-/// What is known of the files of steps: no step behind this one has a file, and of its own first 64 parts
-/// there are those alone that have their bit. Of other files it isn't known whether they are there.
+/// What is known of the files of steps: no step behind this one has a file. Of its own first 64 parts there are those
+/// alone that have their bit, and of the others none from the end on. Of other files it isn't known whether they are
+/// there.
 ///
 /// It grows with what is seen and made. It isn't changed where a file is let go, so that a file that was
 /// made is never taken for absent.
@@ -21,6 +22,7 @@ const MOST_READS: u32 = u32::MAX;
 pub(crate) struct Known {
     step: u32,
     parts: u64,
+    end: u64,
 }
 
 impl Known {
@@ -29,13 +31,18 @@ impl Known {
         Known {
             step: u32::MAX,
             parts: u64::MAX,
+            end: u64::MAX,
         }
     }
 
     /// What a listing of a folder tells, which gives its names, each ended by a NUL. Where it fails, that
     /// is nothing.
     pub(crate) fn of_listing<D: Read>(listing: &mut D) -> Known {
-        let mut known = Known { step: 0, parts: 0 };
+        let mut known = Known {
+            step: 0,
+            parts: 0,
+            end: 0,
+        };
         let mut names = [0u8; 4096];
         for _ in 0..MOST_READS {
             match listing.read(&mut names) {
@@ -64,8 +71,13 @@ impl Known {
         if f.step > self.step {
             self.step = f.step;
             self.parts = 0;
+            self.end = 0;
         }
-        if f.step == self.step && f.part < PARTS {
+        if f.step < self.step {
+            return;
+        }
+        self.end = self.end.max(f.part.saturating_add(1));
+        if f.part < PARTS {
             self.parts |= 1 << f.part;
         }
     }
@@ -75,7 +87,14 @@ impl Known {
         if f.step == JOB_STEP || f.step < self.step {
             return false;
         }
-        f.step > self.step || (f.part < PARTS && self.parts >> f.part & 1 == 0)
+        if f.step > self.step {
+            return true;
+        }
+        if f.part < PARTS {
+            self.parts >> f.part & 1 == 0
+        } else {
+            f.part >= self.end
+        }
     }
 }
 
