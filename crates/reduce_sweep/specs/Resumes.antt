@@ -162,6 +162,13 @@ pub record Makes (c : Checkpoint) (out : FileNo) (n : ℕ) : Type 0 where
   pub out_is : saved.out ≡ out
   pub variables_are : saved.variables ≡ n
 
+-- its words say that the arcs which are reduced stand in two files of that step
+pub record ReadsArcsOf (c : Checkpoint) (step : ℕ) : Type 0 where
+  pub saved : Saved
+  pub holds : HasWords c saved
+  pub inner_own : saved.arcs.inner.step ≡ step
+  pub ends_own : saved.arcs.ends.step ≡ step
+
 -- its arc files, where it began with some arcs
 abbrev pub IsOperand : Task → FileNo → Type 0
 IsOperand task f = ((f ≡ task.arcs.inner) × (0 < task.arcs.inner_count))

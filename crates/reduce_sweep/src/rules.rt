@@ -4,7 +4,7 @@ ghost use Rattle.run_tiers.specs.Tables.{IsInUse, IsTable};
 ghost use Rattle.level_queue.specs.Tables.{table_at};
 ghost use Rattle.reduce_sweep.specs.Sweeps.{IsPhaseAt, IsNumberedAt};
 ghost use Rattle.reduce_sweep.specs.SavedTables.{tables_of, IsSavedTable, AreSavedTables, IsPicked};
-ghost use Rattle.reduce_sweep.specs.Resumes.{IsArcFile, IsKeptAtEnd, IsKeptAt, KeepsRules, Fits, Makes};
+ghost use Rattle.reduce_sweep.specs.Resumes.{IsArcFile, IsKeptAtEnd, IsKeptAt, KeepsRules, Fits, Makes, ReadsArcsOf};
 
 use crate::phase::{Numbered, Phase};
 use crate::reduce::ReduceSweep;
@@ -44,6 +44,17 @@ impl<'r> ReduceSweep<'r> {
     {
         match value_of::<Saved>(&point.carry) {
             Some(saved) => saved.out == out && saved.variables == n,
+            None => false,
+        }
+    }
+
+    /// Whether a checkpoint says that the arcs which are reduced stand in files of that step, also where none are left.
+    /// It takes no memory.
+    pub fn reads_arcs_of(point: &Checkpoint, step: u32) -> bool
+        ensures { IsTrue result ↔ ReadsArcsOf point.now step }
+    {
+        match value_of::<Saved>(&point.carry) {
+            Some(saved) => saved.arcs.inner.step == step && saved.arcs.ends.step == step,
             None => false,
         }
     }

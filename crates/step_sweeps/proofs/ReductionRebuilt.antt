@@ -50,7 +50,7 @@ use Rattle.step_sweeps.specs.Made.{node_file, OnlyStep}
 use Rattle.step_sweeps.specs.Makes.{IsGivenFor, goes_on_by, table_by, work_for, operand_nodes}
 use Rattle.step_sweeps.specs.Reduced.{ReducesTo}
 use Rattle.step_sweeps.specs.Started.{Starts, MayRun, IsUnderWay}
-use Rattle.step_sweeps.specs.Sweeping.{MayResume, Sweeps, most_turns, owed_parts}
+use Rattle.step_sweeps.specs.Sweeping.{MayResume, Sweeps, IsReductionFor, most_turns, owed_parts}
 use Rattle.step_sweeps.proofs.Rebuilt.{made_sure, sure_still, all_sure}
 use Rattle.step_sweeps.proofs.Running.{stays_step}
 
@@ -91,6 +91,24 @@ rests_most : (c : Checkpoint) (fits : resumes.Fits c) (f : FileNo) (n : ℕ) →
 rests_most c fits f n on same = kept_most c fits.saved fits.phase f n fits.rules
     (subst (λ x. resumes.IsRest c x f n) (one_reduction c on.saved fits.saved on.holds fits.holds) on.rests)
     same
+
+-- the task that a checkpoint names is that of which it says more
+pub task_made : (making : Making) (c : Checkpoint) (task : reduce.Task) → resumes.Names c task → IsReductionFor making c
+    → (task.out ≡ node_file making.number) × (task.variables ≡ making.n)
+task_made making c task names is =
+    let one = one_reduction c names.saved is.makes.saved names.holds is.makes.holds in (
+      sym names.out_is ∙ (λ i. (one i).out) ∙ is.makes.out_is,
+      sym names.variables_are ∙ (λ i. (one i).variables) ∙ is.makes.variables_are,
+    )
+
+pub task_own : (making : Making) (c : Checkpoint) (task : reduce.Task) → resumes.Names c task → IsReductionFor making c
+    → (task.inner.step ≡ making.number) × (task.ends.step ≡ making.number)
+task_own making c task names is =
+    let one = one_reduction c names.saved is.own.saved names.holds is.own.holds in
+    let step : FileNo → ℕ = λ f. f.step in (
+      ap step (sym names.inner_is ∙ (λ i. (one i).arcs.inner)) ∙ is.own.inner_own,
+      ap step (sym names.ends_are ∙ (λ i. (one i).arcs.ends)) ∙ is.own.ends_own,
+    )
 
 -- what is said of a reduction that was rebuilt from a checkpoint
 pub record WasRebuilt {S : Type 0} (tells : S → Bool) (world : S → World) (counts : S → Faults) (c : Checkpoint)
@@ -172,11 +190,21 @@ module _ (making : Making) (going : Going) (may : MayResume making.number going)
         ]
 
   -- a step that can't go on with a reduction from the checkpoint isn't given its tables
-  pub none_given : (world : World) → (resumes.Fits c → resumes.Makes c (node_file making.number) making.n → ⊥)
+  pub none_given : (world : World) → (resumes.Fits c → IsReductionFor making c → ⊥)
       → (g : Tables) → ¬ (IsGivenFor making going world g)
   none_given world never g given =
       let point = from world g given in
-      never point.goes.fits point.makes
+      let names = point.goes.names in
+      let step : FileNo → ℕ = λ f. f.step in
+      never point.goes.fits (record {
+        makes = point.makes;
+        own = record {
+          saved = names.saved;
+          holds = names.holds;
+          inner_own = ap step names.inner_is ∙ point.inner_own;
+          ends_own = ap step names.ends_are ∙ point.ends_own;
+        };
+      })
 
   -- what cuts files behind the checkpoint changes those of the step alone, and each image is safe meanwhile
   module _ {S : Type 0} (tells : S → Bool) (world : S → World) (old mid : S)
@@ -198,7 +226,7 @@ module _ (making : Making) (going : Going) (may : MayResume making.number going)
 
   module _ {S : Type 0} (tells : S → Bool) (world : S → World) (counts : S → Faults) (old mid : S) where
     -- the checkpoint is none of such a reduction
-    pub foreign_refused : (resumes.Fits c → resumes.Makes c (node_file making.number) making.n → ⊥) → (e : SortFault)
+    pub foreign_refused : (resumes.Fits c → IsReductionFor making c → ⊥) → (e : SortFault)
         → e ≢ RunsSpent → Told tells old mid (Ran (Stays (now (world old))) (world old) (world mid))
         → OnlySortShelf {T = Unit} (counts old) (counts mid) (Err e)
         → Sweeps tells world counts making going old mid (Err e)

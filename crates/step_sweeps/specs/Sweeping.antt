@@ -23,6 +23,7 @@ use Rattle.sweep_core.specs.Sweeps.{IsNoDamage}
 use Rattle.node_file.specs.Canonical.{IsMade}
 use Rattle.copy_sweep.specs.declared.copy.CopyTask.{CopyTask}
 use Rattle.copy_sweep.specs.Resumes.{Names}
+use Rattle.reduce_sweep.specs.Resumes as reductions
 use Rattle.resumable.specs.Diagrams.{diagram_rests}
 use Rattle.top_down_sweep.specs.Ordered.{AreOrdered}
 use Rattle.top_down_sweep.specs.Tasks.{AreArcFiles}
@@ -65,6 +66,11 @@ pub record IsCopyFor (making : Making) (c : Checkpoint) : Type 0 where
   pub names : Names c task
   pub operand : IsOperand making task.from
   pub to_is : task.to ≡ node_file making.number
+
+-- the checkpoint says that arcs in files of the step are reduced to its node file
+pub record IsReductionFor (making : Making) (c : Checkpoint) : Type 0 where
+  pub makes : reductions.Makes c (node_file making.number) making.n
+  pub own : reductions.ReadsArcsOf c making.number
 
 -- a step of that number goes on from a checkpoint, and another is due after no fewer turns than the least room has
 -- records

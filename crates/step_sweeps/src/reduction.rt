@@ -1,13 +1,13 @@
 //! The second half of a step that makes a diagram: from its arcs to its node file.
-ghost use Rattle.std.specs.Prelude.{◌≡◌, ◌-◌, ◌≤◌, ◌^◌, min, Some, Err, IfOk, IfErr, length};
-ghost use Rattle.reduce_sweep.specs.Sweeps.{out_of, count_in, parts_of, turns_left};
+ghost use Rattle.std.specs.Prelude.{◌≡◌, ◌↔◌, ◌-◌, ◌≤◌, ◌^◌, min, IsTrue, Some, Err, IfOk, IfErr, length};
+ghost use Rattle.reduce_sweep.specs.Sweeps.{out_of, inner_file, ends_file, count_in, parts_of, turns_left};
 ghost use Rattle.step_sweeps.specs.Given.{AreEarlier};
 ghost use Rattle.step_sweeps.specs.Made.{HasArcFiles, node_file};
 ghost use Rattle.step_sweeps.specs.Makes.{work_for};
 ghost use Rattle.step_sweeps.specs.Reduced.{ReducesTo};
 ghost use Rattle.step_sweeps.specs.Kinds.{reduce_kind};
 ghost use Rattle.step_sweeps.specs.Started.{Starts};
-ghost use Rattle.step_sweeps.specs.Sweeping.{MayReduce, MayResume, Reduces, Sweeps};
+ghost use Rattle.step_sweeps.specs.Sweeping.{MayReduce, MayResume, Reduces, Sweeps, IsReductionFor};
 
 use crate::MadeDiagram;
 use crate::arcs::MadeArcs;
@@ -21,7 +21,7 @@ use rec_words::Rec;
 use reduce_sweep::ReduceSweep;
 use shelf_model::{Shelf, SortFault};
 use sweep_checkpoint::{Going, run_saved};
-use sweep_core::Resume;
+use sweep_core::{Checkpoint, Resume};
 
 /// How many part numbers a step has.
 pub(crate) const PARTS: u64 = 1 << 32;
@@ -124,17 +124,25 @@ fn rebuild_reduction<'r, S: Shelf>(
     ensures starts { IfOk result (Starts S.tells S.world S.faults reduce_kind
         (λ g job s. ReducesTo making g job s) (λ g. work_for making g - 1) 0 making going.now shelf.old shelf.new) }
     ensures task { IfOk result (λ s. (out_of s ≡ node_file making.number) × (s.place.variables ≡ making.n)) }
+    ensures own { IfOk result (λ s. ((inner_file s).step ≡ making.number) × ((ends_file s).step ≡ making.number)) }
     ensures refused { IfErr result (λ e. Sweeps S.tells S.world S.faults making going.now
         shelf.old shelf.new (Err e)) }
 {
     let Some(point) = &going.last else {
         unreachable!();
     };
-    let out = node_file(making.number);
-    if !ReduceSweep::names(point, out, making.n) || !ReduceSweep::fits(point) {
+    if !is_of(point, making) || !ReduceSweep::fits(point) {
         return Err(foreign_point(making.number, shelf));
     }
     ReduceSweep::rebuild(point, &[], room, shelf)
+}
+
+// Whether a checkpoint says that arcs in files of the step are reduced to its node file.
+fn is_of(point: &Checkpoint, making: Making) -> bool
+    ensures { IsTrue result ↔ IsReductionFor making point.now }
+{
+    let out = node_file(making.number);
+    ReduceSweep::names(point, out, making.n) && ReduceSweep::reads_arcs_of(point, making.number)
 }
 
 // What a reduction made that has ended, behind so many turns.

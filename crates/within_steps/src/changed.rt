@@ -55,7 +55,7 @@ const CHANGES: [(usize, Change); 6] = [
 ];
 
 /// The words that name files in a checkpoint, with what they are: where two operands and the arcs are named, one operand
-/// and the arcs, the nodes alone, two operands that are compared, and one that is evaluated.
+/// and the arcs, the steps of the arcs and the nodes, two operands that are compared, and one that is evaluated.
 const OF_TWO: &[(usize, u64)] = &[
     (8, 0),
     (9, 0),
@@ -82,7 +82,7 @@ const OF_ONE: &[(usize, u64)] = &[
     (24, 4),
 ];
 
-const OF_NODES: &[(usize, u64)] = &[(16, 2), (17, 0)];
+const REDUCED: &[(usize, u64)] = &[(10, 2), (13, 2), (16, 2), (17, 0)];
 
 const COMPARED: &[(usize, u64)] = &[(7, 0), (8, 0), (10, 1), (11, 0)];
 
@@ -254,7 +254,7 @@ fn a_checkpoint_of_other_arcs_is_refused(rt: HostRuntime) -> Result<(), Fail> {
 
 #[test]
 fn a_checkpoint_of_another_reduction_is_refused(rt: HostRuntime) -> Result<(), Fail> {
-    is_guarded(&rt, rt.alloc(), Tried::Both, 8, OF_NODES)
+    is_guarded(&rt, rt.alloc(), Tried::Both, 8, REDUCED)
 }
 
 #[test]
