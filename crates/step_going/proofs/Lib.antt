@@ -7,3 +7,4 @@ pub mod Kept
 pub mod GoneOn
 pub mod Telling
 pub mod LastFound
+pub mod Shown

@@ -67,10 +67,10 @@ left_before these f old m left are_files (inr firm) is_left =
     sure_left (file_in old.folder f) left (are_files f) (subst (λ x. IsLeft x left) firm.1 is_left)
 
 -- an image that agrees with this one as far as a stop could have left it then
-abbrev image_before : Folder → Image → Image
+abbrev pub image_before : Folder → Image → Image
 image_before old image = chosen (λ f x. spliced x (bytes_in image f)) old
 
-image_before_is : (old : Folder) (image : Image) → AreFiles old → IsImage old (image_before old image)
+pub image_before_is : (old : Folder) (image : Image) → AreFiles old → IsImage old (image_before old image)
 image_before_is old image are_files =
     chosen_image (λ f x. spliced x (bytes_in image f)) old (λ q. spliced_left (file_in old q) (bytes_in image q) (are_files q))
 
@@ -79,7 +79,8 @@ image_before_has : (old : Folder) (image : Image) (f : FileNo) → AreFiles old
 image_before_has old image f are_files =
     bytes_in-chosen (λ f x. spliced x (bytes_in image f)) old f (spliced_left (file_in old f) (bytes_in image f) (are_files f))
 
-image_before_same : (old : Folder) (image : Image) (f : FileNo) → AreFiles old → IsLeft (file_in old f) (bytes_in image f)
+pub image_before_same : (old : Folder) (image : Image) (f : FileNo) → AreFiles old
+    → IsLeft (file_in old f) (bytes_in image f)
     → bytes_in image f ≡ bytes_in (image_before old image) f
 image_before_same old image f are_files is_left =
     sym (image_before_has old image f are_files ∙ spliced_same (file_in old f) (bytes_in image f) is_left)

@@ -154,7 +154,8 @@ module _ {P : Type 0} (accounts : Accounts P) (interval from first : ℕ) where
   )
 
   -- what they took of the calls, with no more turns than these and a save that was refused
-  calls_save : (turns later : ℕ) (mid : Going) (told_mid told : Type 0) (start at end : World) (p q r : P) → 5 ≤ from → turns ≤ later → accounts.next q ≤ accounts.next r → (told → told_mid)
+  pub calls_save : (turns later : ℕ) (mid : Going) (told_mid told : Type 0) (start at end : World) (p q r : P)
+      → 5 ≤ from → turns ≤ later → accounts.next q ≤ accounts.next r → (told → told_mid)
       → (s : SpentOn accounts interval from first turns mid told_mid start at p q) → (told → TakesCalls accounts 0 1 (first_taken mid.last) at end q r)
       → told → TakesCalls accounts later (s.saves + 1) from start end p r
   calls_save turns later mid told_mid told start at end p q r late less two before s costs is = record {
@@ -165,7 +166,8 @@ module _ {P : Type 0} (accounts : Accounts P) (interval from first : ℕ) where
   }
 
   -- and with turns behind them
-  calls_turns : (turns made later : ℕ) (mid : Going) (told_mid told : Type 0) (start at end : World) (p q r : P) → 5 ≤ from → turns + made ≤ later → accounts.next q ≤ accounts.next r → (told → told_mid)
+  pub calls_turns : (turns made later : ℕ) (mid : Going) (told_mid told : Type 0) (start at end : World) (p q r : P)
+      → 5 ≤ from → turns + made ≤ later → accounts.next q ≤ accounts.next r → (told → told_mid)
       → (s : SpentOn accounts interval from first turns mid told_mid start at p q) → (told → Paid (224 * made) (accounts.credit q) (accounts.credit r) at end)
       → told → TakesCalls accounts later s.saves from start end p r
   calls_turns turns made later mid told_mid told start at end p q r late less two before s calls is = record {
@@ -248,6 +250,13 @@ pub saved_within : {P : Type 0} (accounts : Accounts P) (old new : Going) (at en
     → WasNotSaved accounts old new at end p q ⊎ WasSaved accounts old new p q → new.shown ≤ max first most
 saved_within accounts old new at end p q first most few made (inl not) = let shown = not.shown_is in omega (arith, shown, few)
 saved_within accounts old new at end p q first most few made (inr saved) = let shown = saved.shown_is in omega (arith, shown, made)
+
+-- so what is shown grows
+pub saved_more : {P : Type 0} (accounts : Accounts P) (old new : Going) (at end : World) (p q : P)
+    → old.shown ≤ old.turns
+    → WasNotSaved accounts old new at end p q ⊎ WasSaved accounts old new p q → old.shown ≤ new.shown
+saved_more accounts old new at end p q late (inl not) = let shown = not.shown_is in omega (arith, shown)
+saved_more accounts old new at end p q late (inr saved) = let shown = saved.shown_is in omega (arith, shown, late)
 
 -- a checkpoint that is due has few part numbers for its turns
 pub paid_point : {P : Type 0} (accounts : Accounts P) (going : Going) (c : Checkpoint) (p q : P) → IsPaidTo accounts going p → going.shown + interval_of going.budget ≤ going.turns

@@ -5,3 +5,4 @@ pub mod Saves
 pub mod Loads
 pub mod Retires
 pub mod Going
+pub mod Stops

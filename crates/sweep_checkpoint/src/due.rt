@@ -10,7 +10,8 @@ ghost use Rattle.run_tiers.specs.Faults.{OnlySortShelf};
 ghost use Rattle.sweep_core.specs.Saving.{IsOfStep};
 ghost use Rattle.sweep_core.specs.Sweeps.{IsNoDamage};
 ghost use Rattle.sweep_core.specs.Carries.{OnlySaved};
-ghost use Rattle.sweep_checkpoint.specs.Saves.{gated_size};
+ghost use Rattle.sweep_checkpoint.specs.Saves.{gated_size, IsGateSure};
+ghost use Rattle.sweep_checkpoint.specs.Stops.{shown_turns, ShowsAsBefore, ImagesShow};
 ghost use Rattle.sweep_checkpoint.specs.Going.{IsOfGoing, IsLeftAlone, IsAsBefore, GoesOn, Stands, AreSure, IsShort, SameGoing, SameShown, IsShown, IsPaidTo, interval_of, TakesParts, TakesCalls, WasNotSaved, WasSaved};
 ghost use Rattle.sweep_checkpoint.specs.Retires.{first_taken};
 
@@ -112,6 +113,15 @@ pub(crate) fn save_if_due<'r, P: Resume<'r>, S: Shelf>(
         ⊎ Stands P.saving (P.accounts.makes sweep.old) (P.saving.operands (P.task sweep.old)) going.old.step
         (P.accounts.next sweep.new) going.old.budget going.old.sweep (P.task sweep.old) job
         (going.old.turns + P.left sweep.old (S.world shelf.old) job) (now (S.world shelf.new)).folder) }
+    // what a stop leaves shown of the step, where the gate is sure: what it did, or the turns at which it is saved
+    ensures shows { IsTrue (S.tells shelf.new) → IsGateSure going.old.step (now (S.world shelf.old)).folder →
+        Throughout (S.world shelf.old) (S.world shelf.new) (λ (m : Moment). (image : Image) → IsImage m.folder image →
+        ShowsAsBefore going.old.step (now (S.world shelf.old)).folder (bytes_in image)
+        ⊎ (shown_turns going.old.step (bytes_in image) ≡ going.old.turns)) }
+    ensures showed { OnOk result (IsTrue (S.tells shelf.new) →
+        IsGateSure going.old.step (now (S.world shelf.old)).folder → going.old.shown ≤ going.old.turns →
+        IsGateSure going.old.step (now (S.world shelf.new)).folder × ImagesShow going.old.step going.old.shown
+        going.new.shown (now (S.world shelf.old)).folder (now (S.world shelf.new)).folder) }
     ensures same { P.task sweep.new ≡ P.task sweep.old }
     ensures made { (f : FileNo) → P.accounts.makes sweep.new f → P.accounts.makes sweep.old f }
     ensures making { (f : FileNo) → P.accounts.makes sweep.old f → P.accounts.makes sweep.new f }

@@ -10,7 +10,8 @@ ghost use Rattle.run_tiers.specs.Faults.{OnlySortShelf};
 ghost use Rattle.sweep_core.specs.Saving.{IsOfStep};
 ghost use Rattle.sweep_core.specs.Sweeps.{IsFirm, IsNoDamage};
 ghost use Rattle.sweep_core.specs.Carries.{OnlySaved};
-ghost use Rattle.sweep_checkpoint.specs.Saves.{gated_size};
+ghost use Rattle.sweep_checkpoint.specs.Saves.{gated_size, IsGateSure};
+ghost use Rattle.sweep_checkpoint.specs.Stops.{AreStops, ImagesShow, stop_calls};
 ghost use Rattle.sweep_checkpoint.specs.Going.{IsOfGoing, IsLeftAlone, IsAsBefore, GoesOn, Stands, AreSure, IsShort, SameGoing, SameShown, IsShown, IsPaidTo, interval_of, first_owed, TakesParts, TakesCalls};
 
 use crate::due::save_if_due;
@@ -130,6 +131,19 @@ pub fn run_saved<'r, P: Resume<'r>, S: Shelf>(
         ⊎ Stands P.saving (P.accounts.makes sweep.old) (P.saving.operands (P.task sweep.old)) going.old.step
         (P.accounts.next sweep.new) going.old.budget going.old.sweep (P.task sweep.old) job
         (going.old.turns + P.left sweep.old (S.world shelf.old) job) (now (S.world shelf.new)).folder) }
+
+    // what a stop costs at any moment, where the gate is sure: for each turn that it leaves shown beyond those of
+    // before 229 calls, and those of an interval and a save
+    ensures stops { IsTrue (S.tells shelf.new) → IsGateSure going.old.step (now (S.world shelf.old)).folder →
+        16384 ≤ interval_of going.old.budget → going.old.shown ≤ going.old.turns → (job : P.Job) →
+        P.remains sweep.old (S.world shelf.old) job →
+        going.old.turns + P.left sweep.old (S.world shelf.old) job < 2 ^ 61 →
+        AreStops going.old.step going.old.shown ((S.world shelf.old).clock + stop_calls P.accounts going.old sweep.old)
+        (S.world shelf.old) (S.world shelf.new) }
+    ensures showed { OnOk result (IsTrue (S.tells shelf.new) →
+        IsGateSure going.old.step (now (S.world shelf.old)).folder → going.old.shown ≤ going.old.turns →
+        ImagesShow going.old.step going.old.shown going.new.shown
+        (now (S.world shelf.old)).folder (now (S.world shelf.new)).folder) }
     ensures same { P.task sweep.new ≡ P.task sweep.old }
     ensures step { P.accounts.step sweep.new ≡ P.accounts.step sweep.old }
     ensures spent { IsErrOf result SortFault.RunsSpent → 2 ^ 32 ≤ P.accounts.next sweep.new }

@@ -7,15 +7,17 @@ use Rattle.file_numbers.specs.Files.{checkpoint_file}
 use Rattle.sweep_core.specs.declared.checkpoint.Checkpoint.{Checkpoint}
 use Rattle.sweep_core.specs.Saving.{IsOfStep}
 use Rattle.sweep_core.specs.Carries.{IsStill}
-use Rattle.sweep_checkpoint.specs.Saves.{gated_size}
+use Rattle.sweep_checkpoint.specs.Saves.{gated_size, IsGateSure}
 use Rattle.sweep_checkpoint.specs.Retires.{first_taken}
 use Rattle.sweep_checkpoint.specs.declared.going.Going.{Going}
 use Rattle.sweep_checkpoint.specs.Going.{IsOfGoing, IsLeftAlone, IsPaidTo, AreSure, Stands, interval_of, TakesCalls}
+use Rattle.sweep_checkpoint.specs.Stops.{ImagesShow}
 use Rattle.sweep_checkpoint.proofs.Spent.{save_calls, paid_point}
 use Rattle.sweep_checkpoint.proofs.Standing.{Ready}
 use Rattle.sweep_checkpoint.proofs.WentOn.{images_none}
 use Rattle.sweep_checkpoint.proofs.SavedHere.{AreLeft, IsCarried, carried_at, images_carry, images_save, images_retire, stands_retire, left_at, save_on, retire_on, works_on, covers_on, ready_by}
 use Rattle.sweep_checkpoint.proofs.LeftAlone.{carry_alone, save_alone, retire_alone}
+use Rattle.sweep_checkpoint.proofs.Shown.{AreShown, shown_as, shown_none, shown_carry, shown_save, shown_retire, showed_retire, images_show}
 use Rattle.sweep_checkpoint.proofs.due.save_if_due.Given as given
 use Rattle.sweep_checkpoint.proofs.due.save_if_due.Goals as goal
 use Rattle.sweep_checkpoint.proofs.due.save_if_due.Goals.{After-since, After-carry, After-save, After-retire}
@@ -214,11 +216,79 @@ module _ (g : given.Over) where
       (g.S.Shelf.world c.retire.new.shelf) c.args.sweep.now c.carry.new.self c.in_ok-carry.ensures.filled.next_is (ap first_taken c.as_ref.ensures.value)
       (c.carry.ensures.leaves.calls (c.save.ensures.content.before told_s)) (c.save.ensures.calls told_s) (c.retire.ensures.calls told)
 
+  -- what a stop leaves shown of the step
+  abbrev Shown : Going → g.row.S.Denot → g.row.S.Denot → Type 0
+  Shown going old new = Throughout (g.S.Shelf.world old) (g.S.Shelf.world new)
+      (AreShown going.step going.turns (now (g.S.Shelf.world old)).folder)
+
+  carry_shown : (c : After-carry g) → IsTrue (g.S.Shelf.tells c.carry.new.shelf)
+      → Shown c.args.going.now c.args.shelf.now c.carry.new.shelf
+  carry_shown c told = shown_as _ _ _ _ (g.S.Shelf.world c.args.shelf.now) (g.S.Shelf.world c.carry.new.shelf)
+      (now (g.S.Shelf.world c.args.shelf.now)).folder
+      c.carry.ensures.head.step_is c.carry.ensures.head.turns_are
+      (shown_carry g.S.Shelf.tells g.S.Shelf.world g.met.S.Shelf.files_are _ _ _ _ c.carry.new.into c.args.shelf.now
+      c.carry.new.shelf (carried c) told)
+
+  -- the gate is sure, under the number that the checkpoint has
+  gate_at : (c : After-carry g) → IsGateSure c.args.going.now.step (now (g.S.Shelf.world c.args.shelf.now)).folder
+      → IsGateSure c.carry.new.into.step (now (g.S.Shelf.world c.args.shelf.now)).folder
+  gate_at c sure = subst (λ s. IsGateSure s (now (g.S.Shelf.world c.args.shelf.now)).folder)
+      (sym c.carry.ensures.head.step_is) sure
+
+  save_shown : (c : After-save g) → IsTrue (g.S.Shelf.tells c.save.new.shelf)
+      → IsGateSure c.args.going.now.step (now (g.S.Shelf.world c.args.shelf.now)).folder
+      → Shown c.args.going.now c.args.shelf.now c.save.new.shelf
+  save_shown c told sure =
+      let at = (goal.at.After-save g c).After-carry in
+      shown_as _ _ _ _ (g.S.Shelf.world c.args.shelf.now) (g.S.Shelf.world c.save.new.shelf)
+      (now (g.S.Shelf.world c.args.shelf.now)).folder
+      c.carry.ensures.head.step_is c.carry.ensures.head.turns_are
+      (shown_save g.S.Shelf.tells g.S.Shelf.world g.met.S.Shelf.files_are _ _ _ _ c.carry.new.into c.args.shelf.now
+      c.carry.new.shelf c.save.new.shelf (carried at) c.save.ensures.fits
+      (gate_at at sure) c.save.ensures.content told)
+
+  retire_shown : (c : After-retire g) → IsTrue (g.S.Shelf.tells c.retire.new.shelf)
+      → IsGateSure c.args.going.now.step (now (g.S.Shelf.world c.args.shelf.now)).folder
+      → Shown c.args.going.now c.args.shelf.now c.retire.new.shelf
+  retire_shown c told sure =
+      let at = (goal.at.After-retire g c).After-carry in
+      shown_as _ _ _ _ (g.S.Shelf.world c.args.shelf.now) (g.S.Shelf.world c.retire.new.shelf)
+      (now (g.S.Shelf.world c.args.shelf.now)).folder
+      c.carry.ensures.head.step_is c.carry.ensures.head.turns_are
+      (shown_retire g.S.Shelf.tells g.S.Shelf.world g.met.S.Shelf.files_are _ _ _ _ c.carry.new.into _
+      c.args.shelf.now c.carry.new.shelf c.save.new.shelf c.retire.new.shelf (carried at)
+      c.save.ensures.fits (gate_at at sure) c.save.ensures.content c.in_ok-save.ensures.ok c.retire.ensures.content
+      told)
+
 pub returns-then-since-interval-clause-images : goal.returns-then-since-interval-clause-images
 returns-then-since-interval-clause-images g c = λ told job remains sure paid. none_images g (goal.at.returns-then-since-interval-clause-images g c).After-since told job
 
+pub returns-then-since-interval-clause-shows : goal.returns-then-since-interval-clause-shows
+returns-then-since-interval-clause-shows g c = λ told sure. shown_none c.args.going.now.step c.args.going.now.turns
+    (g.S.Shelf.world c.args.shelf.now)
+
+pub returns-then-since-interval-clause-showed : goal.returns-then-since-interval-clause-showed
+returns-then-since-interval-clause-showed g c =
+    λ told sure late. (
+      sure,
+      images_show c.args.going.now.step c.args.going.now.shown
+          (now (g.S.Shelf.world c.args.shelf.now)).folder,
+    )
+
 pub returns-then-going-ge-TURNS_END-clause-images : goal.returns-then-going-ge-TURNS_END-clause-images
 returns-then-going-ge-TURNS_END-clause-images g c = λ told job remains sure paid. none_images g (goal.at.returns-then-going-ge-TURNS_END-clause-images g c).After-since told job
+
+pub returns-then-going-ge-TURNS_END-clause-shows : goal.returns-then-going-ge-TURNS_END-clause-shows
+returns-then-going-ge-TURNS_END-clause-shows g c = λ told sure. shown_none c.args.going.now.step
+    c.args.going.now.turns (g.S.Shelf.world c.args.shelf.now)
+
+pub returns-then-going-ge-TURNS_END-clause-showed : goal.returns-then-going-ge-TURNS_END-clause-showed
+returns-then-going-ge-TURNS_END-clause-showed g c =
+    λ told sure late. (
+      sure,
+      images_show c.args.going.now.step c.args.going.now.shown
+          (now (g.S.Shelf.world c.args.shelf.now)).folder,
+    )
 
 pub returns-in_err-carry-clause-alone : goal.returns-in_err-carry-clause-alone
 returns-in_err-carry-clause-alone g c = carry_leaves g (goal.at.returns-in_err-carry-clause-alone g c).After-carry
@@ -226,12 +296,20 @@ returns-in_err-carry-clause-alone g c = carry_leaves g (goal.at.returns-in_err-c
 pub returns-in_err-carry-clause-images : goal.returns-in_err-carry-clause-images
 returns-in_err-carry-clause-images g c = λ told job remains sure paid. carry_images g (goal.at.returns-in_err-carry-clause-images g c).After-carry told job
 
+pub returns-in_err-carry-clause-shows : goal.returns-in_err-carry-clause-shows
+returns-in_err-carry-clause-shows g c =
+    λ told sure. carry_shown g (goal.at.returns-in_err-carry-clause-shows g c).After-carry told
+
 pub returns-then-point-gt-MOST_PARTS-clause-alone : goal.returns-then-point-gt-MOST_PARTS-clause-alone
 returns-then-point-gt-MOST_PARTS-clause-alone g c =
     carry_leaves g (goal.at.returns-then-point-gt-MOST_PARTS-clause-alone g c).After-carry
 
 pub returns-then-point-gt-MOST_PARTS-clause-images : goal.returns-then-point-gt-MOST_PARTS-clause-images
 returns-then-point-gt-MOST_PARTS-clause-images g c = λ told job remains sure paid. carry_images g (goal.at.returns-then-point-gt-MOST_PARTS-clause-images g c).After-carry told job
+
+pub returns-then-point-gt-MOST_PARTS-clause-shows : goal.returns-then-point-gt-MOST_PARTS-clause-shows
+returns-then-point-gt-MOST_PARTS-clause-shows g c =
+    λ told sure. carry_shown g (goal.at.returns-then-point-gt-MOST_PARTS-clause-shows g c).After-carry told
 
 pub returns-in_err-save-clause-changes : goal.returns-in_err-save-clause-changes
 returns-in_err-save-clause-changes g c = save_changes g (goal.at.returns-in_err-save-clause-changes g c).After-save
@@ -242,6 +320,9 @@ returns-in_err-save-clause-alone g c = save_leaves g (goal.at.returns-in_err-sav
 pub returns-in_err-save-clause-images : goal.returns-in_err-save-clause-images
 returns-in_err-save-clause-images g c = save_images g (goal.at.returns-in_err-save-clause-images g c).After-save
 
+pub returns-in_err-save-clause-shows : goal.returns-in_err-save-clause-shows
+returns-in_err-save-clause-shows g c = save_shown g (goal.at.returns-in_err-save-clause-shows g c).After-save
+
 pub returns-in_err-retire-clause-changes : goal.returns-in_err-retire-clause-changes
 returns-in_err-retire-clause-changes g c = retire_changes g (goal.at.returns-in_err-retire-clause-changes g c).After-retire
 
@@ -250,6 +331,9 @@ returns-in_err-retire-clause-alone g c = retire_leaves g (goal.at.returns-in_err
 
 pub returns-in_err-retire-clause-images : goal.returns-in_err-retire-clause-images
 returns-in_err-retire-clause-images g c = retire_images g (goal.at.returns-in_err-retire-clause-images g c).After-retire
+
+pub returns-in_err-retire-clause-shows : goal.returns-in_err-retire-clause-shows
+returns-in_err-retire-clause-shows g c = retire_shown g (goal.at.returns-in_err-retire-clause-shows g c).After-retire
 
 pub returns-in_err-retire-clause-calls : goal.returns-in_err-retire-clause-calls
 returns-in_err-retire-clause-calls g c = retire_calls g (goal.at.returns-in_err-retire-clause-calls g c).After-retire
@@ -262,6 +346,24 @@ returns-clause-alone g c = retire_leaves g (goal.at.returns-clause-alone g c).Af
 
 pub returns-clause-images : goal.returns-clause-images
 returns-clause-images g c = retire_images g (goal.at.returns-clause-images g c).After-retire
+
+pub returns-clause-shows : goal.returns-clause-shows
+returns-clause-shows g c = retire_shown g (goal.at.returns-clause-shows g c).After-retire
+
+pub returns-clause-showed : goal.returns-clause-showed
+returns-clause-showed g c = λ told sure late.
+    let head = c.carry.ensures.head in
+    let turns = head.turns_are in
+    let old = (now (g.S.Shelf.world c.args.shelf.now)).folder in
+    let end = (now (g.S.Shelf.world c.retire.new.shelf)).folder in
+    subst (λ s. IsGateSure s end × ImagesShow s c.args.going.now.shown c.args.going.now.turns old end) head.step_is
+    (subst (λ n. IsGateSure c.carry.new.into.step end × ImagesShow c.carry.new.into.step c.args.going.now.shown n old
+    end) turns
+    (showed_retire g.S.Shelf.tells g.S.Shelf.world g.met.S.Shelf.files_are (g.P.Sweep.accounts.makes c.args.sweep.now)
+    (g.P.Sweep.saving.operands (g.P.Sweep.task c.args.sweep.now))
+    (g.P.Sweep.accounts.next c.args.sweep.now) (g.P.Sweep.accounts.next c.carry.new.self) c.carry.new.into _
+    c.args.going.now.shown c.args.shelf.now c.carry.new.shelf c.save.new.shelf c.retire.new.shelf
+    c.save.ensures.fits (omega (arith, late, turns)) c.in_ok-save.ensures.ok c.retire.ensures.content told))
 
 pub returns-clause-stands : goal.returns-clause-stands
 returns-clause-stands g c = λ told job remains sure paid. inr (retire_stands g (goal.at.returns-clause-stands g c).After-retire told job remains sure paid)

@@ -1,11 +1,11 @@
-use Rattle.std.proofs.Common.{◌≡◌, ◌≢◌, ℕ, ◌^◌, ◌+◌, ◌-◌, ◌∙◌, ◌<◌, ◌≤◌, IsTrue, length, min, max, rules, arith, refl, sym, ap, subst, inl, inr}
+use Rattle.std.proofs.Common.{◌≡◌, ◌≢◌, ◌⊎◌, ℕ, ◌^◌, ◌+◌, ◌-◌, ◌∙◌, ◌<◌, ◌≤◌, IsTrue, length, min, max, rules, arith, refl, sym, ap, subst, inl, inr}
 use Rattle.std.specs.Prelude.{Result, Ok}
 use Rattle.shelf_model.specs.declared.file_no.FileNo.{FileNo}
 use Rattle.shelf_model.specs.declared.sort_fault.SortFault.{SortFault}
 use Rattle.shelf_model.specs.Calls.{Told}
 use Rattle.shelf_model.specs.Moments.{Ran, Throughout, OnlyChanged}
 use Rattle.shelf_model.specs.World.{Moment, now, file}
-use Rattle.shelf_model.proofs.Runs.{ran_end}
+use Rattle.shelf_model.proofs.Runs.{ran_end, at_end}
 use Rattle.shelf_model.proofs.Changing.{told_changed_none, told_changed_then}
 use Rattle.file_numbers.specs.Files.{checkpoint_file}
 use Rattle.run_tiers.proofs.FaultLaws.{on_fault}
@@ -14,14 +14,17 @@ use Rattle.sweep_core.specs.Accounts.{OnlyOwn}
 use Rattle.sweep_core.specs.Saving.{IsOfStep}
 use Rattle.sweep_core.specs.Carries.{OnlySaved}
 use Rattle.sweep_checkpoint.specs.Gated.{present, last_gated}
-use Rattle.sweep_checkpoint.specs.Saves.{gated_size}
+use Rattle.sweep_checkpoint.specs.Saves.{gated_size, IsGateSure}
 use Rattle.sweep_checkpoint.specs.Retires.{first_taken}
 use Rattle.sweep_checkpoint.specs.declared.going.Going.{Going}
 use Rattle.sweep_checkpoint.specs.Going.{IsOfGoing, IsLeftAlone, AreSure, IsPaidTo, interval_of, first_owed}
+use Rattle.sweep_checkpoint.specs.Stops.{SamePoints, AreStops, stop_calls}
 use Rattle.sweep_checkpoint.proofs.AsBefore.{of_step_later, of_step_as}
-use Rattle.sweep_checkpoint.proofs.SavedHere.{AreLeft}
+use Rattle.sweep_checkpoint.proofs.SavedHere.{AreLeft, moments}
 use Rattle.sweep_checkpoint.proofs.LeftAlone.{alone_later, alone_saved}
-use Rattle.sweep_checkpoint.proofs.Spent.{SpentOn, spent_none, spent_save, spent_turns, owed_save, owed_then, spent_saves, refused_save, refused_turns, saved_late, Known, known_save, known_turns, saved_within, paid_save, paid_turns, owed_late, owed_early}
+use Rattle.sweep_checkpoint.proofs.Spent.{SpentOn, spent_none, spent_save, spent_turns, owed_save, owed_then, spent_saves, refused_save, refused_turns, saved_late, saved_more, Known, known_save, known_turns, saved_within, paid_save, paid_turns, owed_late, owed_early}
+use Rattle.sweep_checkpoint.proofs.Shown.{AreShown, saved_points}
+use Rattle.sweep_checkpoint.proofs.Stops.{ShownOn, shown_on_none, shown_on_save, shown_on_same, stops_none, stops_shown, stops_same, all_few, few_unshown, save_stop, turns_stop}
 use Rattle.sweep_checkpoint.proofs.WentOn.{Stage, SaysLast, own_saved, gated_still, says_then, covers_still, where_ended, fell_ended, fell_more, images_none, images_on, stage_save, stage_turns, left_of, come_of, sure_of, turns_on, saved_none}
 use Rattle.sweep_checkpoint.proofs.running.run_saved.Given as given
 use Rattle.sweep_checkpoint.proofs.running.run_saved.Goals as goal
@@ -373,6 +376,163 @@ module _ (g : given.Over) where
       ran.leaves.content.before (save_within at told_s job remains) (save_calls at told_s job remains) (ran.few told job (first.keeps told_s job remains_at)).spent
       (ran.few told job (first.keeps told_s job remains_at)).calls told
 
+  -- the gate is sure where it began
+  abbrev GateSure : Going → g.row.S.Denot → Type 0
+  GateSure going old = IsGateSure going.step (now (g.S.Shelf.world old)).folder
+
+  -- what images show since then
+  abbrev Shows : Going → g.row.S.Denot → Going → g.row.S.Denot → Type 0
+  Shows going old after new = ShownOn going.step going.shown after.shown (now (g.S.Shelf.world old)).folder
+      (now (g.S.Shelf.world new)).folder
+
+  save_shows : (c : In_ok-save_if_due g) → IsTrue (g.S.Shelf.tells c.save_if_due.new.shelf)
+      → GateSure c.args.going.now c.args.shelf.now → c.args.going.now.shown ≤ c.args.going.now.turns
+      → Shows c.args.going.now c.args.shelf.now c.save_if_due.new.going c.save_if_due.new.shelf
+  save_shows c told sure late =
+      let inv = c.turns.invariant in
+      let first = c.in_ok-save_if_due.ensures in
+      let late_at : c.turns.going.shown ≤ c.turns.going.turns = inv.late late in
+      shown_on_save c.turns.going.step c.args.going.now.step c.args.going.now.shown c.turns.going.shown
+      c.save_if_due.new.going.shown (now (g.S.Shelf.world c.args.shelf.now)).folder
+      (now (g.S.Shelf.world c.turns.shelf)).folder (now (g.S.Shelf.world c.save_if_due.new.shelf)).folder
+      inv.going.step_is
+      (saved_more g.P.Sweep.accounts c.turns.going c.save_if_due.new.going (g.S.Shelf.world c.turns.shelf)
+      (g.S.Shelf.world c.save_if_due.new.shelf) c.turns.sweep c.save_if_due.new.sweep late_at first.parts)
+      (inv.shows (first.changes.before told) sure late) (λ sure_at. first.showed told sure_at late_at)
+
+  -- turns leave the checkpoints and their gate
+  turn_points : (c : After-run_some g) → IsTrue (g.S.Shelf.tells c.run_some.new.shelf)
+      → Throughout (g.S.Shelf.world c.save_if_due.new.shelf) (g.S.Shelf.world c.run_some.new.shelf)
+      (λ (m : Moment). SamePoints c.args.going.now.step (now (g.S.Shelf.world c.save_if_due.new.shelf)).folder m.folder)
+  turn_points c told =
+      let at = (goal.at.After-run_some g c).In_ok-save_if_due in
+      let made_at = g.P.Sweep.accounts.makes c.save_if_due.new.sweep in
+      let next_at = g.P.Sweep.accounts.next c.save_if_due.new.sweep in
+      let step = c.args.going.now.step in
+      let mid = g.S.Shelf.world c.save_if_due.new.shelf in
+      moments mid (g.S.Shelf.world c.run_some.new.shelf) (OnlyOwn made_at step next_at (now mid))
+      (λ (m : Moment). SamePoints step (now mid).folder m.folder)
+      (λ m own. saved_points made_at (g.P.Sweep.saving.operands (g.P.Sweep.task c.args.sweep.now)) step next_at
+      (now mid) m (files_then at) (own_saved made_at step next_at (now mid) m own))
+      (subst (λ s. Ran (OnlyOwn made_at s next_at (now mid)) mid (g.S.Shelf.world c.run_some.new.shelf)) (own_step c)
+      (c.run_some.ensures.leaves.content.did told))
+
+  turn_shows : (c : After-run_some g) → IsTrue (g.S.Shelf.tells c.run_some.new.shelf)
+      → GateSure c.args.going.now c.args.shelf.now → c.args.going.now.shown ≤ c.args.going.now.turns
+      → Shows c.args.going.now c.args.shelf.now c.save_if_due.new.going c.run_some.new.shelf
+  turn_shows c told sure late =
+      let told_s = c.run_some.ensures.leaves.content.before told in
+      shown_on_same c.args.going.now.step c.args.going.now.shown c.save_if_due.new.going.shown
+      (now (g.S.Shelf.world c.args.shelf.now)).folder (now (g.S.Shelf.world c.save_if_due.new.shelf)).folder
+      (now (g.S.Shelf.world c.run_some.new.shelf)).folder (g.met.S.Shelf.files_are c.save_if_due.new.shelf told_s)
+      (at_end (g.S.Shelf.world c.save_if_due.new.shelf) (g.S.Shelf.world c.run_some.new.shelf)
+      (λ (m : Moment). SamePoints c.args.going.now.step (now (g.S.Shelf.world c.save_if_due.new.shelf)).folder
+      m.folder) (turn_points c told))
+      (save_shows (goal.at.After-run_some g c).In_ok-save_if_due told_s sure late)
+
+  -- no more than an interval of turns are made that no checkpoint shows
+  turn_recent : (c : After-run_some g) → c.args.going.now.shown ≤ c.args.going.now.turns
+      → c.save_if_due.new.going.turns < 2 ^ 61 → (made : ℕ) → made ≤ c.max-most.result
+      → (c.save_if_due.new.going.turns - c.args.going.now.turns) + made
+      ≤ (c.save_if_due.new.going.shown - c.args.going.now.shown)
+      + (interval_of c.args.going.now.budget - (c.args.going.now.turns - c.args.going.now.shown))
+  turn_recent c late few made less =
+      let inv = c.turns.invariant in
+      let first = c.in_ok-save_if_due.ensures in
+      let late_at : c.turns.going.shown ≤ c.turns.going.turns = inv.late late in
+      let more = saved_more g.P.Sweep.accounts c.turns.going c.save_if_due.new.going (g.S.Shelf.world c.turns.shelf)
+      (g.S.Shelf.world c.save_if_due.new.shelf) c.turns.sweep c.save_if_due.new.sweep late_at first.parts in
+      let later = saved_late g.P.Sweep.accounts c.turns.going c.save_if_due.new.going (g.S.Shelf.world c.turns.shelf)
+      (g.S.Shelf.world c.save_if_due.new.shelf) c.turns.sweep c.save_if_due.new.sweep first.turns late_at first.parts in
+      let grew = inv.grew in
+      let same = first.turns in
+      let least = inv.least late in
+      let budget : interval_of c.save_if_due.new.going.budget ≡ interval_of c.args.going.now.budget =
+      ap interval_of (first.going.budget_is ∙ inv.going.budget_is) in
+      let budget_at : interval_of c.turns.going.budget ≡ interval_of c.args.going.now.budget =
+      ap interval_of inv.going.budget_is in
+      let interval = c.interval.ensures in
+      let since = c.since.ensures in
+      let left = c.saturating_sub.ensures in
+      let chosen = c.max-most.ensures in
+      few_unshown (interval_of c.args.going.now.budget) c.args.going.now.shown c.args.going.now.turns
+      c.save_if_due.new.going.turns c.save_if_due.new.going.shown made c.max-most.result (omega arith) late
+      (omega (arith, grew, same)) (omega (arith, least, more)) later
+      (subst (λ n. (c.save_if_due.new.going.turns - c.save_if_due.new.going.shown < n)
+      ⊎ (c.save_if_due.new.going.shown ≡ c.save_if_due.new.going.turns)) budget_at (first.due few))
+      less (omega (arith, budget, interval, since, left, chosen))
+
+  -- what a stop costs: up to a save, and up to the turns behind it
+  abbrev Stops : g.row.P.Denot → Going → g.row.S.Denot → g.row.S.Denot → Type 0
+  Stops sweep going old new = AreStops going.step going.shown
+      ((g.S.Shelf.world old).clock + stop_calls g.P.Sweep.accounts going sweep) (g.S.Shelf.world old)
+      (g.S.Shelf.world new)
+
+  save_stops : (c : After-save_if_due g) → IsTrue (g.S.Shelf.tells c.save_if_due.new.shelf)
+      → GateSure c.args.going.now c.args.shelf.now → 16384 ≤ interval_of c.args.going.now.budget
+      → c.args.going.now.shown ≤ c.args.going.now.turns → (job : g.P.Sweep.Job)
+      → g.P.Sweep.remains c.args.sweep.now (g.S.Shelf.world c.args.shelf.now) job
+      → c.args.going.now.turns + g.P.Sweep.left c.args.sweep.now (g.S.Shelf.world c.args.shelf.now) job < 2 ^ 61
+      → Stops c.args.sweep.now c.args.going.now c.args.shelf.now c.save_if_due.new.shelf
+  save_stops c told sure often late job remains few =
+      let inv = c.turns.invariant in
+      let first = c.save_if_due.ensures in
+      let told_at = first.changes.before told in
+      let made = inv.few told_at job remains in
+      let made_few : c.turns.going.turns < 2 ^ 61 = omega (arith, made, few) in
+      let on = inv.shows told_at sure late in
+      stops_shown c.args.going.now.step c.args.going.now.shown c.turns.going.shown
+      ((g.S.Shelf.world c.args.shelf.now).clock + stop_calls g.P.Sweep.accounts c.args.going.now c.args.sweep.now)
+      (g.S.Shelf.world c.args.shelf.now) (g.S.Shelf.world c.turns.shelf) (g.S.Shelf.world c.save_if_due.new.shelf)
+      on.images (inv.stops told_at sure often late job remains few) c.turns.going.turns on.least (inv.late late)
+      (save_stop g.P.Sweep.accounts c.args.going.now c.turns.going (IsTrue (g.S.Shelf.tells c.turns.shelf))
+      (IsTrue (g.S.Shelf.tells c.save_if_due.new.shelf)) (g.S.Shelf.world c.args.shelf.now)
+      (g.S.Shelf.world c.turns.shelf) (g.S.Shelf.world c.save_if_due.new.shelf) c.args.sweep.now c.turns.sweep
+      c.save_if_due.new.sweep (c.turns.going.turns - c.args.going.now.turns) often inv.later first.later
+      first.changes.before (inv.spent (omega (arith, made_few))) told (inv.recent late made_few) first.takes
+      first.calls)
+      (subst (λ s. Throughout (g.S.Shelf.world c.turns.shelf) (g.S.Shelf.world c.save_if_due.new.shelf)
+      (AreShown s c.turns.going.turns (now (g.S.Shelf.world c.turns.shelf)).folder)) inv.going.step_is
+      (first.shows told (subst (λ s. IsGateSure s (now (g.S.Shelf.world c.turns.shelf)).folder)
+      (sym inv.going.step_is) on.sure)))
+
+  turn_stops : (c : After-run_some g) → IsTrue (g.S.Shelf.tells c.run_some.new.shelf)
+      → GateSure c.args.going.now c.args.shelf.now → 16384 ≤ interval_of c.args.going.now.budget
+      → c.args.going.now.shown ≤ c.args.going.now.turns → (job : g.P.Sweep.Job)
+      → g.P.Sweep.remains c.args.sweep.now (g.S.Shelf.world c.args.shelf.now) job
+      → c.args.going.now.turns + g.P.Sweep.left c.args.sweep.now (g.S.Shelf.world c.args.shelf.now) job < 2 ^ 61
+      → Stops c.args.sweep.now c.args.going.now c.args.shelf.now c.run_some.new.shelf
+  turn_stops c told sure often late job remains few =
+      let at = goal.at.After-run_some g c in
+      let inv = c.turns.invariant in
+      let first = c.in_ok-save_if_due.ensures in
+      let ran = c.run_some.ensures in
+      let told_s = ran.leaves.content.before told in
+      let told_at = first.changes.before told_s in
+      let made = inv.few told_at job remains in
+      let same = first.turns in
+      let made_few : c.save_if_due.new.going.turns < 2 ^ 61 = omega (arith, made, few, same) in
+      let costs = ran.few told job (first.keeps told_s job (inv.keeps told_at job remains)) in
+      let most = min c.max-most.result
+      (g.P.Sweep.left c.save_if_due.new.sweep (g.S.Shelf.world c.save_if_due.new.shelf) job + 1) in
+      stops_same c.args.going.now.step c.args.going.now.shown c.save_if_due.new.going.shown
+      ((g.S.Shelf.world c.args.shelf.now).clock + stop_calls g.P.Sweep.accounts c.args.going.now c.args.sweep.now)
+      (g.S.Shelf.world c.args.shelf.now) (g.S.Shelf.world c.save_if_due.new.shelf)
+      (g.S.Shelf.world c.run_some.new.shelf) (save_shows at.In_ok-save_if_due told_s sure late).images
+      (save_stops at.After-save_if_due told_s sure often late job remains few)
+      (g.met.S.Shelf.files_are c.save_if_due.new.shelf told_s)
+      (turns_stop g.P.Sweep.accounts c.args.going.now c.save_if_due.new.going
+      (IsTrue (g.S.Shelf.tells c.save_if_due.new.shelf)) (IsTrue (g.S.Shelf.tells c.run_some.new.shelf))
+      (g.S.Shelf.world c.args.shelf.now)
+      (g.S.Shelf.world c.save_if_due.new.shelf) (g.S.Shelf.world c.run_some.new.shelf) c.args.sweep.now
+      c.save_if_due.new.sweep c.run_some.new.sweep
+      (c.save_if_due.new.going.turns - c.args.going.now.turns) often
+      (let one = inv.later in let two = first.later in omega (arith, one, two)) ran.leaves.later
+      ran.leaves.content.before
+      (save_spent at.In_ok-save_if_due (omega (arith, made_few))) told most
+      (turn_recent c late made_few most (omega arith)) costs.spent costs.calls)
+      (turn_points c told)
+
 pub turns-init : goal.turns-init
 turns-init g c =
     let claim : g.claim c.lifetimes = search rules in
@@ -411,6 +571,13 @@ turns-init g c =
           (c.args.going.now.turns + g.P.Sweep.left c.args.sweep.now (g.S.Shelf.world c.args.shelf.now) job) (g.S.Shelf.world c.args.shelf.now) (g.met.S.Shelf.files_are c.args.shelf.now told)
           (subst (λ s. IsOfStep made read s next) (sym c.requires.step) c.requires.files);
       come = λ told job remains sure paid. inl (saved_none made c.args.going.now.step next (now (g.S.Shelf.world c.args.shelf.now)));
+      shows = λ told sure late. shown_on_none c.args.going.now.step c.args.going.now.shown
+          (now (g.S.Shelf.world c.args.shelf.now)).folder sure;
+      least = λ late. omega arith;
+      recent = λ late few. omega arith;
+      stops = λ told sure often late job remains few. stops_none c.args.going.now.step c.args.going.now.shown
+          ((g.S.Shelf.world c.args.shelf.now).clock + stop_calls g.P.Sweep.accounts c.args.going.now c.args.sweep.now)
+          (g.S.Shelf.world c.args.shelf.now) (omega arith);
       faults = record { later = omega arith; cause = λ is. cc; say_is = refl; text_is = λ path. refl };
     }
 
@@ -423,6 +590,10 @@ returns-in_err-save_if_due-clause-alone g c =
 
 pub returns-in_err-save_if_due-clause-images : goal.returns-in_err-save_if_due-clause-images
 returns-in_err-save_if_due-clause-images g c = save_images g (goal.at.returns-in_err-save_if_due-clause-images g c).After-save_if_due
+
+pub returns-in_err-save_if_due-clause-stops : goal.returns-in_err-save_if_due-clause-stops
+returns-in_err-save_if_due-clause-stops g c =
+    save_stops g (goal.at.returns-in_err-save_if_due-clause-stops g c).After-save_if_due
 
 pub returns-in_err-save_if_due-clause-refused : goal.returns-in_err-save_if_due-clause-refused
 returns-in_err-save_if_due-clause-refused g c =
@@ -446,6 +617,19 @@ returns-in_err-save_if_due-clause-few_calls g c = λ told job remains.
     (owed_late c.args.going.now.last (g.P.Sweep.accounts.next c.args.sweep.now)) (omega arith) inv.later first.later first.changes.before (omega (arith, few)) first.refused.1 (ap interval_of inv.going.budget_is)
     (inv.calls told_at job remains) first.takes first.calls told
 
+-- a save that was refused is no damage where something of a job remains, and the gated checkpoints are all there
+pub returns-in_err-save_if_due-clause-undamaged : goal.returns-in_err-save_if_due-clause-undamaged
+returns-in_err-save_if_due-clause-undamaged g c =
+    on_fault c.from_residual.result c.in_err-save_if_due.field-0.0 _ c.from_residual.ensures.1
+    (λ told job remains covered.
+    let inv = c.turns.invariant in
+    let first = c.in_err-save_if_due.ensures in
+    let told_at = first.changes.before told in
+    let world_at = g.S.Shelf.world c.turns.shelf in
+    first.undamaged told job (inv.keeps told_at job remains)
+    (subst (λ s. gated_size s (now world_at).folder ≤ length (file world_at (checkpoint_file s)).bytes)
+    (sym inv.going.step_is) (inv.covers told_at covered)))
+
 -- a save that was refused says so where the gated checkpoints are all there
 pub returns-in_err-save_if_due-clause-covered : goal.returns-in_err-save_if_due-clause-covered
 returns-in_err-save_if_due-clause-covered g c =
@@ -466,6 +650,9 @@ returns-in_err-made-clause-alone g c = turn_alone g (goal.at.returns-in_err-made
 
 pub returns-in_err-made-clause-images : goal.returns-in_err-made-clause-images
 returns-in_err-made-clause-images g c = λ told job remains sure paid. (turn_stage g (goal.at.returns-in_err-made-clause-images g c).After-run_some told job remains sure paid).images
+
+pub returns-in_err-made-clause-stops : goal.returns-in_err-made-clause-stops
+returns-in_err-made-clause-stops g c = turn_stops g (goal.at.returns-in_err-made-clause-stops g c).After-run_some
 
 pub returns-in_err-made-clause-refused : goal.returns-in_err-made-clause-refused
 returns-in_err-made-clause-refused g c =
@@ -493,6 +680,14 @@ returns-in_err-made-clause-undamaged g c =
     ran.undamaged told job (first.keeps told_s job remains_at))
 
 -- a turn that was refused for damage says so of the sweep
+pub returns-in_err-made-clause-damage : goal.returns-in_err-made-clause-damage
+returns-in_err-made-clause-damage g c = on_fault c.from_residual-in_err-made.result c.in_err-made.field-0.0 _
+    c.from_residual-in_err-made.ensures.1 (λ told trusted.
+    let inv = c.turns.invariant in
+    let first = c.in_ok-save_if_due.ensures in
+    let told_s = c.in_err-made.ensures.leaves.content.before told in
+    inl (c.in_err-made.ensures.damage told (first.trusts told_s (inv.trusts (first.changes.before told_s) trusted))))
+
 pub returns-in_err-made-clause-covered : goal.returns-in_err-made-clause-covered
 returns-in_err-made-clause-covered g c = on_fault c.from_residual-in_err-made.result c.in_err-made.field-0.0 _ c.from_residual-in_err-made.ensures.1 (λ told trusted covered.
     let inv = c.turns.invariant in
@@ -539,6 +734,13 @@ returns-then-eq-clause-images g c = λ told job remains sure paid. (turn_stage g
 
 pub returns-then-eq-clause-stands : goal.returns-then-eq-clause-stands
 returns-then-eq-clause-stands g c = λ told job remains sure paid. (turn_stage g (goal.at.returns-then-eq-clause-stands g c).After-run_some told job remains sure paid).come
+
+pub returns-then-eq-clause-stops : goal.returns-then-eq-clause-stops
+returns-then-eq-clause-stops g c = turn_stops g (goal.at.returns-then-eq-clause-stops g c).After-run_some
+
+pub returns-then-eq-clause-showed : goal.returns-then-eq-clause-showed
+returns-then-eq-clause-showed g c =
+    λ told sure late. (turn_shows g (goal.at.returns-then-eq-clause-showed g c).After-run_some told sure late).images
 
 pub returns-then-eq-clause-counted : goal.returns-then-eq-clause-counted
 returns-then-eq-clause-counted g c = λ few. spent_saves g.P.Sweep.accounts _ _ _ _ _ _ (g.S.Shelf.world c.args.shelf.now) (g.S.Shelf.world c.run_some.new.shelf) c.args.sweep.now c.run_some.new.sweep
@@ -634,5 +836,17 @@ turns-preserved g c =
       alone = turn_alone g (goal.at.turns-preserved g c).After-run_some;
       images = λ told job remains sure paid. (turn_stage g (goal.at.turns-preserved g c).After-run_some told job remains sure paid).images;
       come = λ told job remains sure paid. (turn_stage g (goal.at.turns-preserved g c).After-run_some told job remains sure paid).come;
+      shows = turn_shows g (goal.at.turns-preserved g c).After-run_some;
+      least = λ late.
+          let least = so_far.least late in
+          let more = saved_more g.P.Sweep.accounts c.turns.going c.save_if_due.new.going _ _ c.turns.sweep
+          c.save_if_due.new.sweep (so_far.late late) saved.parts in
+          omega (arith, least, more);
+      recent = λ late few.
+          let recent = turn_recent g (goal.at.turns-preserved g c).After-run_some late (omega (arith, few, counted))
+          c.in_ok-made.made.turns
+          (all_few c.max-most.result c.in_ok-made.made.turns c.in_ok-made.made.turn ran.made) in
+          omega (arith, recent, counted);
+      stops = turn_stops g (goal.at.turns-preserved g c).After-run_some;
       faults = search rules;
     }

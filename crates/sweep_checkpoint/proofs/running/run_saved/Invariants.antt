@@ -6,11 +6,13 @@ use Rattle.shelf_model.specs.Moments.{Ran, Throughout, OnlyChanged}
 use Rattle.shelf_model.specs.World.{now, file}
 use Rattle.file_numbers.specs.Files.{checkpoint_file}
 use Rattle.run_tiers.specs.Faults.{OnlySortShelf}
-use Rattle.sweep_checkpoint.specs.Saves.{gated_size}
+use Rattle.sweep_checkpoint.specs.Saves.{gated_size, IsGateSure}
 use Rattle.sweep_checkpoint.specs.Retires.{first_taken}
 use Rattle.sweep_checkpoint.specs.Going.{IsOfGoing, IsLeftAlone, AreSure, SameGoing, IsPaidTo, interval_of, first_owed}
+use Rattle.sweep_checkpoint.specs.Stops.{AreStops, stop_calls}
 use Rattle.sweep_checkpoint.proofs.SavedHere.{AreLeft}
 use Rattle.sweep_checkpoint.proofs.Spent.{SpentOn}
+use Rattle.sweep_checkpoint.proofs.Stops.{ShownOn}
 use Rattle.sweep_checkpoint.proofs.WentOn.{HasCome, SaysLast}
 use Rattle.sweep_checkpoint.proofs.running.run_saved.Given as goal
 
@@ -71,6 +73,22 @@ invariant-turns g l = record {
       l.fn.going.step (g.P.Sweep.accounts.next l.fn.sweep) l.fn.going.budget l.fn.going.sweep (g.P.Sweep.task l.fn.sweep) job
       (l.fn.going.turns + g.P.Sweep.left l.fn.sweep (g.S.Shelf.world l.fn.shelf) job)
       (g.P.Sweep.accounts.next l.sweep) (now (g.S.Shelf.world l.fn.shelf)) (now (g.S.Shelf.world l.shelf));
+  shows : IsTrue (g.S.Shelf.tells l.shelf) → IsGateSure l.fn.going.step (now (g.S.Shelf.world l.fn.shelf)).folder
+      → l.fn.going.shown ≤ l.fn.going.turns
+      → ShownOn l.fn.going.step l.fn.going.shown l.going.shown (now (g.S.Shelf.world l.fn.shelf)).folder
+      (now (g.S.Shelf.world l.shelf)).folder;
+  least : l.fn.going.shown ≤ l.fn.going.turns → l.fn.going.shown ≤ l.going.shown;
+  recent : l.fn.going.shown ≤ l.fn.going.turns → l.going.turns < 2 ^ 61
+      → l.going.turns - l.fn.going.turns ≤ (l.going.shown - l.fn.going.shown)
+      + (interval_of l.fn.going.budget - (l.fn.going.turns - l.fn.going.shown));
+  stops : IsTrue (g.S.Shelf.tells l.shelf) → IsGateSure l.fn.going.step (now (g.S.Shelf.world l.fn.shelf)).folder
+      → 16384 ≤ interval_of l.fn.going.budget
+      → l.fn.going.shown ≤ l.fn.going.turns → (job : g.P.Sweep.Job)
+      → g.P.Sweep.remains l.fn.sweep (g.S.Shelf.world l.fn.shelf) job
+      → l.fn.going.turns + g.P.Sweep.left l.fn.sweep (g.S.Shelf.world l.fn.shelf) job < 2 ^ 61
+      → AreStops l.fn.going.step l.fn.going.shown
+      ((g.S.Shelf.world l.fn.shelf).clock + stop_calls g.P.Sweep.accounts l.fn.going l.fn.sweep)
+      (g.S.Shelf.world l.fn.shelf) (g.S.Shelf.world l.shelf);
   faults : OnlySortShelf {T = Unit} (g.S.Shelf.faults l.fn.shelf) (g.S.Shelf.faults l.shelf) (Ok tt);
 }
 
