@@ -78,6 +78,8 @@ pub fn join_in_room<S: Shelf>(
         (S.world shelf.new).clock ≤ (S.world shelf.old).clock + (8 * j.turns + 6))) }
     ensures not_made { IfOk result (λ done. IfNone done (Told S.tells shelf.old shelf.new
         (Looked (left.trailer.count + right.trailer.count) (S.world shelf.old) (S.world shelf.new)))) }
+    ensures few_calls { IsTrue (S.tells shelf.new) →
+        (S.world shelf.new).clock ≤ (S.world shelf.old).clock + (2 ^ 18 + 6) }
     ensures cause { IfErr result (λ e. e ≡ StreamFault.Shelf) }
     ensures content { Told S.tells shelf.old shelf.new
         (Changed (16 * (left.trailer.count + right.trailer.count) + 21) out (S.world shelf.old) (S.world shelf.new)) }
