@@ -212,6 +212,7 @@ module _ {S : Type 0} (tells : S → Bool) (world : S → World) (counts : S →
         images = quiet_images tells world counts (comparing n left right) going local before after quiet;
         content = quiet_content tells world counts (comparing n left right) going local before after quiet;
         calls = start_calls none (Err e) starts;
+        soon = omega arith;
         faults = starts.faults;
       })
 
@@ -256,7 +257,7 @@ module _ {S : Type 0} (tells : S → Bool) (world : S → World) (counts : S →
         → (IsTrue (tells after) → (world after).clock ≤ (world before).clock + 1)
         → OnlySortShelf {T = Unit} (counts before) (counts after) (Err e) → IsRefused e
     foreign_refused e foreign kind content calls faults =
-        refuses_foreign tells world counts (comparing n left right) going local before after c last (omega arith) e
+        refuses_foreign tells world counts (comparing n left right) going local before after c last (omega arith, omega arith) e
         (λ g asked. foreign (is_ours g asked)) kind content calls faults
 
     -- and then it is rebuilt
@@ -343,6 +344,7 @@ module _ {S : Type 0} (tells : S → Bool) (world : S → World) (counts : S →
           images = quiet_images tells world counts (comparing n left right) going local before after quiet;
           content = quiet_content tells world counts (comparing n left right) going local before after quiet;
           calls = rebuild_calls ours (Err e) rebuilds;
+          soon = omega arith;
           faults = rebuilds.faults;
         })
 
@@ -354,6 +356,7 @@ compared_by n left right number budget = record {
   goes_on = λ g turns r few goes. record { turns = turns; goes_on = goes; few = few };
   rests = λ c f n on. on;
   apart = apart;
+  soon = omega arith;
 }
 
 -- a fault that is no damage, and not for want of a part number

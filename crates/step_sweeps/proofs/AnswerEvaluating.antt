@@ -195,6 +195,7 @@ module _ {S : Type 0} (tells : S → Bool) (world : S → World) (counts : S →
         images = quiet_images tells world counts (evaluating n read text place) going local before after quiet;
         content = quiet_content tells world counts (evaluating n read text place) going local before after quiet;
         calls = start_calls none (Err e) starts;
+        soon = omega arith;
         faults = starts.faults;
       })
 
@@ -238,7 +239,7 @@ module _ {S : Type 0} (tells : S → Bool) (world : S → World) (counts : S →
         → (IsTrue (tells after) → (world after).clock ≤ (world before).clock + 1)
         → OnlySortShelf {T = Unit} (counts before) (counts after) (Err e) → IsRefused e
     foreign_refused e foreign kind content calls faults =
-        refuses_foreign tells world counts (evaluating n read text place) going local before after c last (omega arith)
+        refuses_foreign tells world counts (evaluating n read text place) going local before after c last (omega arith, omega arith)
         e (λ t asked. foreign (is_ours t asked)) kind content calls faults
 
     -- and then it is rebuilt
@@ -326,6 +327,7 @@ module _ {S : Type 0} (tells : S → Bool) (world : S → World) (counts : S →
           images = quiet_images tells world counts (evaluating n read text place) going local before after quiet;
           content = quiet_content tells world counts (evaluating n read text place) going local before after quiet;
           calls = rebuild_calls ours (Err e) rebuilds;
+          soon = omega arith;
           faults = rebuilds.faults;
         })
 
@@ -338,6 +340,7 @@ evaluated_by n read text place number budget = record {
   goes_on = λ t turns r few goes. record { turns = turns; goes_on = goes; few = few };
   rests = λ c f n on. on;
   apart = apart;
+  soon = omega arith;
 }
 
 -- a fault that is no damage, and not for want of a part number

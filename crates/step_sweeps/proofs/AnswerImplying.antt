@@ -300,6 +300,7 @@ module _ {S : Type 0} (tells : S → Bool) (world : S → World) (counts : S →
         images = start_images none (Err e) starts;
         content = start_content none (Err e) starts;
         calls = start_calls none (Err e) starts;
+        soon = omega arith;
         faults = starts.leaves.faults;
       })
 
@@ -341,7 +342,7 @@ module _ {S : Type 0} (tells : S → Bool) (world : S → World) (counts : S →
         → (IsTrue (tells after) → (world after).clock ≤ (world before).clock + 1)
         → OnlySortShelf {T = Unit} (counts before) (counts after) (Err e) → IsRefused e
     foreign_refused e foreign kind content calls faults =
-        refuses_foreign tells world counts (implying n left right) going local before after c last (omega arith) e
+        refuses_foreign tells world counts (implying n left right) going local before after c last (omega arith, omega arith) e
         (λ g asked. foreign (is_ours g asked)) kind content calls faults
 
     -- and then it is rebuilt
@@ -504,6 +505,7 @@ module _ {S : Type 0} (tells : S → Bool) (world : S → World) (counts : S →
           images = rebuild_images files ours (Err e) rebuilds;
           content = rebuild_content files ours (Err e) rebuilds;
           calls = rest_within files ours (Err e) rebuilds;
+          soon = omega arith;
           faults = rebuilds.faults;
         })
 
@@ -515,6 +517,7 @@ implied_by n left right number budget = record {
   goes_on = λ g turns r few goes. record { turns = turns; goes_on = goes; few = few };
   rests = λ c f n on. on;
   apart = apart product_words;
+  soon = omega arith;
 }
 
 -- a turn finds one of the two files damaged, which were so at first

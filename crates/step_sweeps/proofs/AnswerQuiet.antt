@@ -18,6 +18,7 @@ use Rattle.run_tiers.specs.Syncs.{IsFirm}
 use Rattle.run_tiers.proofs.FaultLaws.{sort_shelf_on}
 use Rattle.step_going.specs.Standing.{IsLocal, AreSafe, IsStanding}
 use Rattle.step_going.proofs.Kept.{rests_apart, safe_along, standing_along}
+use Rattle.step_going.proofs.Shown.{standing_shows, quiet_stops}
 use Rattle.sweep_checkpoint.specs.Retires.{first_taken}
 use Rattle.sweep_checkpoint.specs.declared.going.Going.{Going}
 use Rattle.sweep_core.specs.declared.checkpoint.Checkpoint.{Checkpoint}
@@ -29,6 +30,8 @@ use Rattle.step_sweeps.specs.declared.answers.Answered.{Answered}
 use Rattle.step_sweeps.specs.Answers.{Question, IsAsked, IsBehindNodes, Answers}
 use Rattle.step_sweeps.specs.Begun.{Begun}
 use Rattle.step_sweeps.specs.Going.{MayGoOn, next_of, rest_calls}
+use Rattle.step_sweeps.specs.Stops.{shown_by, step_stop}
+use Rattle.step_sweeps.proofs.StopsAnew.{held_points}
 
 -- no file changes
 abbrev pub Unchanged : World → World → Type 0
@@ -71,6 +74,7 @@ module _ {S Given : Type 0} (tells : S → Bool) (world : S → World) (counts :
         (Ran (OnlyChanged (IsBehindPoints going.step) (now (world before))) (world before) (world after))
     pub calls : IsTrue (tells after) → (world after).clock
         ≤ (world before).clock + (q.some + rest_calls going.last (q.nodes (reads_of (world before))))
+    pub soon : q.some ≤ 11
     pub faults : OnlySortShelf (counts before) (counts after) result
 
   -- the fault of such a result
@@ -92,6 +96,19 @@ module _ {S Given : Type 0} (tells : S → Bool) (world : S → World) (counts :
     counted = tt;
     few_anew = tt;
     calls = tt;
+    grew = tt;
+    stops = λ tells_new g asked work.
+        let few = r.calls tells_new in
+        let soon = r.soon in
+        quiet_stops going.step (shown_by going.last)
+        ((world before).clock + (step_stop + rest_calls going.last (q.nodes (reads_of (world before)))))
+        (world before) (world after)
+        (standing_shows (q.goes_on going.step going.budget g) q.rests going.step going.budget (next_of going.last)
+        (now (world before)).folder going.last asked.standing)
+        (held_points (IsBehindPoints going.step) going.step (world before) (world after)
+        (λ behind. let from = behind.from in absurd (omega (arith, from)))
+        (λ behind. let from = behind.from in absurd (omega (arith, from))) (r.content.did tells_new))
+        (omega (arith, few, soon));
     faults = sort_shelf_on _ _ e (Err e) refl r.faults;
   }
 
@@ -119,7 +136,7 @@ module _ {S Given : Type 0} (tells : S → Bool) (world : S → World) (counts :
         quiet (λ tells_old. asked.standing) tells_new
 
   -- the step's last checkpoint is none of the question's sweep, so that doesn't begin, and nothing was changed
-  pub refuses_foreign : (c : Checkpoint) → going.last ≡ Some c → 1 ≤ q.some → (e : SortFault)
+  pub refuses_foreign : (c : Checkpoint) → going.last ≡ Some c → (1 ≤ q.some) × (q.some ≤ 11) → (e : SortFault)
       → ((g : Given) → ¬ (IsAsked q going (world before) g)) → e ≢ RunsSpent
       → Told tells before after (Ran (Stays (now (world before))) (world before) (world after))
       → (IsTrue (tells after) → (world after).clock ≤ (world before).clock + 1)
@@ -134,7 +151,8 @@ module _ {S Given : Type 0} (tells : S → Bool) (world : S → World) (counts :
         damaged = λ told_new none gate. absurd (cc);
         images = quiet_images quiet;
         content = quiet_content quiet;
-        calls = λ told_new. let few = calls told_new in omega (arith, few, some);
+        calls = λ told_new. let few = calls told_new in let one = some.0 in omega (arith, few, one);
+        soon = some.1;
         faults = faults;
       })
 

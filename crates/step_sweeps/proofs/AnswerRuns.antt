@@ -18,8 +18,10 @@ use Rattle.run_tiers.specs.Faults.{OnlySortShelf}
 use Rattle.run_tiers.proofs.FaultLaws.{sort_shelf_on, sort_shelf_then}
 use Rattle.step_going.specs.Standing.{IsLocal, AreSafe}
 use Rattle.step_going.proofs.GoneOn.{GoesOnBy, went_safe}
+use Rattle.step_going.proofs.Shown.{ShowsSurely, standing_shows, stops_more, stops_join, quiet_stops, saved_stops}
 use Rattle.sweep_checkpoint.specs.Going.{IsOfGoing, IsAsBefore, GoesOn, AreSure, TakesParts, TakesCalls, interval_of, first_owed}
-use Rattle.sweep_checkpoint.specs.Saves.{gated_size}
+use Rattle.sweep_checkpoint.specs.Saves.{gated_size, IsGateSure}
+use Rattle.sweep_checkpoint.specs.Stops.{AreStops, StopsCost, stop_calls}
 use Rattle.sweep_checkpoint.specs.declared.going.Going.{Going}
 use Rattle.sweep_core.specs.declared.checkpoint.Checkpoint.{Checkpoint}
 use Rattle.sweep_core.specs.declared.sweep.Sweep as sweep
@@ -30,12 +32,14 @@ use Rattle.sweep_core.specs.Sweeps.{IsNoDamage}
 use Rattle.step_sweeps.specs.declared.answers.Answered.{Answered}
 use Rattle.step_sweeps.specs.Answers.{Question, IsAsked, IsBehindNodes, Answers}
 use Rattle.step_sweeps.specs.Begun.{Begun, IsOnTheWay}
-use Rattle.step_sweeps.specs.Going.{MayGoOn, rest_calls}
+use Rattle.step_sweeps.specs.Going.{MayGoOn, next_of, rest_calls}
 use Rattle.step_sweeps.specs.Made.{IsCounted}
+use Rattle.step_sweeps.specs.Stops.{shown_by, step_stop}
 use Rattle.sweep_checkpoint.specs.Going.{IsPaidTo}
 use Rattle.step_sweeps.proofs.AnswerQuiet.{behind_nodes}
 use Rattle.step_sweeps.proofs.Costs.{few_saves}
 use Rattle.step_sweeps.proofs.Running.{file_stays}
+use Rattle.step_sweeps.proofs.StopsAnew.{run_within, held_points, shown_within}
 use Rattle.step_sweeps.proofs.AnswerSums.{calls_of, spent_of, few_anew_of}
 use Rattle.step_sweeps.proofs.StepStands.{gate_sure, points_there, rests_sure}
 
@@ -59,6 +63,10 @@ pub record Went {S P : Type 0} (tells : S → Bool) (world : S → World) (kind 
       → IsAsBefore (kind.accounts.makes s) going.step (kind.accounts.next s) (now (world old)).folder (bytes_in image)
       ⊎ GoesOn kind.saving going.step going.budget going.sweep (kind.task s) job
       (going.turns + kind.left s (world old) job) (bytes_in image))
+  pub stops : IsTrue (tells new) → IsGateSure going.step (now (world old)).folder → 16384 ≤ interval_of going.budget
+      → going.shown ≤ going.turns → (job : kind.Job) → kind.remains s (world old) job
+      → going.turns + kind.left s (world old) job < 2 ^ 61
+      → AreStops going.step going.shown ((world old).clock + stop_calls kind.accounts going s) (world old) (world new)
 
 -- so many turns were made in all, as many as 64 bits count, and this is what they and the saves took
 pub record Cost {S P : Type 0} (tells : S → Bool) (world : S → World) (accounts : Accounts P) (going : Going) (turns : ℕ)
@@ -78,6 +86,8 @@ pub record IsAnsweredBy {Given P : Type 0} (kind : sweep.Ghosts P) (q : Question
   pub rests : (c : Checkpoint) (f : FileNo) (n : ℕ) → q.rests c f n → kind.saving.rests c f n
   pub apart : (c : Checkpoint) (text : List ℕ) (f : FileNo) (n : ℕ) → kind.saving.fits c text → kind.saving.rests c f n
       → IsRestingPlace c f
+  -- and to begin one takes few calls
+  pub soon : q.some ≤ 11
 
 module _ {S Given P : Type 0} (tells : S → Bool) (world : S → World) (counts : S → Faults) (kind : sweep.Ghosts P)
     (q : Question Given) (job_of : Given → kind.Job) (task : kind.Task) (going : Going)
@@ -181,6 +191,41 @@ module _ {S Given P : Type 0} (tells : S → Bool) (world : S → World) (counts
         (kind.accounts.next t) (kind.accounts.stock s) (kind.accounts.stock t) (q.work g) (omega (arith, paid, shown))
         went_took.parts.spent took_few on_the_way.few spent
 
+    -- each image shows at first what the last checkpoint shows, and likewise where the sweep was begun
+    pub shows_first : ShowsSurely going.step (shown_by going.last) (now (world before)).folder
+    shows_first = standing_shows (q.goes_on going.step going.budget g) q.rests going.step going.budget
+        (next_of going.last) (now (world before)).folder going.last asked.standing
+
+    shows_begun : ShowsSurely going.step (shown_by going.last) (now (world mid)).folder
+    shows_begun = standing_shows (q.goes_on going.step going.budget g) q.rests going.step going.budget
+        (kind.accounts.next s) (now (world mid)).folder going.last on_the_way.standing
+
+    -- what a stop costs while it is begun, and while it is run and saved
+    pub went_stops : q.work g < 2 ^ 61 → StopsCost going.step (shown_by going.last)
+        ((world before).clock + (step_stop + rest_calls going.last (q.nodes (reads_of (world before)))))
+        (world before) (world after)
+    went_stops work =
+        let most : ℕ = (world before).clock + (step_stop + rest_calls going.last (q.nodes (reads_of (world before)))) in
+        let begin = begun.content.did (went.content.before tells_new) in
+        let run = went.content.did tells_new in
+        let calls = begun.calls (went.content.before tells_new) in
+        let soon = by.soon in
+        let few = on_the_way.few in
+        stops_join going.step (shown_by going.last) most (world before) (world mid) (world after) run.moments.past
+        (quiet_stops going.step (shown_by going.last) most (world before) (world mid) shows_first
+        (held_points (IsBehindPoints going.step) going.step (world before) (world mid)
+        (λ behind. let from = behind.from in absurd (omega (arith, from)))
+        (λ behind. let from = behind.from in absurd (omega (arith, from))) begin) (omega (arith, calls, soon)))
+        (stops_more going.step (shown_by going.last) ((world mid).clock + stop_calls kind.accounts going s) most
+        (world mid) (world after) (run_within going (kind.accounts.credit s) (kind.accounts.next s)
+        (kind.accounts.stock s) (world before).clock (world mid).clock
+        (q.some + rest_calls going.last (q.nodes (reads_of (world before)))) (step_stop
+        + rest_calls going.last (q.nodes (reads_of (world before)))) calls begun.owed (omega (arith, soon)))
+        (saved_stops going.step (shown_by going.last) going.shown ((world mid).clock + stop_calls kind.accounts going s)
+        (world mid) (world after) shows_begun (shown_within may)
+        (went.stops tells_new went_sure.gate begun.paid.interval begun.paid.shown (job_of g) on_the_way.remains
+        (omega (arith, few, work)))))
+
     went_covered : AreFiles (now (world mid)).folder
         → gated_size going.step (now (world mid)).folder ≤ length (file (world mid) (checkpoint_file going.step)).bytes
     went_covered files = points_there (q.goes_on going.step going.budget g) q.rests going.step going.budget
@@ -217,6 +262,8 @@ module _ {S Given P : Type 0} (tells : S → Bool) (world : S → World) (counts
     counted = tt;
     few_anew = tt;
     calls = tt;
+    grew = tt;
+    stops = λ tells_new g asked. went_stops tells_new g asked;
     faults = sort_shelf_then (counts before) (counts mid) (counts after) (Ok s) (Err e) begun.faults
         (sort_shelf_on (counts mid) (counts after) e (Err e) refl r.faults);
   }
@@ -228,6 +275,7 @@ module _ {S Given P : Type 0} (tells : S → Bool) (world : S → World) (counts
     pub few : IsTrue (tells after) → (job : kind.Job) → kind.remains s (world mid) job
         → turns ≤ going.turns + kind.left s (world mid) job + 1
     pub cost : turns < 2 ^ 64 - 1 → Cost tells world kind.accounts going turns mid after s t
+    pub grew : going.turns ≤ turns
     pub faults : OnlySortShelf {T = Unit} (counts mid) (counts after) (Ok tt)
 
   went_calls : (turns : ℕ) → IsTrue (tells after) → Cost tells world kind.accounts going turns mid after s t
@@ -274,6 +322,8 @@ module _ {S Given P : Type 0} (tells : S → Bool) (world : S → World) (counts
         let saves = few_saves (interval_of going.budget) cost.saves going.shown a.turns begun.paid.interval cost.few in
         (cost.saves, omega (arith, saves), cost.parts.spent));
     calls = λ tells_new below. went_calls a.turns tells_new (ended.cost below);
+    grew = ended.grew;
+    stops = λ tells_new g asked. went_stops tells_new g asked;
     faults = sort_shelf_then (counts before) (counts mid) (counts after) (Ok s) (Ok a) begun.faults
         (record {
           later = ended.faults.later;

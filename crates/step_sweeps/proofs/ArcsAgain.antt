@@ -8,11 +8,13 @@ use Rattle.shelf_model.specs.Calls.{Told}
 use Rattle.shelf_model.specs.Faults.{Faults}
 use Rattle.shelf_model.specs.Folder.{AreFiles}
 use Rattle.shelf_model.specs.Moments.{Ran, Stays, Throughout}
-use Rattle.shelf_model.specs.World.{World, now}
+use Rattle.shelf_model.specs.World.{Moment, World, now}
 use Rattle.shelf_model.proofs.Runs.{told, ran_weakens, ran_end}
 use Rattle.run_tiers.specs.Faults.{OnlySortShelf}
 use Rattle.step_going.specs.Standing.{IsLocal, StandsIn}
 use Rattle.step_going.proofs.Kept.{MadeSure, standing_rebuilt, safe_rebuilt}
+use Rattle.step_going.proofs.Shown.{quiet_stops}
+use Rattle.sweep_checkpoint.specs.Stops.{SamePoints}
 use Rattle.sweep_checkpoint.specs.declared.going.Going.{Going}
 use Rattle.sweep_core.specs.declared.checkpoint.Checkpoint.{Checkpoint}
 use Rattle.sweep_core.specs.Carries.{OnlyCutBehind}
@@ -44,6 +46,7 @@ use Rattle.step_sweeps.proofs.ArcsPoints.{front_there}
 use Rattle.step_sweeps.proofs.ArcsStart.{read_firm}
 use Rattle.step_sweeps.proofs.Rebuilt.{made_sure, sure_still}
 use Rattle.step_sweeps.proofs.Running.{earlier_stays, stays_step}
+use Rattle.step_sweeps.proofs.Stops.{along_cuts, given_shows}
 use Rattle.step_sweeps.proofs.UnderWay.{IsSafeAt}
 
 -- the words of a checkpoint are those of one task
@@ -87,6 +90,12 @@ module _ {S : Type 0} (tells : S → Bool) (world : S → World) (counts : S →
         (Ran (OnlyStep making.number (now (world before))) (world before) (world mid))
     again_content = subst (λ k. Told tells before mid (Ran (OnlyStep k (now (world before))) (world before) (world mid)))
         step_is (cut_step tells world c (RestsOn step_words c) before mid content)
+
+    -- the checkpoints and their gate stay
+    again_points : IsTrue (tells mid) → Throughout (world before) (world mid)
+        (λ (m : Moment). SamePoints making.number (now (world before)).folder m.folder)
+    again_points told = along_cuts making.number c (RestsOn step_words c) (world before) (world mid) step_is
+        (content.did told)
 
     module _ (told : IsTrue (tells mid)) (g : Tables) (given : IsGivenFor making again (world before) g) where
       from : ArcsFrom making.operation making.n making.operands making.number base.budget g (reads_of (world before)) c
@@ -215,6 +224,7 @@ module _ {S : Type 0} (tells : S → Bool) (world : S → World) (counts : S →
                 let calls = it.calls told (arcs_of making.n making.operands making.number) names in
                 let credit = it.credit in
                 omega (arith, calls, credit);
+            points = again_points;
             faults = it.faults;
           }
 
@@ -242,6 +252,7 @@ module _ {S : Type 0} (tells : S → Bool) (world : S → World) (counts : S →
       grew = tt;
       paid = tt;
       taken = tt;
+      recent = tt;
       calls = tt;
       few_calls = λ told g given.
           let at = from told g given in
@@ -256,6 +267,10 @@ module _ {S : Type 0} (tells : S → Bool) (world : S → World) (counts : S →
             tt,
             omega (arith, made),
           );
+      stops = λ told g given few.
+          let made = calls told in
+          quiet_stops making.number c.turns _ (world before) (world mid) (given_shows making again (world before) g given)
+          (again_points told) (omega (arith, made));
       faults = faults;
     }
 
@@ -279,8 +294,10 @@ module _ {S : Type 0} (tells : S → Bool) (world : S → World) (counts : S →
     grew = tt;
     paid = tt;
     taken = tt;
+    recent = tt;
     calls = tt;
     few_calls = λ told g given. absurd (not_given g given);
+    stops = λ told g given. absurd (not_given g given);
     faults = faults;
   }
     where

@@ -1,5 +1,5 @@
 -- The sweep that makes a step's arcs, which was run to its end: its arcs, or it took too many parts.
-use Rattle.std.proofs.Common.{◌≡◌, ◌≢◌, ◌⊎◌, ◌∙◌, ℕ, ◌+◌, ◌-◌, ◌*◌, ◌^◌, ◌<◌, ◌≤◌, Bool, mul-le-mul_right, ap, refl, sym, subst, inl, inr, arith}
+use Rattle.std.proofs.Common.{◌≡◌, ◌≢◌, ◌⊎◌, ◌∙◌, ℕ, ◌+◌, ◌-◌, ◌*◌, ◌^◌, ◌<◌, ◌≤◌, Bool, List, mul-le-mul_right, ap, refl, sym, subst, inl, inr, arith}
 use Rattle.std.proofs.lemmas.Bool.{cases_lt}
 use Rattle.std.specs.Prelude.{IsTrue, Option, Some, None, IfSome, Result, Ok, Err, OnOk, IsErrAnd}
 use Rattle.shelf_model.specs.declared.file_no.FileNo.{FileNo}
@@ -14,7 +14,8 @@ use Rattle.run_tiers.specs.declared.parts.Parts.{Parts}
 use Rattle.run_tiers.specs.Syncs.{IsFirm}
 use Rattle.step_going.specs.Standing.{IsStanding}
 use Rattle.step_going.proofs.GoneOn.{StandsBehind}
-use Rattle.sweep_checkpoint.specs.Going.{IsPaidTo, AreSure, Stands, TakesParts, TakesCalls, interval_of, first_owed}
+use Rattle.step_going.proofs.Shown.{standing_shows}
+use Rattle.sweep_checkpoint.specs.Going.{IsPaidTo, AreSure, Stands, TakesParts, TakesCalls, SameShown, IsShown, interval_of, first_owed}
 use Rattle.sweep_checkpoint.specs.declared.going.Going.{Going}
 use Rattle.sweep_core.specs.declared.checkpoint.Checkpoint.{Checkpoint}
 use Rattle.sweep_core.specs.Carries.{OnlySaved}
@@ -45,11 +46,13 @@ use Rattle.step_sweeps.specs.Made.{node_file, OnlyStep, HasArcFiles}
 use Rattle.step_sweeps.specs.Makes.{IsGivenFor, HasNoGate, goes_on_by, table_by}
 use Rattle.step_sweeps.specs.Parts as step_parts
 use Rattle.step_sweeps.specs.Started.{Starts, IsUnderWay}
+use Rattle.step_sweeps.specs.Stops.{IsSaidOf}
 use Rattle.step_sweeps.specs.Sweeping.{MaySweep, IsEarly, MakesArcs, AreArcsOf, IsCovered, arcs_most, owed_parts}
-use Rattle.step_sweeps.proofs.ArcsRun.{HasRun, most_fits, run_content, run_safe, run_few, run_spent, way, few, by}
+use Rattle.step_sweeps.proofs.ArcsRun.{HasRun, most_fits, run_content, run_safe, run_few, run_spent, run_stops, way, few, by}
 use Rattle.step_sweeps.proofs.Costs.{few_saves}
 use Rattle.step_sweeps.proofs.Faults.{turn_fault, no_damage}
 use Rattle.step_sweeps.proofs.Running.{not_of_step, earlier_stays, faults_ok}
+use Rattle.step_sweeps.proofs.Stops.{begun_shows, come_turns, none_stands, said_of}
 use Rattle.step_sweeps.proofs.UnderWay.{way_sure, way_stands}
 
 -- what a run to the end leaves
@@ -86,6 +89,11 @@ pub record HasEnded {S : Type 0} (tells : S → Bool) (world : S → World) (goi
   pub trusts : OnOk result (IsTrue (tells after) → arcs_kind.trusts s (world mid) → arcs_kind.trusts t (world after))
   pub covers : OnOk result (IsTrue (tells after) → IsCovered going.step (world mid)
       → IsCovered going.step (world after))
+  pub recent : OnOk result (later.turns < 2 ^ 61 → later.turns - later.shown ≤ interval_of going.budget)
+  pub shown : OnOk result (IsTrue (tells after) →
+      SameShown going later (now (world mid)).folder (now (world after)).folder
+      ⊎ IsShown going.step later (now (world after)).folder)
+  pub word : later.shown < 2 ^ 64
 
 -- what the sweep gives, and what is answered of it
 pub record IsGivenBy (t : TableSweep StepOperation) (made : Option Unreduced) (m : MadeArcs) : Type 0 where
@@ -139,10 +147,13 @@ module _ {S : Type 0} (tells : S → Bool) (world : S → World) (counts : S →
     grew = tt;
     paid = tt;
     taken = tt;
+    recent = tt;
     calls = tt;
     few_calls = λ told g given.
         let few = run_few tells world counts making going may before mid after early s t started task files_at later
         (Ok tt) run told g given in (few.0, tt, few.3);
+    stops = λ told g given within. run_stops tells world counts making going may before mid after early s t started task
+        files_at later (Ok tt) run told g given within;
     faults = record {
       later = (let one : (counts before).folder ≤ (counts mid).folder = started.faults.later in
           let two : (counts mid).folder ≤ (counts after).folder = run.faults.later in
@@ -224,6 +235,27 @@ module _ {S : Type 0} (tells : S → Bool) (world : S → World) (counts : S →
       sources = subst (λ (o : Option Unreduced). IfSome o (HasFewSources (tuples_by making.operation making.n g))) gave.is
           (gave.gives.few_sources (world after) (work_of making.operation making.n g) remains)
 
+      -- what is said of the turns that are shown is so of the last checkpoint
+      is_said : IsSaidOf going later behind.last
+      is_said =
+          let told_mid = run.changes.before told in
+          let took = run.took told (work_of making.operation making.n g) on_way.remains in
+          let more = took.2 in
+          let safe : (FileNo → List ℕ) → Type 0 = λ r. goes_on_by making going.budget g r in
+          said_of making.number going later (now (world mid)).folder (now (world after)).folder behind.last may.step_is
+          (begun_shows tells world counts arcs_kind (λ g job s. job ≡ work_of making.operation making.n g)
+          (arcs_most making going) 8 making going before mid s started told_mid g given)
+          (standing_shows safe diagram_rests making.number going.budget (arcs_kind.accounts.next t)
+          (now (world after)).folder behind.last behind.standing)
+          (omega (arith, more)) ended.word (come_turns making.number going may)
+          (none_stands safe diagram_rests making.number going.budget (arcs_kind.accounts.next s)
+          (now (world mid)).folder going.last on_way.standing)
+          (elim behind.which [
+            | inl same ↦ inl same
+            | inr (goes, last) ↦ inr (goes.point, goes.last)
+          ])
+          (ended.shown told)
+
       are_arcs : AreArcsOf making going later g m (world after)
       are_arcs =
           let most = most_fits going.last making going g
@@ -248,6 +280,7 @@ module _ {S : Type 0} (tells : S → Bool) (world : S → World) (counts : S →
             };
             few_sources = sources.few;
             few = omega (arith, one, turns, within);
+            said = is_said;
           }
 
     pub ran_made : (IsTrue (tells mid) → going.last ≡ None → HasNoGate making.number (world before)
@@ -334,6 +367,9 @@ module _ {S : Type 0} (tells : S → Bool) (world : S → World) (counts : S →
           let first = started.owed in
           let owed = first_after in
           let same = next_is in (few.0, (few.1, omega (arith, parts, first, owed, same)), few.3);
+      recent = ended.recent;
+      stops = λ told g given within. run_stops tells world counts making going may before mid after early s t started task
+          files_at later (Ok tt) run told g given within;
       faults = faults_ok (counts before) (counts mid) (counts after) (Ok s) (Ok tt) m started.faults run.faults;
     }
       where

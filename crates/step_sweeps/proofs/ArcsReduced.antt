@@ -16,9 +16,11 @@ use Rattle.run_tiers.specs.Faults.{OnlySortShelf}
 use Rattle.run_tiers.specs.Syncs.{IsFirm}
 use Rattle.run_tiers.proofs.FaultLaws.{sort_shelf_then}
 use Rattle.step_going.specs.Standing.{AreSafe}
+use Rattle.step_going.proofs.Shown.{ShowsSurely, standing_shows, quiet_stops, stops_join, stops_more}
 use Rattle.step_going.proofs.Kept.{RestsApart, safe_over, standing_over}
-use Rattle.sweep_checkpoint.specs.Going.{first_owed}
+use Rattle.sweep_checkpoint.specs.Going.{interval_of, first_owed}
 use Rattle.sweep_checkpoint.specs.declared.going.Going.{Going}
+use Rattle.sweep_checkpoint.specs.Stops.{SamePoints, StopsCost}
 use Rattle.sweep_core.specs.declared.checkpoint.Checkpoint.{Checkpoint}
 use Rattle.sweep_core.specs.Sweeps.{IsNoDamage}
 use Rattle.resumable.specs.Diagrams.{diagram_rests}
@@ -36,8 +38,10 @@ use Rattle.step_sweeps.specs.declared.task.Making.{Making}
 use Rattle.step_sweeps.specs.Given.{Tables}
 use Rattle.step_sweeps.specs.Made.{node_file, OnlyStep, HasArcFiles, arc_count}
 use Rattle.step_sweeps.specs.Makes.{goes_on_by, table_by}
+use Rattle.step_sweeps.specs.Stops.{shown_by, sweep_stop, reduce_stop}
 use Rattle.step_sweeps.specs.Sweeping.{HasArcsOf, AreReducible, MayReduce, Reduces, Takes, IsCovered, calls_of}
 use Rattle.step_sweeps.proofs.Running.{ok_more, ok_both, err_more, gate_apart, points_apart}
+use Rattle.step_sweeps.proofs.StopsAnew.{held_points}
 
 -- files of a step that aren't its node file: the two of arcs, its checkpoints and their gate
 inner_apart : (number : ℕ) (arcs : Unreduced) → HasArcFiles number arcs → ¬ (arcs.inner ≡ node_file number)
@@ -57,6 +61,26 @@ last_apart : (number : ℕ) (last : Option Checkpoint)
     → RestsApart diagram_rests (λ q. q ≡ node_file number) number last
 last_apart number None apart = tt
 last_apart number (Some c) apart = (points_apart number, apart c refl)
+
+-- what an attempt in the room took is paid for beside the sweep
+tried_few : (again interval turns later shown arcs old mid : ℕ) → arcs + 8 ≤ 2 ^ 18 → turns ≤ later
+    → mid ≤ old + (2 * arcs + 8)
+    → mid + (again + 224 * (interval - (later - shown)) + 2 ^ 17 + 2 ^ 10)
+    ≤ old + (again + 224 * (interval - (turns - shown)) + 2 ^ 17 + 2 ^ 10 + 2 ^ 19)
+tried_few again interval turns later shown arcs old mid few more calls = omega (arith, few, more, calls)
+
+-- the last checkpoint of a step that stands is shown
+pub has_shows : (making : Making) (m : MadeArcs) (budget : ℕ) (world : World) (g : Tables)
+    (has : HasArcsOf making budget g m world) → ShowsSurely making.number (shown_by has.last) (now world).folder
+has_shows making m budget world g has = standing_shows (goes_on_by making budget g) diagram_rests making.number budget
+    m.parts.next (now world).folder has.last has.standing
+
+-- where the step's node file alone was changed the checkpoints and their gate stay
+pub points_meanwhile : (making : Making) (old new : World)
+    → Ran (OnlyChanged (λ q. q ≡ node_file making.number) (now old)) old new
+    → Throughout old new (λ (x : Moment). SamePoints making.number (now old).folder x.folder)
+points_meanwhile making old new ran = held_points (λ q. q ≡ node_file making.number) making.number old new
+    (points_apart making.number) (gate_apart making.number) ran
 
 -- where the step's node file alone was changed
 module _ (making : Making) (m : MadeArcs) (old new : World) (files : HasArcFiles making.number m.arcs)
@@ -99,7 +123,7 @@ module _ (making : Making) (m : MadeArcs) (old new : World) (files : HasArcFiles
         (last_apart making.number has.last has.apart) old new ran has.standing
 
     -- and the arcs are those of the table's diagram still
-    pub still_has : (are : HasArcsOf making budget g m new) × (are.sources ≡ has.sources)
+    pub still_has : (are : HasArcsOf making budget g m new) × (are.sources ≡ has.sources) × (are.last ≡ has.last)
     still_has = (
       record {
         arcs = record {
@@ -123,6 +147,7 @@ module _ (making : Making) (m : MadeArcs) (old new : World) (files : HasArcFiles
         apart = has.apart;
       },
       refl,
+      refl,
     )
 
 module _ {S : Type 0} (tells : S → Bool) (world : S → World) (counts : S → Faults) (making : Making) (m : MadeArcs)
@@ -136,23 +161,25 @@ module _ {S : Type 0} (tells : S → Bool) (world : S → World) (counts : S →
       (world new) (λ f is. ap (λ (x : FileNo). x.step) is) changed.run)
 
   -- a fault that is handed on
-  pub handed_reduction : (each : ℕ) (old new : S) (e : SortFault) (r : Result MadeDiagram SortFault)
-      → IsErrAnd r (λ x. x ≡ e) → Reduces tells world counts making m going each old new (Err e)
-      → Reduces tells world counts making m going each old new r
-  handed_reduction each old new e (Ok x) is reduces = absurd is
-  handed_reduction each old new e (Err x) is reduces =
-      subst (λ (y : SortFault). Reduces tells world counts making m going each old new (Err y)) (sym is) reduces
+  pub handed_reduction : (each stop : ℕ) (old new : S) (e : SortFault) (r : Result MadeDiagram SortFault)
+      → IsErrAnd r (λ x. x ≡ e) → Reduces tells world counts making m going each stop old new (Err e)
+      → Reduces tells world counts making m going each stop old new r
+  handed_reduction each stop old new e (Ok x) is reduces = absurd is
+  handed_reduction each stop old new e (Err x) is reduces =
+      subst (λ (y : SortFault). Reduces tells world counts making m going each stop old new (Err y)) (sym is) reduces
 
   -- with ten turns for each source there are eight
   fewer : (g : Tables) (w : World) (are : AreReducible making going g 10 m w)
       → (less : AreReducible making going g 8 m w) × (less.has.sources ≡ are.has.sources)
+      × (less.has.last ≡ are.has.last)
   fewer g w are =
       let few = are.few in
-      (record { has = are.has; few = omega (arith, few) }, refl)
+      (record { has = are.has; few = omega (arith, few) }, refl, refl)
 
   -- a reduction by a sweep takes fewer turns than are allowed
   pub by_sweep : (old new : S) (r : Result MadeDiagram SortFault)
-      → Reduces tells world counts making m going 8 old new r → Reduces tells world counts making m going 10 old new r
+      → Reduces tells world counts making m going 8 (sweep_stop going m.parts.next) old new r
+      → Reduces tells world counts making m going 10 (reduce_stop going m.parts.next) old new r
   by_sweep old new r reduces = record {
     made = ok_more r _ _ (λ d made told g are.
         let less = fewer g (world old) are in
@@ -182,11 +209,18 @@ module _ {S : Type 0} (tells : S → Bool) (world : S → World) (counts : S →
           },
           omega (arith, calls, same),
         );
+    stops = λ told g are within less.
+        let eight = fewer g (world old) are in
+        stops_more making.number (shown_by are.has.last) ((world old).clock + sweep_stop going m.parts.next)
+        ((world old).clock + reduce_stop going m.parts.next) (world old) (world new) (omega arith)
+        (subst (λ last. StopsCost making.number (shown_by last) ((world old).clock + sweep_stop going m.parts.next)
+        (world old) (world new)) eight.2 (reduces.stops told g eight.0 within
+        (subst (λ last. shown_by last ≤ going.shown) (sym eight.2) less)));
     faults = reduces.faults;
   }
 
   module _ (files : HasArcFiles making.number m.arcs) (may : MayReduce making.number going m.parts) (arcs : ℕ)
-      (arcs_are : arcs ≡ arc_count m.arcs) where
+      (arcs_are : arcs ≡ arc_count m.arcs) (few : arcs + 8 ≤ 2 ^ 18) where
     -- so many calls that changed the node file are paid for by ten turns for each source
     calls_alone : (old new : S) (sources : ℕ) → arc_count m.arcs ≡ 2 * sources
         → Changed (2 * arcs + 8) (node_file making.number) (world old) (world new)
@@ -199,10 +233,22 @@ module _ {S : Type 0} (tells : S → Bool) (world : S → World) (counts : S →
           omega (arith, calls, two_each, arcs_are),
         )
 
+    -- meanwhile the last checkpoint is shown
+    pub room_stops : (old new : S) (g : Tables) (has : HasArcsOf making going.budget g m (world old))
+        → Changed (2 * arcs + 8) (node_file making.number) (world old) (world new)
+        → StopsCost making.number (shown_by has.last) ((world old).clock + reduce_stop going m.parts.next) (world old)
+        (world new)
+    room_stops old new g has changed =
+        let calls = changed.few in
+        quiet_stops making.number (shown_by has.last) _ (world old) (world new)
+        (has_shows making m going.budget (world old) g has) (points_meanwhile making (world old) (world new) changed.run)
+        (omega (arith, calls, few))
+
     -- the folder failed while they were reduced in the room
     pub room_failed : (old new : S) (r : Result MadeDiagram SortFault) → IsErrAnd r (λ x. x ≡ Shelf)
         → Told tells old new (Changed (2 * arcs + 8) (node_file making.number) (world old) (world new))
-        → OnlySortShelf (counts old) (counts new) r → Reduces tells world counts making m going 10 old new r
+        → OnlySortShelf (counts old) (counts new) r
+        → Reduces tells world counts making m going 10 (reduce_stop going m.parts.next) old new r
     room_failed old new (Ok x) is content faults = absurd is
     room_failed old new (Err x) is content faults = record {
       made = tt;
@@ -215,6 +261,7 @@ module _ {S : Type 0} (tells : S → Bool) (world : S → World) (counts : S →
       taken = tt;
       calls = tt;
       few_calls = λ told g are. calls_alone old new are.has.sources are.has.has_sources (content.did told);
+      stops = λ told g are within less. room_stops old new g are.has (content.did told);
       faults = faults;
     }
 
@@ -225,7 +272,7 @@ module _ {S : Type 0} (tells : S → Bool) (world : S → World) (counts : S →
         → IsMade making.n table (node_file making.number) nodes (world new))
         → Told tells old new (Changed (2 * arcs + 8) (node_file making.number) (world old) (world new))
         → OnlySortShelf {T = MadeDiagram} (counts old) (counts new) (Ok d)
-        → Reduces tells world counts making m going 10 old new (Ok d)
+        → Reduces tells world counts making m going 10 (reduce_stop going m.parts.next) old new (Ok d)
     room_makes nodes turns d old new fits is nodes_are turns_are next_is made content faults =
         let past = may.past in
         let below = may.below in
@@ -258,6 +305,7 @@ module _ {S : Type 0} (tells : S → Bool) (world : S → World) (counts : S →
             λ told. let calls = (content.did told).few in omega (arith, calls, is, turns_are, exact),
           );
           few_calls = λ told g are. calls_alone old new are.has.sources are.has.has_sources (content.did told);
+          stops = λ told g are within less. room_stops old new g are.has (content.did told);
           faults = faults;
         }
 
@@ -266,14 +314,15 @@ module _ {S : Type 0} (tells : S → Bool) (world : S → World) (counts : S →
         → going.turns < 2 ^ 64 → turns ≡ min (going.turns + (1 + arcs / 64)) (2 ^ 64 - 1)
         → Told tells old mid (Changed (2 * arcs + 8) (node_file making.number) (world old) (world mid))
         → OnlySortShelf {T = Unit} (counts old) (counts mid) (Ok tt)
-        → Reduces tells world counts making m (record going { turns = turns }) 8 mid new r
-        → Reduces tells world counts making m going 10 old new r
+        → Reduces tells world counts making m (record going { turns = turns }) 8
+        (sweep_stop (record going { turns = turns }) m.parts.next) mid new r
+        → Reduces tells world counts making m going 10 (reduce_stop going m.parts.next) old new r
     after_attempt turns old mid new r some fits is tried calm reduces =
         let only : IsTrue (tells new) → Changed (2 * arcs + 8) (node_file making.number) (world old) (world mid) =
         λ told. tried.did (reduces.content.before told) in
         let later : (told : IsTrue (tells new)) (g : Tables) (are : AreReducible making going g 10 m (world old))
         → (less : AreReducible making (record going { turns = turns }) g 8 m (world mid))
-        × (less.has.sources ≡ are.has.sources) =
+        × (less.has.sources ≡ are.has.sources) × (less.has.last ≡ are.has.last) =
         λ told g are.
         let has = still_has making m (world old) (world mid) files (only told).run going.budget g are.has in
         let same = has.1 in
@@ -281,6 +330,7 @@ module _ {S : Type 0} (tells : S → Bool) (world : S → World) (counts : S →
         let two_each = are.has.has_sources in (
           record { has = has.0; few = omega (arith, few, same, two_each, arcs_are, some, is) },
           same,
+          has.2,
         ) in
         record {
           made = ok_more r _ _ (λ d made told g are.
@@ -337,5 +387,18 @@ module _ {S : Type 0} (tells : S → Bool) (world : S → World) (counts : S →
                 },
                 omega (arith, first, calls, same, two_each, arcs_are, some),
               );
+          stops = λ told g are within less.
+              let shown : ℕ = shown_by are.has.last in
+              let still = later told g are in
+              let first = (only told).few in
+              let swept : ℕ = (world mid).clock + sweep_stop (record going { turns = turns }) m.parts.next in
+              let all : ℕ = (world old).clock + reduce_stop going m.parts.next in
+              stops_join making.number shown all (world old) (world mid) (world new)
+              (reduces.content.did told).moments.past (room_stops old mid g are.has (only told))
+              (stops_more making.number shown swept all (world mid) (world new)
+              (tried_few (m.parts.next - first_owed going.last m.parts.next) (interval_of going.budget) going.turns turns
+              going.shown arcs (world old).clock (world mid).clock few (omega (arith, is, fits)) first)
+              (subst (λ last. StopsCost making.number (shown_by last) swept (world mid) (world new)) still.2
+              (reduces.stops told g still.0 within (subst (λ last. shown_by last ≤ going.shown) (sym still.2) less))));
           faults = sort_shelf_then _ _ _ (Ok tt) r calm reduces.faults;
         }

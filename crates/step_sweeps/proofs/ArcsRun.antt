@@ -1,5 +1,5 @@
 -- The sweep that makes a step's arcs, which was begun, and then run and saved.
-use Rattle.std.proofs.Common.{◌≡◌, ◌⊎◌, ◌∙◌, ℕ, ◌+◌, ◌-◌, ◌*◌, ◌^◌, ◌≤◌, max, Bool, refl, sym, subst, inl, inr, arith}
+use Rattle.std.proofs.Common.{◌≡◌, ◌⊎◌, ◌∙◌, ℕ, ◌+◌, ◌-◌, ◌*◌, ◌^◌, ◌<◌, ◌≤◌, max, Bool, refl, sym, subst, inl, inr, arith}
 use Rattle.std.specs.Prelude.{IsTrue, Option, Some, None, Result, Ok, Err, OnOk, IfErr, IsErrOf}
 use Rattle.shelf_model.specs.declared.sort_fault.SortFault.{SortFault}
 use Rattle.shelf_model.specs.declared.sort_fault.SortFault.TheVariants.{RunsSpent}
@@ -13,8 +13,10 @@ use Rattle.shelf_model.proofs.Runs.{joins}
 use Rattle.run_tiers.specs.Faults.{OnlySortShelf}
 use Rattle.run_tiers.proofs.FaultLaws.{sort_shelf_on, sort_shelf_then}
 use Rattle.step_going.proofs.GoneOn.{GoesOnBy}
+use Rattle.step_going.proofs.Shown.{stops_more}
 use Rattle.sweep_checkpoint.specs.Going.{IsOfGoing, IsAsBefore, GoesOn, AreSure, IsPaidTo, SameGoing, TakesParts, TakesCalls, interval_of, first_owed}
 use Rattle.sweep_checkpoint.specs.declared.going.Going.{Going}
+use Rattle.sweep_checkpoint.specs.Stops.{StopsCost}
 use Rattle.sweep_core.specs.declared.checkpoint.Checkpoint.{Checkpoint}
 use Rattle.sweep_core.specs.Saving.{reads_of}
 use Rattle.sweep_core.specs.Sweeps.{IsNoDamage}
@@ -34,9 +36,11 @@ use Rattle.step_sweeps.specs.Going.{rest_calls}
 use Rattle.step_sweeps.specs.Kinds.{arcs_kind}
 use Rattle.step_sweeps.specs.Makes.{IsGivenFor, HasNoGate, goes_on_by, operand_nodes, nodes_for, work_for}
 use Rattle.step_sweeps.specs.Started.{Starts, IsUnderWay}
+use Rattle.step_sweeps.specs.Stops.{shown_by, arcs_stop}
 use Rattle.step_sweeps.specs.Sweeping.{MaySweep, IsEarly, MakesArcs, TakesFew, arcs_most, most_turns, owed_parts, IsCovered, calls_of}
 use Rattle.step_sweeps.proofs.Costs.{few_saves, spent_turns}
 use Rattle.step_sweeps.proofs.Running.{the_fault}
+use Rattle.step_sweeps.proofs.Stops.{RunStops, come_shown, started_stops}
 use Rattle.step_sweeps.proofs.UnderWay.{IsSafeAt, way_sure, way_covered, way_safe}
 
 -- what a run leaves, whichever way it ended
@@ -61,6 +65,7 @@ pub record HasRun {S : Type 0} (tells : S → Bool) (world : S → World) (count
       → IsAsBefore (arcs_kind.accounts.makes s) going.step (arcs_kind.accounts.next s) (now (world mid)).folder
       (bytes_in image) ⊎ GoesOn arcs_kind.saving going.step going.budget going.sweep (arcs_kind.task s) job
       (going.turns + arcs_kind.left s (world mid) job) (bytes_in image))
+  pub stops : IsTrue (tells after) → RunStops arcs_kind going s (world mid) (world after)
   pub spent : IsErrOf result RunsSpent → 2 ^ 32 ≤ arcs_kind.accounts.next t
   pub faults : OnlySortShelf (counts mid) (counts after) result
 
@@ -135,6 +140,20 @@ module _ {S : Type 0} (tells : S → Bool) (world : S → World) (counts : S →
         (world after) (run.images told (work_of making.operation making.n g) way.remains
         (way_sure arcs_kind making going g going.last (work_of making.operation making.n g) s (world mid) way may.step_is)
         started.may.paid))
+
+    -- what a stop costs
+    pub run_stops : work_for making g < 2 ^ 61 → StopsCost making.number (shown_by going.last) ((world before).clock
+        + (arcs_stop + rest_calls going.last (operand_nodes making (reads_of (world before)))))
+        (world before) (world after)
+    run_stops within =
+        let told_mid = run.changes.before told in
+        let most = most_fits going.last making going g (early (started.content.before told_mid) g given.given) in
+        let one = most.0 in
+        stops_more making.number (shown_by going.last) _ _ (world before) (world after) (omega arith)
+        (started_stops tells world counts arcs_kind (λ g job s. job ≡ work_of making.operation making.n g)
+        (arcs_most making going) 8 making going before mid s started told_mid g given after may.step_is
+        (come_shown making.number going may) (omega (arith, one, within)) (run.changes.did told).moments.past
+        (run.stops told))
 
     run_covered : IsCovered going.step (world mid)
     run_covered = subst (λ k. IsCovered k (world mid)) (sym may.step_is)
@@ -226,10 +245,13 @@ module _ {S : Type 0} (tells : S → Bool) (world : S → World) (counts : S →
     grew = tt;
     paid = tt;
     taken = tt;
+    recent = tt;
     calls = tt;
     few_calls = λ told g given.
         let few = run_few tells world counts making going may before mid after early s t started task files_at later
         (Err e) run told g given in (few.0, tt, few.3);
+    stops = λ told g given within. run_stops tells world counts making going may before mid after early s t started task
+        files_at later (Err e) run told g given within;
     faults = sort_shelf_then (counts before) (counts mid) (counts after) (Ok s) (Err e) started.faults
         (sort_shelf_on (counts mid) (counts after) e (Err e) refl run.faults);
   }

@@ -7,16 +7,18 @@ use Rattle.shelf_model.specs.Calls.{Told}
 use Rattle.shelf_model.specs.Faults.{Faults}
 use Rattle.shelf_model.specs.File.{File}
 use Rattle.shelf_model.specs.Moments.{Ran, Throughout, OnlyChanged}
-use Rattle.shelf_model.specs.World.{World, now, file}
+use Rattle.shelf_model.specs.World.{Moment, World, now, file}
 use Rattle.shelf_model.proofs.Changing.{told_changed_more}
-use Rattle.file_numbers.specs.Files.{checkpoint_gate}
+use Rattle.file_numbers.specs.Files.{checkpoint_file, checkpoint_gate}
 use Rattle.run_tiers.specs.declared.parts.Parts.{Parts}
 use Rattle.run_tiers.specs.Parts.{IsTaken}
 use Rattle.run_tiers.specs.Syncs.{IsFirm}
 use Rattle.run_tiers.proofs.FaultLaws.{sort_shelf_on}
 use Rattle.step_going.specs.Standing.{HasNone}
 use Rattle.step_going.proofs.Kept.{safe_along, standing_along}
+use Rattle.step_going.proofs.Shown.{quiet_stops}
 use Rattle.sweep_checkpoint.specs.declared.going.Going.{Going}
+use Rattle.sweep_checkpoint.specs.Stops.{SamePoints}
 use Rattle.sweep_core.specs.Saving.{IsOfStep, IsMadePart}
 use Rattle.top_down_sweep.specs.declared.beginning.OperandFiles.{OperandFiles}
 use Rattle.top_down_sweep.specs.declared.start.Files.{Files}
@@ -38,6 +40,8 @@ use Rattle.step_sweeps.specs.Started.{Starts}
 use Rattle.step_sweeps.specs.Sweeping.{MaySweep, IsEarly, MakesArcs, IsCovered, arcs_most}
 use Rattle.step_sweeps.proofs.Faults.{start_fault}
 use Rattle.step_sweeps.proofs.Running.{not_of_step, file_stays, earlier_stays, the_fault}
+use Rattle.step_sweeps.proofs.Stops.{given_shows}
+use Rattle.step_sweeps.proofs.StopsAnew.{held_points}
 use Rattle.step_sweeps.proofs.UnderWay.{IsSafeAt}
 
 -- the files of a step's arcs are of that step, and its operands are of others
@@ -117,6 +121,14 @@ module _ {S : Type 0} (tells : S → Bool) (world : S → World) (counts : S →
     no_gate : ¬ (taken (checkpoint_gate making.number))
     no_gate is = let from = is.from in absurd (omega (arith, from))
 
+    no_points : ¬ (taken (checkpoint_file making.number))
+    no_points is = let from = is.from in absurd (omega (arith, from))
+
+    -- the checkpoints and their gate stay
+    pub start_points : IsTrue (tells mid) → Throughout (world before) (world mid)
+        (λ (m : Moment). SamePoints making.number (now (world before)).folder m.folder)
+    start_points told = held_points taken making.number (world before) (world mid) no_points no_gate (content.did told)
+
     -- where no checkpoint is gated all that are are there
     pub start_covered : IsTrue (tells mid) → HasNoGate making.number (world before) → IsCovered making.number (world mid)
     start_covered told gate =
@@ -190,6 +202,7 @@ module _ {S : Type 0} (tells : S → Bool) (world : S → World) (counts : S →
         owed = omega (arith, next);
         stock = omega (arith, stock);
         calls = λ told. let calls = begun.calls told in omega (arith, calls);
+        points = start_points started.leaves.content;
         faults = started.leaves.faults;
       }
 
@@ -213,6 +226,7 @@ module _ {S : Type 0} (tells : S → Bool) (world : S → World) (counts : S →
     grew = tt;
     paid = tt;
     taken = tt;
+    recent = tt;
     calls = tt;
     few_calls = λ told g given.
         let few = started.few_calls told in (
@@ -224,5 +238,9 @@ module _ {S : Type 0} (tells : S → Bool) (world : S → World) (counts : S →
           tt,
           omega (arith, few),
         );
+    stops = λ told g given within.
+        let few = started.few_calls told in
+        quiet_stops making.number 0 _ (world before) (world mid) (given_shows making anew (world before) g given)
+        (start_points started.leaves.content told) (omega (arith, few));
     faults = sort_shelf_on (counts before) (counts mid) e (Err e) refl started.leaves.faults;
   }

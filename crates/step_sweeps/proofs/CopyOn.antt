@@ -26,8 +26,10 @@ use Rattle.copy_sweep.proofs.Copying.{all_copied}
 use Rattle.run_tiers.specs.Faults.{OnlySortShelf}
 use Rattle.step_going.specs.Standing.{AreSafe}
 use Rattle.step_going.proofs.GoneOn.{GoesOnBy}
+use Rattle.step_going.proofs.Shown.{stops_more}
 use Rattle.sweep_checkpoint.specs.Going.{GoesOn, IsOfGoing, TakesParts, TakesCalls, interval_of, first_owed}
 use Rattle.sweep_checkpoint.specs.declared.going.Going.{Going}
+use Rattle.sweep_checkpoint.specs.Stops.{StopsCost}
 use Rattle.sweep_core.specs.Saving.{reads_of}
 use Rattle.sweep_core.specs.Sweeps.{IsNoDamage}
 use Rattle.resumable.specs.Diagrams.{copy_of, diagram_rests}
@@ -42,8 +44,10 @@ use Rattle.step_sweeps.specs.Kinds.{copy_kind}
 use Rattle.step_sweeps.specs.Made.{node_file, OnlyStep}
 use Rattle.step_sweeps.specs.Makes.{IsGivenFor, goes_on_by, table_by, work_for, operand_nodes}
 use Rattle.step_sweeps.specs.Started.{Starts, IsUnderWay}
+use Rattle.step_sweeps.specs.Stops.{shown_by, sweeps_stop}
 use Rattle.step_sweeps.specs.Sweeping.{MayResume, Sweeps, IsCovered, IsOperand, most_turns, owed_parts}
 use Rattle.step_sweeps.proofs.CopyRuns.{RanCopy}
+use Rattle.step_sweeps.proofs.Stops.{resumed_shown, started_stops, stops_call}
 use Rattle.step_sweeps.proofs.UnderWay.{way_sure, way_covered, way_safe}
 
 -- the calls of a copy that goes on, of which so many turns were made or were left, behind what going on costs
@@ -147,6 +151,21 @@ module _ {S : Type 0} (tells : S → Bool) (world : S → World) (counts : S →
         (run.images told_new job way.remains (way_sure copy_kind making going g going.last job s (world mid) way
         may.step_is) starts.may.paid))
 
+    -- what a stop costs
+    run_stops : work_for making g < 2 ^ 61 → StopsCost making.number (shown_by going.last) ((world old).clock
+        + (0 + (224 * 65536 + 2 ^ 17) + rest_calls going.last (operand_nodes making (reads_of (world old)))))
+        (world old) (world new)
+    run_stops within = started_stops tells world counts copy_kind (λ g job p. CopiesTo making g job p)
+        (λ g. work_for making g - 1) 0 making going old mid s starts told_mid g given new may.step_is
+        (resumed_shown making.number going may) (omega (arith, within)) (run.changes.did told_new).moments.past
+        (run.stops told_new)
+
+    on_stops : work_for making g < 2 ^ 61 → StopsCost making.number (shown_by going.last) ((world old).clock
+        + (sweeps_stop + rest_calls going.last (operand_nodes making (reads_of (world old)))))
+        (world old) (world new)
+    on_stops within = stops_more making.number (shown_by going.last) _ _ (world old) (world new) (omega arith)
+        (run_stops within)
+
     pub on_covered : AreFiles (now (world mid)).folder → IsCovered making.number (world mid)
     on_covered = way_covered copy_kind making going g going.last job s (world mid) way may.step_is
 
@@ -206,6 +225,7 @@ module _ {S : Type 0} (tells : S → Bool) (world : S → World) (counts : S →
     spent = λ was told g given. on_work told g given (spent was);
     few_calls = λ told g given. let few = on_few told g given in omega (arith, few);
     images = on_images;
+    stops = on_stops;
     damaged = λ told anew none. absurd (let last_is = may.at_point.last_is in cc);
     content = on_content;
     counted = tt;
@@ -235,6 +255,17 @@ module _ {S : Type 0} (tells : S → Bool) (world : S → World) (counts : S →
         (subst (OnlyStep making.number (now (world old))) (sym did.same)
         (ran_end (world old) (world new) (OnlyStep making.number (now (world old))) ran)))
 
+    end_stops : IsTrue (tells end) → (g : Tables) → IsGivenFor making going (world old) g
+        → work_for making g < 2 ^ 61 → StopsCost making.number (shown_by going.last) ((world old).clock
+        + (sweeps_stop + rest_calls going.last (operand_nodes making (reads_of (world old)))))
+        (world old) (world end)
+    end_stops told_end g given within =
+        let did = look.did told_end in
+        let told_new = look.before told_end in
+        stops_more making.number (shown_by going.last) _ _ (world old) (world end) (omega arith)
+        (stops_call making.number (shown_by going.last) _ (world old) (world new) (world end)
+        (on_content.did told_new).moments.later did.shelf.ticks did.same (run_stops told_new g given within))
+
     end_few : IsTrue (tells end) → (g : Tables) → IsGivenFor making going (world old) g
         → (world end).clock + 229 * going.turns ≤ (world old).clock
         + (229 * most_turns going.last making going g + 11
@@ -253,6 +284,7 @@ module _ {S : Type 0} (tells : S → Bool) (world : S → World) (counts : S →
       spent = λ was. absurd (cc);
       few_calls = end_few;
       images = end_images;
+      stops = end_stops;
       damaged = λ told anew none. absurd (let last_is = may.at_point.last_is in cc);
       content = end_content;
       counted = tt;
@@ -303,6 +335,7 @@ module _ {S : Type 0} (tells : S → Bool) (world : S → World) (counts : S →
       spent = λ was. absurd (cc);
       few_calls = end_few;
       images = end_images;
+      stops = end_stops;
       damaged = tt;
       content = end_content;
       counted =

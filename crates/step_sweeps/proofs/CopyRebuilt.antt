@@ -15,9 +15,11 @@ use Rattle.run_tiers.specs.Faults.{OnlySortShelf}
 use Rattle.run_tiers.proofs.FaultLaws.{sort_shelf_on}
 use Rattle.step_going.specs.Standing.{AreSafe, IsStanding, StandsIn}
 use Rattle.step_going.proofs.Kept.{MadeSure, safe_rebuilt, standing_rebuilt}
+use Rattle.step_going.proofs.Shown.{quiet_stops}
 use Rattle.sweep_checkpoint.specs.Gated.{present}
 use Rattle.sweep_checkpoint.specs.Going.{first_owed}
 use Rattle.sweep_checkpoint.specs.declared.going.Going.{Going}
+use Rattle.sweep_checkpoint.specs.Stops.{SamePoints}
 use Rattle.sweep_core.specs.declared.checkpoint.Checkpoint.{Checkpoint}
 use Rattle.sweep_core.specs.Carries.{OnlyCutBehind}
 use Rattle.sweep_core.specs.Saving.{IsOfStep, reads_of}
@@ -41,9 +43,11 @@ use Rattle.step_sweeps.specs.Kinds.{copy_kind}
 use Rattle.step_sweeps.specs.Made.{node_file, OnlyStep}
 use Rattle.step_sweeps.specs.Makes.{IsGivenFor, goes_on_by, table_by, work_for, operand_nodes}
 use Rattle.step_sweeps.specs.Started.{Starts, MayRun, IsUnderWay}
+use Rattle.step_sweeps.specs.Stops.{shown_by, sweeps_stop}
 use Rattle.step_sweeps.specs.Sweeping.{MayResume, Sweeps, IsOperand, IsCopyFor, most_turns, owed_parts}
 use Rattle.step_sweeps.proofs.Rebuilt.{made_sure, sure_still, all_sure}
 use Rattle.step_sweeps.proofs.Running.{stays_step}
+use Rattle.step_sweeps.proofs.Stops.{along_cuts, given_shows}
 
 -- both name one task
 one_task : (c : Checkpoint) (t u : CopyTask) → resumes.Names c t → resumes.Names c u → t ≡ u
@@ -151,6 +155,12 @@ module _ (making : Making) (going : Going) (may : MayResume making.number going)
         (OnlyCutBehind c (resumes.RestsOn c) (now (world old))) (OnlyStep making.number (now (world old)))
         (λ x cut f outside. cut.unmade f (λ made. outside (made.step_is ∙ of_number))) run)
 
+    -- the checkpoints and their gate stay
+    pub cut_points : IsTrue (tells mid) → Throughout (world old) (world mid)
+        (λ (x : Moment). SamePoints making.number (now (world old)).folder x.folder)
+    cut_points told_mid = along_cuts making.number c (resumes.RestsOn c) (world old) (world mid) of_number
+        (content.did told_mid)
+
     pub cut_safe : IsTrue (tells mid) → (g : Tables) → IsGivenFor making going (world old) g
         → Throughout (world old) (world mid)
         (λ (x : Moment). AreSafe (goes_on_by making going.budget g) making.number x.folder)
@@ -182,6 +192,14 @@ module _ (making : Making) (going : Going) (may : MayResume making.number going)
           + rest_calls last (operand_nodes making (reads_of (world old))))) (sym may.at_point.last_is)
           (omega (arith, made, few, turns_are));
       images = cut_safe;
+      stops = λ told g given within.
+          let point = from (world old) g given in
+          let made = calls told (copy_of point.from making.number (bytes g)) point.goes.names in
+          quiet_stops making.number (shown_by going.last) _ (world old) (world mid)
+          (given_shows making going (world old) g given) (cut_points told)
+          (subst (λ last. (world mid).clock ≤ (world old).clock
+          + (sweeps_stop + rest_calls last (operand_nodes making (reads_of (world old))))) (sym may.at_point.last_is)
+          (omega (arith, made)));
       damaged = λ told anew gate. absurd (let last_is = may.at_point.last_is in cc);
       content = cut_content;
       counted = tt;
@@ -290,6 +308,7 @@ module _ (making : Making) (going : Going) (may : MayResume making.number going)
           ≤ (world old).clock + (0 + rest_calls last (operand_nodes making (reads_of (world old)))))
           (sym may.at_point.last_is)
           (let calls = rebuilt.calls told_mid s.task rebuilt.names in omega (arith, calls));
+      points = cut_points tells world counts old mid files_are rebuilt.content;
       faults = rebuilt.faults;
     }
 
@@ -313,6 +332,7 @@ module _ (making : Making) (going : Going) (may : MayResume making.number going)
     spent = λ was. absurd (let same : e ≡ RunsSpent = cc in not_spent same);
     few_calls = λ told g given. absurd (not_given g given);
     images = λ told g given. absurd (not_given g given);
+    stops = λ told g given. absurd (not_given g given);
     damaged = λ told anew gate. absurd (let last_is = may.at_point.last_is in cc);
     content = stays_step tells world making.number old mid content;
     counted = tt;

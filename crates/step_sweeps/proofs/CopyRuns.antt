@@ -35,7 +35,10 @@ use Rattle.run_tiers.specs.Syncs.{IsFirm}
 use Rattle.step_going.specs.Standing.{AreSafe}
 use Rattle.step_going.proofs.GoneOn.{GoesOnBy}
 use Rattle.sweep_checkpoint.specs.Going.{IsOfGoing, IsAsBefore, GoesOn, AreSure, TakesParts, TakesCalls, IsPaidTo, interval_of, first_owed}
+use Rattle.sweep_checkpoint.specs.Saves.{IsGateSure}
+use Rattle.sweep_checkpoint.specs.Stops.{AreStops, StopsCost, stop_calls}
 use Rattle.sweep_checkpoint.specs.declared.going.Going.{Going}
+use Rattle.step_going.proofs.Shown.{none_shows, stops_more, stops_join, saved_stops}
 use Rattle.sweep_core.specs.Sweeps.{IsNoDamage}
 use Rattle.resumable.specs.Diagrams.{copy_of, diagram_rests}
 use Rattle.resumable.proofs.Makings.{copy_goes}
@@ -49,8 +52,10 @@ use Rattle.step_sweeps.specs.Makes.{IsGiven, HasNoGate, goes_on_by, table_by, wo
 use Rattle.step_sweeps.specs.Pairs.{Leads}
 use Rattle.step_sweeps.specs.Started.{IsUnderWay}
 use Rattle.step_sweeps.specs.Sweeping.{IsCovered, IsOperand}
+use Rattle.step_sweeps.specs.Stops.{sweeps_stop}
 use Rattle.step_sweeps.specs.Ways.{IsAnew, IsGivenAnew, MakesAnew}
 use Rattle.step_sweeps.proofs.Faults.{no_damage}
+use Rattle.step_sweeps.proofs.StopsAnew.{interval_few, stops_anew}
 use Rattle.step_sweeps.proofs.UnderWay.{way_sure, way_safe}
 use Rattle.step_sweeps.proofs.Running.{file_stays, nodes_apart}
 use Rattle.step_sweeps.proofs.WaysAnew.{node_changes, safe_anew}
@@ -120,6 +125,10 @@ begun_at tells world number source many s old mid to is begun trusts content eno
   no_more = no_more;
 }
 
+-- the calls that a stop of a copy may cost beyond those for turns that it leaves shown
+abbrev pub copy_stop : ℕ
+copy_stop = sweeps_stop + 2 ^ 19 + 32
+
 -- what is known of a copy that was run and saved, and of what that left, whichever way it ended
 pub record RanCopy {S : Type 0} (tells : S → Bool) (world : S → World) (going : Going) (s t : CopySweep) (mid new : S)
     : Type 0 where
@@ -134,15 +143,19 @@ pub record RanCopy {S : Type 0} (tells : S → Bool) (world : S → World) (goin
       → Throughout (world mid) (world new) (λ (x : Moment). (image : Image) → IsImage x.folder image
       → IsAsBefore (accounts.makes s) going.step s.parts.next (now (world mid)).folder (bytes_in image)
       ⊎ GoesOn copy_saving going.step going.budget going.sweep s.task bytes (going.turns + left_of s) (bytes_in image))
+  pub stops : IsTrue (tells new) → IsGateSure going.step (now (world mid)).folder → 16384 ≤ interval_of going.budget
+      → going.shown ≤ going.turns → (bytes : List ℕ) → Copies s (world mid) bytes → going.turns + left_of s < 2 ^ 61
+      → AreStops going.step going.shown ((world mid).clock + stop_calls accounts going s) (world mid) (world new)
 
 -- a fault is handed on
 pub handed_anew : {S : Type 0} (tells : S → Bool) (world : S → World) (counts : S → Faults) (making : Making)
-    (budget first : ℕ) (left : Tables → ℕ) (some : ℕ) (old new : S) (e : SortFault) (r : Result MadeDiagram SortFault)
-    → IsErrAnd r (λ x. x ≡ e) → MakesAnew tells world counts making budget first left some old new (Err e)
-    → MakesAnew tells world counts making budget first left some old new r
-handed_anew tells world counts making budget first left some old new e (Ok x) is makes = absurd is
-handed_anew tells world counts making budget first left some old new e (Err x) is makes =
-    subst (λ y. MakesAnew tells world counts making budget first left some old new (Err y)) (sym is) makes
+    (budget first : ℕ) (left : Tables → ℕ) (some stop : ℕ) (old new : S) (e : SortFault)
+    (r : Result MadeDiagram SortFault) → IsErrAnd r (λ x. x ≡ e)
+    → MakesAnew tells world counts making budget first left some stop old new (Err e)
+    → MakesAnew tells world counts making budget first left some stop old new r
+handed_anew tells world counts making budget first left some stop old new e (Ok x) is makes = absurd is
+handed_anew tells world counts making budget first left some stop old new e (Err x) is makes =
+    subst (λ y. MakesAnew tells world counts making budget first left some stop old new (Err y)) (sym is) makes
 
 -- a cut of the node file changes nothing else
 pub cut_alone : {S : Type 0} (tells : S → Bool) (world : S → World) (number : ℕ) (old mid : S)
@@ -317,6 +330,29 @@ module _ {S : Type 0} (tells : S → Bool) (world : S → World) (counts : S →
           (run.images told_new bytes copies_table (way_sure copy_kind making going g None bytes s (world mid) way
           anew.step_is) paid_so))
 
+      -- none was shown before
+      copy_stops : work_for making g < 2 ^ 61
+          → StopsCost making.number 0 ((world old).clock + copy_stop) (world old) (world new)
+      copy_stops work =
+          let most : ℕ = (world old).clock + copy_stop in
+          let begins = (begun.content.did told_mid).few in
+          let few = within in
+          let sure = none_shows making.number (now (world mid)).folder (gate_stays told_mid ∙ given.none) in
+          let turns = anew.turns_are in
+          let shown = anew.shown_is in
+          let interval = interval_few going.budget in
+          stops_join making.number 0 most (world old) (world mid) (world new) (run.changes.did told_new).moments.past
+          (stops_anew making.number most (world old) (world mid) given.none (nodes_alone.did told_mid)
+          (omega (arith, begins)))
+          (stops_more making.number 0 ((world mid).clock + stop_calls accounts going s) most (world mid) (world new)
+          (omega (arith, begins, owed, turns, shown, interval))
+          (saved_stops making.number 0 going.shown ((world mid).clock + stop_calls accounts going s) (world mid)
+          (world new) sure (omega arith)
+          (subst (λ k. AreStops k going.shown ((world mid).clock + stop_calls accounts going s) (world mid) (world new))
+          anew.step_is
+          (run.stops told_new (subst (λ k. IsGateSure k (now (world mid)).folder) (sym anew.step_is) sure.gate) long
+          paid_so.shown bytes copies_table (omega (arith, few, work))))))
+
       -- all of it is copied at the end
       all_made : t.task ≡ s.task → fuel_of t ≡ 0 → IsInStep t (world new) → Copies t (world new) bytes
           → IsMade making.n (table_by making g) (node_file making.number) source.trailer.count (world new)
@@ -342,7 +378,7 @@ module _ {S : Type 0} (tells : S → Bool) (world : S → World) (counts : S →
       → (IsTrue (tells new) → (bytes : List ℕ) → Copies s (world mid) bytes → IsCovered going.step (world mid)
       → IsNoDamage e)
       → OnlySortShelf {T = MadeDiagram} (counts old) (counts new) (Err e)
-      → MakesAnew tells world counts making going.budget 0 (λ g. 0) 7 old new (Err e)
+      → MakesAnew tells world counts making going.budget 0 (λ g. 0) 7 copy_stop old new (Err e)
   copy_refused e spent undamaged faults = record {
     made = tt;
     undamaged = λ told g given. none told (no_gate g given);
@@ -354,6 +390,7 @@ module _ {S : Type 0} (tells : S → Bool) (world : S → World) (counts : S →
     counted = tt;
     few_anew = tt;
     calls = tt;
+    stops = copy_stops;
     faults = faults;
   }
     where
@@ -373,7 +410,7 @@ module _ {S : Type 0} (tells : S → Bool) (world : S → World) (counts : S →
       → (IsTrue (tells new) → (bytes : List ℕ) → Copies s (world mid) bytes → Copies t (world new) bytes)
       → t.task ≡ s.task → fuel_of t ≡ 0 → (IsTrue (tells new) → IsInStep t (world new))
       → OnlySortShelf {T = MadeDiagram} (counts old) (counts new) (Ok m)
-      → MakesAnew tells world counts making going.budget 0 (λ g. 0) 7 old new (Ok m)
+      → MakesAnew tells world counts making going.budget 0 (λ g. 0) 7 copy_stop old new (Ok m)
   copy_ended later m nodes turns_are next made late counted few keeps same none step faults = record {
     made = λ told g given.
         let its = few told (canon_bytes making.n (table_by making g)) (copies_table told g given) in
@@ -413,5 +450,6 @@ module _ {S : Type 0} (tells : S → Bool) (world : S → World) (counts : S →
         (first_owed going.last s.parts.next) (world old).clock (world mid).clock (world new).clock long
         (omega (arith, saves, shown, shows)) owed (omega (arith, parts, turns)) begins (omega (arith, calls, turns)) in
         omega (arith, sum, turns_are);
+    stops = copy_stops;
     faults = faults;
   }

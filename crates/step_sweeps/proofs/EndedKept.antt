@@ -1,5 +1,5 @@
 -- What the room made is saved: each image that a stop may leave meanwhile is safe.
-use Rattle.std.proofs.Common.{◌≡◌, ◌≢◌, ℕ, ◌+◌, ◌-◌, ◌*◌, ◌^◌, ◌≤◌, ◌∙◌, Bool, IsTrue, List, [], length, take, refl, sym, ap, subst, inl, inr, arith}
+use Rattle.std.proofs.Common.{◌≡◌, ◌≢◌, ◌⊎◌, ℕ, ◌+◌, ◌-◌, ◌*◌, ◌^◌, ◌≤◌, ◌∙◌, Bool, IsTrue, List, [], length, take, refl, sym, ap, subst, inl, inr, arith}
 use Rattle.std.specs.Prelude.{Option, Some, None, Result, Ok, Err, IfErr}
 use Rattle.std.proofs.lemmas.List.{take_all}
 use Rattle.rec_words.specs.Words.{node_size}
@@ -33,7 +33,9 @@ use Rattle.sweep_checkpoint.specs.Going.{IsPaid, IsAsBefore}
 use Rattle.sweep_checkpoint.specs.Points.{point_bytes, Fits}
 use Rattle.sweep_checkpoint.specs.Rules.{KeepsRules}
 use Rattle.sweep_checkpoint.specs.Saves.{DuringSave, IsGateSure, IsLast, IsSaveFault, gated_size}
+use Rattle.sweep_checkpoint.specs.Stops.{turns_in, shown_turns, ShowsAsBefore}
 use Rattle.sweep_checkpoint.proofs.AsBefore.{before_saved}
+use Rattle.sweep_checkpoint.proofs.PointTurns.{point_turns}
 use Rattle.step_going.specs.Standing.{AreSafe}
 use Rattle.step_going.proofs.Safe.{RestsSure, safe_as_before, safe_standing}
 use Rattle.resumable.specs.Diagrams.{diagram_rests}
@@ -219,6 +221,10 @@ module _ {S : Type 0} (tells : S → Bool) (world : S → World) (counts : S →
     cause = tt;
     content = told_here tells s _ (λ told. changed_none (IsOfPoints making.number) (world s));
     calls = λ told. omega arith;
+    shows = λ told sure. stands (world s) (λ (m : Moment). (image : Image) → IsImage m.folder image
+        → ShowsAsBefore making.number (now (world s)).folder (bytes_in image)
+        ⊎ (shown_turns making.number (bytes_in image) ≡ going.turns - 1))
+        (λ image is_image. inl (record { before = image; is_image = is_image; same = refl }));
     faults = calm;
   }
 
@@ -228,6 +234,24 @@ module _ {S : Type 0} (tells : S → Bool) (world : S → World) (counts : S →
   save_cause old new number Shelf fault covered = refl
   save_cause old new number (Damaged f at) fault covered =
       let short = fault.2 in absurd (omega (arith, short, covered))
+
+  -- while it is saved as many turns are shown as before, or those of the checkpoint
+  shown_while_saved : (c : Checkpoint) (old m : Moment) → IsEndOf making going nodes next c
+      → IsGateSure making.number old.folder → DuringSave c old m → (image : Image) → IsImage m.folder image
+      → ShowsAsBefore making.number old.folder (bytes_in image)
+      ⊎ (shown_turns making.number (bytes_in image) ≡ going.turns - 1)
+  shown_while_saved c old m end sure saves image is_image =
+      let step_is = end.step_is in
+      elim (saves.images (subst (λ k. IsGateSure k old.folder) (sym step_is) sure) image is_image) [
+        | inl was ↦ inl (record {
+          before = was.before;
+          is_image = was.is_image;
+          same = ap turns_in (subst (λ k. last_gated k (bytes_in image) ≡ last_gated k (bytes_in was.before)) step_is
+              was.same);
+        })
+        | inr last ↦ inr (ap turns_in (subst (λ k. last_gated k (bytes_in image) ≡ Some (point_bytes c)) step_is last)
+            ∙ point_turns c end.words ∙ end.turns_are)
+      ]
 
   -- it is saved
   pub kept_by : (c : Checkpoint) (old new : S) (r : Result Unit StreamFault) → (3 ≤ next) × (next ≤ 2 ^ 32)
@@ -249,6 +273,12 @@ module _ {S : Type 0} (tells : S → Bool) (world : S → World) (counts : S →
         (λ is. outside (inl (is ∙ ap checkpoint_file end.step_is)))
         (λ is. outside (inr (is ∙ ap checkpoint_gate end.step_is)))) run);
     calls = calls;
+    shows = λ told sure. weakens (world old) (world new)
+        (Quiet (now (world old)).said (DuringSave c (now (world old))))
+        (λ (m : Moment). (image : Image) → IsImage m.folder image
+        → ShowsAsBefore making.number (now (world old)).folder (bytes_in image)
+        ⊎ (shown_turns making.number (bytes_in image) ≡ going.turns - 1))
+        (λ m quiet. shown_while_saved c (now (world old)) m end sure quiet.holds) (content.did told).moments;
     faults = faults;
   }
     where

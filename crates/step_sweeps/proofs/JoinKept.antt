@@ -16,7 +16,9 @@ use Rattle.shelf_model.proofs.Runs.{joins}
 use Rattle.file_numbers.specs.Files.{checkpoint_gate}
 use Rattle.run_tiers.specs.Faults.{OnlySortShelf}
 use Rattle.run_tiers.proofs.FaultLaws.{sort_shelf_then}
-use Rattle.step_going.specs.Standing.{AreSafe}
+use Rattle.step_going.specs.Standing.{AreSafe, HasNone}
+use Rattle.step_going.proofs.Shown.{none_shows, stops_join}
+use Rattle.sweep_checkpoint.specs.Stops.{StopsCost}
 use Rattle.sweep_checkpoint.specs.declared.going.Going.{Going}
 use Rattle.sweep_core.specs.Sweeps.{IsNoDamage}
 use Rattle.node_file.specs.Canonical.{IsMade}
@@ -32,11 +34,13 @@ use Rattle.step_sweeps.specs.Given.{Tables}
 use Rattle.step_sweeps.specs.Made.{node_file, OnlyStep}
 use Rattle.step_sweeps.specs.Makes.{IsGiven, HasNoGate, goes_on_by, table_by, nodes_for, work_for}
 use Rattle.step_sweeps.specs.Pairs.{IsPairOf}
+use Rattle.step_sweeps.specs.Stops.{sweeps_stop}
 use Rattle.step_sweeps.specs.Sweeping.{IsCovered}
 use Rattle.step_sweeps.specs.Ways.{IsGivenAnew, MakesAnew}
 use Rattle.step_sweeps.proofs.EndedKept.{never_spent, no_damage_of, faults_on, kept_changes, kept_made}
 use Rattle.step_sweeps.proofs.Faults.{no_damage}
 use Rattle.step_sweeps.proofs.JoinsAnew.{joined_makes, nodes_are}
+use Rattle.step_sweeps.proofs.StopsAnew.{kept_stops}
 use Rattle.step_sweeps.proofs.Running.{faults_ok, file_stays, folder_ok, gate_apart}
 
 -- a diagram was joined, where so many turns were made before; and then it was saved, or wasn't
@@ -50,6 +54,7 @@ module _ {S : Type 0} (tells : S → Bool) (world : S → World) (counts : S →
     → IsOperandOf making.n u pair.right (world old)
     → IsMade making.n (pair_table making.n op t u) (node_file making.number) j.nodes (world mid))
     (paid : IsTrue (tells mid) → (world mid).clock ≤ (world old).clock + (8 * j.turns + 6))
+    (short : IsTrue (tells mid) → (world mid).clock ≤ (world old).clock + (2 ^ 18 + 6))
     (content : Told tells old mid (Changed most (node_file making.number) (world old) (world mid)))
     (calm : OnlySortShelf {T = Unit} (counts old) (counts mid) (Ok tt)) where
   abbrev joined : MadeDiagram
@@ -59,9 +64,10 @@ module _ {S : Type 0} (tells : S → Bool) (world : S → World) (counts : S →
   Kept r = KeepsMade tells world counts making j.nodes 3 (record going { turns = turns }) mid new r
 
   -- before the save
-  was_joined : MakesAnew tells world counts making going.budget first (nodes_for making) 7 old mid (Ok joined)
+  was_joined : MakesAnew tells world counts making going.budget first (nodes_for making) 7 (sweeps_stop + 2 ^ 18 + 6)
+      old mid (Ok joined)
   was_joined = joined_makes tells world counts op making pair old are going.budget first most j joined mid fits refl
-      turns_are refl some few made paid content
+      turns_are refl some few made paid short content
       (record { later = calm.later; cause = λ was. absurd (cc); say_is = calm.say_is; text_is = calm.text_is })
 
   gate_stays : IsTrue (tells mid)
@@ -110,9 +116,26 @@ module _ {S : Type 0} (tells : S → Bool) (world : S → World) (counts : S →
       let more = keeps.calls told_new in
       omega (arith, calls, more, few, count)
 
+  -- what a stop costs: none was shown before, and a save shows all turns but the last
+  both_stops : (r : Result Unit StreamFault) → Kept r → IsTrue (tells new) → (g : Tables)
+      → IsGivenAnew making (world old) g → work_for making g < 2 ^ 61
+      → StopsCost making.number 0 ((world old).clock + (sweeps_stop + 2 ^ 18 + 6)) (world old) (world new)
+  both_stops r keeps told_new g given work =
+      let told_mid = keeps.content.before told_new in
+      let most : ℕ = (world old).clock + (sweeps_stop + 2 ^ 18 + 6) in
+      let none : HasNone making.number (now (world mid)).folder = gate_stays told_mid ∙ given.none in
+      let sure = none_shows making.number (now (world mid)).folder none in
+      let calls = keeps.calls told_new in
+      let before = short told_mid in
+      stops_join making.number 0 most (world old) (world mid) (world new) (keeps.content.did told_new).moments.past
+      (was_joined.stops told_mid g given work)
+      (kept_stops making.number 0 (turns - 1) most (world mid) (world new) sure (omega arith)
+      (keeps.shows told_new sure.gate) (omega (arith, calls, before)))
+
   -- the save was refused
   pub joined_refused : (e : StreamFault) (r : Result MadeDiagram SortFault) → IsErrAnd r (λ x. x ≡ handed_on e)
-      → Kept (Err e) → MakesAnew tells world counts making going.budget first (nodes_for making) 7 old new r
+      → Kept (Err e) → MakesAnew tells world counts making going.budget first (nodes_for making) 7
+      (sweeps_stop + 2 ^ 18 + 6) old new r
   joined_refused e (Ok x) at keeps = absurd at
   joined_refused e (Err x) at keeps =
       let spared : IsTrue (tells new) → HasNoGate making.number (world old) → IsNoDamage x =
@@ -129,12 +152,14 @@ module _ {S : Type 0} (tells : S → Bool) (world : S → World) (counts : S →
         counted = tt;
         few_anew = tt;
         calls = tt;
+        stops = both_stops (Err e) keeps;
         faults = sort_shelf_then _ _ _ (Ok tt) (Err x) calm (faults_on (counts mid) (counts new) e x at keeps.faults);
       }
 
   -- it was made, or wasn't due
   pub joined_kept : Kept (Ok tt)
-      → MakesAnew tells world counts making going.budget first (nodes_for making) 7 old new (Ok joined)
+      → MakesAnew tells world counts making going.budget first (nodes_for making) 7 (sweeps_stop + 2 ^ 18 + 6)
+      old new (Ok joined)
   joined_kept keeps = record {
     made = λ told_new g given.
         let its = was_joined.made (keeps.content.before told_new) g given in
@@ -155,6 +180,7 @@ module _ {S : Type 0} (tells : S → Bool) (world : S → World) (counts : S →
         let calls = paid (keeps.content.before told_new) in
         let more = keeps.calls told_new in
         omega (arith, calls, more, some, turns_are, below);
+    stops = both_stops (Ok tt) keeps;
     faults = faults_ok (counts old) (counts mid) (counts new) (Ok tt) (Ok tt) joined calm
         (folder_ok (counts mid) (counts new) tt keeps.faults);
   }

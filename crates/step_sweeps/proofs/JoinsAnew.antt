@@ -32,6 +32,8 @@ use Rattle.step_sweeps.specs.Makes.{IsGiven, table_by, nodes_for, work_for}
 use Rattle.step_sweeps.specs.Ways.{MakesAnew, left_by_sweeps}
 use Rattle.step_sweeps.specs.Operations.{IsWithin}
 use Rattle.step_sweeps.specs.Pairs.{IsPairOf, Leads}
+use Rattle.step_sweeps.specs.Stops.{sweeps_stop}
+use Rattle.step_sweeps.proofs.StopsAnew.{stops_anew}
 use Rattle.step_sweeps.proofs.WaysAnew.{Pays, changed_run, node_changes, safe_anew}
 
 -- a file that is canonical after a look was so before
@@ -184,10 +186,11 @@ module _ {S : Type 0} (tells : S → Bool) (world : S → World) (counts : S →
       → IsOperandOf making.n u pair.right (world old)
       → IsMade making.n (pair_table making.n op t u) (node_file making.number) j.nodes (world new))
       → (IsTrue (tells new) → (world new).clock ≤ (world old).clock + (8 * j.turns + 6))
+      → (IsTrue (tells new) → (world new).clock ≤ (world old).clock + (2 ^ 18 + 6))
       → Told tells old new (Changed most (node_file making.number) (world old) (world new))
       → OnlySortShelf {T = MadeDiagram} (counts old) (counts new) (Ok m)
-      → MakesAnew tells world counts making budget first (nodes_for making) 7 old new (Ok m)
-  joined_makes budget first most j m new fits nodes turns next some few made paid content faults =
+      → MakesAnew tells world counts making budget first (nodes_for making) 7 (sweeps_stop + 2 ^ 18 + 6) old new (Ok m)
+  joined_makes budget first most j m new fits nodes turns next some few made paid short content faults =
       let run = changed_run tells world making.number most old new content in
       record {
         made = λ told g given.
@@ -220,5 +223,7 @@ module _ {S : Type 0} (tells : S → Bool) (world : S → World) (counts : S →
         );
         few_anew = omega (arith, next);
         calls = λ told below. let calls = paid told in omega (arith, calls, turns, below);
+        stops = λ told g given work. stops_anew making.number ((world old).clock + (sweeps_stop + 2 ^ 18 + 6)) (world old)
+            (world new) given.none (run.did told) (let calls = short told in omega (arith, calls));
         faults = faults;
       }

@@ -10,9 +10,11 @@ mod AnswerFronts
 mod AnswerImplying
 mod ImpliedWork
 mod Running
+mod StopsAnew
 mod Faults
 mod StepStands
 mod UnderWay
+mod Stops
 mod Costs
 mod Rebuilt
 mod ArcsPoints

@@ -1,19 +1,23 @@
 -- A step that makes a diagram, by what it does where it begins anew, and where it goes on from its last checkpoint.
-use Rattle.std.proofs.Common.{◌≡◌, ◌≢◌, ◌∙◌, ◌<◌, ◌≤◌, Bool, refl, sym, subst, ap, arith}
+use Rattle.std.proofs.Common.{◌≡◌, ◌≢◌, ◌∙◌, ◌+◌, ◌^◌, ◌<◌, ◌≤◌, Bool, refl, sym, subst, ap, arith}
 use Rattle.std.specs.Prelude.{Option, Some, None, Result}
 use Rattle.shelf_model.specs.declared.sort_fault.SortFault.{SortFault}
 use Rattle.shelf_model.specs.Faults.{Faults}
 use Rattle.shelf_model.specs.World.{World, now}
 use Rattle.step_going.specs.Standing.{IsStanding}
 use Rattle.step_going.specs.Found.{IsComeTo}
+use Rattle.sweep_checkpoint.specs.Stops.{StopsCost}
+use Rattle.sweep_core.specs.Saving.{reads_of}
+use Rattle.step_going.proofs.Shown.{stops_more}
 use Rattle.sweep_checkpoint.specs.declared.going.Going.{Going}
 use Rattle.sweep_core.specs.declared.checkpoint.Checkpoint.{Checkpoint}
 use Rattle.resumable.specs.Diagrams.{diagram_rests}
 use Rattle.step_sweeps.specs.declared.diagram.MadeDiagram.{MadeDiagram}
 use Rattle.step_sweeps.specs.declared.task.Making.{Making}
 use Rattle.step_sweeps.specs.Given.{Tables}
-use Rattle.step_sweeps.specs.Going.{MayGoOn, next_of}
-use Rattle.step_sweeps.specs.Makes.{IsGivenFor, Makes, goes_on_by}
+use Rattle.step_sweeps.specs.Going.{MayGoOn, next_of, rest_calls}
+use Rattle.step_sweeps.specs.Stops.{shown_by, sweeps_stop, step_stop}
+use Rattle.step_sweeps.specs.Makes.{IsGivenFor, Makes, goes_on_by, operand_nodes}
 use Rattle.step_sweeps.specs.Sweeping.{IsAtPoint, IsComeToArcs, MayResume, MaySweep, Sweeps, most_turns}
 use Rattle.step_sweeps.specs.Ways.{IsAnew, IsGivenAnew, MakesAnew}
 use Rattle.step_sweeps.proofs.Running.{ok_more, ok_both, err_more}
@@ -88,7 +92,7 @@ module _ {S : Type 0} (tells : S → Bool) (world : S → World) (counts : S →
     (old new : S) (r : Result MadeDiagram SortFault) where
   -- what is made anew
   pub anew_makes : going.last ≡ None → going.turns ≡ 0
-      → MakesAnew tells world counts making going.budget 0 (λ g. 0) 11 old new r
+      → MakesAnew tells world counts making going.budget 0 (λ g. 0) 11 (sweeps_stop + 2 ^ 19 + 36) old new r
       → Makes tells world counts making going old new r
   anew_makes none turns makes = record {
     made = ok_more r _ _ (λ m made told g is.
@@ -109,6 +113,14 @@ module _ {S : Type 0} (tells : S → Bool) (world : S → World) (counts : S →
     calls = ok_more r _ _ (λ m calls told below.
         let first = calls told below in
         omega (arith, first, turns)) makes.calls;
+    grew = ok_more r _ _ (λ m is. omega (arith, turns)) makes.counted;
+    stops = λ told g is work.
+        let shown : shown_by going.last ≡ 0 = ap shown_by none in
+        stops_more making.number (shown_by going.last) ((world old).clock + (sweeps_stop + 2 ^ 19 + 36))
+        ((world old).clock + (step_stop + rest_calls going.last (operand_nodes making (reads_of (world old)))))
+        (world old) (world new) (omega arith)
+        (subst (λ k. StopsCost making.number k ((world old).clock + (sweeps_stop + 2 ^ 19 + 36)) (world old) (world new))
+        (sym shown) (makes.stops told g (given_anew making going (world old) g none is) work));
     faults = makes.faults;
   }
 
@@ -138,5 +150,10 @@ module _ {S : Type 0} (tells : S → Bool) (world : S → World) (counts : S →
         let more = counted.0 in
         let first = calls told below in
         omega (arith, first, more)) sweeps.counted sweeps.calls;
+    grew = ok_more r _ _ (λ m counted. counted.0) sweeps.counted;
+    stops = λ told g given work. stops_more making.number (shown_by going.last)
+        ((world old).clock + (sweeps_stop + rest_calls going.last (operand_nodes making (reads_of (world old)))))
+        ((world old).clock + (step_stop + rest_calls going.last (operand_nodes making (reads_of (world old)))))
+        (world old) (world new) (omega arith) (sweeps.stops told g given work);
     faults = sweeps.faults;
   }

@@ -15,8 +15,10 @@ use Rattle.shelf_model.proofs.Runs.{joins}
 use Rattle.run_tiers.specs.Faults.{OnlySortShelf}
 use Rattle.step_going.specs.Standing.{AreSafe}
 use Rattle.step_going.proofs.GoneOn.{GoesOnBy}
+use Rattle.step_going.proofs.Shown.{stops_more}
 use Rattle.sweep_checkpoint.specs.Going.{IsOfGoing, IsAsBefore, GoesOn, AreSure, TakesParts, TakesCalls, IsPaidTo, interval_of, first_owed}
 use Rattle.sweep_checkpoint.specs.declared.going.Going.{Going}
+use Rattle.sweep_checkpoint.specs.Stops.{StopsCost}
 use Rattle.sweep_core.specs.Saving.{reads_of}
 use Rattle.sweep_core.specs.Sweeps.{IsNoDamage}
 use Rattle.resumable.specs.Diagrams.{diagram_rests}
@@ -38,8 +40,10 @@ use Rattle.step_sweeps.specs.Made.{node_file, OnlyStep}
 use Rattle.step_sweeps.specs.Makes.{IsGivenFor, goes_on_by, work_for, operand_nodes}
 use Rattle.step_sweeps.specs.Reduced.{ReducesTo}
 use Rattle.step_sweeps.specs.Started.{Starts, IsUnderWay}
+use Rattle.step_sweeps.specs.Stops.{shown_by, sweeps_stop}
 use Rattle.step_sweeps.specs.Sweeping.{MayResume, Sweeps, IsCovered, most_turns, owed_parts}
 use Rattle.step_sweeps.proofs.SweptReduction.{reduced_at_end}
+use Rattle.step_sweeps.proofs.Stops.{RunStops, resumed_shown, started_stops}
 use Rattle.step_sweeps.proofs.UnderWay.{way_sure, way_covered, way_safe}
 
 -- the calls of a sweep that goes on, of which so many turns were made or were left, behind what going on costs
@@ -64,6 +68,7 @@ pub record RanOn {S : Type 0} (tells : S → Bool) (world : S → World) (going 
       × TakesParts reduce.accounts (reduce.turns_left s + 1) saves s t
       × TakesCalls reduce.accounts (reduce.turns_left s + 1) saves (first_owed going.last s.parts.next)
       (world mid) (world new) s t
+  pub stops : IsTrue (tells new) → RunStops reduce_kind going s (world mid) (world new)
   pub images : IsTrue (tells new) → (d : sweep.Diagram) → sweep.RemainsOf s (world mid) d
       → AreSure (IsOperand (reduce.task_of s)) going.step (now (world mid)).folder → IsPaidTo reduce.accounts going s
       → Throughout (world mid) (world new) (λ (x : Moment). (image : Image) → IsImage x.folder image
@@ -130,6 +135,15 @@ module _ {S : Type 0} (tells : S → Bool) (world : S → World) (counts : S →
         (run.images told_new job way.remains (way_sure reduce_kind making going g going.last job s (world mid) way
         may.step_is) starts.may.paid))
 
+    -- what a stop costs
+    on_stops : work_for making g < 2 ^ 61 → StopsCost making.number (shown_by going.last) ((world old).clock
+        + (sweeps_stop + rest_calls going.last (operand_nodes making (reads_of (world old)))))
+        (world old) (world new)
+    on_stops within = stops_more making.number (shown_by going.last) _ _ (world old) (world new) (omega arith)
+        (started_stops tells world counts reduce_kind (λ g job p. ReducesTo making g job p) (λ g. work_for making g - 1)
+        0 making going old mid s starts told_mid g given new may.step_is (resumed_shown making.number going may)
+        (omega (arith, within)) (run.changes.did told_new).moments.past (run.stops told_new))
+
     pub on_covered : AreFiles (now (world mid)).folder → IsCovered making.number (world mid)
     on_covered = way_covered reduce_kind making going g going.last job s (world mid) way may.step_is
 
@@ -179,6 +193,7 @@ module _ {S : Type 0} (tells : S → Bool) (world : S → World) (counts : S →
     spent = λ was told g given. on_work told g given (spent was);
     few_calls = on_few;
     images = on_images;
+    stops = on_stops;
     damaged = λ told anew none. absurd (let last_is = may.at_point.last_is in cc);
     content = on_content;
     counted = tt;
@@ -222,6 +237,7 @@ module _ {S : Type 0} (tells : S → Bool) (world : S → World) (counts : S →
         spent = λ was. absurd (cc);
         few_calls = on_few;
         images = on_images;
+        stops = on_stops;
         damaged = tt;
         content = on_content;
         counted = (

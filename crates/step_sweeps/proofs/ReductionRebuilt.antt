@@ -19,9 +19,11 @@ use Rattle.run_tiers.proofs.FaultLaws.{sort_shelf_on}
 use Rattle.run_merge.specs.Tables.{IsBeforeEnd}
 use Rattle.step_going.specs.Standing.{AreSafe, IsStanding, StandsIn}
 use Rattle.step_going.proofs.Kept.{MadeSure, safe_rebuilt, standing_rebuilt}
+use Rattle.step_going.proofs.Shown.{quiet_stops}
 use Rattle.sweep_checkpoint.specs.Gated.{present}
 use Rattle.sweep_checkpoint.specs.Going.{first_owed}
 use Rattle.sweep_checkpoint.specs.declared.going.Going.{Going}
+use Rattle.sweep_checkpoint.specs.Stops.{SamePoints}
 use Rattle.sweep_core.specs.declared.checkpoint.Checkpoint.{Checkpoint}
 use Rattle.sweep_core.specs.Carries.{OnlyCutBehind}
 use Rattle.sweep_core.specs.Saving.{IsOfStep, reads_of}
@@ -50,9 +52,11 @@ use Rattle.step_sweeps.specs.Made.{node_file, OnlyStep}
 use Rattle.step_sweeps.specs.Makes.{IsGivenFor, goes_on_by, table_by, work_for, operand_nodes}
 use Rattle.step_sweeps.specs.Reduced.{ReducesTo}
 use Rattle.step_sweeps.specs.Started.{Starts, MayRun, IsUnderWay}
+use Rattle.step_sweeps.specs.Stops.{shown_by, sweeps_stop}
 use Rattle.step_sweeps.specs.Sweeping.{MayResume, Sweeps, IsReductionFor, most_turns, owed_parts}
 use Rattle.step_sweeps.proofs.Rebuilt.{made_sure, sure_still, all_sure}
 use Rattle.step_sweeps.proofs.Running.{stays_step}
+use Rattle.step_sweeps.proofs.Stops.{along_cuts, given_shows}
 
 -- a run's part is none of the file that is made
 not_a_run : (c : Checkpoint) (part : ℕ) (table : RunTable) (f : FileNo) (n : ℕ) → IsSavedTable c part table
@@ -216,6 +220,12 @@ module _ (making : Making) (going : Going) (may : MayResume making.number going)
           (OnlyCutBehind c (resumes.RestsOn c) (now (world old))) (OnlyStep making.number (now (world old)))
           (λ x only f outside. only.unmade f (λ made. outside (made.step_is ∙ of_number))) run)
 
+      -- the checkpoints and their gate stay
+      pub cut_points : IsTrue (tells mid) → Throughout (world old) (world mid)
+          (λ (x : Moment). SamePoints making.number (now (world old)).folder x.folder)
+      cut_points told_mid = along_cuts making.number c (resumes.RestsOn c) (world old) (world mid) of_number
+          (cut.did told_mid)
+
       pub cut_safe : IsTrue (tells mid) → (g : Tables) → IsGivenFor making going (world old) g
           → Throughout (world old) (world mid)
           (λ (x : Moment). AreSafe (goes_on_by making going.budget g) making.number x.folder)
@@ -236,6 +246,7 @@ module _ (making : Making) (going : Going) (may : MayResume making.number going)
       spent = λ was told g given. absurd (none_given (world old) never g given);
       few_calls = λ told g given. absurd (none_given (world old) never g given);
       images = λ told g given. absurd (none_given (world old) never g given);
+      stops = λ told g given. absurd (none_given (world old) never g given);
       damaged = λ told anew none. absurd (let last_is = may.at_point.last_is in cc);
       content = stays_step tells world making.number old mid content;
       counted = tt;
@@ -264,6 +275,14 @@ module _ (making : Making) (going : Going) (may : MayResume making.number going)
           let made = it.calls told point.task point.goes.names in
           omega (arith, few, turns_are, made));
       images = cut_safe tells world old mid files_are it.content;
+      stops = λ told g given within.
+          let point = from (world old) g given in
+          let made = it.calls told point.task point.goes.names in
+          quiet_stops making.number (shown_by going.last) _ (world old) (world mid)
+          (given_shows making going (world old) g given) (cut_points tells world old mid files_are it.content told)
+          (subst (λ last. (world mid).clock ≤ (world old).clock
+          + (sweeps_stop + rest_calls last (operand_nodes making (reads_of (world old))))) (sym may.at_point.last_is)
+          (omega (arith, made)));
       damaged = λ told anew none. absurd (let last_is = may.at_point.last_is in cc);
       content = cut_content tells world old mid files_are it.content;
       counted = tt;
@@ -369,6 +388,7 @@ module _ (making : Making) (going : Going) (may : MayResume making.number going)
           (let calls = rebuilt.calls told_mid (reduce.task_of s) rebuilt.names in
           let credit = rebuilt.credit in
           omega (arith, calls, credit));
+      points = cut_points tells world old mid files_are rebuilt.content;
       faults = rebuilt.faults;
     }
 

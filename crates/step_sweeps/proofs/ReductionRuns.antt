@@ -1,5 +1,5 @@
 -- The reduction of a step's arcs by a sweep: what it makes and takes, whether its start or a turn was refused, or it ended.
-use Rattle.std.proofs.Common.{◌≡◌, ◌⊎◌, ◌∙◌, ℕ, ◌+◌, ◌-◌, ◌*◌, ◌^◌, ◌<◌, ◌≤◌, Bool, IsTrue, refl, ap, sym, subst, inl, inr, mul-le-mul_right, arith}
+use Rattle.std.proofs.Common.{◌≡◌, ◌⊎◌, ◌∙◌, ℕ, ◌+◌, ◌-◌, ◌*◌, ◌/◌, ◌^◌, ◌<◌, ◌≤◌, Bool, IsTrue, refl, ap, sym, subst, inl, inr, mul-le-mul_right, arith}
 use Rattle.std.specs.Prelude.{min, max, Ok, Err, IsErrOf, length}
 use Rattle.std.proofs.lemmas.Bool.{cases_lt}
 use Rattle.shelf_model.specs.declared.file_no.FileNo.{FileNo}
@@ -18,8 +18,10 @@ use Rattle.run_tiers.specs.declared.parts.Parts.{Parts}
 use Rattle.run_tiers.specs.Faults.{OnlySortShelf}
 use Rattle.run_tiers.specs.Parts.{Paid}
 use Rattle.step_going.specs.Standing.{AreSafe}
+use Rattle.step_going.proofs.Shown.{quiet_stops, stops_join, stops_more}
 use Rattle.sweep_checkpoint.specs.Going.{IsOfGoing, IsLeftAlone, IsAsBefore, GoesOn, AreSure, TakesParts, TakesCalls, IsPaidTo, interval_of, first_owed}
 use Rattle.sweep_checkpoint.specs.declared.going.Going.{Going}
+use Rattle.sweep_checkpoint.specs.Stops.{StopsCost, stop_calls}
 use Rattle.sweep_core.specs.Sweeps.{IsNoDamage}
 use Rattle.node_file.specs.Canonical.{IsMade}
 use Rattle.arc_file.specs.declared.kind.Kind.TheVariants.{Inner, End}
@@ -38,12 +40,15 @@ use Rattle.step_sweeps.specs.declared.arcs.MadeArcs.{MadeArcs}
 use Rattle.step_sweeps.specs.declared.diagram.MadeDiagram.{MadeDiagram}
 use Rattle.step_sweeps.specs.declared.task.Making.{Making}
 use Rattle.step_sweeps.specs.Given.{Tables}
+use Rattle.step_sweeps.specs.Kinds.{reduce_kind}
 use Rattle.step_sweeps.specs.Made.{node_file, OnlyStep, HasArcFiles}
 use Rattle.step_sweeps.specs.Makes.{goes_on_by, table_by, work_for}
+use Rattle.step_sweeps.specs.Stops.{shown_by, sweep_stop}
 use Rattle.step_sweeps.specs.Sweeping.{AreReducible, MayReduce, Reduces, Takes, IsCovered, calls_of}
-use Rattle.step_sweeps.proofs.ArcsReduced.{safe_meanwhile}
+use Rattle.step_sweeps.proofs.ArcsReduced.{has_shows, points_meanwhile, safe_meanwhile}
 use Rattle.step_sweeps.proofs.Costs.{few_saves, spent_turns}
 use Rattle.step_sweeps.proofs.Running.{file_stays}
+use Rattle.step_sweeps.proofs.Stops.{RunStops, run_stops, still_shows}
 use Rattle.step_sweeps.proofs.SweptReduction.{HasBegun, job_for, reduced_safe, few_left, cut_only}
 
 -- what so many turns at most and saves took, where no more turns were left than eight for each source, and eight
@@ -66,6 +71,14 @@ sums sources left shown turns interval saves next from first owed stock later_st
       omega (arith, bound, begun, calls),
     )
 
+-- what beginning it took, and what a stop may cost from then on
+swept_few : (credit next parts first owed stock since old mid : ℕ) → next ≡ parts → first ≡ owed → stock ≡ 0
+    → mid + credit ≤ old + 0 + 3
+    → mid + (credit + ((next - first) + stock / 256) + 224 * since + 2 ^ 17)
+    ≤ old + ((parts - owed) + 224 * since + 2 ^ 17 + 2 ^ 10)
+swept_few credit next parts first owed stock since old mid same first_is none calls =
+    omega (arith, same, first_is, none, calls)
+
 -- the file that was cut is the step's node file
 pub cut_here : {S : Type 0} (tells : S → Bool) (world : S → World) (number : ℕ) (out : FileNo) (old mid : S)
     → out ≡ node_file number
@@ -84,6 +97,7 @@ pub record HasRun {S : Type 0} (tells : S → Bool) (world : S → World) (makin
       × TakesParts reduce.accounts (reduce.turns_left s + 1) saves s t
       × TakesCalls reduce.accounts (reduce.turns_left s + 1) saves (first_owed going.last s.parts.next)
       (world mid) (world new) s t
+  pub stops : IsTrue (tells new) → RunStops reduce_kind (record going { sweep = 1 }) s (world mid) (world new)
   pub images : IsTrue (tells new) → (d : sweep.Diagram) → sweep.RemainsOf s (world mid) d
       → AreSure (IsOperand (reduce.task_of s)) going.step (now (world mid)).folder
       → IsPaidTo reduce.accounts (record going { sweep = 1 }) s
@@ -100,7 +114,7 @@ module _ {S : Type 0} (tells : S → Bool) (world : S → World) (counts : S →
       → (IsTrue (tells new) → AreOrdered m.arcs (world old) → IsNoDamage e)
       → Told tells old new (Ran (DuringCut (node_file making.number) 0 (now (world old))) (world old) (world new))
       → OnlySortShelf {T = MadeDiagram} (counts old) (counts new) (Err e)
-      → Reduces tells world counts making m going 8 old new (Err e)
+      → Reduces tells world counts making m going 8 (sweep_stop going m.parts.next) old new (Err e)
   not_begun old new e other calls undamaged content faults = record {
     made = tt;
     spent = λ was. absurd (let same : e ≡ RunsSpent = cc in other same);
@@ -118,6 +132,10 @@ module _ {S : Type 0} (tells : S → Bool) (world : S → World) (counts : S →
           record { saves = 0; parts = 0; few_saves = omega arith; few_parts = omega arith },
           omega (arith, few),
         );
+    stops = λ told g are within less.
+        let few = calls told in
+        quiet_stops making.number (shown_by are.has.last) _ (world old) (world new) (has_shows making m going.budget (world old) g are.has)
+        (points_meanwhile making (world old) (world new) (cut_only making (world old) (world new) (content.did told))) (omega (arith, few));
     faults = faults;
   }
 
@@ -177,6 +195,30 @@ module _ {S : Type 0} (tells : S → Bool) (world : S → World) (counts : S →
           (reduce.stock_of t) (work_for making g) may.paid.shown (omega (arith, paid, same, none))
           (few_saves (interval_of going.budget) its.0 going.shown _ may.paid.interval its.1) its.2.spent
           (few_left tells world making m going s old mid files may begun told_mid g are) spent
+
+      -- what a stop costs
+      its_stops : work_for making g < 2 ^ 61 → shown_by are.has.last ≤ going.shown
+          → StopsCost making.number (shown_by are.has.last) ((world old).clock + sweep_stop going m.parts.next)
+          (world old) (world new)
+      its_stops within less =
+          let shown : ℕ = shown_by are.has.last in
+          let all : ℕ = (world old).clock + sweep_stop going m.parts.next in
+          let points = points_meanwhile making (world old) (world mid)
+          (cut_only making (world old) (world mid) (begun.content.did told_mid)) in
+          let sure = has_shows making m going.budget (world old) g are.has in
+          let begins = credit told_mid in
+          let left = few_left tells world making m going s old mid files may begun told_mid g are in
+          stops_join making.number shown all (world old) (world mid) (world new) (run.changes.did told_new).moments.past
+          (quiet_stops making.number shown all (world old) (world mid) sure points (omega (arith, begins)))
+          (stops_more making.number shown
+          ((world mid).clock + stop_calls reduce_kind.accounts (record going { sweep = 1 }) s) all (world mid) (world new)
+          (swept_few (reduce.credit_of s) s.parts.next m.parts.next (first_owed going.last s.parts.next)
+          (first_owed going.last m.parts.next) (reduce.stock_of s) (interval_of going.budget - (going.turns - going.shown))
+          (world old).clock (world mid).clock next_is (ap (first_owed going.last) next_is) stock begins)
+          (run_stops reduce_kind making.number shown (record going { sweep = 1 }) s
+          (job_for tells world making m going s old mid files may begun g are.has) (world mid) (world new) may.step_is
+          (still_shows making.number shown (world old) (world mid) sure points) less may.paid.interval may.paid.shown
+          remains (omega (arith, left, within)) (run.stops told_new)))
 
       its_images : Throughout (world old) (world new)
           (λ (x : Moment). AreSafe (goes_on_by making going.budget g) making.number x.folder)
@@ -240,7 +282,7 @@ module _ {S : Type 0} (tells : S → Bool) (world : S → World) (counts : S →
     pub run_refused : (e : SortFault) → (IsErrOf {T = MadeDiagram} (Err e) RunsSpent → 2 ^ 32 ≤ t.parts.next)
         → (IsTrue (tells new) → AreOrdered m.arcs (world old) → IsCovered making.number (world old) → IsNoDamage e)
         → OnlySortShelf {T = MadeDiagram} (counts old) (counts new) (Err e)
-        → Reduces tells world counts making m going 8 old new (Err e)
+        → Reduces tells world counts making m going 8 (sweep_stop going m.parts.next) old new (Err e)
     run_refused e spent undamaged faults = record {
       made = tt;
       spent = λ was told g are. its_work told g are (spent was);
@@ -251,6 +293,7 @@ module _ {S : Type 0} (tells : S → Bool) (world : S → World) (counts : S →
       taken = tt;
       calls = tt;
       few_calls = its_calls;
+      stops = its_stops;
       faults = faults;
     }
 
@@ -271,7 +314,7 @@ module _ {S : Type 0} (tells : S → Bool) (world : S → World) (counts : S →
         → sweep.RemainsOf s (world mid) (job_for tells world making m going s old mid files may begun g are.has)
         → IsMade making.n (table_by making g) (node_file making.number) d.nodes (world new))
         → OnlySortShelf {T = MadeDiagram} (counts old) (counts new) (Ok d)
-        → Reduces tells world counts making m going 8 old new (Ok d)
+        → Reduces tells world counts making m going 8 (sweep_stop going m.parts.next) old new (Ok d)
     run_ended later d turns_are next_is_d made late more paid counted few nodes faults = record {
       made = λ told g are.
           let turns = few told (job_for tells world making m going s old mid files may begun g are.has)
@@ -331,5 +374,6 @@ module _ {S : Type 0} (tells : S → Bool) (world : S → World) (counts : S →
                 omega (arith, first, calls, owed, same, turns_are),
           );
       few_calls = its_calls;
+      stops = its_stops;
       faults = faults;
     }

@@ -1,5 +1,5 @@
 -- A step that makes a diagram by sweeps: its arcs are made, or refused, and then reduced.
-use Rattle.std.proofs.Common.{◌≡◌, ℕ, ◌*◌, ◌≤◌, Bool, IsTrue, List, ap, sym, subst, arith}
+use Rattle.std.proofs.Common.{◌≡◌, ℕ, ◌+◌, ◌-◌, ◌*◌, ◌^◌, ◌<◌, ◌≤◌, Bool, IsTrue, List, refl, ap, sym, subst, arith}
 use Rattle.std.specs.Prelude.{None, Result, Ok, Err, IsErrOf, IsErrAnd}
 use Rattle.shelf_model.specs.declared.sort_fault.SortFault.{SortFault}
 use Rattle.shelf_model.specs.declared.sort_fault.SortFault.TheVariants.{RunsSpent}
@@ -12,23 +12,30 @@ use Rattle.shelf_model.proofs.Runs.{joins}
 use Rattle.run_tiers.specs.Faults.{OnlySortShelf}
 use Rattle.run_tiers.proofs.FaultLaws.{sort_shelf_then}
 use Rattle.step_going.specs.Standing.{AreSafe, IsStanding}
-use Rattle.sweep_checkpoint.specs.Going.{first_owed}
+use Rattle.sweep_checkpoint.specs.Going.{first_owed, interval_of}
+use Rattle.sweep_checkpoint.specs.Stops.{StopsCost}
+use Rattle.step_going.proofs.Shown.{stops_join, stops_more}
 use Rattle.sweep_checkpoint.specs.declared.going.Going.{Going}
 use Rattle.sweep_core.specs.Saving.{reads_of}
 use Rattle.resumable.specs.Diagrams.{diagram_rests}
 use Rattle.top_down_sweep.specs.Ordered.{AreOrdered}
 use Rattle.top_down_sweep.specs.Tasks.{AreArcFiles}
+use Rattle.sweep_checkpoint.specs.Stops.{StopsCost}
+use Rattle.step_going.proofs.Shown.{stops_more}
+use Rattle.step_sweeps.specs.Stops.{shown_by, sweeps_stop}
 use Rattle.step_sweeps.specs.declared.arcs.MadeArcs.{MadeArcs}
 use Rattle.step_sweeps.specs.declared.diagram.MadeDiagram.{MadeDiagram}
 use Rattle.step_sweeps.specs.declared.task.Making.{Making}
 use Rattle.step_sweeps.specs.Given.{Tables, tuples_by}
 use Rattle.step_sweeps.specs.Going.{next_of, rest_calls}
-use Rattle.step_sweeps.specs.Makes.{IsGivenFor, goes_on_by, table_by, operand_nodes}
+use Rattle.step_sweeps.specs.Makes.{IsGivenFor, goes_on_by, table_by, work_for, operand_nodes}
 use Rattle.step_sweeps.specs.Sweeping.{MakesArcs, AreReducible, Reduces, Sweeps, IsEarly, MaySweep, most_turns, owed_parts}
+use Rattle.step_sweeps.specs.Stops.{shown_by, reduce_stop, sweeps_stop}
 use Rattle.step_sweeps.specs.Ways.{IsGivenAnew, MakesAnew, left_by_sweeps}
 use Rattle.step_sweeps.proofs.Faults.{no_damage}
 use Rattle.step_sweeps.proofs.Running.{ok_more, ok_both, err_more}
 use Rattle.step_sweeps.proofs.StepStands.{points_there}
+use Rattle.step_sweeps.proofs.Stops.{both_few, come_shown, said_few, stops_from}
 use Rattle.step_sweeps.proofs.SweptSums.{first_paid, both_paid, both_made, most_within}
 
 -- the arcs of a table's diagram are in the order of their files
@@ -64,6 +71,8 @@ module _ {S : Type 0} (tells : S → Bool) (world : S → World) (counts : S →
           (rest_calls old.last (operand_nodes making (reads_of (world before)))) _ _ few.0.takes
           (omega (arith, within)) few.2;
       images = first.images;
+      stops = λ told g given within. stops_more making.number (shown_by old.last) _ _ (world before) (world after)
+          (omega arith) (first.stops told g given within);
       damaged = first.damaged;
       content = first.content;
       counted = tt;
@@ -78,9 +87,10 @@ module _ {S : Type 0} (tells : S → Bool) (world : S → World) (counts : S →
     module _ (at : S) (m : MadeArcs) (may : MaySweep making.number old) (early : IsEarly tells world making old before)
         (first : MakesArcs tells world counts making old mid before at (Ok m)) where
       -- of the step's tables they are such as can be
-      reducible : IsTrue (tells at) → (g : Tables) → IsGivenFor making old (world before) g
+      reducible : (told : IsTrue (tells at)) (g : Tables) (given : IsGivenFor making old (world before) g)
           → (are : AreReducible making mid g 10 m (world at))
           × (are.has.sources ≤ tuples_by making.operation making.n g)
+          × (are.has.last ≡ (first.made told g given).has.last)
       reducible told g given =
           let made = first.made told g given in
           let few = made.few in
@@ -101,12 +111,48 @@ module _ {S : Type 0} (tells : S → Bool) (world : S → World) (counts : S →
               few = omega (arith, few, sources, within);
             },
             sources,
+            refl,
           )
+
+      -- what a stop costs, of both sweeps
+      both_stops : (after : S) (r : Result MadeDiagram SortFault)
+          → Reduces tells world counts making m mid 10 (reduce_stop mid m.parts.next) at after r
+          → IsTrue (tells after) → (g : Tables) → IsGivenFor making old (world before) g → work_for making g < 2 ^ 61
+          → StopsCost making.number (shown_by old.last) ((world before).clock
+          + (sweeps_stop + rest_calls old.last (operand_nodes making (reads_of (world before)))))
+          (world before) (world after)
+      both_stops after r second told g given within =
+          let began = second.content.before told in
+          let are = reducible began g given in
+          let made = first.made began g given in
+          let rest : ℕ = rest_calls old.last (operand_nodes making (reads_of (world before))) in
+          let all : ℕ = (world before).clock + (sweeps_stop + rest) in
+          let stop : ℕ = (world at).clock + reduce_stop mid m.parts.next in
+          let most = most_within making old g old.last (early (first.content.before began) g given.given) in
+          let few = made.few in
+          let turns : mid.turns < 2 ^ 61 = omega (arith, few, most, within) in
+          let calls = first.calls (omega (arith, turns)) in
+          let shown_is = may.shown_is in
+          let before_shown : shown_by old.last ≤ old.shown = come_shown making.number old may in
+          let said = said_few old mid made.has.last before_shown calls.0 made.said in
+          stops_join making.number (shown_by old.last) all (world before) (world at) (world after)
+          (second.content.did told).moments.past
+          (stops_more making.number (shown_by old.last) _ all (world before) (world at) (omega arith)
+          (first.stops began g given within))
+          (stops_from making.number (shown_by old.last) (shown_by made.has.last) stop all (world at) (world after)
+          (let less = said.0 in omega (arith, less))
+          (both_few (shown_by old.last) (shown_by made.has.last) old.turns mid.turns old.shown mid.shown
+          (owed_parts old.last) m.parts.next (first_owed mid.last m.parts.next) (interval_of mid.budget) rest
+          (world before).clock (world at).clock calls.1 shown_is calls.0 first.paid.shown
+          (subst (λ b. mid.turns - mid.shown ≤ interval_of b) (sym first.going.budget_is) (first.recent turns))
+          (omega arith) said.0 calls.2 (calls.3 began))
+          (subst (λ last. StopsCost making.number (shown_by last) stop (world at) (world after)) are.2
+          (second.stops told g are.0 within (subst (λ last. shown_by last ≤ mid.shown) (sym are.2) said.1))))
 
       -- and so the step's diagram is made, or that is refused
       pub reduced_then : (after : S) (r : Result MadeDiagram SortFault)
           → (IsTrue (tells at) → AreFiles (now (world at)).folder)
-          → Reduces tells world counts making m mid 10 at after r
+          → Reduces tells world counts making m mid 10 (reduce_stop mid m.parts.next) at after r
           → Sweeps tells world counts making old before after r
       reduced_then after r files_are second =
           let began : IsTrue (tells after) → IsTrue (tells at) = λ told. second.content.before told in
@@ -145,6 +191,7 @@ module _ {S : Type 0} (tells : S → Bool) (world : S → World) (counts : S →
                 (subst (λ b. Throughout (world at) (world after)
                 (λ (m : Moment). AreSafe (goes_on_by making b g) making.number m.folder)) first.going.budget_is
                 (second.images told g (reducible (began told) g given).0));
+            stops = both_stops after r second;
             damaged = err_more r _ _ (λ e none told anew no_gate.
                 let are = first.ordered (began told) anew no_gate in
                 no_damage making.n making.operands (world before) e (none told are.0 are.1)) second.undamaged;
@@ -170,7 +217,7 @@ module _ {S : Type 0} (tells : S → Bool) (world : S → World) (counts : S →
   -- a step that began with the sweeps, where turns were made before
   pub swept_anew : (going : Going) (before after : S) (r : Result MadeDiagram SortFault) → going.last ≡ None
       → Sweeps tells world counts making going before after r
-      → MakesAnew tells world counts making going.budget going.turns (left_by_sweeps making) 11 before after r
+      → MakesAnew tells world counts making going.budget going.turns (left_by_sweeps making) 11 sweeps_stop before after r
   swept_anew going before after r anew sweeps =
       let given_for : (g : Tables) → IsGivenAnew making (world before) g → IsGivenFor making going (world before) g =
       λ g given. record {
@@ -205,5 +252,12 @@ module _ {S : Type 0} (tells : S → Bool) (world : S → World) (counts : S →
             let made = calls told below in
             let rest = none nodes in
             omega (arith, made, rest)) sweeps.calls;
+        stops = λ told g given work.
+            let rest = none nodes in
+            let shown : shown_by going.last ≡ 0 = ap shown_by anew in
+            stops_more making.number 0 ((world before).clock + (sweeps_stop + rest_calls going.last nodes))
+            ((world before).clock + sweeps_stop) (world before) (world after) (omega (arith, rest))
+            (subst (λ k. StopsCost making.number k ((world before).clock + (sweeps_stop + rest_calls going.last nodes))
+            (world before) (world after)) shown (sweeps.stops told g (given_for g given) work));
         faults = sweeps.faults;
       }

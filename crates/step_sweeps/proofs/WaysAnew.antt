@@ -41,7 +41,9 @@ use Rattle.step_sweeps.specs.Given.{Tables}
 use Rattle.step_sweeps.specs.Made.{node_file, OnlyStep}
 use Rattle.step_sweeps.specs.Makes.{IsGiven, HasNoGate, table_by, nodes_for, work_for, goes_on_by}
 use Rattle.step_sweeps.specs.Ways.{IsGivenAnew, MakesAtOnce, MakesAnew}
+use Rattle.step_going.proofs.Shown.{stops_more, stops_join}
 use Rattle.step_sweeps.proofs.Faults.{no_damage}
+use Rattle.step_sweeps.proofs.StopsAnew.{stops_anew}
 use Rattle.step_sweeps.proofs.Running.{gate_apart, ok_more, ok_both, err_more}
 
 -- damage of a file that is as it was
@@ -147,10 +149,10 @@ module _ {S : Type 0} (tells : S → Bool) (world : S → World) (counts : S →
       → m ≡ record { nodes = count; turns = count + 1; next = 3 }
       → (IsTrue (tells new) → (g : Tables) → IsGiven making (world old) g
       → IsMade making.n (table_by making g) (node_file making.number) count (world new) × (count ≤ nodes_for making g))
-      → Told tells old new (Changed (2 * count + 4) (node_file making.number) (world old) (world new))
+      → count < 65536 → Told tells old new (Changed (2 * count + 4) (node_file making.number) (world old) (world new))
       → OnlySortShelf {T = MadeDiagram} (counts old) (counts new) (Ok m)
       → MakesAtOnce tells world counts making old new (Ok m)
-  made_at_once count m old new is made content faults =
+  made_at_once count m old new is made small content faults =
       let nodes : m.nodes ≡ count = ap (λ (x : MadeDiagram). x.nodes) is in
       let turns_are : m.turns ≡ count + 1 = ap (λ (x : MadeDiagram). x.turns) is in
       let next : m.next ≡ 3 = ap (λ (x : MadeDiagram). x.next) is in
@@ -180,18 +182,19 @@ module _ {S : Type 0} (tells : S → Bool) (world : S → World) (counts : S →
         };
         few_anew = omega (arith, next);
         calls = λ told below. let calls = (content.did told).few in omega (arith, calls, turns_are);
+        short = λ told. let calls = (content.did told).few in omega (arith, calls, small);
         faults = faults;
       }
 
   -- the folder failed while it was made
   pub failed_at_once : (count : ℕ) (old new : S) (r : Result MadeDiagram SortFault)
-      → IsErrAnd r (λ x. IsTrue (tells new) → x ≡ Shelf)
+      → IsErrAnd r (λ x. IsTrue (tells new) → x ≡ Shelf) → count < 65536
       → Told tells old new (Changed (2 * count + 4) (node_file making.number) (world old) (world new))
       → (IsTrue (tells old) → (g : Tables) → IsGiven making (world old) g → count ≤ nodes_for making g)
       → OnlySortShelf (counts old) (counts new) r
       → MakesAtOnce tells world counts making old new r
-  failed_at_once count old new (Ok x) is content few faults = absurd is
-  failed_at_once count old new (Err x) is content few faults = record {
+  failed_at_once count old new (Ok x) is small content few faults = absurd is
+  failed_at_once count old new (Err x) is small content few faults = record {
     made = tt;
     cause = λ told. (
       subst IsNoDamage (sym (is told)) tt,
@@ -205,14 +208,15 @@ module _ {S : Type 0} (tells : S → Bool) (world : S → World) (counts : S →
     counted = tt;
     few_anew = tt;
     calls = tt;
+    short = λ told. let calls = (content.did told).few in omega (arith, calls, small);
     faults = faults;
   }
 
   module _ (budget : ℕ) where
     -- what is made at once is made anew
-    pub at_once_anew : (old new : S) (r : Result MadeDiagram SortFault) → MakesAtOnce tells world counts making old new r
-        → MakesAnew tells world counts making budget 0 (λ g. 0) 7 old new r
-    at_once_anew old new (Ok m) makes = record {
+    pub at_once_anew : (stop : ℕ) (old new : S) (r : Result MadeDiagram SortFault) → 2 ^ 18 ≤ stop
+        → MakesAtOnce tells world counts making old new r → MakesAnew tells world counts making budget 0 (λ g. 0) 7 stop old new r
+    at_once_anew stop old new (Ok m) more makes = record {
       made = λ told g is. makes.made told g is.given;
       undamaged = tt;
       spent = λ was. absurd (cc);
@@ -223,9 +227,11 @@ module _ {S : Type 0} (tells : S → Bool) (world : S → World) (counts : S →
       counted = (omega arith, makes.counted);
       few_anew = makes.few_anew;
       calls = λ told below. let calls = makes.calls told below in omega (arith, calls);
+      stops = λ told g is work. stops_anew making.number ((world old).clock + stop) (world old) (world new) is.none
+          (makes.content.did told) (let short = makes.short told in omega (arith, short, more));
       faults = makes.faults;
     }
-    at_once_anew old new (Err e) makes = record {
+    at_once_anew stop old new (Err e) more makes = record {
       made = tt;
       undamaged = λ told g is. (makes.cause told).0;
       spent = λ was told g is. absurd (let same : e ≡ RunsSpent = cc in (makes.cause told).1 same);
@@ -236,19 +242,22 @@ module _ {S : Type 0} (tells : S → Bool) (world : S → World) (counts : S →
       counted = tt;
       few_anew = tt;
       calls = tt;
+      stops = λ told g is work. stops_anew making.number ((world old).clock + stop) (world old) (world new) is.none
+          (makes.content.did told) (let short = makes.short told in omega (arith, short, more));
       faults = makes.faults;
     }
 
     -- the folder failed while the node file was made
-    pub failed : (first : ℕ) (left : Tables → ℕ) (some : ℕ) (old new : S) (r : Result MadeDiagram SortFault)
+    pub failed : (first : ℕ) (left : Tables → ℕ) (some stop : ℕ) (old new : S) (r : Result MadeDiagram SortFault)
         → IsErrAnd r (λ x. IsTrue (tells new) → x ≡ Shelf)
         → (IsTrue (tells new) → (g : Tables) → IsGiven making (world old) g
         → (world new).clock + 229 * left g ≤ (world old).clock + (229 * work_for making g + some))
+        → (IsTrue (tells new) → (world new).clock ≤ (world old).clock + stop)
         → Told tells old new (Ran (OnlyChanged (λ q. q ≡ node_file making.number) (now (world old))) (world old) (world new))
         → OnlySortShelf (counts old) (counts new) r
-        → MakesAnew tells world counts making budget first left some old new r
-    failed first left some old new (Ok x) is few content faults = absurd is
-    failed first left some old new (Err x) is few content faults = record {
+        → MakesAnew tells world counts making budget first left some stop old new r
+    failed first left some stop old new (Ok x) is few short content faults = absurd is
+    failed first left some stop old new (Err x) is few short content faults = record {
       made = tt;
       undamaged = λ told g given. subst IsNoDamage (sym (is told)) tt;
       spent = λ was told. absurd
@@ -260,18 +269,21 @@ module _ {S : Type 0} (tells : S → Bool) (world : S → World) (counts : S →
       counted = tt;
       few_anew = tt;
       calls = tt;
+      stops = λ told g given work. stops_anew making.number ((world old).clock + stop) (world old) (world new) given.none
+          (content.did told) (short told);
       faults = faults;
     }
 
     -- what is made after a look, which counts as turns that were made before
-    pub after_look : (looked first counted : ℕ) (left later : Tables → ℕ) (some more : ℕ) (old mid new : S)
+    pub after_look : (looked first counted : ℕ) (left later : Tables → ℕ) (some more stop within : ℕ) (old mid new : S)
         (r : Result MadeDiagram SortFault) → first ≤ counted
+        → (IsTrue (tells mid) → (world mid).clock + within ≤ (world old).clock + stop)
         → (IsTrue (tells old) → Pays making (world old) looked first counted left later some more)
         → Told tells old mid (Looked looked (world old) (world mid))
         → OnlySortShelf {T = Unit} (counts old) (counts mid) (Ok tt)
-        → MakesAnew tells world counts making budget counted later more mid new r
-        → MakesAnew tells world counts making budget first left some old new r
-    after_look looked first counted left later some more old mid new r counts_on pays look calm makes =
+        → MakesAnew tells world counts making budget counted later more within mid new r
+        → MakesAnew tells world counts making budget first left some stop old new r
+    after_look looked first counted left later some more stop within old mid new r counts_on soon pays look calm makes =
         let looked_at : IsTrue (tells new) → Looked looked (world old) (world mid) =
         λ told. look.did (makes.content.before told) in
         let paid : IsTrue (tells new) → Pays making (world old) looked first counted left later some more =
@@ -312,17 +324,26 @@ module _ {S : Type 0} (tells : S → Bool) (world : S → World) (counts : S →
               let then_calls = calls told below in
               let pay = (paid told).calls (omega (arith, within, below)) in
               omega (arith, first_calls, then_calls, pay)) makes.counted makes.calls;
+          stops = λ told g given work.
+              let most : ℕ = (world old).clock + stop in
+              let told_mid = makes.content.before told in
+              let less = soon told_mid in
+              stops_join making.number 0 most (world old) (world mid) (world new) (makes.content.did told).moments.past
+              (stops_anew making.number most (world old) (world mid) given.none
+              (looked_changed making.number looked (world old) (world mid) (looked_at told)) (omega (arith, less)))
+              (stops_more making.number 0 ((world mid).clock + within) most (world mid) (world new) less
+              (makes.stops told g (still_given making looked (world old) (world mid) g (looked_at told) given) work));
           faults = sort_shelf_then _ _ _ (Ok tt) r calm makes.faults;
         }
 
     -- what leaves more of the work, and makes no more calls
-    pub with_less : (first : ℕ) (left later : Tables → ℕ) (some more : ℕ) (old new : S) (r : Result MadeDiagram SortFault)
-        → ((g : Tables) → left g ≤ later g) → more ≤ some
-        → MakesAnew tells world counts making budget first later more old new r
-        → MakesAnew tells world counts making budget first left some old new r
-    with_less first left later some more old new r less few makes =
-        after_look 0 first first left later some more old old new r
-        (omega arith)
+    pub with_less : (first : ℕ) (left later : Tables → ℕ) (some more stop within : ℕ) (old new : S)
+        (r : Result MadeDiagram SortFault) → ((g : Tables) → left g ≤ later g) → more ≤ some → within ≤ stop
+        → MakesAnew tells world counts making budget first later more within old new r
+        → MakesAnew tells world counts making budget first left some stop old new r
+    with_less first left later some more stop within old new r less few soon makes =
+        after_look 0 first first left later some more stop within old old new r
+        (omega arith) (λ told. omega (arith, soon))
         (λ told. record {
           turns = λ g _. let fewer = less g in omega (arith, fewer);
           few_calls = λ g _. let fewer = less g in omega (arith, fewer, few);
@@ -336,16 +357,16 @@ module _ {S : Type 0} (tells : S → Bool) (world : S → World) (counts : S →
         makes
 
     -- the operands' trailers weren't read
-    pub look_refused : (old new : S) (e : StreamFault) (r : Result MadeDiagram SortFault)
+    pub look_refused : (stop : ℕ) (old new : S) (e : StreamFault) (r : Result MadeDiagram SortFault) → 4 ≤ stop
         → IsErrAnd r (λ x. x ≡ handed_on e)
         → (IsTrue (tells new) → (t u : List Bool)
         → ArePair making.n making.operands.first making.operands.second t u (world old) → e ≡ stream.Shelf)
         → (IsTrue (tells new) → IsPairDamage making.n making.operands.first making.operands.second (world old) e)
         → Told tells old new (Looked 4 (world old) (world new))
         → OnlySortShelf (counts old) (counts new) r
-        → MakesAnew tells world counts making budget 0 (λ g. 0) 11 old new r
-    look_refused old new e (Ok x) is sound damaged look faults = absurd is
-    look_refused old new e (Err x) is sound damaged look faults = record {
+        → MakesAnew tells world counts making budget 0 (λ g. 0) 11 stop old new r
+    look_refused stop old new e (Ok x) some is sound damaged look faults = absurd is
+    look_refused stop old new e (Err x) some is sound damaged look faults = record {
       made = tt;
       undamaged = λ told g given. subst IsNoDamage (sym is) (none_damaged e
           (sound told g.first g.second (record { first = given.given.first; second = given.given.second })));
@@ -359,6 +380,9 @@ module _ {S : Type 0} (tells : S → Bool) (world : S → World) (counts : S →
       counted = tt;
       few_anew = tt;
       calls = tt;
+      stops = λ told g given work. stops_anew making.number ((world old).clock + stop) (world old) (world new) given.none
+          (looked_changed making.number 4 (world old) (world new) (look.did told))
+          (let few = (look.did told).few in omega (arith, few, some));
       faults = faults;
     }
       where

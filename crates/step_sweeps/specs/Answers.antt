@@ -18,6 +18,7 @@ use Rattle.run_tiers.specs.Faults.{OnlySortShelf}
 use Rattle.run_tiers.specs.Syncs.{IsFirm}
 use Rattle.step_going.specs.Standing.{AreSafe, IsStanding}
 use Rattle.step_work.specs.Works.{work_for}
+use Rattle.sweep_checkpoint.specs.Stops.{StopsCost}
 use Rattle.sweep_checkpoint.specs.declared.going.Going.{Going}
 use Rattle.sweep_core.specs.declared.checkpoint.Checkpoint.{Checkpoint}
 use Rattle.sweep_core.specs.Saving.{reads_of}
@@ -27,6 +28,7 @@ use Rattle.resumable.specs.Answers.{ComparisonGoesOn, EvaluationGoesOn, Implicat
 use Rattle.resumable.specs.Answers.{comparison_rests, evaluation_rests, implication_rests}
 use Rattle.step_sweeps.specs.declared.answers.Answered.{Answered}
 use Rattle.step_sweeps.specs.Going.{next_of, rest_calls}
+use Rattle.step_sweeps.specs.Stops.{shown_by, step_stop}
 use Rattle.step_sweeps.specs.Made.{IsAnswer, IsCounted, FewAnew}
 use Rattle.step_sweeps.specs.Damage.{IsReadFault, IsImplicationFault, MissesNone, MissesNamed}
 
@@ -137,4 +139,9 @@ pub record Answers {S Given : Type 0} (tells : S → Bool) (world : S → World)
   pub calls : IfOk result (λ a. IsTrue (tells after) → a.turns < 2 ^ 64 - 1 → (world after).clock
       ≤ (world before).clock + (229 * (a.turns - going.turns) + q.some
       + rest_calls going.last (q.nodes (reads_of (world before)))))
+  pub grew : IfOk result (λ a. going.turns ≤ a.turns)
+  -- what a stop costs at any moment
+  pub stops : IsTrue (tells after) → (g : Given) → IsAsked q going (world before) g → q.work g < 2 ^ 61
+      → StopsCost going.step (shown_by going.last) ((world before).clock
+      + (step_stop + rest_calls going.last (q.nodes (reads_of (world before))))) (world before) (world after)
   pub faults : OnlySortShelf (counts before) (counts after) result

@@ -5,11 +5,14 @@ use Rattle.shelf_model.specs.declared.fault.StreamFault.{StreamFault}
 use Rattle.shelf_model.specs.declared.fault.StreamFault.TheVariants.{Shelf}
 use Rattle.shelf_model.specs.Calls.{Told}
 use Rattle.shelf_model.specs.Faults.{Faults, OnlyShelf}
+use Rattle.shelf_model.specs.Folder.{Image, bytes_in, IsImage}
 use Rattle.shelf_model.specs.Moments.{Ran, Throughout, OnlyChanged}
 use Rattle.shelf_model.specs.World.{Moment, World, now}
 use Rattle.file_numbers.specs.Files.{checkpoint_file, checkpoint_gate}
 use Rattle.node_file.specs.Canonical.{IsMade}
 use Rattle.step_going.specs.Standing.{AreSafe, IsStanding}
+use Rattle.sweep_checkpoint.specs.Saves.{IsGateSure}
+use Rattle.sweep_checkpoint.specs.Stops.{shown_turns, ShowsAsBefore}
 use Rattle.sweep_checkpoint.specs.declared.going.Going.{Going}
 use Rattle.sweep_core.specs.declared.checkpoint.Checkpoint.{Checkpoint}
 use Rattle.resumable.specs.Diagrams.{diagram_rests}
@@ -50,4 +53,9 @@ pub record KeepsMade {S : Type 0} (tells : S → Bool) (world : S → World) (co
   pub content : Told tells before after
       (Ran (OnlyChanged (IsOfPoints making.number) (now (world before))) (world before) (world after))
   pub calls : IsTrue (tells after) → (world after).clock ≤ (world before).clock + 14
+  -- where the gate is sure a stop leaves as many turns shown as before, or all of the step but the last
+  pub shows : IsTrue (tells after) → IsGateSure making.number (now (world before)).folder
+      → Throughout (world before) (world after) (λ (m : Moment). (image : Image) → IsImage m.folder image
+      → ShowsAsBefore making.number (now (world before)).folder (bytes_in image)
+      ⊎ (shown_turns making.number (bytes_in image) ≡ going.turns - 1))
   pub faults : OnlyShelf (counts before) (counts after) result

@@ -2,6 +2,7 @@ pub use Rattle.top_down_sweep.specs.Operations
 pub mod Given
 pub mod Made
 pub mod Going
+pub mod Stops
 pub mod Makes
 pub mod Ways
 pub mod Kinds

@@ -12,6 +12,7 @@ use Rattle.file_numbers.specs.Files.{checkpoint_gate}
 use Rattle.run_tiers.specs.Faults.{OnlySortShelf}
 use Rattle.run_tiers.specs.Syncs.{IsFirm}
 use Rattle.step_going.specs.Standing.{AreSafe, IsStanding}
+use Rattle.sweep_checkpoint.specs.Stops.{StopsCost}
 use Rattle.sweep_checkpoint.specs.declared.going.Going.{Going}
 use Rattle.sweep_core.specs.Saving.{reads_of}
 use Rattle.sweep_core.specs.Sweeps.{IsNoDamage}
@@ -23,6 +24,7 @@ use Rattle.step_sweeps.specs.declared.task.Making.{Making}
 use Rattle.step_sweeps.specs.Damage.{IsArcsFault}
 use Rattle.step_sweeps.specs.Given.{Tables, AreGiven, made_by, nodes_by, work_by}
 use Rattle.step_sweeps.specs.Going.{next_of, rest_calls}
+use Rattle.step_sweeps.specs.Stops.{shown_by, step_stop}
 use Rattle.step_sweeps.specs.Made.{node_file, OnlyStep, IsCounted, FewAnew}
 
 -- the step's operands are the canonical files of these tables
@@ -99,4 +101,10 @@ pub record Makes {S : Type 0} (tells : S → Bool) (world : S → World) (counts
   pub calls : IfOk result (λ m. IsTrue (tells after) → m.turns < 2 ^ 64 - 1 → (world after).clock
       ≤ (world before).clock + (229 * (m.turns - going.turns) + 11
       + rest_calls going.last (operand_nodes making (reads_of (world before)))))
+  pub grew : IfOk result (λ m. going.turns ≤ m.turns)
+  -- what a stop costs at any moment
+  pub stops : IsTrue (tells after) → (g : Tables) → IsGivenFor making going (world before) g
+      → work_for making g < 2 ^ 61 → StopsCost making.number (shown_by going.last) ((world before).clock
+      + (step_stop + rest_calls going.last (operand_nodes making (reads_of (world before)))))
+      (world before) (world after)
   pub faults : OnlySortShelf (counts before) (counts after) result

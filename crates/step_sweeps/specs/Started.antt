@@ -9,6 +9,7 @@ use Rattle.run_tiers.specs.Faults.{OnlySortShelf}
 use Rattle.run_tiers.specs.Syncs.{IsFirm}
 use Rattle.step_going.specs.Standing.{AreSafe, IsStanding}
 use Rattle.sweep_checkpoint.specs.Going.{IsPaidTo, interval_of, first_owed}
+use Rattle.sweep_checkpoint.specs.Stops.{SamePoints}
 use Rattle.sweep_checkpoint.specs.declared.going.Going.{Going}
 use Rattle.sweep_core.specs.declared.checkpoint.Checkpoint.{Checkpoint}
 use Rattle.sweep_core.specs.declared.sweep.Sweep as sweep
@@ -61,4 +62,7 @@ pub record Starts {S P : Type 0} (tells : S → Bool) (world : S → World) (cou
   pub stock : kind.accounts.stock s ≤ 256 * owed_parts going.last
   pub calls : IsTrue (tells after) → (world after).clock + kind.accounts.credit s + 2 * owed_parts going.last
       ≤ (world before).clock + (some + rest_calls going.last (operand_nodes making (reads_of (world before))))
+  -- meanwhile the checkpoints and their gate stay
+  pub points : IsTrue (tells after) → Throughout (world before) (world after)
+      (λ (m : Moment). SamePoints making.number (now (world before)).folder m.folder)
   pub faults : OnlySortShelf (counts before) (counts after) (Ok s)

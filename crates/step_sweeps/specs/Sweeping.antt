@@ -16,6 +16,7 @@ use Rattle.step_going.specs.Standing.{AreSafe, IsStanding}
 use Rattle.sweep_checkpoint.specs.Going.{SameGoing, IsPaid, interval_of, first_owed}
 use Rattle.sweep_checkpoint.specs.Rules.{KeepsRules}
 use Rattle.sweep_checkpoint.specs.Saves.{gated_size}
+use Rattle.sweep_checkpoint.specs.Stops.{StopsCost}
 use Rattle.sweep_checkpoint.specs.declared.going.Going.{Going}
 use Rattle.sweep_core.specs.declared.checkpoint.Checkpoint.{Checkpoint}
 use Rattle.sweep_core.specs.Saving.{reads_of}
@@ -35,6 +36,7 @@ use Rattle.step_sweeps.specs.declared.task.Making.{Making}
 use Rattle.step_sweeps.specs.Damage.{IsArcsFault}
 use Rattle.step_sweeps.specs.Given.{Tables, tuples_by}
 use Rattle.step_sweeps.specs.Going.{rest_calls}
+use Rattle.step_sweeps.specs.Stops.{shown_by, arcs_stop, sweeps_stop, IsSaidOf}
 use Rattle.step_sweeps.specs.Made.{node_file, OnlyStep, HasArcFiles, HasSources, IsCounted, FewAnew}
 use Rattle.step_sweeps.specs.Makes.{IsGiven, IsGivenFor, HasNoGate, table_by, nodes_for, work_for, goes_on_by}
 use Rattle.step_sweeps.specs.Makes.{operand_nodes}
@@ -135,6 +137,11 @@ pub record Sweeps {S : Type 0} (tells : S → Bool) (world : S → World) (count
   pub calls : IfOk result (λ m. IsTrue (tells after) → m.turns < 2 ^ 64 - 1
       → (world after).clock + 229 * going.turns ≤ (world before).clock
       + (229 * m.turns + 11 + rest_calls going.last (operand_nodes making (reads_of (world before)))))
+  -- what a stop costs at any moment
+  pub stops : IsTrue (tells after) → (g : Tables) → IsGivenFor making going (world before) g
+      → work_for making g < 2 ^ 61 → StopsCost making.number (shown_by going.last) ((world before).clock
+      + (sweeps_stop + rest_calls going.last (operand_nodes making (reads_of (world before)))))
+      (world before) (world after)
   pub faults : OnlySortShelf (counts before) (counts after) result
 
 -- the file of a step's checkpoints has all that the gate counts
@@ -195,6 +202,7 @@ pub record AreArcsOf (making : Making) (old new : Going) (g : Tables) (m : MadeA
   pub has : HasArcsOf making old.budget g m world
   pub few_sources : has.sources ≤ tuples_by making.operation making.n g
   pub few : new.turns + (10 * tuples_by making.operation making.n g + 9) ≤ most_turns old.last making old g
+  pub said : IsSaidOf old new has.last
 
 -- what the sweep that makes them takes, where so many turns are left: a turn for each, and one, which leave ten for each
 -- tuple, and nine, of the most that the step may take
@@ -228,6 +236,7 @@ pub record MakesArcs {S : Type 0} (tells : S → Bool) (world : S → World) (co
   pub grew : OnOk result (old.turns ≤ new.turns)
   pub paid : IfOk result (λ m. IsPaidUp new m.parts.next)
   pub taken : IfOk result (λ m. old.last ≡ None → IsTakenFor new m.parts.next)
+  pub recent : OnOk result (new.turns < 2 ^ 61 → new.turns - new.shown ≤ interval_of old.budget)
   -- what it cost, and how many parts a save may have to cut from then on
   pub calls : IfOk result (λ m. new.turns < 2 ^ 64 - 1 → (old.shown ≤ new.shown)
       × (t : Takes (new.turns - old.turns) (new.shown - old.shown) (owed_parts old.last)) × (m.parts.next ≤ first_owed new.last m.parts.next + t.parts)
@@ -239,6 +248,11 @@ pub record MakesArcs {S : Type 0} (tells : S → Bool) (world : S → World) (co
       × (m.parts.next ≤ first_owed new.last m.parts.next + few.takes.parts))
       × ((world after).clock + 2 * owed_parts old.last ≤ (world before).clock
       + (calls_of few.takes + 8 + rest_calls old.last (operand_nodes making (reads_of (world before)))))
+  -- what a stop costs at any moment
+  pub stops : IsTrue (tells after) → (g : Tables) → IsGivenFor making old (world before) g
+      → work_for making g < 2 ^ 61 → StopsCost making.number (shown_by old.last) ((world before).clock
+      + (arcs_stop + rest_calls old.last (operand_nodes making (reads_of (world before)))))
+      (world before) (world after)
   pub faults : OnlySortShelf (counts before) (counts after) result
 
 -- the arcs are such, and with so many turns for each source and nine the turns are within the step's work
@@ -247,9 +261,10 @@ pub record AreReducible (making : Making) (going : Going) (g : Tables) (each : �
   pub has : HasArcsOf making going.budget g m world
   pub few : going.turns + (each * has.sources + 9) ≤ work_for making g
 
--- a step's arcs are reduced to its node file, behind the turns that made them, with so many more for each source
+-- a step's arcs are reduced to its node file, behind the turns that made them, with so many more for each source; a stop
+-- costs so many calls at most beyond those for turns that it leaves shown
 pub record Reduces {S : Type 0} (tells : S → Bool) (world : S → World) (counts : S → Faults) (making : Making)
-    (arcs : MadeArcs) (going : Going) (each : ℕ) (before after : S) (result : Result MadeDiagram SortFault) : Type 0
+    (arcs : MadeArcs) (going : Going) (each stop : ℕ) (before after : S) (result : Result MadeDiagram SortFault) : Type 0
   where
     pub made : IfOk result (λ m. IsTrue (tells after) → (g : Tables) → (are : AreReducible making going g each arcs (world before))
         → IsMade making.n (table_by making g) (node_file making.number) m.nodes (world after)
@@ -274,4 +289,8 @@ pub record Reduces {S : Type 0} (tells : S → Bool) (world : S → World) (coun
         → (t : Takes (each * are.has.sources + 9) (max going.shown (going.turns + (each * are.has.sources + 8)) - going.shown) 0)
         × ((world after).clock ≤ (world before).clock
         + (calls_of t + 3 + (arcs.parts.next - first_owed going.last arcs.parts.next)))
+    -- what a stop costs at any moment, where the last checkpoint shows no more than is said
+    pub stops : IsTrue (tells after) → (g : Tables) → (are : AreReducible making going g each arcs (world before))
+        → work_for making g < 2 ^ 61 → shown_by are.has.last ≤ going.shown
+        → StopsCost making.number (shown_by are.has.last) ((world before).clock + stop) (world before) (world after)
     pub faults : OnlySortShelf (counts before) (counts after) result

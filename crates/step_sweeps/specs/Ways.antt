@@ -8,6 +8,7 @@ use Rattle.shelf_model.specs.Moments.{Ran, Throughout, OnlyChanged}
 use Rattle.shelf_model.specs.World.{Moment, World, now}
 use Rattle.run_tiers.specs.Faults.{OnlySortShelf}
 use Rattle.step_going.specs.Standing.{AreSafe, HasNone}
+use Rattle.sweep_checkpoint.specs.Stops.{StopsCost}
 use Rattle.sweep_checkpoint.specs.declared.going.Going.{Going}
 use Rattle.sweep_core.specs.Sweeps.{IsNoDamage}
 use Rattle.node_file.specs.Canonical.{IsMade}
@@ -54,12 +55,14 @@ pub record MakesAtOnce {S : Type 0} (tells : S → Bool) (world : S → World) (
   pub few_anew : IfOk result (λ m. FewAnew m.turns m.next)
   pub calls : IfOk result (λ m. IsTrue (tells after) → m.turns < 2 ^ 64 - 1
       → (world after).clock ≤ (world before).clock + (229 * m.turns + 7))
+  pub short : IsTrue (tells after) → (world after).clock ≤ (world before).clock + 2 ^ 18
   pub faults : OnlySortShelf (counts before) (counts after) result
 
--- a step that begins anew makes its diagram, or is refused, where so many turns were made before
+-- a step that begins anew makes its diagram, or is refused, where so many turns were made before; a stop costs so many
+-- calls at most beyond those for turns that it leaves shown
 pub record MakesAnew {S : Type 0} (tells : S → Bool) (world : S → World) (counts : S → Faults) (making : Making)
-    (budget earlier : ℕ) (left_over : Tables → ℕ) (some : ℕ) (before after : S) (result : Result MadeDiagram SortFault)
-    : Type 0 where
+    (budget earlier : ℕ) (left_over : Tables → ℕ) (some stop : ℕ) (before after : S)
+    (result : Result MadeDiagram SortFault) : Type 0 where
   pub made : IfOk result (λ m. IsTrue (tells after) → (g : Tables) → IsGivenAnew making (world before) g
       → IsMadeWithin making g earlier (left_over g) m (world after))
   pub undamaged : IfErr result (λ e. IsTrue (tells after) → (g : Tables) → IsGivenAnew making (world before) g
@@ -79,6 +82,8 @@ pub record MakesAnew {S : Type 0} (tells : S → Bool) (world : S → World) (co
   pub few_anew : IfOk result (λ m. FewAnew m.turns m.next)
   pub calls : IfOk result (λ m. IsTrue (tells after) → m.turns < 2 ^ 64 - 1
       → (world after).clock + 229 * earlier ≤ (world before).clock + (229 * m.turns + some))
+  pub stops : IsTrue (tells after) → (g : Tables) → IsGivenAnew making (world before) g → work_for making g < 2 ^ 61
+      → StopsCost making.number 0 ((world before).clock + stop) (world before) (world after)
   pub faults : OnlySortShelf (counts before) (counts after) result
 
 -- of the work of a step that sweeps two turns are left for each node of its operands, and one

@@ -52,6 +52,8 @@ pub(crate) fn make_arcs<S: Shelf>(
 {
     let mut sweep = begin_arcs(making, going, room, shelf)?;
     run_saved(&mut sweep, going, shelf)?;
+    // A word of a checkpoint holds the turns that are shown: their range is known once they are read.
+    let _shown = going.shown;
     let parts = sweep.parts();
     if parts.next > PARTS {
         return Err(SortFault::RunsSpent);

@@ -12,6 +12,7 @@ ghost use Rattle.step_sweeps.specs.Kinds.{copy_kind};
 ghost use Rattle.step_sweeps.specs.Started.{Starts};
 ghost use Rattle.step_sweeps.specs.Sweeping.{MayResume, Sweeps, IsOperand, IsCopyFor};
 ghost use Rattle.step_sweeps.specs.Ways.{IsAnew, MakesAnew};
+ghost use Rattle.step_sweeps.specs.Stops.{sweeps_stop};
 
 use crate::MadeDiagram;
 use crate::foreign::foreign_point;
@@ -39,7 +40,7 @@ pub(crate) fn copy_in_turns<S: Shelf>(
     requires leads { Leads S.tells S.world making (ways.CopyInTurns source) shelf.old }
     requires anew { IsAnew making.number going.old }
     ensures makes { MakesAnew S.tells S.world S.faults making going.old.budget 0 (λ g. 0) 7
-        shelf.old shelf.new result }
+        (sweeps_stop + 2 ^ 19 + 32) shelf.old shelf.new result }
 {
     let task = CopyTask {
         from: source.from,

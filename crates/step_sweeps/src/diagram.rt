@@ -1,5 +1,5 @@
 //! A step that makes a diagram of others.
-ghost use Rattle.std.specs.Prelude.{◌≡◌, ℕ, ◌+◌, ◌≤◌, length};
+ghost use Rattle.std.specs.Prelude.{◌≡◌, ℕ, ◌+◌, ◌^◌, ◌≤◌, length};
 ghost use Rattle.copied_diagrams.specs.Ways.{IsOfPair, FitsIn};
 ghost use Rattle.step_sweeps.specs.Operations.{IsWithin};
 ghost use Rattle.step_sweeps.specs.Given.{Tables, AreEarlier};
@@ -8,6 +8,7 @@ ghost use Rattle.step_sweeps.specs.Makes.{Makes};
 ghost use Rattle.step_sweeps.specs.Pairs.{IsPairOf, Leads};
 ghost use Rattle.step_sweeps.specs.Sweeping.{IsAtStage};
 ghost use Rattle.step_sweeps.specs.Ways.{IsAnew, MakesAnew};
+ghost use Rattle.step_sweeps.specs.Stops.{sweeps_stop};
 
 use crate::StepOperation;
 use crate::copy::{copy_in_turns, copy_on};
@@ -120,7 +121,7 @@ fn make_anew<S: Shelf>(
     requires earlier { AreEarlier making.number making.operands }
     requires anew { IsAnew making.number going.old }
     ensures makes { MakesAnew S.tells S.world S.faults making going.old.budget 0 (λ g. 0) 11
-        shelf.old shelf.new result }
+        (sweeps_stop + 2 ^ 19 + 36) shelf.old shelf.new result }
 {
     let StepOperation::Operator(op) = making.operation else {
         return sweep_diagram(making, 0, going, room, shelf);
@@ -155,7 +156,7 @@ fn make_by<S: Shelf>(
     requires of { IsOfPair pair way }
     requires fits { FitsIn (length room.old) way }
     ensures makes { MakesAnew S.tells S.world S.faults making going.old.budget 0 (λ g. 0) 7
-        shelf.old shelf.new result }
+        (sweeps_stop + 2 ^ 19 + 32) shelf.old shelf.new result }
 {
     match way {
         Way::Constant(value) => constant(value, making, room, shelf),

@@ -1,9 +1,10 @@
 //! An operator's diagram that is joined of both operands': in the room where it fits there, and else by sweeps.
-ghost use Rattle.std.specs.Prelude.{ℕ, ◌≤◌, IsTrue, length};
+ghost use Rattle.std.specs.Prelude.{ℕ, ◌+◌, ◌^◌, ◌≤◌, IsTrue, length};
 ghost use Rattle.step_sweeps.specs.Given.{Tables, AreEarlier, nodes_by};
 ghost use Rattle.step_sweeps.specs.Makes.{IsGiven, nodes_for};
 ghost use Rattle.step_sweeps.specs.Pairs.{IsPairOf};
 ghost use Rattle.step_sweeps.specs.Ways.{IsAnew, MakesAnew};
+ghost use Rattle.step_sweeps.specs.Stops.{sweeps_stop};
 
 use crate::MadeDiagram;
 use crate::ended::keep_if_due;
@@ -37,7 +38,7 @@ pub(crate) fn join<S: Shelf>(
     requires few { IsTrue (S.tells shelf.old) → (g : Tables) → IsGiven making (S.world shelf.old) g →
         before ≤ nodes_for making g }
     ensures makes { MakesAnew S.tells S.world S.faults making going.old.budget before
-        (nodes_by making.operation making.n) 7 shelf.old shelf.new result }
+        (nodes_by making.operation making.n) 7 (sweeps_stop + 2 ^ 18 + 6) shelf.old shelf.new result }
 {
     let out = FileNo {
         step: making.number,

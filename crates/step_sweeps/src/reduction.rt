@@ -8,6 +8,7 @@ ghost use Rattle.step_sweeps.specs.Reduced.{ReducesTo};
 ghost use Rattle.step_sweeps.specs.Kinds.{reduce_kind};
 ghost use Rattle.step_sweeps.specs.Started.{Starts};
 ghost use Rattle.step_sweeps.specs.Sweeping.{MayReduce, MayResume, Reduces, Sweeps, IsReductionFor};
+ghost use Rattle.step_sweeps.specs.Stops.{sweep_stop, reduce_stop};
 
 use crate::MadeDiagram;
 use crate::arcs::MadeArcs;
@@ -44,7 +45,8 @@ pub(crate) fn reduce_arcs<S: Shelf>(
     requires room { 16384 ≤ length room.old }
     requires files { HasArcFiles making.number made.arcs }
     requires may { MayReduce making.number going.old made.parts }
-    ensures reduces { Reduces S.tells S.world S.faults making made going.old 10 shelf.old shelf.new result }
+    ensures reduces { Reduces S.tells S.world S.faults making made going.old 10
+        (reduce_stop going.old made.parts.next) shelf.old shelf.new result }
 {
     let arcs = made.arcs.inner_count + made.arcs.ends_count;
     if arcs == 0 || arcs > FEW_ARCS {
@@ -78,7 +80,8 @@ fn sweep_arcs<S: Shelf>(
     requires room { 16384 ≤ length room.old }
     requires files { HasArcFiles making.number made.arcs }
     requires may { MayReduce making.number going.old made.parts }
-    ensures reduces { Reduces S.tells S.world S.faults making made going.old 8 shelf.old shelf.new result }
+    ensures reduces { Reduces S.tells S.world S.faults making made going.old 8
+        (sweep_stop going.old made.parts.next) shelf.old shelf.new result }
 {
     // A diagram of so few arcs has a canonical form.
     reducing_gives_the_canonical_form();

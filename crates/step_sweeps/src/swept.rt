@@ -5,6 +5,7 @@ ghost use Rattle.step_sweeps.specs.Given.{Tables, AreEarlier};
 ghost use Rattle.step_sweeps.specs.Makes.{IsGiven};
 ghost use Rattle.step_sweeps.specs.Sweeping.{MaySweep, IsEarly, Sweeps};
 ghost use Rattle.step_sweeps.specs.Ways.{IsAnew, MakesAnew, left_by_sweeps};
+ghost use Rattle.step_sweeps.specs.Stops.{sweeps_stop};
 
 use crate::MadeDiagram;
 use crate::arcs::make_arcs;
@@ -32,7 +33,7 @@ pub(crate) fn sweep_diagram<S: Shelf>(
     requires few { IsTrue (S.tells shelf.old) → (g : Tables) → IsGiven making (S.world shelf.old) g →
         before ≤ left_by_sweeps making g }
     ensures makes { MakesAnew S.tells S.world S.faults making going.old.budget before (left_by_sweeps making) 11
-        shelf.old shelf.new result }
+        sweeps_stop shelf.old shelf.new result }
 {
     going.turns = before;
     going.shown = before;

@@ -1,10 +1,11 @@
 //! An operator's diagram that is a constant, that of an operand or its complement: made at once, with a turn for each
 //! of its nodes and one, which are fewer than a checkpoint's interval has.
-ghost use Rattle.std.specs.Prelude.{◌≡◌, ◌+◌, ◌*◌, ◌<◌, ◌≤◌, IfOk, length};
+ghost use Rattle.std.specs.Prelude.{◌≡◌, ◌+◌, ◌*◌, ◌^◌, ◌<◌, ◌≤◌, IfOk, length};
 ghost use Rattle.copied_diagrams.specs.declared.way.Way.TheVariants as ways;
 ghost use Rattle.step_sweeps.specs.Given.{AreEarlier};
 ghost use Rattle.step_sweeps.specs.Pairs.{IsPairOf, Leads};
 ghost use Rattle.step_sweeps.specs.Ways.{IsAnew, MakesAtOnce, MakesAnew};
+ghost use Rattle.step_sweeps.specs.Stops.{sweeps_stop};
 
 use crate::MadeDiagram;
 use crate::joining::join;
@@ -80,7 +81,7 @@ pub(crate) fn complement<S: Shelf>(
     requires leads { Leads S.tells S.world making (ways.Complement source) shelf.old }
     requires anew { IsAnew making.number going.old }
     ensures makes { MakesAnew S.tells S.world S.faults making going.old.budget 0 (λ g. 0) 7
-        shelf.old shelf.new result }
+        (sweeps_stop + 2 ^ 19 + 32) shelf.old shelf.new result }
 {
     let out = FileNo {
         step: making.number,

@@ -1,4 +1,4 @@
-use Rattle.std.proofs.Common.{◌≡◌, ◌∙◌, sym, subst, ap, arith}
+use Rattle.std.proofs.Common.{◌≡◌, ◌∙◌, ◌^◌, ◌<◌, sym, subst, ap, arith}
 use Rattle.std.specs.Result.{result_from_control_flow}
 use Rattle.std.specs.Prelude.{Result, Ok, Err}
 use Rattle.shelf_model.specs.declared.sort_fault.SortFault.{SortFault}
@@ -23,15 +23,16 @@ run g c r is =
       undamaged = said.undamaged;
       changes = said.changes;
       images = said.images;
+      stops = said.stops;
       spent = said.spent;
       faults = said.faults;
     })
 
 -- and what they left, where none was refused
 ended : (g : Over) (c : After-run_saved g) → c.run_saved.result ≡ Ok tt
-    → HasEnded g.S.Shelf.tells g.S.Shelf.world c.args.going.now c.run_saved.new.going c.in_ok-sweep.sweep
+    → c.run_saved.new.going.shown < 2 ^ 64 → HasEnded g.S.Shelf.tells g.S.Shelf.world c.args.going.now c.run_saved.new.going c.in_ok-sweep.sweep
     c.run_saved.new.sweep c.begin_arcs.new.shelf c.run_saved.new.shelf (Ok tt)
-ended g c is =
+ended g c is word =
     let said = c.run_saved.ensures in
     subst (HasEnded g.S.Shelf.tells g.S.Shelf.world c.args.going.now c.run_saved.new.going c.in_ok-sweep.sweep
     c.run_saved.new.sweep c.begin_arcs.new.shelf c.run_saved.new.shelf) is (record {
@@ -50,6 +51,9 @@ ended g c is =
       stands = said.stands;
       trusts = said.trusts;
       covers = said.covers;
+      recent = said.recent;
+      shown = said.shown;
+      word = word;
     })
 
 -- a turn or a save was refused
@@ -97,7 +101,7 @@ returns-then-parts-gt-PARTS g c =
       makes = ran_out g.S.Shelf.tells g.S.Shelf.world g.S.Shelf.faults c.args.making c.args.going.now c.requires.going old mid
           after c.requires.early s t began.starts began.task (g.met.S.Shelf.files_are mid) c.run_saved.new.going
           (run g here (Ok tt) is)
-          (ended g here is)
+          (ended g here is (search arith))
           (let same = ap (λ (p : Parts). p.next) c.parts-parts.ensures in search arith);
     }
 
@@ -116,7 +120,7 @@ returns g c =
       makes = ran_made g.S.Shelf.tells g.S.Shelf.world g.S.Shelf.faults c.args.making c.args.going.now c.requires.going old mid
           after c.requires.early s t began.starts began.task (g.met.S.Shelf.files_are mid) c.run_saved.new.going
           (run g here (Ok tt) is)
-          (ended g here is) c.requires.earlier c.made.result
+          (ended g here is (search arith)) c.requires.earlier c.made.result
           (record { arcs = c.in-Some.arcs; parts = c.parts-parts.result }) (record {
             gives = c.made.ensures;
             is = cc;

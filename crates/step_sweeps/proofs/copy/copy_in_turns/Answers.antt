@@ -14,7 +14,7 @@ returns-in_err-run_saved g c =
     let began = c.in_ok-sweep.ensures in
     let e = c.in_err-run_saved.field-0.0 in record {
       makes = handed_anew g.S.Shelf.tells g.S.Shelf.world g.S.Shelf.faults c.args.making c.args.going.now.budget 0
-          (λ g. 0) 7 _ _ e c.from_residual-in_err-run_saved.result c.from_residual-in_err-run_saved.ensures.1
+          (λ g. 0) 7 _ _ _ e c.from_residual-in_err-run_saved.result c.from_residual-in_err-run_saved.ensures.1
           (copy_refused g.S.Shelf.tells g.S.Shelf.world g.S.Shelf.faults c.args.making c.args.going.now c.requires.anew
           c.requires.earlier c.args.source c.requires.operand c.node_pieces.result c.in_ok-sweep.sweep
           c.run_saved.new.sweep c.args.shelf.now c.start.new.shelf c.run_saved.new.shelf c.requires.leads
@@ -25,6 +25,7 @@ returns-in_err-run_saved g c =
             changes = said.changes;
             took = λ told job remains. let its = said.few_calls told job remains in (its.0, its.1, its.2, its.3);
             images = said.images;
+            stops = said.stops;
           }) e
           (λ was. let same : e ≡ RunsSpent = cc in said.spent (ap (λ (x : SortFault). Err x) same)) said.undamaged
           (sort_shelf_on _ _ e (Err e) refl
@@ -46,6 +47,7 @@ returns g c =
             changes = said.changes;
             took = λ told job remains. let its = said.few_calls told job remains in (its.0, its.1, its.2, its.3);
             images = said.images;
+            stops = said.stops;
           }) c.run_saved.new.going _ refl refl refl
           (let made = said.made in omega (arith, made)) said.late said.counted said.few said.keeps
           said.same said.ended said.in_step

@@ -30,6 +30,7 @@ returns-in_err-run_saved g c =
             changes = said.changes;
             took = λ told job remains. let its = said.few_calls told job remains in (its.0, its.1, its.2, its.3);
             images = said.images;
+            stops = said.stops;
           }) e
           (λ was. let same : e ≡ RunsSpent = cc in said.spent (ap (λ (x : SortFault). Err x) same))
           (λ told f. g.met.S.Shelf.files_are _ told f) said.undamaged
@@ -51,6 +52,7 @@ returns-in_err-size g c =
             changes = said.changes;
             took = λ told job remains. let its = said.few_calls told job remains in (its.0, its.1, its.2, its.3);
             images = said.images;
+            stops = said.stops;
           }) c.len.new.self c.node_file.result c.node_file.ensures _ c.in_err-size.ensures.content
           (measured_err _ _ _ c.in_ok-sweep.sweep c.in_err-size.field-0.0
           (faults_ok _ _ _ (Ok c.in_ok-sweep.sweep) c.run_saved.result _ began.starts.faults c.run_saved.ensures.faults)
@@ -69,6 +71,7 @@ returns g c =
             changes = said.changes;
             took = λ told job remains. let its = said.few_calls told job remains in (its.0, its.1, its.2, its.3);
             images = said.images;
+            stops = said.stops;
           }) c.len.new.self c.node_file.result c.node_file.ensures _ c.in_ok-size.ensures.content
           c.run_saved.new.going _ c.in_ok-size.size c.saturating_sub.ensures refl c.next_part-next.ensures
           (λ told. (c.in_ok-size.ensures.content.did told).ok) said.grew said.late said.counted said.few said.keeps

@@ -9,15 +9,15 @@ use Rattle.step_sweeps.proofs.diagram.make_anew.Goals as goal
 pub returns-in_default : goal.returns-in_default
 returns-in_default g c = record {
   makes = with_less g.S.Shelf.tells g.S.Shelf.world g.S.Shelf.faults c.args.making c.args.going.now.budget 0 (λ g. 0)
-      (left_by_sweeps c.args.making) 11 11 _ _ c.sweep_diagram.result (λ g. omega arith) (omega arith)
+      (left_by_sweeps c.args.making) 11 11 _ _ _ _ c.sweep_diagram.result (λ g. omega arith) (omega arith) (omega arith)
       c.sweep_diagram.ensures.makes;
 }
 
 -- an operand's trailer wasn't read
 pub returns-in_err-pair : goal.returns-in_err-pair
 returns-in_err-pair g c = record {
-  makes = look_refused g.S.Shelf.tells g.S.Shelf.world g.S.Shelf.faults c.args.making c.args.going.now.budget _ _
-      c.in_err-pair.field-0.0 c.from_residual.result c.from_residual.ensures.1 c.in_err-pair.ensures.sound
+  makes = look_refused g.S.Shelf.tells g.S.Shelf.world g.S.Shelf.faults c.args.making c.args.going.now.budget _ _ _
+      c.in_err-pair.field-0.0 c.from_residual.result (omega arith) c.from_residual.ensures.1 c.in_err-pair.ensures.sound
       c.in_err-pair.ensures.damaged c.in_err-pair.ensures.content (search rules);
 }
 
@@ -38,7 +38,8 @@ make_by-requires-clause-leads g c =
 pub returns : goal.returns
 returns g c = record {
   makes = after_look g.S.Shelf.tells g.S.Shelf.world g.S.Shelf.faults c.args.making c.args.going.now.budget 4 0 0
-      (λ g. 0) (λ g. 0) 11 7 _ _ _ c.make_by.result (omega arith)
+      (λ g. 0) (λ g. 0) 11 7 _ _ _ _ _ c.make_by.result (omega arith)
+      (λ told. let few = (c.read_pair.ensures.content.did told).few in omega (arith, few))
       (λ told. record { turns = λ g given. omega arith; few_calls = λ g given. omega arith; calls = λ below. omega arith })
       c.read_pair.ensures.content (folder_ok _ _ _ c.in_ok-pair.ensures.faults) c.make_by.ensures.makes;
 }

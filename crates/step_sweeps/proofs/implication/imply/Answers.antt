@@ -22,6 +22,7 @@ went g c = record {
       let few = c.run_saved.ensures.few_calls told job remains in
       record { saves = few.0; few = few.1; parts = few.2; calls = few.3 };
   images = c.run_saved.ensures.images;
+  stops = c.run_saved.ensures.stops;
 }
 
 -- it was refused
@@ -82,6 +83,7 @@ returns g c =
                 let shown = counted.1 in
                 let late = ended.late c.in_ok-sweep.ensures.begun.paid.shown in
                 record { saves = counted.0; few = omega (arith, shown, late); parts = counted.2; calls = counted.3 };
+            grew = ended.grew.0;
             faults = ended.faults;
           })
           (counted_of c.run_saved.new.going.turns c.min.result (accounts.stock c.run_saved.new.sweep) (omega (arith, made))

@@ -15,9 +15,10 @@ sweep_diagram-requires-clause-within g c = within g.S.Shelf.tells g.S.Shelf.worl
 pub returns-in_err-tried : goal.returns-in_err-tried
 returns-in_err-tried g c = record {
   makes = failed g.S.Shelf.tells g.S.Shelf.world g.S.Shelf.faults c.args.making c.args.going.now.budget c.args.before
-      (nodes_for c.args.making) 7 _ _ _ (search rules)
+      (nodes_for c.args.making) 7 _ _ _ _ (search rules)
       (λ told. failed_calls g.S.Shelf.tells g.S.Shelf.world g.S.Shelf.faults c.args.op c.args.making c.args.pair _
       c.requires.pair _ (c.join_in_room.ensures.content.before told) (c.join_in_room.ensures.content.did told).few)
+      (λ told. let few = c.join_in_room.ensures.few_calls told in omega (arith, few))
       (changed_run g.S.Shelf.tells g.S.Shelf.world c.args.making.number _ _ _ c.join_in_room.ensures.content)
       (search rules);
 }
@@ -32,7 +33,7 @@ returns-in_err-keep_if_due g c =
           (λ told t u left right. of_some _ c.in-Some.joined _ c.in-Some.is
           (c.in_ok-tried.ensures.made told t u left right))
           (of_some _ c.in-Some.joined _ c.in-Some.is c.in_ok-tried.ensures.paid)
-          c.join_in_room.ensures.content (folder_ok _ _ _ c.in_ok-tried.ensures.faults)
+          c.join_in_room.ensures.few_calls c.join_in_room.ensures.content (folder_ok _ _ _ c.in_ok-tried.ensures.faults)
           c.in_err-keep_if_due.field-0.0 _ (search rules) c.in_err-keep_if_due.ensures.keeps;
     }
 
@@ -46,7 +47,7 @@ returns-in-Some g c =
           (λ told t u left right. of_some _ c.in-Some.joined _ c.in-Some.is
           (c.in_ok-tried.ensures.made told t u left right))
           (of_some _ c.in-Some.joined _ c.in-Some.is c.in_ok-tried.ensures.paid)
-          c.join_in_room.ensures.content (folder_ok _ _ _ c.in_ok-tried.ensures.faults)
+          c.join_in_room.ensures.few_calls c.join_in_room.ensures.content (folder_ok _ _ _ c.in_ok-tried.ensures.faults)
           c.in_ok-keep_if_due.ensures.keeps;
     }
 
@@ -54,8 +55,8 @@ returns-in-Some g c =
 pub returns : goal.returns
 returns g c = record {
   makes = after_look g.S.Shelf.tells g.S.Shelf.world g.S.Shelf.faults c.args.making c.args.going.now.budget _ c.args.before _
-      (nodes_for c.args.making) (left_by_sweeps c.args.making) 7 11 _ _ _ c.sweep_diagram.result
-      (search arith)
+      (nodes_for c.args.making) (left_by_sweeps c.args.making) 7 11 _ _ _ _ _ c.sweep_diagram.result
+      (search arith) (λ told. let few = c.join_in_room.ensures.few_calls told in omega (arith, few))
       (look_pays g.S.Shelf.tells g.S.Shelf.world g.S.Shelf.faults c.args.op c.args.making c.args.pair _ c.requires.pair
       c.args.before c.saturating_add-nodes.result c.saturating_add.result c.saturating_add-looked.result
       c.saturating_add-nodes.ensures c.saturating_add.ensures c.saturating_add-looked.ensures)

@@ -31,6 +31,7 @@ returns-in_err-run_saved g c =
             changes = said.changes;
             took = λ told job remains. let its = said.few_calls told job remains in (its.0, its.1, its.2, its.3);
             images = said.images;
+            stops = said.stops;
           }) e
           (λ was. let same : e ≡ RunsSpent = cc in said.spent (ap (λ (x : SortFault). Err x) same))
           (λ told f. g.met.S.Shelf.files_are _ told f) said.undamaged
@@ -50,6 +51,7 @@ returns g c =
             changes = said.changes;
             took = λ told job remains. let its = said.few_calls told job remains in (its.0, its.1, its.2, its.3);
             images = said.images;
+            stops = said.stops;
           }) c.run_saved.new.going c.reduced.result (search arith) c.reduced.ensures.turns c.reduced.ensures.next
           said.made
           said.late said.later said.paid said.counted said.few said.keeps said.ended

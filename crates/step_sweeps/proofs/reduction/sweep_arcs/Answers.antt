@@ -40,6 +40,7 @@ ran g c =
     let said = c.run_saved.ensures in record {
       changes = said.changes;
       took = λ told job remains. let its = said.few_calls told job remains in (its.0, its.1, its.2, its.3);
+      stops = said.stops;
       images = said.images;
     }
 
@@ -48,7 +49,7 @@ pub returns-in_err-sweep : goal.returns-in_err-sweep
 returns-in_err-sweep g c =
     let said = c.in_err-sweep.ensures in record {
       reduces = handed_reduction g.S.Shelf.tells g.S.Shelf.world g.S.Shelf.faults c.args.making c.args.made
-          c.args.going.now 8 _ _ c.in_err-sweep.field-0.0 c.from_residual.result c.from_residual.ensures.1
+          c.args.going.now 8 _ _ _ c.in_err-sweep.field-0.0 c.from_residual.result c.from_residual.ensures.1
           (not_begun g.S.Shelf.tells g.S.Shelf.world g.S.Shelf.faults c.args.making c.args.made c.args.going.now
           c.requires.files c.requires.may _ _ c.in_err-sweep.field-0.0
           (λ same. subst (IsArcDamage c.args.made.arcs.inner c.args.made.arcs.ends) same said.refused) said.few_calls
@@ -66,7 +67,7 @@ returns-in_err-run_saved g c =
     let here = (goal.at.returns-in_err-run_saved g c).After-run_saved in
     record {
       reduces = handed_reduction g.S.Shelf.tells g.S.Shelf.world g.S.Shelf.faults c.args.making c.args.made
-          c.args.going.now 8 _ _ e c.from_residual-in_err-run_saved.result c.from_residual-in_err-run_saved.ensures.1
+          c.args.going.now 8 _ _ _ e c.from_residual-in_err-run_saved.result c.from_residual-in_err-run_saved.ensures.1
           (run_refused g.S.Shelf.tells g.S.Shelf.world g.S.Shelf.faults c.args.making c.args.made c.args.going.now
           c.requires.files c.requires.may c.in_ok-sweep.sweep c.run_saved.new.sweep c.args.shelf.now c.start.new.shelf
           c.run_saved.new.shelf (begun g here) began.calls began.stock (ran g here) e

@@ -8,17 +8,17 @@ use Rattle.step_sweeps.proofs.unswept.complement.Goals as goal
 -- the folder failed
 pub returns-in_err-complement_file : goal.returns-in_err-complement_file
 returns-in_err-complement_file g c = record {
-  makes = at_once_anew g.S.Shelf.tells g.S.Shelf.world g.S.Shelf.faults c.args.making c.args.going.now.budget _ _ _
-      (failed_at_once g.S.Shelf.tells g.S.Shelf.world g.S.Shelf.faults c.args.making c.args.source.trailer.count _ _ _
-      (search rules) c.complement_file.ensures.content
+  makes = at_once_anew g.S.Shelf.tells g.S.Shelf.world g.S.Shelf.faults c.args.making c.args.going.now.budget _ _ _ _
+      (omega arith) (failed_at_once g.S.Shelf.tells g.S.Shelf.world g.S.Shelf.faults c.args.making c.args.source.trailer.count _ _ _
+      (search rules) c.requires.few c.complement_file.ensures.content
       (λ told tables given. (c.requires.leads told tables given).2.few) (search rules));
 }
 
 -- the complement was made
 pub returns-then-branch : goal.returns-then-branch
 returns-then-branch g c = record {
-  makes = at_once_anew g.S.Shelf.tells g.S.Shelf.world g.S.Shelf.faults c.args.making c.args.going.now.budget _ _ _
-      (made_at_once g.S.Shelf.tells g.S.Shelf.world g.S.Shelf.faults c.args.making c.args.source.trailer.count _ _ _
+  makes = at_once_anew g.S.Shelf.tells g.S.Shelf.world g.S.Shelf.faults c.args.making c.args.going.now.budget _ _ _ _
+      (omega arith) (made_at_once g.S.Shelf.tells g.S.Shelf.world g.S.Shelf.faults c.args.making c.args.source.trailer.count _ _ _
       c.made_at_once.ensures
       (λ told tables given.
       let leads = c.requires.leads (c.complement_file.ensures.content.before told) tables given in (
@@ -26,14 +26,18 @@ returns-then-branch g c = record {
             (λ t is trailer. c.in_ok-complement_file.ensures.made (search rules) told t is trailer.root_is trailer.count_is),
         leads.2.few,
       ))
-      c.complement_file.ensures.content (search rules));
+      c.requires.few c.complement_file.ensures.content (search rules));
 }
 
 -- the nodes weren't in order
 pub returns-else-branch : goal.returns-else-branch
 returns-else-branch g c = record {
   makes = after_look g.S.Shelf.tells g.S.Shelf.world g.S.Shelf.faults c.args.making c.args.going.now.budget c.args.source.trailer.count 0
-      c.args.source.trailer.count (λ g. 0) (nodes_for c.args.making) 7 7 _ _ _ c.join.result (omega arith)
+      c.args.source.trailer.count (λ g. 0) (nodes_for c.args.making) 7 7 _ _ _ _ _ c.join.result (omega arith)
+      (λ told.
+      let few = ((c.in_ok-complement_file.ensures.left (search rules)).did told).few in
+      let small = c.requires.few in
+      omega (arith, few, small))
       (λ told. record {
         turns = λ tables given. let few = (c.requires.leads told tables given).2.few in omega (arith, few);
         few_calls = λ tables given. let few = (c.requires.leads told tables given).2.few in omega (arith, few);

@@ -7,7 +7,7 @@ use Rattle.step_sweeps.proofs.unswept.constant.Goals as goal
 pub returns-in_err-make_constant-clause-makes : goal.returns-in_err-make_constant-clause-makes
 returns-in_err-make_constant-clause-makes g c =
     failed_at_once g.S.Shelf.tells g.S.Shelf.world g.S.Shelf.faults c.args.making 0 _ _ _ (search rules)
-    c.make_constant.ensures.content (λ told tables given. omega arith) (search rules)
+    (omega arith) c.make_constant.ensures.content (λ told tables given. omega arith) (search rules)
 
 pub returns-clause-makes : goal.returns-clause-makes
 returns-clause-makes g c =
@@ -18,4 +18,4 @@ returns-clause-makes g c =
           (c.in_ok-make_constant.ensures.made told),
       omega arith,
     ))
-    c.make_constant.ensures.content (search rules)
+    (omega arith) c.make_constant.ensures.content (search rules)
