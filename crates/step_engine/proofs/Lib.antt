@@ -2,6 +2,7 @@ mod Written
 mod Resuming
 mod JobPaid
 mod Told
+mod Stops
 mod Went
 mod RunFaults
 mod Found

@@ -1,6 +1,6 @@
 -- The runs of steps that take one turn.
-use Rattle.std.proofs.Common.{◌≡◌, ◌∙◌, ℕ, ◌+◌, ◌*◌, ◌/◌, ◌^◌, ◌<◌, ◌≤◌, Bool, true, false, cond, List, refl, sym, ap, subst, inl, arith}
-use Rattle.std.specs.Prelude.{IsTrue, Ok, Err}
+use Rattle.std.proofs.Common.{◌≡◌, ◌∙◌, ℕ, ◌+◌, ◌-◌, ◌*◌, ◌/◌, ◌^◌, ◌<◌, ◌≤◌, Bool, true, false, cond, List, refl, sym, ap, subst, inl, arith}
+use Rattle.std.specs.Prelude.{IsTrue, Result, Ok, Err, IfOk}
 use Rattle.rec_words.specs.Words.{most_variables}
 use Rattle.bool_tables.specs.declared.steps.Step.{Step}
 use Rattle.bool_tables.specs.declared.steps.Step.TheVariants.{Const, Var, Drop, Size}
@@ -18,33 +18,75 @@ use Rattle.shelf_model.specs.declared.fault.StreamFault.TheVariants as stream
 use Rattle.shelf_model.specs.Calls.{Told}
 use Rattle.shelf_model.specs.Faults.{Faults}
 use Rattle.shelf_model.specs.File.{firm_file}
-use Rattle.shelf_model.specs.Folder.{AreFiles}
+use Rattle.shelf_model.specs.Folder.{Image, bytes_in, IsImage, AreFiles}
 use Rattle.shelf_model.specs.Moments.{Ran, Stays}
+use Rattle.shelf_model.proofs.Images.{chosen, standing_image}
 use Rattle.shelf_model.proofs.Runs.{told_here, ran_stands}
 use Rattle.shelf_model.specs.SortFaults.{handed_on}
-use Rattle.shelf_model.specs.World.{World, now, file}
+use Rattle.shelf_model.specs.World.{Moment, World, now, file}
 use Rattle.run_tiers.specs.Faults.{OnlySortShelf}
 use Rattle.catalogue.specs.declared.layout.Entry.{Entry}
 use Rattle.step_work.specs.Tuples.{sweeps}
+use Rattle.sweep_checkpoint.specs.Stops.{turns_in, shown_turns, StopsCost, ShowAtLeast}
+use Rattle.step_going.proofs.Gated.{none_gated}
 use Rattle.sound_image.specs.Files.{node_file}
 use Rattle.catalogue.specs.Counts.{present}
 use Rattle.sound_image.specs.Jobs.{Job, step_at, table_at, file_of}
 use Rattle.sound_image.specs.Entries.{IsEntryOfStep, kind_of, answer_of, count_of, work_of}
 use Rattle.sound_image.specs.Holds.{Holds}
 use Rattle.step_engine.specs.OneFile.{OnlyFile, OnlyMade}
-use Rattle.step_engine.specs.Running.{run_calls, RunsStep}
+use Rattle.step_engine.specs.Running.{run_calls, run_stop, IsGoneOn, RunsStep}
 use Rattle.step_engine.specs.Simple.{reads, MayRun, IsStepOf}
 use Rattle.step_engine.specs.StepEntries.{diagram_entry, nameless_entry, one_turn}
 use Rattle.step_engine.specs.StepFaults.{IsKindFault, IsStepFault, IsSoundFault, IsOfKind}
 use Rattle.step_engine.proofs.EntryLaws.{for_diagram, for_nameless, diagram_entry_is, nameless_entry_is, one_turn_spent, one_within, place_step, size_is_sound}
 use Rattle.step_engine.proofs.TableLaws.{constant_nodes, variable_nodes, constant_is, variable_is, constant_form, variable_form}
-use Rattle.step_engine.proofs.Resuming.{one_resumes}
+use Rattle.step_engine.proofs.Resuming.{still_empty, one_resumes}
 use Rattle.step_engine.proofs.Written.{made_only, changes_none}
 
 -- the calls of a step that takes one turn
 pub one_calls : (step : Step) (turns rest now_clock clock : ℕ) → sweeps step ≡ false → now_clock ≤ clock + 5 → now_clock ≤ clock + (run_calls step turns + rest)
 one_calls step turns rest now_clock clock not few =
     subst (λ b. now_clock ≤ clock + (cond b (229 * turns + 13) 5 + rest)) (sym not) (omega (arith, few))
+
+-- what it costs at its end, where nothing of it was shown before
+one_ends : (step : Step) (result : Result Entry SortFault) (shown rest now_clock clock : ℕ) → sweeps step ≡ false → shown ≡ 0 → now_clock ≤ clock + 5
+    → IfOk result (λ e. (shown ≤ e.turns) × (now_clock ≤ clock + (run_calls step (e.turns - shown) + rest)))
+one_ends step (Ok e) shown rest now_clock clock not none few =
+    (omega (arith, none), one_calls step (e.turns - shown) rest now_clock clock not few)
+one_ends step (Err fault) shown rest now_clock clock not none few = tt
+
+-- nothing of such a step is shown, before it is run and at each moment, and it makes few calls
+module _ {S : Type 0} (tells : S → Bool) (world : S → World) (n : ℕ) (text : List ℕ) (budget number : ℕ) (p : Planned)
+    (files_are : (s : S) → IsTrue (tells s) → AreFiles (now (world s)).folder) (before after : S) (not : sweeps p.step ≡ false)
+    (content : Told tells before after (Ran (OnlyMade p.step number (now (world before))) (world before) (world after)))
+    (calls : IsTrue (tells after) → (world after).clock ≤ (world before).clock + 5) where
+  none_shown : IsTrue (tells after) → (job : Job) → IsStepOf job n text budget number p → Holds job number (now (world before)).folder
+      → (m : Moment) → OnlyMade p.step number (now (world before)) m → (image : Image) → IsImage m.folder image → shown_turns number (bytes_in image) ≡ 0
+  none_shown told job is holds m only image is_image =
+      ap turns_in (none_gated number (bytes_in image)
+      (still_empty job number p.step (ap (λ (q : Planned). q.step) is.step_is) not is.within (now (world before)) (files_are before (content.before told))
+      holds.resumable m only image is_image))
+
+  none_before : IsTrue (tells after) → (job : Job) → IsStepOf job n text budget number p → Holds job number (now (world before)).folder
+      → (shown : ℕ) → ShowAtLeast number shown (now (world before)).folder → shown ≡ 0
+  none_before told job is holds shown shows =
+      let image : Image = chosen (λ _ x. x.bytes) (now (world before)).folder in
+      let is_image = standing_image (now (world before)).folder (files_are before (content.before told)) in
+      let none = none_shown told job is holds (now (world before)) (λ q apart. refl) image is_image in
+      let least = shows image is_image in
+      omega (arith, none, least)
+
+  pub one_stops : (result : Result Entry SortFault) → IsTrue (tells after) → (job : Job) → IsStepOf job n text budget number p
+      → Holds job number (now (world before)).folder → (shown rest : ℕ) → IsGoneOn p.step number budget (world before) shown rest
+      → StopsCost number shown ((world before).clock + (run_stop + rest)) (world before) (world after)
+      × IfOk result (λ e. (shown ≤ e.turns) × ((world after).clock ≤ (world before).clock + (run_calls p.step (e.turns - shown) + rest)))
+  one_stops result told job is holds shown rest gone =
+      let none : shown ≡ 0 = none_before told job is holds shown gone.shows in
+      let few = calls told in (
+        (λ k from to image is_image. record { no_fewer = omega (arith, none); few = omega (arith, few, to) }),
+        one_ends p.step result shown rest _ _ not none few,
+      )
 
 -- it takes no part number
 pub first_parts : (parts turns spare : ℕ) → parts ≡ 3 → parts ≤ 5 + turns / 16 + spare
@@ -89,6 +131,7 @@ module _ {S : Type 0} (tells : S → Bool) (world : S → World) (counts : S →
     few_parts = tt;
     one_turn = λ told not. calls told;
     few_calls = λ told job is holds rest pays. one_calls p.step _ rest _ _ simple.not_swept (calls told);
+    stops = λ told job is holds small. one_stops tells world n text budget number p files_are before after simple.not_swept made_so calls (Err e) told job is holds;
     faults = faults;
   }
 
@@ -117,6 +160,7 @@ module _ {S : Type 0} (tells : S → Bool) (world : S → World) (counts : S →
     few_parts = λ told spare spares. first_parts e.parts e.turns spare (ap (λ (x : Entry). x.parts) e_is);
     one_turn = λ told not. calls told;
     few_calls = λ told job is holds rest pays. one_calls p.step _ rest _ _ simple.not_swept (calls told);
+    stops = λ told job is holds small. one_stops tells world n text budget number p files_are before after simple.not_swept made_so calls (Ok e) told job is holds;
     faults = faults;
   }
 
@@ -200,5 +244,7 @@ drop_runs tells world counts n text budget number gone p files_are s e drop belo
       few_parts = λ told spare spares. first_parts e.parts e.turns spare (ap (λ (x : Entry). x.parts) e_is);
       one_turn = λ told not. omega arith;
       few_calls = λ told job is holds rest pays. one_calls p.step _ rest _ _ (ap sweeps drop) (omega arith);
+      stops = λ told job is holds small.
+          one_stops tells world n text budget number p files_are s s (ap sweeps drop) content (λ _. omega arith) (Ok e) told job is holds;
       faults = record { later = omega arith; cause = λ is. cc; say_is = refl; text_is = λ path. refl };
     }

@@ -19,6 +19,7 @@ use Rattle.catalogue.specs.declared.layout.Entry.{Entry}
 use Rattle.run_tiers.proofs.FaultLaws.{sort_shelf_on, sort_shelf_then}
 use Rattle.step_work.specs.Tuples.{sweeps}
 use Rattle.sweep_core.specs.Saving.{reads_of}
+use Rattle.sweep_checkpoint.specs.Stops.{shown_by, StopsCost}
 use Rattle.sweep_checkpoint.specs.declared.going.Going.{Going}
 use Rattle.resumable.specs.Answers.{ComparisonGoesOn, EvaluationGoesOn, ImplicationGoesOn}
 use Rattle.resumable.specs.Kinds.{StepGoesOn, RestsOn}
@@ -32,6 +33,7 @@ use Rattle.step_sweeps.specs.Answers.{Question, IsAsked, Answers, IsBehindNodes,
 use Rattle.step_sweeps.specs.Damage.{IsReadFault, IsImplicationFault, MissesNone, MissesNamed}
 use Rattle.step_sweeps.specs.Going.{rest_calls}
 use Rattle.step_sweeps.specs.Made.{IsCounted}
+use Rattle.step_sweeps.specs.Stops.{step_stop}
 use Rattle.step_engine.specs.declared.entries.Spent.{Spent}
 use Rattle.step_engine.specs.Finding.{JobGoesOn, JobRests, FindsGoing}
 use Rattle.step_engine.specs.Simple.{reads, MayRun, IsStepOf}
@@ -42,7 +44,7 @@ use Rattle.step_engine.proofs.EntryLaws.{IsSpent, for_nameless, nameless_entry_i
 use Rattle.step_engine.proofs.Operands.{two_given, one_given, work_given}
 use Rattle.step_engine.proofs.RunFaults.{faults_ok, fault_before, refused_then, gate_as}
 use Rattle.step_engine.proofs.Runs.{first_below, more_below, sound_fault, refused_runs, ended_runs}
-use Rattle.step_engine.proofs.Went.{stands_as, safe_as, IsSet, Went, Swept, set_found, same_reads, pays_for, parts_for, went_then}
+use Rattle.step_engine.proofs.Went.{stands_as, safe_as, IsSet, Went, Swept, set_found, same_reads, pays_for, parts_for, ends_for, went_then}
 
 -- what is known of a step that asks such a question
 pub record AsksFor {Given : Type 0} (q : Question Given) (n number : ℕ) (step : Step) : Type 0 where
@@ -108,6 +110,11 @@ module _ {S Given : Type 0} (tells : S → Bool) (world : S → World) (counts :
           let its = asked_as job set in
           subst (λ w. (world after).clock ≤ (world mid).clock + (229 * w + q.some + rest_calls going.last (q.nodes (reads_of (world mid)))))
           its.of.work_is (said.few_calls told its.of.tables its.asked_of);
+      stops = λ told job set small.
+          let its = asked_as job set in
+          subst (λ k. StopsCost k (shown_by going.last)
+          ((world mid).clock + (step_stop + rest_calls going.last (q.nodes (reads_of (world mid))))) (world mid) (world after))
+          step_is (said.stops told its.of.tables its.asked_of (subst (λ w. w < 2 ^ 61) (sym its.of.work_is) small));
     }
 
     went : Went tells world counts n text budget number p before after
@@ -163,6 +170,13 @@ module _ {S Given : Type 0} (tells : S → Bool) (world : S → World) (counts :
       (λ told spare spares. subst (λ k. k ≤ 5 + a.turns / 16 + spare) (sym (ap (λ (x : Entry). x.parts) e_is))
       (parts_for number budget (reads_of (world before)) going.last a.turns a.next spare
       (found.last (said.content.before told)) spares said.few_anew took.few))
+      (λ told job is holds small shown rest gone.
+      let its = asked_as job (set_in (Ok a) said told job is holds) in
+      let answer = said.answer told its.of.tables its.asked_of in
+      let few_turns : a.turns ≤ work_of job p.step = subst (λ w. a.turns ≤ w) its.of.work_is answer.few in
+      ends_for tells world counts n text budget number p files_are asks.sweeps_is before mid after going found q.some q.nodes asks.few asks.nodes
+      (said.content.before told) job is holds a.turns shown rest gone said.grew
+      (said.calls told (omega (arith, few_turns, small))))
       (sort_shelf_then (counts before) (counts mid) (counts after) (Ok going) (Ok e) found.faults
       (faults_ok (counts mid) (counts after) a e said.faults))
     where

@@ -86,13 +86,17 @@ module _ (job : Job) (number : ℕ) (step : Step) (step_is : plans.step_at job.s
     | inr swept ↦ absurd (let sweeping = swept.0 in cc)
   ])
 
-  still_safe : (m : Moment) → OnlyMade step number old m → AreSafe (JobGoesOn job number) number m.folder
-  still_safe m only image is_image =
-      inl (stays_so (checkpoint_gate number) (λ left. left ≡ []) old.folder m.folder image files (gate_same m only)
+  pub still_empty : (m : Moment) → OnlyMade step number old m → (image : Image) → IsImage m.folder image
+      → bytes_in image (checkpoint_gate number) ≡ []
+  still_empty m only image is_image =
+      stays_so (checkpoint_gate number) (λ left. left ≡ []) old.folder m.folder image files (gate_same m only)
       (λ first is_first. elim ((resumable first is_first).this_step within) [
         | inl empty ↦ empty
         | inr goes ↦ absurd (none_goes_on job.n job.text job.steps job.budget number (plans.step_at job.steps number) (bytes_in first) (ap sweeps step_is ∙ not) goes)
-      ]) is_image)
+      ]) is_image
+
+  still_safe : (m : Moment) → OnlyMade step number old m → AreSafe (JobGoesOn job number) number m.folder
+  still_safe m only image is_image = inl (still_empty m only image is_image)
 
   made_resumes : (m : Moment) → OnlyMade step number old m → AreResumable job number m.folder
   made_resumes m only = safe_resumes job number old.folder m.folder files resumable (own_only m only) (still_safe m only)

@@ -25,6 +25,7 @@ use Rattle.node_file.specs.Canonical.{IsMade}
 use Rattle.node_reading.specs.Reading.{count_of}
 use Rattle.sweep_core.specs.Saving.{reads_of}
 use Rattle.sweep_core.specs.Sweeps.{IsNoDamage}
+use Rattle.sweep_checkpoint.specs.Stops.{shown_by, StopsCost}
 use Rattle.sweep_checkpoint.specs.declared.going.Going.{Going}
 use Rattle.resumable.specs.Diagrams.{DiagramGoesOn, diagram_rests}
 use Rattle.sound_image.specs.Files.{node_file, checkpoint_gate}
@@ -41,6 +42,7 @@ use Rattle.step_sweeps.specs.Going.{rest_calls}
 use Rattle.step_sweeps.specs.Made.{IsCounted}
 use Rattle.step_sweeps.specs.Makes.{table_by, operand_nodes, IsGivenFor, IsDiagramOf, Makes}
 use Rattle.step_sweeps.specs.Operations.{IsWithin}
+use Rattle.step_sweeps.specs.Stops.{step_stop}
 use Rattle.step_engine.specs.declared.entries.Spent.{Spent}
 use Rattle.step_engine.specs.declared.sweeping.Sweeping.{Sweeping}
 use Rattle.step_engine.specs.Finding.{JobGoesOn, FindsGoing}
@@ -48,11 +50,11 @@ use Rattle.step_engine.specs.Simple.{reads, MayRun, IsStepOf}
 use Rattle.step_engine.specs.Sweeping.{files_of, sweeping_of}
 use Rattle.step_engine.specs.StepEntries.{diagram_entry, IsEntryFor}
 use Rattle.step_engine.specs.StepFaults.{IsMakingFault, IsStepFault, IsRunFault, IsSoundFault, IsOfKind}
-use Rattle.step_engine.specs.Running.{run_calls, nodes_read, PaysRest, SparesParts, IsReadyFor, RunsStep}
+use Rattle.step_engine.specs.Running.{run_calls, nodes_read, PaysRest, SparesParts, IsReadyFor, IsGoneOn, RunsStep}
 use Rattle.step_engine.proofs.EntryLaws.{IsSpent, for_diagram, diagram_entry_is}
 use Rattle.step_engine.proofs.Operands.{IsGivenTo, step_given}
 use Rattle.step_engine.proofs.RunFaults.{faults_ok, fault_before, refused_first, refused_then, gate_as, shelf_sound, not_spent_kind}
-use Rattle.step_engine.proofs.Went.{stands_as, safe_as, IsSet, Went, Swept, went_first, set_found, same_reads, pays_for, parts_for, went_then}
+use Rattle.step_engine.proofs.Went.{stands_as, safe_as, IsSet, Went, Swept, went_first, set_found, same_reads, pays_for, parts_for, ends_for, went_then}
 
 -- a run that is refused, for a fault that is handed on
 pub handed_runs : {S : Type 0} (tells : S → Bool) (world : S → World) (counts : S → Faults) (n : ℕ) (text : List ℕ) (budget number : ℕ) (p : Planned)
@@ -111,6 +113,7 @@ module _ {S : Type 0} (tells : S → Bool) (world : S → World) (counts : S →
     few_parts = tt;
     one_turn = λ told not. never_one p.step swept not;
     few_calls = few_run;
+    stops = λ told job is holds small shown rest gone. (went.stops told job is holds small shown rest gone, tt);
     faults = faults;
   }
 
@@ -122,9 +125,12 @@ module _ {S : Type 0} (tells : S → Bool) (world : S → World) (counts : S →
       → (world after).clock ≤ (world before).clock + (229 * turns + 13 + rest))
       → (IsTrue (tells after) → (spare : ℕ) → SparesParts number budget (reads_of (world before)) spare
       → e.parts ≤ 5 + turns / 16 + spare)
+      → (IsTrue (tells after) → (job : Job) → IsStepOf job n text budget number p → Holds job number (now (world before)).folder
+      → work_of job p.step < 2 ^ 61 → (shown rest : ℕ) → IsGoneOn p.step number budget (world before) shown rest
+      → (shown ≤ turns) × ((world after).clock ≤ (world before).clock + (229 * (turns - shown) + 13 + rest)))
       → OnlySortShelf {T = Entry} (counts before) (counts after) (Ok e)
       → RunsStep tells world counts n text budget number p before after (Ok e)
-  ended_runs e turns turns_is fits entry made calls few_parts faults = record {
+  ended_runs e turns turns_is fits entry made calls few_parts ends faults = record {
     content = went.content;
     fits = fits;
     entry = entry;
@@ -140,6 +146,12 @@ module _ {S : Type 0} (tells : S → Bool) (world : S → World) (counts : S →
         (few_parts told spare spares);
     one_turn = λ told not. never_one p.step swept not;
     few_calls = few_run;
+    stops = λ told job is holds small shown rest gone. (
+      went.stops told job is holds small shown rest gone,
+      subst (λ k. (shown ≤ k) × ((world after).clock ≤ (world before).clock + (run_calls p.step (k - shown) + rest))) (sym turns_is)
+          (let ended = ends told job is holds small shown rest gone in
+          (ended.0, swept_calls p.step (turns - shown) rest _ _ swept ended.1)),
+    );
     faults = faults;
   }
 
@@ -341,6 +353,11 @@ module _ {S : Type 0} (tells : S → Bool) (world : S → World) (counts : S →
           let its = given_as job set in
           subst (λ w. (world after).clock ≤ (world mid).clock + (229 * w + 11 + rest_calls going.last (operand_nodes (making_of n sweeping going.step) (reads_of (world mid)))))
           its.given.work_is (said.few_calls told its.given.tables its.for);
+      stops = λ told job set small.
+          let its = given_as job set in
+          subst (λ k. StopsCost k (shown_by going.last)
+          ((world mid).clock + (step_stop + rest_calls going.last (operand_nodes (making_of n sweeping going.step) (reads_of (world mid))))) (world mid) (world after))
+          step_is (said.stops told its.given.tables its.for (subst (λ w. w < 2 ^ 61) (sym its.given.work_is) small));
     }
 
     went : Went tells world counts n text budget number p before after
@@ -402,6 +419,13 @@ module _ {S : Type 0} (tells : S → Bool) (world : S → World) (counts : S →
       (λ told spare spares. subst (λ k. k ≤ 5 + m.turns / 16 + spare) (sym (ap (λ (x : Entry). x.parts) e_is))
       (parts_for number budget (reads_of (world before)) going.last m.turns m.next spare
       (found.last (said.content.before told)) spares said.few_anew took.few))
+      (λ told job is holds small shown rest gone.
+      let its = given_as job (set_in (Ok m) said told job is holds) in
+      let diagram : IsDiagramOf (making_of n sweeping going.step) its.given.tables m (world after) = said.made told its.given.tables its.for in
+      let few_turns : m.turns ≤ work_of job p.step = subst (λ w. m.turns ≤ w) its.given.work_is diagram.few in
+      ends_for tells world counts n text budget number p files_are is_one.sweeps_is before mid after going found 11
+      (operand_nodes (making_of n sweeping going.step)) (omega arith) is_one.nodes (said.content.before told) job is holds m.turns shown rest gone said.grew
+      (said.calls told (omega (arith, few_turns, small))))
       (sort_shelf_then (counts before) (counts mid) (counts after) (Ok going) (Ok e) found.faults
       (faults_ok (counts mid) (counts after) m e said.faults))
     where

@@ -1,5 +1,5 @@
 -- A step of a job of which it was found how far it has come, and what a sweep of it leaves and costs then.
-use Rattle.std.proofs.Common.{◌≡◌, ℕ, ◌+◌, ◌*◌, ◌/◌, ◌≤◌, Bool, true, List, refl, sym, subst, inr, arith}
+use Rattle.std.proofs.Common.{◌≡◌, ℕ, ◌+◌, ◌-◌, ◌*◌, ◌/◌, ◌^◌, ◌<◌, ◌≤◌, Bool, true, List, refl, sym, subst, inr, arith}
 use Rattle.std.specs.Prelude.{IsTrue, Option, Some, None, Result, Ok}
 use Rattle.bool_tables.specs.declared.steps.Step.{Step}
 use Rattle.bool_tables.specs.declared.steps.Planned.{Planned}
@@ -17,19 +17,23 @@ use Rattle.sweep_core.specs.declared.checkpoint.Checkpoint.{Checkpoint}
 use Rattle.sweep_core.specs.Saving.{reads_of}
 use Rattle.sweep_checkpoint.specs.Gated.{last_gated}
 use Rattle.sweep_checkpoint.specs.Loads.{Tells}
+use Rattle.sweep_checkpoint.specs.Stops.{shown_by, StopsCost}
 use Rattle.sweep_checkpoint.specs.declared.going.Going.{Going}
 use Rattle.step_going.specs.Found.{DuringFind}
 use Rattle.step_going.specs.Standing.{AreSafe, IsStanding}
+use Rattle.step_going.proofs.Shown.{standing_shows, stops_more, stops_fewer, stops_join}
 use Rattle.step_sweeps.specs.Going.{next_of, rest_calls}
 use Rattle.step_sweeps.specs.Made.{FewAnew}
+use Rattle.step_sweeps.specs.Stops.{step_stop}
 use Rattle.sound_image.specs.Jobs.{Job}
 use Rattle.sound_image.specs.Entries.{work_of}
 use Rattle.sound_image.specs.Holds.{Holds, AreResumable}
 use Rattle.step_engine.specs.Finding.{IsOfJob, JobGoesOn, JobRests, JobStands, FindsGoing}
 use Rattle.step_engine.specs.OneFile.{ChangesFile, OnlyMade}
-use Rattle.step_engine.specs.Running.{nodes_read, PaysRest, SparesParts}
+use Rattle.step_engine.specs.Running.{run_stop, nodes_read, PaysRest, SparesParts, IsGoneOn}
 use Rattle.step_engine.specs.Simple.{IsStepOf}
 use Rattle.step_engine.proofs.Resuming.{safe_resumes_over}
+use Rattle.step_engine.proofs.Stops.{found_stops, found_shows, shown_turns_of, stop_paid}
 
 -- what the job's step stands with, in other words for when it goes on and what its checkpoints rest on
 pub stands_as : (job : Job) (number step budget : ℕ) (Q : (FileNo → List ℕ) → Type 0) (rests : Checkpoint → FileNo → ℕ → Type 0)
@@ -83,6 +87,9 @@ module _ {S : Type 0} (tells : S → Bool) (world : S → World) (counts : S →
     pub few_calls : IsTrue (tells after) → (job : Job) → IsStepOf job n text budget number p → Holds job number (now (world before)).folder
         → (rest : ℕ) → PaysRest p.step number budget (reads_of (world before)) rest
         → (world after).clock ≤ (world before).clock + (229 * work_of job p.step + 13 + rest)
+    pub stops : IsTrue (tells after) → (job : Job) → IsStepOf job n text budget number p → Holds job number (now (world before)).folder
+        → work_of job p.step < 2 ^ 61 → (shown rest : ℕ) → IsGoneOn p.step number budget (world before) shown rest
+        → StopsCost number shown ((world before).clock + (run_stop + rest)) (world before) (world after)
 
   -- what a sweep says, of which so many calls are made with no turn, and which goes on with these nodes
   pub record Swept (last : Option Checkpoint) (some : ℕ) (nodes : (FileNo → List ℕ) → ℕ) (mid after : S) : Type 0 where
@@ -91,6 +98,9 @@ module _ {S : Type 0} (tells : S → Bool) (world : S → World) (counts : S →
         → Throughout (world mid) (world after) (λ (m : Moment). AreSafe (JobGoesOn job number) number m.folder)
     pub few_calls : IsTrue (tells after) → (job : Job) → IsSet job n text budget number p last (now (world mid)).folder
         → (world after).clock ≤ (world mid).clock + (229 * work_of job p.step + some + rest_calls last (nodes (reads_of (world mid))))
+    pub stops : IsTrue (tells after) → (job : Job) → IsSet job n text budget number p last (now (world mid)).folder
+        → work_of job p.step < 2 ^ 61 → StopsCost number (shown_by last)
+        ((world mid).clock + (step_stop + rest_calls last (nodes (reads_of (world mid))))) (world mid) (world after)
 
   own_only : sweeps p.step ≡ true → (old m : Folder) → OnlyChanges (λ f. f.step ≡ number) old m → OnlyChanges (ChangesFile p.step number) old m
   own_only swept old m only f apart = only f (λ own. apart (inr (swept, own)))
@@ -112,6 +122,9 @@ module _ {S : Type 0} (tells : S → Bool) (world : S → World) (counts : S →
         (found.holds tells_mid job (of_job job n text budget number p is) holds);
     few_calls = λ tells_mid job is holds rest pays.
         let few = found.calls tells_mid in let enough = work_enough job p.step in omega (arith, few, enough);
+    stops = λ tells_mid job is holds small shown rest gone.
+        found_stops number shown ((world before).clock + (run_stop + rest)) (world before) (world mid) gone.shows (found.content.did tells_mid)
+        (let few = found.calls tells_mid in omega (arith, few));
   }
 
   module _ (files_are : (s : S) → IsTrue (tells s) → AreFiles (now (world s)).folder) (swept : sweeps p.step ≡ true) (before mid after : S) (going : Going)
@@ -138,6 +151,39 @@ module _ {S : Type 0} (tells : S → Bool) (world : S → World) (counts : S →
         (fewer (reads_of (world before))) (found.last tells_mid) pays (found.calls tells_mid) (found.few_calls tells_mid)
         (subst (λ r. (world after).clock ≤ (world mid).clock + (229 * turns + some + rest_calls going.last (nodes r))) (same_reads tells_mid) then)
 
+    -- the last checkpoint shows no less than was shown before
+    shown_found : IsTrue (tells mid) → (job : Job) → IsStepOf job n text budget number p → Holds job number (now (world before)).folder
+        → (shown rest : ℕ) → IsGoneOn p.step number budget (world before) shown rest → shown ≤ shown_by going.last
+    shown_found tells_mid job is holds shown rest gone =
+        found_shows number shown (shown_by going.last) (world before) (world mid) (files_are mid tells_mid) gone.shows (found.content.did tells_mid)
+        (standing_shows (JobGoesOn job number) (JobRests job number) number job.budget (next_of going.last) (now (world mid)).folder going.last
+        (set_found tells_mid job is holds).stands)
+
+    -- what the step cost for each turn beyond those that were shown before
+    pub ends_for : IsTrue (tells mid) → (job : Job) → IsStepOf job n text budget number p → Holds job number (now (world before)).folder
+        → (turns shown rest : ℕ) → IsGoneOn p.step number budget (world before) shown rest → going.turns ≤ turns
+        → (world after).clock ≤ (world mid).clock + (229 * (turns - going.turns) + some + rest_calls going.last (nodes (reads_of (world mid))))
+        → (shown ≤ turns) × ((world after).clock ≤ (world before).clock + (229 * (turns - shown) + 13 + rest))
+    ends_for tells_mid job is holds turns shown rest gone grew then =
+        let least = shown_found tells_mid job is holds shown rest gone in
+        let come = shown_turns_of going.last going found.going.2.going_of.come_to in
+        let few = pays_for tells_mid (turns - going.turns) rest gone.pays then in
+        (omega (arith, least, come, grew), omega (arith, least, come, few))
+
+    stops_then : Swept going.last some nodes mid after → IsTrue (tells after) → (job : Job) → IsStepOf job n text budget number p
+        → Holds job number (now (world before)).folder → work_of job p.step < 2 ^ 61 → (shown rest : ℕ)
+        → IsGoneOn p.step number budget (world before) shown rest
+        → StopsCost number shown ((world before).clock + (run_stop + rest)) (world mid) (world after)
+    stops_then sweep tells_after job is holds small shown rest gone =
+        let tells_mid : IsTrue (tells mid) = sweep.content.before tells_after in
+        let most : ℕ = (world mid).clock + (step_stop + rest_calls going.last (nodes (reads_of (world mid)))) in
+        stops_more number shown most ((world before).clock + (run_stop + rest)) (world mid) (world after)
+        (stop_paid p.step number budget (reads_of (world before)) going.last rest _ _ (nodes (reads_of (world mid)))
+        (subst (λ r. nodes r ≤ nodes_read p.step (reads_of (world before))) (sym (same_reads tells_mid)) (fewer (reads_of (world before))))
+        (found.last tells_mid) gone.pays (found.calls tells_mid) (found.few_calls tells_mid))
+        (stops_fewer number shown (shown_by going.last) most (world mid) (world after) (shown_found tells_mid job is holds shown rest gone)
+        (sweep.stops tells_after job (set_found tells_mid job is holds) small))
+
     -- where a sweep followed
     pub went_then : Swept going.last some nodes mid after → Went before after
     went_then sweep = record {
@@ -158,4 +204,9 @@ module _ {S : Type 0} (tells : S → Bool) (world : S → World) (counts : S →
       few_calls = λ tells_after job is holds rest pays.
           let tells_mid : IsTrue (tells mid) = sweep.content.before tells_after in
           pays_for tells_mid (work_of job p.step) rest pays (sweep.few_calls tells_after job (set_found tells_mid job is holds));
+      stops = λ tells_after job is holds small shown rest gone.
+          stops_join number shown ((world before).clock + (run_stop + rest)) (world before) (world mid) (world after)
+          (sweep.content.did tells_after).moments.past
+          ((went_first swept before mid (Ok going) found).stops (sweep.content.before tells_after) job is holds small shown rest gone)
+          (stops_then sweep tells_after job is holds small shown rest gone);
     }

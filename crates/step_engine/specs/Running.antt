@@ -18,7 +18,9 @@ use Rattle.sweep_core.specs.declared.checkpoint.Checkpoint.{Checkpoint}
 use Rattle.sweep_core.specs.Saving.{reads_of}
 use Rattle.sweep_checkpoint.specs.Gated.{last_gated}
 use Rattle.sweep_checkpoint.specs.Loads.{Tells}
+use Rattle.sweep_checkpoint.specs.Stops.{StopsCost, ShowAtLeast}
 use Rattle.step_sweeps.specs.Going.{rest_calls}
+use Rattle.step_sweeps.specs.Stops.{step_stop}
 use Rattle.sound_image.specs.Files.{node_file}
 use Rattle.sound_image.specs.Jobs.{Job}
 use Rattle.sound_image.specs.Entries.{IsEntryOfStep, work_of}
@@ -37,6 +39,11 @@ run_calls step turns = cond (sweeps step) (229 * turns + 13) 5
 abbrev pub nodes_read : Step → (FileNo → List ℕ) → ℕ
 nodes_read step r = 3 * sum_by (λ k. count_of (r (node_file k))) (operands step)
 
+-- the calls of a stop in the middle of a step beyond those for turns that it leaves shown: two find that nothing is
+-- gated
+abbrev pub run_stop : ℕ
+run_stop = step_stop + 2
+
 -- so many calls pay for going on from the checkpoint that the step's last gated bytes are, where there is one
 abbrev pub PaysRest : Step → ℕ → ℕ → (FileNo → List ℕ) → ℕ → Type 0
 PaysRest step number budget r rest = (c : Checkpoint) → Tells number budget (last_gated number r) (Some c)
@@ -52,6 +59,11 @@ pub record IsReadyFor (job : Job) (n : ℕ) (text : List ℕ) (budget number : �
     : Type 0 where
   pub step : IsStepOf job n text budget number p
   pub holds : IsTrue (reads p.step) → Holds job number (now world).folder
+
+-- each image of the folder shows so many turns of the step or more, and so many calls pay for going on with it
+pub record IsGoneOn (step : Step) (number budget : ℕ) (world : World) (shown rest : ℕ) : Type 0 where
+  pub shows : ShowAtLeast number shown (now world).folder
+  pub pays : PaysRest step number budget (reads_of world) rest
 
 -- the step was run, or refused, in a room of so many records
 pub record RunsStep {S : Type 0} (tells : S → Bool) (world : S → World) (counts : S → Faults) (n : ℕ) (text : List ℕ)
@@ -81,4 +93,12 @@ pub record RunsStep {S : Type 0} (tells : S → Bool) (world : S → World) (cou
       → Holds job number (now (world before)).folder → (rest : ℕ)
       → PaysRest p.step number budget (reads_of (world before)) rest
       → (world after).clock ≤ (world before).clock + (run_calls p.step (work_of job p.step) + rest)
+  -- what a stop costs at any moment: for each turn of the step that it leaves shown beyond those that each image showed
+  -- before at most 229 calls, and so many more; and what the step cost at its end, likewise
+  pub stops : IsTrue (tells after) → (job : Job) → IsStepOf job n text budget number p
+      → Holds job number (now (world before)).folder → work_of job p.step < 2 ^ 61 → (shown rest : ℕ)
+      → IsGoneOn p.step number budget (world before) shown rest
+      → StopsCost number shown ((world before).clock + (run_stop + rest)) (world before) (world after)
+      × IfOk result (λ e. (shown ≤ e.turns) × ((world after).clock
+      ≤ (world before).clock + (run_calls p.step (e.turns - shown) + rest)))
   pub faults : OnlySortShelf (counts before) (counts after) result

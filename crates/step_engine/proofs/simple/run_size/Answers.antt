@@ -1,13 +1,14 @@
 use Rattle.std.proofs.Common.{◌<◌, nat_lt, refl, ap, sym, subst, inl, arith}
-use Rattle.std.specs.Prelude.{IsTrue}
+use Rattle.std.specs.Prelude.{IsTrue, Ok, Err}
 use Rattle.std.specs.List.{list_all}
 use Rattle.bool_tables.specs.Plans.{operands}
 use Rattle.catalogue.specs.declared.layout.Entry.{Entry}
+use Rattle.shelf_model.specs.SortFaults.{handed_on}
 use Rattle.shelf_model.specs.World.{now}
 use Rattle.step_work.specs.Tuples.{sweeps}
 use Rattle.sound_image.specs.Entries.{IsEntryOfStep, kind_of}
 use Rattle.step_engine.proofs.EntryLaws.{for_nameless, size_entry_is, only_below, one_turn_spent}
-use Rattle.step_engine.proofs.OneTurn.{first_parts, size_calls, size_fault, size_sound, size_kind, size_makes, size_reads}
+use Rattle.step_engine.proofs.OneTurn.{first_parts, one_stops, size_calls, size_fault, size_sound, size_kind, size_makes, size_reads}
 use Rattle.step_engine.proofs.Resuming.{one_resumes}
 use Rattle.step_engine.proofs.RunFaults.{shelf_faults, shelf_fine}
 use Rattle.step_engine.proofs.Runs.{handed_runs}
@@ -39,6 +40,8 @@ returns-in_err-nodes g c =
             few_parts = tt;
             one_turn = λ told not. let few = said.calls told in omega (arith, few);
             few_calls = λ told job is holds rest pays. size_calls c.args.of p.step c.requires.kind _ rest _ _ (said.calls told);
+            stops = λ told job is holds small. one_stops g.S.Shelf.tells g.S.Shelf.world c.args.n c.args.text.now budget c.args.number p g.met.S.Shelf.files_are _ _
+                (ap sweeps c.requires.kind) content (λ sure. let few = said.calls sure in omega (arith, few)) (Err (handed_on e)) told job is holds;
             faults = shelf_faults _ _ e said.faults;
           });
     }
@@ -69,6 +72,8 @@ returns g c =
         few_parts = λ told spare spares. first_parts _ _ spare (ap (λ (x : Entry). x.parts) c.nameless_entry.ensures);
         one_turn = λ told not. let few = said.calls told in omega (arith, few);
         few_calls = λ told job is holds rest pays. size_calls c.args.of p.step c.requires.kind _ rest _ _ (said.calls told);
+        stops = λ told job is holds small. one_stops g.S.Shelf.tells g.S.Shelf.world c.args.n c.args.text.now budget c.args.number p g.met.S.Shelf.files_are _ _
+            (ap sweeps c.requires.kind) content (λ sure. let few = said.calls sure in omega (arith, few)) (Ok c.nameless_entry.result) told job is holds;
         faults = shelf_fine _ _ _ _ said.faults;
       };
     }

@@ -1,0 +1,53 @@
+-- What a stop costs in the middle of a step that sweeps: while it is found how far it has come, and behind that.
+use Rattle.std.proofs.Common.{◌≡◌, ℕ, ◌+◌, ◌≤◌, List, refl, sym, arith}
+use Rattle.std.specs.Prelude.{Option, Some, None}
+use Rattle.bool_tables.specs.declared.steps.Step.{Step}
+use Rattle.shelf_model.specs.declared.file_no.FileNo.{FileNo}
+use Rattle.shelf_model.specs.Folder.{Image, AreFiles}
+use Rattle.shelf_model.specs.Moments.{Ran}
+use Rattle.shelf_model.specs.World.{World, now}
+use Rattle.shelf_model.proofs.Images.{chosen, standing_image}
+use Rattle.shelf_model.proofs.Runs.{ran_end}
+use Rattle.sweep_core.specs.declared.checkpoint.Checkpoint.{Checkpoint}
+use Rattle.sweep_checkpoint.specs.Gated.{last_gated}
+use Rattle.sweep_checkpoint.specs.Loads.{Tells}
+use Rattle.sweep_checkpoint.specs.Stops.{shown_by, StopsCost, ShowAtLeast}
+use Rattle.sweep_checkpoint.specs.declared.going.Going.{Going}
+use Rattle.step_going.specs.Found.{IsComeTo, DuringFind}
+use Rattle.step_going.proofs.Shown.{ShowsSurely, image_shows}
+use Rattle.step_sweeps.specs.Going.{rest_calls}
+use Rattle.step_sweeps.specs.Stops.{step_stop}
+use Rattle.step_engine.specs.Running.{run_stop, nodes_read, PaysRest}
+
+-- while it is found how far a step has come, each image shows what one of before did
+pub found_stops : (number shown most : ℕ) (old new : World) → ShowAtLeast number shown (now old).folder
+    → Ran (DuringFind number (now old)) old new → new.clock ≤ most → StopsCost number shown most old new
+found_stops number shown most old new shows run few k from to image is_image =
+    let least = shows image ((run.moments.each k from to).holds.images image is_image) in
+    record { no_fewer = least; few = omega (arith, few, to) }
+
+-- and the last checkpoint no less than was shown
+pub found_shows : (number shown turns : ℕ) (old new : World) → AreFiles (now new).folder
+    → ShowAtLeast number shown (now old).folder → Ran (DuringFind number (now old)) old new
+    → ShowsSurely number turns (now new).folder → shown ≤ turns
+found_shows number shown turns old new files shows run sure =
+    let image : Image = chosen (λ _ x. x.bytes) (now new).folder in
+    let is_image = standing_image (now new).folder files in
+    let least = shows image ((ran_end old new (DuringFind number (now old)) run).images image is_image) in
+    let same = image_shows number turns (now new).folder image sure is_image in
+    omega (arith, least, same)
+
+-- it shows the turns that the step has come to
+pub shown_turns_of : (last : Option Checkpoint) (going : Going) → IsComeTo last going → shown_by last ≡ going.turns
+shown_turns_of None going come = sym come.0
+shown_turns_of (Some c) going come = sym come.0
+
+-- what going on costs pays for finding that too, and two calls find that nothing is gated
+pub stop_paid : (step : Step) (number budget : ℕ) (r : FileNo → List ℕ) (last : Option Checkpoint) (rest before mid nodes : ℕ)
+    → nodes ≤ nodes_read step r → Tells number budget (last_gated number r) last → PaysRest step number budget r rest
+    → mid ≤ before + 590 → (last ≡ None → mid ≤ before + 2)
+    → mid + (step_stop + rest_calls last nodes) ≤ before + (run_stop + rest)
+stop_paid step number budget r None rest before mid nodes fewer told pays most least =
+    let begun : mid ≤ before + 2 = least refl in omega (arith, begun)
+stop_paid step number budget r (Some c) rest before mid nodes fewer told pays most least =
+    let paid = pays c told in omega (arith, fewer, most, paid)
