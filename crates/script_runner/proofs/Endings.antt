@@ -26,6 +26,8 @@ use Rattle.script_runner.specs.Calls.{AreCounted}
 use Rattle.script_runner.specs.Listed.{ListsIn}
 use Rattle.script_runner.specs.Source.{Source}
 use Rattle.script_runner.specs.Text.{usage_line}
+use Rattle.script_runner.proofs.RunPaying.{fetched_stops}
+use Rattle.script_runner.proofs.StopLaws.{fetched_old, old_then}
 use Rattle.script_runner.specs.Outcome.{SaysLine, EndsSource, RunsAsked, RunsTexts, Ends, RunsInCalls}
 use Rattle.diagram_list.proofs.SayingLaws.{says_nothing}
 use Rattle.script_runner.proofs.EnteredRuns.{earlier}
@@ -150,14 +152,16 @@ calls_whole budget text bytes netlist before old new read (inr ran) =
 -- and after texts were fetched
 pub fetched_calls : (source : Source) (fetch most : ℕ) (old mid new : World) → OnlyFetched old mid
     → mid.clock ≤ old.clock + fetch → fetch ≤ most → RunsInCalls 0 source mid new → RunsInCalls most source old new
-fetched_calls source fetch most old mid new looked clock within (inl few) = inl (omega (arith, clock, few, within))
-fetched_calls source fetch most old mid new looked clock within (inr (plan, plans, calls)) = inr (
+fetched_calls source fetch most old mid new looked clock within (inl (few, still)) =
+    inl (omega (arith, clock, few, within), old_then old mid new (fetched_old old mid looked) still)
+fetched_calls source fetch most old mid new looked clock within (inr (plan, plans, calls, stops)) = inr (
   plan,
   plans,
   λ rest counted.
       let few = calls rest (subst (λ (m : Moment). AreCounted (job_of source plan) m.folder rest)
       (sym (still_there old mid looked)) counted) in
       omega (arith, clock, few, within),
+  fetched_stops (job_of source plan) (length plan.lines) 2 fetch (most + 2) old mid new looked clock (omega (arith, within)) stops,
 )
 
 -- a call ends so whose words have no other reading: those of a run over texts, of a run of a size, and of a list

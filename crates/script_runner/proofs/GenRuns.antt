@@ -1,14 +1,15 @@
 -- The run of the script of a size.
-use Rattle.std.proofs.Common.{◌≡◌, ℕ, Bool, List, refl, subst, inl, inr, arith}
+use Rattle.std.proofs.Common.{◌≡◌, ℕ, ◌+◌, Bool, List, length, refl, subst, inl, inr, arith}
 use Rattle.std.specs.Prelude.{Some, None}
 use Rattle.command_words.specs.Readings.{gen}
 use Rattle.example_script.specs.Script.{script_of}
 use Rattle.shelf_model.specs.Calls.{Told}
 use Rattle.shelf_model.specs.World.{World}
-use Rattle.script_runner.specs.JobOf.{source_of}
+use Rattle.script_runner.specs.JobOf.{source_of, job_of}
 use Rattle.script_runner.specs.Outcome.{EndsSource, Ends, RunsInCalls, MakesFewCalls, texts_calls}
 use Rattle.script_runner.specs.Source.{Source}
 use Rattle.script_runner.proofs.Endings.{ends_size}
+use Rattle.script_runner.proofs.RunPaying.{stops_besides}
 
 module _ {S : Type 0} (tells : S → Bool) (world : S → World) where
   pub ran_size : (folder : List ℕ) (size budget : ℕ) (script : List ℕ) (status : ℕ) (s t : S) → script ≡ script_of size
@@ -25,9 +26,13 @@ module _ {S : Type 0} (tells : S → Bool) (world : S → World) where
 
 -- its calls are fewer than where texts are fetched
 later : (source : Source) (most : ℕ) (old new : World) → RunsInCalls 0 source old new → RunsInCalls most source old new
-later source most old new (inl few) = inl (omega (arith, few))
-later source most old new (inr (plan, plans, calls)) =
-    inr (plan, plans, λ counted. let few = calls counted in omega (arith, few))
+later source most old new (inl (few, still)) = inl (omega (arith, few), still)
+later source most old new (inr (plan, plans, calls, stops)) = inr (
+  plan,
+  plans,
+  λ rest counted. let few = calls rest counted in omega (arith, few),
+  stops_besides (job_of source plan) (length plan.lines) 2 (most + 2) old new (omega arith) stops,
+)
 
 pub calls_size : (folder : List ℕ) (size budget : ℕ) (script : List ℕ) (old new : World) → script ≡ script_of size
     → RunsInCalls 0 (source_of budget script None) old new

@@ -11,6 +11,9 @@ pub mod StepByStep
 pub mod SayingLines
 pub mod Resting
 pub mod Taking
+pub mod StopLaws
+pub mod StepPaying
+pub mod RunPaying
 pub mod Paying
 pub mod Turns
 pub mod EnteredRuns
@@ -20,6 +23,8 @@ pub mod SourceRuns
 pub mod SilentEndings
 pub mod GenRuns
 pub mod Lives
+pub mod WithinWork
+pub mod LivesCost
 pub mod Listings
 pub mod ListEndings
 pub mod FinishedFiles

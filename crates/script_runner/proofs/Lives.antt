@@ -58,7 +58,7 @@ no_faulty_script w asked p r source fault is source_is faulty accepts =
     faulty
 
 -- and no list
-no_list : (w : World) (asked : Option Reading) (p : Plan) (path : List ℕ) → asked ≡ Some (list path) → ¬ (Accepts w asked p)
+pub no_list : (w : World) (asked : Option Reading) (p : Plan) (path : List ℕ) → asked ≡ Some (list path) → ¬ (Accepts w asked p)
 no_list w asked p path is accepts =
     subst (λ r. IsSource w r accepts.source) (one_some accepts.asks.reading (list path) asked accepts.asks.asked_is is)
     accepts.asks.source_is
@@ -84,7 +84,7 @@ of_left : (P : (FileNo → List ℕ) → Type 0) (folder left : Folder) → IsLe
 of_left P folder left leaves all image is_image = all image (leaves image is_image)
 
 -- the images of a folder that another one is like
-alike : (a b : Folder) → SameFiles a b → (image : Image) → IsImage a image → IsImage b image
+pub alike : (a b : Folder) → SameFiles a b → (image : Image) → IsImage a image → IsImage b image
 alike a b same image is_image f = subst (λ x. IsLeft x (bytes_in image f)) (same f) (is_image f)
 
 alike_back : (a b : Folder) → SameFiles a b → (image : Image) → IsImage b image → IsImage a image

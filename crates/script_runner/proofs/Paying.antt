@@ -43,6 +43,15 @@ pub none_unpaid : (done step rest : ℕ) → done ≤ step → unpaid done (step
 unfolding unpaid
 none_unpaid done step rest reached = ap (λ b. cond b 0 rest) (lt-ltb done (step + 1) (omega (arith, reached)))
 
+-- what remains for going on where some is put aside for part numbers
+pub unpaid_less : (done step rest : ℕ) → unpaid done step (rest - 81) - 1019 ≡ unpaid done step rest - 1100
+unfolding unpaid
+unpaid_less done step rest = by_test (nat_lt done step)
+  where
+    by_test : (b : Bool) → cond b 0 (rest - 81) - 1019 ≡ cond b 0 rest - 1100
+    by_test true = refl
+    by_test false = omega arith
+
 -- where the gate is empty nothing is paid
 no_checkpoint : (step : Step) (number budget : ℕ) (r : FileNo → List ℕ) (rest : ℕ) → r (checkpoint_gate number) ≡ [] → PaysRest step number budget r rest
 no_checkpoint step number budget r rest empty c tells =

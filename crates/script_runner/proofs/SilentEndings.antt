@@ -17,6 +17,7 @@ use Rattle.script_runner.specs.Source.{NamesText}
 use Rattle.script_runner.specs.Status.{status_of}
 use Rattle.script_runner.specs.Text.{usage_line}
 use Rattle.script_runner.proofs.Endings.{fetched_then, same_reading, ends_texts, ends_unread, ends_without_memory}
+use Rattle.script_runner.proofs.StopLaws.{fetched_old, says_old}
 use Rattle.script_runner.proofs.SourceRuns.{one_of_two, line_said, has_cause, words_run}
 
 -- nothing was called
@@ -56,7 +57,7 @@ module _ {S : Type 0} (tells : S → Bool) (world : S → World) (counts : S →
       before = looked.before;
       did = λ tells_t. ends_without_memory asked (world s) (world t) (looked.did tells_t);
     };
-    calls = λ tells_t. let few = calls tells_t in inl (omega (arith, few));
+    calls = λ tells_t. let few = calls tells_t in inl (omega (arith, few), fetched_old (world s) (world t) (looked.did tells_t));
     by_words = record {
       usage = λ two. absurd (omega (arith, two));
       unread = λ none. inr (inr refl);
@@ -89,7 +90,7 @@ module _ {S : Type 0} (tells : S → Bool) (world : S → World) (counts : S →
       before = looked.before;
       did = λ tells_t. ends_texts folder script netlist budget 6 (world s) (world t) (inr (inl (refl, looked.did tells_t)));
     };
-    calls = λ tells_t. let few = calls tells_t in inl (omega (arith, few));
+    calls = λ tells_t. let few = calls tells_t in inl (omega (arith, few), fetched_old (world s) (world t) (looked.did tells_t));
     by_words = words_run folder script netlist budget 6 refl (λ x. omega (arith, x));
     causes = record {
       text_fault = λ six. (run folder script netlist budget, refl, (path, names, rose));
@@ -114,7 +115,7 @@ module _ {S : Type 0} (tells : S → Bool) (world : S → World) (counts : S →
           (line_said line e ending.Usage (world s) (world t) which (λ x. omega (arith, x)) (says.did tells_t)
           (λ is. whole is tells_t)));
     };
-    calls = λ tells_t. let few = calls tells_t in inl (omega (arith, few));
+    calls = λ tells_t. let few = calls tells_t in inl (omega (arith, few), says_old line (world s) (world t) (says.did tells_t));
     by_words = by_usage asked e none which;
     causes = has_cause asked e (counts s) (counts t)
         (one_of_two (λ s. ¬ (s ≡ 6)) e ending.Usage which (λ x. omega (arith, x)) (λ x. omega (arith, x))) cause;

@@ -28,6 +28,7 @@ use Rattle.script_runner.specs.Outcome.{SaysLine, EndsSource, Ends, ByWords, IsS
 use Rattle.script_runner.specs.Running.{SaysOnly}
 use Rattle.script_runner.specs.Source.{Source, IsNamed, IsSource, Spells, Plans, IsFaulty, HasFaultyText}
 use Rattle.script_runner.specs.Status.{status_of}
+use Rattle.script_runner.specs.Stops.{StopsIn}
 use Rattle.script_runner.specs.Text.{refused_line, netlist_line}
 use Rattle.script_runner.proofs.Endings.{fetched_then, fetched_line, fetched_source, ends_whole, calls_whole, fetched_calls, ends_texts, accepted_is_short}
 
@@ -81,6 +82,13 @@ calls_of source plan steps budget spoken job folder old new steps_are lines_are 
   where
     IsFew : Job → Type 0
     IsFew j = (rest : ℕ) → AreCounted j folder rest → new.clock ≤ old.clock + 2 + (most_calls j (length spoken) + rest)
+
+-- and so is what a stop costs
+pub stops_of : (source : Source) (plan : Plan) (steps : List Planned) (budget : ℕ) (spoken : List LineEnd) (job : List ℕ) (old new : World)
+    → steps ≡ plan.steps → spoken ≡ plan.lines → job ≡ job_bytes source → budget ≡ room_in job
+    → StopsIn (given_job plan.n source.script steps budget job) (length spoken) 2 old new → StopsIn (job_of source plan) (length plan.lines) 2 old new
+stops_of source plan steps budget spoken job old new steps_are lines_are is room stops =
+    subst (λ v. v) (λ i. StopsIn (given_job_is source plan steps budget job steps_are is room i) (length (lines_are i)) 2 old new) stops
 
 -- a status of an ending that is one of two
 pub one_of_two : (P : ℕ → Type 0) (e f : Ending) → (e ≡ f) ⊎ (e ≡ SayFault) → P (status_of f) → P 8 → P (status_of e)

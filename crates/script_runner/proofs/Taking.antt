@@ -56,10 +56,10 @@ abbrev AllHave : Job → ℕ → Moment → Type 0
 AllHave job count m = (image : Image) → IsImage m.folder image → HasSteps job count (bytes_in image)
 
 -- the job's files are as they were
-abbrev JobStays : Folder → Folder → Type 0
+abbrev pub JobStays : Folder → Folder → Type 0
 JobStays before after = (f : FileNo) → f.step ≡ job_step → file_in after f ≡ file_in before f
 
-ready_same : (count : ℕ) (before after : Folder) → JobStays before after → IsReady count before → IsReady count after
+pub ready_same : (count : ℕ) (before after : Folder) → JobStays before after → IsReady count before → IsReady count after
 ready_same count before after same ready = record {
   stored = subst (λ (x : File). 0 < x.firm) (sym (same job_gate refl)) ready.stored;
   gate = same step_gate refl ∙ ready.gate ∙ ap (λ (x : File). firm_file x.bytes) (sym (same step_gate refl));
@@ -68,16 +68,16 @@ ready_same count before after same ready = record {
 }
 
 -- only the step's own files changed
-abbrev OnlyItsFiles : ℕ → Moment → Moment → Type 0
+abbrev pub OnlyItsFiles : ℕ → Moment → Moment → Type 0
 OnlyItsFiles k old m = OnlyOwnFiles k old.folder m.folder
 
 -- a file that a step changes is its own
-own_file : (s : Step) (k : ℕ) (f : FileNo) → ChangesFile s k f → IsOwnFile k f
+pub own_file : (s : Step) (k : ℕ) (f : FileNo) → ChangesFile s k f → IsOwnFile k f
 own_file s k f (inl made) = ap (λ (q : FileNo). q.step) made.1
 own_file s k f (inr taken) = taken.1
 
 -- and is none of the job's
-job_apart : (k : ℕ) (f : FileNo) → k < job_step → f.step ≡ job_step → ¬ (IsOwnFile k f)
+pub job_apart : (k : ℕ) (f : FileNo) → k < job_step → f.step ≡ job_step → ¬ (IsOwnFile k f)
 job_apart k f early job_step own = let steps : f.step ≡ k = own in omega (arith, job_step, steps, early)
 
 -- a step that drops a diagram is that drop
@@ -179,7 +179,7 @@ module _ (job : Job) (k : ℕ) (few : AreFew job) (within : k < length job.steps
   cut_within s next f earlier cut = let low : f.step ≤ k = cut_file s k next f earlier cut in omega (arith, low, within)
 
   -- the job's files stay while what a step leaves behind is cut
-  job_tidied : (s : Step) (next : ℕ) (last m : Moment) → IsTrue (list_all (λ j. nat_lt j k) (operands s)) → OnlyTidied s k next last m → JobStays last.folder m.folder
+  pub job_tidied : (s : Step) (next : ℕ) (last m : Moment) → IsTrue (list_all (λ j. nat_lt j k) (operands s)) → OnlyTidied s k next last m → JobStays last.folder m.folder
   job_tidied s next last m earlier tidied f job_step =
       tidied.only f (λ cut. let own : f.step < length job.steps = cut_within s next f earlier cut in omega (arith, own, job_step, few))
 

@@ -6,6 +6,7 @@ pub mod Causes
 pub mod Running
 pub mod StepRuns
 pub mod Calls
+pub mod Stops
 pub mod Fetching
 pub mod Netlists
 pub mod JobOf
@@ -14,4 +15,5 @@ pub mod Entered
 pub mod Listed
 pub mod Outcome
 pub mod Lives
+pub mod LivesCost
 pub mod Finished

@@ -5,6 +5,7 @@ use Rattle.std.specs.List.{list_any}
 use Rattle.shelf_model.specs.World.{World, now, said}
 use Rattle.shelf_model.specs.Calls.{Told}
 use Rattle.shelf_model.specs.Faults.{Faults, Rose}
+use Rattle.shelf_model.specs.Moments.{Throughout, OnlyOldImages}
 use Rattle.blif_reader.specs.declared.fault.BlifFault.{BlifFault}
 use Rattle.catalogue.specs.Counts.{present, count_in}
 use Rattle.command_words.specs.Readings.{Reading, run, list, gen}
@@ -18,6 +19,7 @@ use Rattle.script_runner.specs.Text.{usage_line, refused_line, netlist_line}
 use Rattle.script_runner.specs.Fetching.{OnlyFetched}
 use Rattle.script_runner.specs.Running.{SaysOnly}
 use Rattle.script_runner.specs.Calls.{most_calls, fetch_calls, AreCounted}
+use Rattle.script_runner.specs.Stops.{StopsIn}
 use Rattle.script_runner.specs.JobOf.{job_of}
 use Rattle.script_runner.specs.Entered.{RunsIn}
 use Rattle.script_runner.specs.Listed.{ListsIn}
@@ -153,20 +155,21 @@ pub record NoneRose (asked : Option Reading) (old new : Faults) : Type 0 where
 abbrev pub texts_calls : ℕ
 texts_calls = fetch_calls 4194304 + fetch_calls 1048576
 
--- the calls of a run of a source: that of saying a line, or those of entering the folder and of a run of its steps and
--- lines, where each of the steps takes one turn or the folder was sound for the job, and what pays for going on from
--- its last checkpoint
+-- the calls of a run of a source: that of saying a line, and no image is new, or those of entering the folder and of a
+-- run of its steps and lines, where each of the steps takes one turn or the folder was sound for the job, and what pays
+-- for going on from its last checkpoint; and what a stop costs at any moment
 abbrev pub RunsInCalls : ℕ → Source → World → World → Type 0
 RunsInCalls before source old new =
-    (new.clock ≤ old.clock + before + 1)
+    ((new.clock ≤ old.clock + before + 1) × Throughout old new (OnlyOldImages (now old)))
     ⊎ ((plan : Plan) × Plans source plan × ((rest : ℕ) → AreCounted (job_of source plan) (now old).folder rest
-    → new.clock ≤ old.clock + before + 2 + most_calls (job_of source plan) (length plan.lines) + rest))
+    → new.clock ≤ old.clock + before + 2 + most_calls (job_of source plan) (length plan.lines) + rest)
+    × StopsIn (job_of source plan) (length plan.lines) (before + 2) old new)
 
--- the calls of the station: those of reading the texts and of saying a line, those of a run besides, or those of
--- entering a folder and reading each entry twice
+-- the calls of the station: those of reading the texts and of saying a line, and no image is new, those of a run
+-- besides, or those of entering a folder and reading each entry twice
 abbrev pub MakesFewCalls : Option Reading → World → World → Type 0
 MakesFewCalls asked old new =
-    (new.clock ≤ old.clock + texts_calls + 1)
+    ((new.clock ≤ old.clock + texts_calls + 1) × Throughout old new (OnlyOldImages (now old)))
     ⊎ ((source : Source) × Asks old asked source × RunsInCalls texts_calls source old new)
     ⊎ (((folder : List ℕ) × (asked ≡ Some (list folder)))
     × (new.clock ≤ old.clock + 7 + 3 * count_in (present (now old).folder)))

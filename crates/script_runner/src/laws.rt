@@ -1,12 +1,12 @@
 //! Laws of the program, each the contract of a function that does nothing.
-ghost use Rattle.std.specs.Prelude.{Ok, ◌≡◌, ◌↔◌, ◌⊎◌, ◌≤◌, ◌++◌, ℕ, IsTrue, List, Option, Some, length};
+ghost use Rattle.std.specs.Prelude.{Ok, ◌≡◌, ◌↔◌, ◌⊎◌, ◌+◌, ◌*◌, ◌≤◌, ◌++◌, ℕ, IsTrue, List, Option, Some, length};
 ghost use Rattle.bool_tables.specs.Plans.{is_live};
 ghost use Rattle.bool_tables.specs.Steps.{plan_tables, table_of_step};
 ghost use Rattle.blif_reader.specs.Netlist.{Net, IsReading};
 ghost use Rattle.script_reader.specs.Signals.{MakesSignals};
 ghost use Rattle.shelf_model.specs.declared.file_no.FileNo.{FileNo};
 ghost use Rattle.shelf_model.specs.File.{no_file};
-ghost use Rattle.shelf_model.specs.Folder.{Folder, Image, bytes_in, file_in};
+ghost use Rattle.shelf_model.specs.Folder.{Folder, Image, IsImage, bytes_in, file_in};
 ghost use Rattle.shelf_model.specs.World.{World, now, said};
 ghost use Rattle.shelf_model.specs.Faults.{Faults};
 ghost use Rattle.catalogue.specs.Counts.{present, count_in};
@@ -15,6 +15,7 @@ ghost use Rattle.command_words.specs.Readings.{Reading, list};
 ghost use Rattle.sound_image.specs.Files.{node_file};
 ghost use Rattle.sound_image.specs.Jobs.{Job, table_at};
 ghost use Rattle.sound_image.specs.Holds.{AreSound};
+ghost use Rattle.sound_image.specs.Sound.{IsSound};
 ghost use Rattle.script_reader.specs.declared.plan.Plan.{Plan};
 ghost use Rattle.script_runner.specs.Text.{run_text};
 ghost use Rattle.script_runner.specs.JobOf.{job_of};
@@ -22,7 +23,10 @@ ghost use Rattle.script_runner.specs.Fetching.{OnlyFetched};
 ghost use Rattle.script_runner.specs.Listed.{diagram_lines};
 ghost use Rattle.script_runner.specs.Source.{Source, Plans};
 ghost use Rattle.script_runner.specs.Outcome.{Accepts, Ends, ByWords, StatusHasCause, NoneRose, IsSmall};
+ghost use Rattle.script_runner.specs.Outcome.{MakesFewCalls, texts_calls};
 ghost use Rattle.script_runner.specs.Lives.{Life, AreLives, LivesKeep};
+ghost use Rattle.script_runner.specs.LivesCost.{CostLives, left_by, calls_by, all_rests, job_work};
+ghost use Rattle.script_runner.specs.Stops.{paid_in, PayAtLeast, StopsIn};
 ghost use Rattle.script_runner.specs.Finished.{IsDiagramOf, IsFinished};
 
 use canon_file::laws::{bytes_are_unique, nodes_stand_for_the_table};
@@ -37,6 +41,23 @@ pub fn lives_keep()
     ensures keeps { (source : Source) (plan : Plan) (folder : Folder) (lives : List Life)
         → Plans source plan → AreSound (job_of source plan) folder → AreLives source plan folder lives
         → LivesKeep source plan folder lives }
+{}
+
+/// Over any list of calls in one folder, each of which finds what the one before left, however they are ended: the
+/// calls of the station that they make together are at most those that the turns pay for which are shown done at the
+/// end beyond the ones at first, 256 for each turn of a committed step and 229 for each that a checkpoint shows, and
+/// for each call of the program what it costs to go on from what it found. Each call whose words ask for the job costs
+/// so, with those of fetching two texts and two besides. What an image that is sound for the job pays for is at most 256
+/// calls for each turn of its work; and each image that such calls leave is sound, by `lives_keep`.
+pub fn lives_cost()
+    ensures each { (asked : Option Reading) (plan : Plan) (old new : World) → (accepts : Accepts old asked plan)
+        → MakesFewCalls asked old new
+        → StopsIn (job_of accepts.source plan) (length plan.lines) (texts_calls + 2) old new }
+    ensures cost { (job : Job) (lines besides paid : ℕ) (folder : Folder) (lives : List Life) (rests : List ℕ)
+        → PayAtLeast job paid folder → CostLives job lines besides folder lives rests → (image : Image)
+        → IsImage (left_by folder lives) image
+        → calls_by lives + paid ≤ paid_in job (bytes_in image) + all_rests besides rests }
+    ensures within { (job : Job) (r : FileNo → List ℕ) → IsSound job r → paid_in job r ≤ 256 * job_work job }
 {}
 
 /// A folder without files is sound for every job: every image of it is.

@@ -7,6 +7,7 @@ ghost use Rattle.script_runner.specs.Causes.{FinishHasCause};
 ghost use Rattle.shelf_model.specs.World.{now};
 ghost use Rattle.script_runner.specs.Calls.{most_calls, AreCounted};
 ghost use Rattle.script_runner.specs.JobOf.{job_in, given_job};
+ghost use Rattle.script_runner.specs.Stops.{RunPays};
 
 use crate::Finish;
 use crate::banner::banner_line;
@@ -45,6 +46,10 @@ pub fn run_steps<W: Station>(
         → AreCounted (given_job n text.now steps.now (length room.old) job.now) (now (W.world station.old)).folder rest
         → (W.world station.new).clock ≤ (W.world station.old).clock
         + (most_calls (given_job n text.now steps.now (length room.old) job.now) (length lines.now) + rest) }
+    // what a stop costs at any moment
+    ensures stops { IsTrue (W.tells station.new)
+        → RunPays (given_job n text.now steps.now (length room.old) job.now) (length lines.now)
+        (W.world station.old) (W.world station.new) }
     ensures causes { FinishHasCause (W.faults station.old) (W.faults station.new) result }
 {
     let job = Job {
@@ -67,6 +72,9 @@ pub(crate) fn run_job<W: Station>(job: &Job, room: &mut [Rec], station: &mut W) 
         → AreCounted (job_in (length room.old) job.now) (now (W.world station.old)).folder rest
         → (W.world station.new).clock ≤ (W.world station.old).clock
         + (most_calls (job_in (length room.old) job.now) (length job.now.lines.now) + rest) }
+    ensures stops { IsTrue (W.tells station.new)
+        → RunPays (job_in (length room.old) job.now) (length job.now.lines.now)
+        (W.world station.old) (W.world station.new) }
     ensures causes { FinishHasCause (W.faults station.old) (W.faults station.new) result }
 {
     let standing = match attach(job.bytes, job.steps.len() as u32, station) {

@@ -10,6 +10,7 @@ ghost use Rattle.script_reader.specs.Views.{given};
 ghost use Rattle.script_runner.specs.Netlists.{netlist_in, netlist_text, IsSpelled};
 ghost use Rattle.script_runner.specs.Outcome.{EndsSource, RunsInCalls, IsRunStatus};
 ghost use Rattle.script_runner.specs.Status.{status_of};
+ghost use Rattle.script_runner.specs.Stops.{StopsIn};
 
 use crate::Finish;
 use crate::ending::Ending;
@@ -94,6 +95,9 @@ fn run_in<W: Station>(folder: &str, job: &Job, room: &mut [Rec], station: &mut W
         → AreCounted (job_in (length room.old) job.now) (now (W.world station.old)).folder rest
         → (W.world station.new).clock ≤ (W.world station.old).clock + 2
         + (most_calls (job_in (length room.old) job.now) (length job.now.lines.now) + rest) }
+    ensures stops { IsTrue (W.tells station.new)
+        → StopsIn (job_in (length room.old) job.now) (length job.now.lines.now) 2
+        (W.world station.old) (W.world station.new) }
     ensures which { EndsRun (status_of result) }
     ensures cause { EndingHasCause (W.faults station.old) (W.faults station.new) result }
 {

@@ -6,6 +6,7 @@ ghost use Rattle.catalogue.specs.Commits.{IsReady};
 ghost use Rattle.step_work.specs.Plans.{no_step};
 ghost use Rattle.script_runner.specs.Calls.{step_calls, IsCounted};
 ghost use Rattle.script_runner.specs.JobOf.{job_in};
+ghost use Rattle.script_runner.specs.Stops.{IsPaidStep, StepPays};
 ghost use Rattle.script_runner.specs.StepRuns.{TakesStep, stopped_by};
 ghost use Rattle.script_runner.specs.Causes.{StopHasCause};
 
@@ -32,6 +33,10 @@ pub(crate) fn take_step<S: Shelf>(
         → IsCounted (job_in (length room.old) job.now) number (now (S.world shelf.old)).folder rest
         → (S.world shelf.new).clock ≤ (S.world shelf.old).clock
         + (step_calls (job_in (length room.old) job.now) (get_or job.now.steps.now number no_step) + rest) }
+    // what a stop costs at any moment of it
+    ensures stops { IsTrue (S.tells shelf.new) → (paid rest : ℕ)
+        → IsPaidStep (job_in (length room.old) job.now) number paid rest (now (S.world shelf.old)).folder
+        → StepPays (job_in (length room.old) job.now) paid rest result (S.world shelf.old) (S.world shelf.new) }
     ensures number { IfOk result (λ e. e.number ≡ number) }
     ensures causes { StopHasCause (S.faults shelf.old) (S.faults shelf.new) result }
 {

@@ -12,6 +12,7 @@ use Rattle.script_runner.specs.declared.ending.Ending.TheVariants as ending
 use Rattle.script_runner.proofs.SourceRuns.{one_of_two, has_cause, cause_since, rose_later, words_run, faulty_netlist, ran_texts, calls_texts}
 use Rattle.script_runner.proofs.Sources.{read_is_good}
 use Rattle.script_runner.proofs.SilentEndings.{fetched_both, answers_no_memory, answers_no_text}
+use Rattle.script_runner.proofs.StopLaws.{fetched_old, says_old, old_then}
 use Rattle.script_runner.proofs.program.run_texts.Goals as goal
 
 pub returns-in-Err-Faulty : goal.returns-in-Err-Faulty
@@ -27,7 +28,12 @@ returns-in-Err-Faulty g c = record {
     calls = λ t.
         let fetched = c.in-Err-Faulty.ensures.calls (c.say_refusal.ensures.content.before t) in
         let said = c.say_refusal.ensures.calls t in
-        inl (omega (arith, fetched, said));
+        inl (
+          omega (arith, fetched, said),
+          old_then (g.W.Shelf.world c.args.station.now) _ _
+              (fetched_old (g.W.Shelf.world c.args.station.now) _ (c.in-Err-Faulty.ensures.content.did (c.say_refusal.ensures.content.before t)))
+              (says_old _ _ _ (c.say_refusal.ensures.content.did t)),
+        );
     by_words = words_run c.args.folder.now c.args.script.now (text_of c.args.netlist) c.args.budget
         (status_of c.say_refusal.result)
         (one_of_two IsStatus c.say_refusal.result ending.Netlist c.say_refusal.ensures.which refl refl)

@@ -16,6 +16,7 @@ use Rattle.script_runner.proofs.RunSteps.{done_at, plan_in}
 use Rattle.script_runner.proofs.Paying.{unpaid, unpaid_few, none_unpaid}
 use Rattle.script_runner.proofs.Saying.{told_second}
 use Rattle.script_runner.proofs.Turns.{Turn, not_attached, refuses_job, refuses_damage, says_banner, stopped_saying, stops_step, takes_step, is_ready, made_stands, stops_lines, said_lines, says_done, is_done, taken_in, is_counted, counted_in, calls_of_one_more, calls_before_all}
+use Rattle.script_runner.proofs.RunPaying.{PaysSoFar, spent_at, rest_few, attach_stops, banner_so_far, stopped_step, taken_step, lines_said, ends_so, paid_in_room, pays_in_room}
 use Rattle.script_runner.proofs.run.run_job.Goals as goal
 
 pub returns-in-Err-Shelf-clause-content : goal.returns-in-Err-Shelf-clause-content
@@ -68,6 +69,11 @@ loop-step-init g c =
           let left : length c.split_at.result.1.now ≡ length c.args.job.now.lines.now - c.count_before-before.result =
           ap length rest ∙ length-drop c.count_before-before.result c.args.job.now.lines.now in
           omega (arith, clock, attached, left, few);
+      paid = λ t paid rest_calls is.
+          let said = (c.in-Ok-say.ensures.content.did t).elsewhere in
+          let told_mid = c.in-Ok-say.ensures.content.before t in
+          banner_so_far g.W.Shelf.tells g.W.Shelf.world (λ s told f. g.met.W.Shelf.files_are s told f) job (length c.args.job.now.lines.now) _ _ _ c.in-Ok.ensures.content told_mid
+          (c.in-Ok.ensures.calls told_mid) said.ticks said.folder_is (length c.split_at.result.1.now) c.in-Ok.standing.done paid rest_calls is;
       rise = subst (λ (ls : List LineEnd). IsTrue (rise_from c.in-Ok.standing.done ls)) (sym rest) c.count_before-before.ensures.rest;
       shown = subst (λ (ls : List LineEnd). IsTrue (list_all (shows_past (length c.args.job.now.steps.now)) ls)) (sym rest)
           (rest_passes (shows_past (length c.args.job.now.steps.now)) c.args.job.now.lines.now c.count_before-before.result c.args.job.now.are_lines.show_past);
@@ -165,6 +171,26 @@ loop-step-preserved g c =
           ap length rest ∙ length-drop c.count_before.result c.loop-step.rest.now in
           let few = c.count_before.ensures.within in
           omega (arith, before, took, one_more, said_them, spoken, left, few, paid_all);
+      paid = λ t paid rest_calls is.
+          let told_take = c.in-Ok-say_lines.ensures.content.before t in
+          let told_before = c.in-Ok-take_step.ensures.content.before told_take in
+          let at = (invariant.so_far.did told_before).0 in
+          let same = c.loop-step.auto.room in
+          let left_few : length c.loop-step.rest.now ≤ length c.args.job.now.lines.now = rest_few at.place c.args.job.now.lines.now c.loop-step.rest.now at.rest_is in
+          let spoken : length c.split_at-in-loop-step.result.0.now ≡ c.count_before.result =
+          ap length ending ∙ length-take-le c.count_before.result c.loop-step.rest.now c.count_before.ensures.within in
+          let left : length c.split_at-in-loop-step.result.1.now ≡ length c.loop-step.rest.now - c.count_before.result =
+          ap length rest ∙ length-drop c.count_before.result c.loop-step.rest.now in
+          let taken_so = taken_step g.W.Shelf.tells g.W.Shelf.world (λ s told f. g.met.W.Shelf.files_are s told f) job (length c.args.job.now.lines.now) plan.well_formed c.loop-step.step
+          (length c.loop-step.rest.now) c.loop-step-test.true _ _ _ (invariant.so_far.before told_before) at.reached at.made.keeps at.made.later
+          (λ sound. (at.sound sound).holds) (c.in-Ok-take_step.ensures.content.did told_take).run.moments.past paid rest_calls is (invariant.paid told_before paid rest_calls is)
+          (Ok e) (λ p r so. pays_in_room c.args.job.now _ _ p r _ _ _ same
+          (c.in-Ok-take_step.ensures.stops told_take p r (paid_in_room c.args.job.now _ _ c.loop-step.step p r _ same so))) e refl in
+          subst (λ n. PaysSoFar job paid (spent_at (length c.args.job.now.bytes.now) (length c.args.job.now.lines.now) n (done_at (g.W.Shelf.world c.args.station.now)) (c.loop-step.step + 1) rest_calls)
+          rest_calls (g.W.Shelf.world c.args.station.now) (g.W.Shelf.world c.say_lines.new.station)) (sym left)
+          (lines_said g.W.Shelf.tells g.W.Shelf.world (λ s told f. g.met.W.Shelf.files_are s told f) job (length c.args.job.now.lines.now) (c.loop-step.step + 1) (length c.loop-step.rest.now) c.count_before.result
+          (done_at (g.W.Shelf.world c.args.station.now)) _ _ _ (invariant.so_far.before told_before) (c.in-Ok-say_lines.ensures.content.did t).files
+          (let few = c.in-Ok-say_lines.ensures.calls t in omega (arith, few, spoken)) c.count_before.ensures.within left_few paid rest_calls is taken_so);
       rise = subst (λ (ls : List LineEnd). IsTrue (rise_from (c.loop-step.step + 1) ls)) (sym rest) c.count_before.ensures.rest;
       shown = subst (λ (ls : List LineEnd). IsTrue (list_all (shows_past (length c.args.job.now.steps.now)) ls)) (sym rest)
           (rest_passes (shows_past (length c.args.job.now.steps.now)) c.loop-step.rest.now c.count_before.result invariant.shown);
@@ -244,3 +270,77 @@ returns-clause-calls g c t paid counted =
     let no_more = calls_before_all job c.loop-step.step in
     let clock = (c.in-Ok-say-2.ensures.content.did t).elsewhere.ticks.clock_is in
     omega (arith, before, no_more, clock)
+
+-- what a stop costs, wherever the run ends
+pub returns-in-Err-Shelf-clause-stops : goal.returns-in-Err-Shelf-clause-stops
+returns-in-Err-Shelf-clause-stops g c t =
+    attach_stops g.W.Shelf.tells g.W.Shelf.world (λ s told f. g.met.W.Shelf.files_are s told f) (job_in (length c.args.room.now) c.args.job.now) (length c.args.job.now.lines.now) _ _
+    c.in-Err-Shelf.ensures.content t (c.in-Err-Shelf.ensures.calls t)
+
+pub returns-in-Err-Damaged-clause-stops : goal.returns-in-Err-Damaged-clause-stops
+returns-in-Err-Damaged-clause-stops g c t =
+    attach_stops g.W.Shelf.tells g.W.Shelf.world (λ s told f. g.met.W.Shelf.files_are s told f) (job_in (length c.args.room.now) c.args.job.now) (length c.args.job.now.lines.now) _ _
+    c.in-Err-Damaged.ensures.content t (c.in-Err-Damaged.ensures.calls t)
+
+pub returns-in-Err-OtherJob-clause-stops : goal.returns-in-Err-OtherJob-clause-stops
+returns-in-Err-OtherJob-clause-stops g c t =
+    attach_stops g.W.Shelf.tells g.W.Shelf.world (λ s told f. g.met.W.Shelf.files_are s told f) (job_in (length c.args.room.now) c.args.job.now) (length c.args.job.now.lines.now) _ _
+    c.in-Err-OtherJob.ensures.content t (c.in-Err-OtherJob.ensures.calls t)
+
+pub returns-in_default-clause-stops : goal.returns-in_default-clause-stops
+returns-in_default-clause-stops g c t paid rest_calls is =
+    let said = (c.in_default.ensures.content.did t).elsewhere in
+    let told_mid = c.in_default.ensures.content.before t in
+    (banner_so_far g.W.Shelf.tells g.W.Shelf.world (λ s told f. g.met.W.Shelf.files_are s told f) (job_in (length c.args.room.now) c.args.job.now) (length c.args.job.now.lines.now) _ _ _
+    c.in-Ok.ensures.content told_mid (c.in-Ok.ensures.calls told_mid) said.ticks said.folder_is 0 0 paid rest_calls is).stops
+
+pub returns-in-Err-clause-stops : goal.returns-in-Err-clause-stops
+returns-in-Err-clause-stops g c t paid rest_calls is =
+    let job : Job = job_in (length c.args.room.now) c.args.job.now in
+    let plan = plan_in (length c.args.room.now) c.args.job.now in
+    let told_before = c.in-Err.ensures.content.before t in
+    let at = (c.loop-step.invariant.so_far.did told_before).0 in
+    let same = c.loop-step.auto.room in
+    stopped_step g.W.Shelf.tells g.W.Shelf.world (λ s told f. g.met.W.Shelf.files_are s told f) job (length c.args.job.now.lines.now) plan.well_formed c.loop-step.step
+    (length c.loop-step.rest.now) c.loop-step-test.true _ _ _ (c.loop-step.invariant.so_far.before told_before) at.reached at.made.keeps at.made.later
+    (λ sound. (at.sound sound).holds) (c.in-Err.ensures.content.did t).run.moments.past paid rest_calls is (c.loop-step.invariant.paid told_before paid rest_calls is)
+    (Err c.in-Err.finish) (λ p r so. pays_in_room c.args.job.now _ _ p r _ _ _ same
+    (c.in-Err.ensures.stops t p r (paid_in_room c.args.job.now _ _ c.loop-step.step p r _ same so)))
+
+pub returns-in-Err-say_lines-clause-stops : goal.returns-in-Err-say_lines-clause-stops
+returns-in-Err-say_lines-clause-stops g c t paid rest_calls is =
+    let job : Job = job_in (length c.args.room.now) c.args.job.now in
+    let plan = plan_in (length c.args.room.now) c.args.job.now in
+    let e = c.in-Ok-take_step.entry in
+    let invariant = c.loop-step.invariant in
+    let told_take = c.in-Err-say_lines.ensures.content.before t in
+    let told_before = c.in-Ok-take_step.ensures.content.before told_take in
+    let at = (invariant.so_far.did told_before).0 in
+    let same = c.loop-step.auto.room in
+    let left_few : length c.loop-step.rest.now ≤ length c.args.job.now.lines.now = rest_few at.place c.args.job.now.lines.now c.loop-step.rest.now at.rest_is in
+    let spoken : length c.split_at-in-loop-step.result.0.now ≡ c.count_before.result =
+    ap length c.split_at-in-loop-step.ensures.front ∙ length-take-le c.count_before.result c.loop-step.rest.now c.count_before.ensures.within in
+    let taken_so = taken_step g.W.Shelf.tells g.W.Shelf.world (λ s told f. g.met.W.Shelf.files_are s told f) job (length c.args.job.now.lines.now) plan.well_formed c.loop-step.step
+    (length c.loop-step.rest.now) c.loop-step-test.true _ _ _ (invariant.so_far.before told_before) at.reached at.made.keeps at.made.later
+    (λ sound. (at.sound sound).holds) (c.in-Ok-take_step.ensures.content.did told_take).run.moments.past paid rest_calls is (invariant.paid told_before paid rest_calls is)
+    (Ok e) (λ p r so. pays_in_room c.args.job.now _ _ p r _ _ _ same
+    (c.in-Ok-take_step.ensures.stops told_take p r (paid_in_room c.args.job.now _ _ c.loop-step.step p r _ same so))) e refl in
+    (lines_said g.W.Shelf.tells g.W.Shelf.world (λ s told f. g.met.W.Shelf.files_are s told f) job (length c.args.job.now.lines.now) (c.loop-step.step + 1) (length c.loop-step.rest.now) c.count_before.result
+    (done_at (g.W.Shelf.world c.args.station.now)) _ _ _ (invariant.so_far.before told_before) (c.in-Err-say_lines.ensures.content.did t).files
+    (let few = c.in-Err-say_lines.ensures.calls t in omega (arith, few, spoken)) c.count_before.ensures.within left_few paid rest_calls is taken_so).stops
+
+pub returns-in_default-say-clause-stops : goal.returns-in_default-say-clause-stops
+returns-in_default-say-clause-stops g c t paid rest_calls is =
+    let said = (c.in_default-say.ensures.content.did t).elsewhere in
+    let told_before = c.in_default-say.ensures.content.before t in
+    ends_so g.W.Shelf.tells g.W.Shelf.world (λ s told f. g.met.W.Shelf.files_are s told f) (job_in (length c.args.room.now) c.args.job.now) (length c.args.job.now.lines.now) c.loop-step.step
+    (length c.loop-step.rest.now) (done_at (g.W.Shelf.world c.args.station.now)) _ _ _ (c.loop-step.invariant.so_far.before told_before) said.ticks said.folder_is
+    paid rest_calls is (c.loop-step.invariant.paid told_before paid rest_calls is)
+
+pub returns-clause-stops : goal.returns-clause-stops
+returns-clause-stops g c t paid rest_calls is =
+    let said = (c.in-Ok-say-2.ensures.content.did t).elsewhere in
+    let told_before = c.in-Ok-say-2.ensures.content.before t in
+    ends_so g.W.Shelf.tells g.W.Shelf.world (λ s told f. g.met.W.Shelf.files_are s told f) (job_in (length c.args.room.now) c.args.job.now) (length c.args.job.now.lines.now) c.loop-step.step
+    (length c.loop-step.rest.now) (done_at (g.W.Shelf.world c.args.station.now)) _ _ _ (c.loop-step.invariant.so_far.before told_before) said.ticks said.folder_is
+    paid rest_calls is (c.loop-step.invariant.paid told_before paid rest_calls is)

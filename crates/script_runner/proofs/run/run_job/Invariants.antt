@@ -7,9 +7,11 @@ use Rattle.script_reader.specs.Lines.{rise_from, shows_past}
 use Rattle.file_writes.specs.Writes.{pieces}
 use Rattle.script_runner.specs.Calls.{AreCounted}
 use Rattle.script_runner.specs.JobOf.{job_in}
+use Rattle.script_runner.specs.Stops.{IsPaidRun}
 use Rattle.script_runner.proofs.RunSteps.{done_at}
 use Rattle.script_runner.proofs.Paying.{unpaid}
 use Rattle.script_runner.proofs.Turns.{Turn, calls_before}
+use Rattle.script_runner.proofs.RunPaying.{PaysSoFar, spent_at}
 use Rattle.script_runner.proofs.run.run_job.Given as goal
 
 -- so many steps are committed, and the lines that remain end with no earlier one
@@ -22,6 +24,11 @@ invariant-loop-step g l = record {
       → (g.W.Shelf.world l.station).clock + 2 * length l.rest + unpaid (done_at (g.W.Shelf.world l.fn.station)) l.step paid
       ≤ (g.W.Shelf.world l.fn.station).clock + 10 + pieces (length l.fn.job.bytes.now)
       + calls_before (job_in (length l.fn.room) l.fn.job) l.step + 2 * length l.fn.job.lines.now + paid;
+  paid : IsTrue (g.W.Shelf.tells l.station) → (paid rest : ℕ)
+      → IsPaidRun (job_in (length l.fn.room) l.fn.job) (length l.fn.job.lines.now) paid rest (now (g.W.Shelf.world l.fn.station)).folder
+      → PaysSoFar (job_in (length l.fn.room) l.fn.job) paid
+      (spent_at (length l.fn.job.bytes.now) (length l.fn.job.lines.now) (length l.rest) (done_at (g.W.Shelf.world l.fn.station)) l.step rest) rest
+      (g.W.Shelf.world l.fn.station) (g.W.Shelf.world l.station);
   rise : IsTrue (rise_from l.step l.rest);
   shown : IsTrue (list_all (shows_past (length l.fn.job.steps.now)) l.rest);
   folder_later : (g.W.Shelf.faults l.fn.station).folder ≤ (g.W.Shelf.faults l.station).folder;

@@ -4,6 +4,7 @@ use Rattle.script_runner.specs.declared.finish.Finish.TheVariants.{Done, FolderF
 use Rattle.script_runner.specs.declared.ending.Ending.TheVariants as ending
 use Rattle.script_runner.specs.JobOf.{job_in}
 use Rattle.script_runner.proofs.EnteredRuns.{enter_failed, entered_runs, entered_other, entered_damage, entered_spent, entered_calls, said_or, whole_line}
+use Rattle.script_runner.proofs.RunPaying.{enter_stops, entered_stops, refused_stops}
 use Rattle.script_runner.proofs.run_source.run_in.Goals as goal
 
 pub returns-in_default-clause-content : goal.returns-in_default-clause-content
@@ -102,3 +103,43 @@ returns-in-RunsSpent-clause-calls g c t rest counted =
 pub returns-in_default-clause-calls : goal.returns-in_default-clause-calls
 returns-in_default-clause-calls g c t rest counted =
     let entered = (c.in_default.ensures.content.did t).ticks.clock_is in omega (arith, entered)
+
+-- what a stop costs
+pub returns-in_default-clause-stops : goal.returns-in_default-clause-stops
+returns-in_default-clause-stops g c t = enter_stops (job_in (length c.args.room.now) c.args.job.now) (length c.args.job.now.lines.now) c.args.folder.now _ _ _ (c.in_default.ensures.content.did t)
+
+pub returns-in-Done-clause-stops : goal.returns-in-Done-clause-stops
+returns-in-Done-clause-stops g c t =
+    entered_stops (job_in (length c.args.room.now) c.args.job.now) (length c.args.job.now.lines.now) c.args.folder.now _ _ _ _
+    (c.in-Ok.ensures.content.did (c.in-Done.ensures.content.before t)) _ (c.in-Done.ensures.content.did t).moments (c.in-Done.ensures.stops t)
+
+pub returns-in-FolderFault-clause-stops : goal.returns-in-FolderFault-clause-stops
+returns-in-FolderFault-clause-stops g c t =
+    entered_stops (job_in (length c.args.room.now) c.args.job.now) (length c.args.job.now.lines.now) c.args.folder.now _ _ _ _
+    (c.in-Ok.ensures.content.did (c.in-FolderFault.ensures.content.before t)) _ (c.in-FolderFault.ensures.content.did t).moments (c.in-FolderFault.ensures.stops t)
+
+pub returns-in-SayFault-clause-stops : goal.returns-in-SayFault-clause-stops
+returns-in-SayFault-clause-stops g c t =
+    entered_stops (job_in (length c.args.room.now) c.args.job.now) (length c.args.job.now.lines.now) c.args.folder.now _ _ _ _
+    (c.in-Ok.ensures.content.did (c.in-SayFault.ensures.content.before t)) _ (c.in-SayFault.ensures.content.did t).moments (c.in-SayFault.ensures.stops t)
+
+pub returns-in-OtherJob-clause-stops : goal.returns-in-OtherJob-clause-stops
+returns-in-OtherJob-clause-stops g c t =
+    let told = c.say_refusal.ensures.content.before t in
+    refused_stops (job_in (length c.args.room.now) c.args.job.now) (length c.args.job.now.lines.now) c.args.folder.now _ _ _ _
+    (c.in-Ok.ensures.content.did (c.in-OtherJob.ensures.content.before told)) _ (c.in-OtherJob.ensures.content.did told).moments (c.in-OtherJob.ensures.stops told)
+    _ _ (c.say_refusal.ensures.content.did t) (c.say_refusal.ensures.calls t)
+
+pub returns-in-Damaged-clause-stops : goal.returns-in-Damaged-clause-stops
+returns-in-Damaged-clause-stops g c t =
+    let told = c.say_refusal-in-Damaged.ensures.content.before t in
+    refused_stops (job_in (length c.args.room.now) c.args.job.now) (length c.args.job.now.lines.now) c.args.folder.now _ _ _ _
+    (c.in-Ok.ensures.content.did (c.in-Damaged.ensures.content.before told)) _ (c.in-Damaged.ensures.content.did told).moments (c.in-Damaged.ensures.stops told)
+    _ _ (c.say_refusal-in-Damaged.ensures.content.did t) (c.say_refusal-in-Damaged.ensures.calls t)
+
+pub returns-in-RunsSpent-clause-stops : goal.returns-in-RunsSpent-clause-stops
+returns-in-RunsSpent-clause-stops g c t =
+    let told = c.say_refusal-in-RunsSpent.ensures.content.before t in
+    refused_stops (job_in (length c.args.room.now) c.args.job.now) (length c.args.job.now.lines.now) c.args.folder.now _ _ _ _
+    (c.in-Ok.ensures.content.did (c.in-RunsSpent.ensures.content.before told)) _ (c.in-RunsSpent.ensures.content.did told).moments (c.in-RunsSpent.ensures.stops told)
+    _ _ (c.say_refusal-in-RunsSpent.ensures.content.did t) (c.say_refusal-in-RunsSpent.ensures.calls t)

@@ -10,7 +10,8 @@ use Rattle.script_runner.specs.Status.{status_of}
 use Rattle.script_runner.specs.declared.ending.Ending.TheVariants as ending
 use Rattle.script_runner.proofs.Endings.{not_memory}
 use Rattle.script_runner.proofs.Sources.{room_as}
-use Rattle.script_runner.proofs.SourceRuns.{short_there, plans_of, faulty_of, calls_of, one_of_two, refused_source, ran_source}
+use Rattle.script_runner.proofs.SourceRuns.{short_there, plans_of, faulty_of, calls_of, stops_of, one_of_two, refused_source, ran_source}
+use Rattle.script_runner.proofs.StopLaws.{says_old}
 use Rattle.script_runner.proofs.run_source.run_source.Goals as goal
 
 pub returns-in_default : goal.returns-in_default
@@ -25,7 +26,10 @@ returns-in_default g c =
           c.in-Err.ensures.refused))
           (c.as_bytes.ensures.value ∙ c.as_str.ensures.value ∙ c.refused_line.ensures.text)
           c.say_refusal.ensures.which c.say_refusal.ensures.content c.say_refusal.ensures.whole;
-      calls = λ t. inl (let few = c.say_refusal.ensures.calls t in omega (arith, few));
+      calls = λ t. inl (
+        let few = c.say_refusal.ensures.calls t in omega (arith, few),
+        says_old _ _ _ (c.say_refusal.ensures.content.did t),
+      );
       which = record {
         known = one_of_two IsStatus c.say_refusal.result ending.Script c.say_refusal.ensures.which refl refl;
         not_usage = one_of_two (λ s. ¬ (s ≡ 2)) c.say_refusal.result ending.Script c.say_refusal.ensures.which
@@ -86,4 +90,12 @@ returns-clause-calls g c t =
           (c.deref.ensures.value ∙ c.in-Ok-job_bytes.ensures
           ∙ ap (λ text. job_bytes (source_of c.args.budget c.args.script.now text)) c.text_in-text.ensures))
           (c.run_in.ensures.calls t),
+      stops_of source c.in-Ok.plan c.items.result.now _ c.items-2.result.now c.deref.result.now (g.W.Shelf.world c.args.station.now)
+          (g.W.Shelf.world c.run_in.new.station) c.items.ensures c.items-2.ensures
+          (c.deref.ensures.value ∙ c.in-Ok-job_bytes.ensures
+          ∙ ap (λ text. job_bytes (source_of c.args.budget c.args.script.now text)) c.text_in-text.ensures)
+          (room_as source _ _ (omega (arith, few)) (ap length c.deref_mut.ensures.value ∙ c.in-Ok-take_room.ensures)
+          (c.deref.ensures.value ∙ c.in-Ok-job_bytes.ensures
+          ∙ ap (λ text. job_bytes (source_of c.args.budget c.args.script.now text)) c.text_in-text.ensures))
+          (c.run_in.ensures.stops t),
     )

@@ -3,7 +3,9 @@ use Rattle.std.specs.Prelude.{Ok, Err}
 use Rattle.step_work.specs.Plans.{no_step}
 use Rattle.step_engine.specs.Simple.{MayRun}
 use Rattle.step_engine.proofs.PlanLaws.{may_run}
+use Rattle.script_runner.specs.declared.finish.Finish.TheVariants.{FolderFault}
 use Rattle.script_runner.specs.JobOf.{job_in}
+use Rattle.script_runner.proofs.StepPaying.{stopped_pays, commit_stopped, tidy_stopped, took_pays}
 use Rattle.script_runner.proofs.Taking.{few_calls, taken_calls, was_stopped, commit_failed, tidy_failed, took}
 use Rattle.script_runner.proofs.step.take_step.Goals as goal
 
@@ -75,3 +77,39 @@ returns-clause-calls g c tells_u rest counted =
     taken_calls g.S.Shelf.tells g.S.Shelf.world g.S.Shelf.faults (λ s told f. g.met.S.Shelf.files_are s told f) (job_in (length c.args.room.now) c.args.job.now) c.args.number
     c.args.job.now.well_formed c.requires.within (get_or c.args.job.now.steps.now c.args.number no_step) refl may.operands_are c.in-Ok.entry _ _ c.in-Ok.ensures.runs (c.in-Ok-commit.ensures.content.before tells_t) rest counted _ _
     (c.in-Ok-commit.ensures.calls tells_t) (c.in-Ok-tidy.ensures.calls tells_u)
+
+-- what a stop costs, wherever it stops
+pub returns-in-Err-clause-stops : goal.returns-in-Err-clause-stops
+returns-in-Err-clause-stops g c tells_s paid rest is =
+    let may : MayRun c.args.job.now.n c.args.job.now.text.now c.args.number (get_or c.args.job.now.steps.now c.args.number no_step) =
+    may_run c.args.job.now.n c.args.job.now.text.now c.args.job.now.steps.now c.args.number no_step c.requires.within c.args.job.now.well_formed in
+    stopped_pays g.S.Shelf.tells g.S.Shelf.world g.S.Shelf.faults (λ s told f. g.met.S.Shelf.files_are s told f) (job_in (length c.args.room.now) c.args.job.now) c.args.number
+    c.args.job.now.well_formed c.requires.within (get_or c.args.job.now.steps.now c.args.number no_step) refl may.operands_are _ _ (Err c.in-Err.fault) c.in-Err.ensures.runs tells_s paid rest is c.stopped_by.result
+
+pub returns-in_default-clause-stops : goal.returns-in_default-clause-stops
+returns-in_default-clause-stops g c tells_t paid rest is =
+    let may : MayRun c.args.job.now.n c.args.job.now.text.now c.args.number (get_or c.args.job.now.steps.now c.args.number no_step) =
+    may_run c.args.job.now.n c.args.job.now.text.now c.args.job.now.steps.now c.args.number no_step c.requires.within c.args.job.now.well_formed in
+    commit_stopped g.S.Shelf.tells g.S.Shelf.world g.S.Shelf.faults (λ s told f. g.met.S.Shelf.files_are s told f) (job_in (length c.args.room.now) c.args.job.now) c.args.number
+    c.args.job.now.well_formed c.requires.within (get_or c.args.job.now.steps.now c.args.number no_step) refl may.operands_are _ _ (Ok c.in-Ok.entry) c.in-Ok.ensures.runs (c.in_default.ensures.content.before tells_t) paid rest is
+    c.in-Ok.entry refl FolderFault _ (c.in_default.ensures.content.did tells_t) (c.in_default.ensures.calls tells_t)
+
+pub returns-in_default-tidy-clause-stops : goal.returns-in_default-tidy-clause-stops
+returns-in_default-tidy-clause-stops g c tells_u paid rest is =
+    let may : MayRun c.args.job.now.n c.args.job.now.text.now c.args.number (get_or c.args.job.now.steps.now c.args.number no_step) =
+    may_run c.args.job.now.n c.args.job.now.text.now c.args.job.now.steps.now c.args.number no_step c.requires.within c.args.job.now.well_formed in
+    let tells_t = c.in_default-tidy.ensures.content.before tells_u in
+    tidy_stopped g.S.Shelf.tells g.S.Shelf.world g.S.Shelf.faults (λ s told f. g.met.S.Shelf.files_are s told f) (job_in (length c.args.room.now) c.args.job.now) c.args.number
+    c.args.job.now.well_formed c.requires.within (get_or c.args.job.now.steps.now c.args.number no_step) refl may.operands_are _ _ (Ok c.in-Ok.entry) c.in-Ok.ensures.runs (c.in-Ok-commit.ensures.content.before tells_t) paid rest is
+    c.in-Ok.entry refl _ _ (c.in-Ok-commit.ensures.content.did tells_t) (c.in-Ok-commit.ensures.calls tells_t) (c.in-Ok-commit.ensures.ok tells_t)
+    (c.in_default-tidy.ensures.content.did tells_u) (c.in_default-tidy.ensures.calls tells_u) FolderFault
+
+pub returns-clause-stops : goal.returns-clause-stops
+returns-clause-stops g c tells_u paid rest is =
+    let may : MayRun c.args.job.now.n c.args.job.now.text.now c.args.number (get_or c.args.job.now.steps.now c.args.number no_step) =
+    may_run c.args.job.now.n c.args.job.now.text.now c.args.job.now.steps.now c.args.number no_step c.requires.within c.args.job.now.well_formed in
+    let tells_t = c.in-Ok-tidy.ensures.content.before tells_u in
+    took_pays g.S.Shelf.tells g.S.Shelf.world g.S.Shelf.faults (λ s told f. g.met.S.Shelf.files_are s told f) (job_in (length c.args.room.now) c.args.job.now) c.args.number
+    c.args.job.now.well_formed c.requires.within (get_or c.args.job.now.steps.now c.args.number no_step) refl may.operands_are _ _ (Ok c.in-Ok.entry) c.in-Ok.ensures.runs (c.in-Ok-commit.ensures.content.before tells_t) paid rest is
+    c.in-Ok.entry refl _ _ (c.in-Ok-commit.ensures.content.did tells_t) (c.in-Ok-commit.ensures.calls tells_t) (c.in-Ok-commit.ensures.ok tells_t)
+    (c.in-Ok-tidy.ensures.content.did tells_u) (c.in-Ok-tidy.ensures.calls tells_u)
