@@ -5,7 +5,7 @@ use std::alloc::Global;
 
 /// A script of two steps, each with a said line, for each request that isn't one of the few: with its number of
 /// variables, and its last line, which is the request's.
-const REQUESTS: [(&str, u32, u32); 15] = [
+const REQUESTS: &[(&str, u32, u32)] = &[
     ("const a 0\nnot b a", 0, 2),
     ("const a 0\nand b a a", 0, 2),
     ("const a 0\nor b a a", 0, 2),
@@ -24,7 +24,7 @@ const REQUESTS: [(&str, u32, u32); 15] = [
 ];
 
 /// With a few words: the refused scripts, with the line and the kind of the first fault.
-const REFUSED: [(&str, u32, ScriptKind); 8] = [
+const REFUSED: &[(&str, u32, ScriptKind)] = &[
     ("inputs", 1, ScriptKind::Word),
     ("net f s", 1, ScriptKind::Word),
     ("vars a\nnot g f", 2, ScriptKind::Word),
@@ -61,7 +61,7 @@ fn counts(answer: Result<Plan, ScriptFault>, n: u32, steps: usize) -> bool {
 fn reads_each_request(rt: HostRuntime) {
     for (text, n, _) in REQUESTS {
         assert!(rt;
-            counts(read_whole(rt.alloc(), text.as_bytes()), n, 2),
+            counts(read_whole(rt.alloc(), text.as_bytes()), *n, 2),
             "{text:?}"
         );
     }
@@ -71,7 +71,7 @@ fn reads_each_request(rt: HostRuntime) {
 fn refuses_requests_that_are_not_known(rt: HostRuntime) {
     for (text, _, last) in REQUESTS {
         assert!(rt;
-            is_fault(read_few(rt.alloc(), text), last, ScriptKind::Word),
+            is_fault(read_few(rt.alloc(), text), *last, ScriptKind::Word),
             "{text:?}"
         );
     }
@@ -81,7 +81,7 @@ fn refuses_requests_that_are_not_known(rt: HostRuntime) {
 fn refuses_with_few_words(rt: HostRuntime) {
     for (text, line, kind) in REFUSED {
         assert!(rt;
-            is_fault(read_few(rt.alloc(), text), line, kind),
+            is_fault(read_few(rt.alloc(), text), *line, *kind),
             "{text:?}"
         );
     }

@@ -42,9 +42,22 @@ fn plans_with(alloc: Global, net: &str, text: &str, n: u32, made: &[Made], said:
     }
 }
 
+/// A netlist and a script, with the number of variables, the steps and the said lines of its plan.
+type Planned<'a> = (&'a str, &'a str, u32, &'a [Made], &'a [Said]);
+
+/// The first script whose plan is another one.
+fn first_wrong_plan<'a>(alloc: Global, cases: &[Planned<'a>]) -> Option<&'a str> {
+    for (net, text, n, made, said) in cases {
+        if !plans_with(alloc, net, text, *n, made, said) {
+            return Some(text);
+        }
+    }
+    None
+}
+
 #[test]
 fn plans_inputs_and_signals(rt: HostRuntime) {
-    let cases: [(&str, &str, u32, &[Made], &[Said]); 9] = [
+    let cases: [Planned; 9] = [
         (NET, "inputs", 2, &[], &[]),
         (NET, "vars a", 1, &[], &[]),
         // The level of an input is its place among the inputs, or among the variables that are named.
@@ -136,12 +149,8 @@ fn plans_inputs_and_signals(rt: HostRuntime) {
             &[(1, 4, 2)],
         ),
     ];
-    for (net, text, n, made, said) in cases {
-        assert!(rt;
-            plans_with(rt.alloc(), net, text, n, made, said),
-            "{text:?}"
-        );
-    }
+    let wrong = first_wrong_plan(rt.alloc(), &cases);
+    assert!(rt; wrong.is_none(), "{wrong:?}");
 }
 
 /// Each pair of a line has its said line, which comes after the line's last step and shows the step of its signal.
@@ -221,7 +230,7 @@ fn inputs_are_the_variables_of_their_names(rt: HostRuntime) {
 }
 
 /// Refused, with the line and the kind of the first fault.
-const REFUSED: [(&str, u32, ScriptKind); 49] = [
+const REFUSED: &[(&str, u32, ScriptKind)] = &[
     // As many words as the request takes, on the first line with words or behind it.
     ("inputs a", 1, ScriptKind::Word),
     ("inputs\ninputs", 2, ScriptKind::Word),
@@ -320,7 +329,7 @@ fn refuses_over(alloc: Global, text: &str, line: u32, kind: ScriptKind) -> bool 
 #[test]
 fn refuses_over_a_netlist(rt: HostRuntime) {
     for (text, line, kind) in REFUSED {
-        assert!(rt; refuses_over(rt.alloc(), text, line, kind), "{text:?}");
+        assert!(rt; refuses_over(rt.alloc(), text, *line, *kind), "{text:?}");
     }
 }
 
@@ -400,7 +409,7 @@ fn counts_steps(alloc: Global) -> Result<bool, AllocError> {
 }
 
 /// Lines that are refused for another fault where there is no room for a step either.
-const FAULTY: [(&str, ScriptKind); 7] = [
+const FAULTY: &[(&str, ScriptKind)] = &[
     ("const j 2", ScriptKind::Word),
     ("size q", ScriptKind::UnknownName),
     ("net j q", ScriptKind::UnknownName),
@@ -423,7 +432,7 @@ fn refuses_without_room(alloc: Global) -> Result<bool, AllocError> {
         let mut text = Vec::new(alloc);
         text.extend_from_slice(b"inputs\nconst k 0\nnet x f\n")?;
         text.extend_from_slice(line.as_bytes())?;
-        if !is_fault(read_with(alloc, text.as_slice(), Some(&net)), 4, kind) {
+        if !is_fault(read_with(alloc, text.as_slice(), Some(&net)), 4, *kind) {
             return Ok(false);
         }
     }

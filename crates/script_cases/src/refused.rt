@@ -4,7 +4,7 @@ use script_reader::ScriptKind;
 use std::alloc::{AllocError, Global};
 
 /// Refused for their keyword or for the number of their words, with the line and the kind of the first fault.
-const WORDS: [(&str, u32, ScriptKind); 41] = [
+const WORDS: &[(&str, u32, ScriptKind)] = &[
     // Words that begin no line.
     ("foo", 1, ScriptKind::Word),
     ("Const a 0", 1, ScriptKind::Word),
@@ -51,7 +51,7 @@ const WORDS: [(&str, u32, ScriptKind); 41] = [
 ];
 
 /// Refused for other words that stand where they must not, or for the netlist that isn't there.
-const PLACES: [(&str, u32, ScriptKind); 29] = [
+const PLACES: &[(&str, u32, ScriptKind)] = &[
     // The bits of an evaluation may be left out where there is no variable, and there alone.
     ("vars a\nconst z 0\neval z", 3, ScriptKind::Word),
     ("vars a\neval f", 2, ScriptKind::Word),
@@ -98,7 +98,7 @@ const PLACES: [(&str, u32, ScriptKind); 29] = [
 ];
 
 /// Refused for an operand.
-const OPERANDS: [(&str, u32, ScriptKind); 35] = [
+const OPERANDS: &[(&str, u32, ScriptKind)] = &[
     // Names that no earlier line gave.
     ("vars a\nnot h f", 2, ScriptKind::UnknownName),
     ("not f f", 1, ScriptKind::UnknownName),
@@ -173,7 +173,7 @@ const OPERANDS: [(&str, u32, ScriptKind); 35] = [
 ];
 
 /// Refused for a variable, for bits or for the name that a line gives, and the first of several faults.
-const NAMES: [(&str, u32, ScriptKind); 39] = [
+const NAMES: &[(&str, u32, ScriptKind)] = &[
     // Variables.
     ("var f a", 1, ScriptKind::Variable),
     ("vars\nvar f a", 2, ScriptKind::Variable),
@@ -238,7 +238,7 @@ const NAMES: [(&str, u32, ScriptKind); 39] = [
 ];
 
 /// Lines that are refused behind those of `BEFORE`, each of another kind.
-const FAULTY: [(&str, ScriptKind); 8] = [
+const FAULTY: &[(&str, ScriptKind)] = &[
     ("foo", ScriptKind::Word),
     ("net g s", ScriptKind::NoNetlist),
     ("size q", ScriptKind::UnknownName),
@@ -276,7 +276,7 @@ fn refuses_the_first_of_two_faulty_lines(rt: HostRuntime) -> Result<(), AllocErr
     for (first, kind) in FAULTY {
         for (second, _) in FAULTY {
             assert!(rt;
-                refuses_the_first(rt.alloc(), first, kind, second)?,
+                refuses_the_first(rt.alloc(), first, *kind, second)?,
                 "{first:?} {second:?}"
             );
         }
@@ -288,7 +288,7 @@ fn refuses_the_first_of_two_faulty_lines(rt: HostRuntime) -> Result<(), AllocErr
 fn refuses_words(rt: HostRuntime) {
     for (text, line, kind) in WORDS {
         assert!(rt;
-            refuses(rt.alloc(), text.as_bytes(), line, kind),
+            refuses(rt.alloc(), text.as_bytes(), *line, *kind),
             "{text:?}"
         );
     }
@@ -298,7 +298,7 @@ fn refuses_words(rt: HostRuntime) {
 fn refuses_misplaced_words_and_netlists(rt: HostRuntime) {
     for (text, line, kind) in PLACES {
         assert!(rt;
-            refuses(rt.alloc(), text.as_bytes(), line, kind),
+            refuses(rt.alloc(), text.as_bytes(), *line, *kind),
             "{text:?}"
         );
     }
@@ -308,7 +308,7 @@ fn refuses_misplaced_words_and_netlists(rt: HostRuntime) {
 fn refuses_operands(rt: HostRuntime) {
     for (text, line, kind) in OPERANDS {
         assert!(rt;
-            refuses(rt.alloc(), text.as_bytes(), line, kind),
+            refuses(rt.alloc(), text.as_bytes(), *line, *kind),
             "{text:?}"
         );
     }
@@ -318,7 +318,7 @@ fn refuses_operands(rt: HostRuntime) {
 fn refuses_variables_bits_and_names(rt: HostRuntime) {
     for (text, line, kind) in NAMES {
         assert!(rt;
-            refuses(rt.alloc(), text.as_bytes(), line, kind),
+            refuses(rt.alloc(), text.as_bytes(), *line, *kind),
             "{text:?}"
         );
     }
