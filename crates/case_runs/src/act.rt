@@ -12,6 +12,8 @@ pub enum Act {
     Put(&'static str, &'static [u8]),
     /// There is a text of so many crosses at the path.
     PutCrosses(&'static str, usize),
+    /// There is a script at the path that names so many variables, of at most 100,000, and has no step.
+    PutVariables(&'static str, u32),
     /// The bytes of the file from the first place to the second, which it has, are replaced by these.
     Replace(FileNo, usize, usize, &'static [u8]),
     /// The call of that number fails.
@@ -46,6 +48,33 @@ pub enum Act {
 fn puts_crosses(alloc: Global, bench: &mut Bench, path: &str, count: usize) -> bool {
     match vec![in alloc; b'#'; count] {
         Ok(text) => bench.put_text(path, &text).is_ok(),
+        Err(_) => false,
+    }
+}
+
+/// The line that names so many variables: their names are their numbers, in five digits.
+fn variables_line(alloc: Global, count: u32) -> Result<Vec<u8>, AllocError> {
+    let mut line = Vec::from_slice(alloc, b"vars")?;
+    for number in 0..count {
+        line.push(b' ')?;
+        for digits in [
+            number / 10_000,
+            number / 1_000,
+            number / 100,
+            number / 10,
+            number,
+        ] {
+            line.push(b'0' + (digits % 10) as u8)?;
+        }
+    }
+    line.push(b'\n')?;
+    Ok(line)
+}
+
+/// Puts that line at a path, and answers whether there was memory for it.
+fn puts_variables(alloc: Global, bench: &mut Bench, path: &str, count: u32) -> bool {
+    match variables_line(alloc, count) {
+        Ok(line) => bench.put_text(path, &line).is_ok(),
         Err(_) => false,
     }
 }
@@ -117,6 +146,7 @@ fn does(alloc: Global, bench: &mut Bench, act: Act) -> bool {
     match act {
         Act::Put(path, text) => bench.put_text(path, text).is_ok(),
         Act::PutCrosses(path, count) => puts_crosses(alloc, bench, path, count),
+        Act::PutVariables(path, count) => puts_variables(alloc, bench, path, count),
         Act::Replace(f, first, end, new) => replaces(alloc, bench, f, (first, end), new),
         Act::FailAt(call) => bench.fail_at(call).is_ok(),
         Act::FailFrom(call) => {

@@ -110,14 +110,24 @@ fn first_read_script(alloc: Global) -> Option<usize> {
     None
 }
 
-/// A script of comment alone, one byte longer than a script may be, and none at all.
-const OTHERS: [Case; 2] = [
+/// A script of comment alone, one byte longer than a script may be, one of a variable more than there may be, and none
+/// at all.
+const OTHERS: [Case; 3] = [
     (
         "a script that is too long",
         &[],
         &[
             Act::PutCrosses("script", 1_048_577),
             Act::Run(&RUN, 3, b"script: line 0: TooLong\n"),
+        ],
+        NOTHING,
+    ),
+    (
+        "too many variables",
+        &[],
+        &[
+            Act::PutVariables("script", 65_536),
+            Act::Run(&RUN, 3, b"script: line 1: TooManyVariables\n"),
         ],
         NOTHING,
     ),

@@ -1,9 +1,10 @@
 // Runs in a folder where a run ended or was stopped, and in folders that hold something else.
 use crate::case::{Case, all_go};
 use crate::scripts::{AND_SCRIPT, AND_TEXT, DROPPING, DROPPING_TEXT, THREE_TEXT, THREE_VARIABLES};
-use case_runs::{Act, DIFFERENT, ONE_TEXT, ONE_VARIABLE, RUN, SMALL, THIRD, USAGE};
-use file_numbers::{CATALOGUE, STEP_GATE};
+use case_runs::{Act, DIFFERENT, FIRST, LIST, ONE_TEXT, ONE_VARIABLE, RUN, SMALL, THIRD, USAGE};
+use file_numbers::{CATALOGUE, CHECKPOINT_GATE_PART, STEP_GATE};
 use shelf_memory::Choice;
+use shelf_model::FileNo;
 use std::test::Fail;
 
 /// A run of one request that ended, and then a new life.
@@ -327,7 +328,96 @@ const SIZES: [Case; 6] = [
     ),
 ];
 
-const FAMILIES: [&[Case]; 5] = [&STOPPED, &BETWEEN, &OTHER_JOBS, &DAMAGED, &SIZES];
+/// A run of three steps of which the last sweeps, stopped once two are committed: nothing is pending, and the last one
+/// has no checkpoint.
+const AND_STOPPED: &[Act] = &[
+    Act::Put("script", AND_SCRIPT),
+    Act::FailWhen(STEP_GATE, 2),
+    Act::Run(&RUN, 7, b"start 3\n2: nodes 1\n"),
+    Act::Stop(Choice::Present),
+    Act::Length(STEP_GATE, 2),
+    Act::Length(FIRST, 48),
+    Act::Length(LAST_GATE, 0),
+];
+
+/// The gate of the last step's checkpoints.
+const LAST_GATE: FileNo = FileNo {
+    step: 2,
+    part: CHECKPOINT_GATE_PART,
+};
+
+/// Files of that folder that something else changed. The first step's node has its pointers at bytes 8 and 16 of its
+/// file, and the trailer begins at byte 24. Both entries stay.
+const CHANGED: [Case; 6] = [
+    (
+        "an operand that is cut",
+        AND_STOPPED,
+        &[
+            Act::Replace(FIRST, 47, 48, b""),
+            Act::Run(&RUN, 10, b"resume 2 of 3\ndamaged 0 0 23\n"),
+            Act::Length(CATALOGUE, 256),
+            Act::Length(STEP_GATE, 2),
+        ],
+        None,
+    ),
+    (
+        "an operand whose node has the truth value 0 for both children",
+        AND_STOPPED,
+        &[
+            Act::Replace(FIRST, 16, 24, b"\x80\x00\x00\x00\x00\x00\x00\x00"),
+            Act::Run(&RUN, 10, b"resume 2 of 3\ndamaged 0 0 0\n"),
+            Act::Length(CATALOGUE, 256),
+            Act::Length(STEP_GATE, 2),
+        ],
+        None,
+    ),
+    (
+        "an operand whose node has a child that isn't there",
+        AND_STOPPED,
+        &[
+            Act::Replace(FIRST, 8, 16, b"\x00\x00\xff\xff\xff\xff\xff\xff"),
+            Act::Run(&RUN, 10, b"resume 2 of 3\ndamaged 0 0 0\n"),
+            Act::Length(CATALOGUE, 256),
+            Act::Length(STEP_GATE, 2),
+        ],
+        None,
+    ),
+    (
+        "a gate of a checkpoint that isn't there",
+        AND_STOPPED,
+        &[
+            Act::Replace(LAST_GATE, 0, 0, &[0]),
+            Act::Run(&RUN, 10, b"resume 2 of 3\ndamaged 2 1 0\n"),
+            Act::Length(CATALOGUE, 256),
+            Act::Length(STEP_GATE, 2),
+        ],
+        None,
+    ),
+    (
+        "a step gate that is longer than the script has steps, before the last step",
+        AND_STOPPED,
+        &[
+            Act::Replace(STEP_GATE, 2, 2, &[0; 2]),
+            Act::Run(&RUN, 10, b"damaged 4294967295 3 3\n"),
+            Act::Length(CATALOGUE, 256),
+            Act::Length(STEP_GATE, 4),
+        ],
+        None,
+    ),
+    (
+        "a list of an entry of no kind",
+        AND_STOPPED,
+        &[
+            Act::Replace(CATALOGUE, 4, 5, &[9]),
+            Act::Run(&LIST, 10, b"damaged 4294967295 2 0\n"),
+            Act::Length(CATALOGUE, 256),
+            Act::Length(STEP_GATE, 2),
+        ],
+        None,
+    ),
+];
+
+const FAMILIES: [&[Case]; 6] = [&STOPPED, &BETWEEN, &OTHER_JOBS, &DAMAGED, &CHANGED, &SIZES];
 
 #[test]
 fn goes_on_or_says_what_the_folder_holds(rt: HostRuntime) -> Result<(), Fail> {
