@@ -1,6 +1,7 @@
 pub mod Fields
 pub mod Counted
 pub mod Places
+pub mod Budget
 mod Shared
 pub mod Stored
 pub mod Synced

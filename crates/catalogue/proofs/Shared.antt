@@ -1,15 +1,18 @@
 -- How far two lists are the same, piece by piece.
-use Rattle.std.proofs.Common.{◌≡◌, ◌⊎◌, ℕ, zero, suc, ◌+◌, ◌-◌, ◌<◌, ◌≤◌, min, true, false, cond, eqb, List, [], ◌∷◌, ◌++◌, length, take, drop, refl, sym, ap, ap₂, subst, ◌∙◌, inl, inr, arith}
+use Rattle.std.proofs.Common.{◌≡◌, ◌⊎◌, ℕ, zero, suc, ◌+◌, ◌-◌, ◌≢◌, ◌<◌, ◌≤◌, min, true, false, cond, eqb, List, [], ◌∷◌, ◌++◌, length, take, drop, get_or, refl, sym, ap, ap₂, subst, ◌∙◌, inl, inr, arith}
 use Rattle.std.specs.Prelude.{nat_eq}
 use Rattle.std.specs.List.{common_prefix_len}
 use Rattle.std.proofs.Math.Seq.{take-add}
-use Rattle.std.proofs.lemmas.Bool.{cases_lt, eq-eqb, eqb-true}
+use Rattle.std.proofs.lemmas.Bool.{cases_lt, eq-eqb, ne_eqb, eqb-true}
+use Rattle.std.proofs.lemmas.List.Sums.{common_prefix_len-drop_yes, common_prefix_len-drop_no}
 use Rattle.std.proofs.lemmas.List.{append-nil, take_at, take_all, drop_all, length-take, length-drop}
 use Rattle.shelf_model.specs.Folder.{file_in}
 use Rattle.shelf_model.specs.Calls.{Copied}
 use Rattle.shelf_model.specs.World.{World, now, file}
 use Rattle.shelf_model.specs.Moments.{Stays}
 use Rattle.catalogue.specs.Files.{job_file}
+use Rattle.catalogue.specs.Standings.{without_budget}
+use Rattle.catalogue.proofs.Budget.{length-without_budget, byte_within, byte_outside, take-without_budget, drop-without_budget}
 
 abbrev pub shared : List ℕ → List ℕ → ℕ
 shared xs ys = common_prefix_len nat_eq xs ys
@@ -74,11 +77,82 @@ pub shared_self : (xs : List ℕ) → shared xs xs ≡ length xs
 shared_self [] = refl
 shared_self (x ∷ xs) = let rest = shared_self xs in ap (λ b. cond b (1 + shared xs xs) 0) (eq-eqb x x refl) ∙ omega (arith, rest)
 
+-- the bytes at a place are the same, or they differ
+pub shared_on : (i : ℕ) (xs ys : List ℕ) → i < length xs → i < length ys → get_or xs i 0 ≡ get_or ys i 0 → shared (drop i xs) (drop i ys) ≡ 1 + shared (drop (i + 1) xs) (drop (i + 1) ys)
+shared_on i xs ys first second same = common_prefix_len-drop_yes nat_eq xs ys i 0 0 first second (eq-eqb (get_or xs i 0) (get_or ys i 0) same)
+
+pub shared_ends : (i : ℕ) (xs ys : List ℕ) → i < length xs → i < length ys → get_or xs i 0 ≢ get_or ys i 0 → shared (drop i xs) (drop i ys) ≡ 0
+shared_ends i xs ys first second differ = common_prefix_len-drop_no nat_eq xs ys i 0 0 first second (ne_eqb (get_or xs i 0) (get_or ys i 0) differ)
+
+-- how far pieces that stand at that place of two jobs are the same: of the first ones without the budget
+pub record IsShared (at s : ℕ) (xs ys : List ℕ) : Type 0 where
+  pub first : at ≡ 0 → s ≡ shared (without_budget xs) (without_budget ys)
+  pub later : 0 < at → s ≡ shared xs ys
+
+-- the bytes at place i of them are the same, or of the budget
+abbrev pub AreSame : ℕ → ℕ → List ℕ → List ℕ → Type 0
+AreSame at i xs ys = (get_or xs i 0 ≡ get_or ys i 0) ⊎ ((at ≡ 0) × (8 ≤ i) × (i < 12))
+
+same_byte : (at i : ℕ) (xs ys : List ℕ) → i < length xs → i < length ys → AreSame at i xs ys → get_or (without_budget xs) i 0 ≡ get_or (without_budget ys) i 0
+same_byte at i xs ys first second same = elim (cases_lt i 8) [
+  | inl before ↦ outside (inl before)
+  | inr behind ↦ elim (cases_lt i 12) [
+    | inl within ↦ byte_within i xs behind within first ∙ sym (byte_within i ys behind within second)
+    | inr past ↦ outside (inr past)
+  ]
+]
+  where
+    outside : (i < 8) ⊎ (12 ≤ i) → get_or (without_budget xs) i 0 ≡ get_or (without_budget ys) i 0
+    outside which = elim same [
+      | inl even ↦ byte_outside i xs which ∙ even ∙ sym (byte_outside i ys which)
+      | inr budget ↦ absurd (elim which [ inl before ↦ omega (arith, budget.1) | inr past ↦ omega (arith, budget.2) ])
+    ]
+
+pub first_on : (at i : ℕ) (xs ys : List ℕ) → i < length xs → i < length ys → AreSame at i xs ys
+    → shared (drop i (without_budget xs)) (drop i (without_budget ys)) ≡ 1 + shared (drop (i + 1) (without_budget xs)) (drop (i + 1) (without_budget ys))
+first_on at i xs ys first second same =
+    let long : length (without_budget xs) ≡ length xs = length-without_budget xs in
+    let other_long : length (without_budget ys) ≡ length ys = length-without_budget ys in
+    shared_on i (without_budget xs) (without_budget ys) (omega arith) (omega arith) (same_byte at i xs ys first second same)
+
+pub later_on : (at i : ℕ) (xs ys : List ℕ) → 0 < at → i < length xs → i < length ys → AreSame at i xs ys → shared (drop i xs) (drop i ys) ≡ 1 + shared (drop (i + 1) xs) (drop (i + 1) ys)
+later_on at i xs ys later first second same = elim same [
+  | inl even ↦ shared_on i xs ys first second even
+  | inr budget ↦ absurd (omega (arith, budget.0))
+]
+
+pub first_ends : (at i : ℕ) (xs ys : List ℕ) → at ≡ 0 → i < length xs → i < length ys → ¬ (AreSame at i xs ys) → shared (drop i (without_budget xs)) (drop i (without_budget ys)) ≡ 0
+first_ends at i xs ys none first second differ =
+    let long : length (without_budget xs) ≡ length xs = length-without_budget xs in
+    let other_long : length (without_budget ys) ≡ length ys = length-without_budget ys in
+    let which : (i < 8) ⊎ (12 ≤ i) = elim (cases_lt i 8) [
+      | inl before ↦ inl before
+      | inr behind ↦ elim (cases_lt i 12) [
+        | inl within ↦ absurd (differ (inr (none, behind, within)))
+        | inr past ↦ inr past
+      ]
+    ] in
+    shared_ends i (without_budget xs) (without_budget ys) (omega arith) (omega arith)
+    (λ same. differ (inl (sym (byte_outside i xs which) ∙ same ∙ byte_outside i ys which)))
+
+-- so far the pieces there are the same without the budget
+pub shared_piece : (source job : List ℕ) (at want s : ℕ) → (at ≡ 0) ⊎ (12 ≤ at) → IsShared at s (take want (drop at source)) (take want (drop at job))
+    → s ≡ min want (shared (drop at (without_budget source)) (drop at (without_budget job)))
+shared_piece source job at want s which is = elim which [
+  | inl none ↦
+      let whole : (xs : List ℕ) → without_budget (take want (drop at xs)) ≡ take want (drop at (without_budget xs)) =
+      λ xs. ap (λ k. without_budget (take want (drop k xs))) none ∙ sym (take-without_budget want xs) ∙ ap (λ k. take want (drop k (without_budget xs))) (sym none) in
+      is.first none ∙ ap₂ shared (whole source) (whole job) ∙ shared-take want (drop at (without_budget source)) (drop at (without_budget job))
+  | inr behind ↦
+      is.later (omega arith) ∙ shared-take want (drop at source) (drop at job)
+      ∙ ap₂ (λ xs ys. min want (shared xs ys)) (sym (drop-without_budget at source behind)) (sym (drop-without_budget at job behind))
+]
+
 -- a whole piece of the stored job is read
-pub read_piece : (w v : World) (job before after rest : List ℕ) (at want k got s : ℕ) → k ≡ want → Stays (now w) (now v) → Copied (file v job_file).bytes at before after got
-    → length before ≡ want → at + want ≤ length (file w job_file).bytes → s ≡ shared (take got (after ++ rest)) (take k (drop at job))
-    → s ≡ min want (shared (drop at (file w job_file).bytes) (drop at job))
-read_piece w v job before after rest at want k got s even stays did room within is =
+pub read_piece : (w v : World) (job before after rest : List ℕ) (at want k got s : ℕ) → (at ≡ 0) ⊎ (12 ≤ at) → k ≡ want → Stays (now w) (now v) → Copied (file v job_file).bytes at before after got
+    → length before ≡ want → at + want ≤ length (file w job_file).bytes → IsShared at s (take got (after ++ rest)) (take k (drop at job))
+    → s ≡ min want (shared (drop at (without_budget (file w job_file).bytes)) (drop at (without_budget job)))
+read_piece w v job before after rest at want k got s which even stays did room within is =
     let source : List ℕ = (file w job_file).bytes in
     let copied : Copied source at before after got = subst (λ xs. Copied xs at before after got) (ap (λ folder. (file_in folder job_file).bytes) stays) did in
     let count : got ≡ min (length before) (length source - at) = copied.count in
@@ -89,7 +163,8 @@ read_piece w v job before after rest at want k got s even stays did room within 
     let long : length (take want (drop at source)) ≡ min want (length (drop at source)) = length-take want (drop at source) in
     let behind : length (drop at source) ≡ length source - at = length-drop at source in
     let first : take got (after ++ rest) ≡ after = take_at after rest got (ap length bytes ∙ long ∙ omega arith) in
-    is ∙ ap₂ (λ xs n. shared xs (take n (drop at job))) (first ∙ bytes) even ∙ shared-take want (drop at source) (drop at job)
+    shared_piece source job at want s which (subst (λ xs. IsShared at s xs (take want (drop at job))) (first ∙ bytes)
+    (subst (λ n. IsShared at s (take got (after ++ rest)) (take n (drop at job))) even is))
 
 -- the bytes so far are the same, and the next piece isn't
 pub ends_within : (source job : List ℕ) (at want s : ℕ) → at ≤ length source → at ≤ length job → take at source ≡ take at job → s ≡ min want (shared (drop at source) (drop at job)) → s < want → at + s ≡ shared source job

@@ -1,5 +1,5 @@
 -- The images of a folder while a new job is stored in it.
-use Rattle.std.proofs.Common.{◌≡◌, ◌≢◌, ◌⊎◌, ℕ, ◌+◌, ◌≤◌, max, Bool, false, List, [], ◌∷◌, ◌++◌, length, sym, ap, ◌∙◌, inl, inr, arith}
+use Rattle.std.proofs.Common.{◌≡◌, ◌≢◌, ◌⊎◌, ℕ, ◌+◌, ◌≤◌, max, Bool, false, List, [], ◌∷◌, ◌++◌, length, refl, sym, ap, ◌∙◌, inl, inr, arith}
 use Rattle.std.specs.Prelude.{IsTrue, Result, Ok, Err, OnOk}
 use Rattle.std.proofs.lemmas.Bool.{cases_lt, le-ltb}
 use Rattle.shelf_model.specs.declared.file_no.FileNo.{FileNo}
@@ -16,7 +16,7 @@ use Rattle.catalogue.specs.Counts.{is_stored}
 use Rattle.file_writes.specs.Writes.{Growing, Replacing}
 use Rattle.file_writes.proofs.Sure.{sure_bytes}
 use Rattle.catalogue.specs.Commits.{IsReady}
-use Rattle.catalogue.specs.Standings.{IsStored, IsUnstored, OnlyJobFiles, DuringStore, IsAttached}
+use Rattle.catalogue.specs.Standings.{without_budget, IsJobFile, IsStored, IsUnstored, OnlyJobFiles, DuringStore, IsAttached}
 use Rattle.catalogue.proofs.Counted.{has_count, ready_counts, job_gate_not_step_gate}
 
 pub job_gate_not_job_file : job_gate ≢ job_file
@@ -83,7 +83,7 @@ opening_image job most old mid m image written growing is_image =
     let none : length (bytes_in image step_gate) ≡ 0 = ap length steps in
     elim (cases_lt 0 (length (bytes_in image job_gate))) [
       | inl stored ↦ inr (record {
-        job_is = sure_bytes job_file job m.folder image (growing.others job_file job_file_not_job_gate ∙ written.job_is) is_image;
+        job_is = ap without_budget (sure_bytes job_file job m.folder image (growing.others job_file job_file_not_job_gate ∙ written.job_is) is_image);
         counts = has_count 0 (bytes_in image) stored none;
       })
       | inr short ↦ inl (record { unstored = not_stored (bytes_in image) short; gate = omega arith })
@@ -96,11 +96,12 @@ opening job most old mid m written growing = record {
 }
 
 -- a folder whose job is sure and that is ready for step n has both in every image
-pub attached : (job : List ℕ) (n : ℕ) (folder : Folder) → IsReady n folder → file_in folder job_file ≡ firm_file job → IsAttached job n folder
-attached job n folder ready job_is = record {
+pub attached : (job bytes : List ℕ) (n : ℕ) (folder : Folder) → IsReady n folder → file_in folder job_file ≡ firm_file bytes → IsJobFile job bytes → IsAttached job n folder
+attached job bytes n folder ready sure is = record {
   ready = ready;
-  job_is = job_is;
-  images = λ image is_image. record { job_is = sure_bytes job_file job folder image job_is is_image; counts = ready_counts n folder image ready is_image };
+  job_sure = sure ∙ ap (λ (x : File). firm_file x.bytes) (sym sure);
+  job_is = ap (λ (x : File). without_budget x.bytes) sure ∙ is;
+  images = λ image is_image. record { job_is = ap without_budget (sure_bytes job_file bytes folder image sure is_image) ∙ is; counts = ready_counts n folder image ready is_image };
 }
 
 -- the job gate is sure with one byte
@@ -108,12 +109,12 @@ stored_whole : (job : List ℕ) (old mid m : Moment) → IsWritten job old mid �
 stored_whole job old mid m written growing gate =
     let steps : file_in m.folder step_gate ≡ firm_file [] = growing.others step_gate step_gate_not_job_gate ∙ written.cleared.steps in
     let gate_is : file_in m.folder job_gate ≡ firm_file (0 ∷ []) = gate ∙ ap (λ (x : File). firm_file (x.bytes ++ 0 ∷ [])) written.cleared.gate in
-    attached job 0 m.folder (record {
+    attached job job 0 m.folder (record {
       stored = let firm : (file_in m.folder job_gate).firm ≡ 1 = ap (λ (x : File). x.firm) gate_is in omega arith;
       gate = steps ∙ ap (λ (x : File). firm_file x.bytes) (sym steps);
       count = ap (λ (x : File). length x.bytes) steps;
       covers = omega arith;
-    }) (growing.others job_file job_file_not_job_gate ∙ written.job_is)
+    }) (growing.others job_file job_file_not_job_gate ∙ written.job_is) refl
 
 -- the run up to the emptied gate of steps
 pub cleared_so_far : {S : Type 0} (tells : S → Bool) (world : S → World) (job : List ℕ) (old s : S) → (IsTrue (tells old) → file (world old) job_gate ≡ firm_file [])

@@ -17,16 +17,16 @@ use Rattle.catalogue.specs.Standings.{DuringSyncs, DuringStore, DuringAttach, Ar
 use Rattle.catalogue.proofs.Stored.{not_stored}
 
 -- a file of the job or of a gate
-pub record IsJobFile (f : FileNo) : Type 0 where
+pub record IsFileOfJob (f : FileNo) : Type 0 where
   pub one_of : (q : FileNo) → q ≢ job_file → q ≢ job_gate → q ≢ step_gate → q ≢ f
 
-pub is_job_file : IsJobFile job_file
+pub is_job_file : IsFileOfJob job_file
 is_job_file = record { one_of = λ q not_job not_gate not_steps. not_job }
 
-pub is_job_gate : IsJobFile job_gate
+pub is_job_gate : IsFileOfJob job_gate
 is_job_gate = record { one_of = λ q not_job not_gate not_steps. not_gate }
 
-pub is_step_gate : IsJobFile step_gate
+pub is_step_gate : IsFileOfJob step_gate
 is_step_gate = record { one_of = λ q not_job not_gate not_steps. not_steps }
 
 -- nothing was made sure yet
@@ -34,7 +34,7 @@ pub syncs_here : (m : Moment) → DuringSyncs m m
 syncs_here m = record { others = λ q not_job not_gate not_steps. refl; reads = λ q. refl; images = λ image is_image. is_image }
 
 -- one file more is made sure
-syncs_on : (f : FileNo) (result : Result Unit Failed) (w v u : World) → IsJobFile f → AreFiles (now v).folder → DuringSyncs (now w) (now v) → Synced f result v u → DuringSyncs (now w) (now u)
+syncs_on : (f : FileNo) (result : Result Unit Failed) (w v u : World) → IsFileOfJob f → AreFiles (now v).folder → DuringSyncs (now w) (now v) → Synced f result v u → DuringSyncs (now w) (now u)
 syncs_on f result w v u job are_files so_far did = record {
   others = λ q not_job not_gate not_steps. did.others q (job.one_of q not_job not_gate not_steps) ∙ so_far.others q not_job not_gate not_steps;
   reads = λ q. synced_reads f q result v u did ∙ so_far.reads q;
@@ -50,7 +50,7 @@ syncs_stay old mid m stays so_far = record {
 }
 
 -- a sync, the first call
-pub sync_first : {S : Type 0} (tells : S → Bool) (world : S → World) (f : FileNo) (result : Result Unit Failed) (old s : S) → IsJobFile f → ((x : S) → IsTrue (tells x) → AreFiles (now (world x)).folder)
+pub sync_first : {S : Type 0} (tells : S → Bool) (world : S → World) (f : FileNo) (result : Result Unit Failed) (old s : S) → IsFileOfJob f → ((x : S) → IsTrue (tells x) → AreFiles (now (world x)).folder)
     → Told tells old s (Synced f result (world old) (world s)) → Told tells old s (Ran (DuringSyncs (now (world old))) (world old) (world s))
 sync_first tells world f result old s job files call =
     told tells old s (Synced f result (world old) (world s)) (Ran (DuringSyncs (now (world old))) (world old) (world s)) call
@@ -58,7 +58,7 @@ sync_first tells world f result old s job files call =
     (syncs_on f result (world old) (world old) (world s) job (files old tells_old) (syncs_here (now (world old))) did))
 
 -- and one more
-pub sync_next : {S : Type 0} (tells : S → Bool) (world : S → World) (f : FileNo) (result : Result Unit Failed) (old s t : S) → IsJobFile f → ((x : S) → IsTrue (tells x) → AreFiles (now (world x)).folder)
+pub sync_next : {S : Type 0} (tells : S → Bool) (world : S → World) (f : FileNo) (result : Result Unit Failed) (old s t : S) → IsFileOfJob f → ((x : S) → IsTrue (tells x) → AreFiles (now (world x)).folder)
     → Told tells old s (Ran (DuringSyncs (now (world old))) (world old) (world s)) → Told tells s t (Synced f result (world s) (world t)) → Told tells old t (Ran (DuringSyncs (now (world old))) (world old) (world t))
 sync_next tells world f result old s t job files so_far call = record {
   before = λ tells_new. so_far.before (call.before tells_new);

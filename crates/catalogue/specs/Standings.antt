@@ -1,6 +1,6 @@
 -- What files say of a job that is to be attached, and what attaching it leaves.
-use Rattle.std.specs.Prelude.{◌≡◌, ◌≢◌, ◌⊎◌, ℕ, ◌*◌, ◌/◌, ◌≤◌, true, false, List, length, not, nat_eq, nat_lt, bytes_eq}
-use Rattle.std.specs.Prelude.{if◌then◌else◌, Result, Ok, Err}
+use Rattle.std.specs.Prelude.{◌≡◌, ◌≢◌, ◌⊎◌, ℕ, ◌*◌, ◌/◌, ◌≤◌, true, false, List, ◌++◌, length, take, drop, map, not}
+use Rattle.std.specs.Prelude.{nat_eq, nat_lt, bytes_eq, if◌then◌else◌, Result, Ok, Err}
 use Rattle.std.specs.List.{common_prefix_len}
 use Rattle.shelf_model.specs.declared.file_no.FileNo.{FileNo}
 use Rattle.shelf_model.specs.File.{firm_file}
@@ -16,6 +16,14 @@ use Rattle.catalogue.specs.Files.{entry_size, job_file, job_gate, catalogue, ste
 use Rattle.catalogue.specs.Counts.{present, is_stored, count_in, HasCount}
 use Rattle.catalogue.specs.Commits.{IsReady}
 
+-- a job's bytes without the budget of the run that wrote them: 0 at the places 8 to 11, as far as there are such
+unfoldable pub without_budget : List ℕ → List ℕ
+without_budget xs = take 8 xs ++ map (λ _. 0) (take 4 (drop 8 xs)) ++ drop 12 xs
+
+-- the file is that of the job, written by a run with any budget
+abbrev pub IsJobFile : (job file : List ℕ) → Type 0
+IsJobFile job file = without_budget file ≡ without_budget job
+
 -- the gate counts more than the job's steps, or the catalogue ends before an entry that it counts: a place is damaged
 abbrev pub counted_or : {E : Type 0} → (FileNo → ℕ → E) → ℕ → ℕ → ℕ → Result Standing E
 counted_or damaged steps done size =
@@ -27,12 +35,14 @@ counted_or damaged steps done size =
 abbrev pub counted_standing : ℕ → ℕ → ℕ → Result Standing AttachFault
 counted_standing = counted_or Damaged
 
--- fresh where no job is stored; another one is refused at the first byte that differs, or the shorter length
+-- fresh where no job is stored; another one is refused at the first byte outside the budget that differs, or the
+-- shorter length
 abbrev pub standing_of : List ℕ → ℕ → (FileNo → List ℕ) → Result Standing AttachFault
 standing_of job steps r =
     if is_stored r then
-    (if bytes_eq (r job_file) job then counted_standing steps (length (r step_gate)) (length (r catalogue))
-    else Err (OtherJob (common_prefix_len nat_eq (r job_file) job)))
+    (if bytes_eq (without_budget (r job_file)) (without_budget job)
+    then counted_standing steps (length (r step_gate)) (length (r catalogue))
+    else Err (OtherJob (common_prefix_len nat_eq (without_budget (r job_file)) (without_budget job))))
     else Ok (record { fresh = true; done = 0 })
 
 -- the most steps that a job has
@@ -56,9 +66,9 @@ pub record IsLooked (s : Standing) (folder : Folder) : Type 0 where
   pub covers : entry_size * s.done ≤ length (file_in folder catalogue).bytes
   pub images : (image : Image) → IsImage folder image → ShowsStanding s (bytes_in image)
 
--- the job is stored whole, and so many of its steps are committed
+-- the job is stored whole, with whatever budget, and so many of its steps are committed
 pub record IsStored (job : List ℕ) (n : ℕ) (r : FileNo → List ℕ) : Type 0 where
-  pub job_is : r job_file ≡ job
+  pub job_is : IsJobFile job (r job_file)
   pub counts : HasCount n r
 
 -- no job is stored, and the gate of steps is no longer than that
@@ -102,5 +112,6 @@ pub record DuringAttach (job : List ℕ) (old m : Moment) : Type 0 where
 -- after an attach: in every image the job is stored whole, and so many of its steps are committed
 pub record IsAttached (job : List ℕ) (n : ℕ) (folder : Folder) : Type 0 where
   pub ready : IsReady n folder
-  pub job_is : file_in folder job_file ≡ firm_file job
+  pub job_sure : file_in folder job_file ≡ firm_file (file_in folder job_file).bytes
+  pub job_is : IsJobFile job (file_in folder job_file).bytes
   pub images : (image : Image) → IsImage folder image → IsStored job n (bytes_in image)

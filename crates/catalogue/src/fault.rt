@@ -10,7 +10,8 @@ pub enum AttachFault {
     /// The file doesn't hold what it should, from that byte on.
     #[error("damaged at byte {at}")]
     Damaged { file: FileNo, at: u64 },
-    /// Another job is stored. The byte is the first at which the two differ, or the shorter length.
+    /// Another job is stored. The byte is the first outside the budget, at 8 to 11, at which the two differ, or the
+    /// shorter length.
     #[error("another job, which differs at byte {at}")]
     OtherJob { at: u64 },
 }

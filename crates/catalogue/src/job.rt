@@ -1,11 +1,11 @@
 //! The job that a folder stores: a new one is stored, and another one refused.
-ghost use Rattle.std.specs.Prelude.{◌≡◌, ◌≢◌, ◌+◌, ◌<◌, ◌≤◌, [], length, IsTrue, OnOk, IfOk, Err};
+ghost use Rattle.std.specs.Prelude.{◌≡◌, ◌≢◌, ◌+◌, ◌<◌, ◌≤◌, [], length, false, IsTrue, OnOk, IfOk, Err};
 ghost use Rattle.shelf_model.specs.File.{firm_file};
 ghost use Rattle.shelf_model.specs.World.{now, file};
 ghost use Rattle.shelf_model.specs.Calls.{Told};
 ghost use Rattle.shelf_model.specs.Moments.{Ran, Stays};
 ghost use Rattle.shelf_model.specs.Faults.{OnlyFolder};
-ghost use Rattle.catalogue.specs.Files.{job_gate, catalogue, step_gate};
+ghost use Rattle.catalogue.specs.Files.{job_file, job_gate, catalogue, step_gate};
 ghost use Rattle.catalogue.specs.Counts.{present};
 ghost use Rattle.file_writes.specs.Writes.{pieces};
 ghost use Rattle.catalogue.specs.Faults.{OnlyAttach};
@@ -22,11 +22,15 @@ use shelf_model::{Failed, Shelf};
 
 /// Attaches a job of that many steps to the folder: stores it where none is stored.
 ///
+/// The budget, at the places 8 to 11 of a job's bytes, doesn't tell one job from another: a stored job stays as the run
+/// that stored it wrote it, and a run with another budget goes on with it.
+///
 /// A gate of steps that stands without a job counts nothing. It is emptied before a job is stored.
 ///
-/// Refuses where a call of the folder fails (`Shelf`), where another job is stored (`OtherJob`), and where the gate
-/// counts more steps than the job has, or more than the catalogue has entries (`Damaged`). Each image is an old one
-/// then, or, where no job was stored, one in which this job is stored whole or not at all.
+/// Refuses where a call of the folder fails (`Shelf`), where the stored job differs in its length or outside the budget
+/// (`OtherJob`), and where the gate counts more steps than the job has, or more than the catalogue has entries
+/// (`Damaged`). Each image is an old one then, or, where no job was stored, one in which this job is stored whole or
+/// not at all.
 pub fn attach<S: Shelf>(job: &[u8], steps: u32, shelf: &mut S) -> Result<Standing, AttachFault>
     ensures content { Told S.tells shelf.old shelf.new
         (Ran (DuringAttach job.now (now (S.world shelf.old)))
@@ -35,6 +39,8 @@ pub fn attach<S: Shelf>(job: &[u8], steps: u32, shelf: &mut S) -> Result<Standin
         → result ≡ standing_of job.now steps (present (now (S.world shelf.old)).folder) }
     ensures ok { IfOk result (λ s. IsTrue (S.tells shelf.new)
         → IsAttached job.now s.done (now (S.world shelf.new)).folder) }
+    ensures given { IfOk result (λ s. IsTrue (S.tells shelf.new) → IsTrue s.fresh
+        → (file (S.world shelf.new) job_file).bytes ≡ job.now) }
     ensures calls { IsTrue (S.tells shelf.new)
         → (S.world shelf.new).clock ≤ (S.world shelf.old).clock + 9 + pieces (length job.now) }
     ensures faults { OnlyAttach (S.faults shelf.old) (S.faults shelf.new) result }
@@ -75,6 +81,8 @@ fn store<S: Shelf>(job: &[u8], shelf: &mut S) -> Result<(), Failed>
         (now (S.world shelf.old))) (S.world shelf.old) (S.world shelf.new)) }
     ensures ok { OnOk result (IsTrue (S.tells shelf.new)
         → IsAttached job.now 0 (now (S.world shelf.new)).folder) }
+    ensures given { OnOk result (IsTrue (S.tells shelf.new)
+        → (file (S.world shelf.new) job_file).bytes ≡ job.now) }
     ensures calls { IsTrue (S.tells shelf.new)
         → (S.world shelf.new).clock ≤ (S.world shelf.old).clock + 6 + pieces (length job.now) }
     ensures faults { OnlyFolder (S.faults shelf.old) (S.faults shelf.new) result }
@@ -96,6 +104,7 @@ fn resume<S: Shelf>(job: &[u8], steps: u32, shelf: &mut S) -> Result<Standing, A
         → result ≡ standing_of job.now steps (present (now (S.world shelf.old)).folder) }
     ensures ok { IfOk result (λ s. IsTrue (S.tells shelf.new)
         → IsAttached job.now s.done (now (S.world shelf.new)).folder) }
+    ensures again { IfOk result (λ s. s.fresh ≡ false) }
     ensures calls { IsTrue (S.tells shelf.new)
         → (S.world shelf.new).clock ≤ (S.world shelf.old).clock + 4 + pieces (length job.now) }
     ensures faults { OnlyAttach (S.faults shelf.old) (S.faults shelf.new) result }
@@ -116,6 +125,7 @@ fn count_steps<S: Shelf>(steps: u32, shelf: &mut S) -> Result<Standing, AttachFa
     ensures answer { IsTrue (S.tells shelf.new) → result ≢ Err AttachFault.Shelf
         → result ≡ counted_standing steps (length (file (S.world shelf.old) step_gate).bytes)
         (length (file (S.world shelf.old) catalogue).bytes) }
+    ensures again { IfOk result (λ s. s.fresh ≡ false) }
     ensures calls { IsTrue (S.tells shelf.new)
         → (S.world shelf.new).clock ≤ (S.world shelf.old).clock + 2 }
     ensures faults { OnlyAttach (S.faults shelf.old) (S.faults shelf.new) result }

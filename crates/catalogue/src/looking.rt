@@ -1,5 +1,5 @@
 //! How a folder stands, whichever job it stores.
-ghost use Rattle.std.specs.Prelude.{◌≡◌, ◌≢◌, ◌+◌, ◌≤◌, length, IsTrue, IfOk, Err};
+ghost use Rattle.std.specs.Prelude.{◌≡◌, ◌≢◌, ◌+◌, ◌≤◌, length, false, IsTrue, IfOk, Err};
 ghost use Rattle.shelf_model.specs.World.{now, file};
 ghost use Rattle.shelf_model.specs.Calls.{Told};
 ghost use Rattle.shelf_model.specs.Moments.{Ran, Stays};
@@ -51,6 +51,7 @@ pub(crate) fn count_at_most<S: Shelf>(steps: u32, shelf: &mut S) -> Result<Stand
     ensures answer { IsTrue (S.tells shelf.new) → result ≢ Err StreamFault.Shelf
         → result ≡ counted_or StreamFault.Damaged steps (length (file (S.world shelf.old) step_gate).bytes)
         (length (file (S.world shelf.old) catalogue).bytes) }
+    ensures again { IfOk result (λ s. s.fresh ≡ false) }
     ensures most { IfOk result (λ s. s.done ≤ steps) }
     ensures calls { IsTrue (S.tells shelf.new)
         → (S.world shelf.new).clock ≤ (S.world shelf.old).clock + 2 }

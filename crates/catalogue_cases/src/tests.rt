@@ -70,14 +70,15 @@ fn refuses_at(alloc: Global, job: &[u8], at: u64) -> Result<bool, Fail> {
 
 #[test]
 fn refuses_another_job(rt: HostRuntime) -> Result<(), Fail> {
+    // The last byte before the budget, the first behind it where the budget differs too, and the shorter length.
     let cases: [(&[u8], u64); 4] = [
         (
-            b"ADIARJ01\x00\x04\x00\x00\x00\x00\x00\x13\xff\xff\xff\xffvars a b c\nvar f c\n",
-            37,
+            b"ADIARJ02\x00\x04\x00\x00\x00\x00\x00\x13\xff\xff\xff\xffvars a b c\nvar f b\n",
+            7,
         ),
         (
-            b"ADIARJ01\x00\x00\x40\x00\x00\x00\x00\x13\xff\xff\xff\xffvars a b c\nvar f b\n",
-            9,
+            b"ADIARJ01\x00\x00\x40\x00\x01\x00\x00\x13\xff\xff\xff\xffvars a b c\nvar f c\n",
+            12,
         ),
         (
             b"ADIARJ01\x00\x04\x00\x00\x00\x00\x00\x13\xff\xff\xff\xffvars a b c\n",
@@ -90,6 +91,28 @@ fn refuses_another_job(rt: HostRuntime) -> Result<(), Fail> {
     ];
     for (job, at) in cases {
         assert!(rt; refuses_at(rt.alloc(), job, at)?, "{at}");
+    }
+    Ok(())
+}
+
+// Whether a job goes on with this budget, and its file has the one that it was stored with.
+fn goes_on_with(alloc: Global, budget: [u8; 4]) -> Result<bool, Fail> {
+    let mut job = ROW;
+    job[8..12].copy_from_slice(&budget);
+    let mut bench = Bench::empty(alloc);
+    let begun = attach(&ROW, 1, &mut bench)?;
+    if begun.done != 0 {
+        return Ok(false);
+    }
+    commit(&node(0, b'f'), &mut bench)?;
+    let counted = attach(&job, 1, &mut bench) == Ok(again(1));
+    Ok(counted && bench.file(JOB) == ROW.as_slice())
+}
+
+#[test]
+fn goes_on_with_another_budget(rt: HostRuntime) -> Result<(), Fail> {
+    for budget in [[0, 0, 0x40, 0], [0xff; 4]] {
+        assert!(rt; goes_on_with(rt.alloc(), budget)?, "{budget:?}");
     }
     Ok(())
 }
