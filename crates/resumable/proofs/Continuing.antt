@@ -25,25 +25,25 @@ module _ {Task Job : Type 0} (saving : Saving Task Job) (sweep : ℕ) (rests : C
     pub told : (c : Checkpoint) (text : List ℕ) → c.sweep ≡ sweep → saving.fits c text → (f : FileNo) (n : ℕ)
         → rests c f n → saving.rests c f n
 
-  module _ (laws : AreLocal) (number budget : ℕ) (task : Task) (job : Job) (turns : ℕ) where
+  module _ (laws : AreLocal) (number : ℕ) (task : Task) (job : Job) (turns : ℕ) where
     -- its checkpoint is the last gated one
-    pub goes_last : (r : FileNo → List ℕ) (goes : GoesOn saving number budget sweep task job turns r)
-        → IsLastOf number budget r goes.point
+    pub goes_last : (r : FileNo → List ℕ) (goes : GoesOn saving number sweep task job turns r)
+        → IsLastOf number r goes.point
     goes_last r goes = record { last = goes.last; rules = goes.rules; words = goes.words }
 
     -- it rests on no file that a sweep of the step takes
-    pub goes_apart : (r : FileNo → List ℕ) (goes : GoesOn saving number budget sweep task job turns r) (f : FileNo)
+    pub goes_apart : (r : FileNo → List ℕ) (goes : GoesOn saving number sweep task job turns r) (f : FileNo)
         (n : ℕ) → rests goes.point f n → IsRestingPlace goes.point f
     goes_apart r goes f n on = laws.apart goes.point (saving.text task) f n goes.fits
         (laws.told goes.point (saving.text task) goes.sweep_is goes.fits f n on)
 
     -- the step goes on in the same way where that checkpoint and the fronts that it rests on are the same
-    abbrev pub goes_still : (c : Checkpoint) (old new : FileNo → List ℕ) → IsLastOf number budget old c
+    abbrev pub goes_still : (c : Checkpoint) (old new : FileNo → List ℕ) → IsLastOf number old c
         → last_gated number new ≡ last_gated number old
         → ((f : FileNo) (n : ℕ) → rests c f n → take n (new f) ≡ take n (old f))
-        → GoesOn saving number budget sweep task job turns old → GoesOn saving number budget sweep task job turns new
+        → GoesOn saving number sweep task job turns old → GoesOn saving number sweep task job turns new
     goes_still c old new is last same goes =
-        let one = one_last number budget old goes.point c (goes_last old goes) is in
+        let one = one_last number old goes.point c (goes_last old goes) is in
         let text = saving.text task in
         record {
           point = goes.point;
@@ -62,10 +62,10 @@ module _ {Task Job : Type 0} (saving : Saving Task Job) (sweep : ℕ) (rests : C
         }
 
 -- what it goes on from, for who rebuilds the sweep
-module _ {Task Job : Type 0} (saving : Saving Task Job) (number budget sweep : ℕ) (task : Task) (job : Job) (turns : ℕ)
+module _ {Task Job : Type 0} (saving : Saving Task Job) (number sweep : ℕ) (task : Task) (job : Job) (turns : ℕ)
     (r : FileNo → List ℕ) where
-  abbrev pub goes_from : (goes : GoesOn saving number budget sweep task job turns r)
-      → IsFrom saving number budget sweep task job r goes.point
+  abbrev pub goes_from : (goes : GoesOn saving number sweep task job turns r)
+      → IsFrom saving number sweep task job r goes.point
   goes_from goes = record {
     last = record { last = goes.last; rules = goes.rules; words = goes.words };
     sweep_is = goes.sweep_is;

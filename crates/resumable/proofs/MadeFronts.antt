@@ -247,17 +247,17 @@ pub evaluation_there : AllThere eval_saving
 evaluation_there c text r d turns fits stands f n on =
     inr (λ k. record { saved = on.saved; holds = on.holds; read = on.read })
 
-module _ {Task Job : Type 0} (saving : Saving Task Job) (all : AllThere saving) (step budget sweep : ℕ) (task : Task)
-    (job : Job) (turns : ℕ) (r : FileNo → List ℕ) (goes : GoesOn saving step budget sweep task job turns r) where
+module _ {Task Job : Type 0} (saving : Saving Task Job) (all : AllThere saving) (step sweep : ℕ) (task : Task)
+    (job : Job) (turns : ℕ) (r : FileNo → List ℕ) (goes : GoesOn saving step sweep task job turns r) where
   -- so it is of the checkpoint from which a sweep goes on
   pub goes_there : AreThere (saving.rests goes.point) r
   goes_there = all goes.point (saving.text task) r job goes.left goes.fits goes.stands
 
   -- which is the last gated one
-  last_there : (rests : Checkpoint → FileNo → ℕ → Type 0) (c : Checkpoint) → IsLastOf step budget r c
+  last_there : (rests : Checkpoint → FileNo → ℕ → Type 0) (c : Checkpoint) → IsLastOf step r c
       → AreThere (rests goes.point) r → AreThere (rests c) r
   last_there rests c is = subst (λ (d : Checkpoint). AreThere (rests d) r)
-      (one_last step budget r goes.point c (record { last = goes.last; rules = goes.rules; words = goes.words }) is)
+      (one_last step r goes.point c (record { last = goes.last; rules = goes.rules; words = goes.words }) is)
 
 -- a checkpoint with that sweep and so many tables
 abbrev of_sweep : ℕ → ℕ → Checkpoint → Checkpoint
@@ -292,53 +292,53 @@ told_there rests r c sweep tables sweep_is tables_are told there =
     (told (subst (λ (d : Checkpoint). AreThere (rests d) r) same there))
 
 -- and so it is of the last gated checkpoint of a step that goes on from it: of one that makes a diagram
-pub diagram_there : (operation : StepOperation) (n : ℕ) (operands : OperandFiles) (number budget : ℕ) (g : Tables)
-    (r : FileNo → List ℕ) (c : Checkpoint) → DiagramGoesOn operation n operands number budget g r
-    → IsLastOf number budget r c → AreThere (diagram_rests c) r
-diagram_there operation n operands number budget g r c (inl q) is =
+pub diagram_there : (operation : StepOperation) (n : ℕ) (operands : OperandFiles) (number : ℕ) (g : Tables)
+    (r : FileNo → List ℕ) (c : Checkpoint) → DiagramGoesOn operation n operands number g r
+    → IsLastOf number r c → AreThere (diagram_rests c) r
+diagram_there operation n operands number g r c (inl q) is =
     let bytes = canon_bytes n (made_by operation n g) in
     let task = copy_of q.from number bytes in
     let point = q.goes_on.point in
-    last_there copy_saving copy_there number budget 0 task bytes q.turns r q.goes_on diagram_rests c is
+    last_there copy_saving copy_there number 0 task bytes q.turns r q.goes_on diagram_rests c is
     (told_there copy_saving.rests r point 0 0 q.goes_on.sweep_is q.goes_on.fits.tables (λ there. there)
-    (goes_there copy_saving copy_there number budget 0 task bytes q.turns r q.goes_on))
-diagram_there operation n operands number budget g r c (inr (inl q)) is =
+    (goes_there copy_saving copy_there number 0 task bytes q.turns r q.goes_on))
+diagram_there operation n operands number g r c (inr (inl q)) is =
     let task = arcs_of n operands number in
     let work = work_of operation n g in
     let point = q.goes_on.point in
-    last_there arcs_saving arcs_there number budget 0 task work q.turns r q.goes_on diagram_rests c is
+    last_there arcs_saving arcs_there number 0 task work q.turns r q.goes_on diagram_rests c is
     (told_there arcs_saving.rests r point 0 3 q.goes_on.sweep_is q.goes_on.fits.queue.tables (λ there. there)
-    (goes_there arcs_saving arcs_there number budget 0 task work q.turns r q.goes_on))
-diagram_there operation n operands number budget g r c (inr (inr q)) is =
+    (goes_there arcs_saving arcs_there number 0 task work q.turns r q.goes_on))
+diagram_there operation n operands number g r c (inr (inr q)) is =
     let point = q.goes_on.point in
-    last_there reduce_saving reduction_there number budget 1 q.task q.diagram q.turns r q.goes_on diagram_rests c is
+    last_there reduce_saving reduction_there number 1 q.task q.diagram q.turns r q.goes_on diagram_rests c is
     (told_there reduce_saving.rests r point 1 point.tables q.goes_on.sweep_is refl (λ there. there)
-    (goes_there reduce_saving reduction_there number budget 1 q.task q.diagram q.turns r q.goes_on))
+    (goes_there reduce_saving reduction_there number 1 q.task q.diagram q.turns r q.goes_on))
 
 -- of one that compares, evaluates, or answers an implication
-pub compared_there : (n : ℕ) (left right : FileNo) (number budget : ℕ) (t u : List Bool) (r : FileNo → List ℕ)
-    (c : Checkpoint) → ComparisonGoesOn n left right number budget t u r → IsLastOf number budget r c
+pub compared_there : (n : ℕ) (left right : FileNo) (number : ℕ) (t u : List Bool) (r : FileNo → List ℕ)
+    (c : Checkpoint) → ComparisonGoesOn n left right number t u r → IsLastOf number r c
     → AreThere (comparison_rests c) r
-compared_there n left right number budget t u r c q is =
+compared_there n left right number t u r c q is =
     let task = comparison_of n left right number in
     let job = two_tables n t u in
-    last_there same_saving comparison_there number budget 0 task job q.turns r q.goes_on comparison_rests c is
-    (goes_there same_saving comparison_there number budget 0 task job q.turns r q.goes_on)
+    last_there same_saving comparison_there number 0 task job q.turns r q.goes_on comparison_rests c is
+    (goes_there same_saving comparison_there number 0 task job q.turns r q.goes_on)
 
-pub evaluated_there : (n : ℕ) (file : FileNo) (text : List ℕ) (at number budget : ℕ) (t : List Bool)
-    (r : FileNo → List ℕ) (c : Checkpoint) → EvaluationGoesOn n file text at number budget t r
-    → IsLastOf number budget r c → AreThere (evaluation_rests c) r
-evaluated_there n file text at number budget t r c q is =
+pub evaluated_there : (n : ℕ) (file : FileNo) (text : List ℕ) (at number : ℕ) (t : List Bool)
+    (r : FileNo → List ℕ) (c : Checkpoint) → EvaluationGoesOn n file text at number t r
+    → IsLastOf number r c → AreThere (evaluation_rests c) r
+evaluated_there n file text at number t r c q is =
     let task = evaluation_of n file text at number in
     let job = one_table n t in
-    last_there eval_saving evaluation_there number budget 0 task job q.turns r q.goes_on evaluation_rests c is
-    (goes_there eval_saving evaluation_there number budget 0 task job q.turns r q.goes_on)
+    last_there eval_saving evaluation_there number 0 task job q.turns r q.goes_on evaluation_rests c is
+    (goes_there eval_saving evaluation_there number 0 task job q.turns r q.goes_on)
 
-pub implied_there : (n : ℕ) (left right : FileNo) (number budget : ℕ) (t u : List Bool) (r : FileNo → List ℕ)
-    (c : Checkpoint) → ImplicationGoesOn n left right number budget t u r → IsLastOf number budget r c
+pub implied_there : (n : ℕ) (left right : FileNo) (number : ℕ) (t u : List Bool) (r : FileNo → List ℕ)
+    (c : Checkpoint) → ImplicationGoesOn n left right number t u r → IsLastOf number r c
     → AreThere (implication_rests c) r
-implied_there n left right number budget t u r c q is =
+implied_there n left right number t u r c q is =
     let task = arcs_of n (two_files left right) number in
     let job : Implication = record { n = n; left = t; right = u } in
-    last_there leq_saving implication_there number budget 0 task job q.turns r q.goes_on implication_rests c is
-    (goes_there leq_saving implication_there number budget 0 task job q.turns r q.goes_on)
+    last_there leq_saving implication_there number 0 task job q.turns r q.goes_on implication_rests c is
+    (goes_there leq_saving implication_there number 0 task job q.turns r q.goes_on)

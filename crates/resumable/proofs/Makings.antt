@@ -35,13 +35,13 @@ names_makes c task out n names out_is variables_are = record {
   variables_are = names.variables_are ∙ variables_are;
 }
 
-module _ (operation : StepOperation) (n : ℕ) (operands : OperandFiles) (number budget : ℕ) (g : Tables) (turns : ℕ)
+module _ (operation : StepOperation) (n : ℕ) (operands : OperandFiles) (number : ℕ) (g : Tables) (turns : ℕ)
     (r : FileNo → List ℕ) where
   -- the copy of an operand whose bytes are those of the step's table
   pub copy_goes : (from : FileNo) → (from ≡ operands.first) ⊎ (from ≡ operands.second)
-      → HasForm n (made_by operation n g) → GoesOn copy_saving number budget 0 (copy_of from number (canon_bytes n (made_by operation n g)))
+      → HasForm n (made_by operation n g) → GoesOn copy_saving number 0 (copy_of from number (canon_bytes n (made_by operation n g)))
       (canon_bytes n (made_by operation n g)) turns r → turns < work_by operation n g
-      → DiagramGoesOn operation n operands number budget g r
+      → DiagramGoesOn operation n operands number g r
   copy_goes from operand form goes few = inl (record {
     from = from;
     operand = operand;
@@ -52,16 +52,16 @@ module _ (operation : StepOperation) (n : ℕ) (operands : OperandFiles) (number
   })
 
   -- the sweep that makes its arcs, where the turns of a reduction are left
-  pub arcs_go : GoesOn arcs_saving number budget 0 (arcs_of n operands number) (work_of operation n g) turns r
+  pub arcs_go : GoesOn arcs_saving number 0 (arcs_of n operands number) (work_of operation n g) turns r
       → turns + (10 * tuples_by operation n g + 10) ≤ work_by operation n g
-      → DiagramGoesOn operation n operands number budget g r
+      → DiagramGoesOn operation n operands number g r
   arcs_go goes few = inr (inl (record { turns = turns; goes_on = goes; few = few }))
 
   -- the reduction of its arcs to its node file
   pub reduction_goes : (task : reduce.Task) (diagram : Diagram) → task.out ≡ node_file number → task.variables ≡ n
       → task.inner.step ≡ number → task.ends.step ≡ number → diagram.table ≡ made_by operation n g
-      → HasForm n (made_by operation n g) → GoesOn reduce_saving number budget 1 task diagram turns r → turns < work_by operation n g
-      → DiagramGoesOn operation n operands number budget g r
+      → HasForm n (made_by operation n g) → GoesOn reduce_saving number 1 task diagram turns r → turns < work_by operation n g
+      → DiagramGoesOn operation n operands number g r
   reduction_goes task diagram out_is variables_are inner_own ends_own table_is form goes few = inr (inr (record {
     task = task;
     inner_own = inner_own;
@@ -75,21 +75,21 @@ module _ (operation : StepOperation) (n : ℕ) (operands : OperandFiles) (number
     few = few;
   }))
 
-module _ (n : ℕ) (left right : FileNo) (number budget : ℕ) (t u : List Bool) (turns : ℕ) (r : FileNo → List ℕ) where
+module _ (n : ℕ) (left right : FileNo) (number : ℕ) (t u : List Bool) (turns : ℕ) (r : FileNo → List ℕ) where
   -- the comparison of two files
-  pub comparison_goes : GoesOn same_saving number budget 0 (comparison_of n left right number) (two_tables n t u) turns
-      r → turns < work_for n (Same 0 1) (t ∷ u ∷ []) → ComparisonGoesOn n left right number budget t u r
+  pub comparison_goes : GoesOn same_saving number 0 (comparison_of n left right number) (two_tables n t u) turns
+      r → turns < work_for n (Same 0 1) (t ∷ u ∷ []) → ComparisonGoesOn n left right number t u r
   comparison_goes goes few = record { turns = turns; goes_on = goes; few = few }
 
   -- the sweep that makes the arcs of "left and not right"
-  pub implication_goes : GoesOn leq_saving number budget 0 (arcs_of n (two_files left right) number)
+  pub implication_goes : GoesOn leq_saving number 0 (arcs_of n (two_files left right) number)
       (record { n = n; left = t; right = u }) turns r → turns < work_for n (Leq 0 1) (t ∷ u ∷ [])
-      → ImplicationGoesOn n left right number budget t u r
+      → ImplicationGoesOn n left right number t u r
   implication_goes goes few = record { turns = turns; goes_on = goes; few = few }
 
 -- the evaluation of a file
-pub evaluation_goes : (n : ℕ) (file : FileNo) (text : List ℕ) (at number budget : ℕ) (t : List Bool) (turns : ℕ)
+pub evaluation_goes : (n : ℕ) (file : FileNo) (text : List ℕ) (at number : ℕ) (t : List Bool) (turns : ℕ)
     (r : FileNo → List ℕ)
-    → GoesOn eval_saving number budget 0 (evaluation_of n file text at number) (one_table n t) turns r
-    → turns < work_for n (Eval 0 at) (t ∷ []) → EvaluationGoesOn n file text at number budget t r
-evaluation_goes n file text at number budget t turns r goes few = record { turns = turns; goes_on = goes; few = few }
+    → GoesOn eval_saving number 0 (evaluation_of n file text at number) (one_table n t) turns r
+    → turns < work_for n (Eval 0 at) (t ∷ []) → EvaluationGoesOn n file text at number t r
+evaluation_goes n file text at number t turns r goes few = record { turns = turns; goes_on = goes; few = few }

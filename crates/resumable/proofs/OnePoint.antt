@@ -10,9 +10,9 @@ use Rattle.sweep_checkpoint.specs.Points.{point_bytes}
 some_one : {A : Type 0} (x y : A) → Some x ≡ Some y → x ≡ y
 some_one x y same = cc
 
-pub one_last : (step budget : ℕ) (r : FileNo → List ℕ) (c d : Checkpoint) → IsLastOf step budget r c
-    → IsLastOf step budget r d → c ≡ d
-one_last step budget r c d first second =
+pub one_last : (step : ℕ) (r : FileNo → List ℕ) (c d : Checkpoint) → IsLastOf step r c
+    → IsLastOf step r d → c ≡ d
+one_last step r c d first second =
     let same = some_one (point_bytes c) (point_bytes d) (sym first.last ∙ second.last) in
     one_point (point_bytes c) c d first.words second.words (used_first c first.words)
     (ap (take 15872) same ∙ used_first d second.words)

@@ -116,9 +116,9 @@ evaluated_near c f n task names on =
     on.read ∙ (λ i. (one i).unread.file) ∙ names.file_is
 
 -- so a step's checkpoint from which it goes on rests on the step's files and on those of its operands alone
-module _ (operation : StepOperation) (n : ℕ) (operands : OperandFiles) (number budget : ℕ) (g : Tables)
+module _ (operation : StepOperation) (n : ℕ) (operands : OperandFiles) (number : ℕ) (g : Tables)
     (r : FileNo → List ℕ) (c : Checkpoint) (f : FileNo) (many : ℕ) (on : diagram_rests c f many) where
-  copied_near : CopiesFrom operation n operands number budget g r c → IsNear number operands f
+  copied_near : CopiesFrom operation n operands number g r c → IsNear number operands f
   copied_near from =
       let goes = from.goes in
       let task = copy_of from.from number (canon_bytes n (made_by operation n g)) in
@@ -130,29 +130,29 @@ module _ (operation : StepOperation) (n : ℕ) (operands : OperandFiles) (number
         | inr made ↦ inl (ap (λ (h : FileNo). h.step) made)
       ]
 
-  pub from_near : DiagramFrom operation n operands number budget g r c → IsNear number operands f
+  pub from_near : DiagramFrom operation n operands number g r c → IsNear number operands f
   from_near (inl from) = copied_near from
   from_near (inr (inl from)) = arcs_near step_words n operands number c f many from.goes.last.rules.step_is
       from.goes.names (arcs_rests c f many from.goes.sweep_is from.goes.fits on)
   from_near (inr (inr from)) = inl (reduction_near n number from.task c f many from.goes.last.rules.step_is
       from.inner_own from.ends_own from.goes.names from.makes (reduction_rests c f many from.goes.sweep_is on))
 
-  pub diagram_near : DiagramGoesOn operation n operands number budget g r → IsLastOf number budget r c
+  pub diagram_near : DiagramGoesOn operation n operands number g r → IsLastOf number r c
       → IsNear number operands f
-  diagram_near q last = from_near (diagram_from operation n operands number budget g r c last q)
+  diagram_near q last = from_near (diagram_from operation n operands number g r c last q)
 
-module _ (n : ℕ) (left right : FileNo) (number budget : ℕ) (t u : List Bool) (r : FileNo → List ℕ) (c : Checkpoint)
-    (last : IsLastOf number budget r c) (f : FileNo) (many : ℕ) where
-  pub comparison_near : ComparisonGoesOn n left right number budget t u r → comparison_rests c f many
+module _ (n : ℕ) (left right : FileNo) (number : ℕ) (t u : List Bool) (r : FileNo → List ℕ) (c : Checkpoint)
+    (last : IsLastOf number r c) (f : FileNo) (many : ℕ) where
+  pub comparison_near : ComparisonGoesOn n left right number t u r → comparison_rests c f many
       → (f ≡ left) ⊎ (f ≡ right)
   comparison_near q on =
-      let from = compares_from n left right number budget t u r c last q in
+      let from = compares_from n left right number t u r c last q in
       compared_near c f many (comparison_of n left right number) from.goes.names on
 
-  pub implication_near : ImplicationGoesOn n left right number budget t u r → implication_rests c f many
+  pub implication_near : ImplicationGoesOn n left right number t u r → implication_rests c f many
       → (f.step ≡ number) ⊎ ((f ≡ left) ⊎ (f ≡ right))
   implication_near q on =
-      let from = refutes_from n left right number budget t u r c last q in
+      let from = refutes_from n left right number t u r c last q in
       elim (arcs_near product_words n (two_files left right) number c f many last.rules.step_is from.goes.names on) [
         | inl own ↦ inl own
         | inr (inl is) ↦ inr (inl is)
@@ -160,25 +160,25 @@ module _ (n : ℕ) (left right : FileNo) (number budget : ℕ) (t u : List Bool)
         | inr (inr (inr is)) ↦ inr (inr is)
       ]
 
-pub evaluation_near : (n : ℕ) (file : FileNo) (text : List ℕ) (at number budget : ℕ) (t : List Bool)
-    (r : FileNo → List ℕ) (c : Checkpoint) → IsLastOf number budget r c → (f : FileNo) (many : ℕ)
-    → EvaluationGoesOn n file text at number budget t r → evaluation_rests c f many → f ≡ file
-evaluation_near n file text at number budget t r c last f many q on =
-    let from = evaluates_from n file text at number budget t r c last q in
+pub evaluation_near : (n : ℕ) (file : FileNo) (text : List ℕ) (at number : ℕ) (t : List Bool)
+    (r : FileNo → List ℕ) (c : Checkpoint) → IsLastOf number r c → (f : FileNo) (many : ℕ)
+    → EvaluationGoesOn n file text at number t r → evaluation_rests c f many → f ≡ file
+evaluation_near n file text at number t r c last f many q on =
+    let from = evaluates_from n file text at number t r c last q in
     evaluated_near c f many (evaluation_of n file text at number) from.goes.names on
 
 -- what the step sees of the checkpoint of one of its sweeps: it rests on what the sweep says
-module _ (number budget turns : ℕ) (r : FileNo → List ℕ) where
-  pub copy_sees : (task : CopyTask) (bytes : List ℕ) (goes : GoesOn copy_saving number budget 0 task bytes turns r)
+module _ (number turns : ℕ) (r : FileNo → List ℕ) where
+  pub copy_sees : (task : CopyTask) (bytes : List ℕ) (goes : GoesOn copy_saving number 0 task bytes turns r)
       (f : FileNo) (many : ℕ) → diagram_rests goes.point f many → copy_saving.rests goes.point f many
   copy_sees task bytes goes f many = copy_rests goes.point f many goes.sweep_is goes.fits
 
-  pub arcs_see : (task : SweepTask) (work : TableWork) (goes : GoesOn arcs_saving number budget 0 task work turns r)
+  pub arcs_see : (task : SweepTask) (work : TableWork) (goes : GoesOn arcs_saving number 0 task work turns r)
       (f : FileNo) (many : ℕ) → diagram_rests goes.point f many → arcs_saving.rests goes.point f many
   arcs_see task work goes f many = arcs_rests goes.point f many goes.sweep_is goes.fits
 
   pub reduction_sees : (task : reduce.Task) (diagram : Diagram)
-      (goes : GoesOn reduce_saving number budget 1 task diagram turns r) (f : FileNo) (many : ℕ)
+      (goes : GoesOn reduce_saving number 1 task diagram turns r) (f : FileNo) (many : ℕ)
       → diagram_rests goes.point f many → reduce_saving.rests goes.point f many
   reduction_sees task diagram goes f many = reduction_rests goes.point f many goes.sweep_is
 
@@ -216,10 +216,10 @@ arcs_spare_nodes n operands number c fits names first second third f many on sam
           queue_apart c f fits.queue (k, r, within, is, (used, file_is)) part_is
     ]
 
-pub arcs_see_no_nodes : (n : ℕ) (operands : OperandFiles) (number budget : ℕ) (work : TableWork) (turns : ℕ)
-    (r : FileNo → List ℕ) (goes : GoesOn arcs_saving number budget 0 (arcs_of n operands number) work turns r)
+pub arcs_see_no_nodes : (n : ℕ) (operands : OperandFiles) (number : ℕ) (work : TableWork) (turns : ℕ)
+    (r : FileNo → List ℕ) (goes : GoesOn arcs_saving number 0 (arcs_of n operands number) work turns r)
     → operands.first.step < number → operands.second.step < number → operands.third.step < number
     → (f : FileNo) (many : ℕ) → diagram_rests goes.point f many → f ≢ node_file number
-arcs_see_no_nodes n operands number budget work turns r goes first second third f many on =
+arcs_see_no_nodes n operands number work turns r goes first second third f many on =
     arcs_spare_nodes n operands number goes.point goes.fits goes.names first second third f many
     (arcs_rests goes.point f many goes.sweep_is goes.fits on)

@@ -34,10 +34,10 @@ two_tables n t u = record { n = n; first = t; second = u }
 
 -- the files are compared, and it goes on to whether the tables are the same. The turns that were made, those that
 -- remain and the one that ends the sweep are within the step's work
-pub record ComparisonGoesOn (n : ℕ) (left right : FileNo) (number budget : ℕ) (t u : List Bool)
+pub record ComparisonGoesOn (n : ℕ) (left right : FileNo) (number : ℕ) (t u : List Bool)
     (r : FileNo → List ℕ) : Type 0 where
   pub turns : ℕ
-  pub goes_on : GoesOn same_saving number budget 0 (comparison_of n left right number) (two_tables n t u) turns r
+  pub goes_on : GoesOn same_saving number 0 (comparison_of n left right number) (two_tables n t u) turns r
   pub few : turns < work_for n (Same 0 1) (t ∷ u ∷ [])
 
 -- the evaluation of a file of a diagram of n variables at the bits that stand in the text from a byte on
@@ -54,10 +54,10 @@ abbrev pub one_table : ℕ → List Bool → OneTable
 one_table n t = record { n = n; table = t }
 
 -- the file is evaluated, and it goes on to the table's value at the bits
-pub record EvaluationGoesOn (n : ℕ) (file : FileNo) (text : List ℕ) (at number budget : ℕ) (t : List Bool)
+pub record EvaluationGoesOn (n : ℕ) (file : FileNo) (text : List ℕ) (at number : ℕ) (t : List Bool)
     (r : FileNo → List ℕ) : Type 0 where
   pub turns : ℕ
-  pub goes_on : GoesOn eval_saving number budget 0 (evaluation_of n file text at number) (one_table n t) turns r
+  pub goes_on : GoesOn eval_saving number 0 (evaluation_of n file text at number) (one_table n t) turns r
   pub few : turns < work_for n (Eval 0 at) (t ∷ [])
 
 -- two files as the operands of an operator
@@ -66,10 +66,10 @@ two_files left right = record { first = left; second = right; third = right }
 
 -- the arcs of "left and not right" are made of the files, and it goes on to whether the left table implies the right
 -- one
-pub record ImplicationGoesOn (n : ℕ) (left right : FileNo) (number budget : ℕ) (t u : List Bool)
+pub record ImplicationGoesOn (n : ℕ) (left right : FileNo) (number : ℕ) (t u : List Bool)
     (r : FileNo → List ℕ) : Type 0 where
   pub turns : ℕ
-  pub goes_on : GoesOn leq_saving number budget 0 (arcs_of n (two_files left right) number)
+  pub goes_on : GoesOn leq_saving number 0 (arcs_of n (two_files left right) number)
       (record { n = n; left = t; right = u }) turns r
   pub few : turns < work_for n (Leq 0 1) (t ∷ u ∷ [])
 

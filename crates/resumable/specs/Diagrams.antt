@@ -75,26 +75,26 @@ copy_of from number bytes = record { from = from; to = node_file number; pieces 
 
 -- an operand's file, whose bytes are those of the step's table, which has a canonical form, is copied. The turns that
 -- were made, those that remain and the one that ends the copy are within the step's work
-pub record CopyGoesOn (operation : StepOperation) (n : ℕ) (operands : OperandFiles) (number budget : ℕ) (g : Tables)
+pub record CopyGoesOn (operation : StepOperation) (n : ℕ) (operands : OperandFiles) (number : ℕ) (g : Tables)
     (r : FileNo → List ℕ) : Type 0 where
   pub from : FileNo
   pub operand : (from ≡ operands.first) ⊎ (from ≡ operands.second)
   pub form : HasForm n (made_by operation n g)
   pub turns : ℕ
-  pub goes_on : GoesOn copy_saving number budget 0 (copy_of from number (canon_bytes n (made_by operation n g)))
+  pub goes_on : GoesOn copy_saving number 0 (copy_of from number (canon_bytes n (made_by operation n g)))
       (canon_bytes n (made_by operation n g)) turns r
   pub few : turns < work_by operation n g
 
 -- the step's operation on its operands makes arcs of its table. With the most that a reduction of as many sources as
 -- tuples are joined takes behind them, the turns are within the step's work
-pub record ArcsGoOn (operation : StepOperation) (n : ℕ) (operands : OperandFiles) (number budget : ℕ) (g : Tables)
+pub record ArcsGoOn (operation : StepOperation) (n : ℕ) (operands : OperandFiles) (number : ℕ) (g : Tables)
     (r : FileNo → List ℕ) : Type 0 where
   pub turns : ℕ
-  pub goes_on : GoesOn arcs_saving number budget 0 (arcs_of n operands number) (work_of operation n g) turns r
+  pub goes_on : GoesOn arcs_saving number 0 (arcs_of n operands number) (work_of operation n g) turns r
   pub few : turns + (10 * tuples_by operation n g + 10) ≤ work_by operation n g
 
 -- the step's arcs are reduced to its node file, which is that of the table, and that has a canonical form
-pub record ReductionGoesOn (n number budget : ℕ) (table : List Bool) (work : ℕ) (r : FileNo → List ℕ) : Type 0 where
+pub record ReductionGoesOn (n number : ℕ) (table : List Bool) (work : ℕ) (r : FileNo → List ℕ) : Type 0 where
   pub task : reduce.Task
   pub inner_own : task.inner.step ≡ number
   pub ends_own : task.ends.step ≡ number
@@ -102,15 +102,15 @@ pub record ReductionGoesOn (n number budget : ℕ) (table : List Bool) (work : �
   pub table_is : diagram.table ≡ table
   pub form : HasForm n table
   pub turns : ℕ
-  pub goes_on : GoesOn reduce_saving number budget 1 task diagram turns r
+  pub goes_on : GoesOn reduce_saving number 1 task diagram turns r
   pub makes : reductions.Makes goes_on.point (node_file number) n
   pub few : turns < work
 
 -- a step that makes a diagram goes on in one of these ways
-abbrev pub DiagramGoesOn : StepOperation → ℕ → OperandFiles → ℕ → ℕ → Tables → (FileNo → List ℕ) → Type 0
-DiagramGoesOn operation n operands number budget g r = CopyGoesOn operation n operands number budget g r
-    ⊎ (ArcsGoOn operation n operands number budget g r
-    ⊎ ReductionGoesOn n number budget (made_by operation n g) (work_by operation n g) r)
+abbrev pub DiagramGoesOn : StepOperation → ℕ → OperandFiles → ℕ → Tables → (FileNo → List ℕ) → Type 0
+DiagramGoesOn operation n operands number g r = CopyGoesOn operation n operands number g r
+    ⊎ (ArcsGoOn operation n operands number g r
+    ⊎ ReductionGoesOn n number (made_by operation n g) (work_by operation n g) r)
 
 -- a checkpoint of such a step rests on so many first bytes of the file: of its first sweep one that has no tables is a
 -- copy's, and one that has is that of the sweep that makes arcs

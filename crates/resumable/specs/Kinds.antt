@@ -24,25 +24,25 @@ abbrev pub tables_of : ℕ → List Planned → ℕ → ℕ → ℕ → Tables
 tables_of n steps a b c = record { first = table_at n steps a; second = table_at n steps b; third = table_at n steps c }
 
 -- step j of the plan, which is this one, goes on from its last gated checkpoint. A step that takes one turn has none
-abbrev pub StepGoesOn : ℕ → List ℕ → List Planned → ℕ → ℕ → Step → (FileNo → List ℕ) → Type 0
-StepGoesOn n text steps budget j (Const value) r = ⊥
-StepGoesOn n text steps budget j (Var level) r = ⊥
-StepGoesOn n text steps budget j (Pair op left right) r = DiagramGoesOn (operations.Operator op) n
-    (files_of left right right) j budget (tables_of n steps left right right) r
-StepGoesOn n text steps budget j (Ite test if_one if_zero) r = DiagramGoesOn operations.Choice n
-    (files_of test if_one if_zero) j budget (tables_of n steps test if_one if_zero) r
-StepGoesOn n text steps budget j (Quantify kind operand level) r = DiagramGoesOn (operations.Quantifier kind level) n
-    (files_of operand operand operand) j budget (tables_of n steps operand operand operand) r
-StepGoesOn n text steps budget j (Restrict operand level value) r = DiagramGoesOn (operations.Restriction level value) n
-    (files_of operand operand operand) j budget (tables_of n steps operand operand operand) r
-StepGoesOn n text steps budget j (Drop gone) r = ⊥
-StepGoesOn n text steps budget j (Same left right) r = ComparisonGoesOn n (node_file left) (node_file right) j budget
+abbrev pub StepGoesOn : ℕ → List ℕ → List Planned → ℕ → Step → (FileNo → List ℕ) → Type 0
+StepGoesOn n text steps j (Const value) r = ⊥
+StepGoesOn n text steps j (Var level) r = ⊥
+StepGoesOn n text steps j (Pair op left right) r = DiagramGoesOn (operations.Operator op) n
+    (files_of left right right) j (tables_of n steps left right right) r
+StepGoesOn n text steps j (Ite test if_one if_zero) r = DiagramGoesOn operations.Choice n
+    (files_of test if_one if_zero) j (tables_of n steps test if_one if_zero) r
+StepGoesOn n text steps j (Quantify kind operand level) r = DiagramGoesOn (operations.Quantifier kind level) n
+    (files_of operand operand operand) j (tables_of n steps operand operand operand) r
+StepGoesOn n text steps j (Restrict operand level value) r = DiagramGoesOn (operations.Restriction level value) n
+    (files_of operand operand operand) j (tables_of n steps operand operand operand) r
+StepGoesOn n text steps j (Drop gone) r = ⊥
+StepGoesOn n text steps j (Same left right) r = ComparisonGoesOn n (node_file left) (node_file right) j
     (table_at n steps left) (table_at n steps right) r
-StepGoesOn n text steps budget j (Leq left right) r = ImplicationGoesOn n (node_file left) (node_file right) j budget
+StepGoesOn n text steps j (Leq left right) r = ImplicationGoesOn n (node_file left) (node_file right) j
     (table_at n steps left) (table_at n steps right) r
-StepGoesOn n text steps budget j (Eval operand at) r = EvaluationGoesOn n (node_file operand) text at j budget
+StepGoesOn n text steps j (Eval operand at) r = EvaluationGoesOn n (node_file operand) text at j
     (table_at n steps operand) r
-StepGoesOn n text steps budget j (Size operand) r = ⊥
+StepGoesOn n text steps j (Size operand) r = ⊥
 
 -- a checkpoint of the step rests on so many first bytes of the file
 abbrev pub RestsOn : Step → Checkpoint → FileNo → ℕ → Type 0

@@ -29,78 +29,78 @@ ghost use Rattle.resumable.specs.Resumable.{NoneBehind, HasNone, ShowsTheSame, I
 
 /// An image in which neither the step nor one behind it has a gated checkpoint is resumable, whatever the plan.
 pub fn without_checkpoints_is_resumable()
-    ensures { (n : ℕ) (text : List ℕ) (steps : List Planned) (budget j : ℕ) (r : FileNo → List ℕ) →
-        HasNone steps j r → IsResumable n text steps budget j r }
+    ensures { (n : ℕ) (text : List ℕ) (steps : List Planned) (j : ℕ) (r : FileNo → List ℕ) →
+        HasNone steps j r → IsResumable n text steps j r }
 {}
 
 /// An image that shows the same as a resumable one, in the gates, the last checkpoint and what that rests on, is
 /// resumable.
 pub fn the_same_is_resumable()
-    ensures { (n : ℕ) (text : List ℕ) (steps : List Planned) (budget j : ℕ) (old new : FileNo → List ℕ) →
-        ShowsTheSame steps budget j old new → IsResumable n text steps budget j old →
-        IsResumable n text steps budget j new }
+    ensures { (n : ℕ) (text : List ℕ) (steps : List Planned) (j : ℕ) (old new : FileNo → List ℕ) →
+        ShowsTheSame steps j old new → IsResumable n text steps j old →
+        IsResumable n text steps j new }
 {}
 
 /// An image is resumable in which the step goes on from a checkpoint, and none behind it has one: a comparison, an
 /// evaluation or an implication from one of its only sweep, within its work, and a step that makes a diagram in any of
 /// its ways.
 pub fn what_goes_on_is_resumable()
-    ensures comparison { (n : ℕ) (text : List ℕ) (steps : List Planned) (budget j left right turns : ℕ)
+    ensures comparison { (n : ℕ) (text : List ℕ) (steps : List Planned) (j left right turns : ℕ)
         (r : FileNo → List ℕ) → step_at steps j ≡ Same left right → NoneBehind steps j r →
-        GoesOn same_saving j budget 0 (comparison_of n (node_file left) (node_file right) j)
+        GoesOn same_saving j 0 (comparison_of n (node_file left) (node_file right) j)
         (two_tables n (table_at n steps left) (table_at n steps right)) turns r →
-        turns < work_at n steps j → IsResumable n text steps budget j r }
-    ensures evaluation { (n : ℕ) (text : List ℕ) (steps : List Planned) (budget j operand at turns : ℕ)
+        turns < work_at n steps j → IsResumable n text steps j r }
+    ensures evaluation { (n : ℕ) (text : List ℕ) (steps : List Planned) (j operand at turns : ℕ)
         (r : FileNo → List ℕ) → step_at steps j ≡ Eval operand at → NoneBehind steps j r →
-        GoesOn eval_saving j budget 0 (evaluation_of n (node_file operand) text at j)
+        GoesOn eval_saving j 0 (evaluation_of n (node_file operand) text at j)
         (one_table n (table_at n steps operand)) turns r →
-        turns < work_at n steps j → IsResumable n text steps budget j r }
-    ensures implication { (n : ℕ) (text : List ℕ) (steps : List Planned) (budget j left right turns : ℕ)
+        turns < work_at n steps j → IsResumable n text steps j r }
+    ensures implication { (n : ℕ) (text : List ℕ) (steps : List Planned) (j left right turns : ℕ)
         (r : FileNo → List ℕ) → step_at steps j ≡ Leq left right → NoneBehind steps j r →
-        GoesOn leq_saving j budget 0 (arcs_of n (two_files (node_file left) (node_file right)) j)
+        GoesOn leq_saving j 0 (arcs_of n (two_files (node_file left) (node_file right)) j)
         (record { n = n; left = table_at n steps left; right = table_at n steps right }) turns r →
-        turns < work_at n steps j → IsResumable n text steps budget j r }
+        turns < work_at n steps j → IsResumable n text steps j r }
 
     // a step that makes a diagram
-    ensures operator { (n : ℕ) (text : List ℕ) (steps : List Planned) (budget j left right : ℕ) (op : Bin)
+    ensures operator { (n : ℕ) (text : List ℕ) (steps : List Planned) (j left right : ℕ) (op : Bin)
         (r : FileNo → List ℕ) → step_at steps j ≡ Pair op left right → NoneBehind steps j r →
-        DiagramGoesOn (operations.Operator op) n (files_of left right right) j budget
-        (tables_of n steps left right right) r → IsResumable n text steps budget j r }
-    ensures choice { (n : ℕ) (text : List ℕ) (steps : List Planned) (budget j test if_one if_zero : ℕ)
+        DiagramGoesOn (operations.Operator op) n (files_of left right right) j
+        (tables_of n steps left right right) r → IsResumable n text steps j r }
+    ensures choice { (n : ℕ) (text : List ℕ) (steps : List Planned) (j test if_one if_zero : ℕ)
         (r : FileNo → List ℕ) → step_at steps j ≡ Ite test if_one if_zero → NoneBehind steps j r →
-        DiagramGoesOn operations.Choice n (files_of test if_one if_zero) j budget
-        (tables_of n steps test if_one if_zero) r → IsResumable n text steps budget j r }
-    ensures quantifier { (n : ℕ) (text : List ℕ) (steps : List Planned) (budget j operand level : ℕ) (kind : Quant)
+        DiagramGoesOn operations.Choice n (files_of test if_one if_zero) j
+        (tables_of n steps test if_one if_zero) r → IsResumable n text steps j r }
+    ensures quantifier { (n : ℕ) (text : List ℕ) (steps : List Planned) (j operand level : ℕ) (kind : Quant)
         (r : FileNo → List ℕ) → step_at steps j ≡ Quantify kind operand level → NoneBehind steps j r →
-        DiagramGoesOn (operations.Quantifier kind level) n (files_of operand operand operand) j budget
-        (tables_of n steps operand operand operand) r → IsResumable n text steps budget j r }
-    ensures restriction { (n : ℕ) (text : List ℕ) (steps : List Planned) (budget j operand level : ℕ) (value : Bool)
+        DiagramGoesOn (operations.Quantifier kind level) n (files_of operand operand operand) j
+        (tables_of n steps operand operand operand) r → IsResumable n text steps j r }
+    ensures restriction { (n : ℕ) (text : List ℕ) (steps : List Planned) (j operand level : ℕ) (value : Bool)
         (r : FileNo → List ℕ) → step_at steps j ≡ Restrict operand level value → NoneBehind steps j r →
-        DiagramGoesOn (operations.Restriction level value) n (files_of operand operand operand) j budget
-        (tables_of n steps operand operand operand) r → IsResumable n text steps budget j r }
+        DiagramGoesOn (operations.Restriction level value) n (files_of operand operand operand) j
+        (tables_of n steps operand operand operand) r → IsResumable n text steps j r }
 {}
 
 /// A step that makes a diagram goes on where a sweep of it does, within the step's work: the copy of an operand with
 /// the bytes of the step's table, the sweep that makes its arcs, with the turns of a reduction left, or the reduction
 /// of its arcs, as the second sweep.
 pub fn a_sweep_of_a_diagram_goes_on()
-    ensures copy { (operation : StepOperation) (n : ℕ) (operands : OperandFiles) (number budget turns : ℕ) (g : Tables)
+    ensures copy { (operation : StepOperation) (n : ℕ) (operands : OperandFiles) (number turns : ℕ) (g : Tables)
         (from : FileNo) (r : FileNo → List ℕ) → (from ≡ operands.first) ⊎ (from ≡ operands.second) →
         HasForm n (made_by operation n g) →
-        GoesOn copy_saving number budget 0 (copy_of from number (canon_bytes n (made_by operation n g)))
+        GoesOn copy_saving number 0 (copy_of from number (canon_bytes n (made_by operation n g)))
         (canon_bytes n (made_by operation n g)) turns r →
-        turns < work_by operation n g → DiagramGoesOn operation n operands number budget g r }
-    ensures arcs { (operation : StepOperation) (n : ℕ) (operands : OperandFiles) (number budget turns : ℕ) (g : Tables)
+        turns < work_by operation n g → DiagramGoesOn operation n operands number g r }
+    ensures arcs { (operation : StepOperation) (n : ℕ) (operands : OperandFiles) (number turns : ℕ) (g : Tables)
         (r : FileNo → List ℕ) →
-        GoesOn arcs_saving number budget 0 (arcs_of n operands number) (work_of operation n g) turns r →
+        GoesOn arcs_saving number 0 (arcs_of n operands number) (work_of operation n g) turns r →
         turns + (10 * tuples_by operation n g + 10) ≤ work_by operation n g →
-        DiagramGoesOn operation n operands number budget g r }
-    ensures reduction { (operation : StepOperation) (n : ℕ) (operands : OperandFiles) (number budget turns : ℕ)
+        DiagramGoesOn operation n operands number g r }
+    ensures reduction { (operation : StepOperation) (n : ℕ) (operands : OperandFiles) (number turns : ℕ)
         (g : Tables) (task : reduce.Task) (diagram : Diagram) (r : FileNo → List ℕ) → task.out ≡ node_file number →
         task.variables ≡ n → task.inner.step ≡ number → task.ends.step ≡ number →
         diagram.table ≡ made_by operation n g → HasForm n (made_by operation n g) →
-        GoesOn reduce_saving number budget 1 task diagram turns r →
-        turns < work_by operation n g → DiagramGoesOn operation n operands number budget g r }
+        GoesOn reduce_saving number 1 task diagram turns r →
+        turns < work_by operation n g → DiagramGoesOn operation n operands number g r }
 {}
 
 /// The work of an operation on the tables of a step's operands is the step's.

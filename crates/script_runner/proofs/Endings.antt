@@ -115,17 +115,17 @@ fetched_source folder source status old mid new looked (inr (inr runs)) = inr (i
 }))
 
 -- a source of which too many bytes were read is refused as that of those bytes is; one of few bytes is theirs
-pub ends_whole : (folder : List ℕ) (budget : ℕ) (text bytes : List ℕ) (netlist : Option (List ℕ)) (status : ℕ) (old new : World)
-    → bytes ≡ take (1048576 + 1) text → EndsSource folder (source_of budget bytes netlist) status old new
-    → EndsSource folder (source_of budget text netlist) status old new
-ends_whole folder budget text bytes netlist status old new read ends = elim (cases_lt 1048576 (length bytes)) [
+pub ends_whole : (folder : List ℕ) (text bytes : List ℕ) (netlist : Option (List ℕ)) (status : ℕ) (old new : World)
+    → bytes ≡ take (1048576 + 1) text → EndsSource folder (source_of bytes netlist) status old new
+    → EndsSource folder (source_of text netlist) status old new
+ends_whole folder text bytes netlist status old new read ends = elim (cases_lt 1048576 (length bytes)) [
   | inl long ↦ by_length long ends
-  | inr short ↦ subst (λ t. EndsSource folder (source_of budget t netlist) status old new)
+  | inr short ↦ subst (λ t. EndsSource folder (source_of t netlist) status old new)
       (whole_text 1048576 text bytes read short) ends
 ]
   where
-    by_length : 1048576 < length bytes → EndsSource folder (source_of budget bytes netlist) status old new
-        → EndsSource folder (source_of budget text netlist) status old new
+    by_length : 1048576 < length bytes → EndsSource folder (source_of bytes netlist) status old new
+        → EndsSource folder (source_of text netlist) status old new
     by_length long (inl silent) = inl silent
     by_length long (inr (inl refuses)) = inr (inl (record {
       fault = refuses.fault;
@@ -141,13 +141,13 @@ ends_whole folder budget text bytes netlist status old new read ends = elim (cas
         let short = text_is_short runs.plans.netlist bytes runs.plan runs.plans.reads in absurd (omega (arith, long, short))
 
 -- the same of the calls
-pub calls_whole : (budget : ℕ) (text bytes : List ℕ) (netlist : Option (List ℕ)) (before : ℕ) (old new : World)
-    → bytes ≡ take (1048576 + 1) text → RunsInCalls before (source_of budget bytes netlist) old new
-    → RunsInCalls before (source_of budget text netlist) old new
-calls_whole budget text bytes netlist before old new read (inl few) = inl few
-calls_whole budget text bytes netlist before old new read (inr ran) =
+pub calls_whole : (text bytes : List ℕ) (netlist : Option (List ℕ)) (before : ℕ) (old new : World)
+    → bytes ≡ take (1048576 + 1) text → RunsInCalls before (source_of bytes netlist) old new
+    → RunsInCalls before (source_of text netlist) old new
+calls_whole text bytes netlist before old new read (inl few) = inl few
+calls_whole text bytes netlist before old new read (inr ran) =
     let short = text_is_short ran.1.netlist bytes ran.0 ran.1.reads in
-    subst (λ t. RunsInCalls before (source_of budget t netlist) old new) (whole_text 1048576 text bytes read short) (inr ran)
+    subst (λ t. RunsInCalls before (source_of t netlist) old new) (whole_text 1048576 text bytes read short) (inr ran)
 
 -- and after texts were fetched
 pub fetched_calls : (source : Source) (fetch most : ℕ) (old mid new : World) → OnlyFetched old mid
@@ -214,7 +214,7 @@ pub ends_without_memory : (asked : Option Reading) (old new : World) → OnlyFet
 ends_without_memory asked old new looked = record {
   ran = λ f s n b is. inl (refl, looked);
   generated = λ f size b is. record {
-    source = source_of b (script_of size) None;
+    source = source_of (script_of size) None;
     source_is = refl;
     ends = inl (refl, looked);
   };

@@ -11,6 +11,7 @@ use Rattle.shelf_model.specs.Calls.{Told, Entered}
 use Rattle.shelf_model.specs.Moments.{Throughout, OnlyOldImages}
 use Rattle.shelf_model.proofs.Runs.{stands, one_call, joins, weakens, at_end, told, told_then}
 use Rattle.catalogue.specs.Files.{job_file}
+use Rattle.catalogue.specs.Standings.{without_budget}
 use Rattle.catalogue.specs.Counts.{present, count_in}
 use Rattle.sound_image.specs.Jobs.{Job}
 use Rattle.sound_image.specs.Holds.{AreSound}
@@ -218,11 +219,11 @@ earlier job lines status start old mid new stay run = record {
 -- a run in a folder of another job that met a fault before it said so
 stood : (job : List ℕ) (old new : World) → IsOther job (present (now old).folder) → Throughout old new (IsStill (now old)) → RefusesOther job 7 (now old) old new
 stood job old new other still = record {
-  at = common_prefix_len nat_eq (present (now old).folder job_file) job;
+  at = common_prefix_len nat_eq (without_budget (present (now old).folder job_file)) job;
   place = record { is_other = other; place = refl };
-  moments = weakens old new (IsStill (now old)) (λ m. SaysFront (said old) (other_job_line (common_prefix_len nat_eq (present (now old).folder job_file) job)) m.said × OnlyOldImages (now old) m)
+  moments = weakens old new (IsStill (now old)) (λ m. SaysFront (said old) (other_job_line (common_prefix_len nat_eq (without_budget (present (now old).folder job_file)) job)) m.said × OnlyOldImages (now old) m)
       (λ m is_still. (
-        says_nothing (said old) (other_job_line (common_prefix_len nat_eq (present (now old).folder job_file) job)) m.said is_still.said_is,
+        says_nothing (said old) (other_job_line (common_prefix_len nat_eq (without_budget (present (now old).folder job_file)) job)) m.said is_still.said_is,
         is_still.images,
       )) still;
   status_is = inr (inl refl);

@@ -13,14 +13,14 @@ use Rattle.script_runner.proofs.RunPaying.{stops_besides}
 
 module _ {S : Type 0} (tells : S → Bool) (world : S → World) where
   pub ran_size : (folder : List ℕ) (size budget : ℕ) (script : List ℕ) (status : ℕ) (s t : S) → script ≡ script_of size
-      → Told tells s t (EndsSource folder (source_of budget script None) status (world s) (world t))
+      → Told tells s t (EndsSource folder (source_of script None) status (world s) (world t))
       → Told tells s t (Ends (Some (gen folder size budget)) status (world s) (world t))
   ran_size folder size budget script status s t is runs = record {
     before = runs.before;
     did = λ tells_t. ends_size folder size budget status (world s) (world t) (record {
-      source = source_of budget (script_of size) None;
+      source = source_of (script_of size) None;
       source_is = refl;
-      ends = subst (λ text. EndsSource folder (source_of budget text None) status (world s) (world t)) is (runs.did tells_t);
+      ends = subst (λ text. EndsSource folder (source_of text None) status (world s) (world t)) is (runs.did tells_t);
     });
   }
 
@@ -35,11 +35,11 @@ later source most old new (inr (plan, plans, calls, stops)) = inr (
 )
 
 pub calls_size : (folder : List ℕ) (size budget : ℕ) (script : List ℕ) (old new : World) → script ≡ script_of size
-    → RunsInCalls 0 (source_of budget script None) old new
+    → RunsInCalls 0 (source_of script None) old new
     → MakesFewCalls (Some (gen folder size budget)) old new
 calls_size folder size budget script old new is runs = inr (inl (
-  source_of budget (script_of size) None,
+  source_of (script_of size) None,
   record { reading = gen folder size budget; asked_is = refl; source_is = refl },
-  later (source_of budget (script_of size) None) texts_calls old new
-      (subst (λ text. RunsInCalls 0 (source_of budget text None) old new) is runs),
+  later (source_of (script_of size) None) texts_calls old new
+      (subst (λ text. RunsInCalls 0 (source_of text None) old new) is runs),
 ))

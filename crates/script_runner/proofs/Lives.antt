@@ -14,6 +14,7 @@ use Rattle.shelf_model.specs.Faults.{Faults}
 use Rattle.blif_reader.specs.declared.fault.BlifFault.{BlifFault}
 use Rattle.catalogue.specs.Files.{job_file, job_gate, step_gate}
 use Rattle.catalogue.specs.Counts.{present, is_stored, count_in}
+use Rattle.catalogue.specs.Standings.{without_budget}
 use Rattle.command_words.specs.Readings.{Reading, run, list, gen, reading_of}
 use Rattle.sound_image.specs.Files.{checkpoint_gate}
 use Rattle.sound_image.specs.Jobs.{Job, step_at}
@@ -171,7 +172,7 @@ module _ (source : Source) (plan : Plan) (plans : Plans source plan) (folder : F
       same_reads = λ i f. ap (λ file. file.bytes) (is.found f) i
 
   -- another job was to be run, where this one is stored in every image
-  keeps_other : (other : Source) (p : Plan) (path : List ℕ) → ¬ (job_bytes other ≡ job_bytes source) → AreStored folder
+  keeps_other : (other : Source) (p : Plan) (path : List ℕ) → ¬ (job_bytes 0 other ≡ job_bytes 0 source) → AreStored folder
       → ¬ (RunsPlan source plan life)
       → RunsIn path (job_of other p) p.lines life.status life.old life.new → LifeKeeps source plan folder life
   keeps_other other p path differ stored none ran = keeps_images (refuses.moments.each life.at is.since is.until).1 (λ runs. absurd (none runs))
@@ -188,37 +189,37 @@ module _ (source : Source) (plan : Plan) (plans : Plans source plan) (folder : F
       stored_here : IsTrue (is_stored (present (now life.old).folder))
       stored_here = subst (λ a. IsTrue (nat_lt 0 (length a))) (standing_reads job_gate) (stored first (alike (now life.old).folder folder is.found first is_first))
 
-      job_here : present (now life.old).folder job_file ≡ job_bytes source
+      job_here : without_budget (present (now life.old).folder job_file) ≡ job_bytes 0 source
       job_here = elim (found_sound first is_first).shown [
         | inl unstored ↦ absurd (both (bytes_in first) (present (now life.old).folder) (standing_reads job_gate) stored_here unstored.0)
-        | inr shown ↦ sym (standing_reads job_file) ∙ shown.job_is
+        | inr shown ↦ ap without_budget (sym (standing_reads job_file)) ∙ shown.job_is
       ]
         where
           both : (r q : FileNo → List ℕ) → r job_gate ≡ q job_gate → IsTrue (is_stored q) → is_stored r ≡ false → ⊥
           both r q same x y = let e : is_stored r ≡ is_stored q = ap (λ bytes. nat_lt 0 (length bytes)) same in cc
 
-      refuses : RefusesOther (job_bytes other) life.status (now life.old) life.old life.new
+      refuses : RefusesOther (job_bytes 0 other) life.status (now life.old) life.old life.new
       refuses = ran.leaves.other (record { stored = stored_here; other = λ same. differ (sym same ∙ job_here) })
 
   -- this job or another one
   keeps_ran : RunsPlan source plan life ⊎ StaysOut life ⊎ AreStored folder
       → EndsRan (reading_of life.words) life.status life.old life.new → LifeKeeps source plan folder life
-  keeps_ran which ran = by_job (bytes_eq here (job_bytes source)) refl
+  keeps_ran which ran = by_job (bytes_eq here (job_bytes 0 source)) refl
     where
       path : List ℕ
       path = folder_of ran.asks.reading
 
       here : List ℕ
-      here = job_bytes ran.source
+      here = job_bytes 0 ran.source
 
       accepts : Accepts life.old (reading_of life.words) ran.runs.plan
       accepts = record { source = ran.source; asks = ran.asks; plans = ran.runs.plans }
 
-      same_bytes : RunsPlan source plan life → here ≡ job_bytes source
-      same_bytes runs = ap job_bytes
+      same_bytes : RunsPlan source plan life → here ≡ job_bytes 0 source
+      same_bytes runs = ap (job_bytes 0)
           ((one_accepted life.old (reading_of life.words) ran.runs.plan plan accepts runs.accepts).0 ∙ runs.source_is)
 
-      other_job : ¬ (here ≡ job_bytes source) → LifeKeeps source plan folder life
+      other_job : ¬ (here ≡ job_bytes 0 source) → LifeKeeps source plan folder life
       other_job differ = elim which [
         | inl runs ↦ absurd (differ (same_bytes runs))
         | inr rest ↦ elim rest [
@@ -227,7 +228,7 @@ module _ (source : Source) (plan : Plan) (plans : Plans source plan) (folder : F
         ]
       ]
 
-      this_job : here ≡ job_bytes source → LifeKeeps source plan folder life
+      this_job : here ≡ job_bytes 0 source → LifeKeeps source plan folder life
       this_job same =
           let texts = job_has_texts ran.source source ran.runs.plan plan ran.runs.plans plans same in
           let planned : ran.runs.plan ≡ plan =
@@ -237,11 +238,11 @@ module _ (source : Source) (plan : Plan) (plans : Plans source plan) (folder : F
           keeps_run path (subst (λ (p : Plan). RunsIn path (job_of source plan) p.lines life.status life.old life.new) planned
           (subst (λ (j : Job). RunsIn path j ran.runs.plan.lines life.status life.old life.new) jobs ran.runs.run))
 
-      by_job : (b : Bool) → bytes_eq here (job_bytes source) ≡ b → LifeKeeps source plan folder life
-      by_job true e = this_job ((bytes_eq-Decides here (job_bytes source)).0 e)
+      by_job : (b : Bool) → bytes_eq here (job_bytes 0 source) ≡ b → LifeKeeps source plan folder life
+      by_job true e = this_job ((bytes_eq-Decides here (job_bytes 0 source)).0 e)
       by_job false e = other_job (λ same.
-          (let equal : bytes_eq here (job_bytes source) ≡ true = (bytes_eq-Decides here (job_bytes source)).1 same in
-          not_both (bytes_eq here (job_bytes source)) equal e))
+          (let equal : bytes_eq here (job_bytes 0 source) ≡ true = (bytes_eq-Decides here (job_bytes 0 source)).1 same in
+          not_both (bytes_eq here (job_bytes 0 source)) equal e))
         where
           not_both : (b : Bool) → b ≡ true → b ≡ false → ⊥
           not_both b x y = cc

@@ -53,9 +53,9 @@ unpaid_less done step rest = by_test (nat_lt done step)
     by_test false = omega arith
 
 -- where the gate is empty nothing is paid
-no_checkpoint : (step : Step) (number budget : ℕ) (r : FileNo → List ℕ) (rest : ℕ) → r (checkpoint_gate number) ≡ [] → PaysRest step number budget r rest
-no_checkpoint step number budget r rest empty c tells =
-    absurd (subst (λ found. Tells number budget found (Some c)) (ap (λ gate. last_of (length gate) (r (checkpoint_file number))) empty) tells)
+no_checkpoint : (step : Step) (number : ℕ) (r : FileNo → List ℕ) (rest : ℕ) → r (checkpoint_gate number) ≡ [] → PaysRest step number r rest
+no_checkpoint step number r rest empty c tells =
+    absurd (subst (λ found. Tells number found (Some c)) (ap (λ gate. last_of (length gate) (r (checkpoint_file number))) empty) tells)
 
 -- the same is paid where the same is read of the checkpoints and of the operands
 nodes_same : (xs : List ℕ) (bound : ℕ) (old new : FileNo → List ℕ) → IsTrue (list_all (λ x. nat_lt x bound) xs)
@@ -67,14 +67,14 @@ nodes_same (x ∷ xs) bound old new below same =
     ∙ ap₂ (λ a b. a + b) (ap count_of (same x (ltb-true x bound parts.0))) (nodes_same xs bound old new parts.1 same)
     ∙ sym (sum_by-cons (λ k. count_of (old (node_file k))) x xs)
 
-pays_still : (step : Step) (number budget rest : ℕ) (old new : FileNo → List ℕ) → IsTrue (list_all (λ x. nat_lt x number) (operands step))
+pays_still : (step : Step) (number rest : ℕ) (old new : FileNo → List ℕ) → IsTrue (list_all (λ x. nat_lt x number) (operands step))
     → new (checkpoint_gate number) ≡ old (checkpoint_gate number) → new (checkpoint_file number) ≡ old (checkpoint_file number)
-    → ((k : ℕ) → k < number → new (node_file k) ≡ old (node_file k)) → PaysRest step number budget old rest → PaysRest step number budget new rest
-pays_still step number budget rest old new below gate points nodes pays c tells =
+    → ((k : ℕ) → k < number → new (node_file k) ≡ old (node_file k)) → PaysRest step number old rest → PaysRest step number new rest
+pays_still step number rest old new below gate points nodes pays c tells =
     let same : last_gated number new ≡ last_gated number old = λ i. last_of (length (gate i)) (points i) in
     let read : nodes_read step new ≡ nodes_read step old = ap (λ n. 3 * n) (nodes_same (operands step) number old new below nodes) in
     subst (λ n. rest_calls (Some c) n + 590 ≤ rest) (sym read)
-    (pays c (subst (λ found. Tells number budget found (Some c)) same tells))
+    (pays c (subst (λ found. Tells number found (Some c)) same tells))
 
 -- so it is at each step of a run in a folder that was sound at first
 pub pays_now : (job : Job) (step rest : ℕ) (old new : Folder) → IsWellFormed job.n job.text job.steps → AreFiles old → AreSound job old
@@ -82,13 +82,13 @@ pub pays_now : (job : Job) (step rest : ℕ) (old new : Folder) → IsWellFormed
     → PaysFirst job old rest → PaysStep job step new (unpaid (count_in (present old)) step rest)
 unfolding unpaid
 pays_now job step rest old new plan files sound reached within keeps later pays = elim (cases_lt (count_in (present old)) step) [
-  | inl behind ↦ no_checkpoint (step_at job step).step step job.budget (present new)
+  | inl behind ↦ no_checkpoint (step_at job step).step step (present new)
       (unpaid (count_in (present old)) step rest - 1019)
       (ap (λ (x : File). x.bytes) (of_step (checkpoint_gate step) refl) ∙ none_behind_first job old files sound step behind within)
   | inr first ↦
       let here : step ≡ count_in (present old) = omega (arith, reached, first) in
       let still : PaysStep job step new rest =
-      pays_still (step_at job step).step step job.budget (rest - 1019) (present old) (present new)
+      pays_still (step_at job step).step step (rest - 1019) (present old) (present new)
       (may_run job.n job.text job.steps step no_step within plan).operands_are
       (ap (λ (x : File). x.bytes) (of_step (checkpoint_gate step) refl)) (ap (λ (x : File). x.bytes) (of_step (checkpoint_file step) refl))
       (λ k below. ap (λ (x : File). x.bytes) (keeps k (omega (arith, below, here)) (λ j from until. absurd (omega (arith, from, until, here)))))

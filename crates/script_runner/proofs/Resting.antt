@@ -13,7 +13,7 @@ use Rattle.script_runner.proofs.Tests.{each_passes}
 
 -- those of the step, or of its operands, which come before it
 pub rests_on_steps : (job : Job) → IsWellFormed job.n job.text job.steps → RestsOnSteps job
-rests_on_steps job plan k r c f many within goes last rest = elim (at_near job.n job.text job.steps job.budget k r c goes last f many rest) [
+rests_on_steps job plan k r c f many within goes last rest = elim (at_near job.n job.text job.steps k r c goes last f many rest) [
   | inl own ↦ λ is. omega (arith, own, is, before)
   | inr (i, operand, inside, found, file_is) ↦
       let earlier : IsTrue (nat_lt operand k) =

@@ -32,8 +32,6 @@ use Rattle.diagram_list.specs.Saying.{IsSaying}
 use Rattle.script_runner.specs.Fetching.{OnlyFetched}
 use Rattle.script_runner.specs.Running.{SaysOnly}
 use Rattle.script_runner.specs.StepRuns.{KeepsDiagrams, KeepsLater}
-use Rattle.script_runner.specs.declared.given_job.Job as declared
-use Rattle.script_runner.specs.JobOf.{job_in}
 use Rattle.script_runner.proofs.Paying.{unpaid, unpaid_few, none_unpaid, unpaid_less, pays_now}
 use Rattle.script_runner.proofs.StopLaws.{pays_more, pays_join, pays_still, fetched_old}
 
@@ -127,9 +125,9 @@ none_shown job r unstored none =
     ]
 
 -- while the job is attached
-pub attached_pays : (job : Job) (paid most : ℕ) (old new : World) → AreFiles (now old).folder → AreSound job (now old).folder
-    → PayAtLeast job paid (now old).folder → Ran (DuringAttach job.bytes (now old)) old new → new.clock ≤ most → PaysThrough job paid most old new
-attached_pays job paid most old new files sound shows run few k from to image is_image =
+pub attached_pays : (job : Job) (given : List ℕ) (paid most : ℕ) (old new : World) → AreFiles (now old).folder → AreSound job (now old).folder
+    → PayAtLeast job paid (now old).folder → Ran (DuringAttach given (now old)) old new → new.clock ≤ most → PaysThrough job paid most old new
+attached_pays job given paid most old new files sound shows run few k from to image is_image =
     record { no_fewer = least; few = omega (arith, few, to) }
   where
     least : paid ≤ paid_in job (bytes_in image)
@@ -145,11 +143,11 @@ attached_pays job paid most old new files sound shows run few k from to image is
           omega (arith, none, paid_for)
     ]
 
-pub attached_so_far : (job : Job) (paid spent rest : ℕ) (old new : World) → AreFiles (now old).folder → AreSound job (now old).folder
-    → PayAtLeast job paid (now old).folder → Ran (DuringAttach job.bytes (now old)) old new → new.clock ≤ old.clock + spent → spent ≤ rest
+pub attached_so_far : (job : Job) (given : List ℕ) (paid spent rest : ℕ) (old new : World) → AreFiles (now old).folder → AreSound job (now old).folder
+    → PayAtLeast job paid (now old).folder → Ran (DuringAttach given (now old)) old new → new.clock ≤ old.clock + spent → spent ≤ rest
     → PaysSoFar job paid spent rest old new
-attached_so_far job paid spent rest old new files sound shows run few within =
-    let pays = attached_pays job paid (old.clock + spent) old new files sound shows run few in
+attached_so_far job given paid spent rest old new files sound shows run few within =
+    let pays = attached_pays job given paid (old.clock + spent) old new files sound shows run few in
     record {
       stops = λ k from to image is_image. at_more job paid (old.clock + spent) (old.clock + rest) k (bytes_in image) (omega (arith, within))
           (pays k from to image is_image);
@@ -170,7 +168,7 @@ step_paid job lines paid spent rest step old new plan files is reached within ke
   holds = holds;
   work = is.work step within;
   shows = pay_now job paid spent rest old new so_far;
-  pays = subst (λ n. PaysRest (step_at job step).step step job.budget (present (now new).folder) n)
+  pays = subst (λ n. PaysRest (step_at job step).step step (present (now new).folder) n)
       (unpaid_less (count_in (present (now old).folder)) step (rest_of rest))
       (pays_now job step (rest_of rest - 81) (now old).folder (now new).folder plan files is.sound reached within keeps later
       (first_paid job rest (now old).folder (subst (λ r. IsRestOf job r rest) (λ i f. standing (now old).folder files f i)
@@ -213,20 +211,23 @@ enters_quietly job lines path r old new paid rest most entered is few =
 
 module _ {S : Type 0} (tells : S → Bool) (world : S → World) (law : (s : S) → IsTrue (tells s) → AreFiles (now (world s)).folder) (job : Job) (lines : ℕ) where
   -- the job couldn't be attached
-  pub attach_stops : (old new : S) → Told tells old new (Ran (DuringAttach job.bytes (now (world old))) (world old) (world new)) → IsTrue (tells new)
-      → (world new).clock ≤ (world old).clock + 9 + pieces (length job.bytes) → RunPays job lines (world old) (world new)
-  attach_stops old new run told few paid rest is =
+  pub attach_stops : (given : List ℕ) (old new : S) → length given ≡ length job.bytes
+      → Told tells old new (Ran (DuringAttach given (now (world old))) (world old) (world new)) → IsTrue (tells new)
+      → (world new).clock ≤ (world old).clock + 9 + pieces (length given) → RunPays job lines (world old) (world new)
+  attach_stops given old new size run told few paid rest is =
       let files = law old (run.before told) in
       let great = rest_is_great job lines paid rest (now (world old)).folder files is in
       let short = is.short in
-      attached_pays job paid ((world old).clock + rest) (world old) (world new) files is.sound is.shows (run.did told) (omega (arith, few, great, short))
+      attached_pays job given paid ((world old).clock + rest) (world old) (world new) files is.sound is.shows (run.did told)
+      (omega (arith, few, great, short, size))
 
   -- it was, and the banner was said, or a part of it
-  pub banner_so_far : (old mid new : S) → Told tells old mid (Ran (DuringAttach job.bytes (now (world old))) (world old) (world mid)) → IsTrue (tells mid)
-      → (world mid).clock ≤ (world old).clock + 9 + pieces (length job.bytes) → Ticks (world mid) (world new)
+  pub banner_so_far : (given : List ℕ) (old mid new : S) → length given ≡ length job.bytes
+      → Told tells old mid (Ran (DuringAttach given (now (world old))) (world old) (world mid)) → IsTrue (tells mid)
+      → (world mid).clock ≤ (world old).clock + 9 + pieces (length given) → Ticks (world mid) (world new)
       → (now (world new)).folder ≡ (now (world mid)).folder → (left step paid rest : ℕ) → IsPaidRun job lines paid rest (now (world old)).folder
       → PaysSoFar job paid (spent_at (length job.bytes) lines left (count_in (present (now (world old)).folder)) step rest) rest (world old) (world new)
-  banner_so_far old mid new run told few ticks same left step paid rest is =
+  banner_so_far given old mid new size run told few ticks same left step paid rest is =
       let files = law old (run.before told) in
       let great = rest_is_great job lines paid rest (now (world old)).folder files is in
       let short = is.short in
@@ -235,7 +236,7 @@ module _ {S : Type 0} (tells : S → Bool) (world : S → World) (law : (s : S) 
       (spent_at (length job.bytes) lines left (count_in (present (now (world old)).folder)) step rest) rest (world old) (world new) (omega arith)
       (stays_on job paid (9 + pieces (length job.bytes)) 1 rest (world old) (world mid) (world new) (said_stays (world mid) (world new) ticks same)
       (omega (arith, clock)) (omega (arith, great, short))
-      (attached_so_far job paid (9 + pieces (length job.bytes)) rest (world old) (world mid) files is.sound is.shows (run.did told) (omega (arith, few))
+      (attached_so_far job given paid (9 + pieces (length job.bytes)) rest (world old) (world mid) files is.sound is.shows (run.did told) (omega (arith, few, size))
       (omega (arith, great, short))))
 
   module _ (plan : IsWellFormed job.n job.text job.steps) (step left : ℕ) (within : step < length job.steps) (old mid new : S) (tells_old : IsTrue (tells old))
@@ -304,15 +305,6 @@ module _ {S : Type 0} (tells : S → Bool) (world : S → World) (law : (s : S) 
       let clock = ticks.clock_is in
       (stays_on job paid (spent_at (length job.bytes) lines left done step rest) 1 rest (world old) (world mid) (world new)
       (said_stays (world mid) (world new) ticks same) (omega (arith, clock)) (omega (arith, great, short, few_lines, less)) so_far).stops
-
--- the same in another room of as many records
-pub paid_in_room : (job : declared.Job) (room budget step paid rest : ℕ) (folder : Folder) → room ≡ budget
-    → IsPaidStep (job_in budget job) step paid rest folder → IsPaidStep (job_in room job) step paid rest folder
-paid_in_room job room budget step paid rest folder same = subst (λ n. IsPaidStep (job_in n job) step paid rest folder) (sym same)
-
-pub pays_in_room : (job : declared.Job) (room budget paid rest : ℕ) (result : Result Entry Finish) (old new : World) → room ≡ budget
-    → StepPays (job_in room job) paid rest result old new → StepPays (job_in budget job) paid rest result old new
-pays_in_room job room budget paid rest result old new same = subst (λ n. StepPays (job_in n job) paid rest result old new) same
 
 -- the folder couldn't be entered
 pub enter_stops : (job : Job) (lines : ℕ) (path : List ℕ) (r : Result Unit Failed) (old new : World) → Entered path r old new

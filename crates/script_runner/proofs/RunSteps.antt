@@ -20,7 +20,7 @@ use Rattle.catalogue.specs.declared.layout.Entry.{Entry}
 use Rattle.catalogue.specs.Files.{job_gate, catalogue, step_gate}
 use Rattle.catalogue.specs.Counts.{present, is_stored, count_in, entry_at}
 use Rattle.catalogue.specs.Commits.{IsReady}
-use Rattle.catalogue.specs.Standings.{IsBeginning, DuringAttach}
+use Rattle.catalogue.specs.Standings.{without_budget, IsBeginning, DuringAttach}
 use Rattle.catalogue.proofs.Counted.{ready_counts}
 use Rattle.sound_image.specs.Files.{node_file, checkpoint_gate}
 use Rattle.step_work.specs.Plans.{no_step}
@@ -71,8 +71,8 @@ pub record IsPlan (job : Job) (lines : List LineEnd) : Type 0 where
   pub are_lines : AreLines job.steps lines
 
 -- the plan of a job that a run is given
-pub plan_in : (budget : ℕ) (job : declared.Job) → IsPlan (job_in budget job) job.lines.now
-plan_in budget job = record { well_formed = job.well_formed; are_lines = job.are_lines }
+pub plan_in : (job : declared.Job) → IsPlan (job_in job) job.lines.now
+plan_in job = record { well_formed = job.well_formed; are_lines = job.are_lines }
 
 -- what holds at a moment of a run that began there
 abbrev pub IsGoing : Job → List LineEnd → World → Moment → Type 0
@@ -234,13 +234,13 @@ module _ (job : Job) (lines : List LineEnd) (plan : IsPlan job lines) (old : Wor
   so_far_at mid run = at_end old mid (IsGoing job lines old) run.moments
 
   -- each image of an attach is one of the start, or counts nothing
-  pub attach_waits : (m : Moment) → DuringAttach job.bytes (now old) m → (image : Image) → IsImage m.folder image → (bytes : List ℕ) → WaitsNot lines (now old).folder bytes image
-  attach_waits m during image is_image bytes = elim (during.images image is_image) [
+  pub attach_waits : (given : List ℕ) (m : Moment) → DuringAttach given (now old) m → (image : Image) → IsImage m.folder image → (bytes : List ℕ) → WaitsNot lines (now old).folder bytes image
+  attach_waits given m during image is_image bytes = elim (during.images image is_image) [
     | inl first ↦ inl first
     | inr new ↦ inr (no_line_yet (count_in (bytes_in image)) (counts_none new.1))
   ]
     where
-      counts_none : IsBeginning job.bytes (length (present (now old).folder step_gate)) (bytes_in image) → count_in (bytes_in image) ≡ 0
+      counts_none : IsBeginning given (length (present (now old).folder step_gate)) (bytes_in image) → count_in (bytes_in image) ≡ 0
       counts_none (inl unstored) = ap (λ b. cond b (length (bytes_in image step_gate)) 0) unstored.unstored
       counts_none (inr stored) = stored.counts.count
 
@@ -250,10 +250,10 @@ module _ (job : Job) (lines : List LineEnd) (plan : IsPlan job lines) (old : Wor
           subst (λ k. ended_before k lines ≤ acknowledged (done_at old) lines bytes) (sym first)
           (let zero_lines : ended_before 0 lines ≡ 0 = (none_before 0 lines plan.are_lines.in_order).0 in omega (arith, zero_lines))
 
-  -- while the job is attached nothing is said
-  pub attaching : (new : World) → Ran (DuringAttach job.bytes (now old)) old new → Ongoing job lines old new
-  attaching new run = record {
-    moments = weakens old new (Quiet (said old) (DuringAttach job.bytes (now old))) (IsGoing job lines old) (λ m quiet. record {
+  -- while the job is attached, by bytes with any budget, nothing is said
+  pub attaching : (given : List ℕ) (new : World) → without_budget given ≡ job.bytes → Ran (DuringAttach given (now old)) old new → Ongoing job lines old new
+  attaching given new of_job run = record {
+    moments = weakens old new (Quiet (said old) (DuringAttach given (now old))) (IsGoing job lines old) (λ m quiet. record {
       front = [];
       said_is = quiet.said_is ∙ sym (append-nil (said old));
       holds = record {
@@ -264,14 +264,14 @@ module _ (job : Job) (lines : List LineEnd) (plan : IsPlan job lines) (old : Wor
           | inl first ↦ begins image first
           | inr new ↦ absurd (stored_and_not (is_stored (present (now old).folder)) (begun_few (now old).folder count front files begins).0 new.0)
         ];
-        waits = λ image is_image. attach_waits m quiet.holds image is_image [];
+        waits = λ image is_image. attach_waits given m quiet.holds image is_image [];
         safe_run = λ sound. record {
           rest = text_at job lines old;
           text_is = refl;
           safe = λ image is_image. record {
-            sound = sound_while_attached job (now old) m files plan.well_formed.few_steps sound quiet.holds image is_image;
+            sound = sound_while_attached job given (now old) m of_job files plan.well_formed.few_steps sound quiet.holds image is_image;
             has_said = omega arith;
-            has_old = λ least reaches. count_while_attached job.bytes least (now old) m files reaches quiet.holds image is_image;
+            has_old = λ least reaches. count_while_attached given least (now old) m files reaches quiet.holds image is_image;
             stored = λ some. absurd (omega (arith, some));
           };
         };

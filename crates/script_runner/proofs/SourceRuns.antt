@@ -4,6 +4,7 @@ use Rattle.std.specs.Prelude.{IsTrue, Option, Some, None}
 use Rattle.blif_reader.specs.Answers.{net_of}
 use Rattle.blif_reader.specs.Netlist.{Net}
 use Rattle.blif_reader.specs.declared.fault.BlifFault.{BlifFault}
+use Rattle.catalogue.specs.Standings.{without_budget}
 use Rattle.command_words.specs.Readings.{Reading, run, gen}
 use Rattle.shelf_model.specs.Calls.{Told}
 use Rattle.shelf_model.specs.Faults.{Faults, Rose}
@@ -22,7 +23,7 @@ use Rattle.script_runner.specs.declared.read_netlist.ReadNetlist.{ReadNetlist}
 use Rattle.script_runner.specs.Calls.{most_calls, fetch_calls, AreCounted}
 use Rattle.script_runner.specs.Entered.{RunsIn, EndingHasCause}
 use Rattle.script_runner.specs.Fetching.{OnlyFetched, OnlyTexts, IsText}
-use Rattle.script_runner.specs.JobOf.{source_of, room_in, job_bytes, given_job, job_of, IsShort}
+use Rattle.script_runner.specs.JobOf.{source_of, job_bytes, given_job, job_of, IsShort}
 use Rattle.script_runner.specs.Netlists.{netlist_in, netlist_text, IsSpelled}
 use Rattle.script_runner.specs.Outcome.{SaysLine, EndsSource, Ends, ByWords, IsStatus, StatusHasCause, RunsInCalls, MakesFewCalls, texts_calls}
 use Rattle.script_runner.specs.Running.{SaysOnly}
@@ -31,6 +32,7 @@ use Rattle.script_runner.specs.Status.{status_of}
 use Rattle.script_runner.specs.Stops.{StopsIn}
 use Rattle.script_runner.specs.Text.{refused_line, netlist_line}
 use Rattle.script_runner.proofs.Endings.{fetched_then, fetched_line, fetched_source, ends_whole, calls_whole, fetched_calls, ends_texts, accepted_is_short}
+use Rattle.script_runner.proofs.Sources.{job_without_budget}
 
 -- a netlist that was read is spelled by its text, which is short
 spelled_there : (netlist : Option ReadNetlist) → IsSpelled netlist → Spells (netlist_text netlist) (netlist_in netlist)
@@ -44,39 +46,40 @@ short_there (Some given) text is x =
     subst IsShort (sym is) (accepted_is_short given.text.items (net_of given.net) x)
 
 -- what the script asks for over the netlist that was read, the source asks for
-pub plans_of : (budget : ℕ) (script : List ℕ) (netlist : Option ReadNetlist) (net : Option Net) (plan : Plan)
+pub plans_of : (script : List ℕ) (netlist : Option ReadNetlist) (net : Option Net) (plan : Plan)
     → net ≡ netlist_in netlist → IsSpelled netlist → Reads net script plan
-    → Plans (source_of budget script (netlist_text netlist)) plan
-plans_of budget script netlist net plan is spelled reads = record {
+    → Plans (source_of script (netlist_text netlist)) plan
+plans_of script netlist net plan is spelled reads = record {
   netlist = netlist_in netlist;
   spelled = spelled_there netlist spelled;
   reads = subst (λ n. Reads n script plan) is reads;
 }
 
-pub faulty_of : (budget : ℕ) (script : List ℕ) (netlist : Option ReadNetlist) (net : Option Net) (fault : ScriptFault)
+pub faulty_of : (script : List ℕ) (netlist : Option ReadNetlist) (net : Option Net) (fault : ScriptFault)
     → net ≡ netlist_in netlist → IsSpelled netlist → Refuses net script fault
-    → IsFaulty (source_of budget script (netlist_text netlist)) fault
-faulty_of budget script netlist net fault is spelled refuses = record {
+    → IsFaulty (source_of script (netlist_text netlist)) fault
+faulty_of script netlist net fault is spelled refuses = record {
   netlist = netlist_in netlist;
   spelled = spelled_there netlist spelled;
   refuses = subst (λ n. Refuses n script fault) is refuses;
 }
 
--- the job that is given is the source's
-given_job_is : (source : Source) (plan : Plan) (steps : List Planned) (budget : ℕ) (job : List ℕ) → steps ≡ plan.steps → job ≡ job_bytes source
-    → budget ≡ room_in job → given_job plan.n source.script steps budget job ≡ job_of source plan
-given_job_is source plan steps budget job steps_are is room i =
-    given_job plan.n source.script (steps_are i) ((room ∙ ap room_in is) i) (is i)
+-- the job that is given is the source's, whatever budget is in its bytes
+given_job_is : (source : Source) (plan : Plan) (steps : List Planned) (budget : ℕ) (job : List ℕ) → steps ≡ plan.steps
+    → job ≡ job_bytes budget source → given_job plan.n source.script steps job ≡ job_of source plan
+given_job_is source plan steps budget job steps_are is i =
+    let bytes : without_budget job ≡ job_bytes 0 source = ap without_budget is ∙ job_without_budget budget source in
+    record { n = plan.n; text = source.script; steps = steps_are i; bytes = bytes i }
 
 -- the calls of a run of the plan are those of the source's job
 pub calls_of : (source : Source) (plan : Plan) (steps : List Planned) (budget : ℕ) (spoken : List LineEnd) (job : List ℕ) (folder : Folder)
-    (old new : World) → steps ≡ plan.steps → spoken ≡ plan.lines → job ≡ job_bytes source → budget ≡ room_in job
-    → ((rest : ℕ) → AreCounted (given_job plan.n source.script steps budget job) folder rest
-    → new.clock ≤ old.clock + 2 + (most_calls (given_job plan.n source.script steps budget job) (length spoken) + rest))
+    (old new : World) → steps ≡ plan.steps → spoken ≡ plan.lines → job ≡ job_bytes budget source
+    → ((rest : ℕ) → AreCounted (given_job plan.n source.script steps job) folder rest
+    → new.clock ≤ old.clock + 2 + (most_calls (given_job plan.n source.script steps job) (length spoken) + rest))
     → (rest : ℕ) → AreCounted (job_of source plan) folder rest
     → new.clock ≤ old.clock + 0 + 2 + most_calls (job_of source plan) (length plan.lines) + rest
-calls_of source plan steps budget spoken job folder old new steps_are lines_are is room few rest counted =
-    let within = subst IsFew (given_job_is source plan steps budget job steps_are is room) few rest counted in
+calls_of source plan steps budget spoken job folder old new steps_are lines_are is few rest counted =
+    let within = subst IsFew (given_job_is source plan steps budget job steps_are is) few rest counted in
     let lines = ap length lines_are in
     omega (arith, within, lines)
   where
@@ -85,10 +88,10 @@ calls_of source plan steps budget spoken job folder old new steps_are lines_are 
 
 -- and so is what a stop costs
 pub stops_of : (source : Source) (plan : Plan) (steps : List Planned) (budget : ℕ) (spoken : List LineEnd) (job : List ℕ) (old new : World)
-    → steps ≡ plan.steps → spoken ≡ plan.lines → job ≡ job_bytes source → budget ≡ room_in job
-    → StopsIn (given_job plan.n source.script steps budget job) (length spoken) 2 old new → StopsIn (job_of source plan) (length plan.lines) 2 old new
-stops_of source plan steps budget spoken job old new steps_are lines_are is room stops =
-    subst (λ v. v) (λ i. StopsIn (given_job_is source plan steps budget job steps_are is room i) (length (lines_are i)) 2 old new) stops
+    → steps ≡ plan.steps → spoken ≡ plan.lines → job ≡ job_bytes budget source
+    → StopsIn (given_job plan.n source.script steps job) (length spoken) 2 old new → StopsIn (job_of source plan) (length plan.lines) 2 old new
+stops_of source plan steps budget spoken job old new steps_are lines_are is stops =
+    subst (λ v. v) (λ i. StopsIn (given_job_is source plan steps budget job steps_are is i) (length (lines_are i)) 2 old new) stops
 
 -- a status of an ending that is one of two
 pub one_of_two : (P : ℕ → Type 0) (e f : Ending) → (e ≡ f) ⊎ (e ≡ SayFault) → P (status_of f) → P 8 → P (status_of e)
@@ -200,17 +203,17 @@ module _ {S : Type 0} (tells : S → Bool) (world : S → World) where
   -- a source's job was run
   pub ran_source : (folder : List ℕ) (source : Source) (plan : Plan) (steps : List Planned) (budget : ℕ) (spoken : List LineEnd)
       (job : List ℕ) (status : ℕ) (s t : S) → Plans source plan → steps ≡ plan.steps → spoken ≡ plan.lines
-      → job ≡ job_bytes source → budget ≡ room_in job
-      → Told tells s t (RunsIn folder (given_job plan.n source.script steps budget job) spoken status (world s) (world t))
+      → job ≡ job_bytes budget source
+      → Told tells s t (RunsIn folder (given_job plan.n source.script steps job) spoken status (world s) (world t))
       → Told tells s t (EndsSource folder source status (world s) (world t))
-  ran_source folder source plan steps budget spoken job status s t plans steps_are lines_are is room runs = record {
+  ran_source folder source plan steps budget spoken job status s t plans steps_are lines_are is runs = record {
     before = runs.before;
     did = λ tells_t. inr (inr (record {
       plan = plan;
       plans = plans;
       run = subst (λ (j : Job). RunsIn folder j plan.lines status (world s) (world t))
-          (given_job_is source plan steps budget job steps_are is room)
-          (subst (λ ls. RunsIn folder (given_job plan.n source.script steps budget job) ls status (world s) (world t)) lines_are
+          (given_job_is source plan steps budget job steps_are is)
+          (subst (λ ls. RunsIn folder (given_job plan.n source.script steps job) ls status (world s) (world t)) lines_are
           (runs.did tells_t));
     }));
   }
@@ -246,16 +249,15 @@ module _ {S : Type 0} (tells : S → Bool) (world : S → World) where
     looked here = fetched_then (world old) (world r) (world s) (first.did (second.before here)) (second.did here)
 
     abbrev source : IsTrue (tells s) → Source
-    source here = source_of budget (text here).text netlist
+    source here = source_of (text here).text netlist
 
     is_source : (here : IsTrue (tells s)) → IsSource (world old) (run folder script path budget) (source here)
     is_source here = (
-      refl,
       ap (λ texts. texts script) (sym (first.did (second.before here)).texts_are) ∙ (text here).there,
       named (second.before here),
     )
 
-    pub ran_texts : (status : ℕ) → Told tells s t (EndsSource folder (source_of budget bytes netlist) status (world s) (world t))
+    pub ran_texts : (status : ℕ) → Told tells s t (EndsSource folder (source_of bytes netlist) status (world s) (world t))
         → Told tells old t (Ends (Some (run folder script path budget)) status (world old) (world t))
     ran_texts status runs = record {
       before = λ tells_t. first.before (second.before (runs.before tells_t));
@@ -264,15 +266,15 @@ module _ {S : Type 0} (tells : S → Bool) (world : S → World) where
           ends_texts folder script path budget status (world old) (world t) (inr (inr (inr (record {
             source = source here;
             source_is = is_source here;
-            ends = ends_whole folder budget (text here).text bytes netlist status (world old) (world t) (text here).bytes_are
-                (fetched_source folder (source_of budget bytes netlist) status (world old) (world s) (world t) (looked here)
+            ends = ends_whole folder (text here).text bytes netlist status (world old) (world t) (text here).bytes_are
+                (fetched_source folder (source_of bytes netlist) status (world old) (world s) (world t) (looked here)
                 (runs.did tells_t));
           }))));
     }
 
     pub calls_texts : (IsTrue (tells t) → IsTrue (tells s)) → (IsTrue (tells r) → (world r).clock ≤ (world old).clock + fetch_calls 4194304)
         → (IsTrue (tells s) → (world s).clock ≤ (world r).clock + fetch_calls 1048576)
-        → (IsTrue (tells t) → RunsInCalls 0 (source_of budget bytes netlist) (world s) (world t))
+        → (IsTrue (tells t) → RunsInCalls 0 (source_of bytes netlist) (world s) (world t))
         → IsTrue (tells t) → MakesFewCalls (Some (run folder script path budget)) (world old) (world t)
     calls_texts back one two runs tells_t =
         let here : IsTrue (tells s) = back tells_t in
@@ -281,7 +283,7 @@ module _ {S : Type 0} (tells : S → Bool) (world : S → World) where
         inr (inl (
           source here,
           record { reading = run folder script path budget; asked_is = refl; source_is = is_source here },
-          calls_whole budget (text here).text bytes netlist texts_calls (world old) (world t) (text here).bytes_are
-              (fetched_calls (source_of budget bytes netlist) texts_calls texts_calls (world old) (world s) (world t) (looked here)
+          calls_whole (text here).text bytes netlist texts_calls (world old) (world t) (text here).bytes_are
+              (fetched_calls (source_of bytes netlist) texts_calls texts_calls (world old) (world s) (world t) (looked here)
               (omega (arith, a, b)) (omega arith) (runs tells_t)),
         ))

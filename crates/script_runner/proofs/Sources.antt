@@ -5,6 +5,8 @@ use Rattle.std.proofs.lemmas.List.{take_at, drop_at, length-append}
 use Rattle.byteorder.specs.Endian.{big_bytes, big_number}
 use Rattle.byteorder.specs.Numbers.{length-bytes_high_first, big_number-reads_back}
 use Rattle.shelf_model.specs.World.{World}
+use Rattle.catalogue.specs.Standings.{without_budget}
+use Rattle.catalogue.proofs.Budget.{without_budget-parts}
 use Rattle.blif_reader.specs.Answers.{net_of}
 use Rattle.blif_reader.specs.Netlist.{Net, Settles, IsReading, reading}
 use Rattle.blif_reader.specs.declared.fault.BlifFault.{BlifFault}
@@ -15,8 +17,8 @@ use Rattle.script_reader.specs.Reads.{Reads}
 use Rattle.script_reader.proofs.PlanReads.{one_plan, plan_or_refusal, text_is_short}
 use Rattle.script_runner.specs.declared.read_netlist.ReadNetlist.{ReadNetlist}
 use Rattle.script_runner.specs.Netlists.{netlist_text, IsSpelled}
-use Rattle.script_runner.specs.JobOf.{netlist_size, netlist_bytes, room_in, job_bytes, job_of, IsShort}
-use Rattle.script_runner.specs.Source.{Source, IsNamed, IsSource, Spells, Plans, IsFaulty, HasFaultyText, HasFaultyNetlist}
+use Rattle.script_runner.specs.JobOf.{netlist_size, netlist_bytes, budget_in, job_bytes, job_of, IsShort}
+use Rattle.script_runner.specs.Source.{Source, IsNamed, IsSource, with_budget, Spells, Plans, IsFaulty, HasFaultyText, HasFaultyNetlist}
 use Rattle.script_runner.specs.Outcome.{Asks, Accepts}
 use Rattle.script_runner.proofs.Endings.{accepted_is_short}
 
@@ -27,9 +29,8 @@ one_some x y o a b = cc
 pub some_or_none : {X : Type 0} (x : X) (o : Option X) → o ≡ Some x → o ≡ None → ⊥
 some_or_none x o a b = cc
 
-same_source : (a b : Source) → a.budget ≡ b.budget → a.script ≡ b.script → a.netlist ≡ b.netlist → a ≡ b
-same_source a b budgets scripts netlists i =
-    record { budget = budgets i; script = scripts i; netlist = netlists i }
+same_source : (a b : Source) → a.script ≡ b.script → a.netlist ≡ b.netlist → a ≡ b
+same_source a b scripts netlists i = record { script = scripts i; netlist = netlists i }
 
 one_named : (w : World) (path a b : Option (List ℕ)) → IsNamed w path a → IsNamed w path b → a ≡ b
 one_named w None a b x y = x ∙ sym y
@@ -39,10 +40,15 @@ one_named w (Some path) a b x y =
 -- a reading has one source
 pub one_source : (w : World) (r : Reading) (a b : Source) → IsSource w r a → IsSource w r b → a ≡ b
 one_source w (run folder script netlist budget) a b x y =
-    same_source a b (x.0 ∙ sym y.0) (one_some a.script b.script (w.texts script) x.1 y.1)
-    (one_named w netlist a.netlist b.netlist x.2 y.2)
+    same_source a b (one_some a.script b.script (w.texts script) x.0 y.0) (one_named w netlist a.netlist b.netlist x.1 y.1)
 one_source w (list folder) a b x y = absurd x
 one_source w (gen folder size budget) a b x y = x ∙ sym y
+
+-- and with another budget it has that one too
+pub any_budget : (w : World) (r : Reading) (budget : ℕ) (s : Source) → IsSource w r s → IsSource w (with_budget budget r) s
+any_budget w (run folder script netlist other) budget s is = is
+any_budget w (list folder) budget s is = is
+any_budget w (gen folder size other) budget s is = is
 
 -- words ask for one source
 pub one_asked : (w : World) (asked : Option Reading) (a b : Source) → Asks w asked a → Asks w asked b → a ≡ b
@@ -81,7 +87,7 @@ planned_or_faulty s p fault x y =
 -- the netlist of a run stands at the path that names it
 netlist_of_run : (w : World) (folder script : List ℕ) (netlist : Option (List ℕ)) (budget : ℕ) (s : Source)
     → IsSource w (run folder script netlist budget) s → IsNamed w netlist s.netlist
-netlist_of_run w folder script netlist budget s is = is.2
+netlist_of_run w folder script netlist budget s is = is.1
 
 -- a source that is planned has no faulty netlist
 pub netlist_is_good : (w : World) (r : Reading) (s : Source) (p : Plan) (fault : BlifFault) → IsSource w r s → Plans s p
@@ -146,20 +152,25 @@ same_netlist None (Some b) x y sizes bytes = absurd (no_netlist b y sizes)
 same_netlist (Some a) None x y sizes bytes = absurd (no_netlist a x (sym sizes))
 same_netlist (Some a) (Some b) x y sizes bytes = ap Some bytes
 
--- a job's bytes have the records of its room
-room_of_job : (s : Source) → s.budget < 2 ^ 32 → room_in (job_bytes s) ≡ s.budget
-unfolding room_in job_bytes
-room_of_job s small =
-    let rest : List ℕ = big_bytes 4 (length s.script) ++ netlist_size s.netlist ++ s.script ++ netlist_bytes s.netlist in
-    ap (big_number 4) (drop_at (codes "ADIARJ01") (big_bytes 4 s.budget ++ rest) 8 refl)
-    ∙ big_number-reads_back 4 s.budget rest (omega (arith, small))
+-- what stands in a job's bytes behind the budget
+abbrev behind_budget : Source → List ℕ
+behind_budget s = big_bytes 4 (length s.script) ++ netlist_size s.netlist ++ s.script ++ netlist_bytes s.netlist
 
--- so a room of as many records as the source asks for has those of its bytes
-pub room_as : (s : Source) (room : ℕ) (job : List ℕ) → s.budget < 2 ^ 32 → room ≡ s.budget → job ≡ job_bytes s → room ≡ room_in job
-room_as s room job small is bytes = is ∙ sym (ap room_in bytes ∙ room_of_job s small)
+-- a job's bytes have the budget
+pub budget_of_job : (budget : ℕ) (s : Source) → budget < 2 ^ 32 → budget_in (job_bytes budget s) ≡ budget
+unfolding budget_in job_bytes
+budget_of_job budget s small =
+    ap (big_number 4) (drop_at (codes "ADIARJ01") (big_bytes 4 budget ++ behind_budget s) 8 refl)
+    ∙ big_number-reads_back 4 budget (behind_budget s) (omega (arith, small))
+
+-- and without it they are those with the budget 0
+pub job_without_budget : (budget : ℕ) (s : Source) → without_budget (job_bytes budget s) ≡ job_bytes 0 s
+unfolding job_bytes
+job_without_budget budget s =
+    without_budget-parts (codes "ADIARJ01") (big_bytes 4 budget) (behind_budget s) refl (length-bytes_high_first 4 budget)
 
 -- a job is of one script and one netlist
-pub job_has_texts : (a b : Source) (p q : Plan) → Plans a p → Plans b q → job_bytes a ≡ job_bytes b
+pub job_has_texts : (a b : Source) (p q : Plan) → Plans a p → Plans b q → job_bytes 0 a ≡ job_bytes 0 b
     → (a.script ≡ b.script) × (a.netlist ≡ b.netlist)
 unfolding job_bytes
 job_has_texts a b p q plans_a plans_b same = (scripts, same_netlist a.netlist b.netlist short_a.1 short_b.1 sizes netlists)
@@ -170,21 +181,17 @@ job_has_texts a b p q plans_a plans_b same = (scripts, same_netlist a.netlist b.
     short_b : (length b.script ≤ 1048576) × IsShort b.netlist
     short_b = planned_is_short b q plans_b
 
-    budget_of : Source → List ℕ
-    budget_of s = codes "ADIARJ01" ++ big_bytes 4 s.budget
+    front : List ℕ
+    front = codes "ADIARJ01" ++ big_bytes 4 0
 
     lengths : Source → List ℕ
-    lengths s = budget_of s ++ big_bytes 4 (length s.script)
+    lengths s = front ++ big_bytes 4 (length s.script)
 
     head : Source → List ℕ
     head s = lengths s ++ netlist_size s.netlist
 
-    size_budget : (s : Source) → length (budget_of s) ≡ 12
-    size_budget s = length-append (codes "ADIARJ01") (big_bytes 4 s.budget) ∙ ap (λ n. 8 + n) (length-bytes_high_first 4 s.budget)
-
     size_lengths : (s : Source) → length (lengths s) ≡ 16
-    size_lengths s = length-append (budget_of s) (big_bytes 4 (length s.script))
-        ∙ ap₂ (λ m n. m + n) (size_budget s) (length-bytes_high_first 4 (length s.script))
+    size_lengths s = length-append front (big_bytes 4 (length s.script)) ∙ ap (λ n. 12 + n) (length-bytes_high_first 4 (length s.script))
 
     size_head : (s : Source) → length (head s) ≡ 20
     size_head s = length-append (lengths s) (netlist_size s.netlist) ∙ ap₂ (λ m n. m + n) (size_lengths s) (size_size s.netlist)
@@ -210,7 +217,7 @@ job_has_texts a b p q plans_a plans_b same = (scripts, same_netlist a.netlist b.
         let x = short_a.0 in
         let y = short_b.0 in
         number_same (length a.script) (length b.script) (omega (arith, x)) (omega (arith, y))
-        (rest_same (budget_of a) _ (budget_of b) _ (size_budget a ∙ sym (size_budget b)) fronts)
+        (rest_same front _ front _ refl fronts)
 
     scripts : a.script ≡ b.script
     scripts = front_same a.script _ b.script _ script_sizes behind
@@ -219,9 +226,9 @@ job_has_texts a b p q plans_a plans_b same = (scripts, same_netlist a.netlist b.
     netlists = rest_same a.script _ b.script _ script_sizes behind
 
 -- jobs of the same bytes, scripts and plans are the same
-pub same_job : (a b : Source) (p q : Plan) → job_bytes a ≡ job_bytes b → a.script ≡ b.script → p ≡ q → job_of a p ≡ job_of b q
+pub same_job : (a b : Source) (p q : Plan) → job_bytes 0 a ≡ job_bytes 0 b → a.script ≡ b.script → p ≡ q → job_of a p ≡ job_of b q
 same_job a b p q bytes scripts plans i =
-    record { n = (plans i).n; text = scripts i; steps = (plans i).steps; budget = room_in (bytes i); bytes = bytes i }
+    record { n = (plans i).n; text = scripts i; steps = (plans i).steps; bytes = bytes i }
 
 -- words that ask for a plan ask for one source and one plan
 pub one_accepted : (w : World) (asked : Option Reading) (p q : Plan) (a : Accepts w asked p) (b : Accepts w asked q)

@@ -19,7 +19,7 @@ use Rattle.catalogue.specs.declared.standing.Standing.{Standing}
 use Rattle.catalogue.specs.Files.{job_step, catalogue}
 use Rattle.catalogue.specs.Counts.{present, count_in}
 use Rattle.catalogue.specs.Commits.{IsReady}
-use Rattle.catalogue.specs.Standings.{DuringAttach, IsAttached}
+use Rattle.catalogue.specs.Standings.{without_budget, DuringAttach, IsAttached}
 use Rattle.catalogue.proofs.Counted.{ready_counts, catalogue_not_step_gate, job_gate_not_catalogue}
 use Rattle.catalogue.proofs.Stored.{catalogue_not_job_file}
 use Rattle.sound_image.specs.Files.{node_file}
@@ -71,9 +71,10 @@ module _ (job : Job) (lines : List LineEnd) (plan : IsPlan job lines) (old : Wor
       ap (λ ls. banner_at lines old ++ remains job ls) (ended_is (done_at old) lines before within front rest).1
 
   -- the banner is said, or a front part of it
-  module _ (s : Standing) (before : ℕ) (piece : List ℕ) (mid : World) (mid_files : AreFiles (now mid).folder)
-      (run : Ran (DuringAttach job.bytes (now old)) old mid) (is_standing : IsStanding job.bytes (length job.steps) s (present (now old).folder))
-      (attached : IsAttached job.bytes s.done (now mid).folder)
+  module _ (given : List ℕ) (of_job : without_budget given ≡ job.bytes) (s : Standing) (before : ℕ) (piece : List ℕ) (mid : World)
+      (mid_files : AreFiles (now mid).folder) (run : Ran (DuringAttach given (now old)) old mid)
+      (is_standing : IsStanding job.bytes (length job.steps) s (present (now old).folder))
+      (attached : IsAttached given s.done (now mid).folder)
       (within : before ≤ length lines) (front : IsTrue (list_all (λ (l : LineEnd). nat_lt l.last s.done) (take before lines))) (rest : IsTrue (rise_from s.done (drop before lines)))
       (piece_is : piece ≡ banner_at lines old) where
     front_done : IsTrue (list_all (λ (l : LineEnd). nat_lt l.last (done_at old)) (take before lines))
@@ -107,7 +108,7 @@ module _ (job : Job) (lines : List LineEnd) (plan : IsPlan job lines) (old : Wor
           text_is = sym parts ∙ piece_is ∙ sym (append-nil (banner_at lines old));
         };
       };
-      waits = λ image is_image. attach_waits job lines plan old files (now mid) (ran_end old mid (DuringAttach job.bytes (now old)) run) image is_image part;
+      waits = λ image is_image. attach_waits job lines plan old files given (now mid) (ran_end old mid (DuringAttach given (now old)) run) image is_image part;
       sound = λ sound. (
         back ++ remains job (drop before lines),
         text_parts before within front_done rest_done ∙ ap (λ p. p ++ remains job (drop before lines)) (sym piece_is ∙ parts) ∙ append_assoc part back (remains job (drop before lines)),
@@ -119,16 +120,17 @@ module _ (job : Job) (lines : List LineEnd) (plan : IsPlan job lines) (old : Wor
     }
 
     holds_it : AreSound job (now old).folder → Holds job s.done (now mid).folder
-    holds_it sound = holds_after_attach job s.done (now old) (now mid) files mid_files plan.well_formed.few_steps sound (ran_end old mid (DuringAttach job.bytes (now old)) run) attached
+    holds_it sound = holds_after_attach job given s.done (now old) (now mid) of_job files mid_files plan.well_formed.few_steps sound
+        (ran_end old mid (DuringAttach given (now old)) run) attached
 
     catalogue_same : file_in (now mid).folder catalogue ≡ file_in (now old).folder catalogue
-    catalogue_same = (ran_end old mid (DuringAttach job.bytes (now old)) run).others catalogue catalogue_not_job_file (λ e. job_gate_not_catalogue (sym e)) catalogue_not_step_gate
+    catalogue_same = (ran_end old mid (DuringAttach given (now old)) run).others catalogue catalogue_not_job_file (λ e. job_gate_not_catalogue (sym e)) catalogue_not_step_gate
 
     -- so is each file of a step
     step_file_same : (f : FileNo) → f.step < job_step → file_in (now mid).folder f ≡ file_in (now old).folder f
     step_file_same f before =
         let of_step : IsOfStep f = record { early = λ e. omega (arith, e, before) } in
-        (ran_end old mid (DuringAttach job.bytes (now old)) run).others f (not_job_file f of_step) (not_job_gate f of_step) (not_step_gate f of_step)
+        (ran_end old mid (DuringAttach given (now old)) run).others f (not_job_file f of_step) (not_job_gate f of_step) (not_step_gate f of_step)
 
     -- and the node file of each step that was committed
     node_file_same : (k : ℕ) → k < done_at old
@@ -147,7 +149,7 @@ module _ (job : Job) (lines : List LineEnd) (plan : IsPlan job lines) (old : Wor
         says = (one_piece piece result mid new did).0
 
         so_far : Ongoing job lines old new
-        so_far = saying job lines plan old files s.done [] mid new (attaching job lines plan old files mid run)
+        so_far = saying job lines plan old files s.done [] mid new (attaching job lines plan old files given mid of_job run)
             (let same : s.done ≡ done_at old = is_standing.done in omega (arith, same)) (run.station.said_is ∙ sym (append-nil (said old))) holds_it
             (piece_stays piece mid new says).0 (piece_stays piece mid new says).1
             (weakens mid new (λ m. SaysFront (said mid) piece m.said) (SaysPart job lines s.done [] old mid)

@@ -166,10 +166,10 @@ module _ (job : Job) (k : ℕ) (few : AreFew job) (within : k < length job.steps
 module _ {S : Type 0} (tells : S → Bool) (world : S → World) (counts : S → Faults) (law : (s : S) → IsTrue (tells s) → AreFiles (now (world s)).folder)
     (job : Job) (k : ℕ) (plan : IsWellFormed job.n job.text job.steps) (within : k < length job.steps) (p : Planned) (p_is : p ≡ step_at job k)
     (earlier : IsTrue (list_all (λ j. nat_lt j k) (operands p.step))) (old s : S) (result : Result Entry SortFault)
-    (runs : RunsStep tells world counts job.n job.text job.budget k p old s result) (tells_s : IsTrue (tells s))
+    (runs : RunsStep tells world counts job.n job.text k p old s result) (tells_s : IsTrue (tells s))
     (paid rest : ℕ) (is : IsPaidStep job k paid rest (now (world old)).folder) where
-  the_step : IsStepOf job job.n job.text job.budget k p
-  the_step = record { well_formed = plan; n_is = refl; text_is = refl; budget_is = refl; within = within; step_is = sym p_is }
+  the_step : IsStepOf job job.n job.text k p
+  the_step = record { well_formed = plan; n_is = refl; text_is = refl; within = within; step_is = sym p_is }
 
   place_is : (step_at job k).step ≡ p.step
   place_is = ap (λ (q : Planned). q.step) (sym p_is)
@@ -183,7 +183,7 @@ module _ {S : Type 0} (tells : S → Bool) (world : S → World) (counts : S →
   less : paid ≤ 256 * turns_of k front + 229 * shown
   less = shown_pays paid (turns_of k front)
 
-  gone : IsGoneOn p.step k job.budget (world old) shown (rest - 1100)
+  gone : IsGoneOn p.step k (world old) shown (rest - 1100)
   gone = record {
     shows = λ image is_image.
         let count = (ready_counts k (now (world old)).folder image is.holds.ready is_image).count in
@@ -191,7 +191,7 @@ module _ {S : Type 0} (tells : S → Bool) (world : S → World) (counts : S →
         let here = paid_here job k (bytes_in image) count within in
         let least = is.shows image is_image in
         shown_least paid (turns_of k front) (shown_turns k (bytes_in image)) (omega (arith, turns, here, least));
-    pays = subst (λ x. PaysRest x k job.budget (present (now (world old)).folder) (rest - 1100)) place_is is.pays;
+    pays = subst (λ x. PaysRest x k (present (now (world old)).folder) (rest - 1100)) place_is is.pays;
   }
 
   stops_so : StopsCost k shown ((world old).clock + (run_stop + (rest - 1100))) (world old) (world s)
@@ -220,8 +220,8 @@ module _ {S : Type 0} (tells : S → Bool) (world : S → World) (counts : S →
 
   -- it was made
   module _ (e : Entry) (ok : result ≡ Ok e) where
-    runs_ok : RunsStep tells world counts job.n job.text job.budget k p old s (Ok e)
-    runs_ok = subst (RunsStep tells world counts job.n job.text job.budget k p old s) ok runs
+    runs_ok : RunsStep tells world counts job.n job.text k p old s (Ok e)
+    runs_ok = subst (RunsStep tells world counts job.n job.text k p old s) ok runs
 
     number : e.number ≡ k
     number = runs_ok.fits.number_is

@@ -487,8 +487,8 @@ cuts_few false next turns work spare (inr (few, within)) = omega arith
 module _ {S : Type 0} (tells : S → Bool) (world : S → World) (counts : S → Faults) (law : (s : S) → IsTrue (tells s) → AreFiles (now (world s)).folder)
     (job : Job) (k : ℕ) (plan : IsWellFormed job.n job.text job.steps) (within : k < length job.steps) (p : Planned) (p_is : p ≡ step_at job k)
     (earlier : IsTrue (list_all (λ j. nat_lt j k) (operands p.step))) where
-  the_step : IsStepOf job job.n job.text job.budget k p
-  the_step = record { well_formed = plan; n_is = refl; text_is = refl; budget_is = refl; within = within; step_is = sym p_is }
+  the_step : IsStepOf job job.n job.text k p
+  the_step = record { well_formed = plan; n_is = refl; text_is = refl; within = within; step_is = sym p_is }
 
   rests : RestsOnSteps job
   rests = rests_on_steps job plan
@@ -497,7 +497,7 @@ module _ {S : Type 0} (tells : S → Bool) (world : S → World) (counts : S →
   place_is = ap (λ (q : Planned). q.step) (sym p_is)
 
   -- the calls of making it, of a commit and of cutting what it leaves behind
-  module _ (old s : S) (result : Result Entry SortFault) (runs : RunsStep tells world counts job.n job.text job.budget k p old s result) (tells_s : IsTrue (tells s))
+  module _ (old s : S) (result : Result Entry SortFault) (runs : RunsStep tells world counts job.n job.text k p old s result) (tells_s : IsTrue (tells s))
       (rest : ℕ) (counted : IsCounted job k (now (world old)).folder rest) where
     few_made : (world s).clock
         ≤ (world old).clock + (cond (sweeps p.step) (229 * work_of job p.step + 13) 5 + (rest - 1019))
@@ -508,7 +508,7 @@ module _ {S : Type 0} (tells : S → Bool) (world : S → World) (counts : S →
           subst (λ b. (world s).clock ≤ (world old).clock + (cond b (229 * work_of job p.step + 13) 5 + (rest - 1019)))
           (sym unswept) (omega (arith, few))
       | inr (holds, pays) ↦ runs.few_calls tells_s job the_step holds (rest - 1019)
-          (subst (λ x. PaysRest x k job.budget (present (now (world old)).folder) (rest - 1019)) place_is pays)
+          (subst (λ x. PaysRest x k (present (now (world old)).folder) (rest - 1019)) place_is pays)
     ]
 
     pub few_calls : (last new : ℕ) → last ≤ (world s).clock + 5
@@ -517,7 +517,7 @@ module _ {S : Type 0} (tells : S → Bool) (world : S → World) (counts : S →
     few_calls last new = step_sum (sweeps p.step) (work_of job p.step) rest (world old).clock (world s).clock last new few_made
 
   -- and where it was made those of cutting all parts below its next one
-  pub taken_calls : (e : Entry) (old s : S) → RunsStep tells world counts job.n job.text job.budget k p old s (Ok e) → IsTrue (tells s)
+  pub taken_calls : (e : Entry) (old s : S) → RunsStep tells world counts job.n job.text k p old s (Ok e) → IsTrue (tells s)
       → (rest : ℕ) → IsCounted job k (now (world old)).folder rest → (last new : ℕ) → last ≤ (world s).clock + 5
       → new ≤ last + cond (sweeps p.step) (parts_end e.parts - 1) 1 → new ≤ (world old).clock + (step_calls job p + rest)
   taken_calls e old s runs tells_s rest counted last new committed tidied =
@@ -548,7 +548,7 @@ module _ {S : Type 0} (tells : S → Bool) (world : S → World) (counts : S →
       (λ m only f apart. only f (λ changed. apart (own_file p.step k f changed))) (made.did tells_s)
 
   -- the step couldn't be run
-  module _ (fault : SortFault) (old s : S) (runs : RunsStep tells world counts job.n job.text job.budget k p old s (Err fault)) where
+  module _ (fault : SortFault) (old s : S) (runs : RunsStep tells world counts job.n job.text k p old s (Err fault)) where
     stopped_so : (IsTrue (tells old) → IsReady k (now (world old)).folder)
         → Told tells old s (TakesStep job k (Err (stopped_by k fault)) (world old) (world s))
     stopped_so ready = record {
@@ -579,8 +579,8 @@ module _ {S : Type 0} (tells : S → Bool) (world : S → World) (counts : S →
     was_stopped finish finish_is ready = subst (λ x. Told tells old s (TakesStep job k (Err x) (world old) (world s))) (sym finish_is) (stopped_so ready)
 
   -- what a step that was made leaves for its commit
-  module _ (e : Entry) (old s : S) (runs : RunsStep tells world counts job.n job.text job.budget k p old s (Ok e)) (ready : IsTrue (tells old) → IsReady k (now (world old)).folder) where
-    ready_for : Holds job k (now (world old)).folder → IsReadyFor job job.n job.text job.budget k p (world old)
+  module _ (e : Entry) (old s : S) (runs : RunsStep tells world counts job.n job.text k p old s (Ok e)) (ready : IsTrue (tells old) → IsReady k (now (world old)).folder) where
+    ready_for : Holds job k (now (world old)).folder → IsReadyFor job job.n job.text k p (world old)
     ready_for holds = record { step = the_step; holds = λ reads. holds }
 
     ran_so : IsTrue (tells s) → Ran (OnlyItsFiles k (now (world old))) (world old) (world s)

@@ -20,7 +20,7 @@ use Rattle.catalogue.specs.Files.{job_file, job_gate, catalogue, step_gate}
 use Rattle.catalogue.specs.Counts.{present, is_stored, count_in, entry_at}
 use Rattle.catalogue.specs.Entries.{IsEntryOf, entry_bytes}
 use Rattle.catalogue.specs.Commits.{IsReady}
-use Rattle.catalogue.specs.Standings.{standing_of, DuringAttach, IsAttached}
+use Rattle.catalogue.specs.Standings.{without_budget, standing_of, DuringAttach, IsAttached}
 use Rattle.catalogue.proofs.Places.{length_entry}
 use Rattle.step_work.specs.Plans.{no_step}
 use Rattle.sound_image.specs.Jobs.{Job}
@@ -32,8 +32,6 @@ use Rattle.script_reader.specs.declared.plan.LineEnd.{LineEnd}
 use Rattle.script_reader.specs.Lines.{rise_from}
 use Rattle.script_runner.specs.declared.finish.Finish.{Finish}
 use Rattle.script_runner.specs.declared.finish.Finish.TheVariants.{Done, OtherJob, FolderFault, SayFault, Damaged, RunsSpent}
-use Rattle.script_runner.specs.declared.given_job.Job as declared
-use Rattle.script_runner.specs.JobOf.{job_in}
 use Rattle.script_runner.specs.Text.{done_line, banner_line, ended_before, start_line, resume_line}
 use Rattle.script_runner.specs.Shapes.{IsShape, IsWholeShape}
 use Rattle.script_runner.specs.Running.{HasSaid, HasOtherJob, IsOther, IsDamage, RefusesFolder, IsStop, IsSpentStep, IsStill, StoodStill, MeetsDamage, MeetsSpent, AreEmptied, RunsSteps}
@@ -62,9 +60,9 @@ pub calls_before_all : (job : Job) (step : ℕ) → calls_before job step ≤ su
 unfolding calls_before
 calls_before_all job step = sum_by-take-le (step_calls job) job.steps step
 
--- where a job is stored it is this one
+-- where a job is stored it is this one, whichever budget wrote it
 abbrev pub IsThisJob : Job → World → Type 0
-IsThisJob job old = IsTrue (is_stored (present (now old).folder)) → present (now old).folder job_file ≡ job.bytes
+IsThisJob job old = IsTrue (is_stored (present (now old).folder)) → without_budget (present (now old).folder job_file) ≡ job.bytes
 
 -- a run that is under way, of a job that isn't another one
 abbrev pub Turn : Job → List LineEnd → ℕ → List LineEnd → World → World → Type 0
@@ -159,23 +157,24 @@ present_shows job old files sound stored =
     unstored r q same x y = let e : is_stored r ≡ is_stored q = ap (λ bytes. nat_lt 0 (length bytes)) same in cc
 
 -- while a stored job couldn't be attached nothing was said, and no image is new
-stands_still : (job : Job) (old new : World) → IsTrue (is_stored (present (now old).folder)) → Ran (DuringAttach job.bytes (now old)) old new → StoodStill old new
-stands_still job old new stored run = weakens old new (Quiet (said old) (DuringAttach job.bytes (now old))) (IsStill (now old))
-    (λ m quiet. record { said_is = quiet.said_is; images = keeps_images job.bytes (now old) m stored quiet.holds }) run.moments
+stands_still : (given : List ℕ) (old new : World) → IsTrue (is_stored (present (now old).folder)) → Ran (DuringAttach given (now old)) old new → StoodStill old new
+stands_still given old new stored run = weakens old new (Quiet (said old) (DuringAttach given (now old))) (IsStill (now old))
+    (λ m quiet. record { said_is = quiet.said_is; images = keeps_images given (now old) m stored quiet.holds }) run.moments
 
-module _ (job : Job) (lines : List LineEnd) (plan : IsPlan job lines) (old new : World) (files : AreFiles (now old).folder) (run : Ran (DuringAttach job.bytes (now old)) old new) where
+module _ (job : Job) (lines : List LineEnd) (plan : IsPlan job lines) (given : List ℕ) (of_job : without_budget given ≡ job.bytes) (old new : World)
+    (files : AreFiles (now old).folder) (run : Ran (DuringAttach given (now old)) old new) where
   -- a call of the folder failed while the job was attached
   by_fault : RunsSteps job lines FolderFault old new
   by_fault = record {
-    moments = (attaching job lines plan old files new run).moments;
-    stays = (attaching job lines plan old files new run).stays;
+    moments = (attaching job lines plan old files given new of_job run).moments;
+    stays = (attaching job lines plan old files given new of_job run).stays;
     goes_on = λ sound none. none;
     whole = λ sound e. cc;
     says = λ e. cc;
     all = λ e. cc;
     emptied = λ e. cc;
     other_job = λ at e. cc;
-    refuses_other = λ other. (stands_still job old new other.stored run, inr refl);
+    refuses_other = λ other. (stands_still given old new other.stored run, inr refl);
     damaged = λ f at e. cc;
     spent = λ k e. cc;
   }
@@ -183,15 +182,15 @@ module _ (job : Job) (lines : List LineEnd) (plan : IsPlan job lines) (old new :
   -- another job is stored
   by_other_job : (at : ℕ) → HasOtherJob job.bytes at (present (now old).folder) → RunsSteps job lines (OtherJob at) old new
   by_other_job at other = record {
-    moments = (attaching job lines plan old files new run).moments;
-    stays = (attaching job lines plan old files new run).stays;
-    goes_on = λ sound _. let shows = present_shows job old files sound other.is_other.stored in other.is_other.other (sym (shows.2 job_file) ∙ shows.1.job_is);
+    moments = (attaching job lines plan old files given new of_job run).moments;
+    stays = (attaching job lines plan old files given new of_job run).stays;
+    goes_on = λ sound _. let shows = present_shows job old files sound other.is_other.stored in other.is_other.other (ap without_budget (sym (shows.2 job_file)) ∙ shows.1.job_is);
     whole = λ sound e. cc;
     says = λ e. cc;
     all = λ e. cc;
     emptied = λ e. cc;
     other_job = λ place e. let same : at ≡ place = cc in subst (λ k. HasOtherJob job.bytes k (present (now old).folder)) same other;
-    refuses_other = λ differs. (stands_still job old new differs.stored run, inl (at, refl));
+    refuses_other = λ differs. (stands_still given old new differs.stored run, inl (at, refl));
     damaged = λ f place e. cc;
     spent = λ k e. cc;
   }
@@ -199,8 +198,8 @@ module _ (job : Job) (lines : List LineEnd) (plan : IsPlan job lines) (old new :
   -- the folder is damaged
   by_damage : (f : FileNo) (at : ℕ) → IsDamaged job.bytes (length job.steps) f at (present (now old).folder) → RunsSteps job lines (Damaged f at) old new
   by_damage f at damage = record {
-    moments = (attaching job lines plan old files new run).moments;
-    stays = (attaching job lines plan old files new run).stays;
+    moments = (attaching job lines plan old files given new of_job run).moments;
+    stays = (attaching job lines plan old files given new of_job run).stays;
     goes_on = λ sound _. let shows = present_shows job old files sound damage.damage.stored in
         let r : FileNo → List ℕ = shows.0 in
         let counted : count_in r ≡ length (r step_gate) = ap (λ b. cond b (length (r step_gate)) 0) shows.1.stored in
@@ -227,7 +226,7 @@ module _ (job : Job) (lines : List LineEnd) (plan : IsPlan job lines) (old new :
           place = inl (
             subst (λ k. IsDamage (length job.steps) g k (present (now old).folder)) places
                 (subst (λ h. IsDamage (length job.steps) h at (present (now old).folder)) files_are damage.damage),
-            stands_still job old new damage.damage.stored run,
+            stands_still given old new damage.damage.stored run,
           );
         };
     spent = λ k e. cc;
@@ -246,51 +245,54 @@ module _ (job : Job) (lines : List LineEnd) (plan : IsPlan job lines) (old new :
 module _ {S : Type 0} (tells : S → Bool) (world : S → World) (law : (s : S) → IsTrue (tells s) → AreFiles (now (world s)).folder)
     (job : Job) (lines : List LineEnd) (plan : IsPlan job lines) where
   -- the job couldn't be attached
-  pub not_attached : (old s : S) → Told tells old s (Ran (DuringAttach job.bytes (now (world old))) (world old) (world s)) → Told tells old s (RunsSteps job lines FolderFault (world old) (world s))
-  not_attached old s run = told tells old s _ _ run (λ tells_old ran. by_fault job lines plan (world old) (world s) (law old tells_old) ran)
+  pub not_attached : (given : List ℕ) (old s : S) → without_budget given ≡ job.bytes → Told tells old s (Ran (DuringAttach given (now (world old))) (world old) (world s))
+      → Told tells old s (RunsSteps job lines FolderFault (world old) (world s))
+  not_attached given old s of_job run = told tells old s _ _ run (λ tells_old ran. by_fault job lines plan given of_job (world old) (world s) (law old tells_old) ran)
 
   -- another one is stored, or the folder is damaged
-  pub refuses_job : (fault : AttachFault) (finish : Finish) (at : ℕ) (old s : S) → fault ≡ attach.OtherJob at → finish ≡ OtherJob at
-      → Told tells old s (Ran (DuringAttach job.bytes (now (world old))) (world old) (world s))
-      → (IsTrue (tells s) → Err fault ≡ standing_of job.bytes (length job.steps) (present (now (world old)).folder))
+  pub refuses_job : (given : List ℕ) (fault : AttachFault) (finish : Finish) (at : ℕ) (old s : S) → without_budget given ≡ job.bytes
+      → fault ≡ attach.OtherJob at → finish ≡ OtherJob at
+      → Told tells old s (Ran (DuringAttach given (now (world old))) (world old) (world s))
+      → (IsTrue (tells s) → Err fault ≡ standing_of given (length job.steps) (present (now (world old)).folder))
       → Told tells old s (RunsSteps job lines finish (world old) (world s))
-  refuses_job fault finish at old s fault_is finish_is run answer = record {
+  refuses_job given fault finish at old s of_job fault_is finish_is run answer = record {
     before = run.before;
     did = λ tells_s.
-        let says = standing_says job.bytes (length job.steps) (present (now (world old)).folder) (Err (attach.OtherJob at)) (sym (ap Err fault_is) ∙ answer tells_s) in
+        let says = standing_says given job.bytes of_job (length job.steps) (present (now (world old)).folder) (Err (attach.OtherJob at)) (sym (ap Err fault_is) ∙ answer tells_s) in
         subst (λ f. RunsSteps job lines f (world old) (world s)) (sym finish_is)
-        (by_other_job job lines plan (world old) (world s) (law old (run.before tells_s)) (run.did tells_s) at says);
+        (by_other_job job lines plan given of_job (world old) (world s) (law old (run.before tells_s)) (run.did tells_s) at says);
   }
 
-  pub refuses_damage : (fault : AttachFault) (finish : Finish) (f : FileNo) (at : ℕ) (old s : S) → fault ≡ attach.Damaged f at → finish ≡ Damaged f at
-      → Told tells old s (Ran (DuringAttach job.bytes (now (world old))) (world old) (world s))
-      → (IsTrue (tells s) → Err fault ≡ standing_of job.bytes (length job.steps) (present (now (world old)).folder))
+  pub refuses_damage : (given : List ℕ) (fault : AttachFault) (finish : Finish) (f : FileNo) (at : ℕ) (old s : S) → without_budget given ≡ job.bytes
+      → fault ≡ attach.Damaged f at → finish ≡ Damaged f at
+      → Told tells old s (Ran (DuringAttach given (now (world old))) (world old) (world s))
+      → (IsTrue (tells s) → Err fault ≡ standing_of given (length job.steps) (present (now (world old)).folder))
       → Told tells old s (RunsSteps job lines finish (world old) (world s))
-  refuses_damage fault finish f at old s fault_is finish_is run answer = record {
+  refuses_damage given fault finish f at old s of_job fault_is finish_is run answer = record {
     before = run.before;
     did = λ tells_s.
-        let says = standing_says job.bytes (length job.steps) (present (now (world old)).folder) (Err (attach.Damaged f at)) (sym (ap Err fault_is) ∙ answer tells_s) in
+        let says = standing_says given job.bytes of_job (length job.steps) (present (now (world old)).folder) (Err (attach.Damaged f at)) (sym (ap Err fault_is) ∙ answer tells_s) in
         subst (λ g. RunsSteps job lines g (world old) (world s)) (sym finish_is)
-        (by_damage job lines plan (world old) (world s) (law old (run.before tells_s)) (run.did tells_s) f at says);
+        (by_damage job lines plan given of_job (world old) (world s) (law old (run.before tells_s)) (run.did tells_s) f at says);
   }
 
   -- the job is attached, and the banner is said
-  pub says_banner : (standing : Standing) (before : ℕ) (piece : List ℕ) (result : Result Unit Failed) (old s t : S)
-      → Told tells old s (Ran (DuringAttach job.bytes (now (world old))) (world old) (world s))
-      → (IsTrue (tells s) → Ok standing ≡ standing_of job.bytes (length job.steps) (present (now (world old)).folder))
-      → (IsTrue (tells s) → IsAttached job.bytes standing.done (now (world s)).folder)
+  pub says_banner : (given : List ℕ) (standing : Standing) (before : ℕ) (piece : List ℕ) (result : Result Unit Failed) (old s t : S)
+      → without_budget given ≡ job.bytes → Told tells old s (Ran (DuringAttach given (now (world old))) (world old) (world s))
+      → (IsTrue (tells s) → Ok standing ≡ standing_of given (length job.steps) (present (now (world old)).folder))
+      → (IsTrue (tells s) → IsAttached given standing.done (now (world s)).folder)
       → before ≤ length lines → IsTrue (list_all (λ (l : LineEnd). nat_lt l.last standing.done) (take before lines)) → IsTrue (rise_from standing.done (drop before lines))
       → (piece ≡ (if standing.fresh then start_line (length lines) else resume_line before (length lines)))
       → Told tells s t (Said piece result (world s) (world t))
       → Told tells old t ((Ongoing job lines (world old) (world t) × IsThisJob job (world old)) × OnOk result (Turn job lines standing.done (drop before lines) (world old) (world t)))
-  says_banner standing before piece result old s t run answer attached within front rest piece_is call = record {
+  says_banner given standing before piece result old s t of_job run answer attached within front rest piece_is call = record {
     before = λ tells_t. run.before (call.before tells_t);
     did = λ tells_t.
         let tells_s : IsTrue (tells s) = call.before tells_t in
         let tells_old : IsTrue (tells old) = run.before tells_s in
         let says : IsStanding job.bytes (length job.steps) standing (present (now (world old)).folder) =
-        standing_says job.bytes (length job.steps) (present (now (world old)).folder) (Ok standing) (answer tells_s) in
-        let both = begun job lines plan (world old) (law old tells_old) standing before piece (world s) (law s tells_s) (run.did tells_s) says (attached tells_s)
+        standing_says given job.bytes of_job (length job.steps) (present (now (world old)).folder) (Ok standing) (answer tells_s) in
+        let both = begun job lines plan (world old) (law old tells_old) given of_job standing before piece (world s) (law s tells_s) (run.did tells_s) says (attached tells_s)
         within front rest (banner_is says) result (world t) (call.did tells_t) in
         ((both.0, says.same), with_job result both.1 says.same);
   }
@@ -441,12 +443,6 @@ module _ {S : Type 0} (tells : S → Bool) (world : S → World) where
   made_stands job step e s t number takes tells_t =
       subst (λ k. IsEntryOf k (present (now (world t)).folder) e) (sym number) (takes.did tells_t).made.stands
 
-  -- a step that is taken in a room is taken in one of as many records
-  pub taken_in : (job : declared.Job) (room budget step : ℕ) (result : Result Entry Finish) (s t : S) → room ≡ budget
-      → Told tells s t (TakesStep (job_in room job) step result (world s) (world t)) → Told tells s t (TakesStep (job_in budget job) step result (world s) (world t))
-  taken_in job room budget step result s t same =
-      subst (λ n. Told tells s t (TakesStep (job_in n job) step result (world s) (world t))) same
-
   -- where the turns of all steps are bounded, those of the next step are
   pub is_counted : (law : (s : S) → IsTrue (tells s) → AreFiles (now (world s)).folder) (job : Job) (lines : List LineEnd) (plan : IsPlan job lines) (step : ℕ)
       (rest : List LineEnd) (old s : S) (paid : ℕ) → step < length job.steps → Told tells old s (Turn job lines step rest (world old) (world s)) → IsTrue (tells s)
@@ -459,8 +455,3 @@ module _ {S : Type 0} (tells : S → Bool) (world : S → World) where
         pays_now job step paid (now (world old)).folder (now (world s)).folder plan.well_formed (law old (so_far.before tells_s)) sound
             at.reached within at.made.keeps at.made.later pays,
       )
-
--- and in another room of as many records
-pub counted_in : (job : declared.Job) (room budget step : ℕ) (folder : Folder) (rest : ℕ) → room ≡ budget
-    → IsCounted (job_in budget job) step folder rest → IsCounted (job_in room job) step folder rest
-counted_in job room budget step folder rest same = subst (λ n. IsCounted (job_in n job) step folder rest) (sym same)

@@ -41,41 +41,41 @@ shown_few step r c left turns last fits few =
     omega (arith, same, few)
 
 -- the turns that are shown of a step that makes a diagram are within its work
-diagram_few : (operation : StepOperation) (n : ℕ) (files : OperandFiles) (j budget : ℕ) (g : Tables) (r : FileNo → List ℕ)
-    → DiagramGoesOn operation n files j budget g r → shown_turns j r ≤ work_by operation n g
-diagram_few operation n files j budget g r (inl copy) =
+diagram_few : (operation : StepOperation) (n : ℕ) (files : OperandFiles) (j : ℕ) (g : Tables) (r : FileNo → List ℕ)
+    → DiagramGoesOn operation n files j g r → shown_turns j r ≤ work_by operation n g
+diagram_few operation n files j g r (inl copy) =
     let shown = shown_few j r copy.goes_on.point copy.goes_on.left copy.turns copy.goes_on.last copy.goes_on.words copy.goes_on.few in
     let few = copy.few in
     omega (arith, shown, few)
-diagram_few operation n files j budget g r (inr (inl arcs)) =
+diagram_few operation n files j g r (inr (inl arcs)) =
     let shown = shown_few j r arcs.goes_on.point arcs.goes_on.left arcs.turns arcs.goes_on.last arcs.goes_on.words arcs.goes_on.few in
     let few = arcs.few in
     omega (arith, shown, few)
-diagram_few operation n files j budget g r (inr (inr reduction)) =
+diagram_few operation n files j g r (inr (inr reduction)) =
     let shown = shown_few j r reduction.goes_on.point reduction.goes_on.left reduction.turns reduction.goes_on.last
     reduction.goes_on.words reduction.goes_on.few in
     let few = reduction.few in
     omega (arith, shown, few)
 
-module _ (n : ℕ) (text : List ℕ) (steps : List Planned) (budget j : ℕ) (r : FileNo → List ℕ) where
+module _ (n : ℕ) (text : List ℕ) (steps : List Planned) (j : ℕ) (r : FileNo → List ℕ) where
   -- of any step that goes on they are
-  step_few : (step : Step) → step_at steps j ≡ step → StepGoesOn n text steps budget j step r
+  step_few : (step : Step) → step_at steps j ≡ step → StepGoesOn n text steps j step r
       → shown_turns j r ≤ work_at n steps j
   step_few (Const value) is goes = absurd goes
   step_few (Var level) is goes = absurd goes
   step_few (Pair op left right) is goes = subst (λ k. shown_turns j r ≤ k)
       (sym (work_at_step n steps j (Pair op left right) (Pair op 0 1) is refl (λ i h pieces. refl)))
-      (diagram_few (operations.Operator op) n (files_of left right right) j budget (tables_of n steps left right right) r goes)
+      (diagram_few (operations.Operator op) n (files_of left right right) j (tables_of n steps left right right) r goes)
   step_few (Ite test if_one if_zero) is goes = subst (λ k. shown_turns j r ≤ k)
       (sym (work_at_step n steps j (Ite test if_one if_zero) (Ite 0 1 2) is refl (λ i h pieces. refl)))
-      (diagram_few operations.Choice n (files_of test if_one if_zero) j budget (tables_of n steps test if_one if_zero) r goes)
+      (diagram_few operations.Choice n (files_of test if_one if_zero) j (tables_of n steps test if_one if_zero) r goes)
   step_few (Quantify kind operand level) is goes = subst (λ k. shown_turns j r ≤ k)
       (sym (work_at_step n steps j (Quantify kind operand level) (Quantify kind 0 level) is refl (λ i h pieces. refl)))
-      (diagram_few (operations.Quantifier kind level) n (files_of operand operand operand) j budget
+      (diagram_few (operations.Quantifier kind level) n (files_of operand operand operand) j
       (tables_of n steps operand operand operand) r goes)
   step_few (Restrict operand level value) is goes = subst (λ k. shown_turns j r ≤ k)
       (sym (work_at_step n steps j (Restrict operand level value) (Restrict 0 level value) is refl (λ i h pieces. refl)))
-      (diagram_few (operations.Restriction level value) n (files_of operand operand operand) j budget
+      (diagram_few (operations.Restriction level value) n (files_of operand operand operand) j
       (tables_of n steps operand operand operand) r goes)
   step_few (Drop gone) is goes = absurd goes
   step_few (Same left right) is goes =
@@ -96,7 +96,7 @@ module _ (n : ℕ) (text : List ℕ) (steps : List Planned) (budget j : ℕ) (r 
   step_few (Size operand) is goes = absurd goes
 
   -- and of the step that starts or goes on
-  starts_few : StartsOrGoesOn n text steps budget j r → shown_turns j r ≤ work_at n steps j
+  starts_few : StartsOrGoesOn n text steps j r → shown_turns j r ≤ work_at n steps j
   starts_few (inl none) =
       let nothing : shown_turns j r ≡ 0 = ap turns_in (none_gated j r none) in
       omega (arith, nothing)
@@ -136,7 +136,7 @@ module _ (job : Job) (r : FileNo → List ℕ) where
         let paid : paid_in job r ≡ 256 * committed_turns (count_in r) r + 229 * shown_turns (count_in r) r =
         paid_here job (count_in r) r refl within in
         let shown : shown_turns (count_in r) r ≤ work_of job (jobs.step_at job (count_in r)).step =
-        starts_few job.n job.text job.steps job.budget (count_in r) r (sound.resumable.goes_on.this_step within) in
+        starts_few job.n job.text job.steps (count_in r) r (sound.resumable.goes_on.this_step within) in
         let next = work_next (count_in r) within in
         let most = work_all (count_in r + 1) in
         omega (arith, paid, shown, next, most, committed)

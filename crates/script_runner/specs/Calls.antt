@@ -23,7 +23,7 @@ most_calls job lines = 11 + pieces (length job.bytes) + sum_by (step_calls job) 
 -- so many calls pay for going on from the last checkpoint of step k, where it has one, and for 1,019 part numbers that
 -- it may have taken before
 abbrev pub PaysStep : Job → ℕ → Folder → ℕ → Type 0
-PaysStep job k folder rest = PaysRest (step_at job k).step k job.budget (present folder) (rest - 1019)
+PaysStep job k folder rest = PaysRest (step_at job k).step k (present folder) (rest - 1019)
 
 -- so many pay for that of the first step that isn't committed, where there is one
 abbrev pub PaysFirst : Job → Folder → ℕ → Type 0

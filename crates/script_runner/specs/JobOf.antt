@@ -2,14 +2,15 @@
 use Rattle.std.specs.Prelude.{ℕ, ◌≤◌, List, [], ◌++◌, length, drop, replicate, codes, Option, Some, None}
 use Rattle.byteorder.specs.Endian.{big_bytes, big_number}
 use Rattle.bool_tables.specs.declared.steps.Planned.{Planned}
+use Rattle.catalogue.specs.Standings.{without_budget}
 use Rattle.sound_image.specs.Jobs.{Job}
 use Rattle.script_reader.specs.declared.plan.Plan.{Plan}
 use Rattle.script_runner.specs.Source.{Source}
 use Rattle.script_runner.specs.declared.given_job.Job as declared
 
--- a room, a script and maybe a netlist
-abbrev pub source_of : ℕ → List ℕ → Option (List ℕ) → Source
-source_of budget script netlist = record { budget = budget; script = script; netlist = netlist }
+-- a script and maybe a netlist
+abbrev pub source_of : List ℕ → Option (List ℕ) → Source
+source_of script netlist = record { script = script; netlist = netlist }
 
 -- a netlist has at most 4,194,304 bytes
 abbrev pub IsShort : Option (List ℕ) → Type 0
@@ -25,26 +26,25 @@ abbrev pub netlist_bytes : Option (List ℕ) → List ℕ
 netlist_bytes None = []
 netlist_bytes (Some netlist) = netlist
 
--- the version of the layout, the records of the run's room, the length of the script, that of the netlist, the script,
--- and the netlist
-unfoldable pub job_bytes : Source → List ℕ
-job_bytes s =
-    codes "ADIARJ01" ++ big_bytes 4 s.budget ++ big_bytes 4 (length s.script) ++ netlist_size s.netlist
+-- the version of the layout, the budget, which is the records of the room of the run that wrote it, the length of the
+-- script, that of the netlist, the script, and the netlist
+unfoldable pub job_bytes : ℕ → Source → List ℕ
+job_bytes budget s =
+    codes "ADIARJ01" ++ big_bytes 4 budget ++ big_bytes 4 (length s.script) ++ netlist_size s.netlist
     ++ s.script ++ netlist_bytes s.netlist
 
--- the records of the run's room, as the bytes of its job have them
-unfoldable pub room_in : List ℕ → ℕ
-room_in bytes = big_number 4 (drop 8 bytes)
+-- the budget that the bytes of a job have
+unfoldable pub budget_in : List ℕ → ℕ
+budget_in bytes = big_number 4 (drop 8 bytes)
 
--- a job that is given part by part
-abbrev pub given_job : ℕ → List ℕ → List Planned → ℕ → List ℕ → Job
-given_job n text steps budget bytes =
-    record { n = n; text = text; steps = steps; budget = budget; bytes = bytes }
+-- a job that is given part by part, with the bytes that a run with some budget writes
+abbrev pub given_job : ℕ → List ℕ → List Planned → List ℕ → Job
+given_job n text steps bytes = record { n = n; text = text; steps = steps; bytes = without_budget bytes }
 
--- the job of a source whose script asks for this plan, in a room of as many records as its bytes have
+-- the job of a source whose script asks for this plan, whatever the budget of its runs
 abbrev pub job_of : Source → Plan → Job
-job_of s plan = given_job plan.n s.script plan.steps (room_in (job_bytes s)) (job_bytes s)
+job_of s plan = record { n = plan.n; text = s.script; steps = plan.steps; bytes = job_bytes 0 s }
 
--- the job that a run is given, as a folder stores and shows it, in a room of so many records
-abbrev pub job_in : ℕ → declared.Job → Job
-job_in budget job = given_job job.n job.text.now job.steps.now budget job.bytes.now
+-- the job that a run is given, as a folder stores and shows it
+abbrev pub job_in : declared.Job → Job
+job_in job = given_job job.n job.text.now job.steps.now job.bytes.now

@@ -44,7 +44,7 @@ pub record IsLife (folder : Folder) (life : Life) : Type 0 where
   pub said_is : (life.new.moment life.at).said ≡ said life.old ++ life.told
   pub leaves : IsLeftOf (life.new.moment life.at).folder life.left
 
--- the words ask for this source to be run, which asks for this plan
+-- the words ask for this source to be run, with whichever budget, and it asks for this plan
 pub record RunsPlan (source : Source) (plan : Plan) (life : Life) : Type 0 where
   pub accepts : Accepts life.old (reading_of life.words) plan
   pub source_is : accepts.source ≡ source

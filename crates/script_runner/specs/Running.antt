@@ -11,6 +11,7 @@ use Rattle.bool_tables.specs.declared.steps.Planned.{Planned}
 use Rattle.catalogue.specs.declared.layout.Entry.{Entry}
 use Rattle.catalogue.specs.Entries.{IsEntryOf}
 use Rattle.catalogue.specs.Files.{job_step, job_file, catalogue, step_gate}
+use Rattle.catalogue.specs.Standings.{without_budget}
 use Rattle.catalogue.specs.Counts.{present, is_stored, count_in}
 use Rattle.diagram_list.specs.Saying.{IsSaying, StaysThere}
 use Rattle.sound_image.specs.Files.{node_file, checkpoint_gate}
@@ -103,15 +104,15 @@ pub record HasSaid (P : List ℕ → Folder → Type 0) (old m : Moment) : Type 
   pub said_is : m.said ≡ old.said ++ front
   pub holds : P front m.folder
 
--- another job is stored
+-- another job is stored: its file is another one, the budget aside
 pub record IsOther (job : List ℕ) (r : FileNo → List ℕ) : Type 0 where
   pub stored : IsTrue (is_stored r)
-  pub other : r job_file ≢ job
+  pub other : without_budget (r job_file) ≢ job
 
--- and that is the first byte that differs, or the shorter length
+-- and that is the first byte that differs, the budget aside, or the shorter length
 pub record HasOtherJob (job : List ℕ) (at : ℕ) (r : FileNo → List ℕ) : Type 0 where
   pub is_other : IsOther job r
-  pub place : at ≡ common_prefix_len nat_eq (r job_file) job
+  pub place : at ≡ common_prefix_len nat_eq (without_budget (r job_file)) job
 
 -- a job is stored, and the step gate counts more than the steps, or the catalogue lacks an entry that it counts: its
 -- first entry that isn't whole

@@ -9,9 +9,8 @@ use Rattle.script_reader.specs.declared.plan.Plan.{Plan}
 use Rattle.script_reader.specs.Reads.{Reads, Refuses}
 use Rattle.shelf_model.specs.World.{World}
 
--- the records of the room, the script's text, and the netlist's where there is one
+-- the script's text, and the netlist's where there is one
 pub record Source : Type 0 where
-  pub budget : ℕ
   pub script : List ℕ
   pub netlist : Option (List ℕ)
 
@@ -20,12 +19,18 @@ abbrev pub IsNamed : World → Option (List ℕ) → Option (List ℕ) → Type 
 IsNamed w None text = text ≡ None
 IsNamed w (Some path) text = (bytes : List ℕ) × (text ≡ Some bytes) × (w.texts path ≡ Some bytes)
 
--- what words ask to be run: the texts at the paths that they name, or the script of a size
+-- what words ask to be run, whatever their budget: the texts at the paths that they name, or the script of a size
 abbrev pub IsSource : World → Reading → Source → Type 0
 IsSource w (run folder script netlist budget) s =
-    (s.budget ≡ budget) × (w.texts script ≡ Some s.script) × IsNamed w netlist s.netlist
+    (w.texts script ≡ Some s.script) × IsNamed w netlist s.netlist
 IsSource w (list folder) s = ⊥
-IsSource w (gen folder size budget) s = s ≡ record { budget = budget; script = script_of size; netlist = None }
+IsSource w (gen folder size budget) s = s ≡ record { script = script_of size; netlist = None }
+
+-- the same words with another budget
+abbrev pub with_budget : ℕ → Reading → Reading
+with_budget budget (run folder script netlist other) = run folder script netlist budget
+with_budget budget (list folder) = list folder
+with_budget budget (gen folder size other) = gen folder size budget
 
 -- the folder that words name
 abbrev pub folder_of : Reading → List ℕ

@@ -48,7 +48,7 @@ nodes_next job r = sum_by (λ k. count_of (r (node_file k))) (operands (step_at 
 -- the runs that the last gated checkpoint of the first step that isn't committed names, where it has one
 pub record IsRestOf (job : Job) (r : FileNo → List ℕ) (rest : ℕ) : Type 0 where
   pub begins : 2 ^ 25 + nodes_next job r ≤ rest
-  pub goes_on : (c : Checkpoint) → Tells (count_in r) job.budget (last_gated (count_in r) r) (Some c)
+  pub goes_on : (c : Checkpoint) → Tells (count_in r) (last_gated (count_in r) r) (Some c)
       → 2 ^ 25 + 65 * records_named c + nodes_next job r ≤ rest
 
 -- each image of the folder pays for so many calls or more
@@ -94,7 +94,7 @@ pub record IsPaidStep (job : Job) (k paid rest : ℕ) (folder : Folder) : Type 0
   pub holds : Holds job k folder
   pub work : work_of job (step_at job k).step < 2 ^ 61
   pub shows : PayAtLeast job paid folder
-  pub pays : PaysRest (step_at job k).step k job.budget (present folder) (rest - 1100)
+  pub pays : PaysRest (step_at job k).step k (present folder) (rest - 1100)
 
 -- at each moment of it a stop costs what an interval and its saving do besides; and once it was taken nothing more than
 -- what paid for going on

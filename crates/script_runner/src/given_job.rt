@@ -5,7 +5,7 @@ use bool_tables::Planned;
 use script_reader::LineEnd;
 
 /// The job of a run: a plan for `n` variables over a script's text, the lines that its run says, and the bytes by
-/// which a folder tells it from others.
+/// which a folder tells it from others, with the budget of the run.
 #[derive(Clone, Copy)]
 pub(crate) struct Job<'a> {
     pub(crate) n: u32,

@@ -1,8 +1,8 @@
 //! The bytes of a job, which a folder stores to tell it from others.
 //!
-//! Numbers have the highest byte first: `ADIARJ01` at 0 (8 bytes), the records of the run's room at 8
-//! (4 bytes), the length of the script at 12 (4), that of the netlist at 16 (4), or four bytes 255 where there
-//! is none, the script at 20, and the netlist behind it.
+//! Numbers have the highest byte first: `ADIARJ01` at 0 (8 bytes), the budget of the run that wrote them at 8 (4), which
+//! is the records of its room and tells no job from another, the length of the script at 12 (4), that of the netlist at
+//! 16 (4), or four bytes 255 where there is none, the script at 20, and the netlist behind it.
 ghost use Rattle.std.specs.Prelude.{◌≡◌, ◌≤◌, length, IfOk};
 ghost use Rattle.command_words.specs.Views.{text_of};
 ghost use Rattle.script_runner.specs.JobOf.{job_bytes, netlist_size, source_of, IsShort};
@@ -22,7 +22,7 @@ fn netlist_size(netlist: Option<&[u8]>) -> [u8; 4]
     size
 }
 
-/// The bytes of the job of a script and maybe of a netlist, in a room of that many records.
+/// The bytes of the job of a script and maybe of a netlist, as a run with that budget writes them.
 #[tactic(auto, unfolding(crate::specs::JobOf::job_bytes))]
 pub(crate) fn job_bytes(
     alloc: Global,
@@ -32,7 +32,7 @@ pub(crate) fn job_bytes(
 ) -> Result<Vec<u8>, AllocError>
     requires short { length script.now ≤ 1048576 }
     requires short_netlist { IsShort (text_of netlist) }
-    ensures { IfOk result (λ job. job.items ≡ job_bytes (source_of budget script.now (text_of netlist.entry))) }
+    ensures { IfOk result (λ job. job.items ≡ job_bytes budget (source_of script.now (text_of netlist.entry))) }
 {
     let mut head = [0u8; 16];
     head[0..8].copy_from_slice(b"ADIARJ01");

@@ -21,7 +21,7 @@ ghost use Rattle.script_runner.specs.Text.{run_text};
 ghost use Rattle.script_runner.specs.JobOf.{job_of};
 ghost use Rattle.script_runner.specs.Fetching.{OnlyFetched};
 ghost use Rattle.script_runner.specs.Listed.{diagram_lines};
-ghost use Rattle.script_runner.specs.Source.{Source, Plans};
+ghost use Rattle.script_runner.specs.Source.{Source, IsSource, with_budget, Plans};
 ghost use Rattle.script_runner.specs.Outcome.{Accepts, Ends, ByWords, StatusHasCause, NoneRose, IsSmall};
 ghost use Rattle.script_runner.specs.Outcome.{MakesFewCalls, texts_calls};
 ghost use Rattle.script_runner.specs.Lives.{Life, AreLives, LivesKeep};
@@ -34,13 +34,16 @@ use script_reader::laws::net_lines_make_their_signals;
 
 /// Over any list of calls in one folder, each of which finds what the one before left: a call is ended by its
 /// status, by a kill, between two calls of the folder or within one, or by a power cut, and leaves any folder of which
-/// a stop may leave only what it could leave at that moment. The words are those of one job, or any others once every
-/// image stores that job, or run no job. Every image that is left is sound for the job, and has each step that all
-/// images had and each whose line was said.
+/// a stop may leave only what it could leave at that moment. The words are those of one job, with another budget in each
+/// call, or any others once every image stores that job, or run no job. Every image that is left is sound for the job,
+/// and has each step that all images had and each whose line was said. Words with another budget ask for the same source,
+/// and so for the same job.
 pub fn lives_keep()
     ensures keeps { (source : Source) (plan : Plan) (folder : Folder) (lives : List Life)
         → Plans source plan → AreSound (job_of source plan) folder → AreLives source plan folder lives
         → LivesKeep source plan folder lives }
+    ensures any_budget { (w : World) (reading : Reading) (budget : ℕ) (source : Source) → IsSource w reading source
+        → IsSource w (with_budget budget reading) source }
 {}
 
 /// Over any list of calls in one folder, each of which finds what the one before left, however they are ended: the

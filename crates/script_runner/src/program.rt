@@ -107,9 +107,9 @@ fn answer<W: Station>(alloc: Global, words: &[String], station: &mut W) -> Endin
 /// `run FOLDER --script FILE` runs the script's job in the folder, with a room of as many records as
 /// `--budget` says, over the netlist at `--netlist` where that is given: it makes the node file of each step that
 /// isn't committed there yet, and says its line once the step is committed. All memory is taken before the folder is
-/// entered. After a stop the same words go on from where the folder stands. `gen FOLDER --size N` does the same with
-/// a script that is made from the size. `list FOLDER` says the name and the number of nodes of each diagram that the
-/// folder's committed steps named and didn't drop.
+/// entered. After a stop the same words go on from where the folder stands, with any `--budget`. `gen FOLDER --size N`
+/// does the same with a script that is made from the size. `list FOLDER` says the name and the number of nodes of each
+/// diagram that the folder's committed steps named and didn't drop.
 ///
 /// | status | comes | said at the end |
 /// |---|---|---|
@@ -117,7 +117,7 @@ fn answer<W: Station>(alloc: Global, words: &[String], station: &mut W) -> Endin
 /// | 2 | the words aren't accepted | the usage |
 /// | 3 | the script isn't accepted: its first faulty line, and why | `script: line L: KIND` |
 /// | 4 | the netlist isn't accepted: its first faulty line, and why | `netlist: line L: KIND` |
-/// | 5 | the folder stores another job, which differs from that byte on | `other job at B` |
+/// | 5 | the folder stores another job, which differs from that byte on, the budgets aside | `other job at B` |
 /// | 6 | a text couldn't be fetched | |
 /// | 7 | a call of the folder failed | |
 /// | 8 | a line couldn't be said | |

@@ -25,8 +25,9 @@ use shelf_model::Station;
 /// and then that all was done.
 ///
 /// It takes no memory. The room, 16,384 to 4,194,304 records of 64 bytes, is for the steps that sweep over diagrams. A
-/// step that was interrupted goes on from its last checkpoint, in a room of as many records as the one that saved it
-/// had. The answer says how the run ended. What was committed before stays, whichever it is.
+/// step that was interrupted goes on from its last checkpoint, whatever the room of the run that saved it. Of the
+/// bytes of the job those at 8 to 11 are the budget of its run, which tells no job from another. The answer says how the
+/// run ended. What was committed before stays, whichever it is.
 pub fn run_steps<W: Station>(
     n: u32,
     text: &[u8],
@@ -40,15 +41,15 @@ pub fn run_steps<W: Station>(
     requires lines { AreLines steps.now lines.now }
     requires room { (16384 ≤ length room.old) × (length room.old ≤ 4194304) }
     ensures content { Told W.tells station.old station.new
-        (RunsSteps (given_job n text.now steps.now (length room.old) job.now) lines.now result
+        (RunsSteps (given_job n text.now steps.now job.now) lines.now result
         (W.world station.old) (W.world station.new)) }
     ensures calls { IsTrue (W.tells station.new) → (rest : ℕ)
-        → AreCounted (given_job n text.now steps.now (length room.old) job.now) (now (W.world station.old)).folder rest
+        → AreCounted (given_job n text.now steps.now job.now) (now (W.world station.old)).folder rest
         → (W.world station.new).clock ≤ (W.world station.old).clock
-        + (most_calls (given_job n text.now steps.now (length room.old) job.now) (length lines.now) + rest) }
+        + (most_calls (given_job n text.now steps.now job.now) (length lines.now) + rest) }
     // what a stop costs at any moment
     ensures stops { IsTrue (W.tells station.new)
-        → RunPays (given_job n text.now steps.now (length room.old) job.now) (length lines.now)
+        → RunPays (given_job n text.now steps.now job.now) (length lines.now)
         (W.world station.old) (W.world station.new) }
     ensures causes { FinishHasCause (W.faults station.old) (W.faults station.new) result }
 {
@@ -66,14 +67,14 @@ pub fn run_steps<W: Station>(
 pub(crate) fn run_job<W: Station>(job: &Job, room: &mut [Rec], station: &mut W) -> Finish
     requires room { (16384 ≤ length room.old) × (length room.old ≤ 4194304) }
     ensures content { Told W.tells station.old station.new
-        (RunsSteps (job_in (length room.old) job.now) job.now.lines.now result
+        (RunsSteps (job_in job.now) job.now.lines.now result
         (W.world station.old) (W.world station.new)) }
     ensures calls { IsTrue (W.tells station.new) → (rest : ℕ)
-        → AreCounted (job_in (length room.old) job.now) (now (W.world station.old)).folder rest
+        → AreCounted (job_in job.now) (now (W.world station.old)).folder rest
         → (W.world station.new).clock ≤ (W.world station.old).clock
-        + (most_calls (job_in (length room.old) job.now) (length job.now.lines.now) + rest) }
+        + (most_calls (job_in job.now) (length job.now.lines.now) + rest) }
     ensures stops { IsTrue (W.tells station.new)
-        → RunPays (job_in (length room.old) job.now) (length job.now.lines.now)
+        → RunPays (job_in job.now) (length job.now.lines.now)
         (W.world station.old) (W.world station.new) }
     ensures causes { FinishHasCause (W.faults station.old) (W.faults station.new) result }
 {

@@ -4,7 +4,7 @@ ghost use Rattle.shelf_model.specs.World.{now};
 ghost use Rattle.shelf_model.specs.Calls.{Told};
 ghost use Rattle.script_runner.specs.Calls.{most_calls, AreCounted};
 ghost use Rattle.script_runner.specs.Entered.{RunsIn, EndsRun, EndingHasCause};
-ghost use Rattle.script_runner.specs.JobOf.{source_of, room_in, job_in};
+ghost use Rattle.script_runner.specs.JobOf.{source_of, budget_in, job_in};
 ghost use Rattle.command_words.specs.Views.{text_of};
 ghost use Rattle.script_reader.specs.Views.{given};
 ghost use Rattle.script_runner.specs.Netlists.{netlist_in, netlist_text, IsSpelled};
@@ -38,10 +38,10 @@ pub(crate) fn run_source<W: Station>(
     requires budget { (16384 ≤ budget) × (budget ≤ 4194304) }
     requires spelled { IsSpelled netlist.now }
     ensures content { Told W.tells station.old station.new
-        (EndsSource folder.now (source_of budget script.now (netlist_text netlist.now)) (status_of result)
+        (EndsSource folder.now (source_of script.now (netlist_text netlist.now)) (status_of result)
         (W.world station.old) (W.world station.new)) }
     ensures calls { IsTrue (W.tells station.new)
-        → RunsInCalls 0 (source_of budget script.now (netlist_text netlist.now))
+        → RunsInCalls 0 (source_of script.now (netlist_text netlist.now))
         (W.world station.old) (W.world station.new) }
     ensures which { IsRunStatus (status_of result) }
     ensures cause { EndingHasCause (W.faults station.old) (W.faults station.new) result }
@@ -84,19 +84,19 @@ fn take_room(alloc: Global, budget: u32) -> Result<Vec<Rec>, AllocError>
     vec![in alloc; Rec { w: [0; 8] }; budget as usize]
 }
 
-/// Enters the folder and runs the job there, in the room that the job asks for.
+/// Enters the folder and runs the job there, in a room of as many records as the budget in its bytes.
 fn run_in<W: Station>(folder: &str, job: &Job, room: &mut [Rec], station: &mut W) -> Ending
-    requires own { length room.old ≡ room_in job.now.bytes.now }
+    requires own { length room.old ≡ budget_in job.now.bytes.now }
     requires room { (16384 ≤ length room.old) × (length room.old ≤ 4194304) }
     ensures content { Told W.tells station.old station.new
-        (RunsIn folder.now (job_in (length room.old) job.now) job.now.lines.now (status_of result)
+        (RunsIn folder.now (job_in job.now) job.now.lines.now (status_of result)
         (W.world station.old) (W.world station.new)) }
     ensures calls { IsTrue (W.tells station.new) → (rest : ℕ)
-        → AreCounted (job_in (length room.old) job.now) (now (W.world station.old)).folder rest
+        → AreCounted (job_in job.now) (now (W.world station.old)).folder rest
         → (W.world station.new).clock ≤ (W.world station.old).clock + 2
-        + (most_calls (job_in (length room.old) job.now) (length job.now.lines.now) + rest) }
+        + (most_calls (job_in job.now) (length job.now.lines.now) + rest) }
     ensures stops { IsTrue (W.tells station.new)
-        → StopsIn (job_in (length room.old) job.now) (length job.now.lines.now) 2
+        → StopsIn (job_in job.now) (length job.now.lines.now) 2
         (W.world station.old) (W.world station.new) }
     ensures which { EndsRun (status_of result) }
     ensures cause { EndingHasCause (W.faults station.old) (W.faults station.new) result }

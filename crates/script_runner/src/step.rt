@@ -28,15 +28,15 @@ pub(crate) fn take_step<S: Shelf>(
     requires room { (16384 ≤ length room.old) × (length room.old ≤ 4194304) }
     requires ready { IsTrue (S.tells shelf.old) → IsReady number (now (S.world shelf.old)).folder }
     ensures content { Told S.tells shelf.old shelf.new
-        (TakesStep (job_in (length room.old) job.now) number result (S.world shelf.old) (S.world shelf.new)) }
+        (TakesStep (job_in job.now) number result (S.world shelf.old) (S.world shelf.new)) }
     ensures calls { IsTrue (S.tells shelf.new) → (rest : ℕ)
-        → IsCounted (job_in (length room.old) job.now) number (now (S.world shelf.old)).folder rest
+        → IsCounted (job_in job.now) number (now (S.world shelf.old)).folder rest
         → (S.world shelf.new).clock ≤ (S.world shelf.old).clock
-        + (step_calls (job_in (length room.old) job.now) (get_or job.now.steps.now number no_step) + rest) }
+        + (step_calls (job_in job.now) (get_or job.now.steps.now number no_step) + rest) }
     // what a stop costs at any moment of it
     ensures stops { IsTrue (S.tells shelf.new) → (paid rest : ℕ)
-        → IsPaidStep (job_in (length room.old) job.now) number paid rest (now (S.world shelf.old)).folder
-        → StepPays (job_in (length room.old) job.now) paid rest result (S.world shelf.old) (S.world shelf.new) }
+        → IsPaidStep (job_in job.now) number paid rest (now (S.world shelf.old)).folder
+        → StepPays (job_in job.now) paid rest result (S.world shelf.old) (S.world shelf.new) }
     ensures number { IfOk result (λ e. e.number ≡ number) }
     ensures causes { StopHasCause (S.faults shelf.old) (S.faults shelf.new) result }
 {

@@ -10,7 +10,7 @@ use Rattle.shelf_model.proofs.Images.{chosen, bytes_in-chosen, standing_left, st
 use Rattle.shelf_model.proofs.Maps.{bytes_in-insert, bytes_in-insert_other}
 use Rattle.catalogue.specs.Files.{job_gate, step_gate}
 use Rattle.catalogue.specs.Counts.{present, is_stored, count_in}
-use Rattle.catalogue.specs.Standings.{DuringAttach, IsAttached}
+use Rattle.catalogue.specs.Standings.{without_budget, DuringAttach, IsAttached}
 use Rattle.resumable.specs.Resumable as steps
 use Rattle.sound_image.specs.Files.{checkpoint_gate}
 use Rattle.sound_image.specs.Jobs.{Job}
@@ -54,9 +54,9 @@ none_behind_first job folder files sound s behind within =
     count_as r q jobs steps = ap₂ (λ a b. if nat_lt 0 (length a) then length b else 0) jobs steps
 
 -- nor has a step of it a gated checkpoint in an image where files of steps are as they were
-none_checkpointed : (job : Job) (old m : Moment) (image : Image) → AreFiles old.folder → AreFew job → AreSound job old.folder → is_stored (present old.folder) ≡ false
-    → DuringAttach job.bytes old m → IsImage m.folder image → steps.HasNone job.steps 0 (bytes_in image)
-none_checkpointed job old m image files few sound unstored during is_image s from within =
+none_checkpointed : (job : Job) (bytes : List ℕ) (old m : Moment) (image : Image) → AreFiles old.folder → AreFew job → AreSound job old.folder
+    → is_stored (present old.folder) ≡ false → DuringAttach bytes old m → IsImage m.folder image → steps.HasNone job.steps 0 (bytes_in image)
+none_checkpointed job bytes old m image files few sound unstored during is_image s from within =
     let of_step : IsOfStep gate = gate_of_step s (early job s few within) in
     let same : file_in m.folder gate ≡ file_in old.folder gate = during.others gate (not_job_file gate of_step) (not_job_gate gate of_step) (not_step_gate gate of_step) in
     let first : Image = insert (chosen (λ _ x. x.bytes) old.folder) gate (bytes_in image gate) in
@@ -69,9 +69,10 @@ none_checkpointed job old m image files few sound unstored during is_image s fro
     gate : FileNo
     gate = checkpoint_gate s
 
--- at each moment of an attach each image is sound
-pub sound_while_attached : (job : Job) (old m : Moment) → AreFiles old.folder → AreFew job → AreSound job old.folder → DuringAttach job.bytes old m → AreSound job m.folder
-sound_while_attached job old m files few sound during image is_image = elim (during.images image is_image) [
+-- at each moment of an attach of a job, whose bytes may have any budget, each image is sound
+pub sound_while_attached : (job : Job) (bytes : List ℕ) (old m : Moment) → without_budget bytes ≡ job.bytes → AreFiles old.folder → AreFew job → AreSound job old.folder
+    → DuringAttach bytes old m → AreSound job m.folder
+sound_while_attached job bytes old m of_job files few sound during image is_image = elim (during.images image is_image) [
   | inl old_image ↦ sound image old_image
   | inr new ↦ record {
     shown = elim new.1 [
@@ -82,7 +83,7 @@ sound_while_attached job old m files few sound during image is_image = elim (dur
       )
       | inr stored ↦ inr (record {
         stored = stored.counts.stored;
-        job_is = stored.job_is;
+        job_is = stored.job_is ∙ of_job;
         few = subst (λ c. c ≤ length job.steps) (sym stored.counts.count) (omega arith);
         entries = λ k within. absurd (none (count_in (bytes_in image)) k stored.counts.count within);
         files = λ s live. absurd (none (count_in (bytes_in image)) s stored.counts.count (live_below job.steps (count_in (bytes_in image)) s live));
@@ -90,9 +91,9 @@ sound_while_attached job old m files few sound during image is_image = elim (dur
       })
     ];
     resumable = record {
-      unstored = λ unstored. none_checkpointed job old m image files few sound new.0 during is_image;
+      unstored = λ unstored. none_checkpointed job bytes old m image files few sound new.0 during is_image;
       goes_on = none_resumes job (count_in (bytes_in image)) (bytes_in image)
-          (λ s from within. none_checkpointed job old m image files few sound new.0 during is_image s (omega arith) within);
+          (λ s from within. none_checkpointed job bytes old m image files few sound new.0 during is_image s (omega arith) within);
     };
   }
 ]
@@ -119,7 +120,8 @@ count_while_attached job least old m files at_least during image is_image = elim
     no_count r unstored = ap (λ b. if b then length (r step_gate) else 0) unstored
 
 -- after an attach to a sound folder its steps are held
-pub holds_after_attach : (job : Job) (count : ℕ) (old m : Moment) → AreFiles old.folder → AreFiles m.folder → AreFew job → AreSound job old.folder
-    → DuringAttach job.bytes old m → IsAttached job.bytes count m.folder → Holds job count m.folder
-holds_after_attach job count old m files new_files few sound during attached =
-    held job count m.folder new_files attached.ready (sound_while_attached job old m files few sound during) attached.job_is
+pub holds_after_attach : (job : Job) (bytes : List ℕ) (count : ℕ) (old m : Moment) → without_budget bytes ≡ job.bytes → AreFiles old.folder → AreFiles m.folder → AreFew job
+    → AreSound job old.folder → DuringAttach bytes old m → IsAttached bytes count m.folder → Holds job count m.folder
+holds_after_attach job bytes count old m of_job files new_files few sound during attached =
+    held job count m.folder new_files attached.ready (sound_while_attached job bytes old m of_job files few sound during) attached.job_sure
+    (attached.job_is ∙ of_job)

@@ -1,5 +1,5 @@
 -- A folder that holds a job's first steps has only sound images, and the other way round.
-use Rattle.std.proofs.Common.{◌≡◌, ◌∙◌, ℕ, zero, suc, ◌+◌, ◌-◌, ◌*◌, ◌<◌, ◌≤◌, min, List, length, take, drop, sym, ap, subst, inl, inr, arith}
+use Rattle.std.proofs.Common.{◌≡◌, ◌∙◌, ℕ, zero, suc, ◌+◌, ◌-◌, ◌*◌, ◌<◌, ◌≤◌, min, List, length, take, drop, refl, sym, ap, subst, inl, inr, arith}
 use Rattle.std.specs.Prelude.{IsTrue}
 use Rattle.std.proofs.lemmas.List.{take-take, length-take, length-take-le, length-drop, drop-take}
 use Rattle.bool_tables.specs.Plans.{is_live}
@@ -13,6 +13,7 @@ use Rattle.catalogue.specs.Files.{job_file, catalogue}
 use Rattle.catalogue.specs.Counts.{HasCount}
 use Rattle.catalogue.specs.Commits.{IsReady}
 use Rattle.catalogue.specs.Entries.{entry_bytes}
+use Rattle.catalogue.specs.Standings.{without_budget}
 use Rattle.catalogue.proofs.Counted.{ready_counts}
 use Rattle.catalogue.proofs.Places.{length_entry}
 use Rattle.sound_image.specs.Files.{node_file}
@@ -30,6 +31,12 @@ entry_in_front k count front bytes size within begins =
     sym (drop-take (128 * k) 128 bytes) ∙ ap (drop (128 * k)) (sym (take-take (128 * k + 128) (length front) bytes room))
     ∙ ap (λ xs. drop (128 * k) (take (128 * k + 128) xs)) begins ∙ drop-take (128 * k) 128 front
 
+-- each image has the bytes of a file that is sure
+pub sure_image : (folder : Folder) (image : Image) (f : FileNo) (x : File) → file_in folder f ≡ x → x ≡ firm_file x.bytes → IsImage folder image
+    → bytes_in image f ≡ x.bytes
+sure_image folder image f x is sure is_image =
+    only_image x.bytes (bytes_in image f) (same_image folder image f (firm_file x.bytes) (is ∙ sure) is_image)
+
 -- each image of a folder that holds so many steps has their count
 pub holds_count : (job : Job) (count : ℕ) (folder : Folder) → Holds job count folder → HaveCount count folder
 holds_count job count folder holds image is_image = (ready_counts count folder image holds.ready is_image).count
@@ -42,7 +49,7 @@ holds_sound job count folder holds image is_image =
     record {
       shown = inr (record {
         stored = counted.stored;
-        job_is = only_image job.bytes (r job_file) (same_image folder image job_file (firm_file job.bytes) holds.job_is is_image);
+        job_is = ap without_budget (sure_image folder image job_file (file_in folder job_file) refl holds.job_sure is_image) ∙ holds.job_is;
         few = subst (λ c. c ≤ length job.steps) (sym counted.count) holds.few;
         entries = λ k within.
             let below : k < count = subst (λ c. k < c) counted.count within in
@@ -122,8 +129,10 @@ module _ (job : Job) (count : ℕ) (folder : Folder) (files : AreFiles folder) (
             (found.0, found.1, sym (entry_in_front k count (take (128 * count) x.bytes) x.bytes size below (ap (λ c. take c x.bytes) size)) ∙ found.2);
       }
 
-  pub held : file_in folder job_file ≡ firm_file job.bytes → Holds job count folder
-  held job_is = record {
+  pub held : file_in folder job_file ≡ firm_file (file_in folder job_file).bytes → without_budget (file_in folder job_file).bytes ≡ job.bytes
+      → Holds job count folder
+  held job_sure job_is = record {
+    job_sure = job_sure;
     job_is = job_is;
     ready = ready;
     few = let image : Image = chosen (λ _ x. x.bytes) folder in

@@ -40,7 +40,7 @@ early job s few within = omega (arith, few, within)
 -- what the last checkpoint of a step of the job rests on is no file of the job itself
 abbrev pub RestsOnSteps : Job → Type 0
 RestsOnSteps job = (k : ℕ) (r : FileNo → List ℕ) (c : Checkpoint) (f : FileNo) (many : ℕ) → k < length job.steps
-    → GoesOnAt job.n job.text job.steps job.budget k r → IsLastOf k job.budget r c → RestsOn (step_at job.steps k) c f many
+    → GoesOnAt job.n job.text job.steps k r → IsLastOf k r c → RestsOn (step_at job.steps k) c f many
     → f.step ≢ job_step
 
 module _ (job : Job) where
@@ -76,10 +76,10 @@ module _ (job : Job) where
           | inr before ↦ let this : s ≡ k = omega (arith, from, before) in subst (λ j. old (checkpoint_gate j) ≡ []) (sym this) none
         ])
         | inr goes ↦
-            let point = at_last job.n job.text job.steps job.budget k old goes in
+            let point = at_last job.n job.text job.steps k old goes in
             record {
               behind = λ s behind inside. gate s inside ∙ is.behind s behind inside;
-              this_step = λ inside. inr (at_local job.n job.text job.steps job.budget k point.0 old new point.1
+              this_step = λ inside. inr (at_local job.n job.text job.steps k point.0 old new point.1
                   (λ i. last_of (length (gate k within i)) (points k within i))
                   (λ f many rest. ap (take many) (same f (rests k old point.0 f many within goes point.1 rest))) goes);
             }

@@ -14,6 +14,7 @@ use Rattle.catalogue.specs.Files.{job_step, job_file, job_gate, catalogue, step_
 use Rattle.catalogue.specs.Counts.{is_stored, count_in, entry_at}
 use Rattle.catalogue.specs.Commits.{IsReady, DuringCommit, IsCommitted}
 use Rattle.catalogue.specs.Entries.{entry_bytes}
+use Rattle.catalogue.specs.Standings.{without_budget}
 use Rattle.catalogue.proofs.Places.{length_entry}
 use Rattle.catalogue.proofs.Stored.{catalogue_not_job_file, step_gate_not_job_file}
 use Rattle.sound_image.specs.Files.{node_file, checkpoint_gate}
@@ -25,7 +26,7 @@ use Rattle.sound_image.specs.Sound.{IsSound, IsResumableAt}
 use Rattle.sound_image.specs.Holds.{Holds, IsMade, AreResumable, NoneGated}
 use Rattle.sound_image.specs.Steps.{IsOwnFile, OnlyOwnFiles, IsCutBy, IsTidied}
 use Rattle.sound_image.proofs.Numbers.{IsOfStep, node_of_step, gate_of_step, not_catalogue, not_step_gate}
-use Rattle.sound_image.proofs.HoldsLaws.{entry_in_front}
+use Rattle.sound_image.proofs.HoldsLaws.{entry_in_front, sure_image}
 use Rattle.sound_image.proofs.Resuming.{AreFew, RestsOnSteps, early, none_resumes, none_next, none_gated_resumes, none_behind, resumable_kept}
 use Rattle.sound_image.proofs.Live.{live_below, live_earlier, live_last, live_undropped}
 
@@ -38,11 +39,13 @@ pub record KeepsHeld (job : Job) (count : ℕ) (old new : Folder) : Type 0 where
 -- then the steps so far are held
 pub holds_kept : (job : Job) (count : ℕ) (old new : Folder) → Holds job count old → KeepsHeld job count old new → Holds job count new
 holds_kept job count old new holds keeps =
+    let job_same : file_in new job_file ≡ file_in old job_file = keeps.of_job job_file refl in
     let gate_same : file_in new job_gate ≡ file_in old job_gate = keeps.of_job job_gate refl in
     let catalogue_same : file_in new catalogue ≡ file_in old catalogue = keeps.of_job catalogue refl in
     let steps_same : file_in new step_gate ≡ file_in old step_gate = keeps.of_job step_gate refl in
     record {
-      job_is = keeps.of_job job_file refl ∙ holds.job_is;
+      job_sure = subst (λ (x : File). x ≡ firm_file x.bytes) (sym job_same) holds.job_sure;
+      job_is = ap (λ (x : File). without_budget x.bytes) job_same ∙ holds.job_is;
       ready = record {
         stored = subst (λ (x : File). 0 < x.firm) (sym gate_same) holds.ready.stored;
         gate = steps_same ∙ holds.ready.gate ∙ ap (λ (x : File). firm_file x.bytes) (sym steps_same);
@@ -194,8 +197,8 @@ sound_while_committed job k e old m image files few rests within holds made is_e
     sound_with c stored count short resumes entries nodes forms = record {
       shown = inr (record {
         stored = stored;
-        job_is = only_image job.bytes (r job_file) (same_image m.folder image job_file (firm_file job.bytes)
-            (during.others job_file (λ q. catalogue_not_job_file (sym q)) (λ q. step_gate_not_job_file (sym q)) ∙ holds.job_is) is_image);
+        job_is = ap without_budget (sure_image m.folder image job_file (file_in old.folder job_file)
+            (during.others job_file (λ q. catalogue_not_job_file (sym q)) (λ q. step_gate_not_job_file (sym q))) holds.job_sure is_image) ∙ holds.job_is;
         few = subst (λ n. n ≤ length job.steps) (sym count) short;
         entries = λ i inside. entries i (subst (λ n. i < n) count inside);
         files = λ s live. only_image (file_of job s) (r (node_file s)) (same_image m.folder image (node_file s) (firm_file (file_of job s))
@@ -221,11 +224,14 @@ pub holds_after_commit : (job : Job) (k : ℕ) (e : Entry) (old m : Moment) → 
     → IsMade job k old.folder → IsEntryOfStep job k e → DuringCommit e old m → IsCommitted e old.folder m.folder → Holds job (k + 1) m.folder
 holds_after_commit job k e old m files few within holds made is_entry during committed =
     let number : e.number ≡ k = is_entry.number_is in
+    let job_same : file_in m.folder job_file ≡ file_in old.folder job_file =
+    during.others job_file (λ q. catalogue_not_job_file (sym q)) (λ q. step_gate_not_job_file (sym q)) in
     let front : List ℕ = holds.entries.front in
     let entry_size : length (entry_bytes e) ≡ 128 = length_entry e is_entry.entry_is.fits in
     let front_size : length front ≡ 128 * e.number = holds.entries.size ∙ ap (λ c. 128 * c) (sym number) in
     record {
-      job_is = during.others job_file (λ q. catalogue_not_job_file (sym q)) (λ q. step_gate_not_job_file (sym q)) ∙ holds.job_is;
+      job_sure = subst (λ (x : File). x ≡ firm_file x.bytes) (sym job_same) holds.job_sure;
+      job_is = ap (λ (x : File). without_budget x.bytes) job_same ∙ holds.job_is;
       ready = subst (λ c. IsReady (c + 1) m.folder) number committed.ready;
       few = omega (arith, within);
       entries = record {

@@ -8,6 +8,7 @@ use Rattle.catalogue.specs.Files.{job_file, catalogue}
 use Rattle.catalogue.specs.Commits.{IsReady}
 use Rattle.catalogue.specs.Counts.{count_in}
 use Rattle.catalogue.specs.Entries.{entry_bytes}
+use Rattle.catalogue.specs.Standings.{without_budget}
 use Rattle.sound_image.specs.Files.{node_file}
 use Rattle.canon_file.specs.Laws.{HasForm}
 use Rattle.step_going.specs.Standing.{HasNone}
@@ -31,9 +32,11 @@ AreResumable job count folder = (image : Image) → IsImage folder image → IsR
 abbrev pub NoneGated : Job → ℕ → Folder → Type 0
 NoneGated job count folder = (s : ℕ) → count ≤ s → s < length job.steps → HasNone s folder
 
--- the job is stored, so many of its steps are committed, and nothing of them is pending; and a run can go on
+-- the job is stored, by a run with any budget, so many of its steps are committed, and nothing of them is pending; and
+-- a run can go on
 pub record Holds (job : Job) (count : ℕ) (folder : Folder) : Type 0 where
-  pub job_is : file_in folder job_file ≡ firm_file job.bytes
+  pub job_sure : file_in folder job_file ≡ firm_file (file_in folder job_file).bytes
+  pub job_is : without_budget (file_in folder job_file).bytes ≡ job.bytes
   pub ready : IsReady count folder
   pub few : count ≤ length job.steps
   pub entries : KeepsEntries job count folder

@@ -5,13 +5,12 @@ use Rattle.bool_tables.specs.Steps.{plan_tables, table_of_step}
 use Rattle.canon_file.specs.Canon.{canon_nodes, canon_bytes}
 use Rattle.step_work.specs.Plans.{no_step}
 
--- the number of variables, the text of the script, the steps, the records of the room that its runs work in, and the
--- bytes of the job
+-- the number of variables, the text of the script, the steps, and the bytes of the job's file without the budget of the
+-- run that wrote it: they have 0 at the places 8 to 11, where a file may have any four bytes
 pub record Job : Type 0 where
   pub n : ℕ
   pub text : List ℕ
   pub steps : List Planned
-  pub budget : ℕ
   pub bytes : List ℕ
 
 abbrev pub step_at : Job → ℕ → Planned

@@ -7,17 +7,18 @@ use Rattle.catalogue.specs.declared.layout.Entry.{Entry}
 use Rattle.catalogue.specs.Files.{job_file, step_gate}
 use Rattle.catalogue.specs.Counts.{is_stored, count_in, entry_at}
 use Rattle.catalogue.specs.Entries.{entry_bytes}
+use Rattle.catalogue.specs.Standings.{without_budget}
 use Rattle.resumable.specs.Resumable as steps
 use Rattle.sound_image.specs.Files.{node_file}
 use Rattle.canon_file.specs.Laws.{HasForm}
 use Rattle.sound_image.specs.Jobs.{Job, table_at, file_of}
 use Rattle.sound_image.specs.Entries.{IsEntryOfStep}
 
--- the job is stored, each committed step has its entry, and each diagram that is live then has its canonical file,
+-- the job is stored, by a run with any budget, each committed step has its entry, and each diagram that is live then has its canonical file,
 -- which is defined for its table
 pub record ShowsSteps (job : Job) (r : FileNo → List ℕ) : Type 0 where
   pub stored : IsTrue (is_stored r)
-  pub job_is : r job_file ≡ job.bytes
+  pub job_is : without_budget (r job_file) ≡ job.bytes
   pub few : count_in r ≤ length job.steps
   pub entries : (k : ℕ) → k < count_in r → (e : Entry) × IsEntryOfStep job k e × (entry_at k r ≡ entry_bytes e)
   pub files : (s : ℕ) → IsTrue (is_live (take (count_in r) job.steps) s) → r (node_file s) ≡ file_of job s
@@ -30,7 +31,7 @@ IsShown job r = ((is_stored r ≡ false) × (r step_gate ≡ [])) ⊎ ShowsSteps
 -- where so many steps of the job are committed a run can go on: no step behind them but the next one has a gated
 -- checkpoint, and that one has none, or goes on from its last one
 abbrev pub IsResumableAt : Job → ℕ → (FileNo → List ℕ) → Type 0
-IsResumableAt job count r = steps.IsResumable job.n job.text job.steps job.budget count r
+IsResumableAt job count r = steps.IsResumable job.n job.text job.steps count r
 
 -- so it is here; where no job is stored no step has a checkpoint
 pub record IsResumable (job : Job) (r : FileNo → List ℕ) : Type 0 where

@@ -61,23 +61,23 @@ point_whole c fits =
     let all : length (point_bytes c) ≡ length (used_bytes c) + length (replicate {A = ℕ} 512 0) = length-append (used_bytes c) (replicate {A = ℕ} 512 0) in
     omega (arith, cut, used, rest, all)
 
-module _ (job : Job) (number : ℕ) (budget : ℕ) (of_job : IsOfJob job budget number) where
+module _ (job : Job) (number : ℕ) (of_job : IsOfJob job number) where
   -- the operands of the step are live
   live : IsTrue (list_all (is_live (take number job.steps)) (operands (plans.step_at job.steps number)))
   live = operands_live job.n job.text (take number job.steps) (step_at job number)
       (follows_at job.n job.text job.steps number no_step of_job.within of_job.well_formed)
 
   -- so what a checkpoint rests on of other steps is sure
-  others_firm : (folder : Folder) (c : Checkpoint) → AreFiles folder → Holds job number folder → IsTold number job.budget (last_gated number (present folder)) c
+  others_firm : (folder : Folder) (c : Checkpoint) → AreFiles folder → Holds job number folder → IsTold number (last_gated number (present folder)) c
       → (f : FileNo) (n : ℕ) → JobRests job number c f n → f.step ≢ number → IsFirm (file_in folder f)
   others_firm folder c files holds told f n rests differ =
       let goes : JobGoesOn job number (present folder) =
-      goes_on_read (JobGoesOn job number) (JobRests job number) number job.budget folder told.bytes files (safe_step job number folder of_job.within holds.resumable) told.last_is in
-      let its = at_last job.n job.text job.steps job.budget number (present folder) goes in
+      goes_on_read (JobGoesOn job number) (JobRests job number) number folder told.bytes files (safe_step job number folder of_job.within holds.resumable) told.last_is in
+      let its = at_last job.n job.text job.steps number (present folder) goes in
       let d : Checkpoint = its.0 in
-      let last : IsLastOf number job.budget (present folder) d = its.1 in
-      let same : d ≡ c = told_point number job.budget told.bytes d c (same_Some told.bytes (point_bytes d) (sym told.last_is ∙ last.last)) last.words told.point in
-      elim (at_near job.n job.text job.steps job.budget number (present folder) c goes (subst (IsLastOf number job.budget (present folder)) same last) f n rests) [
+      let last : IsLastOf number (present folder) d = its.1 in
+      let same : d ≡ c = told_point number told.bytes d c (same_Some told.bytes (point_bytes d) (sym told.last_is ∙ last.last)) last.words told.point in
+      elim (at_near job.n job.text job.steps number (present folder) c goes (subst (IsLastOf number (present folder)) same last) f n rests) [
         | inl own ↦ absurd (differ own)
         | inr operand ↦
             let found = node_of (is_live (take number job.steps)) (operands (plans.step_at job.steps number)) f live operand in
@@ -85,10 +85,10 @@ module _ (job : Job) (number : ℕ) (budget : ℕ) (of_job : IsOfJob job budget 
             subst (λ g. IsFirm (file_in folder g)) (sym found.2) (held ∙ ap (λ (x : File). firm_file x.bytes) (sym held))
       ]
 
-  others_sure : (folder : Folder) (last : Option Checkpoint) → AreFiles folder → Holds job number folder → Tells number job.budget (last_gated number (present folder)) last
+  others_sure : (folder : Folder) (last : Option Checkpoint) → AreFiles folder → Holds job number folder → Tells number (last_gated number (present folder)) last
       → OthersSure (JobRests job number) number folder last
   others_sure folder None files holds told = tt
-  others_sure folder (Some c) files holds told = others_firm folder c files holds (is_told number job.budget (last_gated number (present folder)) c told)
+  others_sure folder (Some c) files holds told = others_firm folder c files holds (is_told number (last_gated number (present folder)) c told)
 
   -- while the last checkpoint is found the steps before are held
   pub holds_during : (old m : Moment) → Holds job number old.folder → DuringFind number old m → Holds job number m.folder
@@ -103,66 +103,52 @@ module _ (job : Job) (number : ℕ) (budget : ℕ) (of_job : IsOfJob job budget 
       (λ m quiet. holds_during (now old) m holds quiet.holds) run.moments
 
   -- and then the step stands with what was found
-  stands_with : (old new : World) (last : Option Checkpoint) → AreFiles (now old).folder → AreFiles (now new).folder → Holds job number (now old).folder
-      → Ran (DuringFind number (now old)) old new → Tells number job.budget (last_gated number (present (now old).folder)) last
-      → IsFound number job.budget (now new).folder last → JobStands job number last (now new).folder
-  stands_with old new None files new_files holds run told found =
-      standing_searched (JobGoesOn job number) (JobRests job number) number job.budget old new None (at_last job.n job.text job.steps job.budget number) new_files
+  pub stands_found : (old new : World) (last : Option Checkpoint) → AreFiles (now old).folder → AreFiles (now new).folder → Holds job number (now old).folder
+      → Ran (DuringFind number (now old)) old new → Tells number (last_gated number (present (now old).folder)) last
+      → IsFound number (now new).folder last → JobStands job number last (now new).folder
+  stands_found old new None files new_files holds run told found =
+      standing_searched (JobGoesOn job number) (JobRests job number) number old new None (at_last job.n job.text job.steps number) new_files
       (safe_step job number (now old).folder of_job.within holds.resumable) run found tt
-  stands_with old new (Some c) files new_files holds run told found =
-      standing_searched (JobGoesOn job number) (JobRests job number) number job.budget old new (Some c) (at_last job.n job.text job.steps job.budget number) new_files
+  stands_found old new (Some c) files new_files holds run told found =
+      standing_searched (JobGoesOn job number) (JobRests job number) number old new (Some c) (at_last job.n job.text job.steps number) new_files
       (safe_step job number (now old).folder of_job.within holds.resumable) run found (others_sure (now old).folder (Some c) files holds told)
 
-  pub stands_found : (old new : World) (last : Option Checkpoint) → AreFiles (now old).folder → AreFiles (now new).folder → Holds job number (now old).folder
-      → Ran (DuringFind number (now old)) old new → Tells number budget (last_gated number (present (now old).folder)) last
-      → IsFound number budget (now new).folder last → JobStands job number last (now new).folder
-  stands_found old new last files new_files holds run told found =
-      stands_with old new last files new_files holds run
-      (subst (λ b. Tells number b (last_gated number (present (now old).folder)) last) (sym of_job.budget_is) told)
-      (subst (λ b. IsFound number b (now new).folder last) (sym of_job.budget_is) found)
-
   -- no damage is found
-  sound_with : (folder : Folder) (fault : StreamFault) → AreFiles folder → Holds job number folder
-      → IsFindFault number job.budget (present folder) fault → handed_on fault ≡ sort.Shelf
-  sound_with folder stream.Shelf files holds is = refl
-  sound_with folder (stream.Damaged f at) files holds is =
+  pub find_is_sound : (folder : Folder) (fault : StreamFault) → AreFiles folder → Holds job number folder
+      → IsFindFault number (present folder) fault → handed_on fault ≡ sort.Shelf
+  find_is_sound folder stream.Shelf files holds is = refl
+  find_is_sound folder (stream.Damaged f at) files holds is =
       let goes : JobGoesOn job number (present folder) =
-      goes_on_read (JobGoesOn job number) (JobRests job number) number job.budget folder is.2.0 files (safe_step job number folder of_job.within holds.resumable) is.2.1 in
-      let its : HasPaid number job.budget (present folder) = job_paid job number (present folder) goes in
+      goes_on_read (JobGoesOn job number) (JobRests job number) number folder is.2.0 files (safe_step job number folder of_job.within holds.resumable) is.2.1 in
+      let its : HasPaid number (present folder) = job_paid job number (present folder) goes in
       let whole : is.2.0 ≡ point_bytes its.point = same_Some is.2.0 (point_bytes its.point) (sym is.2.1 ∙ its.last.last) in
-      absurd (is.2.2 its.point (subst (λ bytes. IsPointOf number job.budget bytes its.point) (sym whole) (record {
+      absurd (is.2.2 its.point (subst (λ bytes. IsPointOf number bytes its.point) (sym whole) (record {
         whole = point_whole its.point its.last.words;
         used = used_first its.point its.last.words;
         fits = its.last.words;
         rules = its.last.rules;
       })) its.paid)
 
-  pub find_is_sound : (folder : Folder) (fault : StreamFault) → AreFiles folder → Holds job number folder
-      → IsFindFault number budget (present folder) fault → handed_on fault ≡ sort.Shelf
-  find_is_sound folder fault files holds is =
-      sound_with folder fault files holds (subst (λ b. IsFindFault number b (present folder) fault) (sym of_job.budget_is) is)
-
 -- without a gated checkpoint none is found
-pub find_damage : (number budget : ℕ) (r : FileNo → List ℕ) (fault : StreamFault) → IsFindFault number budget r fault
+pub find_damage : (number : ℕ) (r : FileNo → List ℕ) (fault : StreamFault) → IsFindFault number r fault
     → (handed_on fault ≡ sort.Shelf) ⊎ (r (checkpoint_gate number) ≢ [])
-find_damage number budget r stream.Shelf is = inl refl
-find_damage number budget r (stream.Damaged f at) is = inr (gate_filled number r is.2.0 is.2.1)
+find_damage number r stream.Shelf is = inl refl
+find_damage number r (stream.Damaged f at) is = inr (gate_filled number r is.2.0 is.2.1)
 
 pub never_spent : (fault : StreamFault) → handed_on fault ≢ sort.RunsSpent
 never_spent stream.Shelf is = cc
 never_spent (stream.Damaged f at) is = cc
 
 -- what reads give is what they gave
-pub told_before : (number budget : ℕ) (old m : Moment) (last : Option Checkpoint) → DuringFind number old m
-    → Tells number budget (last_gated number (present m.folder)) last → Tells number budget (last_gated number (present old.folder)) last
-told_before number budget old m last during told = subst (λ r. Tells number budget (last_gated number r) last) (λ i f. during.reads f i) told
+pub told_before : (number : ℕ) (old m : Moment) (last : Option Checkpoint) → DuringFind number old m
+    → Tells number (last_gated number (present m.folder)) last → Tells number (last_gated number (present old.folder)) last
+told_before number old m last during told = subst (λ r. Tells number (last_gated number r) last) (λ i f. during.reads f i) told
 
 -- and a sweep may go on from it
 pub may_go_on : (number budget : ℕ) (going : Going) → 16384 ≤ budget → IsGoingOf number budget going
-    → (going.step ≡ number) × (going.budget ≡ budget) × MayGoOn going
+    → (going.step ≡ number) × MayGoOn going
 may_go_on number budget going enough is = (
   is.step_is,
-  is.budget_is,
   record {
     going_of = record { step_is = refl; budget_is = refl; shown_is = is.shown_is; come_to = is.come_to };
     budget = subst (λ b. 16384 ≤ b) (sym is.budget_is) enough;
@@ -170,9 +156,9 @@ may_go_on number budget going enough is = (
 )
 
 -- a search that is refused, for a fault that is handed on
-pub handed_finds : {S : Type 0} (tells : S → Bool) (world : S → World) (counts : S → Faults) (budget number : ℕ) (before after : S) (e : SortFault)
-    (r : Result Going SortFault) → IsErrAnd r (λ f. f ≡ e) → FindsGoing tells world counts budget number before after (Err e)
-    → FindsGoing tells world counts budget number before after r
-handed_finds tells world counts budget number before after e (Ok x) is finds = absurd is
-handed_finds tells world counts budget number before after e (Err f) is finds =
-    subst (λ x. FindsGoing tells world counts budget number before after (Err x)) (sym is) finds
+pub handed_finds : {S : Type 0} (tells : S → Bool) (world : S → World) (counts : S → Faults) (number : ℕ) (before after : S) (e : SortFault)
+    (r : Result Going SortFault) → IsErrAnd r (λ f. f ≡ e) → FindsGoing tells world counts number before after (Err e)
+    → FindsGoing tells world counts number before after r
+handed_finds tells world counts number before after e (Ok x) is finds = absurd is
+handed_finds tells world counts number before after e (Err f) is finds =
+    subst (λ x. FindsGoing tells world counts number before after (Err x)) (sym is) finds

@@ -57,18 +57,18 @@ one_ends step (Ok e) shown rest now_clock clock not none few =
 one_ends step (Err fault) shown rest now_clock clock not none few = tt
 
 -- nothing of such a step is shown, before it is run and at each moment, and it makes few calls
-module _ {S : Type 0} (tells : S → Bool) (world : S → World) (n : ℕ) (text : List ℕ) (budget number : ℕ) (p : Planned)
+module _ {S : Type 0} (tells : S → Bool) (world : S → World) (n : ℕ) (text : List ℕ) (number : ℕ) (p : Planned)
     (files_are : (s : S) → IsTrue (tells s) → AreFiles (now (world s)).folder) (before after : S) (not : sweeps p.step ≡ false)
     (content : Told tells before after (Ran (OnlyMade p.step number (now (world before))) (world before) (world after)))
     (calls : IsTrue (tells after) → (world after).clock ≤ (world before).clock + 5) where
-  none_shown : IsTrue (tells after) → (job : Job) → IsStepOf job n text budget number p → Holds job number (now (world before)).folder
+  none_shown : IsTrue (tells after) → (job : Job) → IsStepOf job n text number p → Holds job number (now (world before)).folder
       → (m : Moment) → OnlyMade p.step number (now (world before)) m → (image : Image) → IsImage m.folder image → shown_turns number (bytes_in image) ≡ 0
   none_shown told job is holds m only image is_image =
       ap turns_in (none_gated number (bytes_in image)
       (still_empty job number p.step (ap (λ (q : Planned). q.step) is.step_is) not is.within (now (world before)) (files_are before (content.before told))
       holds.resumable m only image is_image))
 
-  none_before : IsTrue (tells after) → (job : Job) → IsStepOf job n text budget number p → Holds job number (now (world before)).folder
+  none_before : IsTrue (tells after) → (job : Job) → IsStepOf job n text number p → Holds job number (now (world before)).folder
       → (shown : ℕ) → ShowAtLeast number shown (now (world before)).folder → shown ≡ 0
   none_before told job is holds shown shows =
       let image : Image = chosen (λ _ x. x.bytes) (now (world before)).folder in
@@ -77,8 +77,8 @@ module _ {S : Type 0} (tells : S → Bool) (world : S → World) (n : ℕ) (text
       let least = shows image is_image in
       omega (arith, none, least)
 
-  pub one_stops : (result : Result Entry SortFault) → IsTrue (tells after) → (job : Job) → IsStepOf job n text budget number p
-      → Holds job number (now (world before)).folder → (shown rest : ℕ) → IsGoneOn p.step number budget (world before) shown rest
+  pub one_stops : (result : Result Entry SortFault) → IsTrue (tells after) → (job : Job) → IsStepOf job n text number p
+      → Holds job number (now (world before)).folder → (shown rest : ℕ) → IsGoneOn p.step number (world before) shown rest
       → StopsCost number shown ((world before).clock + (run_stop + rest)) (world before) (world after)
       × IfOk result (λ e. (shown ≤ e.turns) × ((world after).clock ≤ (world before).clock + (run_calls p.step (e.turns - shown) + rest)))
   one_stops result told job is holds shown rest gone =
@@ -99,11 +99,11 @@ pub record IsSimple (n number : ℕ) (step : Step) (nodes : ℕ) (bytes : List �
   pub kind_is : kind_of step ≡ 1
   pub no_answer : (job : Job) → answer_of job step ≡ 0
   pub only_folder : (world : World) (e : SortFault) → e ≡ sort.Shelf → IsStepFault n step world e
-  pub counts : (job : Job) (text : List ℕ) (budget : ℕ) (p : Planned) → p.step ≡ step → IsStepOf job n text budget number p → count_of job number step ≡ nodes
-  pub bytes_are : (job : Job) (text : List ℕ) (budget : ℕ) (p : Planned) → p.step ≡ step → IsStepOf job n text budget number p → bytes ≡ file_of job number
-  pub form : (job : Job) (text : List ℕ) (budget : ℕ) (p : Planned) → p.step ≡ step → IsStepOf job n text budget number p → HasForm job.n (table_at job number)
+  pub counts : (job : Job) (text : List ℕ) (p : Planned) → p.step ≡ step → IsStepOf job n text number p → count_of job number step ≡ nodes
+  pub bytes_are : (job : Job) (text : List ℕ) (p : Planned) → p.step ≡ step → IsStepOf job n text number p → bytes ≡ file_of job number
+  pub form : (job : Job) (text : List ℕ) (p : Planned) → p.step ≡ step → IsStepOf job n text number p → HasForm job.n (table_at job number)
 
-module _ {S : Type 0} (tells : S → Bool) (world : S → World) (counts : S → Faults) (n : ℕ) (text : List ℕ) (budget number : ℕ) (p : Planned)
+module _ {S : Type 0} (tells : S → Bool) (world : S → World) (counts : S → Faults) (n : ℕ) (text : List ℕ) (number : ℕ) (p : Planned)
     (files_are : (s : S) → IsTrue (tells s) → AreFiles (now (world s)).folder) (f : FileNo) (f_is : f ≡ node_file number)
     (nodes : ℕ) (bytes : List ℕ) (simple : IsSimple n number p.step nodes bytes) (may : MayRun n text number p) (before after : S)
     (content : Told tells before after (Ran (OnlyFile f (now (world before))) (world before) (world after)))
@@ -117,13 +117,13 @@ module _ {S : Type 0} (tells : S → Bool) (world : S → World) (counts : S →
 
   -- such a step that is refused
   pub simple_refused : (e : SortFault) → e ≡ sort.Shelf → OnlySortShelf {T = Entry} (counts before) (counts after) (Err e)
-      → RunsStep tells world counts n text budget number p before after (Err e)
+      → RunsStep tells world counts n text number p before after (Err e)
   simple_refused e folder faults = record {
     content = made_so;
     fits = tt;
     entry = tt;
     made = tt;
-    resumes = one_resumes tells world n text budget number p files_are before after simple.not_swept made_so;
+    resumes = one_resumes tells world n text number p files_are before after simple.not_swept made_so;
     sound = λ told job is holds. subst (IsSoundFault p.step (work_of job p.step)) (sym folder) tt;
     damaged = λ told. inl (simple.only_folder (world before) e folder);
     kind = subst (IsOfKind p.step) (sym folder) tt;
@@ -131,7 +131,7 @@ module _ {S : Type 0} (tells : S → Bool) (world : S → World) (counts : S →
     few_parts = tt;
     one_turn = λ told not. calls told;
     few_calls = λ told job is holds rest pays. one_calls p.step _ rest _ _ simple.not_swept (calls told);
-    stops = λ told job is holds small. one_stops tells world n text budget number p files_are before after simple.not_swept made_so calls (Err e) told job is holds;
+    stops = λ told job is holds small. one_stops tells world n text number p files_are before after simple.not_swept made_so calls (Err e) told job is holds;
     faults = faults;
   }
 
@@ -139,20 +139,20 @@ module _ {S : Type 0} (tells : S → Bool) (world : S → World) (counts : S →
   pub simple_made : (count : ℕ) (e : Entry) → count ≡ nodes → nodes < 2 ^ 64 → e ≡ diagram_entry text p number count one_turn
       → (IsTrue (tells after) → file (world after) f ≡ firm_file bytes)
       → OnlySortShelf (counts before) (counts after) (Ok e)
-      → RunsStep tells world counts n text budget number p before after (Ok e)
+      → RunsStep tells world counts n text number p before after (Ok e)
   simple_made count e count_is small e_is made faults = record {
     content = made_so;
     fits = for_diagram number count one_turn text p e e_is may.few_steps may.named (subst (λ k. k < 2 ^ 64) (sym count_is) small) one_turn_spent simple.kind_is;
     entry = λ told job ready.
         subst (IsEntryOfStep job number) (sym e_is)
         (diagram_entry_is job number count one_turn text p may.few_steps may.named ready.step.text_is ready.step.step_is simple.kind_is simple.makes
-        (simple.no_answer job) (simple.counts job text budget p refl ready.step ∙ sym count_is) (subst (λ k. k < 2 ^ 64) (sym count_is) small) one_turn_spent
+        (simple.no_answer job) (simple.counts job text p refl ready.step ∙ sym count_is) (subst (λ k. k < 2 ^ 64) (sym count_is) small) one_turn_spent
         (one_within job p.step));
     made = λ told job ready _. (
-      ap (file (world after)) (sym f_is) ∙ made told ∙ ap firm_file (simple.bytes_are job text budget p refl ready.step),
-      simple.form job text budget p refl ready.step,
+      ap (file (world after)) (sym f_is) ∙ made told ∙ ap firm_file (simple.bytes_are job text p refl ready.step),
+      simple.form job text p refl ready.step,
     );
-    resumes = one_resumes tells world n text budget number p files_are before after simple.not_swept made_so;
+    resumes = one_resumes tells world n text number p files_are before after simple.not_swept made_so;
     sound = tt;
     damaged = tt;
     kind = tt;
@@ -160,7 +160,7 @@ module _ {S : Type 0} (tells : S → Bool) (world : S → World) (counts : S →
     few_parts = λ told spare spares. first_parts e.parts e.turns spare (ap (λ (x : Entry). x.parts) e_is);
     one_turn = λ told not. calls told;
     few_calls = λ told job is holds rest pays. one_calls p.step _ rest _ _ simple.not_swept (calls told);
-    stops = λ told job is holds small. one_stops tells world n text budget number p files_are before after simple.not_swept made_so calls (Ok e) told job is holds;
+    stops = λ told job is holds small. one_stops tells world n text number p files_are before after simple.not_swept made_so calls (Ok e) told job is holds;
     faults = faults;
   }
 
@@ -173,9 +173,9 @@ constant_simple n number value step few step_is = subst (λ s. IsSimple n number
   kind_is = refl;
   no_answer = λ job. refl;
   only_folder = λ world e is. is;
-  counts = λ job text budget p p_is is. constant_nodes job number value is.within (place_step job number p (Const value) is.step_is p_is);
-  bytes_are = λ job text budget p p_is is. constant_is job number n value is.n_is is.within (place_step job number p (Const value) is.step_is p_is);
-  form = λ job text budget p p_is is. constant_form job number value is.well_formed.few_variables is.within (place_step job number p (Const value) is.step_is p_is);
+  counts = λ job text p p_is is. constant_nodes job number value is.within (place_step job number p (Const value) is.step_is p_is);
+  bytes_are = λ job text p p_is is. constant_is job number n value is.n_is is.within (place_step job number p (Const value) is.step_is p_is);
+  form = λ job text p p_is is. constant_form job number value is.well_formed.few_variables is.within (place_step job number p (Const value) is.step_is p_is);
 })
 
 pub variable_simple : (n number level : ℕ) (step : Step) → n ≤ most_variables → level < n → step ≡ Var level
@@ -186,10 +186,10 @@ variable_simple n number level step few below step_is = subst (λ s. IsSimple n 
   kind_is = refl;
   no_answer = λ job. refl;
   only_folder = λ world e is. is;
-  counts = λ job text budget p p_is is.
+  counts = λ job text p p_is is.
       variable_nodes job number level is.within (place_step job number p (Var level) is.step_is p_is) (subst (λ m. level < m) (sym is.n_is) below);
-  bytes_are = λ job text budget p p_is is. variable_is job number n level is.n_is is.within (place_step job number p (Var level) is.step_is p_is);
-  form = λ job text budget p p_is is.
+  bytes_are = λ job text p p_is is. variable_is job number n level is.n_is is.within (place_step job number p (Var level) is.step_is p_is);
+  form = λ job text p p_is is.
       variable_form job number level is.well_formed.few_variables is.within (place_step job number p (Var level) is.step_is p_is)
       (subst (λ m. level < m) (sym is.n_is) below);
 })
@@ -209,23 +209,23 @@ pub size_fault : (n of : ℕ) (step : Step) → step ≡ Size of → (world : Wo
     → IsKindFault of 1 (present (now world).folder) e → IsStepFault n step world (handed_on e)
 size_fault n of step is world e fault = subst (λ s. IsStepFault n s world (handed_on e)) (sym is) (e, refl, fault)
 
-pub size_sound : (job : Job) (n budget number of : ℕ) (text : List ℕ) (p : Planned) (e : StreamFault) (world : World) → p.step ≡ Size of → IsStepOf job n text budget number p
+pub size_sound : (job : Job) (n number of : ℕ) (text : List ℕ) (p : Planned) (e : StreamFault) (world : World) → p.step ≡ Size of → IsStepOf job n text number p
     → of < number → Holds job number (now world).folder → IsKindFault of 1 (present (now world).folder) e
     → IsSoundFault p.step (work_of job p.step) (handed_on e)
-size_sound job n budget number of text p e world size is below holds fault =
+size_sound job n number of text p e world size is below holds fault =
     subst (λ x. IsSoundFault p.step (work_of job p.step) (handed_on x))
     (sym (size_is_sound job number of p e (now world).folder is.within is.well_formed is.step_is size below holds fault)) tt
 
-pub size_makes : (job : Job) (n budget number of : ℕ) (text : List ℕ) (p : Planned) → p.step ≡ Size of → IsStepOf job n text budget number p
+pub size_makes : (job : Job) (n number of : ℕ) (text : List ℕ) (p : Planned) → p.step ≡ Size of → IsStepOf job n text number p
     → IsTrue (makes_diagram (step_at job number).step) → ⊥
-size_makes job n budget number of text p size is diagram =
+size_makes job n number of text p size is diagram =
     let not : makes_diagram (step_at job number).step ≡ false = ap makes_diagram (place_step job number p (Size of) is.step_is size) in cc
 
 -- a drop
-pub drop_runs : {S : Type 0} (tells : S → Bool) (world : S → World) (counts : S → Faults) (n : ℕ) (text : List ℕ) (budget number gone : ℕ) (p : Planned)
+pub drop_runs : {S : Type 0} (tells : S → Bool) (world : S → World) (counts : S → Faults) (n : ℕ) (text : List ℕ) (number gone : ℕ) (p : Planned)
     (files_are : (s : S) → IsTrue (tells s) → AreFiles (now (world s)).folder) (s : S) (e : Entry) → p.step ≡ Drop gone → gone < number → MayRun n text number p → e ≡ nameless_entry number 2 0 gone one_turn
-    → RunsStep tells world counts n text budget number p s s (Ok e)
-drop_runs tells world counts n text budget number gone p files_are s e drop below may e_is =
+    → RunsStep tells world counts n text number p s s (Ok e)
+drop_runs tells world counts n text number gone p files_are s e drop below may e_is =
     let small : gone < 2 ^ 64 = let few = may.few_steps in omega (arith, few, below) in
     let content = changes_none tells world p.step number s s (told_here tells s _ (λ _. ran_stands (world s) (Stays (now (world s))) refl)) in
     record {
@@ -236,7 +236,7 @@ drop_runs tells world counts n text budget number gone p files_are s e drop belo
           (ap makes_diagram drop) (ap (answer_of job) drop) (ap (count_of job number) drop) small one_turn_spent (one_within job p.step));
       made = λ told job ready diagram. absurd (
           let not : makes_diagram (step_at job number).step ≡ false = ap makes_diagram (place_step job number p (Drop gone) ready.step.step_is drop) in cc);
-      resumes = one_resumes tells world n text budget number p files_are s s (ap sweeps drop) content;
+      resumes = one_resumes tells world n text number p files_are s s (ap sweeps drop) content;
       sound = tt;
       damaged = tt;
       kind = tt;
@@ -245,6 +245,6 @@ drop_runs tells world counts n text budget number gone p files_are s e drop belo
       one_turn = λ told not. omega arith;
       few_calls = λ told job is holds rest pays. one_calls p.step _ rest _ _ (ap sweeps drop) (omega arith);
       stops = λ told job is holds small.
-          one_stops tells world n text budget number p files_are s s (ap sweeps drop) content (λ _. omega arith) (Ok e) told job is holds;
+          one_stops tells world n text number p files_are s s (ap sweeps drop) content (λ _. omega arith) (Ok e) told job is holds;
       faults = record { later = omega arith; cause = λ is. cc; say_is = refl; text_is = λ path. refl };
     }

@@ -47,9 +47,9 @@ pub record IsHeld (job : Job) (number : ℕ) (step : Step) (world : World) : Typ
   pub live : IsTrue (list_all (is_live (take number job.steps)) (operands step))
   pub holds : Holds job number (now world).folder
 
-pub held_step : (job : Job) (n budget number : ℕ) (text : List ℕ) (p : Planned) (step : Step) (world : World) → IsStepOf job n text budget number p → p.step ≡ step
+pub held_step : (job : Job) (n number : ℕ) (text : List ℕ) (p : Planned) (step : Step) (world : World) → IsStepOf job n text number p → p.step ≡ step
     → Holds job number (now world).folder → IsHeld job number step world
-held_step job n budget number text p step world is step_is holds =
+held_step job n number text p step world is step_is holds =
     let found : (step_at job number).step ≡ step = ap (λ (q : Planned). q.step) is.step_is ∙ step_is in
     record {
       within = is.within;
@@ -99,7 +99,7 @@ pub record IsGivenTo (job : Job) (number : ℕ) (step : Step) (sweeping : Sweepi
   pub tables : Tables
   pub are : AreGiven sweeping.operation n sweeping.operands world tables
   pub firm : AreFirm sweeping.operands world
-  pub goes_is : JobGoesOn job number ≡ DiagramGoesOn sweeping.operation n sweeping.operands number job.budget tables
+  pub goes_is : JobGoesOn job number ≡ DiagramGoesOn sweeping.operation n sweeping.operands number tables
   pub rests_is : JobRests job number ≡ diagram_rests
   pub bytes_are : canon_bytes n (made_by sweeping.operation n tables) ≡ file_of job number
   pub nodes_are : length (canon_nodes n (made_by sweeping.operation n tables)) ≡ nodes_at job number
@@ -109,7 +109,7 @@ pub record IsGivenTo (job : Job) (number : ℕ) (step : Step) (sweeping : Sweepi
 -- so it is given these tables of as many variables as the job has
 given_tables : (job : Job) (number : ℕ) (step : Step) (sweeping : Sweeping) (world : World) (g : Tables)
     → AreGiven sweeping.operation job.n sweeping.operands world g → AreFirm sweeping.operands world
-    → JobGoesOn job number ≡ DiagramGoesOn sweeping.operation job.n sweeping.operands number job.budget g → JobRests job number ≡ diagram_rests
+    → JobGoesOn job number ≡ DiagramGoesOn sweeping.operation job.n sweeping.operands number g → JobRests job number ≡ diagram_rests
     → made_by sweeping.operation job.n g ≡ table_at job number
     → work_by sweeping.operation job.n g ≡ work_of job step → IsGivenTo job number step sweeping world job.n
 given_tables job number step sweeping world g are firm goes_is rests_is table_is work_is = record {
@@ -151,7 +151,7 @@ module _ (job : Job) (number : ℕ) (world : World) where
         second = firm job number right world is.holds right_live;
         third = firm job number right world is.holds right_live;
       })
-      (ap (λ s r. StepGoesOn job.n job.text job.steps job.budget number s r) is.step_is) (ap (λ s c f many. RestsOn s c f many) is.step_is)
+      (ap (λ s r. StepGoesOn job.n job.text job.steps number s r) is.step_is) (ap (λ s c f many. RestsOn s c f many) is.step_is)
       (sym (from.table_is ∙ ap (step_table job.n from.seen) is.step_is
       ∙ ap₂ (λ a b. table_with job.n (λ p. op_value op (value_at a p) (value_at b p)))
       (from.are left (live_below job.steps number left left_live)) (from.are right (live_below job.steps number right right_live))))
@@ -177,7 +177,7 @@ module _ (job : Job) (number : ℕ) (world : World) where
         second = firm job number if_one world is.holds if_one_live;
         third = firm job number if_zero world is.holds if_zero_live;
       })
-      (ap (λ s r. StepGoesOn job.n job.text job.steps job.budget number s r) is.step_is) (ap (λ s c f many. RestsOn s c f many) is.step_is)
+      (ap (λ s r. StepGoesOn job.n job.text job.steps number s r) is.step_is) (ap (λ s c f many. RestsOn s c f many) is.step_is)
       (sym (from.table_is ∙ ap (step_table job.n from.seen) is.step_is
       ∙ (λ j. table_with job.n (λ p. cond (value_at (from.are test (live_below job.steps number test test_live) j) p)
       (value_at (from.are if_one (live_below job.steps number if_one if_one_live) j) p) (value_at (from.are if_zero (live_below job.steps number if_zero if_zero_live) j) p)))))
@@ -192,7 +192,7 @@ module _ (job : Job) (number : ℕ) (world : World) where
       let sure = firm job number of world is.holds live in
       given_tables job number _ _ world (three job of of of) (record { first = file; second = file; third = file; repeated = (refl, refl) })
       (record { first = sure; second = sure; third = sure })
-      (ap (λ s r. StepGoesOn job.n job.text job.steps job.budget number s r) is.step_is) (ap (λ s c f many. RestsOn s c f many) is.step_is)
+      (ap (λ s r. StepGoesOn job.n job.text job.steps number s r) is.step_is) (ap (λ s c f many. RestsOn s c f many) is.step_is)
       (sym (from.table_is ∙ ap (step_table job.n from.seen) is.step_is
       ∙ ap (λ a. table_with job.n (λ p. quant_value kind (value_at a (with_digit job.n level false p)) (value_at a (with_digit job.n level true p))))
       (from.are of (live_below job.steps number of live))))
@@ -207,7 +207,7 @@ module _ (job : Job) (number : ℕ) (world : World) where
       let sure = firm job number of world is.holds live in
       given_tables job number _ _ world (three job of of of) (record { first = file; second = file; third = file; repeated = (refl, refl) })
       (record { first = sure; second = sure; third = sure })
-      (ap (λ s r. StepGoesOn job.n job.text job.steps job.budget number s r) is.step_is) (ap (λ s c f many. RestsOn s c f many) is.step_is)
+      (ap (λ s r. StepGoesOn job.n job.text job.steps number s r) is.step_is) (ap (λ s c f many. RestsOn s c f many) is.step_is)
       (sym (from.table_is ∙ ap (step_table job.n from.seen) is.step_is
       ∙ ap (λ a. table_with job.n (λ p. value_at a (with_digit job.n level value p)))
       (from.are of (live_below job.steps number of live))))
@@ -233,19 +233,19 @@ sweeping_given job number world (Eval of at) sweeping none is = cc
 sweeping_given job number world (Size of) sweeping none is = cc
 
 -- and of n variables
-pub step_given : (job : Job) (n budget number : ℕ) (text : List ℕ) (p : Planned) (sweeping : Sweeping) (world : World) → sweeping_of p.step ≡ Some sweeping
-    → IsStepOf job n text budget number p → Holds job number (now world).folder → IsGivenTo job number p.step sweeping world n
-step_given job n budget number text p sweeping world some is holds =
+pub step_given : (job : Job) (n number : ℕ) (text : List ℕ) (p : Planned) (sweeping : Sweeping) (world : World) → sweeping_of p.step ≡ Some sweeping
+    → IsStepOf job n text number p → Holds job number (now world).folder → IsGivenTo job number p.step sweeping world n
+step_given job n number text p sweeping world some is holds =
     subst (IsGivenTo job number p.step sweeping world) is.n_is
-    (sweeping_given job number world p.step sweeping some (held_step job n budget number text p p.step world is refl holds))
+    (sweeping_given job number world p.step sweeping some (held_step job n number text p p.step world is refl holds))
 
 -- the files of two operands, and of one, are the canonical ones of their tables, and firm
-pub two_given : (job : Job) (n budget number : ℕ) (text : List ℕ) (p : Planned) (world : World) (step : Step) (left right : ℕ)
+pub two_given : (job : Job) (n number : ℕ) (text : List ℕ) (p : Planned) (world : World) (step : Step) (left right : ℕ)
     (f g : FileNo) → f ≡ node_file left → g ≡ node_file right → p.step ≡ step
-    → operands step ≡ left ∷ right ∷ [] → IsStepOf job n text budget number p → Holds job number (now world).folder
+    → operands step ≡ left ∷ right ∷ [] → IsStepOf job n text number p → Holds job number (now world).folder
     → AreTwo n f g world (record { left = table_at job left; right = table_at job right })
-two_given job n budget number text p world step left right f g f_is g_is step_is names is holds =
-    let held = held_step job n budget number text p step world is step_is holds in
+two_given job n number text p world step left right f g f_is g_is step_is names is holds =
+    let held = held_step job n number text p step world is step_is holds in
     let live = subst (λ ks. IsTrue (list_all (is_live (take number job.steps)) ks)) names held.live in
     let second_live = first_live (take number job.steps) right [] (more_live (take number job.steps) left (right ∷ []) live) in
     record {
@@ -253,18 +253,18 @@ two_given job n budget number text p world step left right f g f_is g_is step_is
       right_is = firm_at job n number right g world g_is is.n_is holds second_live;
     }
 
-pub one_given : (job : Job) (n budget number : ℕ) (text : List ℕ) (p : Planned) (world : World) (step : Step) (of : ℕ)
+pub one_given : (job : Job) (n number : ℕ) (text : List ℕ) (p : Planned) (world : World) (step : Step) (of : ℕ)
     (f : FileNo) → f ≡ node_file of → p.step ≡ step
-    → operands step ≡ of ∷ [] → IsStepOf job n text budget number p → Holds job number (now world).folder
+    → operands step ≡ of ∷ [] → IsStepOf job n text number p → Holds job number (now world).folder
     → IsFirmFile n (table_at job of) f world
-one_given job n budget number text p world step of f f_is step_is names is holds =
-    let held = held_step job n budget number text p step world is step_is holds in
+one_given job n number text p world step of f f_is step_is names is holds =
+    let held = held_step job n number text p step world is step_is holds in
     let live = subst (λ ks. IsTrue (list_all (is_live (take number job.steps)) ks)) names held.live in
     firm_at job n number of f world f_is is.n_is holds (first_live (take number job.steps) of [] live)
 
 -- the work of a step, by one that leads alike
-pub work_given : (job : Job) (n budget number : ℕ) (text : List ℕ) (p : Planned) (s t : Step) → p.step ≡ t → joins s ≡ joins t → LeadAlike s t
-    → IsStepOf job n text budget number p → work_for n s (map (table_at job) (operands t)) ≡ work_of job p.step
-work_given job n budget number text p s t step_is both alike is =
+pub work_given : (job : Job) (n number : ℕ) (text : List ℕ) (p : Planned) (s t : Step) → p.step ≡ t → joins s ≡ joins t → LeadAlike s t
+    → IsStepOf job n text number p → work_for n s (map (table_at job) (operands t)) ≡ work_of job p.step
+work_given job n number text p s t step_is both alike is =
     ap (λ m. work_for m s (map (table_at job) (operands t))) (sym is.n_is)
     ∙ same_work s t both alike job.n (map (table_at job) (operands t)) ∙ ap (work_of job) (sym step_is)

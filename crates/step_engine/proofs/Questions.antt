@@ -61,7 +61,7 @@ pub record AsksFor {Given : Type 0} (q : Question Given) (n number : ℕ) (step 
 pub record AsksOf {Given : Type 0} (q : Question Given) (job : Job) (number : ℕ) (step : Step) (world : World) : Type 1 where
   pub tables : Given
   pub given : q.are_given world tables
-  pub goes_is : JobGoesOn job number ≡ q.goes_on number job.budget tables
+  pub goes_is : JobGoesOn job number ≡ q.goes_on number tables
   pub rests_is : JobRests job number ≡ q.rests
   pub work_is : q.work tables ≡ work_of job step
   pub answer_is : answer_of job step ≡ bit_of (q.answer tables)
@@ -70,37 +70,36 @@ pub record AsksOf {Given : Type 0} (q : Question Given) (job : Job) (number : �
 abbrev pub spent_on : Answered → Spent
 spent_on a = record { turns = a.turns; parts = a.next }
 
-module _ {S Given : Type 0} (tells : S → Bool) (world : S → World) (counts : S → Faults) (n : ℕ) (text : List ℕ) (budget number : ℕ) (p : Planned)
+module _ {S Given : Type 0} (tells : S → Bool) (world : S → World) (counts : S → Faults) (n : ℕ) (text : List ℕ) (number : ℕ) (p : Planned)
     (q : Question Given) (asks : AsksFor q n number p.step) (may : MayRun n text number p)
     (files_are : (s : S) → IsTrue (tells s) → AreFiles (now (world s)).folder) (before mid after : S) (going : Going)
-    (found : FindsGoing tells world counts budget number before mid (Ok going))
-    (asked : (job : Job) → IsStepOf job n text budget number p → Holds job number (now (world mid)).folder → AsksOf q job number p.step (world mid)) where
+    (found : FindsGoing tells world counts number before mid (Ok going))
+    (asked : (job : Job) → IsStepOf job n text number p → Holds job number (now (world mid)).folder → AsksOf q job number p.step (world mid)) where
   step_is : going.step ≡ number
   step_is = found.going.0
 
   -- the question of the job's tables, where the step is set
   record IsAskedAs (job : Job) : Type 1 where
     of : AsksOf q job number p.step (world mid)
-    goes_is : JobGoesOn job number ≡ q.goes_on going.step going.budget of.tables
+    goes_is : JobGoesOn job number ≡ q.goes_on going.step of.tables
     asked_of : IsAsked q going (world mid) of.tables
 
-  asked_as : (job : Job) → IsSet job n text budget number p going.last (now (world mid)).folder → IsAskedAs job
+  asked_as : (job : Job) → IsSet job n text number p going.last (now (world mid)).folder → IsAskedAs job
   asked_as job set =
       let of : AsksOf q job number p.step (world mid) = asked job set.is set.holds in
-      let budget_is : job.budget ≡ going.budget = set.is.budget_is ∙ sym found.going.1 in
-      let goes_is : JobGoesOn job number ≡ q.goes_on going.step going.budget of.tables =
-      of.goes_is ∙ (λ i. q.goes_on (sym step_is i) (budget_is i) of.tables) in
+      let goes_is : JobGoesOn job number ≡ q.goes_on going.step of.tables =
+      of.goes_is ∙ (λ i. q.goes_on (sym step_is i) of.tables) in
       record {
         of = of;
         goes_is = goes_is;
         asked_of = record {
           given = of.given;
-          standing = stands_as job number going.step going.budget _ q.rests goes_is of.rests_is (sym step_is) budget_is going.last (now (world mid)).folder set.stands;
+          standing = stands_as job number going.step _ q.rests goes_is of.rests_is (sym step_is) going.last (now (world mid)).folder set.stands;
         };
       }
 
   module _ (result : Result Answered SortFault) (said : Answers tells world counts q going mid after result) where
-    swept_by : Swept tells world counts n text budget number p going.last q.some q.nodes mid after
+    swept_by : Swept tells world counts n text number p going.last q.some q.nodes mid after
     swept_by = record {
       content = told_changed_more tells world (IsBehindNodes going.step) (λ f. f.step ≡ number) mid after (λ f own. own.step_is ∙ step_is) said.content;
       safe = λ told job set.
@@ -117,30 +116,30 @@ module _ {S Given : Type 0} (tells : S → Bool) (world : S → World) (counts :
           step_is (said.stops told its.of.tables its.asked_of (subst (λ w. w < 2 ^ 61) (sym its.of.work_is) small));
     }
 
-    went : Went tells world counts n text budget number p before after
-    went = went_then tells world counts n text budget number p files_are asks.sweeps_is before mid after going found q.some q.nodes asks.few asks.nodes swept_by
+    went : Went tells world counts n text number p before after
+    went = went_then tells world counts n text number p files_are asks.sweeps_is before mid after going found q.some q.nodes asks.few asks.nodes swept_by
 
-    set_in : IsTrue (tells after) → (job : Job) → IsStepOf job n text budget number p → Holds job number (now (world before)).folder
-        → IsSet job n text budget number p going.last (now (world mid)).folder
+    set_in : IsTrue (tells after) → (job : Job) → IsStepOf job n text number p → Holds job number (now (world before)).folder
+        → IsSet job n text number p going.last (now (world mid)).folder
     set_in told job is holds =
-        set_found tells world counts n text budget number p files_are asks.sweeps_is before mid after going found q.some q.nodes asks.few asks.nodes
+        set_found tells world counts n text number p files_are asks.sweeps_is before mid after going found q.some q.nodes asks.few asks.nodes
         (said.content.before told) job is holds
 
   -- a question that is refused
   pub question_refused : (e : SortFault) → Answers tells world counts q going mid after (Err e) → IsOfKind p.step e
-      → RunsStep tells world counts n text budget number p before after (Err e)
+      → RunsStep tells world counts n text number p before after (Err e)
   question_refused e said kind =
-      refused_runs tells world counts n text budget number p asks.sweeps_is before after (went (Err e) said) e
+      refused_runs tells world counts n text number p asks.sweeps_is before after (went (Err e) said) e
       (λ told job is holds.
       let its = asked_as job (set_in (Err e) said told job is holds) in
       sound_fault p.step (work_of job p.step) _ e kind its.of.work_is (said.undamaged told its.of.tables its.asked_of)
       (λ is_spent. said.spent (ap (λ f. Err f) is_spent) told its.of.tables its.asked_of))
       (λ told.
       let told_mid = said.content.before told in
-      refused_then n number p.step asks.sweeps_is (world before) budget going.last e (found.last told_mid)
+      refused_then n number p.step asks.sweeps_is (world before) going.last e (found.last told_mid)
       (λ none empty.
       let same : (f : FileNo) → (file (world mid) f).bytes ≡ (file (world before) f).bytes = λ f. ap (λ r. r f)
-      (same_reads tells world counts n text budget number p files_are asks.sweeps_is before mid after going found q.some q.nodes asks.few asks.nodes told_mid) in
+      (same_reads tells world counts n text number p files_are asks.sweeps_is before mid after going found q.some q.nodes asks.few asks.nodes told_mid) in
       fault_before n (world before) (world mid) same p.step e asks.sweeps_is (asks.fault (world mid) e
       (said.damaged told none (gate_as step_is (world mid) (same (checkpoint_gate number) ∙ empty))))))
       kind
@@ -149,9 +148,9 @@ module _ {S Given : Type 0} (tells : S → Bool) (world : S → World) (counts :
 
   -- a question that is answered
   pub question_answered : (a : Answered) (e : Entry) → e ≡ answer_entry number a.answer (spent_on a) → a.turns < 2 ^ 64
-      → Answers tells world counts q going mid after (Ok a) → RunsStep tells world counts n text budget number p before after (Ok e)
+      → Answers tells world counts q going mid after (Ok a) → RunsStep tells world counts n text number p before after (Ok e)
   question_answered a e e_is few said =
-      ended_runs tells world counts n text budget number p asks.sweeps_is before after (went (Ok a) said) e a.turns (ap (λ (x : Entry). x.turns) e_is)
+      ended_runs tells world counts n text number p asks.sweeps_is before after (went (Ok a) said) e a.turns (ap (λ (x : Entry). x.turns) e_is)
       (for_nameless number 3 (bit_of a.answer) 0 (spent_on a) p e e_is may.few_steps (omega arith, omega arith) (bit_says a.answer) (omega arith)
       took asks.kind_is)
       (λ told job ready.
@@ -165,16 +164,16 @@ module _ {S Given : Type 0} (tells : S → Bool) (world : S → World) (counts :
       absurd (let not : makes_diagram (step_at job number).step ≡ false =
       ap (λ (x : Planned). makes_diagram x.step) ready.step.step_is ∙ asks.no_diagram in cc))
       (λ told rest pays exact.
-      pays_for tells world counts n text budget number p files_are asks.sweeps_is before mid after going found q.some q.nodes asks.few asks.nodes
+      pays_for tells world counts n text number p files_are asks.sweeps_is before mid after going found q.some q.nodes asks.few asks.nodes
       (said.content.before told) a.turns rest pays (let called = said.calls told exact in omega (arith, called)))
       (λ told spare spares. subst (λ k. k ≤ 5 + a.turns / 16 + spare) (sym (ap (λ (x : Entry). x.parts) e_is))
-      (parts_for number budget (reads_of (world before)) going.last a.turns a.next spare
+      (parts_for number (reads_of (world before)) going.last a.turns a.next spare
       (found.last (said.content.before told)) spares said.few_anew took.few))
       (λ told job is holds small shown rest gone.
       let its = asked_as job (set_in (Ok a) said told job is holds) in
       let answer = said.answer told its.of.tables its.asked_of in
       let few_turns : a.turns ≤ work_of job p.step = subst (λ w. a.turns ≤ w) its.of.work_is answer.few in
-      ends_for tells world counts n text budget number p files_are asks.sweeps_is before mid after going found q.some q.nodes asks.few asks.nodes
+      ends_for tells world counts n text number p files_are asks.sweeps_is before mid after going found q.some q.nodes asks.few asks.nodes
       (said.content.before told) job is holds a.turns shown rest gone said.grew
       (said.calls told (omega (arith, few_turns, small))))
       (sort_shelf_then (counts before) (counts mid) (counts after) (Ok going) (Ok e) found.faults
@@ -233,9 +232,9 @@ bits_within n of at text step is bits =
     (subst (λ s. IsTrue (has_bits n text s)) is bits)).0
 
 -- the value by the job's text is the value by the text
-pub value_given : (job : Job) (n budget number of at : ℕ) (text : List ℕ) (p : Planned) → IsStepOf job n text budget number p
+pub value_given : (job : Job) (n number of at : ℕ) (text : List ℕ) (p : Planned) → IsStepOf job n text number p
     → eval_at job.n job.text (table_at job of) at ≡ eval_at n text (table_at job of) at
-value_given job n budget number of at text p is = λ j. eval_at (is.n_is j) (is.text_is j) (table_at job of) at
+value_given job n number of at text p is = λ j. eval_at (is.n_is j) (is.text_is j) (table_at job of) at
 
 -- the files of two steps before one that is gone on with
 pub earlier_two : (number left right : ℕ) (f g : FileNo) (going : Going) (step : Step) → f ≡ node_file left → g ≡ node_file right
@@ -267,17 +266,17 @@ module _ (n number left right : ℕ) (f g : FileNo) (f_is : f ≡ node_file left
     fault = same_fault n left right f g f_is g_is (Same left right) refl;
   })
 
-  pub same_asked : (text : List ℕ) (budget : ℕ) (p : Planned) (world : World) → p.step ≡ Same left right → (job : Job) → IsStepOf job n text budget number p
+  pub same_asked : (text : List ℕ) (p : Planned) (world : World) → p.step ≡ Same left right → (job : Job) → IsStepOf job n text number p
       → Holds job number (now world).folder → AsksOf (comparing n f g) job number p.step world
-  same_asked text budget p world step_is job is holds =
+  same_asked text p world step_is job is holds =
       let found : (step_at job number).step ≡ Same left right = ap (λ (x : Planned). x.step) is.step_is ∙ step_is in
       record {
         tables = record { left = table_at job left; right = table_at job right };
-        given = two_given job n budget number text p world (Same left right) left right f g f_is g_is step_is refl is holds;
-        goes_is = ap (λ s r. StepGoesOn job.n job.text job.steps job.budget number s r) found
-            ∙ (λ i. ComparisonGoesOn (is.n_is i) (sym f_is i) (sym g_is i) number job.budget (table_at job left) (table_at job right));
+        given = two_given job n number text p world (Same left right) left right f g f_is g_is step_is refl is holds;
+        goes_is = ap (λ s r. StepGoesOn job.n job.text job.steps number s r) found
+            ∙ (λ i. ComparisonGoesOn (is.n_is i) (sym f_is i) (sym g_is i) number (table_at job left) (table_at job right));
         rests_is = ap (λ s c h many. RestsOn s c h many) found;
-        work_is = work_given job n budget number text p (Same 0 1) (Same left right) step_is refl (λ i h x. refl) is;
+        work_is = work_given job n number text p (Same 0 1) (Same left right) step_is refl (λ i h x. refl) is;
         answer_is = ap (answer_of job) step_is;
       }
 
@@ -294,17 +293,17 @@ module _ (n number left right : ℕ) (f g : FileNo) (f_is : f ≡ node_file left
     fault = leq_fault n left right f g f_is g_is (Leq left right) refl;
   })
 
-  pub leq_asked : (text : List ℕ) (budget : ℕ) (p : Planned) (world : World) → p.step ≡ Leq left right → (job : Job) → IsStepOf job n text budget number p
+  pub leq_asked : (text : List ℕ) (p : Planned) (world : World) → p.step ≡ Leq left right → (job : Job) → IsStepOf job n text number p
       → Holds job number (now world).folder → AsksOf (implying n f g) job number p.step world
-  leq_asked text budget p world step_is job is holds =
+  leq_asked text p world step_is job is holds =
       let found : (step_at job number).step ≡ Leq left right = ap (λ (x : Planned). x.step) is.step_is ∙ step_is in
       record {
         tables = record { left = table_at job left; right = table_at job right };
-        given = two_given job n budget number text p world (Leq left right) left right f g f_is g_is step_is refl is holds;
-        goes_is = ap (λ s r. StepGoesOn job.n job.text job.steps job.budget number s r) found
-            ∙ (λ i. ImplicationGoesOn (is.n_is i) (sym f_is i) (sym g_is i) number job.budget (table_at job left) (table_at job right));
+        given = two_given job n number text p world (Leq left right) left right f g f_is g_is step_is refl is holds;
+        goes_is = ap (λ s r. StepGoesOn job.n job.text job.steps number s r) found
+            ∙ (λ i. ImplicationGoesOn (is.n_is i) (sym f_is i) (sym g_is i) number (table_at job left) (table_at job right));
         rests_is = ap (λ s c h many. RestsOn s c h many) found;
-        work_is = work_given job n budget number text p (Leq 0 1) (Leq left right) step_is refl (λ i h x. refl) is;
+        work_is = work_given job n number text p (Leq 0 1) (Leq left right) step_is refl (λ i h x. refl) is;
         answer_is = ap (answer_of job) step_is;
       }
 
@@ -322,16 +321,16 @@ module _ (n number of at : ℕ) (text : List ℕ) (f : FileNo) (f_is : f ≡ nod
     fault = eval_fault n of at f f_is (Eval of at) refl;
   })
 
-  pub eval_asked : (budget : ℕ) (p : Planned) (world : World) → p.step ≡ Eval of at → (job : Job) → IsStepOf job n text budget number p
+  pub eval_asked : (p : Planned) (world : World) → p.step ≡ Eval of at → (job : Job) → IsStepOf job n text number p
       → Holds job number (now world).folder → AsksOf (evaluating n f text at) job number p.step world
-  eval_asked budget p world step_is job is holds =
+  eval_asked p world step_is job is holds =
       let found : (step_at job number).step ≡ Eval of at = ap (λ (x : Planned). x.step) is.step_is ∙ step_is in
       record {
         tables = table_at job of;
-        given = one_given job n budget number text p world (Eval of at) of f f_is step_is refl is holds;
-        goes_is = ap (λ s r. StepGoesOn job.n job.text job.steps job.budget number s r) found
-            ∙ (λ i. EvaluationGoesOn (is.n_is i) (sym f_is i) (is.text_is i) at number job.budget (table_at job of));
+        given = one_given job n number text p world (Eval of at) of f f_is step_is refl is holds;
+        goes_is = ap (λ s r. StepGoesOn job.n job.text job.steps number s r) found
+            ∙ (λ i. EvaluationGoesOn (is.n_is i) (sym f_is i) (is.text_is i) at number (table_at job of));
         rests_is = ap (λ s c h many. RestsOn s c h many) found;
-        work_is = work_given job n budget number text p (Eval 0 at) (Eval of at) step_is refl (λ i h x. refl) is;
-        answer_is = ap (answer_of job) step_is ∙ ap bit_of (value_given job n budget number of at text p is);
+        work_is = work_given job n number text p (Eval 0 at) (Eval of at) step_is refl (λ i h x. refl) is;
+        answer_is = ap (answer_of job) step_is ∙ ap bit_of (value_given job n number of at text p is);
       }

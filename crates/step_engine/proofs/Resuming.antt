@@ -57,19 +57,19 @@ module _ (job : Job) (number : ℕ) where
   }
 
 -- a step that takes one turn has no gated checkpoint to go on from
-none_goes_on : (n : ℕ) (text : List ℕ) (steps : List Planned) (budget j : ℕ) (step : Step) (r : FileNo → List ℕ) → sweeps step ≡ false
-    → StepGoesOn n text steps budget j step r → ⊥
-none_goes_on n text steps budget j (Const value) r not goes = goes
-none_goes_on n text steps budget j (Var level) r not goes = goes
-none_goes_on n text steps budget j (Pair op left right) r not goes = cc
-none_goes_on n text steps budget j (Ite test if_one if_zero) r not goes = cc
-none_goes_on n text steps budget j (Quantify kind operand level) r not goes = cc
-none_goes_on n text steps budget j (Restrict operand level value) r not goes = cc
-none_goes_on n text steps budget j (Drop gone) r not goes = goes
-none_goes_on n text steps budget j (Same left right) r not goes = cc
-none_goes_on n text steps budget j (Leq left right) r not goes = cc
-none_goes_on n text steps budget j (Eval operand at) r not goes = cc
-none_goes_on n text steps budget j (Size operand) r not goes = goes
+none_goes_on : (n : ℕ) (text : List ℕ) (steps : List Planned) (j : ℕ) (step : Step) (r : FileNo → List ℕ) → sweeps step ≡ false
+    → StepGoesOn n text steps j step r → ⊥
+none_goes_on n text steps j (Const value) r not goes = goes
+none_goes_on n text steps j (Var level) r not goes = goes
+none_goes_on n text steps j (Pair op left right) r not goes = cc
+none_goes_on n text steps j (Ite test if_one if_zero) r not goes = cc
+none_goes_on n text steps j (Quantify kind operand level) r not goes = cc
+none_goes_on n text steps j (Restrict operand level value) r not goes = cc
+none_goes_on n text steps j (Drop gone) r not goes = goes
+none_goes_on n text steps j (Same left right) r not goes = cc
+none_goes_on n text steps j (Leq left right) r not goes = cc
+none_goes_on n text steps j (Eval operand at) r not goes = cc
+none_goes_on n text steps j (Size operand) r not goes = goes
 
 -- so a run can go on at each moment while such a step is made
 module _ (job : Job) (number : ℕ) (step : Step) (step_is : plans.step_at job.steps number ≡ step) (not : sweeps step ≡ false) (within : number < length job.steps)
@@ -92,7 +92,7 @@ module _ (job : Job) (number : ℕ) (step : Step) (step_is : plans.step_at job.s
       stays_so (checkpoint_gate number) (λ left. left ≡ []) old.folder m.folder image files (gate_same m only)
       (λ first is_first. elim ((resumable first is_first).this_step within) [
         | inl empty ↦ empty
-        | inr goes ↦ absurd (none_goes_on job.n job.text job.steps job.budget number (plans.step_at job.steps number) (bytes_in first) (ap sweeps step_is ∙ not) goes)
+        | inr goes ↦ absurd (none_goes_on job.n job.text job.steps number (plans.step_at job.steps number) (bytes_in first) (ap sweeps step_is ∙ not) goes)
       ]) is_image
 
   still_safe : (m : Moment) → OnlyMade step number old m → AreSafe (JobGoesOn job number) number m.folder
@@ -101,12 +101,12 @@ module _ (job : Job) (number : ℕ) (step : Step) (step_is : plans.step_at job.s
   made_resumes : (m : Moment) → OnlyMade step number old m → AreResumable job number m.folder
   made_resumes m only = safe_resumes job number old.folder m.folder files resumable (own_only m only) (still_safe m only)
 
-pub one_resumes : {S : Type 0} (tells : S → Bool) (world : S → World) (n : ℕ) (text : List ℕ) (budget number : ℕ) (p : Planned)
+pub one_resumes : {S : Type 0} (tells : S → Bool) (world : S → World) (n : ℕ) (text : List ℕ) (number : ℕ) (p : Planned)
     (files_are : (s : S) → IsTrue (tells s) → AreFiles (now (world s)).folder) (before after : S) → sweeps p.step ≡ false
     → Told tells before after (Ran (OnlyMade p.step number (now (world before))) (world before) (world after)) → IsTrue (tells after) → (job : Job)
-    → IsStepOf job n text budget number p → Holds job number (now (world before)).folder
+    → IsStepOf job n text number p → Holds job number (now (world before)).folder
     → Throughout (world before) (world after) (λ (m : Moment). AreResumable job number m.folder)
-one_resumes tells world n text budget number p files_are before after not content told job is holds =
+one_resumes tells world n text number p files_are before after not content told job is holds =
     weakens (world before) (world after) (Quiet (now (world before)).said (OnlyMade p.step number (now (world before)))) (λ m. AreResumable job number m.folder)
     (λ m quiet. made_resumes job number p.step (ap (λ (q : Planned). q.step) is.step_is) not is.within (now (world before))
     (files_are before (content.before told)) holds.resumable m quiet.holds) (content.did told).moments

@@ -104,12 +104,12 @@ module _ (n number : ℕ) (step : Step) (swept : sweeps step ≡ true) (world : 
   refused_first e (inr gated) = inr (swept, gated)
 
   -- or while it sweeps: as a step that begins anew, or it has gone on from a checkpoint
-  pub refused_then : (budget : ℕ) (last : Option Checkpoint) (e : SortFault) → Tells number budget (last_gated number (present (now world).folder)) last
+  pub refused_then : (last : Option Checkpoint) (e : SortFault) → Tells number (last_gated number (present (now world).folder)) last
       → (last ≡ None → (file world (checkpoint_gate number)).bytes ≡ [] → IsStepFault n step world e)
       → IsRunFault n number step world e
-  refused_then budget None e told anew = inl (anew refl (gate_empty number budget (present (now world).folder) told))
-  refused_then budget (Some c) e told anew =
-      let its = is_told number budget (last_gated number (present (now world).folder)) c told in
+  refused_then None e told anew = inl (anew refl (gate_empty number (present (now world).folder) told))
+  refused_then (Some c) e told anew =
+      let its = is_told number (last_gated number (present (now world).folder)) c told in
       inr (swept, gate_filled number (present (now world).folder) its.bytes its.last_is)
 
 -- the gate of a step, by its number

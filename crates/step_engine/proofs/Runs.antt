@@ -57,12 +57,12 @@ use Rattle.step_engine.proofs.RunFaults.{faults_ok, fault_before, refused_first,
 use Rattle.step_engine.proofs.Went.{stands_as, safe_as, IsSet, Went, Swept, went_first, set_found, same_reads, pays_for, parts_for, ends_for, went_then}
 
 -- a run that is refused, for a fault that is handed on
-pub handed_runs : {S : Type 0} (tells : S → Bool) (world : S → World) (counts : S → Faults) (n : ℕ) (text : List ℕ) (budget number : ℕ) (p : Planned)
+pub handed_runs : {S : Type 0} (tells : S → Bool) (world : S → World) (counts : S → Faults) (n : ℕ) (text : List ℕ) (number : ℕ) (p : Planned)
     (before after : S) (e : SortFault) (r : Result Entry SortFault) → IsErrAnd r (λ f. f ≡ e)
-    → RunsStep tells world counts n text budget number p before after (Err e) → RunsStep tells world counts n text budget number p before after r
-handed_runs tells world counts n text budget number p before after e (Ok x) is runs = absurd is
-handed_runs tells world counts n text budget number p before after e (Err f) is runs =
-    subst (λ x. RunsStep tells world counts n text budget number p before after (Err x)) (sym is) runs
+    → RunsStep tells world counts n text number p before after (Err e) → RunsStep tells world counts n text number p before after r
+handed_runs tells world counts n text number p before after e (Ok x) is runs = absurd is
+handed_runs tells world counts n text number p before after e (Err f) is runs =
+    subst (λ x. RunsStep tells world counts n text number p before after (Err x)) (sym is) runs
 
 -- the calls of a step that sweeps
 pub swept_calls : (step : Step) (turns rest now_clock clock : ℕ) → sweeps step ≡ true → now_clock ≤ clock + (229 * turns + 13 + rest)
@@ -86,20 +86,20 @@ of_kind step sort.Shelf joined = tt
 of_kind step (sort.Damaged f at) joined = tt
 of_kind step sort.RunsSpent joined = joined
 
-module _ {S : Type 0} (tells : S → Bool) (world : S → World) (counts : S → Faults) (n : ℕ) (text : List ℕ) (budget number : ℕ) (p : Planned)
-    (swept : sweeps p.step ≡ true) (before after : S) (went : Went tells world counts n text budget number p before after) where
-  few_run : IsTrue (tells after) → (job : Job) → IsStepOf job n text budget number p → Holds job number (now (world before)).folder → (rest : ℕ)
-      → PaysRest p.step number budget (reads_of (world before)) rest
+module _ {S : Type 0} (tells : S → Bool) (world : S → World) (counts : S → Faults) (n : ℕ) (text : List ℕ) (number : ℕ) (p : Planned)
+    (swept : sweeps p.step ≡ true) (before after : S) (went : Went tells world counts n text number p before after) where
+  few_run : IsTrue (tells after) → (job : Job) → IsStepOf job n text number p → Holds job number (now (world before)).folder → (rest : ℕ)
+      → PaysRest p.step number (reads_of (world before)) rest
       → (world after).clock ≤ (world before).clock + (run_calls p.step (work_of job p.step) + rest)
   few_run told job is holds rest pays = swept_calls p.step (work_of job p.step) rest _ _ swept (went.few_calls told job is holds rest pays)
 
   -- a run that is refused
   pub refused_runs : (e : SortFault)
-      → (IsTrue (tells after) → (job : Job) → IsStepOf job n text budget number p → Holds job number (now (world before)).folder
+      → (IsTrue (tells after) → (job : Job) → IsStepOf job n text number p → Holds job number (now (world before)).folder
       → IsSoundFault p.step (work_of job p.step) e)
       → (IsTrue (tells after) → IsRunFault n number p.step (world before) e) → IsOfKind p.step e
       → OnlySortShelf {T = Entry} (counts before) (counts after) (Err e)
-      → RunsStep tells world counts n text budget number p before after (Err e)
+      → RunsStep tells world counts n text number p before after (Err e)
   refused_runs e sound damaged kind faults = record {
     content = went.content;
     fits = tt;
@@ -119,17 +119,17 @@ module _ {S : Type 0} (tells : S → Bool) (world : S → World) (counts : S →
 
   -- and one that ends
   pub ended_runs : (e : Entry) (turns : ℕ) → e.turns ≡ turns → IsEntryFor p.step number e
-      → (IsTrue (tells after) → (job : Job) → IsReadyFor job n text budget number p (world before) → IsEntryOfStep job number e)
-      → (IsTrue (tells after) → (job : Job) → IsReadyFor job n text budget number p (world before) → held.IsMade job number (now (world after)).folder)
-      → (IsTrue (tells after) → (rest : ℕ) → PaysRest p.step number budget (reads_of (world before)) rest → turns < 2 ^ 64 - 1
+      → (IsTrue (tells after) → (job : Job) → IsReadyFor job n text number p (world before) → IsEntryOfStep job number e)
+      → (IsTrue (tells after) → (job : Job) → IsReadyFor job n text number p (world before) → held.IsMade job number (now (world after)).folder)
+      → (IsTrue (tells after) → (rest : ℕ) → PaysRest p.step number (reads_of (world before)) rest → turns < 2 ^ 64 - 1
       → (world after).clock ≤ (world before).clock + (229 * turns + 13 + rest))
-      → (IsTrue (tells after) → (spare : ℕ) → SparesParts number budget (reads_of (world before)) spare
+      → (IsTrue (tells after) → (spare : ℕ) → SparesParts number (reads_of (world before)) spare
       → e.parts ≤ 5 + turns / 16 + spare)
-      → (IsTrue (tells after) → (job : Job) → IsStepOf job n text budget number p → Holds job number (now (world before)).folder
-      → work_of job p.step < 2 ^ 61 → (shown rest : ℕ) → IsGoneOn p.step number budget (world before) shown rest
+      → (IsTrue (tells after) → (job : Job) → IsStepOf job n text number p → Holds job number (now (world before)).folder
+      → work_of job p.step < 2 ^ 61 → (shown rest : ℕ) → IsGoneOn p.step number (world before) shown rest
       → (shown ≤ turns) × ((world after).clock ≤ (world before).clock + (229 * (turns - shown) + 13 + rest)))
       → OnlySortShelf {T = Entry} (counts before) (counts after) (Ok e)
-      → RunsStep tells world counts n text budget number p before after (Ok e)
+      → RunsStep tells world counts n text number p before after (Ok e)
   ended_runs e turns turns_is fits entry made calls few_parts ends faults = record {
     content = went.content;
     fits = fits;
@@ -156,14 +156,14 @@ module _ {S : Type 0} (tells : S → Bool) (world : S → World) (counts : S →
   }
 
 -- a run that is refused before it sweeps
-pub first_refused : {S : Type 0} (tells : S → Bool) (world : S → World) (counts : S → Faults) (n : ℕ) (text : List ℕ) (budget number : ℕ) (p : Planned)
-    (swept : sweeps p.step ≡ true) (before after : S) (e : SortFault) → FindsGoing tells world counts budget number before after (Err e)
-    → RunsStep tells world counts n text budget number p before after (Err e)
-first_refused tells world counts n text budget number p swept before after e found =
-    refused_runs tells world counts n text budget number p swept before after
-    (went_first tells world counts n text budget number p swept before after (Err e) found) e
+pub first_refused : {S : Type 0} (tells : S → Bool) (world : S → World) (counts : S → Faults) (n : ℕ) (text : List ℕ) (number : ℕ) (p : Planned)
+    (swept : sweeps p.step ≡ true) (before after : S) (e : SortFault) → FindsGoing tells world counts number before after (Err e)
+    → RunsStep tells world counts n text number p before after (Err e)
+first_refused tells world counts n text number p swept before after e found =
+    refused_runs tells world counts n text number p swept before after
+    (went_first tells world counts n text number p swept before after (Err e) found) e
     (λ told job is holds. shelf_sound p.step (work_of job p.step) e (found.sound told job
-    (record { well_formed = is.well_formed; budget_is = is.budget_is; within = is.within }) holds))
+    (record { well_formed = is.well_formed; within = is.within }) holds))
     (λ told. refused_first n number p.step swept (world before) e (found.damaged told)) (not_spent_kind p.step e found.kind)
     (sort_shelf_on (counts before) (counts after) e (Err e) refl found.faults)
 
@@ -304,10 +304,10 @@ abbrev pub making_of : ℕ → Sweeping → ℕ → Making
 making_of n sweeping number =
     record { operation = sweeping.operation; n = n; operands = sweeping.operands; number = number }
 
-module _ {S : Type 0} (tells : S → Bool) (world : S → World) (counts : S → Faults) (n : ℕ) (text : List ℕ) (budget number : ℕ) (p : Planned)
+module _ {S : Type 0} (tells : S → Bool) (world : S → World) (counts : S → Faults) (n : ℕ) (text : List ℕ) (number : ℕ) (p : Planned)
     (sweeping : Sweeping) (some : sweeping_of p.step ≡ Some sweeping) (may : MayRun n text number p)
     (files_are : (s : S) → IsTrue (tells s) → AreFiles (now (world s)).folder) (before mid after : S) (going : Going)
-    (found : FindsGoing tells world counts budget number before mid (Ok going)) where
+    (found : FindsGoing tells world counts number before mid (Ok going)) where
   is_one : IsOperation n number p.step sweeping
   is_one = is_operation n number p.step sweeping some
 
@@ -317,15 +317,14 @@ module _ {S : Type 0} (tells : S → Bool) (world : S → World) (counts : S →
   -- what the operation is given, where the step is set
   record IsGivenAs (job : Job) : Type 1 where
     given : IsGivenTo job number p.step sweeping (world mid) n
-    goes_is : JobGoesOn job number ≡ DiagramGoesOn sweeping.operation n sweeping.operands going.step going.budget given.tables
+    goes_is : JobGoesOn job number ≡ DiagramGoesOn sweeping.operation n sweeping.operands going.step given.tables
     for : IsGivenFor (making_of n sweeping going.step) going (world mid) given.tables
 
-  given_as : (job : Job) → IsSet job n text budget number p going.last (now (world mid)).folder → IsGivenAs job
+  given_as : (job : Job) → IsSet job n text number p going.last (now (world mid)).folder → IsGivenAs job
   given_as job set =
-      let given : IsGivenTo job number p.step sweeping (world mid) n = step_given job n budget number text p sweeping (world mid) some set.is set.holds in
-      let budget_is : job.budget ≡ going.budget = set.is.budget_is ∙ sym found.going.1 in
-      let goes_is : JobGoesOn job number ≡ DiagramGoesOn sweeping.operation n sweeping.operands going.step going.budget given.tables =
-      given.goes_is ∙ (λ i. DiagramGoesOn sweeping.operation n sweeping.operands (sym step_is i) (budget_is i) given.tables) in
+      let given : IsGivenTo job number p.step sweeping (world mid) n = step_given job n number text p sweeping (world mid) some set.is set.holds in
+      let goes_is : JobGoesOn job number ≡ DiagramGoesOn sweeping.operation n sweeping.operands going.step given.tables =
+      given.goes_is ∙ (λ i. DiagramGoesOn sweeping.operation n sweeping.operands (sym step_is i) given.tables) in
       record {
         given = given;
         goes_is = goes_is;
@@ -336,14 +335,14 @@ module _ {S : Type 0} (tells : S → Bool) (world : S → World) (counts : S →
             second = given.firm.second;
             third = given.firm.third;
           };
-          standing = stands_as job number going.step going.budget _ diagram_rests goes_is given.rests_is (sym step_is) budget_is going.last
+          standing = stands_as job number going.step _ diagram_rests goes_is given.rests_is (sym step_is) going.last
               (now (world mid)).folder set.stands;
         };
       }
 
   module _ (result : Result MadeDiagram SortFault)
       (said : Makes tells world counts (making_of n sweeping going.step) going mid after result) where
-    swept_by : Swept tells world counts n text budget number p going.last 11 (operand_nodes (making_of n sweeping going.step)) mid after
+    swept_by : Swept tells world counts n text number p going.last 11 (operand_nodes (making_of n sweeping going.step)) mid after
     swept_by = record {
       content = subst (λ k. Told tells mid after (Ran (OnlyChanged (λ f. f.step ≡ k) (now (world mid))) (world mid) (world after))) step_is said.content;
       safe = λ told job set.
@@ -360,31 +359,31 @@ module _ {S : Type 0} (tells : S → Bool) (world : S → World) (counts : S →
           step_is (said.stops told its.given.tables its.for (subst (λ w. w < 2 ^ 61) (sym its.given.work_is) small));
     }
 
-    went : Went tells world counts n text budget number p before after
-    went = went_then tells world counts n text budget number p files_are is_one.sweeps_is before mid after going found 11
+    went : Went tells world counts n text number p before after
+    went = went_then tells world counts n text number p files_are is_one.sweeps_is before mid after going found 11
         (operand_nodes (making_of n sweeping going.step)) (omega arith) is_one.nodes swept_by
 
-    set_in : IsTrue (tells after) → (job : Job) → IsStepOf job n text budget number p → Holds job number (now (world before)).folder
-        → IsSet job n text budget number p going.last (now (world mid)).folder
+    set_in : IsTrue (tells after) → (job : Job) → IsStepOf job n text number p → Holds job number (now (world before)).folder
+        → IsSet job n text number p going.last (now (world mid)).folder
     set_in told job is holds =
-        set_found tells world counts n text budget number p files_are is_one.sweeps_is before mid after going found 11
+        set_found tells world counts n text number p files_are is_one.sweeps_is before mid after going found 11
         (operand_nodes (making_of n sweeping going.step)) (omega arith) is_one.nodes (said.content.before told) job is holds
 
   -- an operation that is refused
   pub operation_refused : (e : SortFault) → Makes tells world counts (making_of n sweeping going.step) going mid after (Err e)
-      → RunsStep tells world counts n text budget number p before after (Err e)
+      → RunsStep tells world counts n text number p before after (Err e)
   operation_refused e said =
-      refused_runs tells world counts n text budget number p is_one.sweeps_is before after (went (Err e) said) e
+      refused_runs tells world counts n text number p is_one.sweeps_is before after (went (Err e) said) e
       (λ told job is holds.
       let its = given_as job (set_in (Err e) said told job is holds) in
       sound_fault p.step (work_of job p.step) _ e (of_kind p.step e is_one.joins_is) its.given.work_is (said.undamaged told its.given.tables its.for)
       (λ is_spent. said.spent (ap (λ f. Err f) is_spent) told its.given.tables its.for))
       (λ told.
       let told_mid = said.content.before told in
-      refused_then n number p.step is_one.sweeps_is (world before) budget going.last e (found.last told_mid)
+      refused_then n number p.step is_one.sweeps_is (world before) going.last e (found.last told_mid)
       (λ none empty.
       let same : (f : FileNo) → (file (world mid) f).bytes ≡ (file (world before) f).bytes = λ f. ap (λ r. r f)
-      (same_reads tells world counts n text budget number p files_are is_one.sweeps_is before mid after going found 11
+      (same_reads tells world counts n text number p files_are is_one.sweeps_is before mid after going found 11
       (operand_nodes (making_of n sweeping going.step)) (omega arith) is_one.nodes told_mid) in
       fault_before n (world before) (world mid) same p.step e is_one.sweeps_is (is_one.fault (world mid) e
       (said.damaged told none (gate_as found.going.0 (world mid) (same (checkpoint_gate number) ∙ empty))))))
@@ -395,9 +394,9 @@ module _ {S : Type 0} (tells : S → Bool) (world : S → World) (counts : S →
   -- an operation that made its diagram
   pub operation_made : (m : MadeDiagram) (e : Entry) → e ≡ diagram_entry text p number m.nodes (spent_by m)
       → m.nodes < 2 ^ 64 → m.turns < 2 ^ 64 → Makes tells world counts (making_of n sweeping going.step) going mid after (Ok m)
-      → RunsStep tells world counts n text budget number p before after (Ok e)
+      → RunsStep tells world counts n text number p before after (Ok e)
   operation_made m e e_is small few said =
-      ended_runs tells world counts n text budget number p is_one.sweeps_is before after (went (Ok m) said) e m.turns (ap (λ (x : Entry). x.turns) e_is)
+      ended_runs tells world counts n text number p is_one.sweeps_is before after (went (Ok m) said) e m.turns (ap (λ (x : Entry). x.turns) e_is)
       (for_diagram number m.nodes (spent_by m) text p e e_is may.few_steps may.named small took is_one.kind_is)
       (λ told job ready.
       let its = given_as job (set_in (Ok m) said told job ready.step (ready.holds is_one.reads_is)) in
@@ -413,17 +412,17 @@ module _ {S : Type 0} (tells : S → Bool) (world : S → World) (counts : S →
       subst (λ k. IsMade n (table_by making its.given.tables) (node_file k) m.nodes (world after)) step_is (said.made told its.given.tables its.for).made in
       (made.file_is ∙ ap firm_file its.given.bytes_are, its.given.form made.form))
       (λ told rest pays exact.
-      pays_for tells world counts n text budget number p files_are is_one.sweeps_is before mid after going found 11
+      pays_for tells world counts n text number p files_are is_one.sweeps_is before mid after going found 11
       (operand_nodes (making_of n sweeping going.step)) (omega arith) is_one.nodes (said.content.before told) m.turns rest pays
       (let called = said.calls told exact in omega (arith, called)))
       (λ told spare spares. subst (λ k. k ≤ 5 + m.turns / 16 + spare) (sym (ap (λ (x : Entry). x.parts) e_is))
-      (parts_for number budget (reads_of (world before)) going.last m.turns m.next spare
+      (parts_for number (reads_of (world before)) going.last m.turns m.next spare
       (found.last (said.content.before told)) spares said.few_anew took.few))
       (λ told job is holds small shown rest gone.
       let its = given_as job (set_in (Ok m) said told job is holds) in
       let diagram : IsDiagramOf (making_of n sweeping going.step) its.given.tables m (world after) = said.made told its.given.tables its.for in
       let few_turns : m.turns ≤ work_of job p.step = subst (λ w. m.turns ≤ w) its.given.work_is diagram.few in
-      ends_for tells world counts n text budget number p files_are is_one.sweeps_is before mid after going found 11
+      ends_for tells world counts n text number p files_are is_one.sweeps_is before mid after going found 11
       (operand_nodes (making_of n sweeping going.step)) (omega arith) is_one.nodes (said.content.before told) job is holds m.turns shown rest gone said.grew
       (said.calls told (omega (arith, few_turns, small))))
       (sort_shelf_then (counts before) (counts mid) (counts after) (Ok going) (Ok e) found.faults

@@ -43,11 +43,11 @@ shown_turns_of None going come = sym come.0
 shown_turns_of (Some c) going come = sym come.0
 
 -- what going on costs pays for finding that too, and two calls find that nothing is gated
-pub stop_paid : (step : Step) (number budget : ℕ) (r : FileNo → List ℕ) (last : Option Checkpoint) (rest before mid nodes : ℕ)
-    → nodes ≤ nodes_read step r → Tells number budget (last_gated number r) last → PaysRest step number budget r rest
+pub stop_paid : (step : Step) (number : ℕ) (r : FileNo → List ℕ) (last : Option Checkpoint) (rest before mid nodes : ℕ)
+    → nodes ≤ nodes_read step r → Tells number (last_gated number r) last → PaysRest step number r rest
     → mid ≤ before + 590 → (last ≡ None → mid ≤ before + 2)
     → mid + (step_stop + rest_calls last nodes) ≤ before + (run_stop + rest)
-stop_paid step number budget r None rest before mid nodes fewer told pays most least =
+stop_paid step number r None rest before mid nodes fewer told pays most least =
     let begun : mid ≤ before + 2 = least refl in omega (arith, begun)
-stop_paid step number budget r (Some c) rest before mid nodes fewer told pays most least =
+stop_paid step number r (Some c) rest before mid nodes fewer told pays most least =
     let paid = pays c told in omega (arith, fewer, most, paid)

@@ -36,11 +36,11 @@ use Rattle.step_engine.proofs.Resuming.{safe_resumes_over}
 use Rattle.step_engine.proofs.Stops.{found_stops, found_shows, shown_turns_of, stop_paid}
 
 -- what the job's step stands with, in other words for when it goes on and what its checkpoints rest on
-pub stands_as : (job : Job) (number step budget : ℕ) (Q : (FileNo → List ℕ) → Type 0) (rests : Checkpoint → FileNo → ℕ → Type 0)
-    → JobGoesOn job number ≡ Q → JobRests job number ≡ rests → number ≡ step → job.budget ≡ budget → (last : Option Checkpoint) (folder : Folder)
-    → JobStands job number last folder → IsStanding Q rests step budget (next_of last) folder last
-stands_as job number step budget Q rests goes_is rests_is step_is budget_is last folder stands =
-    subst (λ v. v) (λ i. IsStanding (goes_is i) (rests_is i) (step_is i) (budget_is i) (next_of last) folder last) stands
+pub stands_as : (job : Job) (number step : ℕ) (Q : (FileNo → List ℕ) → Type 0) (rests : Checkpoint → FileNo → ℕ → Type 0)
+    → JobGoesOn job number ≡ Q → JobRests job number ≡ rests → number ≡ step → (last : Option Checkpoint) (folder : Folder)
+    → JobStands job number last folder → IsStanding Q rests step (next_of last) folder last
+stands_as job number step Q rests goes_is rests_is step_is last folder stands =
+    subst (λ v. v) (λ i. IsStanding (goes_is i) (rests_is i) (step_is i) (next_of last) folder last) stands
 
 pub safe_as : (job : Job) (number step : ℕ) (Q : (FileNo → List ℕ) → Type 0) → JobGoesOn job number ≡ Q → number ≡ step → (old new : World)
     → Throughout old new (λ (m : Moment). AreSafe Q step m.folder) → Throughout old new (λ (m : Moment). AreSafe (JobGoesOn job number) number m.folder)
@@ -48,57 +48,57 @@ safe_as job number step Q goes_is step_is old new safe =
     subst (λ v. v) (λ i. Throughout old new (λ (m : Moment). AreSafe (sym goes_is i) (sym step_is i) m.folder)) safe
 
 -- the step is the job's, whose steps before it are held, and it stands with this checkpoint
-pub record IsSet (job : Job) (n : ℕ) (text : List ℕ) (budget number : ℕ) (p : Planned) (last : Option Checkpoint) (folder : Folder) : Type 0 where
-  pub is : IsStepOf job n text budget number p
+pub record IsSet (job : Job) (n : ℕ) (text : List ℕ) (number : ℕ) (p : Planned) (last : Option Checkpoint) (folder : Folder) : Type 0 where
+  pub is : IsStepOf job n text number p
   pub holds : Holds job number folder
   pub stands : JobStands job number last folder
 
-pub of_job : (job : Job) (n : ℕ) (text : List ℕ) (budget number : ℕ) (p : Planned) → IsStepOf job n text budget number p → IsOfJob job budget number
-of_job job n text budget number p is = record { well_formed = is.well_formed; budget_is = is.budget_is; within = is.within }
+pub of_job : (job : Job) (n : ℕ) (text : List ℕ) (number : ℕ) (p : Planned) → IsStepOf job n text number p → IsOfJob job number
+of_job job n text number p is = record { well_formed = is.well_formed; within = is.within }
 
 -- sixteen turns are within the work of each step
 work_enough : (job : Job) (step : Step) → 16 ≤ work_of job step
 work_enough job step = omega arith
 
 -- so many calls are paid for
-run_cost : (step : Step) (number budget : ℕ) (r : FileNo → List ℕ) (last : Option Checkpoint) (rest before mid after turns some nodes : ℕ) → some ≤ 11
-    → nodes ≤ nodes_read step r → Tells number budget (last_gated number r) last → PaysRest step number budget r rest
+run_cost : (step : Step) (number : ℕ) (r : FileNo → List ℕ) (last : Option Checkpoint) (rest before mid after turns some nodes : ℕ) → some ≤ 11
+    → nodes ≤ nodes_read step r → Tells number (last_gated number r) last → PaysRest step number r rest
     → mid ≤ before + 590 → (last ≡ None → mid ≤ before + 2) → after ≤ mid + (229 * turns + some + rest_calls last nodes)
     → after ≤ before + (229 * turns + 13 + rest)
-run_cost step number budget r None rest before mid after turns some nodes few fewer told pays most least then =
+run_cost step number r None rest before mid after turns some nodes few fewer told pays most least then =
     let begun : mid ≤ before + 2 = least refl in omega (arith, few, begun, then)
-run_cost step number budget r (Some c) rest before mid after turns some nodes few fewer told pays most least then =
+run_cost step number r (Some c) rest before mid after turns some nodes few fewer told pays most least then =
     let paid = pays c told in omega (arith, few, fewer, most, then, paid)
 
 -- few part numbers were taken, and turns before the last checkpoint may have taken more
-pub parts_for : (number budget : ℕ) (r : FileNo → List ℕ) (last : Option Checkpoint) (turns next spare : ℕ)
-    → Tells number budget (last_gated number r) last → SparesParts number budget r spare
+pub parts_for : (number : ℕ) (r : FileNo → List ℕ) (last : Option Checkpoint) (turns next spare : ℕ)
+    → Tells number (last_gated number r) last → SparesParts number r spare
     → (last ≡ None → FewAnew turns next) → next ≤ 1024 + turns / 16 → next ≤ 5 + turns / 16 + spare
-parts_for number budget r None turns next spare told spares anew few = let fewer = anew refl in omega (arith, fewer)
-parts_for number budget r (Some c) turns next spare told spares anew few =
+parts_for number r None turns next spare told spares anew few = let fewer = anew refl in omega (arith, fewer)
+parts_for number r (Some c) turns next spare told spares anew few =
     let more = spares c told in omega (arith, more, few)
 
-module _ {S : Type 0} (tells : S → Bool) (world : S → World) (counts : S → Faults) (n : ℕ) (text : List ℕ) (budget number : ℕ) (p : Planned) where
+module _ {S : Type 0} (tells : S → Bool) (world : S → World) (counts : S → Faults) (n : ℕ) (text : List ℕ) (number : ℕ) (p : Planned) where
   -- what is said of each run of a step that sweeps, whether it ends or is refused
   pub record Went (before after : S) : Type 0 where
     pub content : Told tells before after (Ran (OnlyMade p.step number (now (world before))) (world before) (world after))
-    pub resumes : IsTrue (tells after) → (job : Job) → IsStepOf job n text budget number p → Holds job number (now (world before)).folder
+    pub resumes : IsTrue (tells after) → (job : Job) → IsStepOf job n text number p → Holds job number (now (world before)).folder
         → Throughout (world before) (world after) (λ (m : Moment). AreResumable job number m.folder)
-    pub few_calls : IsTrue (tells after) → (job : Job) → IsStepOf job n text budget number p → Holds job number (now (world before)).folder
-        → (rest : ℕ) → PaysRest p.step number budget (reads_of (world before)) rest
+    pub few_calls : IsTrue (tells after) → (job : Job) → IsStepOf job n text number p → Holds job number (now (world before)).folder
+        → (rest : ℕ) → PaysRest p.step number (reads_of (world before)) rest
         → (world after).clock ≤ (world before).clock + (229 * work_of job p.step + 13 + rest)
-    pub stops : IsTrue (tells after) → (job : Job) → IsStepOf job n text budget number p → Holds job number (now (world before)).folder
-        → work_of job p.step < 2 ^ 61 → (shown rest : ℕ) → IsGoneOn p.step number budget (world before) shown rest
+    pub stops : IsTrue (tells after) → (job : Job) → IsStepOf job n text number p → Holds job number (now (world before)).folder
+        → work_of job p.step < 2 ^ 61 → (shown rest : ℕ) → IsGoneOn p.step number (world before) shown rest
         → StopsCost number shown ((world before).clock + (run_stop + rest)) (world before) (world after)
 
   -- what a sweep says, of which so many calls are made with no turn, and which goes on with these nodes
   pub record Swept (last : Option Checkpoint) (some : ℕ) (nodes : (FileNo → List ℕ) → ℕ) (mid after : S) : Type 0 where
     pub content : Told tells mid after (Ran (OnlyChanged (λ f. f.step ≡ number) (now (world mid))) (world mid) (world after))
-    pub safe : IsTrue (tells after) → (job : Job) → IsSet job n text budget number p last (now (world mid)).folder
+    pub safe : IsTrue (tells after) → (job : Job) → IsSet job n text number p last (now (world mid)).folder
         → Throughout (world mid) (world after) (λ (m : Moment). AreSafe (JobGoesOn job number) number m.folder)
-    pub few_calls : IsTrue (tells after) → (job : Job) → IsSet job n text budget number p last (now (world mid)).folder
+    pub few_calls : IsTrue (tells after) → (job : Job) → IsSet job n text number p last (now (world mid)).folder
         → (world after).clock ≤ (world mid).clock + (229 * work_of job p.step + some + rest_calls last (nodes (reads_of (world mid))))
-    pub stops : IsTrue (tells after) → (job : Job) → IsSet job n text budget number p last (now (world mid)).folder
+    pub stops : IsTrue (tells after) → (job : Job) → IsSet job n text number p last (now (world mid)).folder
         → work_of job p.step < 2 ^ 61 → StopsCost number (shown_by last)
         ((world mid).clock + (step_stop + rest_calls last (nodes (reads_of (world mid))))) (world mid) (world after)
 
@@ -111,7 +111,7 @@ module _ {S : Type 0} (tells : S → Bool) (world : S → World) (counts : S →
       ran_weakens (world before) (world mid) (DuringFind number (now (world before))) (OnlyChanged (λ f. f.step ≡ number) (now (world before))) (λ m during. during.others) run)
 
   -- where it was looked for how far the step has come, and that was refused
-  pub went_first : (swept : sweeps p.step ≡ true) (before mid : S) (result : Result Going SortFault) → FindsGoing tells world counts budget number before mid result
+  pub went_first : (swept : sweeps p.step ≡ true) (before mid : S) (result : Result Going SortFault) → FindsGoing tells world counts number before mid result
       → Went before mid
   went_first swept before mid result found = record {
     content = told tells before mid _ _ (found_only before mid found.content) (λ _ run.
@@ -119,7 +119,7 @@ module _ {S : Type 0} (tells : S → Bool) (world : S → World) (counts : S →
         (λ m only. own_only swept (now (world before)).folder m.folder only) run);
     resumes = λ tells_mid job is holds.
         weakens (world before) (world mid) (λ m. Holds job number m.folder) (λ m. AreResumable job number m.folder) (λ m held. held.resumable)
-        (found.holds tells_mid job (of_job job n text budget number p is) holds);
+        (found.holds tells_mid job (of_job job n text number p is) holds);
     few_calls = λ tells_mid job is holds rest pays.
         let few = found.calls tells_mid in let enough = work_enough job p.step in omega (arith, few, enough);
     stops = λ tells_mid job is holds small shown rest gone.
@@ -128,57 +128,57 @@ module _ {S : Type 0} (tells : S → Bool) (world : S → World) (counts : S →
   }
 
   module _ (files_are : (s : S) → IsTrue (tells s) → AreFiles (now (world s)).folder) (swept : sweeps p.step ≡ true) (before mid after : S) (going : Going)
-      (found : FindsGoing tells world counts budget number before mid (Ok going)) (some : ℕ) (nodes : (FileNo → List ℕ) → ℕ) (few : some ≤ 11)
+      (found : FindsGoing tells world counts number before mid (Ok going)) (some : ℕ) (nodes : (FileNo → List ℕ) → ℕ) (few : some ≤ 11)
       (fewer : (r : FileNo → List ℕ) → nodes r ≤ nodes_read p.step r) where
     -- the step is set as the sweep begins
-    pub set_found : IsTrue (tells mid) → (job : Job) → IsStepOf job n text budget number p → Holds job number (now (world before)).folder
-        → IsSet job n text budget number p going.last (now (world mid)).folder
+    pub set_found : IsTrue (tells mid) → (job : Job) → IsStepOf job n text number p → Holds job number (now (world before)).folder
+        → IsSet job n text number p going.last (now (world mid)).folder
     set_found tells_mid job is holds = record {
       is = is;
-      holds = at_end (world before) (world mid) (λ m. Holds job number m.folder) (found.holds tells_mid job (of_job job n text budget number p is) holds);
-      stands = found.stands tells_mid job (of_job job n text budget number p is) holds;
+      holds = at_end (world before) (world mid) (λ m. Holds job number m.folder) (found.holds tells_mid job (of_job job n text number p is) holds);
+      stands = found.stands tells_mid job (of_job job n text number p is) holds;
     }
 
     -- reads give what they gave
     pub same_reads : IsTrue (tells mid) → reads_of (world mid) ≡ reads_of (world before)
     same_reads tells_mid = λ i f. (ran_end (world before) (world mid) (DuringFind number (now (world before))) (found.content.did tells_mid)).reads f i
 
-    pub pays_for : (tells_mid : IsTrue (tells mid)) (turns rest : ℕ) → PaysRest p.step number budget (reads_of (world before)) rest
+    pub pays_for : (tells_mid : IsTrue (tells mid)) (turns rest : ℕ) → PaysRest p.step number (reads_of (world before)) rest
         → (world after).clock ≤ (world mid).clock + (229 * turns + some + rest_calls going.last (nodes (reads_of (world mid))))
         → (world after).clock ≤ (world before).clock + (229 * turns + 13 + rest)
     pays_for tells_mid turns rest pays then =
-        run_cost p.step number budget (reads_of (world before)) going.last rest _ _ _ turns some (nodes (reads_of (world before))) few
+        run_cost p.step number (reads_of (world before)) going.last rest _ _ _ turns some (nodes (reads_of (world before))) few
         (fewer (reads_of (world before))) (found.last tells_mid) pays (found.calls tells_mid) (found.few_calls tells_mid)
         (subst (λ r. (world after).clock ≤ (world mid).clock + (229 * turns + some + rest_calls going.last (nodes r))) (same_reads tells_mid) then)
 
     -- the last checkpoint shows no less than was shown before
-    shown_found : IsTrue (tells mid) → (job : Job) → IsStepOf job n text budget number p → Holds job number (now (world before)).folder
-        → (shown rest : ℕ) → IsGoneOn p.step number budget (world before) shown rest → shown ≤ shown_by going.last
+    shown_found : IsTrue (tells mid) → (job : Job) → IsStepOf job n text number p → Holds job number (now (world before)).folder
+        → (shown rest : ℕ) → IsGoneOn p.step number (world before) shown rest → shown ≤ shown_by going.last
     shown_found tells_mid job is holds shown rest gone =
         found_shows number shown (shown_by going.last) (world before) (world mid) (files_are mid tells_mid) gone.shows (found.content.did tells_mid)
-        (standing_shows (JobGoesOn job number) (JobRests job number) number job.budget (next_of going.last) (now (world mid)).folder going.last
+        (standing_shows (JobGoesOn job number) (JobRests job number) number (next_of going.last) (now (world mid)).folder going.last
         (set_found tells_mid job is holds).stands)
 
     -- what the step cost for each turn beyond those that were shown before
-    pub ends_for : IsTrue (tells mid) → (job : Job) → IsStepOf job n text budget number p → Holds job number (now (world before)).folder
-        → (turns shown rest : ℕ) → IsGoneOn p.step number budget (world before) shown rest → going.turns ≤ turns
+    pub ends_for : IsTrue (tells mid) → (job : Job) → IsStepOf job n text number p → Holds job number (now (world before)).folder
+        → (turns shown rest : ℕ) → IsGoneOn p.step number (world before) shown rest → going.turns ≤ turns
         → (world after).clock ≤ (world mid).clock + (229 * (turns - going.turns) + some + rest_calls going.last (nodes (reads_of (world mid))))
         → (shown ≤ turns) × ((world after).clock ≤ (world before).clock + (229 * (turns - shown) + 13 + rest))
     ends_for tells_mid job is holds turns shown rest gone grew then =
         let least = shown_found tells_mid job is holds shown rest gone in
-        let come = shown_turns_of going.last going found.going.2.going_of.come_to in
+        let come = shown_turns_of going.last going found.going.1.going_of.come_to in
         let few = pays_for tells_mid (turns - going.turns) rest gone.pays then in
         (omega (arith, least, come, grew), omega (arith, least, come, few))
 
-    stops_then : Swept going.last some nodes mid after → IsTrue (tells after) → (job : Job) → IsStepOf job n text budget number p
+    stops_then : Swept going.last some nodes mid after → IsTrue (tells after) → (job : Job) → IsStepOf job n text number p
         → Holds job number (now (world before)).folder → work_of job p.step < 2 ^ 61 → (shown rest : ℕ)
-        → IsGoneOn p.step number budget (world before) shown rest
+        → IsGoneOn p.step number (world before) shown rest
         → StopsCost number shown ((world before).clock + (run_stop + rest)) (world mid) (world after)
     stops_then sweep tells_after job is holds small shown rest gone =
         let tells_mid : IsTrue (tells mid) = sweep.content.before tells_after in
         let most : ℕ = (world mid).clock + (step_stop + rest_calls going.last (nodes (reads_of (world mid)))) in
         stops_more number shown most ((world before).clock + (run_stop + rest)) (world mid) (world after)
-        (stop_paid p.step number budget (reads_of (world before)) going.last rest _ _ (nodes (reads_of (world mid)))
+        (stop_paid p.step number (reads_of (world before)) going.last rest _ _ (nodes (reads_of (world mid)))
         (subst (λ r. nodes r ≤ nodes_read p.step (reads_of (world before))) (sym (same_reads tells_mid)) (fewer (reads_of (world before))))
         (found.last tells_mid) gone.pays (found.calls tells_mid) (found.few_calls tells_mid))
         (stops_fewer number shown (shown_by going.last) most (world mid) (world after) (shown_found tells_mid job is holds shown rest gone)

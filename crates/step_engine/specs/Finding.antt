@@ -25,42 +25,41 @@ use Rattle.sound_image.specs.Files.{checkpoint_gate}
 use Rattle.sound_image.specs.Jobs.{Job}
 use Rattle.sound_image.specs.Holds.{Holds}
 
--- the number is that of a step in the job's well-formed plan, and so many records are those of the job's room
-pub record IsOfJob (job : Job) (budget number : ℕ) : Type 0 where
+-- the number is that of a step in the job's well-formed plan
+pub record IsOfJob (job : Job) (number : ℕ) : Type 0 where
   pub well_formed : IsWellFormed job.n job.text job.steps
-  pub budget_is : job.budget ≡ budget
   pub within : number < length job.steps
 
 -- when the job's step goes on in a reading, and what its checkpoints rest on
 abbrev pub JobGoesOn : Job → ℕ → (FileNo → List ℕ) → Type 0
-JobGoesOn job number = GoesOnAt job.n job.text job.steps job.budget number
+JobGoesOn job number = GoesOnAt job.n job.text job.steps number
 
 abbrev pub JobRests : Job → ℕ → Checkpoint → FileNo → ℕ → Type 0
 JobRests job number = RestsOn (plans.step_at job.steps number)
 
 -- whatever a stop leaves, the job's step has no gated checkpoint, or goes on from this one
 abbrev pub JobStands : Job → ℕ → Option Checkpoint → Folder → Type 0
-JobStands job number last folder = IsStanding (JobGoesOn job number) (JobRests job number) number job.budget
+JobStands job number last folder = IsStanding (JobGoesOn job number) (JobRests job number) number
     (next_of last) folder last
 
 -- how far the step has come was found, in a room of so many records, or couldn't be
-pub record FindsGoing {S : Type 0} (tells : S → Bool) (world : S → World) (counts : S → Faults) (budget number : ℕ)
+pub record FindsGoing {S : Type 0} (tells : S → Bool) (world : S → World) (counts : S → Faults) (number : ℕ)
     (before after : S) (result : Result Going SortFault) : Type 0 where
   -- files of other steps stay, reads give what they gave, and no image is new
   pub content : Told tells before after
       (Ran (DuringFind number (now (world before))) (world before) (world after))
-  pub going : IfOk result (λ going. (going.step ≡ number) × (going.budget ≡ budget) × MayGoOn going)
+  pub going : IfOk result (λ going. (going.step ≡ number) × MayGoOn going)
   -- it was found by the last gated checkpoint
   pub last : IfOk result (λ going. IsTrue (tells after)
-      → Tells number budget (last_gated number (present (now (world before)).folder)) going.last)
+      → Tells number (last_gated number (present (now (world before)).folder)) going.last)
   -- in a folder that holds the steps before, which it does at each moment, the step stands with that checkpoint, and
   -- only a call of the folder can fail
-  pub holds : IsTrue (tells after) → (job : Job) → IsOfJob job budget number
+  pub holds : IsTrue (tells after) → (job : Job) → IsOfJob job number
       → Holds job number (now (world before)).folder → Throughout (world before) (world after)
       (λ (m : Moment). Holds job number m.folder)
-  pub stands : IfOk result (λ going. IsTrue (tells after) → (job : Job) → IsOfJob job budget number
+  pub stands : IfOk result (λ going. IsTrue (tells after) → (job : Job) → IsOfJob job number
       → Holds job number (now (world before)).folder → JobStands job number going.last (now (world after)).folder)
-  pub sound : IfErr result (λ fault. IsTrue (tells after) → (job : Job) → IsOfJob job budget number
+  pub sound : IfErr result (λ fault. IsTrue (tells after) → (job : Job) → IsOfJob job number
       → Holds job number (now (world before)).folder → fault ≡ sort.Shelf)
   -- otherwise a step without a gated checkpoint finds no damage
   pub damaged : IfErr result (λ fault. IsTrue (tells after)

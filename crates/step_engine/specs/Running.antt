@@ -45,59 +45,59 @@ abbrev pub run_stop : ℕ
 run_stop = step_stop + 2
 
 -- so many calls pay for going on from the checkpoint that the step's last gated bytes are, where there is one
-abbrev pub PaysRest : Step → ℕ → ℕ → (FileNo → List ℕ) → ℕ → Type 0
-PaysRest step number budget r rest = (c : Checkpoint) → Tells number budget (last_gated number r) (Some c)
+abbrev pub PaysRest : Step → ℕ → (FileNo → List ℕ) → ℕ → Type 0
+PaysRest step number r rest = (c : Checkpoint) → Tells number (last_gated number r) (Some c)
     → rest_calls (Some c) (nodes_read step r) + 590 ≤ rest
 
 -- so many part numbers may have been taken by what the step goes on from: 1,019, where there is such a checkpoint
-abbrev pub SparesParts : ℕ → ℕ → (FileNo → List ℕ) → ℕ → Type 0
-SparesParts number budget r spare = (c : Checkpoint) → Tells number budget (last_gated number r) (Some c)
+abbrev pub SparesParts : ℕ → (FileNo → List ℕ) → ℕ → Type 0
+SparesParts number r spare = (c : Checkpoint) → Tells number (last_gated number r) (Some c)
     → 1019 ≤ spare
 
 -- the step is the job's, and the folder holds those before it, where it reads what they left
-pub record IsReadyFor (job : Job) (n : ℕ) (text : List ℕ) (budget number : ℕ) (p : Planned) (world : World)
+pub record IsReadyFor (job : Job) (n : ℕ) (text : List ℕ) (number : ℕ) (p : Planned) (world : World)
     : Type 0 where
-  pub step : IsStepOf job n text budget number p
+  pub step : IsStepOf job n text number p
   pub holds : IsTrue (reads p.step) → Holds job number (now world).folder
 
 -- each image of the folder shows so many turns of the step or more, and so many calls pay for going on with it
-pub record IsGoneOn (step : Step) (number budget : ℕ) (world : World) (shown rest : ℕ) : Type 0 where
+pub record IsGoneOn (step : Step) (number : ℕ) (world : World) (shown rest : ℕ) : Type 0 where
   pub shows : ShowAtLeast number shown (now world).folder
-  pub pays : PaysRest step number budget (reads_of world) rest
+  pub pays : PaysRest step number (reads_of world) rest
 
 -- the step was run, or refused, in a room of so many records
 pub record RunsStep {S : Type 0} (tells : S → Bool) (world : S → World) (counts : S → Faults) (n : ℕ) (text : List ℕ)
-    (budget number : ℕ) (p : Planned) (before after : S) (result : Result Entry SortFault) : Type 0 where
+    (number : ℕ) (p : Planned) (before after : S) (result : Result Entry SortFault) : Type 0 where
   pub content : Told tells before after (Ran (OnlyMade p.step number (now (world before))) (world before) (world after))
   pub fits : IfOk result (IsEntryFor p.step number)
   pub entry : IfOk result (λ e. IsTrue (tells after) → (job : Job)
-      → IsReadyFor job n text budget number p (world before) → IsEntryOfStep job number e)
+      → IsReadyFor job n text number p (world before) → IsEntryOfStep job number e)
   pub made : IfOk result (λ e. IsTrue (tells after) → (job : Job)
-      → IsReadyFor job n text budget number p (world before) → IsMade job number (now (world after)).folder)
+      → IsReadyFor job n text number p (world before) → IsMade job number (now (world after)).folder)
   -- at each moment a run can go on from what a stop leaves
-  pub resumes : IsTrue (tells after) → (job : Job) → IsStepOf job n text budget number p
+  pub resumes : IsTrue (tells after) → (job : Job) → IsStepOf job n text number p
       → Holds job number (now (world before)).folder
       → Throughout (world before) (world after) (λ (m : Moment). AreResumable job number m.folder)
-  pub sound : IfErr result (λ fault. IsTrue (tells after) → (job : Job) → IsStepOf job n text budget number p
+  pub sound : IfErr result (λ fault. IsTrue (tells after) → (job : Job) → IsStepOf job n text number p
       → Holds job number (now (world before)).folder → IsSoundFault p.step (work_of job p.step) fault)
   pub damaged : IfErr result (λ fault. IsTrue (tells after) → IsRunFault n number p.step (world before) fault)
   pub kind : IfErr result (IsOfKind p.step)
   pub calls : IfOk result (λ e. IsTrue (tells after) → (rest : ℕ)
-      → PaysRest p.step number budget (reads_of (world before)) rest → e.turns < 2 ^ 64 - 1
+      → PaysRest p.step number (reads_of (world before)) rest → e.turns < 2 ^ 64 - 1
       → (world after).clock ≤ (world before).clock + (run_calls p.step e.turns + rest))
   -- a step that began anew took few part numbers, from 5 on; one that went on from a checkpoint may have taken more
   pub few_parts : IfOk result (λ e. IsTrue (tells after) → (spare : ℕ)
-      → SparesParts number budget (reads_of (world before)) spare → e.parts ≤ 5 + e.turns / 16 + spare)
+      → SparesParts number (reads_of (world before)) spare → e.parts ≤ 5 + e.turns / 16 + spare)
   pub one_turn : IsTrue (tells after) → sweeps p.step ≡ false → (world after).clock ≤ (world before).clock + 5
-  pub few_calls : IsTrue (tells after) → (job : Job) → IsStepOf job n text budget number p
+  pub few_calls : IsTrue (tells after) → (job : Job) → IsStepOf job n text number p
       → Holds job number (now (world before)).folder → (rest : ℕ)
-      → PaysRest p.step number budget (reads_of (world before)) rest
+      → PaysRest p.step number (reads_of (world before)) rest
       → (world after).clock ≤ (world before).clock + (run_calls p.step (work_of job p.step) + rest)
   -- what a stop costs at any moment: for each turn of the step that it leaves shown beyond those that each image showed
   -- before at most 229 calls, and so many more; and what the step cost at its end, likewise
-  pub stops : IsTrue (tells after) → (job : Job) → IsStepOf job n text budget number p
+  pub stops : IsTrue (tells after) → (job : Job) → IsStepOf job n text number p
       → Holds job number (now (world before)).folder → work_of job p.step < 2 ^ 61 → (shown rest : ℕ)
-      → IsGoneOn p.step number budget (world before) shown rest
+      → IsGoneOn p.step number (world before) shown rest
       → StopsCost number shown ((world before).clock + (run_stop + rest)) (world before) (world after)
       × IfOk result (λ e. (shown ≤ e.turns) × ((world after).clock
       ≤ (world before).clock + (run_calls p.step (e.turns - shown) + rest)))

@@ -34,11 +34,10 @@ pub record MayRun (n : ℕ) (text : List ℕ) (number : ℕ) (p : Planned) : Typ
   pub bits_are : IsTrue (has_bits n text p.step)
   pub named : IsTrue (has_name text p)
 
--- the step of that number in a well-formed plan, which is the job's, and so is the number of records of the room
-pub record IsStepOf (job : Job) (n : ℕ) (text : List ℕ) (budget number : ℕ) (p : Planned) : Type 0 where
+-- the step of that number in a well-formed plan, which is the job's
+pub record IsStepOf (job : Job) (n : ℕ) (text : List ℕ) (number : ℕ) (p : Planned) : Type 0 where
   pub well_formed : IsWellFormed job.n job.text job.steps
   pub n_is : job.n ≡ n
   pub text_is : job.text ≡ text
-  pub budget_is : job.budget ≡ budget
   pub within : number < length job.steps
   pub step_is : step_at job number ≡ p

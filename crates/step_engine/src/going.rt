@@ -15,7 +15,7 @@ pub(crate) fn going_in<S: Shelf>(
     shelf: &mut S,
 ) -> Result<Going, SortFault>
     requires room { (16384 ≤ length room.now) × (length room.now ≤ 4194304) }
-    ensures finds { FindsGoing S.tells S.world S.faults (length room.now) number shelf.old shelf.new result }
+    ensures finds { FindsGoing S.tells S.world S.faults number shelf.old shelf.new result }
 {
     let going = find_going(number, room.len() as u32, shelf)?;
     Ok(going)

@@ -28,7 +28,7 @@ pub(crate) fn run_constant<S: Shelf>(
     requires step { MayRun n text.now number planned.now }
     requires kind { planned.now.step ≡ variants.Const value }
     requires room { 16384 ≤ length room.old }
-    ensures runs { RunsStep S.tells S.world S.faults n text.now (length room.old) number planned.now
+    ensures runs { RunsStep S.tells S.world S.faults n text.now number planned.now
         shelf.old shelf.new result }
 {
     let nodes = write_constant(node_file(number), n, value, room, shelf)?;
@@ -48,7 +48,7 @@ pub(crate) fn run_variable<S: Shelf>(
     requires step { MayRun n text.now number planned.now }
     requires kind { planned.now.step ≡ variants.Var level }
     requires room { 16384 ≤ length room.old }
-    ensures runs { RunsStep S.tells S.world S.faults n text.now (length room.old) number planned.now
+    ensures runs { RunsStep S.tells S.world S.faults n text.now number planned.now
         shelf.old shelf.new result }
 {
     let nodes = write_variable(node_file(number), n, level as u16, room, shelf)?;
@@ -67,7 +67,7 @@ pub(crate) fn run_size<S: Shelf>(
     requires step { MayRun n text.now number planned.now }
     requires kind { planned.now.step ≡ variants.Size of }
     requires committed { IsTrue (S.tells shelf.old) → number ≤ count_in (present (now (S.world shelf.old)).folder) }
-    ensures runs { (budget : ℕ) → RunsStep S.tells S.world S.faults n text.now budget number planned.now
+    ensures runs { RunsStep S.tells S.world S.faults n text.now number planned.now
         shelf.old shelf.new result }
 {
     let nodes = entry_of_kind(of, 1, shelf)?.count;

@@ -35,7 +35,7 @@ pub fn run_step<S: Shelf>(
     requires step { MayRun n text.now number planned.now }
     requires room { (16384 ≤ length room.old) × (length room.old ≤ 4194304) }
     requires committed { IsTrue (S.tells shelf.old) → number ≤ count_in (present (now (S.world shelf.old)).folder) }
-    ensures runs { RunsStep S.tells S.world S.faults n text.now (length room.old) number planned.now
+    ensures runs { RunsStep S.tells S.world S.faults n text.now number planned.now
         shelf.old shelf.new result }
 {
     if let Some(sweeping) = sweeping_of(planned.step) {

@@ -72,7 +72,7 @@ pub(crate) fn run_operation<S: Shelf>(
     requires step { MayRun n text.now number planned.now }
     requires sweeping { sweeping_of planned.now.step ≡ Some sweeping }
     requires room { (16384 ≤ length room.old) × (length room.old ≤ 4194304) }
-    ensures runs { RunsStep S.tells S.world S.faults n text.now (length room.old) number planned.now
+    ensures runs { RunsStep S.tells S.world S.faults n text.now number planned.now
         shelf.old shelf.new result }
 {
     let mut going = going_in(number, room, shelf)?;
@@ -105,7 +105,7 @@ pub(crate) fn run_comparison<S: Shelf>(
     requires step { MayRun n text.now number planned.now }
     requires kind { planned.now.step ≡ variants.Same left right }
     requires room { (16384 ≤ length room.old) × (length room.old ≤ 4194304) }
-    ensures runs { RunsStep S.tells S.world S.faults n text.now (length room.old) number planned.now
+    ensures runs { RunsStep S.tells S.world S.faults n text.now number planned.now
         shelf.old shelf.new result }
 {
     let left = node_file(left);
@@ -129,7 +129,7 @@ pub(crate) fn run_implication<S: Shelf>(
     requires step { MayRun n text.now number planned.now }
     requires kind { planned.now.step ≡ variants.Leq left right }
     requires room { (16384 ≤ length room.old) × (length room.old ≤ 4194304) }
-    ensures runs { RunsStep S.tells S.world S.faults n text.now (length room.old) number planned.now
+    ensures runs { RunsStep S.tells S.world S.faults n text.now number planned.now
         shelf.old shelf.new result }
 {
     let left = node_file(left);
@@ -153,7 +153,7 @@ pub(crate) fn run_evaluation<S: Shelf>(
     requires step { MayRun n text.now number planned.now }
     requires kind { planned.now.step ≡ variants.Eval of at }
     requires room { (16384 ≤ length room.old) × (length room.old ≤ 4194304) }
-    ensures runs { RunsStep S.tells S.world S.faults n text.now (length room.old) number planned.now
+    ensures runs { RunsStep S.tells S.world S.faults n text.now number planned.now
         shelf.old shelf.new result }
 {
     let of = node_file(of);

@@ -40,8 +40,8 @@ pub gate_empty : (step : ℕ) (r : FileNo → List ℕ) → last_gated step r �
 gate_empty step r none = no_last (r (checkpoint_gate step)) (r (checkpoint_file step)) none
 
 -- the last checkpoint of a reading is that of each one that has the same
-pub last_as : (step budget : ℕ) (r q : FileNo → List ℕ) (c : Checkpoint) → last_gated step q ≡ last_gated step r → IsLastOf step budget r c → IsLastOf step budget q c
-last_as step budget r q c same is = record { last = same ∙ is.last; rules = is.rules; words = is.words }
+pub last_as : (step : ℕ) (r q : FileNo → List ℕ) (c : Checkpoint) → last_gated step q ≡ last_gated step r → IsLastOf step r c → IsLastOf step q c
+last_as step r q c same is = record { last = same ∙ is.last; rules = is.rules; words = is.words }
 
 -- what is sure of a file is there in each image
 pub sure_front : (folder : Folder) (image : Image) (f : FileNo) (n : ℕ) → IsImage folder image → n ≤ (file_in folder f).firm

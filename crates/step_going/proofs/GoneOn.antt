@@ -16,18 +16,18 @@ use Rattle.step_going.proofs.Safe.{RestsSure, safe_as_before}
 use Rattle.step_going.proofs.Kept.{rests_sure_saved, standing_later, standing_saved}
 
 module _ {Task Job : Type 0} (saving : Saving Task Job) (Q : (FileNo → List ℕ) → Type 0) (rests : Checkpoint → FileNo → ℕ → Type 0)
-    (step budget sweep : ℕ) (task : Task) (job : Job) (turns : ℕ) where
+    (step sweep : ℕ) (task : Task) (job : Job) (turns : ℕ) where
   -- an image in which such a sweep goes on is safe
-  pub goes_on_safe : (r : FileNo → List ℕ) → GoesOn saving step budget sweep task job turns r → (GoesOn saving step budget sweep task job turns r → Q r)
+  pub goes_on_safe : (r : FileNo → List ℕ) → GoesOn saving step sweep task job turns r → (GoesOn saving step sweep task job turns r → Q r)
       → IsSafe Q step r
   goes_on_safe r goes follows = inr (follows goes)
 
   -- where it stands, the step does
-  pub stands_in : (makes operands : FileNo → Type 0) (next : ℕ) (folder : Folder) (s : Stands saving makes operands step next budget sweep task job turns folder)
-      → (GoesOn saving step budget sweep task job turns (present folder) → Q (present folder))
+  pub stands_in : (makes operands : FileNo → Type 0) (next : ℕ) (folder : Folder) (s : Stands saving makes operands step next sweep task job turns folder)
+      → (GoesOn saving step sweep task job turns (present folder) → Q (present folder))
       → ((f : FileNo) (n : ℕ) → rests s.goes_on.point f n → saving.rests s.goes_on.point f n)
       → ((c : Checkpoint) (text : List ℕ) (f : FileNo) (n : ℕ) → saving.fits c text → saving.rests c f n → IsRestingPlace c f)
-      → StandsIn Q rests step budget next folder s.goes_on.point
+      → StandsIn Q rests step next folder s.goes_on.point
   stands_in makes operands next folder s follows fewer apart = record {
     last = record { last = s.goes_on.last; rules = s.goes_on.rules; words = s.goes_on.words };
     goes_on = follows s.goes_on;
@@ -43,20 +43,20 @@ module _ {Task Job : Type 0} (saving : Saving Task Job) (Q : (FileNo → List �
 
   -- the step goes on by a sweep of that kind: wherever such a sweep does, the step does, and it rests on no more
   pub record GoesOnBy : Type 0 where
-    pub goes_on : (r : FileNo → List ℕ) → GoesOn saving step budget sweep task job turns r → Q r
-    pub rests_within : (r : FileNo → List ℕ) (g : GoesOn saving step budget sweep task job turns r) (f : FileNo) (n : ℕ) → rests g.point f n → saving.rests g.point f n
+    pub goes_on : (r : FileNo → List ℕ) → GoesOn saving step sweep task job turns r → Q r
+    pub rests_within : (r : FileNo → List ℕ) (g : GoesOn saving step sweep task job turns r) (f : FileNo) (n : ℕ) → rests g.point f n → saving.rests g.point f n
     pub apart : (c : Checkpoint) (text : List ℕ) (f : FileNo) (n : ℕ) → saving.fits c text → saving.rests c f n → IsRestingPlace c f
 
-  module _ (local : IsLocal Q rests step budget) (is : GoesOnBy) (makes : FileNo → Type 0) (next : ℕ) where
+  module _ (local : IsLocal Q rests step) (is : GoesOnBy) (makes : FileNo → Type 0) (next : ℕ) where
     -- while it goes on, each image is safe
-    pub went_safe : (old new : World) (last : Option Checkpoint) → IsStanding Q rests step budget next (now old).folder last → RestsSure rests makes (now old).folder last
+    pub went_safe : (old new : World) (last : Option Checkpoint) → IsStanding Q rests step next (now old).folder last → RestsSure rests makes (now old).folder last
         → Throughout old new (λ (m : Moment). (image : Image) → IsImage m.folder image → IsAsBefore makes step next (now old).folder (bytes_in image)
-        ⊎ GoesOn saving step budget sweep task job turns (bytes_in image)) → Throughout old new (λ m. AreSafe Q step m.folder)
+        ⊎ GoesOn saving step sweep task job turns (bytes_in image)) → Throughout old new (λ m. AreSafe Q step m.folder)
     went_safe old new last stood sure images =
         weakens old new (λ m. (image : Image) → IsImage m.folder image → IsAsBefore makes step next (now old).folder (bytes_in image)
-        ⊎ GoesOn saving step budget sweep task job turns (bytes_in image)) (λ m. AreSafe Q step m.folder)
+        ⊎ GoesOn saving step sweep task job turns (bytes_in image)) (λ m. AreSafe Q step m.folder)
         (λ m left image is_image. elim (left image is_image) [
-          | inl agrees ↦ safe_as_before Q rests step budget local makes next (now old).folder (bytes_in image) last stood sure agrees
+          | inl agrees ↦ safe_as_before Q rests step local makes next (now old).folder (bytes_in image) last stood sure agrees
           | inr goes ↦ goes_on_safe (bytes_in image) goes (is.goes_on (bytes_in image))
         ]) images
 
@@ -64,18 +64,18 @@ module _ {Task Job : Type 0} (saving : Saving Task Job) (Q : (FileNo → List �
     -- sweep makes, all is sure on which that rests
     pub record StandsBehind (later : ℕ) (before : Option Checkpoint) (folder : Folder) : Type 0 where
       pub last : Option Checkpoint
-      pub standing : IsStanding Q rests step budget later folder last
+      pub standing : IsStanding Q rests step later folder last
       pub sure : RestsSure rests makes folder last
-      pub which : (last ≡ before) ⊎ ((g : GoesOn saving step budget sweep task job turns (present folder)) × (last ≡ Some g.point))
+      pub which : (last ≡ before) ⊎ ((g : GoesOn saving step sweep task job turns (present folder)) × (last ≡ Some g.point))
 
     pub went_stands : (operands : FileNo → Type 0) (later : ℕ) (old new : Moment) (last : Option Checkpoint) → next ≤ later → AreFiles old.folder → IsOfStep makes operands step next
-        → IsStanding Q rests step budget next old.folder last → RestsSure rests makes old.folder last
-        → OnlySaved makes step next old new ⊎ Stands saving makes operands step later budget sweep task job turns new.folder
+        → IsStanding Q rests step next old.folder last → RestsSure rests makes old.folder last
+        → OnlySaved makes step next old new ⊎ Stands saving makes operands step later sweep task job turns new.folder
         → StandsBehind later last new.folder
     went_stands operands later old new last more are_files files stood sure (inl saved) = record {
       last = last;
-      standing = standing_later Q rests step budget next later new.folder last more
-          (standing_saved Q rests step budget local makes operands next old new last are_files files sure saved stood);
+      standing = standing_later Q rests step next later new.folder last more
+          (standing_saved Q rests step local makes operands next old new last are_files files sure saved stood);
       sure = rests_sure_saved rests makes step next old new last are_files saved sure;
       which = inl refl;
     }

@@ -127,10 +127,10 @@ stays_cut held old m c f n are_files only is mine_sure sure =
           (λ mine. (made mine).sure) (λ not_made. (other not_made).sure);
     }
 
-module _ (Q : (FileNo → List ℕ) → Type 0) (rests : Checkpoint → FileNo → ℕ → Type 0) (step budget : ℕ) where
+module _ (Q : (FileNo → List ℕ) → Type 0) (rests : Checkpoint → FileNo → ℕ → Type 0) (step : ℕ) where
   -- a later part number
-  pub standing_later : (next later : ℕ) (folder : Folder) (last : Option Checkpoint) → next ≤ later → IsStanding Q rests step budget next folder last
-      → IsStanding Q rests step budget later folder last
+  pub standing_later : (next later : ℕ) (folder : Folder) (last : Option Checkpoint) → next ≤ later → IsStanding Q rests step next folder last
+      → IsStanding Q rests step later folder last
   standing_later next later folder None more none = none
   standing_later next later folder (Some c) more s = record {
     last = s.last;
@@ -142,16 +142,16 @@ module _ (Q : (FileNo → List ℕ) → Type 0) (rests : Checkpoint → FileNo �
     taken = let taken = s.taken in omega (arith, taken, more);
   }
 
-  module _ (local : IsLocal Q rests step budget) where
+  module _ (local : IsLocal Q rests step) where
     -- where the gate, the checkpoints, and all that the last one rests on stay, it stands
-    pub stands_where : (next : ℕ) (old m : Folder) (c : Checkpoint) → StandsIn Q rests step budget next old c
+    pub stands_where : (next : ℕ) (old m : Folder) (c : Checkpoint) → StandsIn Q rests step next old c
         → file_in m (checkpoint_gate step) ≡ file_in old (checkpoint_gate step) → file_in m (checkpoint_file step) ≡ file_in old (checkpoint_file step)
-        → ((f : FileNo) (n : ℕ) → rests c f n → Stays old m f n) → StandsIn Q rests step budget next m c
+        → ((f : FileNo) (n : ℕ) → rests c f n → Stays old m f n) → StandsIn Q rests step next m c
     stands_where next old m c s gate points stays =
         let same : last_gated step (present m) ≡ last_gated step (present old) =
         same_last step (present m) (present old) (ap (λ (x : File). x.bytes) points) (ap (λ (x : File). x.bytes) gate) in
         record {
-          last = last_as step budget (present old) (present m) c same s.last;
+          last = last_as step (present old) (present m) c same s.last;
           goes_on = local c (present old) (present m) s.last same (λ f n is. (stays f n is).same) s.goes_on;
           gate = subst IsFirm (sym gate) s.gate;
           points = subst (λ (x : File). 16384 * length x.bytes ≤ (file_in m (checkpoint_file step)).firm) (sym gate)
@@ -163,7 +163,7 @@ module _ (Q : (FileNo → List ℕ) → Type 0) (rests : Checkpoint → FileNo �
 
     -- where other files change
     pub standing_kept : (these : FileNo → Type 0) (next : ℕ) (old m : Folder) (last : Option Checkpoint) → OnlyChanges these old m → ¬ (these (checkpoint_gate step))
-        → RestsApart rests these step last → IsStanding Q rests step budget next old last → IsStanding Q rests step budget next m last
+        → RestsApart rests these step last → IsStanding Q rests step next old last → IsStanding Q rests step next m last
     standing_kept these next old m None only gate apart none = only (checkpoint_gate step) gate ∙ none
     standing_kept these next old m (Some c) only gate apart s =
         stands_where next old m c s (only (checkpoint_gate step) gate) (only (checkpoint_file step) apart.0)
@@ -172,7 +172,7 @@ module _ (Q : (FileNo → List ℕ) → Type 0) (rests : Checkpoint → FileNo �
     -- while a sweep of the step goes on, or is made ready to be saved
     pub standing_saved : (makes operands : FileNo → Type 0) (next : ℕ) (old m : Moment) (last : Option Checkpoint) → AreFiles old.folder
         → IsOfStep makes operands step next → RestsSure rests makes old.folder last → OnlySaved makes step next old m
-        → IsStanding Q rests step budget next old.folder last → IsStanding Q rests step budget next m.folder last
+        → IsStanding Q rests step next old.folder last → IsStanding Q rests step next m.folder last
     standing_saved makes operands next old m None are_files files sure saved none = gate_stays makes operands step next old m files saved ∙ none
     standing_saved makes operands next old m (Some c) are_files files sure saved s =
         let step_is : c.step ≡ step = s.last.rules.step_is in
@@ -185,7 +185,7 @@ module _ (Q : (FileNo → List ℕ) → Type 0) (rests : Checkpoint → FileNo �
     -- while a sweep is rebuilt from the checkpoint
     pub standing_rebuilt : (held : FileNo → ℕ → Type 0) (next : ℕ) (old m : Moment) (c : Checkpoint) → AreFiles old.folder → OnlyCutBehind c held old m
         → ((f : FileNo) (n : ℕ) → rests c f n → held f n) → MadeSure rests held old.folder c
-        → StandsIn Q rests step budget next old.folder c → StandsIn Q rests step budget next m.folder c
+        → StandsIn Q rests step next old.folder c → StandsIn Q rests step next m.folder c
     standing_rebuilt held next old m c are_files only within sure s =
         let gate : ¬ IsMadePart c.step c.next_part (checkpoint_gate step) =
         λ mine. elim mine.part [ inl none ↦ absurd (omega (arith, none)) | inr arcs ↦ let from = arcs.0 in absurd (omega (arith, from)) ] in
@@ -198,30 +198,30 @@ module _ (Q : (FileNo → List ℕ) → Type 0) (rests : Checkpoint → FileNo �
     pub safe_rebuilt : (held : FileNo → ℕ → Type 0) (next : ℕ) (old new : World) (c : Checkpoint) → AreFiles (now old).folder
         → Ran (OnlyCutBehind c held (now old)) old new → ((f : FileNo) (n : ℕ) → rests c f n → held f n)
         → MadeSure rests held (now old).folder c
-        → StandsIn Q rests step budget next (now old).folder c → Throughout old new (λ m. AreSafe Q step m.folder)
+        → StandsIn Q rests step next (now old).folder c → Throughout old new (λ m. AreSafe Q step m.folder)
     safe_rebuilt held next old new c are_files run within sure s =
         weakens old new (Quiet (now old).said (OnlyCutBehind c held (now old))) (λ m. AreSafe Q step m.folder)
-        (λ m quiet. safe_standing Q rests step budget local next m.folder (Some c)
+        (λ m quiet. safe_standing Q rests step local next m.folder (Some c)
         (standing_rebuilt held next (now old) m c are_files quiet.holds within sure s)) run.moments
 
     module _ (these : FileNo → Type 0) (next : ℕ) (last : Option Checkpoint) (gate : ¬ (these (checkpoint_gate step))) (apart : RestsApart rests these step last) where
       -- over a run that changes other files, each image of each moment is safe, and the step stands at its end
-      pub safe_over : (old new : World) → Ran (OnlyChanged these (now old)) old new → IsStanding Q rests step budget next (now old).folder last
+      pub safe_over : (old new : World) → Ran (OnlyChanged these (now old)) old new → IsStanding Q rests step next (now old).folder last
           → Throughout old new (λ m. AreSafe Q step m.folder)
       safe_over old new run s =
           weakens old new (Quiet (now old).said (OnlyChanged these (now old))) (λ m. AreSafe Q step m.folder)
-          (λ m quiet. safe_standing Q rests step budget local next m.folder last (standing_kept these next (now old).folder m.folder last quiet.holds gate apart s)) run.moments
+          (λ m quiet. safe_standing Q rests step local next m.folder last (standing_kept these next (now old).folder m.folder last quiet.holds gate apart s)) run.moments
 
-      pub standing_over : (old new : World) → Ran (OnlyChanged these (now old)) old new → IsStanding Q rests step budget next (now old).folder last
-          → IsStanding Q rests step budget next (now new).folder last
+      pub standing_over : (old new : World) → Ran (OnlyChanged these (now old)) old new → IsStanding Q rests step next (now old).folder last
+          → IsStanding Q rests step next (now new).folder last
       standing_over old new run s =
           standing_kept these next (now old).folder (now new).folder last (ran_end old new (OnlyChanged these (now old)) run) gate apart s
 
       -- the same of stations that tell
       module _ {S : Type 0} (tells : S → Bool) (world : S → World) (old new : S) (did : Told tells old new (Ran (OnlyChanged these (now (world old))) (world old) (world new)))
-          (stood : IsTrue (tells old) → IsStanding Q rests step budget next (now (world old)).folder last) where
+          (stood : IsTrue (tells old) → IsStanding Q rests step next (now (world old)).folder last) where
         pub safe_along : IsTrue (tells new) → Throughout (world old) (world new) (λ m. AreSafe Q step m.folder)
         safe_along tells_new = safe_over (world old) (world new) (did.did tells_new) (stood (did.before tells_new))
 
-        pub standing_along : IsTrue (tells new) → IsStanding Q rests step budget next (now (world new)).folder last
+        pub standing_along : IsTrue (tells new) → IsStanding Q rests step next (now (world new)).folder last
         standing_along tells_new = standing_over (world old) (world new) (did.did tells_new) (stood (did.before tells_new))

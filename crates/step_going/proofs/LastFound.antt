@@ -40,25 +40,25 @@ others_sure rests step old m None during sure = tt
 others_sure rests step old m (Some c) during sure = λ f n is differ. subst IsFirm (sym (during.others f differ)) (sure f n is differ)
 
 -- what a reading tells
-none_told : (step budget : ℕ) (last : Option (List ℕ)) → Tells step budget last None → last ≡ None
-none_told step budget None told = refl
-none_told step budget (Some bytes) told = absurd told
+none_told : (step : ℕ) (last : Option (List ℕ)) → Tells step last None → last ≡ None
+none_told step None told = refl
+none_told step (Some bytes) told = absurd told
 
 -- the bytes that were told are that checkpoint
-record IsTold (step budget : ℕ) (last : Option (List ℕ)) (c : Checkpoint) : Type 0 where
+record IsTold (step : ℕ) (last : Option (List ℕ)) (c : Checkpoint) : Type 0 where
   bytes : List ℕ
   last_is : last ≡ Some bytes
-  point : IsPointOf step budget bytes c
+  point : IsPointOf step bytes c
 
-some_told : (step budget : ℕ) (last : Option (List ℕ)) (c : Checkpoint) → Tells step budget last (Some c) → IsTold step budget last c
-some_told step budget None c told = absurd told
-some_told step budget (Some bytes) c told = record { bytes = bytes; last_is = refl; point = told }
+some_told : (step : ℕ) (last : Option (List ℕ)) (c : Checkpoint) → Tells step last (Some c) → IsTold step last c
+some_told step None c told = absurd told
+some_told step (Some bytes) c told = record { bytes = bytes; last_is = refl; point = told }
 
 -- what is read of a folder is what an image has
 read_left : (folder : Folder) → AreFiles folder → bytes_in (chosen (λ _ x. x.bytes) folder) ≡ present folder
 read_left folder files = λ i f. bytes_in-chosen (λ _ x. x.bytes) folder f (standing_left (file_in folder f) (files f)) i
 
-module _ (Q : (FileNo → List ℕ) → Type 0) (rests : Checkpoint → FileNo → ℕ → Type 0) (step budget : ℕ) where
+module _ (Q : (FileNo → List ℕ) → Type 0) (rests : Checkpoint → FileNo → ℕ → Type 0) (step : ℕ) where
   -- a safe folder goes on as it is read, where a checkpoint is gated
   pub goes_on_read : (folder : Folder) (bytes : List ℕ) → AreFiles folder → AreSafe Q step folder → last_gated step (present folder) ≡ Some bytes → Q (present folder)
   goes_on_read folder bytes files safe last =
@@ -82,29 +82,29 @@ module _ (Q : (FileNo → List ℕ) → Type 0) (rests : Checkpoint → FileNo �
       (λ m quiet. safe_found (now old) m quiet.holds safe) run.moments
 
   -- the checkpoint that was told is the one from which the step goes on
-  found_last : (folder : Folder) (c : Checkpoint) → IsFromLast Q rests step budget → IsTold step budget (last_gated step (present folder)) c → Q (present folder)
-      → IsLastOf step budget (present folder) c × ((f : FileNo) (n : ℕ) → rests c f n → IsRestingPlace c f)
+  found_last : (folder : Folder) (c : Checkpoint) → IsFromLast Q rests step → IsTold step (last_gated step (present folder)) c → Q (present folder)
+      → IsLastOf step (present folder) c × ((f : FileNo) (n : ℕ) → rests c f n → IsRestingPlace c f)
   found_last folder c from told goes =
       let its = from (present folder) goes in
       let d : Checkpoint = its.0 in
-      let last : IsLastOf step budget (present folder) d = its.1 in
+      let last : IsLastOf step (present folder) d = its.1 in
       let whole : told.bytes ≡ point_bytes d = same_Some told.bytes (point_bytes d) (sym told.last_is ∙ last.last) in
-      let same : d ≡ c = told_point step budget told.bytes d c whole last.words told.point in
-      subst (λ (p : Checkpoint). IsLastOf step budget (present folder) p × ((f : FileNo) (n : ℕ) → rests p f n → IsRestingPlace p f)) same (last, its.2)
+      let same : d ≡ c = told_point step told.bytes d c whole last.words told.point in
+      subst (λ (p : Checkpoint). IsLastOf step (present folder) p × ((f : FileNo) (n : ℕ) → rests p f n → IsRestingPlace p f)) same (last, its.2)
 
   -- where nothing was found, none is gated
-  none_found : (folder : Folder) → IsFound step budget folder None → HasNone step folder
+  none_found : (folder : Folder) → IsFound step folder None → HasNone step folder
   none_found folder found =
-      let empty : present folder (checkpoint_gate step) ≡ [] = gate_empty step (present folder) (none_told step budget (last_gated step (present folder)) found.last) in
+      let empty : present folder (checkpoint_gate step) ≡ [] = gate_empty step (present folder) (none_told step (last_gated step (present folder)) found.last) in
       found.gate ∙ ap firm_file empty
 
   -- where a checkpoint was found, the step stands with it
-  some_found : (folder : Folder) (c : Checkpoint) → IsFromLast Q rests step budget → AreFiles folder → AreSafe Q step folder → IsFound step budget folder (Some c)
-      → OthersSure rests step folder (Some c) → StandsIn Q rests step budget c.next_part folder c
+  some_found : (folder : Folder) (c : Checkpoint) → IsFromLast Q rests step → AreFiles folder → AreSafe Q step folder → IsFound step folder (Some c)
+      → OthersSure rests step folder (Some c) → StandsIn Q rests step c.next_part folder c
   some_found folder c from files safe found others =
-      let told : IsTold step budget (last_gated step (present folder)) c = some_told step budget (last_gated step (present folder)) c found.last in
+      let told : IsTold step (last_gated step (present folder)) c = some_told step (last_gated step (present folder)) c found.last in
       let goes : Q (present folder) = goes_on_read folder told.bytes files safe told.last_is in
-      let last : IsLastOf step budget (present folder) c × ((f : FileNo) (n : ℕ) → rests c f n → IsRestingPlace c f) = found_last folder c from told goes in
+      let last : IsLastOf step (present folder) c × ((f : FileNo) (n : ℕ) → rests c f n → IsRestingPlace c f) = found_last folder c from told goes in
       record {
         last = last.0;
         goes_on = goes;
@@ -120,15 +120,15 @@ module _ (Q : (FileNo → List ℕ) → Type 0) (rests : Checkpoint → FileNo �
       }
 
   -- so it stands with what was found
-  pub standing_found : (folder : Folder) (found : Option Checkpoint) → IsFromLast Q rests step budget → AreFiles folder → AreSafe Q step folder
-      → IsFound step budget folder found → OthersSure rests step folder found → IsStanding Q rests step budget (next_of found) folder found
+  pub standing_found : (folder : Folder) (found : Option Checkpoint) → IsFromLast Q rests step → AreFiles folder → AreSafe Q step folder
+      → IsFound step folder found → OthersSure rests step folder found → IsStanding Q rests step (next_of found) folder found
   standing_found folder None from files safe is others = none_found folder is
   standing_found folder (Some c) from files safe is others = some_found folder c from files safe is others
 
   -- the same from the moment at which the search began
-  pub standing_searched : (old new : World) (found : Option Checkpoint) → IsFromLast Q rests step budget → AreFiles (now new).folder
-      → AreSafe Q step (now old).folder → Ran (DuringFind step (now old)) old new → IsFound step budget (now new).folder found
-      → OthersSure rests step (now old).folder found → IsStanding Q rests step budget (next_of found) (now new).folder found
+  pub standing_searched : (old new : World) (found : Option Checkpoint) → IsFromLast Q rests step → AreFiles (now new).folder
+      → AreSafe Q step (now old).folder → Ran (DuringFind step (now old)) old new → IsFound step (now new).folder found
+      → OthersSure rests step (now old).folder found → IsStanding Q rests step (next_of found) (now new).folder found
   standing_searched old new found from files safe run is others =
       let during : DuringFind step (now old) (now new) = ran_end old new (DuringFind step (now old)) run in
       standing_found (now new).folder found from files (safe_found (now old) (now new) during safe) is (others_sure rests step (now old) (now new) found during others)

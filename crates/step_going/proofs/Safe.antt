@@ -24,41 +24,41 @@ none_left : (step : ℕ) (folder : Folder) (image : Image) → HasNone step fold
 none_left step folder image none is_image =
     left_of_none (bytes_in image (checkpoint_gate step)) (subst (λ x. IsLeft x (bytes_in image (checkpoint_gate step))) none (is_image (checkpoint_gate step)))
 
-module _ (Q : (FileNo → List ℕ) → Type 0) (rests : Checkpoint → FileNo → ℕ → Type 0) (step budget : ℕ) where
+module _ (Q : (FileNo → List ℕ) → Type 0) (rests : Checkpoint → FileNo → ℕ → Type 0) (step : ℕ) where
   -- the last checkpoint is that one in each image, and what it rests on is there
-  last_left : (next : ℕ) (folder : Folder) (image : Image) (c : Checkpoint) → StandsIn Q rests step budget next folder c → IsImage folder image
+  last_left : (next : ℕ) (folder : Folder) (image : Image) (c : Checkpoint) → StandsIn Q rests step next folder c → IsImage folder image
       → last_gated step (bytes_in image) ≡ last_gated step (present folder)
   last_left next folder image c s is_image =
       same_gated step (bytes_in image) (present folder) (firm_left folder image (checkpoint_gate step) is_image s.gate)
       (sure_front folder image (checkpoint_file step) (gated_size step folder) is_image s.points)
 
-  front_left : (next : ℕ) (folder : Folder) (image : Image) (c : Checkpoint) → StandsIn Q rests step budget next folder c → IsImage folder image
+  front_left : (next : ℕ) (folder : Folder) (image : Image) (c : Checkpoint) → StandsIn Q rests step next folder c → IsImage folder image
       → (f : FileNo) (n : ℕ) → rests c f n → take n (bytes_in image f) ≡ take n (present folder f)
   front_left next folder image c s is_image f n is = elim (s.sure f n is) [
     | inl firm ↦ ap (take n) (firm_left folder image f is_image firm)
     | inr few ↦ sure_front folder image f n is_image few
   ]
 
-  module _ (local : IsLocal Q rests step budget) where
+  module _ (local : IsLocal Q rests step) where
     -- in each image the step goes on from it
-    pub goes_on_left : (next : ℕ) (folder : Folder) (image : Image) (c : Checkpoint) → StandsIn Q rests step budget next folder c → IsImage folder image
+    pub goes_on_left : (next : ℕ) (folder : Folder) (image : Image) (c : Checkpoint) → StandsIn Q rests step next folder c → IsImage folder image
         → Q (bytes_in image)
     goes_on_left next folder image c s is_image =
         local c (present folder) (bytes_in image) s.last (last_left next folder image c s is_image) (front_left next folder image c s is_image) s.goes_on
 
     -- so each image is safe
-    pub safe_standing : (next : ℕ) (folder : Folder) (last : Option Checkpoint) → IsStanding Q rests step budget next folder last → AreSafe Q step folder
+    pub safe_standing : (next : ℕ) (folder : Folder) (last : Option Checkpoint) → IsStanding Q rests step next folder last → AreSafe Q step folder
     safe_standing next folder None none image is_image = inl (none_left step folder image none is_image)
     safe_standing next folder (Some c) s image is_image = inr (goes_on_left next folder image c s is_image)
 
     -- and so is what agrees with one, as a sweep leaves it that saved nothing yet
     pub safe_as_before : (makes : FileNo → Type 0) (next : ℕ) (old : Folder) (r : FileNo → List ℕ) (last : Option Checkpoint)
-        → IsStanding Q rests step budget next old last → RestsSure rests makes old last → IsAsBefore makes step next old r → IsSafe Q step r
+        → IsStanding Q rests step next old last → RestsSure rests makes old last → IsAsBefore makes step next old r → IsSafe Q step r
     safe_as_before makes next old r None none sure agrees =
         inl (gate_empty step r (agrees.last ∙ none_gated step (bytes_in agrees.before) (none_left step old agrees.before none agrees.is_image)))
     safe_as_before makes next old r (Some c) s sure agrees = inr
         (local c (bytes_in agrees.before) r
-        (last_as step budget (present old) (bytes_in agrees.before) c (last_left next old agrees.before c s agrees.is_image) s.last)
+        (last_as step (present old) (bytes_in agrees.before) c (last_left next old agrees.before c s agrees.is_image) s.last)
         agrees.last
         (λ f n is. either_way (makes f) (take n (r f) ≡ take n (bytes_in agrees.before f)) (cases_bytes (take n (r f)) (take n (bytes_in agrees.before f)))
         (λ mine. agrees.fronts f mine n (sure f n is mine))

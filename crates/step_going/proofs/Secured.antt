@@ -139,32 +139,32 @@ last_stays : (step : ℕ) (old new : FileNo → List ℕ) → ((f : FileNo) → 
 last_stays step old new same = λ i. last_of (length (same (checkpoint_gate step) i)) (same (checkpoint_file step) i)
 
 -- what was loaded is found, where it is sure now
-found_then : (step budget : ℕ) (old m : Moment) (found : Option Checkpoint) → AreFiles m.folder → DuringFind step old m → IsLoaded step budget old.folder found
-    → IsSecuredFor step m.folder found → IsFound step budget m.folder found
-found_then step budget old m found are_files during loaded sure = record {
+found_then : (step : ℕ) (old m : Moment) (found : Option Checkpoint) → AreFiles m.folder → DuringFind step old m → IsLoaded step old.folder found
+    → IsSecuredFor step m.folder found → IsFound step m.folder found
+found_then step old m found are_files during loaded sure = record {
   gate = gate_stays step old m are_files during loaded.sure;
-  last = subst (λ bytes. Tells step budget bytes found) (sym (last_stays step (present old.folder) (present m.folder) during.reads)) loaded.last;
+  last = subst (λ bytes. Tells step bytes found) (sym (last_stays step (present old.folder) (present m.folder) during.reads)) loaded.last;
   secured = sure;
 }
 
 -- what was loaded stands in its bytes
-loaded_bytes : (step budget : ℕ) (o : Option (List ℕ)) (c : Checkpoint) → Tells step budget o (Some c) → (bytes : List ℕ) × (o ≡ Some bytes) × IsPointOf step budget bytes c
-loaded_bytes step budget None c told = absurd told
-loaded_bytes step budget (Some bytes) c told = (bytes, refl, told)
+loaded_bytes : (step : ℕ) (o : Option (List ℕ)) (c : Checkpoint) → Tells step o (Some c) → (bytes : List ℕ) × (o ≡ Some bytes) × IsPointOf step bytes c
+loaded_bytes step None c told = absurd told
+loaded_bytes step (Some bytes) c told = (bytes, refl, told)
 
 -- too many parts were taken for the turns
-part_fault : (step budget : ℕ) (r : FileNo → List ℕ) (f : FileNo) (at : ℕ) (c : Checkpoint) → f ≡ checkpoint_file step → at ≡ gated_place step r → Tells step budget (last_gated step r) (Some c)
-    → ¬ (IsPaid c) → IsFindFault step budget r (Damaged f at)
-part_fault step budget r f at c file place told many =
-    let stands = loaded_bytes step budget (last_gated step r) c told in (
+part_fault : (step : ℕ) (r : FileNo → List ℕ) (f : FileNo) (at : ℕ) (c : Checkpoint) → f ≡ checkpoint_file step → at ≡ gated_place step r → Tells step (last_gated step r) (Some c)
+    → ¬ (IsPaid c) → IsFindFault step r (Damaged f at)
+part_fault step r f at c file place told many =
+    let stands = loaded_bytes step (last_gated step r) c told in (
       file,
       place,
       (stands.0, stands.1, λ d is paid. many (same_paid d c is.fits stands.2.fits (sym is.used ∙ stands.2.used) paid)),
     )
 
 -- a checkpoint that was loaded is of the step
-loaded_step : (step budget : ℕ) (found : Option Checkpoint) (c : Checkpoint) → found ≡ Some c → IfSome found (KeepsRules step budget) → c.step ≡ step
-loaded_step step budget found c is rules = (subst (λ o. IfSome o (KeepsRules step budget)) is rules).step_is
+loaded_step : (step : ℕ) (found : Option Checkpoint) (c : Checkpoint) → found ≡ Some c → IfSome found (KeepsRules step) → c.step ≡ step
+loaded_step step found c is rules = (subst (λ o. IfSome o (KeepsRules step)) is rules).step_is
 
 module _ {S : Type 0} (tells : S → Bool) (world : S → World) (step : ℕ) where
   -- the last checkpoint was loaded
@@ -187,25 +187,25 @@ module _ {S : Type 0} (tells : S → Bool) (world : S → World) (step : ℕ) wh
       ran_weakens (world s) (world t) (Stays (now (world s))) (DuringFind step (now (world s))) (find_staying step (now (world s))) run))
 
   -- the files of a checkpoint that was loaded are made sure
-  pub find_secured : (budget : ℕ) (found : Option Checkpoint) (c : Checkpoint) (old s t : S) → found ≡ Some c → IfSome found (KeepsRules step budget)
+  pub find_secured : (found : Option Checkpoint) (c : Checkpoint) (old s t : S) → found ≡ Some c → IfSome found (KeepsRules step)
       → Told tells old s (Ran (DuringFind step (now (world old))) (world old) (world s))
       → Told tells s t (Ran (DuringFind c.step (now (world s))) (world s) (world t)) → Told tells old t (Ran (DuringFind step (now (world old))) (world old) (world t))
-  find_secured budget found c old s t is rules so_far call =
-      find_on old s t so_far (subst (λ k. Told tells s t (Ran (DuringFind k (now (world s))) (world s) (world t))) (loaded_step step budget found c is rules) call)
+  find_secured found c old s t is rules so_far call =
+      find_on old s t so_far (subst (λ k. Told tells s t (Ran (DuringFind k (now (world s))) (world s) (world t))) (loaded_step step found c is rules) call)
 
   -- what was loaded has too many parts
-  pub too_many : (budget : ℕ) (f : FileNo) (at : ℕ) (found : Option Checkpoint) (c : Checkpoint) (old s t : S) → found ≡ Some c → Told tells old s (Ran (DuringLoad step (now (world old))) (world old) (world s))
-      → (IsTrue (tells s) → IsLoaded step budget (now (world s)).folder found) → f ≡ checkpoint_file step → Told tells s t (Ran (Stays (now (world s))) (world s) (world t))
+  pub too_many : (f : FileNo) (at : ℕ) (found : Option Checkpoint) (c : Checkpoint) (old s t : S) → found ≡ Some c → Told tells old s (Ran (DuringLoad step (now (world old))) (world old) (world s))
+      → (IsTrue (tells s) → IsLoaded step (now (world s)).folder found) → f ≡ checkpoint_file step → Told tells s t (Ran (Stays (now (world s))) (world s) (world t))
       → (IsTrue (tells t) → at ≡ gated_place step (present (now (world s)).folder)) → 512 + c.turns / 16 < c.next_part → IsTrue (tells t)
-      → IsFindFault step budget (present (now (world old)).folder) (Damaged f at)
-  too_many budget f at found c old s t is run loaded file asked place many tells_new =
+      → IsFindFault step (present (now (world old)).folder) (Damaged f at)
+  too_many f at found c old s t is run loaded file asked place many tells_new =
       let tells_mid : IsTrue (tells s) = asked.before tells_new in
       let during : DuringLoad step (now (world old)) (now (world s)) = ran_end (world old) (world s) (DuringLoad step (now (world old))) (run.did tells_mid) in
       let before : FileNo → List ℕ = present (now (world old)).folder in
       let after : FileNo → List ℕ = present (now (world s)).folder in
-      part_fault step budget before f at c file
+      part_fault step before f at c file
       (place tells_new ∙ ap (λ bytes. 16384 * (length bytes - 1)) (during.reads (checkpoint_gate step)))
-      (subst (λ o. Tells step budget o (Some c)) (last_stays step before after during.reads) (subst (λ o. Tells step budget (last_gated step after) o) is (loaded tells_mid).last))
+      (subst (λ o. Tells step o (Some c)) (last_stays step before after during.reads) (subst (λ o. Tells step (last_gated step after) o) is (loaded tells_mid).last))
       (many_parts c many)
 
 module _ {S : Type 0} (tells : S → Bool) (world : S → World) (step : ℕ) (files : (x : S) → IsTrue (tells x) → AreFiles (now (world x)).folder) where
@@ -216,12 +216,12 @@ module _ {S : Type 0} (tells : S → Bool) (world : S → World) (step : ℕ) (f
       (λ m only. find_synced step (now (world old)) m (files old tells_old) only) done.run)
 
   -- and what was loaded is found
-  pub found_secured : (budget : ℕ) (found : Option Checkpoint) (c : Checkpoint) (s t : S) → found ≡ Some c → IfSome found (KeepsRules step budget)
-      → (IsTrue (tells s) → IsLoaded step budget (now (world s)).folder found)
+  pub found_secured : (found : Option Checkpoint) (c : Checkpoint) (s t : S) → found ≡ Some c → IfSome found (KeepsRules step)
+      → (IsTrue (tells s) → IsLoaded step (now (world s)).folder found)
       → Told tells s t (Ran (DuringFind c.step (now (world s))) (world s) (world t)) → (IsTrue (tells t) → AreSecured c.step (now (world t)).folder c)
-      → IsTrue (tells t) → IsFound step budget (now (world t)).folder (Some c)
-  found_secured budget found c s t is rules loaded call sure tells_new =
-      let same : c.step ≡ step = loaded_step step budget found c is rules in
-      found_then step budget (now (world s)) (now (world t)) (Some c) (files t tells_new)
+      → IsTrue (tells t) → IsFound step (now (world t)).folder (Some c)
+  found_secured found c s t is rules loaded call sure tells_new =
+      let same : c.step ≡ step = loaded_step step found c is rules in
+      found_then step (now (world s)) (now (world t)) (Some c) (files t tells_new)
       (subst (λ k. DuringFind k (now (world s)) (now (world t))) same (ran_end (world s) (world t) (DuringFind c.step (now (world s))) (call.did tells_new)))
-      (subst (IsLoaded step budget (now (world s)).folder) is (loaded (call.before tells_new))) (subst (λ k. AreSecured k (now (world t)).folder c) same (sure tells_new))
+      (subst (IsLoaded step (now (world s)).folder) is (loaded (call.before tells_new))) (subst (λ k. AreSecured k (now (world t)).folder c) same (sure tells_new))

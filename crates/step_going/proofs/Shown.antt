@@ -62,10 +62,10 @@ none_shows step folder none =
 
 -- where a step stands its last checkpoint shows them
 pub standing_shows : (Q : (FileNo → List ℕ) → Type 0) (rests : Checkpoint → FileNo → ℕ → Type 0)
-    (step budget next : ℕ) (folder : Folder) (last : Option Checkpoint)
-    → IsStanding Q rests step budget next folder last → ShowsSurely step (shown_by last) folder
-standing_shows Q rests step budget next folder None none = none_shows step folder none
-standing_shows Q rests step budget next folder (Some c) stands = record {
+    (step next : ℕ) (folder : Folder) (last : Option Checkpoint)
+    → IsStanding Q rests step next folder last → ShowsSurely step (shown_by last) folder
+standing_shows Q rests step next folder None none = none_shows step folder none
+standing_shows Q rests step next folder (Some c) stands = record {
   gate = stands.gate;
   points = stands.points;
   shows = ap turns_in stands.last.last ∙ point_turns c stands.last.words;

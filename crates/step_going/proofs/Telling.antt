@@ -33,8 +33,8 @@ unfolding point_bytes
 used_first c fits = take_at (used_bytes c) (replicate 512 0) 15872 (length_used c fits)
 
 -- whole bytes that are a checkpoint's are read as that one
-pub told_point : (step budget : ℕ) (bytes : List ℕ) (c d : Checkpoint) → bytes ≡ point_bytes c → Fits c → IsPointOf step budget bytes d → c ≡ d
-told_point step budget bytes c d whole fits is =
+pub told_point : (step : ℕ) (bytes : List ℕ) (c d : Checkpoint) → bytes ≡ point_bytes c → Fits c → IsPointOf step bytes d → c ≡ d
+told_point step bytes c d whole fits is =
     one_point bytes c d fits is.fits (ap (take 15872) whole ∙ used_first c fits) is.used
 
 -- where the last of n checkpoints is whole, all are there

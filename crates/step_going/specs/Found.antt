@@ -22,7 +22,7 @@ use Rattle.sweep_checkpoint.specs.declared.going.Going.{Going}
 -- numbers were taken for its turns
 abbrev pub IsComeTo : Option Checkpoint → Going → Type 0
 IsComeTo None going = (going.turns ≡ 0) × (going.sweep ≡ 0)
-IsComeTo (Some c) going = (going.turns ≡ c.turns) × (going.sweep ≡ c.sweep) × KeepsRules going.step going.budget c
+IsComeTo (Some c) going = (going.turns ≡ c.turns) × (going.sweep ≡ c.sweep) × KeepsRules going.step c
     × IsPaid c
 
 -- how far the step of that number has come, in a run with that budget
@@ -55,9 +55,9 @@ IsSecuredFor step folder None = Unit
 IsSecuredFor step folder (Some c) = AreSecured step folder c
 
 -- the gate is sure, and what was found is what it counts last; and that is sure
-pub record IsFound (step budget : ℕ) (folder : Folder) (found : Option Checkpoint) : Type 0 where
+pub record IsFound (step : ℕ) (folder : Folder) (found : Option Checkpoint) : Type 0 where
   pub gate : IsGateSure step folder
-  pub last : Tells step budget (last_gated step (present folder)) found
+  pub last : Tells step (last_gated step (present folder)) found
   pub secured : IsSecuredFor step folder found
 
 -- meanwhile files of other steps stay, reads give what they gave, and no image is new
@@ -68,8 +68,8 @@ pub record DuringFind (step : ℕ) (old m : Moment) : Type 0 where
 
 -- damage is at the place of the last gated checkpoint: its bytes are none that keeps the rules, or too many parts were
 -- taken for its turns
-abbrev pub IsFindFault : ℕ → ℕ → (FileNo → List ℕ) → StreamFault → Type 0
-IsFindFault step budget r Shelf = Unit
-IsFindFault step budget r (Damaged f at) = (f ≡ checkpoint_file step) × (at ≡ gated_place step r)
+abbrev pub IsFindFault : ℕ → (FileNo → List ℕ) → StreamFault → Type 0
+IsFindFault step r Shelf = Unit
+IsFindFault step r (Damaged f at) = (f ≡ checkpoint_file step) × (at ≡ gated_place step r)
     × ((bytes : List ℕ) × (last_gated step r ≡ Some bytes)
-    × ((c : Checkpoint) → IsPointOf step budget bytes c → ¬ (IsPaid c)))
+    × ((c : Checkpoint) → IsPointOf step bytes c → ¬ (IsPaid c)))

@@ -14,10 +14,10 @@ use Rattle.sweep_checkpoint.specs.Rules.{KeepsRules}
 use Rattle.sweep_checkpoint.specs.Gated.{present, last_gated}
 use Rattle.sweep_checkpoint.specs.Saves.{gated_size, IsGateSure}
 
--- the checkpoint is the last gated one of the step, whole, of that step and the budget, and keeps the rules
-pub record IsLastOf (step budget : ℕ) (r : FileNo → List ℕ) (c : Checkpoint) : Type 0 where
+-- the checkpoint is the last gated one of the step, whole, of that step, and keeps the rules
+pub record IsLastOf (step : ℕ) (r : FileNo → List ℕ) (c : Checkpoint) : Type 0 where
   pub last : last_gated step r ≡ Some (point_bytes c)
-  pub rules : KeepsRules step budget c
+  pub rules : KeepsRules step c
   pub words : Fits c
 
 -- an image is safe for a step: none of its checkpoints is gated, or it goes on from the last one
@@ -29,14 +29,14 @@ abbrev pub AreSafe : ((FileNo → List ℕ) → Type 0) → ℕ → Folder → T
 AreSafe Q step folder = (image : Image) → IsImage folder image → IsSafe Q step (bytes_in image)
 
 -- whether the step goes on depends on its last gated checkpoint and on what that rests on alone
-abbrev pub IsLocal : ((FileNo → List ℕ) → Type 0) → (Checkpoint → FileNo → ℕ → Type 0) → ℕ → ℕ → Type 0
-IsLocal Q rests step budget = (c : Checkpoint) (old new : FileNo → List ℕ) → IsLastOf step budget old c
+abbrev pub IsLocal : ((FileNo → List ℕ) → Type 0) → (Checkpoint → FileNo → ℕ → Type 0) → ℕ → Type 0
+IsLocal Q rests step = (c : Checkpoint) (old new : FileNo → List ℕ) → IsLastOf step old c
     → last_gated step new ≡ last_gated step old
     → ((f : FileNo) (n : ℕ) → rests c f n → take n (new f) ≡ take n (old f)) → Q old → Q new
 
 -- and it goes on from that checkpoint: one that keeps the rules, and rests on no file that a sweep of the step takes
-abbrev pub IsFromLast : ((FileNo → List ℕ) → Type 0) → (Checkpoint → FileNo → ℕ → Type 0) → ℕ → ℕ → Type 0
-IsFromLast Q rests step budget = (r : FileNo → List ℕ) → Q r → (c : Checkpoint) × IsLastOf step budget r c
+abbrev pub IsFromLast : ((FileNo → List ℕ) → Type 0) → (Checkpoint → FileNo → ℕ → Type 0) → ℕ → Type 0
+IsFromLast Q rests step = (r : FileNo → List ℕ) → Q r → (c : Checkpoint) × IsLastOf step r c
     × ((f : FileNo) (n : ℕ) → rests c f n → IsRestingPlace c f)
 
 -- whatever a stop leaves, no checkpoint of the step is gated
@@ -47,8 +47,8 @@ HasNone step folder = file_in folder (checkpoint_gate step) ≡ no_file
 -- are the checkpoints that it counts, and all that this one rests on, which no sweep of the step takes from the next part
 -- number on
 pub record StandsIn (Q : (FileNo → List ℕ) → Type 0) (rests : Checkpoint → FileNo → ℕ → Type 0)
-    (step budget next : ℕ) (folder : Folder) (c : Checkpoint) : Type 0 where
-  pub last : IsLastOf step budget (present folder) c
+    (step next : ℕ) (folder : Folder) (c : Checkpoint) : Type 0 where
+  pub last : IsLastOf step (present folder) c
   pub goes_on : Q (present folder)
   pub gate : IsGateSure step folder
   pub points : gated_size step folder ≤ (file_in folder (checkpoint_file step)).firm
@@ -57,7 +57,7 @@ pub record StandsIn (Q : (FileNo → List ℕ) → Type 0) (rests : Checkpoint �
   pub taken : c.next_part ≤ next
 
 -- none is gated, or it stands so with the last one
-abbrev pub IsStanding : ((FileNo → List ℕ) → Type 0) → (Checkpoint → FileNo → ℕ → Type 0) → ℕ → ℕ → ℕ → Folder
+abbrev pub IsStanding : ((FileNo → List ℕ) → Type 0) → (Checkpoint → FileNo → ℕ → Type 0) → ℕ → ℕ → Folder
     → Option Checkpoint → Type 0
-IsStanding Q rests step budget next folder None = HasNone step folder
-IsStanding Q rests step budget next folder (Some c) = StandsIn Q rests step budget next folder c
+IsStanding Q rests step next folder None = HasNone step folder
+IsStanding Q rests step next folder (Some c) = StandsIn Q rests step next folder c

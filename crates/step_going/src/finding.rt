@@ -28,16 +28,16 @@ pub fn find_going<S: Shelf>(step: u32, budget: u32, shelf: &mut S) -> Result<Goi
         (Ran (DuringFind step (now (S.world shelf.old))) (S.world shelf.old) (S.world shelf.new)) }
     ensures going { IfOk result (IsGoingOf step budget) }
     ensures ok { IfOk result (λ going. IsTrue (S.tells shelf.new)
-        → IsFound step budget (now (S.world shelf.new)).folder going.last) }
+        → IsFound step (now (S.world shelf.new)).folder going.last) }
     ensures err { IfErr result (λ fault. IsTrue (S.tells shelf.new)
-        → IsFindFault step budget (present (now (S.world shelf.old)).folder) fault) }
+        → IsFindFault step (present (now (S.world shelf.old)).folder) fault) }
     ensures calls { IsTrue (S.tells shelf.new)
         → (S.world shelf.new).clock ≤ (S.world shelf.old).clock + 590 }
     ensures few_calls { IfOk result (λ going. IsTrue (S.tells shelf.new) → going.last ≡ None
         → (S.world shelf.new).clock ≤ (S.world shelf.old).clock + 2) }
     ensures faults { OnlyShelf (S.faults shelf.old) (S.faults shelf.new) result }
 {
-    let Some(point) = load(step, budget, shelf)? else {
+    let Some(point) = load(step, shelf)? else {
         return Ok(Going {
             step,
             sweep: 0,

@@ -108,10 +108,10 @@ module _ {S : Type 0} (tells : S → Bool) (world : S → World) (counts : S →
     (going : Going) (may : MayGoOn going) (earlier : (left.step < going.step) × (right.step < going.step))
     (before after : S) where
   abbrev Goes : TwoTables → (FileNo → List ℕ) → Type 0
-  Goes g = ComparisonGoesOn n left right going.step going.budget g.left g.right
+  Goes g = ComparisonGoesOn n left right going.step g.left g.right
 
-  local : (g : TwoTables) → IsLocal (Goes g) comparison_rests going.step going.budget
-  local g = comparison_local n left right going.step going.budget g.left g.right
+  local : (g : TwoTables) → IsLocal (Goes g) comparison_rests going.step
+  local g = comparison_local n left right going.step g.left g.right
 
   abbrev Begins : SameSweep → Type 0
   Begins = Begun tells world counts sweeps.ghosts (comparing n left right) (λ g. two_tables n g.left g.right)
@@ -226,12 +226,12 @@ module _ {S : Type 0} (tells : S → Bool) (world : S → World) (counts : S →
 
     -- one with which the step stands is of this comparison
     from_point : (g : TwoTables) → IsAsked (comparing n left right) going (world before) g
-        → ComparesFrom n left right going.step going.budget g.left g.right (reads_of (world before)) c
+        → ComparesFrom n left right going.step g.left g.right (reads_of (world before)) c
     from_point g asked =
-        let stands : StandsIn (Goes g) comparison_rests going.step going.budget c.next_part (now (world before)).folder c =
-        subst (λ l. IsStanding (Goes g) comparison_rests going.step going.budget (next_of l) (now (world before)).folder l)
+        let stands : StandsIn (Goes g) comparison_rests going.step c.next_part (now (world before)).folder c =
+        subst (λ l. IsStanding (Goes g) comparison_rests going.step (next_of l) (now (world before)).folder l)
         last asked.standing in
-        compares_from n left right going.step going.budget g.left g.right (reads_of (world before)) c stands.last
+        compares_from n left right going.step g.left g.right (reads_of (world before)) c stands.last
         stands.goes_on
 
     -- which is what is looked for in it
@@ -349,10 +349,10 @@ module _ {S : Type 0} (tells : S → Bool) (world : S → World) (counts : S →
         })
 
 -- the sweeps of the kind answer the question
-pub compared_by : (n : ℕ) (left right : FileNo) (number budget : ℕ) → IsAnsweredBy sweeps.ghosts (comparing n left right)
-    (λ g. two_tables n g.left g.right) (comparison_of n left right number) number budget
-compared_by n left right number budget = record {
-  local = λ g. comparison_local n left right number budget g.left g.right;
+pub compared_by : (n : ℕ) (left right : FileNo) (number : ℕ) → IsAnsweredBy sweeps.ghosts (comparing n left right)
+    (λ g. two_tables n g.left g.right) (comparison_of n left right number) number
+compared_by n left right number = record {
+  local = λ g. comparison_local n left right number g.left g.right;
   goes_on = λ g turns r few goes. record { turns = turns; goes_on = goes; few = few };
   rests = λ c f n on. on;
   apart = apart;

@@ -101,10 +101,10 @@ module _ {S : Type 0} (tells : S → Bool) (world : S → World) (counts : S →
     (text : List ℕ) (place : ℕ) (going : Going) (may : MayGoOn going) (earlier : read.step < going.step)
     (before after : S) where
   abbrev Goes : List Bool → (FileNo → List ℕ) → Type 0
-  Goes t = EvaluationGoesOn n read text place going.step going.budget t
+  Goes t = EvaluationGoesOn n read text place going.step t
 
-  local : (t : List Bool) → IsLocal (Goes t) evaluation_rests going.step going.budget
-  local t = evaluation_local n read text place going.step going.budget t
+  local : (t : List Bool) → IsLocal (Goes t) evaluation_rests going.step
+  local t = evaluation_local n read text place going.step t
 
   abbrev Begins : EvalSweep → Type 0
   Begins = Begun tells world counts sweeps.ghosts (evaluating n read text place) (one_table n)
@@ -209,12 +209,12 @@ module _ {S : Type 0} (tells : S → Bool) (world : S → World) (counts : S →
 
     -- one with which the step stands is of this evaluation
     from_point : (t : List Bool) → IsAsked (evaluating n read text place) going (world before) t
-        → EvaluatesFrom n read text place going.step going.budget t (reads_of (world before)) c
+        → EvaluatesFrom n read text place going.step t (reads_of (world before)) c
     from_point t asked =
-        let stands : StandsIn (Goes t) evaluation_rests going.step going.budget c.next_part (now (world before)).folder c =
-        subst (λ l. IsStanding (Goes t) evaluation_rests going.step going.budget (next_of l) (now (world before)).folder l)
+        let stands : StandsIn (Goes t) evaluation_rests going.step c.next_part (now (world before)).folder c =
+        subst (λ l. IsStanding (Goes t) evaluation_rests going.step (next_of l) (now (world before)).folder l)
         last asked.standing in
-        evaluates_from n read text place going.step going.budget t (reads_of (world before)) c stands.last stands.goes_on
+        evaluates_from n read text place going.step t (reads_of (world before)) c stands.last stands.goes_on
 
     is_ours : (t : List Bool) → IsAsked (evaluating n read text place) going (world before) t
         → IsOfEvaluation c n read text place
@@ -332,11 +332,11 @@ module _ {S : Type 0} (tells : S → Bool) (world : S → World) (counts : S →
         })
 
 -- the sweeps of the kind answer the question
-pub evaluated_by : (n : ℕ) (read : FileNo) (text : List ℕ) (place number budget : ℕ)
+pub evaluated_by : (n : ℕ) (read : FileNo) (text : List ℕ) (place number : ℕ)
     → IsAnsweredBy sweeps.ghosts (evaluating n read text place) (one_table n) (evaluation_of n read text place number)
-    number budget
-evaluated_by n read text place number budget = record {
-  local = λ t. evaluation_local n read text place number budget t;
+    number
+evaluated_by n read text place number = record {
+  local = λ t. evaluation_local n read text place number t;
   goes_on = λ t turns r few goes. record { turns = turns; goes_on = goes; few = few };
   rests = λ c f n on. on;
   apart = apart;

@@ -164,10 +164,10 @@ module _ {S : Type 0} (tells : S → Bool) (world : S → World) (counts : S →
     (going : Going) (may : MayGoOn going) (earlier : (left.step < going.step) × (right.step < going.step))
     (before after : S) where
   abbrev Goes : TwoTables → (FileNo → List ℕ) → Type 0
-  Goes g = ImplicationGoesOn n left right going.step going.budget g.left g.right
+  Goes g = ImplicationGoesOn n left right going.step g.left g.right
 
-  local : (g : TwoTables) → IsLocal (Goes g) implication_rests going.step going.budget
-  local g = implication_local n left right going.step going.budget g.left g.right
+  local : (g : TwoTables) → IsLocal (Goes g) implication_rests going.step
+  local g = implication_local n left right going.step g.left g.right
 
   abbrev Begins : LeqSweep → Type 0
   Begins = Begun tells world counts sweeps.ghosts (implying n left right) (refutation_of n)
@@ -210,7 +210,7 @@ module _ {S : Type 0} (tells : S → Bool) (world : S → World) (counts : S →
 
     start_images : IsTrue (tells after) → (g : TwoTables) → IsAsked (implying n left right) going (world before) g
         → Throughout (world before) (world after) (λ (m : Moment). AreSafe (Goes g) going.step m.folder)
-    start_images told_new g asked = safe_along (Goes g) implication_rests going.step going.budget (local g)
+    start_images told_new g asked = safe_along (Goes g) implication_rests going.step (local g)
         (IsBehindPoints going.step) (next_of going.last) going.last gate_outside nothing_rests tells world before after
         start_content (λ told_old. asked.standing) told_new
 
@@ -261,10 +261,10 @@ module _ {S : Type 0} (tells : S → Bool) (world : S → World) (counts : S →
               let turns : going.turns ≡ 0 = come.0 in
               omega (arith, within, turns);
           operands = operands_firm s task_is (content.did told_new) g asked;
-          standing = standing_later (Goes g) implication_rests number going.budget (next_of going.last)
+          standing = standing_later (Goes g) implication_rests number (next_of going.last)
               (accounts.next s) (now (world after)).folder going.last
               (let first : next_of going.last ≡ 3 = ap next_of none in omega (arith, first, next_is))
-              (standing_along (Goes g) implication_rests number going.budget (local g) (IsBehindPoints number)
+              (standing_along (Goes g) implication_rests number (local g) (IsBehindPoints number)
               (next_of going.last) going.last gate_outside (nothing_rests none (Ok s) starts) tells world before after
               content (λ told_old. asked.standing) told_new);
           sure = λ c last f m on made. absurd (cc);
@@ -314,16 +314,16 @@ module _ {S : Type 0} (tells : S → Bool) (world : S → World) (counts : S →
 
     -- one with which the step stands is of this implication
     stands_at : (g : TwoTables) → IsAsked (implying n left right) going (world before) g
-        → StandsIn (Goes g) implication_rests going.step going.budget c.next_part (now (world before)).folder c
+        → StandsIn (Goes g) implication_rests going.step c.next_part (now (world before)).folder c
     stands_at g asked =
-        subst (λ l. IsStanding (Goes g) implication_rests going.step going.budget (next_of l) (now (world before)).folder l)
+        subst (λ l. IsStanding (Goes g) implication_rests going.step (next_of l) (now (world before)).folder l)
         last asked.standing
 
     from_point : (g : TwoTables) → IsAsked (implying n left right) going (world before) g
-        → RefutesFrom n left right going.step going.budget g.left g.right (reads_of (world before)) c
+        → RefutesFrom n left right going.step g.left g.right (reads_of (world before)) c
     from_point g asked =
         let stands = stands_at g asked in
-        refutes_from n left right going.step going.budget g.left g.right (reads_of (world before)) c stands.last
+        refutes_from n left right going.step g.left g.right (reads_of (world before)) c stands.last
         stands.goes_on
 
     is_ours : (g : TwoTables) → IsAsked (implying n left right) going (world before) g
@@ -380,15 +380,15 @@ module _ {S : Type 0} (tells : S → Bool) (world : S → World) (counts : S →
       module _ (told_new : IsTrue (tells after)) (g : TwoTables)
           (asked : IsAsked (implying n left right) going (world before) g) where
         all_there : AreThere (implication_rests c) (reads_of (world before))
-        all_there = implied_there n left right going.step going.budget g.left g.right (reads_of (world before)) c
+        all_there = implied_there n left right going.step g.left g.right (reads_of (world before)) c
             (stands_at g asked).goes_on (stands_at g asked).last
 
         all_sure : MadeSure implication_rests (implication_rests c) (now (world before)).folder c
-        all_sure = made_sure (Goes g) implication_rests going.step going.budget c.next_part (implication_rests c) c
+        all_sure = made_sure (Goes g) implication_rests going.step c.next_part (implication_rests c) c
             (now (world before)).folder (stands_at g asked) (λ f m on made. all_there f m on)
 
         rebuild_images : Throughout (world before) (world after) (λ (m : Moment). AreSafe (Goes g) going.step m.folder)
-        rebuild_images = safe_rebuilt (Goes g) implication_rests going.step going.budget (local g) (implication_rests c)
+        rebuild_images = safe_rebuilt (Goes g) implication_rests going.step (local g) (implication_rests c)
             c.next_part (world before) (world after) c (files (rebuilds.content.before told_new))
             (rebuilds.content.did told_new) (λ f m on. on) all_sure (stands_at g asked)
 
@@ -396,22 +396,22 @@ module _ {S : Type 0} (tells : S → Bool) (world : S → World) (counts : S →
         cut = ran_end (world before) (world after) (OnlyCutBehind c (RestsOn product_words c) (now (world before)))
             (rebuilds.content.did told_new)
 
-        stands_still : StandsIn (Goes g) implication_rests going.step going.budget c.next_part
+        stands_still : StandsIn (Goes g) implication_rests going.step c.next_part
             (now (world after)).folder c
-        stands_still = standing_rebuilt (Goes g) implication_rests going.step going.budget (local g)
+        stands_still = standing_rebuilt (Goes g) implication_rests going.step (local g)
             (implication_rests c) c.next_part (now (world before)) (now (world after)) c
             (files (rebuilds.content.before told_new)) cut (λ f m on. on) all_sure (stands_at g asked)
 
-        rebuild_standing : (next : ℕ) → next ≡ c.next_part → IsStanding (Goes g) implication_rests going.step going.budget
+        rebuild_standing : (next : ℕ) → next ≡ c.next_part → IsStanding (Goes g) implication_rests going.step
             next (now (world after)).folder going.last
         rebuild_standing next next_is =
-            subst (IsStanding (Goes g) implication_rests going.step going.budget next (now (world after)).folder) (sym last)
-            (subst (λ k. StandsIn (Goes g) implication_rests going.step going.budget k (now (world after)).folder c)
+            subst (IsStanding (Goes g) implication_rests going.step next (now (world after)).folder) (sym last)
+            (subst (λ k. StandsIn (Goes g) implication_rests going.step k (now (world after)).folder c)
             (sym next_is) stands_still)
 
         arcs_sure : (f : FileNo) (m : ℕ) → IsMade (arcs_of n (two_files left right) going.step).files f
             → implication_rests c f m → m ≤ (file (world after) f).firm
-        arcs_sure f m made on = sure_still (Goes g) implication_rests going.step going.budget c.next_part
+        arcs_sure f m made on = sure_still (Goes g) implication_rests going.step c.next_part
             (implication_rests c) c (IsMade (arcs_of n (two_files left right) going.step).files) (now (world before))
             (now (world after)) cut stands_still (λ h k at. at)
             (λ h k at mine. front_there product_words c (arcs_of n (two_files left right) going.step) ours.fits
@@ -510,10 +510,10 @@ module _ {S : Type 0} (tells : S → Bool) (world : S → World) (counts : S →
         })
 
 -- the sweeps of the kind answer the question
-pub implied_by : (n : ℕ) (left right : FileNo) (number budget : ℕ) → IsAnsweredBy sweeps.ghosts (implying n left right)
-    (refutation_of n) (arcs_of n (two_files left right) number) number budget
-implied_by n left right number budget = record {
-  local = λ g. implication_local n left right number budget g.left g.right;
+pub implied_by : (n : ℕ) (left right : FileNo) (number : ℕ) → IsAnsweredBy sweeps.ghosts (implying n left right)
+    (refutation_of n) (arcs_of n (two_files left right) number) number
+implied_by n left right number = record {
+  local = λ g. implication_local n left right number g.left g.right;
   goes_on = λ g turns r few goes. record { turns = turns; goes_on = goes; few = few };
   rests = λ c f n on. on;
   apart = apart product_words;

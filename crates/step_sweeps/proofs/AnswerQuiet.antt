@@ -58,7 +58,7 @@ pub file_unchanged : (old new : World) → Unchanged old new → (f : FileNo) �
 file_unchanged old new run f = ran_end old new (OnlyChanged (λ f. ⊥) (now old)) run f (λ changed. changed)
 
 module _ {S Given : Type 0} (tells : S → Bool) (world : S → World) (counts : S → Faults) (q : Question Given)
-    (going : Going) (local : (g : Given) → IsLocal (q.goes_on going.step going.budget g) q.rests going.step going.budget)
+    (going : Going) (local : (g : Given) → IsLocal (q.goes_on going.step g) q.rests going.step)
     (before after : S) where
   -- what a sweep leaves that couldn't be begun
   pub record Refuses {P : Type 0} (result : Result P SortFault) : Type 0 where
@@ -69,7 +69,7 @@ module _ {S Given : Type 0} (tells : S → Bool) (world : S → World) (counts :
         → reads_of (world before) (checkpoint_gate going.step) ≡ [] → q.is_fault (world before) e)
     pub images : IsTrue (tells after) → (g : Given) → IsAsked q going (world before) g
         → Throughout (world before) (world after)
-        (λ (m : Moment). AreSafe (q.goes_on going.step going.budget g) going.step m.folder)
+        (λ (m : Moment). AreSafe (q.goes_on going.step g) going.step m.folder)
     pub content : Told tells before after
         (Ran (OnlyChanged (IsBehindPoints going.step) (now (world before))) (world before) (world after))
     pub calls : IsTrue (tells after) → (world after).clock
@@ -103,7 +103,7 @@ module _ {S Given : Type 0} (tells : S → Bool) (world : S → World) (counts :
         quiet_stops going.step (shown_by going.last)
         ((world before).clock + (step_stop + rest_calls going.last (q.nodes (reads_of (world before)))))
         (world before) (world after)
-        (standing_shows (q.goes_on going.step going.budget g) q.rests going.step going.budget (next_of going.last)
+        (standing_shows (q.goes_on going.step g) q.rests going.step (next_of going.last)
         (now (world before)).folder going.last asked.standing)
         (held_points (IsBehindPoints going.step) going.step (world before) (world after)
         (λ behind. let from = behind.from in absurd (omega (arith, from)))
@@ -121,17 +121,17 @@ module _ {S Given : Type 0} (tells : S → Bool) (world : S → World) (counts :
 
     pub quiet_images : IsTrue (tells after) → (g : Given) → IsAsked q going (world before) g
         → Throughout (world before) (world after)
-        (λ (m : Moment). AreSafe (q.goes_on going.step going.budget g) going.step m.folder)
-    quiet_images tells_new g asked = safe_along (q.goes_on going.step going.budget g) q.rests going.step going.budget
+        (λ (m : Moment). AreSafe (q.goes_on going.step g) going.step m.folder)
+    quiet_images tells_new g asked = safe_along (q.goes_on going.step g) q.rests going.step
         (local g) (λ f. ⊥) (next_of going.last) going.last (λ none. none)
         (rests_apart q.rests (λ f. ⊥) going.step going.last (λ none. none) (λ c f n is none. none)) tells world before after
         quiet (λ tells_old. asked.standing) tells_new
 
     pub quiet_standing : IsTrue (tells after) → (g : Given) → IsAsked q going (world before) g
-        → IsStanding (q.goes_on going.step going.budget g) q.rests going.step going.budget (next_of going.last)
+        → IsStanding (q.goes_on going.step g) q.rests going.step (next_of going.last)
         (now (world after)).folder going.last
-    quiet_standing tells_new g asked = standing_along (q.goes_on going.step going.budget g) q.rests going.step
-        going.budget (local g) (λ f. ⊥) (next_of going.last) going.last (λ none. none)
+    quiet_standing tells_new g asked = standing_along (q.goes_on going.step g) q.rests going.step
+        (local g) (λ f. ⊥) (next_of going.last) going.last (λ none. none)
         (rests_apart q.rests (λ f. ⊥) going.step going.last (λ none. none) (λ c f n is none. none)) tells world before after
         quiet (λ tells_old. asked.standing) tells_new
 
@@ -164,7 +164,7 @@ taken_from (Some c) = omega arith
 -- a sweep of a question that only reads, behind such a beginning
 module _ {S Given P : Type 0} (tells : S → Bool) (world : S → World) (counts : S → Faults) (kind : sweep.Ghosts P)
     (q : Question Given) (job_of : Given → kind.Job) (task : kind.Task) (going : Going) (may : MayGoOn going)
-    (local : (g : Given) → IsLocal (q.goes_on going.step going.budget g) q.rests going.step going.budget)
+    (local : (g : Given) → IsLocal (q.goes_on going.step g) q.rests going.step)
     (before after : S) (s : P) where
   -- it makes no file, takes no part, and reads files of earlier steps
   pub record OnlyReads : Type 0 where
@@ -223,7 +223,7 @@ module _ {S Given P : Type 0} (tells : S → Bool) (world : S → World) (counts
           few = b.few told g asked;
           operands = λ f read. subst IsFirm (sym (file_unchanged (world before) (world after) (b.quiet.did told) f))
               (b.operands told g asked f read);
-          standing = subst (λ next. IsStanding (q.goes_on going.step going.budget g) q.rests going.step going.budget next
+          standing = subst (λ next. IsStanding (q.goes_on going.step g) q.rests going.step next
               (now (world after)).folder going.last) (b.none_taken ∙ sym reads.next_is)
               (quiet_standing tells world counts q going local before after b.quiet told g asked);
           sure = λ c last f n on mine. absurd (reads.none_made f mine);

@@ -61,7 +61,7 @@ pub record Went {S P : Type 0} (tells : S → Bool) (world : S → World) (kind 
       → AreSure (kind.saving.operands (kind.task s)) going.step (now (world old)).folder → IsPaidTo kind.accounts going s
       → Throughout (world old) (world new) (λ (m : Moment). (image : Image) → IsImage m.folder image
       → IsAsBefore (kind.accounts.makes s) going.step (kind.accounts.next s) (now (world old)).folder (bytes_in image)
-      ⊎ GoesOn kind.saving going.step going.budget going.sweep (kind.task s) job
+      ⊎ GoesOn kind.saving going.step going.sweep (kind.task s) job
       (going.turns + kind.left s (world old) job) (bytes_in image))
   pub stops : IsTrue (tells new) → IsGateSure going.step (now (world old)).folder → 16384 ≤ interval_of going.budget
       → going.shown ≤ going.turns → (job : kind.Job) → kind.remains s (world old) job
@@ -79,10 +79,10 @@ pub record Cost {S P : Type 0} (tells : S → Bool) (world : S → World) (accou
 
 -- the sweeps of the kind answer the question: where one goes on the step does, from checkpoints that rest on no less
 pub record IsAnsweredBy {Given P : Type 0} (kind : sweep.Ghosts P) (q : Question Given) (job_of : Given → kind.Job)
-    (task : kind.Task) (step budget : ℕ) : Type 0 where
-  pub local : (g : Given) → IsLocal (q.goes_on step budget g) q.rests step budget
+    (task : kind.Task) (step : ℕ) : Type 0 where
+  pub local : (g : Given) → IsLocal (q.goes_on step g) q.rests step
   pub goes_on : (g : Given) (turns : ℕ) (r : FileNo → List ℕ) → turns < q.work g
-      → GoesOn kind.saving step budget 0 task (job_of g) turns r → q.goes_on step budget g r
+      → GoesOn kind.saving step 0 task (job_of g) turns r → q.goes_on step g r
   pub rests : (c : Checkpoint) (f : FileNo) (n : ℕ) → q.rests c f n → kind.saving.rests c f n
   pub apart : (c : Checkpoint) (text : List ℕ) (f : FileNo) (n : ℕ) → kind.saving.fits c text → kind.saving.rests c f n
       → IsRestingPlace c f
@@ -91,7 +91,7 @@ pub record IsAnsweredBy {Given P : Type 0} (kind : sweep.Ghosts P) (q : Question
 
 module _ {S Given P : Type 0} (tells : S → Bool) (world : S → World) (counts : S → Faults) (kind : sweep.Ghosts P)
     (q : Question Given) (job_of : Given → kind.Job) (task : kind.Task) (going : Going)
-    (may : MayGoOn going) (by : IsAnsweredBy kind q job_of task going.step going.budget) (before mid after : S) (s t : P)
+    (may : MayGoOn going) (by : IsAnsweredBy kind q job_of task going.step) (before mid after : S) (s t : P)
     (begun : Begun tells world counts kind q job_of task going before mid s)
     (went : Went tells world kind going mid after s t) where
   -- only files of the step behind its node file are changed
@@ -130,18 +130,18 @@ module _ {S Given P : Type 0} (tells : S → Bool) (world : S → World) (counts
 
     went_sure : AreSure (kind.saving.operands (kind.task s)) going.step (now (world mid)).folder
     went_sure = record {
-      gate = gate_sure (q.goes_on going.step going.budget g) q.rests going.step going.budget (kind.accounts.next s)
+      gate = gate_sure (q.goes_on going.step g) q.rests going.step (kind.accounts.next s)
           (now (world mid)).folder going.last on_the_way.standing;
       operands_are = on_the_way.operands;
     }
 
-    goes_on_by : GoesOnBy kind.saving (q.goes_on going.step going.budget g) q.rests going.step going.budget going.sweep
+    goes_on_by : GoesOnBy kind.saving (q.goes_on going.step g) q.rests going.step going.sweep
         (kind.task s) (job_of g) (going.turns + kind.left s (world mid) (job_of g))
     goes_on_by = record {
       goes_on = λ r goes. by.goes_on g (going.turns + kind.left s (world mid) (job_of g)) r on_the_way.few
-          (subst (λ v. GoesOn kind.saving going.step going.budget v task (job_of g)
+          (subst (λ v. GoesOn kind.saving going.step v task (job_of g)
           (going.turns + kind.left s (world mid) (job_of g)) r) begun.first
-          (subst (λ k. GoesOn kind.saving going.step going.budget going.sweep k (job_of g)
+          (subst (λ k. GoesOn kind.saving going.step going.sweep k (job_of g)
           (going.turns + kind.left s (world mid) (job_of g)) r) begun.task_is goes));
       rests_within = λ r goes. by.rests goes.point;
       apart = by.apart;
@@ -149,11 +149,11 @@ module _ {S Given P : Type 0} (tells : S → Bool) (world : S → World) (counts
 
     -- whatever a stop leaves can be begun or gone on with
     pub went_images : Throughout (world before) (world after)
-        (λ (m : Moment). AreSafe (q.goes_on going.step going.budget g) going.step m.folder)
+        (λ (m : Moment). AreSafe (q.goes_on going.step g) going.step m.folder)
     went_images = joins (world before) (world mid) (world after)
-        (λ m. AreSafe (q.goes_on going.step going.budget g) going.step m.folder)
+        (λ m. AreSafe (q.goes_on going.step g) going.step m.folder)
         (begun.images (went.content.before tells_new) g asked)
-        (went_safe kind.saving (q.goes_on going.step going.budget g) q.rests going.step going.budget going.sweep
+        (went_safe kind.saving (q.goes_on going.step g) q.rests going.step going.sweep
         (kind.task s) (job_of g) (going.turns + kind.left s (world mid) (job_of g)) (by.local g) goes_on_by
         (kind.accounts.makes s) (kind.accounts.next s) (world mid) (world after) going.last on_the_way.standing
         (rests_sure q.rests (kind.accounts.makes s) (now (world mid)).folder going.last on_the_way.sure)
@@ -193,11 +193,11 @@ module _ {S Given P : Type 0} (tells : S → Bool) (world : S → World) (counts
 
     -- each image shows at first what the last checkpoint shows, and likewise where the sweep was begun
     pub shows_first : ShowsSurely going.step (shown_by going.last) (now (world before)).folder
-    shows_first = standing_shows (q.goes_on going.step going.budget g) q.rests going.step going.budget
+    shows_first = standing_shows (q.goes_on going.step g) q.rests going.step
         (next_of going.last) (now (world before)).folder going.last asked.standing
 
     shows_begun : ShowsSurely going.step (shown_by going.last) (now (world mid)).folder
-    shows_begun = standing_shows (q.goes_on going.step going.budget g) q.rests going.step going.budget
+    shows_begun = standing_shows (q.goes_on going.step g) q.rests going.step
         (kind.accounts.next s) (now (world mid)).folder going.last on_the_way.standing
 
     -- what a stop costs while it is begun, and while it is run and saved
@@ -228,7 +228,7 @@ module _ {S Given P : Type 0} (tells : S → Bool) (world : S → World) (counts
 
     went_covered : AreFiles (now (world mid)).folder
         → gated_size going.step (now (world mid)).folder ≤ length (file (world mid) (checkpoint_file going.step)).bytes
-    went_covered files = points_there (q.goes_on going.step going.budget g) q.rests going.step going.budget
+    went_covered files = points_there (q.goes_on going.step g) q.rests going.step
         (kind.accounts.next s) (now (world mid)).folder going.last files on_the_way.standing
 
   fault_is : (e : SortFault) → IsErrOf {T = Answered} (Err e) RunsSpent → e ≡ RunsSpent

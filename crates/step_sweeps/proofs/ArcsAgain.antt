@@ -73,7 +73,7 @@ module _ {S : Type 0} (tells : S → Bool) (world : S → World) (counts : S →
   again = record base { last = Some c }
 
   abbrev Q : Tables → (FileNo → List ℕ) → Type 0
-  Q g r = goes_on_by making base.budget g r
+  Q g r = goes_on_by making g r
 
   module _ (may : MaySweep making.number again) (fits : Fits step_words c)
       (names : Names step_words c (arcs_of making.n making.operands making.number))
@@ -98,8 +98,8 @@ module _ {S : Type 0} (tells : S → Bool) (world : S → World) (counts : S →
         (content.did told)
 
     module _ (told : IsTrue (tells mid)) (g : Tables) (given : IsGivenFor making again (world before) g) where
-      from : ArcsFrom making.operation making.n making.operands making.number base.budget g (reads_of (world before)) c
-      from = makes_arcs_from making.operation making.n making.operands making.number base.budget g
+      from : ArcsFrom making.operation making.n making.operands making.number g (reads_of (world before)) c
+      from = makes_arcs_from making.operation making.n making.operands making.number g
           (reads_of (world before)) c given.standing.last first may.come_to.1 given.standing.goes_on
 
       within : (f : FileNo) (k : ℕ) → diagram_rests c f k → RestsOn step_words c f k
@@ -110,23 +110,23 @@ module _ {S : Type 0} (tells : S → Bool) (world : S → World) (counts : S →
       there = arcs_there c [] (reads_of (world before)) (work_of making.operation making.n g) from.goes.left fits
           from.goes.stands
 
-      local : IsLocal (Q g) diagram_rests making.number base.budget
-      local = diagram_local making.operation making.n making.operands making.number base.budget g
+      local : IsLocal (Q g) diagram_rests making.number
+      local = diagram_local making.operation making.n making.operands making.number g
 
       sure : MadeSure diagram_rests (RestsOn step_words c) (now (world before)).folder c
-      sure = made_sure (Q g) diagram_rests making.number base.budget c.next_part (RestsOn step_words c) c
+      sure = made_sure (Q g) diagram_rests making.number c.next_part (RestsOn step_words c) c
           (now (world before)).folder given.standing (λ f k on made. there f k (within f k on))
 
-      pub again_safe : Throughout (world before) (world mid) (IsSafeAt making base.budget g)
-      again_safe = safe_rebuilt (Q g) diagram_rests making.number base.budget local (RestsOn step_words c) c.next_part
+      pub again_safe : Throughout (world before) (world mid) (IsSafeAt making g)
+      again_safe = safe_rebuilt (Q g) diagram_rests making.number local (RestsOn step_words c) c.next_part
           (world before) (world mid) c (files_at (content.before told)) (content.did told) within sure given.standing
 
       only : OnlyCutBehind c (RestsOn step_words c) (now (world before)) (now (world mid))
       only = ran_end (world before) (world mid) (OnlyCutBehind c (RestsOn step_words c) (now (world before)))
           (content.did told)
 
-      stands : StandsIn (Q g) diagram_rests making.number base.budget c.next_part (now (world mid)).folder c
-      stands = standing_rebuilt (Q g) diagram_rests making.number base.budget local (RestsOn step_words c) c.next_part
+      stands : StandsIn (Q g) diagram_rests making.number c.next_part (now (world mid)).folder c
+      stands = standing_rebuilt (Q g) diagram_rests making.number local (RestsOn step_words c) c.next_part
           (now (world before)) (now (world mid)) c (files_at (content.before told)) only within sure given.standing
 
       -- and the sweep is under way
@@ -135,7 +135,7 @@ module _ {S : Type 0} (tells : S → Bool) (world : S → World) (counts : S →
           → IsOfStep (IsMade (files_of (sweep_of s))) (IsRead (files_of (sweep_of s))) making.number c.next_part
           → task_of (sweep_of s) ≡ arcs_of making.n making.operands making.number
           → arcs_kind.remains s (world mid) (work_of making.operation making.n g)
-          → IsUnderWay arcs_kind making base.budget g (Some c) (work_of making.operation making.n g) s (world mid)
+          → IsUnderWay arcs_kind making g (Some c) (work_of making.operation making.n g) s (world mid)
       again_way earlier s next files task remains =
           let are : files_of (sweep_of s) ≡ (arcs_of making.n making.operands making.number).files =
           ap (λ (t : SweepTask). t.files) task in
@@ -143,11 +143,11 @@ module _ {S : Type 0} (tells : S → Bool) (world : S → World) (counts : S →
             remains = remains;
             operands = λ f read. read_firm making (files_of (sweep_of s)) (world before) (world mid) f earlier are
                 given.firm (earlier_stays making.number (world before) (world mid) (again_content.did told)) read;
-            standing = subst (λ k. StandsIn (Q g) diagram_rests making.number base.budget k (now (world mid)).folder c)
+            standing = subst (λ k. StandsIn (Q g) diagram_rests making.number k (now (world mid)).folder c)
                 (sym next) stands;
             sure = λ d is f k on mine.
                 let same : c ≡ d = cc in
-                sure_still (Q g) diagram_rests making.number base.budget c.next_part (RestsOn step_words c) c
+                sure_still (Q g) diagram_rests making.number c.next_part (RestsOn step_words c) c
                 (IsMade (files_of (sweep_of s))) (now (world before)) (now (world mid)) only stands within
                 (λ h j at made. front_there step_words c (arcs_of making.n making.operands making.number) fits names
                 (reads_of (world before)) there h (subst (λ (x : Files). IsMade x h) are made) j (within h j at))
@@ -303,7 +303,7 @@ module _ {S : Type 0} (tells : S → Bool) (world : S → World) (counts : S →
     where
       not_given : (g : Tables) → IsGivenFor making again (world before) g → ⊥
       not_given g given =
-          let from = makes_arcs_from making.operation making.n making.operands making.number base.budget g
+          let from = makes_arcs_from making.operation making.n making.operands making.number g
           (reads_of (world before)) c given.standing.last (sym may.come_to.0.sweep_is ∙ may.sweep_is) may.come_to.1
           given.standing.goes_on in
           never from.goes.fits from.goes.names

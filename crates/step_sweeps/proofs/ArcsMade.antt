@@ -84,7 +84,7 @@ pub record HasEnded {S : Type 0} (tells : S → Bool) (world : S → World) (goi
       → IsPaidTo arcs_kind.accounts going s
       → OnlySaved (arcs_kind.accounts.makes s) going.step (arcs_kind.accounts.next s) (now (world mid)) (now (world after))
       ⊎ Stands arcs_kind.saving (arcs_kind.accounts.makes s) (arcs_kind.saving.operands (arcs_kind.task s)) going.step
-      (arcs_kind.accounts.next t) going.budget going.sweep (arcs_kind.task s) job
+      (arcs_kind.accounts.next t) going.sweep (arcs_kind.task s) job
       (going.turns + arcs_kind.left s (world mid) job) (now (world after)).folder)
   pub trusts : OnOk result (IsTrue (tells after) → arcs_kind.trusts s (world mid) → arcs_kind.trusts t (world after))
   pub covers : OnOk result (IsTrue (tells after) → IsCovered going.step (world mid)
@@ -113,7 +113,7 @@ before_apart making going world g earlier may given o last c is f n on =
     by : MaySweep making.number (record going { last = Some c })
         → IsGivenFor making (record going { last = Some c }) world g → f ≢ node_file making.number
     by may given =
-        let from = makes_arcs_from making.operation making.n making.operands making.number going.budget g (reads_of world)
+        let from = makes_arcs_from making.operation making.n making.operands making.number g (reads_of world)
         c given.standing.last (sym may.come_to.0.sweep_is ∙ may.sweep_is) may.come_to.1 given.standing.goes_on in
         arcs_spare_nodes making.n making.operands making.number c from.goes.fits from.goes.names earlier.first
         earlier.second earlier.third f n (arcs_rests c f n from.goes.sweep_is from.goes.fits on)
@@ -197,14 +197,14 @@ module _ {S : Type 0} (tells : S → Bool) (world : S → World) (counts : S →
         ]
 
     module _ (told : IsTrue (tells after)) (g : Tables) (given : IsGivenFor making going (world before) g) where
-      on_way : IsUnderWay arcs_kind making going.budget g going.last (work_of making.operation making.n g) s (world mid)
+      on_way : IsUnderWay arcs_kind making g going.last (work_of making.operation making.n g) s (world mid)
       on_way = way tells world counts making going may before mid after early s t started task files_at later (Ok tt)
           run told g given
 
-      behind : StandsBehind arcs_kind.saving (λ r. goes_on_by making going.budget g r) diagram_rests making.number
-          going.budget going.sweep (arcs_kind.task s) (work_of making.operation making.n g)
+      behind : StandsBehind arcs_kind.saving (λ r. goes_on_by making g r) diagram_rests making.number
+          going.sweep (arcs_kind.task s) (work_of making.operation making.n g)
           (going.turns + arcs_kind.left s (world mid) (work_of making.operation making.n g))
-          (diagram_local making.operation making.n making.operands making.number going.budget g)
+          (diagram_local making.operation making.n making.operands making.number g)
           (by tells world counts making going may before mid after early s t started task files_at later (Ok tt) run told
           g given) (arcs_kind.accounts.makes s) (arcs_kind.accounts.next s) (arcs_kind.accounts.next t) going.last
           (now (world after)).folder
@@ -241,14 +241,14 @@ module _ {S : Type 0} (tells : S → Bool) (world : S → World) (counts : S →
           let told_mid = run.changes.before told in
           let took = run.took told (work_of making.operation making.n g) on_way.remains in
           let more = took.2 in
-          let safe : (FileNo → List ℕ) → Type 0 = λ r. goes_on_by making going.budget g r in
+          let safe : (FileNo → List ℕ) → Type 0 = λ r. goes_on_by making g r in
           said_of making.number going later (now (world mid)).folder (now (world after)).folder behind.last may.step_is
           (begun_shows tells world counts arcs_kind (λ g job s. job ≡ work_of making.operation making.n g)
           (arcs_most making going) 8 making going before mid s started told_mid g given)
-          (standing_shows safe diagram_rests making.number going.budget (arcs_kind.accounts.next t)
+          (standing_shows safe diagram_rests making.number (arcs_kind.accounts.next t)
           (now (world after)).folder behind.last behind.standing)
           (omega (arith, more)) ended.word (come_turns making.number going may)
-          (none_stands safe diagram_rests making.number going.budget (arcs_kind.accounts.next s)
+          (none_stands safe diagram_rests making.number (arcs_kind.accounts.next s)
           (now (world mid)).folder going.last on_way.standing)
           (elim behind.which [
             | inl same ↦ inl same
@@ -274,8 +274,8 @@ module _ {S : Type 0} (tells : S → Bool) (world : S → World) (counts : S →
               inner_firm = ended.firm told m.arcs.inner (inl in_files.inner_is);
               ends_firm = ended.firm told m.arcs.ends (inr in_files.ends_are);
               last = behind.last;
-              standing = subst (λ k. IsStanding (goes_on_by making going.budget g) diagram_rests making.number
-                  going.budget k (now (world after)).folder behind.last) (sym next_is) behind.standing;
+              standing = subst (λ k. IsStanding (goes_on_by making g) diagram_rests making.number
+                  k (now (world after)).folder behind.last) (sym next_is) behind.standing;
               apart = apart;
             };
             few_sources = sources.few;

@@ -70,9 +70,9 @@ tried_few : (again interval turns later shown arcs old mid : ℕ) → arcs + 8 �
 tried_few again interval turns later shown arcs old mid few more calls = omega (arith, few, more, calls)
 
 -- the last checkpoint of a step that stands is shown
-pub has_shows : (making : Making) (m : MadeArcs) (budget : ℕ) (world : World) (g : Tables)
-    (has : HasArcsOf making budget g m world) → ShowsSurely making.number (shown_by has.last) (now world).folder
-has_shows making m budget world g has = standing_shows (goes_on_by making budget g) diagram_rests making.number budget
+pub has_shows : (making : Making) (m : MadeArcs) (world : World) (g : Tables)
+    (has : HasArcsOf making g m world) → ShowsSurely making.number (shown_by has.last) (now world).folder
+has_shows making m world g has = standing_shows (goes_on_by making g) diagram_rests making.number
     m.parts.next (now world).folder has.last has.standing
 
 -- where the step's node file alone was changed the checkpoints and their gate stay
@@ -114,16 +114,16 @@ module _ (making : Making) (m : MadeArcs) (old new : World) (files : HasArcFiles
       ap (λ (x : File). length x.bytes) (stays (checkpoint_file making.number) (points_apart making.number)) in
       omega (arith, covered, gate, points)
 
-  module _ (budget : ℕ) (g : Tables) (has : HasArcsOf making budget g m old) where
+  module _ (g : Tables) (has : HasArcsOf making g m old) where
     -- whatever a stop leaves meanwhile can be gone on with
-    pub safe_meanwhile : Throughout old new (λ (x : Moment). AreSafe (goes_on_by making budget g) making.number x.folder)
-    safe_meanwhile = safe_over (goes_on_by making budget g) diagram_rests making.number budget
-        (diagram_local making.operation making.n making.operands making.number budget g)
+    pub safe_meanwhile : Throughout old new (λ (x : Moment). AreSafe (goes_on_by making g) making.number x.folder)
+    safe_meanwhile = safe_over (goes_on_by making g) diagram_rests making.number
+        (diagram_local making.operation making.n making.operands making.number g)
         (λ q. q ≡ node_file making.number) m.parts.next has.last (gate_apart making.number)
         (last_apart making.number has.last has.apart) old new ran has.standing
 
     -- and the arcs are those of the table's diagram still
-    pub still_has : (are : HasArcsOf making budget g m new) × (are.sources ≡ has.sources) × (are.last ≡ has.last)
+    pub still_has : (are : HasArcsOf making g m new) × (are.sources ≡ has.sources) × (are.last ≡ has.last)
     still_has = (
       record {
         arcs = record {
@@ -140,8 +140,8 @@ module _ (making : Making) (m : MadeArcs) (old new : World) (files : HasArcFiles
         inner_firm = subst IsFirm (sym inner_stays) has.inner_firm;
         ends_firm = subst IsFirm (sym ends_stay) has.ends_firm;
         last = has.last;
-        standing = standing_over (goes_on_by making budget g) diagram_rests making.number budget
-            (diagram_local making.operation making.n making.operands making.number budget g)
+        standing = standing_over (goes_on_by making g) diagram_rests making.number
+            (diagram_local making.operation making.n making.operands making.number g)
             (λ q. q ≡ node_file making.number) m.parts.next has.last (gate_apart making.number)
             (last_apart making.number has.last has.apart) old new ran has.standing;
         apart = has.apart;
@@ -234,14 +234,14 @@ module _ {S : Type 0} (tells : S → Bool) (world : S → World) (counts : S →
         )
 
     -- meanwhile the last checkpoint is shown
-    pub room_stops : (old new : S) (g : Tables) (has : HasArcsOf making going.budget g m (world old))
+    pub room_stops : (old new : S) (g : Tables) (has : HasArcsOf making g m (world old))
         → Changed (2 * arcs + 8) (node_file making.number) (world old) (world new)
         → StopsCost making.number (shown_by has.last) ((world old).clock + reduce_stop going m.parts.next) (world old)
         (world new)
     room_stops old new g has changed =
         let calls = changed.few in
         quiet_stops making.number (shown_by has.last) _ (world old) (world new)
-        (has_shows making m going.budget (world old) g has) (points_meanwhile making (world old) (world new) changed.run)
+        (has_shows making m (world old) g has) (points_meanwhile making (world old) (world new) changed.run)
         (omega (arith, calls, few))
 
     -- the folder failed while they were reduced in the room
@@ -253,7 +253,7 @@ module _ {S : Type 0} (tells : S → Bool) (world : S → World) (counts : S →
     room_failed old new (Err x) is content faults = record {
       made = tt;
       spent = λ was. absurd (let same : x ≡ RunsSpent = cc in let never : Shelf ≡ RunsSpent = sym is ∙ same in cc);
-      images = λ told g are. safe_meanwhile making m (world old) (world new) files (content.did told).run going.budget g
+      images = λ told g are. safe_meanwhile making m (world old) (world new) files (content.did told).run g
           are.has;
       undamaged = λ told are covered. subst IsNoDamage (sym is) tt;
       content = node_changes (2 * arcs + 8) old new content;
@@ -287,7 +287,7 @@ module _ {S : Type 0} (tells : S → Bool) (world : S → World) (counts : S →
               );
           spent = λ was. absurd (cc);
           images = λ told g are. safe_meanwhile making m (world old) (world new) files (content.did told).run
-              going.budget g are.has;
+              g are.has;
           undamaged = tt;
           content = node_changes (2 * arcs + 8) old new content;
           counted = (
@@ -324,7 +324,7 @@ module _ {S : Type 0} (tells : S → Bool) (world : S → World) (counts : S →
         → (less : AreReducible making (record going { turns = turns }) g 8 m (world mid))
         × (less.has.sources ≡ are.has.sources) × (less.has.last ≡ are.has.last) =
         λ told g are.
-        let has = still_has making m (world old) (world mid) files (only told).run going.budget g are.has in
+        let has = still_has making m (world old) (world mid) files (only told).run g are.has in
         let same = has.1 in
         let few = are.few in
         let two_each = are.has.has_sources in (
@@ -343,8 +343,8 @@ module _ {S : Type 0} (tells : S → Bool) (world : S → World) (counts : S →
           spent = λ was told g are. reduces.spent was told g (later told g are).0;
           images = λ told g are.
               joins (world old) (world mid) (world new)
-              (λ (x : Moment). AreSafe (goes_on_by making going.budget g) making.number x.folder)
-              (safe_meanwhile making m (world old) (world mid) files (only told).run going.budget g are.has)
+              (λ (x : Moment). AreSafe (goes_on_by making g) making.number x.folder)
+              (safe_meanwhile making m (world old) (world mid) files (only told).run g are.has)
               (reduces.images told g (later told g are).0);
           undamaged = err_more r _ _ (λ e none told are covered. none told
               (still_ordered making m (world old) (world mid) files (only told).run are)

@@ -63,7 +63,7 @@ pub record HasRun {S : Type 0} (tells : S → Bool) (world : S → World) (count
       → IsPaidTo arcs_kind.accounts going s
       → Throughout (world mid) (world after) (λ (m : Moment). (image : Image) → IsImage m.folder image
       → IsAsBefore (arcs_kind.accounts.makes s) going.step (arcs_kind.accounts.next s) (now (world mid)).folder
-      (bytes_in image) ⊎ GoesOn arcs_kind.saving going.step going.budget going.sweep (arcs_kind.task s) job
+      (bytes_in image) ⊎ GoesOn arcs_kind.saving going.step going.sweep (arcs_kind.task s) job
       (going.turns + arcs_kind.left s (world mid) job) (bytes_in image))
   pub stops : IsTrue (tells after) → RunStops arcs_kind going s (world mid) (world after)
   pub spent : IsErrOf result RunsSpent → 2 ^ 32 ≤ arcs_kind.accounts.next t
@@ -98,10 +98,10 @@ module _ {S : Type 0} (tells : S → Bool) (world : S → World) (counts : S →
       ]) started.content run.changes
 
   module _ (told : IsTrue (tells after)) (g : Tables) (given : IsGivenFor making going (world before) g) where
-    pub way : IsUnderWay arcs_kind making going.budget g going.last (work_of making.operation making.n g) s (world mid)
+    pub way : IsUnderWay arcs_kind making g going.last (work_of making.operation making.n g) s (world mid)
     way =
         let at = started.under_way (run.changes.before told) g given in
-        subst (λ job. IsUnderWay arcs_kind making going.budget g going.last job s (world mid)) at.1 at.2
+        subst (λ job. IsUnderWay arcs_kind making g going.last job s (world mid)) at.1 at.2
 
     pub few : going.turns + arcs_kind.left s (world mid) (work_of making.operation making.n g) ≤ arcs_most making going g
     few =
@@ -111,15 +111,15 @@ module _ {S : Type 0} (tells : S → Bool) (world : S → World) (counts : S →
     abbrev pub turns : ℕ
     turns = going.turns + arcs_kind.left s (world mid) (work_of making.operation making.n g)
 
-    pub by : GoesOnBy arcs_kind.saving (λ r. goes_on_by making going.budget g r) diagram_rests making.number going.budget
+    pub by : GoesOnBy arcs_kind.saving (λ r. goes_on_by making g r) diagram_rests making.number
         going.sweep (arcs_kind.task s) (work_of making.operation making.n g) turns
-    by = subst (λ k. GoesOnBy arcs_kind.saving (λ r. goes_on_by making going.budget g r) diagram_rests making.number
-        going.budget k (arcs_kind.task s) (work_of making.operation making.n g) turns) (sym may.sweep_is)
-        (subst (λ u. GoesOnBy arcs_kind.saving (λ r. goes_on_by making going.budget g r) diagram_rests making.number
-        going.budget 0 u (work_of making.operation making.n g) turns) (sym task) (record {
-          goes_on = λ r goes. arcs_go making.operation making.n making.operands making.number going.budget g turns r goes
+    by = subst (λ k. GoesOnBy arcs_kind.saving (λ r. goes_on_by making g r) diagram_rests making.number
+        k (arcs_kind.task s) (work_of making.operation making.n g) turns) (sym may.sweep_is)
+        (subst (λ u. GoesOnBy arcs_kind.saving (λ r. goes_on_by making g r) diagram_rests making.number
+        0 u (work_of making.operation making.n g) turns) (sym task) (record {
+          goes_on = λ r goes. arcs_go making.operation making.n making.operands making.number g turns r goes
               within;
-          rests_within = λ r goes f n. arcs_see making.number going.budget turns r
+          rests_within = λ r goes f n. arcs_see making.number turns r
               (arcs_of making.n making.operands making.number) (work_of making.operation making.n g) goes f n;
           apart = laws.apart step_words;
         }))
@@ -133,8 +133,8 @@ module _ {S : Type 0} (tells : S → Bool) (world : S → World) (counts : S →
             let within = few in
             omega (arith, one, two, within)
 
-    pub run_safe : Throughout (world before) (world after) (IsSafeAt making going.budget g)
-    run_safe = joins (world before) (world mid) (world after) (IsSafeAt making going.budget g)
+    pub run_safe : Throughout (world before) (world after) (IsSafeAt making g)
+    run_safe = joins (world before) (world mid) (world after) (IsSafeAt making g)
         (started.images (run.changes.before told) g given)
         (way_safe arcs_kind making going g going.last (work_of making.operation making.n g) s (world mid) way may.step_is by
         (world after) (run.images told (work_of making.operation making.n g) way.remains

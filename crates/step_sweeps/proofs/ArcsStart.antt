@@ -140,15 +140,15 @@ module _ {S : Type 0} (tells : S → Bool) (world : S → World) (counts : S →
 
     -- none of the step's checkpoints is gated still, and meanwhile
     pub start_safe : IsTrue (tells mid) → (g : Tables) → IsGivenFor making anew (world before) g
-        → Throughout (world before) (world mid) (IsSafeAt making base.budget g)
-    start_safe told g given = safe_along (goes_on_by making base.budget g) diagram_rests making.number base.budget
-        (diagram_local making.operation making.n making.operands making.number base.budget g) taken 3 None no_gate tt
+        → Throughout (world before) (world mid) (IsSafeAt making g)
+    start_safe told g given = safe_along (goes_on_by making g) diagram_rests making.number
+        (diagram_local making.operation making.n making.operands making.number g) taken 3 None no_gate tt
         tells world before mid content (λ _. given.standing) told
 
     start_none : IsTrue (tells mid) → (g : Tables) → IsGivenFor making anew (world before) g
         → HasNone making.number (now (world mid)).folder
-    start_none told g given = standing_along (goes_on_by making base.budget g) diagram_rests making.number base.budget
-        (diagram_local making.operation making.n making.operands making.number base.budget g) taken 3 None no_gate tt
+    start_none told g given = standing_along (goes_on_by making g) diagram_rests making.number
+        (diagram_local making.operation making.n making.operands making.number g) taken 3 None no_gate tt
         tells world before mid content (λ _. given.standing) told
 
   pub starts_arcs : MaySweep making.number anew → AreEarlier making.number making.operands

@@ -120,7 +120,7 @@ module _ {S : Type 0} (tells : S → Bool) (world : S → World) (counts : S →
     does : CopiesTo making g job s
     does = (starts.under_way told_mid g given).1
 
-    way : IsUnderWay copy_kind making going.budget g going.last job s (world mid)
+    way : IsUnderWay copy_kind making g going.last job s (world mid)
     way = (starts.under_way told_mid g given).2
 
     few_left : going.turns + left_of s + 1 ≤ work_for making g
@@ -129,23 +129,23 @@ module _ {S : Type 0} (tells : S → Bool) (world : S → World) (counts : S →
     task_so : s.task ≡ copy_of s.task.from making.number bytes
     task_so = does.task_is ∙ ap (copy_of s.task.from making.number) does.bytes_are
 
-    on_by : GoesOnBy copy_saving (goes_on_by making going.budget g) diagram_rests making.number going.budget going.sweep
+    on_by : GoesOnBy copy_saving (goes_on_by making g) diagram_rests making.number going.sweep
         s.task job (going.turns + left_of s)
-    on_by = subst (λ k. GoesOnBy copy_saving (goes_on_by making going.budget g) diagram_rests making.number going.budget
+    on_by = subst (λ k. GoesOnBy copy_saving (goes_on_by making g) diagram_rests making.number
         k s.task job (going.turns + left_of s)) (sym first) (record {
-          goes_on = λ r goes. copy_goes making.operation making.n making.operands making.number going.budget g
+          goes_on = λ r goes. copy_goes making.operation making.n making.operands making.number g
               (going.turns + left_of s) r s.task.from operand does.form
-              (subst (λ x. GoesOn copy_saving making.number going.budget 0 x bytes (going.turns + left_of s) r) task_so
-              (subst (λ x. GoesOn copy_saving making.number going.budget 0 s.task x (going.turns + left_of s) r)
+              (subst (λ x. GoesOn copy_saving making.number 0 x bytes (going.turns + left_of s) r) task_so
+              (subst (λ x. GoesOn copy_saving making.number 0 s.task x (going.turns + left_of s) r)
               does.bytes_are goes)) (let few = few_left in omega (arith, few));
-          rests_within = λ r goes. copy_sees making.number going.budget (going.turns + left_of s) r s.task job goes;
+          rests_within = λ r goes. copy_sees making.number (going.turns + left_of s) r s.task job goes;
           apart = laws.apart;
         })
 
     pub on_images : Throughout (world old) (world new)
-        (λ (x : Moment). AreSafe (goes_on_by making going.budget g) making.number x.folder)
+        (λ (x : Moment). AreSafe (goes_on_by making g) making.number x.folder)
     on_images = joins (world old) (world mid) (world new)
-        (λ (x : Moment). AreSafe (goes_on_by making going.budget g) making.number x.folder)
+        (λ (x : Moment). AreSafe (goes_on_by making g) making.number x.folder)
         (starts.images told_mid g given)
         (way_safe copy_kind making going g going.last job s (world mid) way may.step_is on_by (world new)
         (run.images told_new job way.remains (way_sure copy_kind making going g going.last job s (world mid) way
@@ -239,15 +239,15 @@ module _ {S : Type 0} (tells : S → Bool) (world : S → World) (counts : S →
       (look : Told tells new end (Measured to r (world new) (world end))) where
     end_images : IsTrue (tells end) → (g : Tables) → IsGivenFor making going (world old) g
         → Throughout (world old) (world end)
-        (λ (x : Moment). AreSafe (goes_on_by making going.budget g) making.number x.folder)
+        (λ (x : Moment). AreSafe (goes_on_by making g) making.number x.folder)
     end_images told_end g given =
         let did = look.did told_end in
         let safe = on_images (look.before told_end) g given in
         goes_on (world old) (world new) (world end)
-        (λ (x : Moment). AreSafe (goes_on_by making going.budget g) making.number x.folder) safe did.shelf.ticks
-        (subst (λ (x : Moment). AreSafe (goes_on_by making going.budget g) making.number x.folder) (sym did.same)
+        (λ (x : Moment). AreSafe (goes_on_by making g) making.number x.folder) safe did.shelf.ticks
+        (subst (λ (x : Moment). AreSafe (goes_on_by making g) making.number x.folder) (sym did.same)
         (at_end (world old) (world new)
-        (λ (x : Moment). AreSafe (goes_on_by making going.budget g) making.number x.folder) safe))
+        (λ (x : Moment). AreSafe (goes_on_by making g) making.number x.folder) safe))
 
     end_content : Told tells old end (Ran (OnlyStep making.number (now (world old))) (world old) (world end))
     end_content = told_then tells old new end _ _ _ on_content look (λ _ ran did.

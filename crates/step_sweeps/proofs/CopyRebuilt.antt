@@ -110,14 +110,14 @@ module _ (making : Making) (going : Going) (may : MayResume making.number going)
 
   -- a step that is given its tables stands with the checkpoint, and that is one of a copy
   module _ (world : World) (g : Tables) (given : IsGivenFor making going world g) where
-    pub stands : StandsIn (goes_on_by making going.budget g) diagram_rests making.number going.budget c.next_part
+    pub stands : StandsIn (goes_on_by making g) diagram_rests making.number c.next_part
         (now world).folder c
-    stands = subst (λ last. IsStanding (goes_on_by making going.budget g) diagram_rests making.number going.budget
+    stands = subst (λ last. IsStanding (goes_on_by making g) diagram_rests making.number
         (next_of last) (now world).folder last) may.at_point.last_is given.standing
 
-    pub from : CopiesFrom making.operation making.n making.operands making.number going.budget g
+    pub from : CopiesFrom making.operation making.n making.operands making.number g
         (present (now world).folder) c
-    from = copies_from making.operation making.n making.operands making.number going.budget g
+    from = copies_from making.operation making.n making.operands making.number g
         (present (now world).folder) c stands.last of_first none stands.goes_on
 
     pub within : (f : FileNo) (n : ℕ) → diagram_rests c f n → resumes.RestsOn c f n
@@ -125,14 +125,14 @@ module _ (making : Making) (going : Going) (may : MayResume making.number going)
 
     fronts : (f : FileNo) (n : ℕ) → diagram_rests c f n
         → (n ≤ length (present (now world).folder f)) ⊎ ((k : ℕ) → resumes.RestsOn c f k)
-    fronts f n on = elim (diagram_there making.operation making.n making.operands making.number going.budget g
+    fronts f n on = elim (diagram_there making.operation making.n making.operands making.number g
         (present (now world).folder) c stands.goes_on stands.last f n on) [
           | inl long ↦ inl long
           | inr all ↦ inr (λ k. within f k (all k))
         ]
 
     pub sure_to_be : MadeSure diagram_rests (resumes.RestsOn c) (now world).folder c
-    sure_to_be = made_sure (goes_on_by making going.budget g) diagram_rests making.number going.budget c.next_part
+    sure_to_be = made_sure (goes_on_by making g) diagram_rests making.number c.next_part
         (resumes.RestsOn c) c (now world).folder stands (λ f n on made. fronts f n on)
 
     -- it is a copy for the step
@@ -163,9 +163,9 @@ module _ (making : Making) (going : Going) (may : MayResume making.number going)
 
     pub cut_safe : IsTrue (tells mid) → (g : Tables) → IsGivenFor making going (world old) g
         → Throughout (world old) (world mid)
-        (λ (x : Moment). AreSafe (goes_on_by making going.budget g) making.number x.folder)
-    cut_safe told_mid g given = safe_rebuilt (goes_on_by making going.budget g) diagram_rests making.number going.budget
-        (diagram_local making.operation making.n making.operands making.number going.budget g) (resumes.RestsOn c)
+        (λ (x : Moment). AreSafe (goes_on_by making g) making.number x.folder)
+    cut_safe told_mid g given = safe_rebuilt (goes_on_by making g) diagram_rests making.number
+        (diagram_local making.operation making.n making.operands making.number g) (resumes.RestsOn c)
         c.next_part (world old) (world mid) c (files_are (content.before told_mid)) (content.did told_mid)
         (within (world old) g given) (sure_to_be (world old) g given) (stands (world old) g given)
 
@@ -232,10 +232,10 @@ module _ (making : Making) (going : Going) (may : MayResume making.number going)
         }
 
     module _ (told_mid : IsTrue (tells mid)) (g : Tables) (given : IsGivenFor making going (world old) g) where
-      stands_mid : StandsIn (goes_on_by making going.budget g) diagram_rests making.number going.budget c.next_part
+      stands_mid : StandsIn (goes_on_by making g) diagram_rests making.number c.next_part
           (now (world mid)).folder c
-      stands_mid = standing_rebuilt (goes_on_by making going.budget g) diagram_rests making.number going.budget
-          (diagram_local making.operation making.n making.operands making.number going.budget g) (resumes.RestsOn c)
+      stands_mid = standing_rebuilt (goes_on_by making g) diagram_rests making.number
+          (diagram_local making.operation making.n making.operands making.number g) (resumes.RestsOn c)
           c.next_part (now (world old)) (now (world mid)) c (files_are (rebuilt.content.before told_mid))
           (ran_end (world old) (world mid) (OnlyCutBehind c (resumes.RestsOn c) (now (world old)))
           (rebuilt.content.did told_mid)) (within (world old) g given) (sure_to_be (world old) g given)
@@ -256,19 +256,19 @@ module _ (making : Making) (going : Going) (may : MayResume making.number going)
             }))) all)
       ]
 
-      on_the_way : IsUnderWay copy_kind making going.budget g going.last (bytes g) s (world mid)
+      on_the_way : IsUnderWay copy_kind making g going.last (bytes g) s (world mid)
       on_the_way = record {
         remains = (rebuilt.remains told_mid (bytes g) (from (world old) g given).goes.left
             (from (world old) g given).goes.stands).0;
         operands = λ f is. all_sure (world mid) f (λ n. stands_mid.sure f n
             (copies_local.said c [] of_first (from (world old) g given).goes.fits f n (rebuilt.operands f is n)));
-        standing = subst (λ last. IsStanding (goes_on_by making going.budget g) diagram_rests making.number going.budget
+        standing = subst (λ last. IsStanding (goes_on_by making g) diagram_rests making.number
             s.parts.next (now (world mid)).folder last) (sym may.at_point.last_is)
-            (subst (λ k. StandsIn (goes_on_by making going.budget g) diagram_rests making.number going.budget k
+            (subst (λ k. StandsIn (goes_on_by making g) diagram_rests making.number k
             (now (world mid)).folder c) (sym rebuilt.parts.1) stands_mid);
         sure = λ d is f n on mine.
             let same : c ≡ d = the_same d (sym may.at_point.last_is ∙ is) in
-            sure_still (goes_on_by making going.budget g) diagram_rests making.number going.budget c.next_part
+            sure_still (goes_on_by making g) diagram_rests making.number c.next_part
             (resumes.RestsOn c) c (accounts.makes s) (now (world old)) (now (world mid))
             (ran_end (world old) (world mid) (OnlyCutBehind c (resumes.RestsOn c) (now (world old)))
             (rebuilt.content.did told_mid)) stands_mid (within (world old) g given) there f n

@@ -142,20 +142,20 @@ pub record RanCopy {S : Type 0} (tells : S → Bool) (world : S → World) (goin
       → AreSure (λ f. f ≡ s.task.from) going.step (now (world mid)).folder → IsPaidTo accounts going s
       → Throughout (world mid) (world new) (λ (x : Moment). (image : Image) → IsImage x.folder image
       → IsAsBefore (accounts.makes s) going.step s.parts.next (now (world mid)).folder (bytes_in image)
-      ⊎ GoesOn copy_saving going.step going.budget going.sweep s.task bytes (going.turns + left_of s) (bytes_in image))
+      ⊎ GoesOn copy_saving going.step going.sweep s.task bytes (going.turns + left_of s) (bytes_in image))
   pub stops : IsTrue (tells new) → IsGateSure going.step (now (world mid)).folder → 16384 ≤ interval_of going.budget
       → going.shown ≤ going.turns → (bytes : List ℕ) → Copies s (world mid) bytes → going.turns + left_of s < 2 ^ 61
       → AreStops going.step going.shown ((world mid).clock + stop_calls accounts going s) (world mid) (world new)
 
 -- a fault is handed on
 pub handed_anew : {S : Type 0} (tells : S → Bool) (world : S → World) (counts : S → Faults) (making : Making)
-    (budget first : ℕ) (left : Tables → ℕ) (some stop : ℕ) (old new : S) (e : SortFault)
+    (first : ℕ) (left : Tables → ℕ) (some stop : ℕ) (old new : S) (e : SortFault)
     (r : Result MadeDiagram SortFault) → IsErrAnd r (λ x. x ≡ e)
-    → MakesAnew tells world counts making budget first left some stop old new (Err e)
-    → MakesAnew tells world counts making budget first left some stop old new r
-handed_anew tells world counts making budget first left some stop old new e (Ok x) is makes = absurd is
-handed_anew tells world counts making budget first left some stop old new e (Err x) is makes =
-    subst (λ y. MakesAnew tells world counts making budget first left some stop old new (Err y)) (sym is) makes
+    → MakesAnew tells world counts making first left some stop old new (Err e)
+    → MakesAnew tells world counts making first left some stop old new r
+handed_anew tells world counts making first left some stop old new e (Ok x) is makes = absurd is
+handed_anew tells world counts making first left some stop old new e (Err x) is makes =
+    subst (λ y. MakesAnew tells world counts making first left some stop old new (Err y)) (sym is) makes
 
 -- a cut of the node file changes nothing else
 pub cut_alone : {S : Type 0} (tells : S → Bool) (world : S → World) (number : ℕ) (old mid : S)
@@ -299,7 +299,7 @@ module _ {S : Type 0} (tells : S → Bool) (world : S → World) (counts : S →
           let turns = anew.turns_are in
           omega (arith, few, turns, left_is, few_pieces)
 
-      way : IsUnderWay copy_kind making going.budget g None bytes s (world mid)
+      way : IsUnderWay copy_kind making g None bytes s (world mid)
       way = record {
         remains = copies_table;
         operands = λ f is. subst (λ x. IsFirm (file (world mid) x)) (sym (is ∙ from_is))
@@ -309,23 +309,23 @@ module _ {S : Type 0} (tells : S → Bool) (world : S → World) (counts : S →
         sure = λ c is. absurd (cc);
       }
 
-      copy_by : GoesOnBy copy_saving (goes_on_by making going.budget g) diagram_rests making.number going.budget
+      copy_by : GoesOnBy copy_saving (goes_on_by making g) diagram_rests making.number
           going.sweep s.task bytes (going.turns + left_of s)
-      copy_by = subst (λ k. GoesOnBy copy_saving (goes_on_by making going.budget g) diagram_rests making.number
-          going.budget k s.task bytes (going.turns + left_of s)) (sym anew.sweep_is) (record {
-            goes_on = λ r goes. copy_goes making.operation making.n making.operands making.number going.budget g
+      copy_by = subst (λ k. GoesOnBy copy_saving (goes_on_by making g) diagram_rests making.number
+          k s.task bytes (going.turns + left_of s)) (sym anew.sweep_is) (record {
+            goes_on = λ r goes. copy_goes making.operation making.n making.operands making.number g
                 (going.turns + left_of s) r source.from operand source_is.of.form
-                (subst (λ x. GoesOn copy_saving making.number going.budget 0 x bytes (going.turns + left_of s) r)
+                (subst (λ x. GoesOn copy_saving making.number 0 x bytes (going.turns + left_of s) r)
                 task_so goes) within;
-            rests_within = λ r goes. copy_sees making.number going.budget (going.turns + left_of s) r s.task bytes goes;
+            rests_within = λ r goes. copy_sees making.number (going.turns + left_of s) r s.task bytes goes;
             apart = laws.apart;
           })
 
       copy_images : Throughout (world old) (world new)
-          (λ (x : Moment). AreSafe (goes_on_by making going.budget g) making.number x.folder)
+          (λ (x : Moment). AreSafe (goes_on_by making g) making.number x.folder)
       copy_images = joins (world old) (world mid) (world new)
-          (λ (x : Moment). AreSafe (goes_on_by making going.budget g) making.number x.folder)
-          (safe_anew making going.budget g (world old) (world mid) given.none (nodes_alone.did told_mid))
+          (λ (x : Moment). AreSafe (goes_on_by making g) making.number x.folder)
+          (safe_anew making g (world old) (world mid) given.none (nodes_alone.did told_mid))
           (way_safe copy_kind making going g None bytes s (world mid) way anew.step_is copy_by (world new)
           (run.images told_new bytes copies_table (way_sure copy_kind making going g None bytes s (world mid) way
           anew.step_is) paid_so))
@@ -378,7 +378,7 @@ module _ {S : Type 0} (tells : S → Bool) (world : S → World) (counts : S →
       → (IsTrue (tells new) → (bytes : List ℕ) → Copies s (world mid) bytes → IsCovered going.step (world mid)
       → IsNoDamage e)
       → OnlySortShelf {T = MadeDiagram} (counts old) (counts new) (Err e)
-      → MakesAnew tells world counts making going.budget 0 (λ g. 0) 7 copy_stop old new (Err e)
+      → MakesAnew tells world counts making 0 (λ g. 0) 7 copy_stop old new (Err e)
   copy_refused e spent undamaged faults = record {
     made = tt;
     undamaged = λ told g given. none told (no_gate g given);
@@ -410,7 +410,7 @@ module _ {S : Type 0} (tells : S → Bool) (world : S → World) (counts : S →
       → (IsTrue (tells new) → (bytes : List ℕ) → Copies s (world mid) bytes → Copies t (world new) bytes)
       → t.task ≡ s.task → fuel_of t ≡ 0 → (IsTrue (tells new) → IsInStep t (world new))
       → OnlySortShelf {T = MadeDiagram} (counts old) (counts new) (Ok m)
-      → MakesAnew tells world counts making going.budget 0 (λ g. 0) 7 copy_stop old new (Ok m)
+      → MakesAnew tells world counts making 0 (λ g. 0) 7 copy_stop old new (Ok m)
   copy_ended later m nodes turns_are next made late counted few keeps same none step faults = record {
     made = λ told g given.
         let its = few told (canon_bytes making.n (table_by making g)) (copies_table told g given) in

@@ -1,5 +1,5 @@
 -- What the room made is saved: each image that a stop may leave meanwhile is safe.
-use Rattle.std.proofs.Common.{◌≡◌, ◌≢◌, ◌⊎◌, ℕ, ◌+◌, ◌-◌, ◌*◌, ◌^◌, ◌≤◌, ◌∙◌, Bool, IsTrue, List, [], length, take, refl, sym, ap, subst, inl, inr, arith}
+use Rattle.std.proofs.Common.{◌≡◌, ◌≢◌, ◌⊎◌, ℕ, ◌+◌, ◌-◌, ◌*◌, ◌^◌, ◌<◌, ◌≤◌, ◌∙◌, Bool, IsTrue, List, [], length, take, refl, sym, ap, subst, inl, inr, arith}
 use Rattle.std.specs.Prelude.{Option, Some, None, Result, Ok, Err, IfErr}
 use Rattle.std.proofs.lemmas.List.{take_all}
 use Rattle.rec_words.specs.Words.{node_size}
@@ -67,7 +67,7 @@ pub record IsEndOf (making : Making) (going : Going) (nodes next : ℕ) (c : Che
   pub step_is : c.step ≡ making.number
   pub sweep_is : c.sweep ≡ 1
   pub turns_are : c.turns ≡ going.turns - 1
-  pub budget_is : c.budget ≡ going.budget
+  pub records : c.budget < 2 ^ 32
   pub filled : IsFilled next c
   pub words : Fits c
   pub fits : reductions.Fits c
@@ -79,17 +79,17 @@ pub record IsEndOf (making : Making) (going : Going) (nodes next : ℕ) (c : Che
 -- so it was filled
 pub end_of : (making : Making) (going : Going) (nodes next : ℕ) (c : Checkpoint) (out : FileNo)
     → out ≡ node_file making.number → (3 ≤ next) × (next ≤ 2 ^ 32) → c.step ≡ making.number → c.sweep ≡ 1
-    → c.turns ≡ going.turns - 1 → c.budget ≡ going.budget → IsFilled next c → Fits c
+    → c.turns ≡ going.turns - 1 → c.budget < 2 ^ 32 → IsFilled next c → Fits c
     → (3 ≤ next → IsMadePart making.number next out → reductions.Fits c) → NamesEnded c out making.n
     → ((r : FileNo → List ℕ) (d : Diagram) (turns : ℕ)
     → take (node_size * (nodes + 1)) (r out) ≡ canon_bytes making.n d.table
     → nodes ≡ length (canon_nodes making.n d.table) → StandsFor c r d turns)
     → IsEndOf making going nodes next c
-end_of making going nodes next c out out_is parts step sweep turns budget filled words fits names stands = record {
+end_of making going nodes next c out out_is parts step sweep turns records filled words fits names stands = record {
   step_is = step;
   sweep_is = sweep;
   turns_are = turns;
-  budget_is = budget;
+  records = records;
   filled = filled;
   words = words;
   fits = fits parts.0 (record {
@@ -121,7 +121,7 @@ nothing_sure folder (Some c) = λ f n is mine. absurd mine
 module _ (making : Making) (going : Going) (nodes next : ℕ) (c : Checkpoint) (parts : (3 ≤ next) × (next ≤ 2 ^ 32))
     (may : MayBeKept nodes next going) (end : IsEndOf making going nodes next c) where
   -- it keeps the rules
-  end_rules : KeepsRules making.number going.budget c
+  end_rules : KeepsRules making.number c
   end_rules =
       let sweep = end.sweep_is in
       let turns = end.turns_are in
@@ -131,7 +131,7 @@ module _ (making : Making) (going : Going) (nodes next : ℕ) (c : Checkpoint) (
       let next_is = end.filled.next_is in
       record {
         step_is = end.step_is;
-        budget_is = end.budget_is;
+        budget = end.records;
         sweep = omega (arith, sweep);
         parts = (omega (arith, next_is, from), omega (arith, next_is, below));
         tables = end.filled.tables.tables;
@@ -150,12 +150,12 @@ module _ (making : Making) (going : Going) (nodes next : ℕ) (c : Checkpoint) (
     -- so it goes on where it is gated last and the node file stands
     end_goes_on : (r : FileNo → List ℕ) → IsLast c r
         → r (node_file making.number) ≡ canon_bytes making.n (table_by making g)
-        → goes_on_by making going.budget g r
+        → goes_on_by making g r
     end_goes_on r last bytes =
         let d : Diagram = record { arcs = []; table = table_by making g } in
         let step_is = end.step_is in
         let turns = end.turns_are in
-        reduction_goes making.operation making.n making.operands making.number going.budget g going.turns r
+        reduction_goes making.operation making.n making.operands making.number g going.turns r
         end.names.task d end.names.out_is end.names.variables_are (end.names.inner_own ∙ step_is)
         (end.names.ends_own ∙ step_is) refl is.made.form
         (record {
@@ -190,15 +190,15 @@ module _ (making : Making) (going : Going) (nodes next : ℕ) (c : Checkpoint) (
 
     -- each image is safe
     safe_while_saved : AreFiles (now world).folder → (m : Moment) → DuringSave c (now world) m
-        → AreSafe (goes_on_by making going.budget g) making.number m.folder
+        → AreSafe (goes_on_by making g) making.number m.folder
     safe_while_saved are_files m saves image is_image =
         let step_is = end.step_is in
         let gate : IsGateSure c.step (now world).folder = subst (λ s. IsGateSure s (now world).folder) (sym step_is)
-        (gate_sure (goes_on_by making going.budget g) diagram_rests making.number going.budget next
+        (gate_sure (goes_on_by making g) diagram_rests making.number next
         (now world).folder is.last is.standing) in
         elim (saves.images gate image is_image) [
-          | inl was ↦ safe_as_before (goes_on_by making going.budget g) diagram_rests making.number going.budget
-              (diagram_local making.operation making.n making.operands making.number going.budget g) Nothing next
+          | inl was ↦ safe_as_before (goes_on_by making g) diagram_rests making.number
+              (diagram_local making.operation making.n making.operands making.number g) Nothing next
               (now world).folder (bytes_in image) is.last is.standing (nothing_sure (now world).folder is.last)
               (subst (λ s. IsAsBefore Nothing s next (now world).folder (bytes_in image)) step_is
               (before_saved Nothing Nothing c next (now world) m image are_files (makes_nothing c.step next parts.0) saves
@@ -214,9 +214,9 @@ module _ {S : Type 0} (tells : S → Bool) (world : S → World) (counts : S →
       → KeepsMade tells world counts making nodes next going s s (Ok tt)
   not_kept s calm = record {
     images = λ told g is. stands (world s)
-        (λ (m : Moment). AreSafe (goes_on_by making going.budget g) making.number m.folder)
-        (safe_standing (goes_on_by making going.budget g) diagram_rests making.number going.budget
-        (diagram_local making.operation making.n making.operands making.number going.budget g) next
+        (λ (m : Moment). AreSafe (goes_on_by making g) making.number m.folder)
+        (safe_standing (goes_on_by making g) diagram_rests making.number
+        (diagram_local making.operation making.n making.operands making.number g) next
         (now (world s)).folder is.last is.standing);
     cause = tt;
     content = told_here tells s _ (λ told. changed_none (IsOfPoints making.number) (world s));
@@ -263,7 +263,7 @@ module _ {S : Type 0} (tells : S → Bool) (world : S → World) (counts : S →
   kept_by c old new r parts may end content fault calls faults = record {
     images = λ told g is. weakens (world old) (world new)
         (Quiet (now (world old)).said (DuringSave c (now (world old))))
-        (λ (m : Moment). AreSafe (goes_on_by making going.budget g) making.number m.folder)
+        (λ (m : Moment). AreSafe (goes_on_by making g) making.number m.folder)
         (λ m quiet. safe_while_saved making going nodes next c parts may end g (world old) is
         (files_are old (content.before told)) m quiet.holds) (content.did told).moments;
     cause = cause_of r fault;

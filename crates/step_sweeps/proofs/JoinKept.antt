@@ -64,9 +64,9 @@ module _ {S : Type 0} (tells : S → Bool) (world : S → World) (counts : S →
   Kept r = KeepsMade tells world counts making j.nodes 3 (record going { turns = turns }) mid new r
 
   -- before the save
-  was_joined : MakesAnew tells world counts making going.budget first (nodes_for making) 7 (sweeps_stop + 2 ^ 18 + 6)
+  was_joined : MakesAnew tells world counts making first (nodes_for making) 7 (sweeps_stop + 2 ^ 18 + 6)
       old mid (Ok joined)
-  was_joined = joined_makes tells world counts op making pair old are going.budget first most j joined mid fits refl
+  was_joined = joined_makes tells world counts op making pair old are first most j joined mid fits refl
       turns_are refl some few made paid short content
       (record { later = calm.later; cause = λ was. absurd (cc); say_is = calm.say_is; text_is = calm.text_is })
 
@@ -90,14 +90,14 @@ module _ {S : Type 0} (tells : S → Bool) (world : S → World) (counts : S →
   both_safe : (r : Result Unit StreamFault) → Kept r → IsTrue (tells new) → (g : Tables)
       → IsGivenAnew making (world old) g
       → Throughout (world old) (world new)
-      (λ (x : Moment). AreSafe (goes_on_by making going.budget g) making.number x.folder)
+      (λ (x : Moment). AreSafe (goes_on_by making g) making.number x.folder)
   both_safe r keeps told_new g given =
       let told_mid = keeps.content.before told_new in
       let told_old = content.before told_mid in
       let before = early told_old g given.given in
       let count = nodes_are tells world counts op making pair old are told_old g given.given in
       joins (world old) (world mid) (world new)
-      (λ (x : Moment). AreSafe (goes_on_by making going.budget g) making.number x.folder)
+      (λ (x : Moment). AreSafe (goes_on_by making g) making.number x.folder)
       (was_joined.images told_mid g given)
       (keeps.images told_new g (record {
         made = (was_joined.made told_mid g given).made;
@@ -134,7 +134,7 @@ module _ {S : Type 0} (tells : S → Bool) (world : S → World) (counts : S →
 
   -- the save was refused
   pub joined_refused : (e : StreamFault) (r : Result MadeDiagram SortFault) → IsErrAnd r (λ x. x ≡ handed_on e)
-      → Kept (Err e) → MakesAnew tells world counts making going.budget first (nodes_for making) 7
+      → Kept (Err e) → MakesAnew tells world counts making first (nodes_for making) 7
       (sweeps_stop + 2 ^ 18 + 6) old new r
   joined_refused e (Ok x) at keeps = absurd at
   joined_refused e (Err x) at keeps =
@@ -158,7 +158,7 @@ module _ {S : Type 0} (tells : S → Bool) (world : S → World) (counts : S →
 
   -- it was made, or wasn't due
   pub joined_kept : Kept (Ok tt)
-      → MakesAnew tells world counts making going.budget first (nodes_for making) 7 (sweeps_stop + 2 ^ 18 + 6)
+      → MakesAnew tells world counts making first (nodes_for making) 7 (sweeps_stop + 2 ^ 18 + 6)
       old new (Ok joined)
   joined_kept keeps = record {
     made = λ told_new g given.

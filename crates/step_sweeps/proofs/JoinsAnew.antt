@@ -179,7 +179,7 @@ module _ {S : Type 0} (tells : S → Bool) (world : S → World) (counts : S →
   }
 
   -- what was joined in the room
-  pub joined_makes : (budget first most : ℕ) (j : Joined) (m : MadeDiagram) (new : S) → first < 2 ^ 64
+  pub joined_makes : (first most : ℕ) (j : Joined) (m : MadeDiagram) (new : S) → first < 2 ^ 64
       → m.nodes ≡ j.nodes → m.turns ≡ min (first + j.turns) (2 ^ 64 - 1) → m.next ≡ 3
       → 0 < j.turns → j.turns ≤ 15 * (pair.left.trailer.count + pair.right.trailer.count + 1)
       → (IsTrue (tells new) → (t u : List Bool) → IsOperandOf making.n t pair.left (world old)
@@ -189,8 +189,8 @@ module _ {S : Type 0} (tells : S → Bool) (world : S → World) (counts : S →
       → (IsTrue (tells new) → (world new).clock ≤ (world old).clock + (2 ^ 18 + 6))
       → Told tells old new (Changed most (node_file making.number) (world old) (world new))
       → OnlySortShelf {T = MadeDiagram} (counts old) (counts new) (Ok m)
-      → MakesAnew tells world counts making budget first (nodes_for making) 7 (sweeps_stop + 2 ^ 18 + 6) old new (Ok m)
-  joined_makes budget first most j m new fits nodes turns next some few made paid short content faults =
+      → MakesAnew tells world counts making first (nodes_for making) 7 (sweeps_stop + 2 ^ 18 + 6) old new (Ok m)
+  joined_makes first most j m new fits nodes turns next some few made paid short content faults =
       let run = changed_run tells world making.number most old new content in
       record {
         made = λ told g given.
@@ -209,7 +209,7 @@ module _ {S : Type 0} (tells : S → Bool) (world : S → World) (counts : S →
             let calls = paid told in
             let count = nodes_are (content.before told) g given.given in
             omega (arith, calls, few, count);
-        images = λ told g given. safe_anew making budget g (world old) (world new) given.none (run.did told);
+        images = λ told g given. safe_anew making g (world old) (world new) given.none (run.did told);
         damaged = tt;
         content = node_changes tells world making.number old new run;
         counted = (

@@ -28,7 +28,7 @@ pub given_anew : (making : Making) (going : Going) (world : World) (g : Tables) 
 given_anew making going world g none is = record {
   given = is.given;
   firm = is.firm;
-  none = subst (λ last. IsStanding (goes_on_by making going.budget g) diagram_rests making.number going.budget
+  none = subst (λ last. IsStanding (goes_on_by making g) diagram_rests making.number
       (next_of last) (now world).folder last) none is.standing;
 }
 
@@ -92,7 +92,7 @@ module _ {S : Type 0} (tells : S → Bool) (world : S → World) (counts : S →
     (old new : S) (r : Result MadeDiagram SortFault) where
   -- what is made anew
   pub anew_makes : going.last ≡ None → going.turns ≡ 0
-      → MakesAnew tells world counts making going.budget 0 (λ g. 0) 11 (sweeps_stop + 2 ^ 19 + 36) old new r
+      → MakesAnew tells world counts making 0 (λ g. 0) 11 (sweeps_stop + 2 ^ 19 + 36) old new r
       → Makes tells world counts making going old new r
   anew_makes none turns makes = record {
     made = ok_more r _ _ (λ m made told g is.

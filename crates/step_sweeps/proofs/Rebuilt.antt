@@ -36,10 +36,10 @@ still_there n old new same there =
     let long = ap length same in
     omega (arith, before, after, long, there)
 
-module _ (Q : (FileNo → List ℕ) → Type 0) (rests : Checkpoint → FileNo → ℕ → Type 0) (step budget next : ℕ)
+module _ (Q : (FileNo → List ℕ) → Type 0) (rests : Checkpoint → FileNo → ℕ → Type 0) (step next : ℕ)
     (held : FileNo → ℕ → Type 0) (c : Checkpoint) where
   -- of each file that is made as many bytes are there as the checkpoint rests on, or it rests on all of it
-  pub made_sure : (folder : Folder) → StandsIn Q rests step budget next folder c
+  pub made_sure : (folder : Folder) → StandsIn Q rests step next folder c
       → ((f : FileNo) (n : ℕ) → rests c f n → IsMadePart c.step c.next_part f
       → (n ≤ length (present folder f)) ⊎ ((k : ℕ) → held f k)) → MadeSure rests held folder c
   made_sure folder s there f n on made = elim (there f n on made) [
@@ -49,7 +49,7 @@ module _ (Q : (FileNo → List ℕ) → Type 0) (rests : Checkpoint → FileNo �
 
   -- and they are sure once the sweep is rebuilt
   pub sure_still : (makes : FileNo → Type 0) (old m : Moment) → OnlyCutBehind c held old m
-      → StandsIn Q rests step budget next m.folder c → ((f : FileNo) (n : ℕ) → rests c f n → held f n)
+      → StandsIn Q rests step next m.folder c → ((f : FileNo) (n : ℕ) → rests c f n → held f n)
       → ((f : FileNo) (n : ℕ) → rests c f n → makes f → n ≤ length (present old.folder f))
       → (f : FileNo) (n : ℕ) → rests c f n → makes f → n ≤ (file_in m.folder f).firm
   sure_still makes old m only s within there f n on mine = sure_there (file_in m.folder f) n (s.sure f n on)

@@ -73,7 +73,7 @@ pub record RanOn {S : Type 0} (tells : S → Bool) (world : S → World) (going 
       → AreSure (IsOperand (reduce.task_of s)) going.step (now (world mid)).folder → IsPaidTo reduce.accounts going s
       → Throughout (world mid) (world new) (λ (x : Moment). (image : Image) → IsImage x.folder image
       → IsAsBefore (reduce.accounts.makes s) going.step s.parts.next (now (world mid)).folder (bytes_in image)
-      ⊎ GoesOn reduce_saving going.step going.budget going.sweep (reduce.task_of s) d
+      ⊎ GoesOn reduce_saving going.step going.sweep (reduce.task_of s) d
       (going.turns + reduce.turns_left s) (bytes_in image))
 
 module _ {S : Type 0} (tells : S → Bool) (world : S → World) (counts : S → Faults) (making : Making) (going : Going)
@@ -108,28 +108,28 @@ module _ {S : Type 0} (tells : S → Bool) (world : S → World) (counts : S →
     does : ReducesTo making g job s
     does = (starts.under_way told_mid g given).1
 
-    way : IsUnderWay reduce_kind making going.budget g going.last job s (world mid)
+    way : IsUnderWay reduce_kind making g going.last job s (world mid)
     way = (starts.under_way told_mid g given).2
 
     few_left : going.turns + reduce.turns_left s + 1 ≤ work_for making g
     few_left = let few = (starts.under_way told_mid g given).3 in omega (arith, few)
 
-    on_by : GoesOnBy reduce_saving (goes_on_by making going.budget g) diagram_rests making.number going.budget going.sweep
+    on_by : GoesOnBy reduce_saving (goes_on_by making g) diagram_rests making.number going.sweep
         (reduce.task_of s) job (going.turns + reduce.turns_left s)
-    on_by = subst (λ k. GoesOnBy reduce_saving (goes_on_by making going.budget g) diagram_rests making.number going.budget
+    on_by = subst (λ k. GoesOnBy reduce_saving (goes_on_by making g) diagram_rests making.number
         k (reduce.task_of s) job (going.turns + reduce.turns_left s)) (sym second) (record {
-          goes_on = λ r goes. reduction_goes making.operation making.n making.operands making.number going.budget g
+          goes_on = λ r goes. reduction_goes making.operation making.n making.operands making.number g
               (going.turns + reduce.turns_left s) r (reduce.task_of s) job out_is variables_are does.inner_own does.ends_own
               does.table_is (subst (HasForm making.n) does.table_is does.form) goes (let few = few_left in omega (arith, few));
-          rests_within = λ r goes. reduction_sees making.number going.budget (going.turns + reduce.turns_left s) r
+          rests_within = λ r goes. reduction_sees making.number (going.turns + reduce.turns_left s) r
               (reduce.task_of s) job goes;
           apart = reductions_local.apart;
         })
 
     on_images : Throughout (world old) (world new)
-        (λ (x : Moment). AreSafe (goes_on_by making going.budget g) making.number x.folder)
+        (λ (x : Moment). AreSafe (goes_on_by making g) making.number x.folder)
     on_images = joins (world old) (world mid) (world new)
-        (λ (x : Moment). AreSafe (goes_on_by making going.budget g) making.number x.folder)
+        (λ (x : Moment). AreSafe (goes_on_by making g) making.number x.folder)
         (starts.images told_mid g given)
         (way_safe reduce_kind making going g going.last job s (world mid) way may.step_is on_by (world new)
         (run.images told_new job way.remains (way_sure reduce_kind making going g going.last job s (world mid) way

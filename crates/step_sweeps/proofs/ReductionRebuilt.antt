@@ -156,23 +156,23 @@ module _ (making : Making) (going : Going) (may : MayResume making.number going)
 
   -- a step that is given its tables stands with the checkpoint, and that is one of a reduction
   module _ (world : World) (g : Tables) (given : IsGivenFor making going world g) where
-    pub stands : StandsIn (goes_on_by making going.budget g) diagram_rests making.number going.budget c.next_part
+    pub stands : StandsIn (goes_on_by making g) diagram_rests making.number c.next_part
         (now world).folder c
-    stands = subst (λ last. IsStanding (goes_on_by making going.budget g) diagram_rests making.number going.budget
+    stands = subst (λ last. IsStanding (goes_on_by making g) diagram_rests making.number
         (next_of last) (now world).folder last) may.at_point.last_is given.standing
 
-    pub from : ReducesFrom making.n making.number going.budget (table_by making g) (work_for making g)
+    pub from : ReducesFrom making.n making.number (table_by making g) (work_for making g)
         (present (now world).folder) c
-    from = reduces_from making.operation making.n making.operands making.number going.budget g
+    from = reduces_from making.operation making.n making.operands making.number g
         (present (now world).folder) c stands.last of_second stands.goes_on
 
     pub within : (f : FileNo) (n : ℕ) → diagram_rests c f n → resumes.RestsOn c f n
     within f n = reductions_local.told c [] of_second from.goes.fits f n
 
     pub sure_to_be : MadeSure diagram_rests (resumes.RestsOn c) (now world).folder c
-    sure_to_be = made_sure (goes_on_by making going.budget g) diagram_rests making.number going.budget c.next_part
+    sure_to_be = made_sure (goes_on_by making g) diagram_rests making.number c.next_part
         (resumes.RestsOn c) c (now world).folder stands
-        (λ f n on made. elim (diagram_there making.operation making.n making.operands making.number going.budget g
+        (λ f n on made. elim (diagram_there making.operation making.n making.operands making.number g
         (present (now world).folder) c stands.goes_on stands.last f n on) [
           | inl long ↦ inl long
           | inr all ↦ inr (λ k. within f k (all k))
@@ -185,7 +185,7 @@ module _ (making : Making) (going : Going) (may : MayResume making.number going)
         let fits = from.goes.fits in
         let one = one_reduction c names.saved fits.saved names.holds fits.holds in
         let same : reduce.out_of s ≡ fits.saved.out = sym names.out_is ∙ (λ i. (one i).out) in
-        elim (diagram_there making.operation making.n making.operands making.number going.budget g
+        elim (diagram_there making.operation making.n making.operands making.number g
         (present (now world).folder) c stands.goes_on stands.last f n on) [
           | inl long ↦ long
           | inr all ↦ (let most = rests_most c fits f (24 * fits.saved.kept + 1)
@@ -228,9 +228,9 @@ module _ (making : Making) (going : Going) (may : MayResume making.number going)
 
       pub cut_safe : IsTrue (tells mid) → (g : Tables) → IsGivenFor making going (world old) g
           → Throughout (world old) (world mid)
-          (λ (x : Moment). AreSafe (goes_on_by making going.budget g) making.number x.folder)
-      cut_safe told_mid g given = safe_rebuilt (goes_on_by making going.budget g) diagram_rests making.number going.budget
-          (diagram_local making.operation making.n making.operands making.number going.budget g) (resumes.RestsOn c)
+          (λ (x : Moment). AreSafe (goes_on_by making g) making.number x.folder)
+      cut_safe told_mid g given = safe_rebuilt (goes_on_by making g) diagram_rests making.number
+          (diagram_local making.operation making.n making.operands making.number g) (resumes.RestsOn c)
           c.next_part (world old) (world mid) c (files_are (cut.before told_mid)) (cut.did told_mid)
           (within (world old) g given) (sure_to_be (world old) g given) (stands (world old) g given)
 
@@ -317,30 +317,30 @@ module _ (making : Making) (going : Going) (may : MayResume making.number going)
         }
 
     module _ (told_mid : IsTrue (tells mid)) (g : Tables) (given : IsGivenFor making going (world old) g) where
-      stands_mid : StandsIn (goes_on_by making going.budget g) diagram_rests making.number going.budget c.next_part
+      stands_mid : StandsIn (goes_on_by making g) diagram_rests making.number c.next_part
           (now (world mid)).folder c
-      stands_mid = standing_rebuilt (goes_on_by making going.budget g) diagram_rests making.number going.budget
-          (diagram_local making.operation making.n making.operands making.number going.budget g) (resumes.RestsOn c)
+      stands_mid = standing_rebuilt (goes_on_by making g) diagram_rests making.number
+          (diagram_local making.operation making.n making.operands making.number g) (resumes.RestsOn c)
           c.next_part (now (world old)) (now (world mid)) c (files_are (rebuilt.content.before told_mid))
           (ran_end (world old) (world mid) (OnlyCutBehind c (resumes.RestsOn c) (now (world old)))
           (rebuilt.content.did told_mid)) (within (world old) g given) (sure_to_be (world old) g given)
           (stands (world old) g given)
 
       -- so the reduction is under way
-      pub on_the_way : IsUnderWay reduce_kind making going.budget g going.last (from (world old) g given).diagram s
+      pub on_the_way : IsUnderWay reduce_kind making g going.last (from (world old) g given).diagram s
           (world mid)
       on_the_way = record {
         remains = (rebuilt.remains told_mid (from (world old) g given).diagram (from (world old) g given).goes.left
             (from (world old) g given).goes.stands).0;
         operands = λ f is. all_sure (world mid) f (λ n. stands_mid.sure f n
             (reductions_local.said c [] of_second (from (world old) g given).goes.fits f n (rebuilt.operands f is n)));
-        standing = subst (λ last. IsStanding (goes_on_by making going.budget g) diagram_rests making.number going.budget
+        standing = subst (λ last. IsStanding (goes_on_by making g) diagram_rests making.number
             s.parts.next (now (world mid)).folder last) (sym may.at_point.last_is)
-            (subst (λ k. StandsIn (goes_on_by making going.budget g) diagram_rests making.number going.budget k
+            (subst (λ k. StandsIn (goes_on_by making g) diagram_rests making.number k
             (now (world mid)).folder c) (sym rebuilt.parts.1) stands_mid);
         sure = λ d is f n on mine.
             let same : c ≡ d = the_same d (sym may.at_point.last_is ∙ is) in
-            sure_still (goes_on_by making going.budget g) diagram_rests making.number going.budget c.next_part
+            sure_still (goes_on_by making g) diagram_rests making.number c.next_part
             (resumes.RestsOn c) c (reduce.accounts.makes s) (now (world old)) (now (world mid))
             (ran_end (world old) (world mid) (OnlyCutBehind c (resumes.RestsOn c) (now (world old)))
             (rebuilt.content.did told_mid)) stands_mid (within (world old) g given) (out_there (world old) g given s rebuilt.names) f n

@@ -103,7 +103,7 @@ pub record HasRun {S : Type 0} (tells : S → Bool) (world : S → World) (makin
       → IsPaidTo reduce.accounts (record going { sweep = 1 }) s
       → Throughout (world mid) (world new) (λ (x : Moment). (image : Image) → IsImage x.folder image
       → IsAsBefore (reduce.accounts.makes s) going.step s.parts.next (now (world mid)).folder (bytes_in image)
-      ⊎ GoesOn reduce_saving going.step going.budget 1 (reduce.task_of s) d (going.turns + reduce.turns_left s)
+      ⊎ GoesOn reduce_saving going.step 1 (reduce.task_of s) d (going.turns + reduce.turns_left s)
       (bytes_in image))
 
 module _ {S : Type 0} (tells : S → Bool) (world : S → World) (counts : S → Faults) (making : Making) (m : MadeArcs)
@@ -119,7 +119,7 @@ module _ {S : Type 0} (tells : S → Bool) (world : S → World) (counts : S →
     made = tt;
     spent = λ was. absurd (let same : e ≡ RunsSpent = cc in other same);
     images = λ told g are. safe_meanwhile making m (world old) (world new) files
-        (cut_only making (world old) (world new) (content.did told)) going.budget g are.has;
+        (cut_only making (world old) (world new) (content.did told)) g are.has;
     undamaged = λ told are covered. undamaged told are;
     content = told tells old new _ _ content (λ _ run. changed_more (λ q. q ≡ node_file making.number)
         (λ q. q.step ≡ making.number) (world old) (world new) (λ f is. ap (λ (x : FileNo). x.step) is)
@@ -134,7 +134,7 @@ module _ {S : Type 0} (tells : S → Bool) (world : S → World) (counts : S →
         );
     stops = λ told g are within less.
         let few = calls told in
-        quiet_stops making.number (shown_by are.has.last) _ (world old) (world new) (has_shows making m going.budget (world old) g are.has)
+        quiet_stops making.number (shown_by are.has.last) _ (world old) (world new) (has_shows making m (world old) g are.has)
         (points_meanwhile making (world old) (world new) (cut_only making (world old) (world new) (content.did told))) (omega (arith, few));
     faults = faults;
   }
@@ -205,7 +205,7 @@ module _ {S : Type 0} (tells : S → Bool) (world : S → World) (counts : S →
           let all : ℕ = (world old).clock + sweep_stop going m.parts.next in
           let points = points_meanwhile making (world old) (world mid)
           (cut_only making (world old) (world mid) (begun.content.did told_mid)) in
-          let sure = has_shows making m going.budget (world old) g are.has in
+          let sure = has_shows making m (world old) g are.has in
           let begins = credit told_mid in
           let left = few_left tells world making m going s old mid files may begun told_mid g are in
           stops_join making.number shown all (world old) (world mid) (world new) (run.changes.did told_new).moments.past
@@ -221,7 +221,7 @@ module _ {S : Type 0} (tells : S → Bool) (world : S → World) (counts : S →
           remains (omega (arith, left, within)) (run.stops told_new)))
 
       its_images : Throughout (world old) (world new)
-          (λ (x : Moment). AreSafe (goes_on_by making going.budget g) making.number x.folder)
+          (λ (x : Moment). AreSafe (goes_on_by making g) making.number x.folder)
       its_images = reduced_safe tells world making m going s old mid files may begun told_mid g are (world new)
           (λ sure. run.images told_new (job_for tells world making m going s old mid files may begun g are.has) remains
           sure paid_so)

@@ -58,16 +58,16 @@ module _ {S : Type 0} (tells : S → Bool) (world : S → World) (counts : S →
   both_safe : (r : Result Unit StreamFault) → Kept r → IsTrue (tells new) → (g : Tables)
       → AreReducible making going g 10 m (world old)
       → Throughout (world old) (world new)
-      (λ (x : Moment). AreSafe (goes_on_by making going.budget g) making.number x.folder)
+      (λ (x : Moment). AreSafe (goes_on_by making g) making.number x.folder)
   both_safe r keeps told_new g are =
       let told_mid = keeps.content.before told_new in
       let run = (content.did told_mid).run in
-      let still = (still_has making m (world old) (world mid) files run going.budget g are.has).0 in
+      let still = (still_has making m (world old) (world mid) files run g are.has).0 in
       let few = are.few in
       let two_each = are.has.has_sources in
       joins (world old) (world mid) (world new)
-      (λ (x : Moment). AreSafe (goes_on_by making going.budget g) making.number x.folder)
-      (safe_meanwhile making m (world old) (world mid) files run going.budget g are.has)
+      (λ (x : Moment). AreSafe (goes_on_by making g) making.number x.folder)
+      (safe_meanwhile making m (world old) (world mid) files run g are.has)
       (keeps.images told_new g (record {
         made = made told_mid (table_by making g) are.has.arcs;
         few = omega (arith, few, two_each, arcs_are, is, turns_are);
@@ -87,7 +87,7 @@ module _ {S : Type 0} (tells : S → Bool) (world : S → World) (counts : S →
       let shown : ℕ = shown_by are.has.last in
       let all : ℕ = (world old).clock + reduce_stop going m.parts.next in
       let sure = still_shows making.number shown (world old) (world mid)
-      (has_shows making m going.budget (world old) g are.has)
+      (has_shows making m (world old) g are.has)
       (points_meanwhile making (world old) (world mid) changed.run) in
       let first = changed.few in
       let then = keeps.calls told_new in

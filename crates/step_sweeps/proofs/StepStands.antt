@@ -11,16 +11,16 @@ use Rattle.step_going.proofs.Safe.{RestsSure}
 use Rattle.sweep_checkpoint.specs.Saves.{gated_size, IsGateSure}
 use Rattle.sweep_core.specs.declared.checkpoint.Checkpoint.{Checkpoint}
 
-module _ (Q : (FileNo → List ℕ) → Type 0) (rests : Checkpoint → FileNo → ℕ → Type 0) (step budget next : ℕ) where
+module _ (Q : (FileNo → List ℕ) → Type 0) (rests : Checkpoint → FileNo → ℕ → Type 0) (step next : ℕ) where
   -- where a step stands its gate is sure
-  pub gate_sure : (folder : Folder) (last : Option Checkpoint) → IsStanding Q rests step budget next folder last
+  pub gate_sure : (folder : Folder) (last : Option Checkpoint) → IsStanding Q rests step next folder last
       → IsGateSure step folder
   gate_sure folder None none = subst IsFirm (sym none) refl
   gate_sure folder (Some c) s = s.gate
 
   -- and all that it counts is there
   pub points_there : (folder : Folder) (last : Option Checkpoint) → AreFiles folder
-      → IsStanding Q rests step budget next folder last
+      → IsStanding Q rests step next folder last
       → gated_size step folder ≤ length (file_in folder (checkpoint_file step)).bytes
   points_there folder None files none =
       let empty : length (file_in folder (checkpoint_gate step)).bytes ≡ 0 = ap (λ (x : File). length x.bytes) none in

@@ -72,8 +72,8 @@ still_shows number turns old new sure same = shows_still number turns (now old).
 -- where a step that is given its tables stands its last checkpoint is shown
 pub given_shows : (making : Making) (going : Going) (world : World) (g : Tables) → IsGivenFor making going world g
     → ShowsSurely making.number (shown_by going.last) (now world).folder
-given_shows making going world g given = standing_shows (goes_on_by making going.budget g) diagram_rests making.number
-    going.budget (next_of going.last) (now world).folder going.last given.standing
+given_shows making going world g given = standing_shows (goes_on_by making g) diagram_rests making.number
+    (next_of going.last) (now world).folder going.last given.standing
 
 -- the last checkpoint of a step that comes to its sweeps shows the turns that are said, and no more where it has none
 pub come_turns : (number : ℕ) (going : Going) → MaySweep number going → (c : Checkpoint) → going.last ≡ Some c
@@ -158,12 +158,12 @@ module _ {S P : Type 0} (tells : S → Bool) (world : S → World) (counts : S �
       less starts.may.paid.interval starts.may.paid.shown way.2.remains (omega (arith, few, within)) stops))
 
 -- where a step stands without a checkpoint none is gated
-pub none_stands : (Q : (FileNo → List ℕ) → Type 0) (rests : Checkpoint → FileNo → ℕ → Type 0) (number budget next : ℕ)
-    (folder : Folder) (last : Option Checkpoint) → IsStanding Q rests number budget next folder last → last ≡ None
+pub none_stands : (Q : (FileNo → List ℕ) → Type 0) (rests : Checkpoint → FileNo → ℕ → Type 0) (number next : ℕ)
+    (folder : Folder) (last : Option Checkpoint) → IsStanding Q rests number next folder last → last ≡ None
     → last_gated number (present folder) ≡ None
-none_stands Q rests number budget next folder None stands is =
+none_stands Q rests number next folder None stands is =
     none_gated number (present folder) (ap (λ (x : File). x.bytes) stands)
-none_stands Q rests number budget next folder (Some c) stands is = absurd (cc)
+none_stands Q rests number next folder (Some c) stands is = absurd (cc)
 
 -- what is said of the turns that are shown is so of the checkpoint that is gated last
 pub said_of : (number : ℕ) (old new : Going) (mid after : Folder) (last : Option Checkpoint) → old.step ≡ number

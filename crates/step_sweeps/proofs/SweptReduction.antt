@@ -115,7 +115,7 @@ module _ {S : Type 0} (tells : S → Bool) (world : S → World) (making : Makin
     (s : ReduceSweep) (old mid : S) (files : HasArcFiles making.number m.arcs) (may : MayReduce making.number going m.parts)
     (begun : HasBegun tells world making m s old mid) where
   -- its arcs, as they are to be reduced
-  abbrev pub job_for : (g : Tables) → HasArcsOf making going.budget g m (world old) → sweep.Diagram
+  abbrev pub job_for : (g : Tables) → HasArcsOf making g m (world old) → sweep.Diagram
   job_for g has = record { arcs = has.arcs.inner ++ has.arcs.ends; table = table_by making g }
 
   -- the start changed the node file alone
@@ -124,11 +124,11 @@ module _ {S : Type 0} (tells : S → Bool) (world : S → World) (making : Makin
   started told_mid = cut_only making (world old) (world mid) (begun.content.did told_mid)
 
   module _ (told_mid : IsTrue (tells mid)) (g : Tables) (are : AreReducible making going g 8 m (world old)) where
-    mid_has : HasArcsOf making going.budget g m (world mid)
-    mid_has = (still_has making m (world old) (world mid) files (started told_mid) going.budget g are.has).0
+    mid_has : HasArcsOf making g m (world mid)
+    mid_has = (still_has making m (world old) (world mid) files (started told_mid) g are.has).0
 
     -- so the reduction is under way
-    under_way : IsUnderWay reduce_kind making going.budget g mid_has.last (job_for g are.has) s (world mid)
+    under_way : IsUnderWay reduce_kind making g mid_has.last (job_for g are.has) s (world mid)
     under_way = record {
       remains = begun.remains told_mid (job_for g are.has) are.has.arcs.inner are.has.arcs.ends are.has.arcs.inner_has
           are.has.arcs.ends_has refl are.has.arcs.diagram;
@@ -138,8 +138,8 @@ module _ {S : Type 0} (tells : S → Bool) (world : S → World) (making : Makin
         | inr at ↦ subst (λ h. IsFirm (file (world mid) h))
             (sym (at.0 ∙ ap (λ (u : Unreduced). u.ends) begun.arcs_are)) mid_has.ends_firm
       ];
-      standing = subst (λ (p : Parts). IsStanding (goes_on_by making going.budget g) diagram_rests making.number
-          going.budget p.next (now (world mid)).folder mid_has.last) (sym begun.parts_are) mid_has.standing;
+      standing = subst (λ (p : Parts). IsStanding (goes_on_by making g) diagram_rests making.number
+          p.next (now (world mid)).folder mid_has.last) (sym begun.parts_are) mid_has.standing;
       sure = λ c is f n on mine. absurd (mid_has.apart c is f n on (mine ∙ begun.out_is));
     }
 
@@ -150,16 +150,16 @@ module _ {S : Type 0} (tells : S → Bool) (world : S → World) (making : Makin
         omega (arith, bound, few)
 
     -- and where it goes on, the step does
-    goes_by : GoesOnBy reduce_saving (goes_on_by making going.budget g) diagram_rests making.number going.budget 1
+    goes_by : GoesOnBy reduce_saving (goes_on_by making g) diagram_rests making.number 1
         (reduce.task_of s) (job_for g are.has) (going.turns + reduce.turns_left s)
     goes_by =
         let step : FileNo → ℕ = λ f. f.step in
         record {
-          goes_on = λ r goes. reduction_goes making.operation making.n making.operands making.number going.budget g
+          goes_on = λ r goes. reduction_goes making.operation making.n making.operands making.number g
               (going.turns + reduce.turns_left s) r (reduce.task_of s) (job_for g are.has) begun.out_is
               begun.variables_are (ap step (begun.inner_is ∙ files.inner_is)) (ap step (begun.ends_are ∙ files.ends_are))
               refl (begun.forms (table_by making g) are.has.arcs) goes few_left;
-          rests_within = λ r goes. reduction_sees making.number going.budget (going.turns + reduce.turns_left s) r
+          rests_within = λ r goes. reduction_sees making.number (going.turns + reduce.turns_left s) r
               (reduce.task_of s) (job_for g are.has) goes;
           apart = reductions_local.apart;
         }
@@ -168,12 +168,12 @@ module _ {S : Type 0} (tells : S → Bool) (world : S → World) (making : Makin
     pub reduced_safe : (new : World) → (AreSure (IsOperand (reduce.task_of s)) going.step (now (world mid)).folder
         → Throughout (world mid) new (λ (x : Moment). (image : Image) → IsImage x.folder image
         → IsAsBefore (reduce.accounts.makes s) going.step s.parts.next (now (world mid)).folder (bytes_in image)
-        ⊎ GoesOn reduce_saving going.step going.budget 1 (reduce.task_of s) (job_for g are.has)
+        ⊎ GoesOn reduce_saving going.step 1 (reduce.task_of s) (job_for g are.has)
         (going.turns + reduce.turns_left s) (bytes_in image)))
-        → Throughout (world old) new (λ (x : Moment). AreSafe (goes_on_by making going.budget g) making.number x.folder)
+        → Throughout (world old) new (λ (x : Moment). AreSafe (goes_on_by making g) making.number x.folder)
     reduced_safe new images = joins (world old) (world mid) new
-        (λ (x : Moment). AreSafe (goes_on_by making going.budget g) making.number x.folder)
-        (safe_meanwhile making m (world old) (world mid) files (started told_mid) going.budget g are.has)
+        (λ (x : Moment). AreSafe (goes_on_by making g) making.number x.folder)
+        (safe_meanwhile making m (world old) (world mid) files (started told_mid) g are.has)
         (way_safe reduce_kind making (record going { sweep = 1 }) g mid_has.last (job_for g are.has) s (world mid)
         under_way may.step_is goes_by new (images (way_sure reduce_kind making (record going { sweep = 1 }) g
         mid_has.last (job_for g are.has) s (world mid) under_way may.step_is)))

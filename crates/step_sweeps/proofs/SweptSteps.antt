@@ -104,8 +104,7 @@ module _ {S : Type 0} (tells : S → Bool) (world : S → World) (counts : S →
                 inner_firm = made.has.inner_firm;
                 ends_firm = made.has.ends_firm;
                 last = made.has.last;
-                standing = subst (λ b. IsStanding (goes_on_by making b g) diagram_rests making.number b m.parts.next
-                    (now (world at)).folder made.has.last) (sym first.going.budget_is) made.has.standing;
+                standing = made.has.standing;
                 apart = made.has.apart;
               };
               few = omega (arith, few, sources, within);
@@ -167,7 +166,7 @@ module _ {S : Type 0} (tells : S → Bool) (world : S → World) (counts : S →
             undamaged = err_more r _ _ (λ e none told g given.
                 let made = first.made (began told) g given in
                 none told (in_order making.n (table_by making g) m (world at) made.has.arcs)
-                (points_there (goes_on_by making old.budget g) diagram_rests making.number old.budget m.parts.next
+                (points_there (goes_on_by making g) diagram_rests making.number m.parts.next
                 (now (world at)).folder made.has.last (files_are (began told)) made.has.standing)) second.undamaged;
             spent = λ was told g given. second.spent was told g (reducible (began told) g given).0;
             few_calls = λ told g given.
@@ -186,11 +185,9 @@ module _ {S : Type 0} (tells : S → Bool) (world : S → World) (counts : S →
                 first.paid.shown (omega (arith, saved, shown_is)) few.1.1 few.2 (second.few_calls told g are.0).1;
             images = λ told g given.
                 joins (world before) (world at) (world after)
-                (λ m. AreSafe (goes_on_by making old.budget g) making.number m.folder)
+                (λ m. AreSafe (goes_on_by making g) making.number m.folder)
                 (first.images (began told) g given)
-                (subst (λ b. Throughout (world at) (world after)
-                (λ (m : Moment). AreSafe (goes_on_by making b g) making.number m.folder)) first.going.budget_is
-                (second.images told g (reducible (began told) g given).0));
+                (second.images told g (reducible (began told) g given).0);
             stops = both_stops after r second;
             damaged = err_more r _ _ (λ e none told anew no_gate.
                 let are = first.ordered (began told) anew no_gate in
@@ -217,13 +214,13 @@ module _ {S : Type 0} (tells : S → Bool) (world : S → World) (counts : S →
   -- a step that began with the sweeps, where turns were made before
   pub swept_anew : (going : Going) (before after : S) (r : Result MadeDiagram SortFault) → going.last ≡ None
       → Sweeps tells world counts making going before after r
-      → MakesAnew tells world counts making going.budget going.turns (left_by_sweeps making) 11 sweeps_stop before after r
+      → MakesAnew tells world counts making going.turns (left_by_sweeps making) 11 sweeps_stop before after r
   swept_anew going before after r anew sweeps =
       let given_for : (g : Tables) → IsGivenAnew making (world before) g → IsGivenFor making going (world before) g =
       λ g given. record {
         given = given.given;
         firm = given.firm;
-        standing = subst (λ last. IsStanding (goes_on_by making going.budget g) diagram_rests making.number going.budget
+        standing = subst (λ last. IsStanding (goes_on_by making g) diagram_rests making.number
             (next_of last) (now (world before)).folder last) (sym anew) given.none;
       } in
       let most : (g : Tables) → most_turns going.last making going g ≡ most_turns None making going g =

@@ -25,60 +25,60 @@ use Rattle.step_sweeps.specs.Sweeping.{IsCovered}
 use Rattle.step_sweeps.proofs.StepStands.{gate_sure, points_there, rests_sure}
 
 -- the images of a step that makes a diagram of these tables are safe
-abbrev pub IsSafeAt : Making → ℕ → Tables → Moment → Type 0
-IsSafeAt making budget g m = AreSafe (goes_on_by making budget g) making.number m.folder
+abbrev pub IsSafeAt : Making → Tables → Moment → Type 0
+IsSafeAt making g m = AreSafe (goes_on_by making g) making.number m.folder
 
 module _ {P : Type 0} (kind : sweep.Ghosts P) (making : Making) (going : Going) (g : Tables) (last : Option Checkpoint)
-    (job : kind.Job) (s : P) (mid : World) (way : IsUnderWay kind making going.budget g last job s mid)
+    (job : kind.Job) (s : P) (mid : World) (way : IsUnderWay kind making g last job s mid)
     (step_is : going.step ≡ making.number) where
   -- how far it may go
   abbrev pub turns_to : ℕ
   turns_to = going.turns + kind.left s mid job
 
   abbrev pub Goes : (FileNo → List ℕ) → Type 0
-  Goes r = goes_on_by making going.budget g r
+  Goes r = goes_on_by making g r
 
   pub way_sure : AreSure (kind.saving.operands (kind.task s)) going.step (now mid).folder
   way_sure = subst (λ k. AreSure (kind.saving.operands (kind.task s)) k (now mid).folder) (sym step_is) (record {
-    gate = gate_sure Goes diagram_rests making.number going.budget (kind.accounts.next s) (now mid).folder last
+    gate = gate_sure Goes diagram_rests making.number (kind.accounts.next s) (now mid).folder last
         way.standing;
     operands_are = way.operands;
   })
 
   pub way_covered : AreFiles (now mid).folder → IsCovered making.number mid
-  way_covered files = points_there Goes diagram_rests making.number going.budget (kind.accounts.next s) (now mid).folder
+  way_covered files = points_there Goes diagram_rests making.number (kind.accounts.next s) (now mid).folder
       last files way.standing
 
   way_rests : RestsSure diagram_rests (kind.accounts.makes s) (now mid).folder last
   way_rests = rests_sure diagram_rests (kind.accounts.makes s) (now mid).folder last way.sure
 
   -- where it goes on, the step does
-  module _ (by : GoesOnBy kind.saving Goes diagram_rests making.number going.budget going.sweep (kind.task s) job turns_to)
+  module _ (by : GoesOnBy kind.saving Goes diagram_rests making.number going.sweep (kind.task s) job turns_to)
     where
       pub way_safe : (after : World) → Throughout mid after (λ (m : Moment). (image : Image) → IsImage m.folder image
           → IsAsBefore (kind.accounts.makes s) going.step (kind.accounts.next s) (now mid).folder (bytes_in image)
-          ⊎ GoesOn kind.saving going.step going.budget going.sweep (kind.task s) job turns_to (bytes_in image))
-          → Throughout mid after (IsSafeAt making going.budget g)
-      way_safe after images = went_safe kind.saving Goes diagram_rests making.number going.budget going.sweep (kind.task s)
-          job turns_to (diagram_local making.operation making.n making.operands making.number going.budget g) by
+          ⊎ GoesOn kind.saving going.step going.sweep (kind.task s) job turns_to (bytes_in image))
+          → Throughout mid after (IsSafeAt making g)
+      way_safe after images = went_safe kind.saving Goes diagram_rests making.number going.sweep (kind.task s)
+          job turns_to (diagram_local making.operation making.n making.operands making.number g) by
           (kind.accounts.makes s) (kind.accounts.next s) mid after last way.standing way_rests
           (subst (λ k. Throughout mid after (λ (m : Moment). (image : Image) → IsImage m.folder image
           → IsAsBefore (kind.accounts.makes s) k (kind.accounts.next s) (now mid).folder (bytes_in image)
-          ⊎ GoesOn kind.saving k going.budget going.sweep (kind.task s) job turns_to (bytes_in image))) step_is images)
+          ⊎ GoesOn kind.saving k going.sweep (kind.task s) job turns_to (bytes_in image))) step_is images)
 
       pub way_stands : (later : ℕ) (after : World) → kind.accounts.next s ≤ later → AreFiles (now mid).folder
           → IsOfStep (kind.accounts.makes s) (kind.saving.operands (kind.task s)) making.number (kind.accounts.next s)
           → OnlySaved (kind.accounts.makes s) going.step (kind.accounts.next s) (now mid) (now after)
-          ⊎ Stands kind.saving (kind.accounts.makes s) (kind.saving.operands (kind.task s)) going.step later going.budget
+          ⊎ Stands kind.saving (kind.accounts.makes s) (kind.saving.operands (kind.task s)) going.step later
           going.sweep (kind.task s) job turns_to (now after).folder
-          → StandsBehind kind.saving Goes diagram_rests making.number going.budget going.sweep (kind.task s) job turns_to
-          (diagram_local making.operation making.n making.operands making.number going.budget g) by
+          → StandsBehind kind.saving Goes diagram_rests making.number going.sweep (kind.task s) job turns_to
+          (diagram_local making.operation making.n making.operands making.number g) by
           (kind.accounts.makes s) (kind.accounts.next s) later last (now after).folder
       way_stands later after more files of_step stands = went_stands kind.saving Goes diagram_rests making.number
-          going.budget going.sweep (kind.task s) job turns_to
-          (diagram_local making.operation making.n making.operands making.number going.budget g) by
+          going.sweep (kind.task s) job turns_to
+          (diagram_local making.operation making.n making.operands making.number g) by
           (kind.accounts.makes s) (kind.accounts.next s) (kind.saving.operands (kind.task s)) later (now mid) (now after)
           last more files of_step way.standing way_rests
           (subst (λ k. OnlySaved (kind.accounts.makes s) k (kind.accounts.next s) (now mid) (now after)
-          ⊎ Stands kind.saving (kind.accounts.makes s) (kind.saving.operands (kind.task s)) k later going.budget
+          ⊎ Stands kind.saving (kind.accounts.makes s) (kind.saving.operands (kind.task s)) k later
           going.sweep (kind.task s) job turns_to (now after).folder) step_is stands)

@@ -129,11 +129,11 @@ pub changed_run : {S : Type 0} (tells : S → Bool) (world : S → World) (numbe
 changed_run tells world number most old new did = told tells old new _ _ did (λ _ changed. changed.run)
 
 -- where no checkpoint is gated and only the node file changes, what a stop leaves can be begun again
-pub safe_anew : (making : Making) (budget : ℕ) (g : Tables) (old new : World) → HasNone making.number (now old).folder
+pub safe_anew : (making : Making) (g : Tables) (old new : World) → HasNone making.number (now old).folder
     → Ran (OnlyChanged (λ q. q ≡ node_file making.number) (now old)) old new
-    → Throughout old new (λ (m : Moment). AreSafe (goes_on_by making budget g) making.number m.folder)
-safe_anew making budget g old new none run = safe_over (goes_on_by making budget g) diagram_rests making.number budget
-    (diagram_local making.operation making.n making.operands making.number budget g) (λ q. q ≡ node_file making.number)
+    → Throughout old new (λ (m : Moment). AreSafe (goes_on_by making g) making.number m.folder)
+safe_anew making g old new none run = safe_over (goes_on_by making g) diagram_rests making.number
+    (diagram_local making.operation making.n making.operands making.number g) (λ q. q ≡ node_file making.number)
     0 None (gate_apart making.number) tt old new run none
 
 -- a look of so many calls counts as turns that pay for it: so many were made before it, and so many are made with it
@@ -212,183 +212,182 @@ module _ {S : Type 0} (tells : S → Bool) (world : S → World) (counts : S →
     faults = faults;
   }
 
-  module _ (budget : ℕ) where
-    -- what is made at once is made anew
-    pub at_once_anew : (stop : ℕ) (old new : S) (r : Result MadeDiagram SortFault) → 2 ^ 18 ≤ stop
-        → MakesAtOnce tells world counts making old new r → MakesAnew tells world counts making budget 0 (λ g. 0) 7 stop old new r
-    at_once_anew stop old new (Ok m) more makes = record {
-      made = λ told g is. makes.made told g is.given;
-      undamaged = tt;
-      spent = λ was. absurd (cc);
-      few_calls = λ told g is. let calls = makes.few_calls told g is.given in omega (arith, calls);
-      images = λ told g is. safe_anew making budget g (world old) (world new) is.none (makes.content.did told);
-      damaged = tt;
-      content = node_changes tells world making.number old new makes.content;
-      counted = (omega arith, makes.counted);
-      few_anew = makes.few_anew;
-      calls = λ told below. let calls = makes.calls told below in omega (arith, calls);
-      stops = λ told g is work. stops_anew making.number ((world old).clock + stop) (world old) (world new) is.none
-          (makes.content.did told) (let short = makes.short told in omega (arith, short, more));
-      faults = makes.faults;
-    }
-    at_once_anew stop old new (Err e) more makes = record {
-      made = tt;
-      undamaged = λ told g is. (makes.cause told).0;
-      spent = λ was told g is. absurd (let same : e ≡ RunsSpent = cc in (makes.cause told).1 same);
-      few_calls = λ told g is. let calls = makes.few_calls told g is.given in omega (arith, calls);
-      images = λ told g is. safe_anew making budget g (world old) (world new) is.none (makes.content.did told);
-      damaged = λ told none. no_damage making.n making.operands (world old) e (makes.cause told).0;
-      content = node_changes tells world making.number old new makes.content;
-      counted = tt;
-      few_anew = tt;
-      calls = tt;
-      stops = λ told g is work. stops_anew making.number ((world old).clock + stop) (world old) (world new) is.none
-          (makes.content.did told) (let short = makes.short told in omega (arith, short, more));
-      faults = makes.faults;
-    }
+  -- what is made at once is made anew
+  pub at_once_anew : (stop : ℕ) (old new : S) (r : Result MadeDiagram SortFault) → 2 ^ 18 ≤ stop
+      → MakesAtOnce tells world counts making old new r → MakesAnew tells world counts making 0 (λ g. 0) 7 stop old new r
+  at_once_anew stop old new (Ok m) more makes = record {
+    made = λ told g is. makes.made told g is.given;
+    undamaged = tt;
+    spent = λ was. absurd (cc);
+    few_calls = λ told g is. let calls = makes.few_calls told g is.given in omega (arith, calls);
+    images = λ told g is. safe_anew making g (world old) (world new) is.none (makes.content.did told);
+    damaged = tt;
+    content = node_changes tells world making.number old new makes.content;
+    counted = (omega arith, makes.counted);
+    few_anew = makes.few_anew;
+    calls = λ told below. let calls = makes.calls told below in omega (arith, calls);
+    stops = λ told g is work. stops_anew making.number ((world old).clock + stop) (world old) (world new) is.none
+        (makes.content.did told) (let short = makes.short told in omega (arith, short, more));
+    faults = makes.faults;
+  }
+  at_once_anew stop old new (Err e) more makes = record {
+    made = tt;
+    undamaged = λ told g is. (makes.cause told).0;
+    spent = λ was told g is. absurd (let same : e ≡ RunsSpent = cc in (makes.cause told).1 same);
+    few_calls = λ told g is. let calls = makes.few_calls told g is.given in omega (arith, calls);
+    images = λ told g is. safe_anew making g (world old) (world new) is.none (makes.content.did told);
+    damaged = λ told none. no_damage making.n making.operands (world old) e (makes.cause told).0;
+    content = node_changes tells world making.number old new makes.content;
+    counted = tt;
+    few_anew = tt;
+    calls = tt;
+    stops = λ told g is work. stops_anew making.number ((world old).clock + stop) (world old) (world new) is.none
+        (makes.content.did told) (let short = makes.short told in omega (arith, short, more));
+    faults = makes.faults;
+  }
 
-    -- the folder failed while the node file was made
-    pub failed : (first : ℕ) (left : Tables → ℕ) (some stop : ℕ) (old new : S) (r : Result MadeDiagram SortFault)
-        → IsErrAnd r (λ x. IsTrue (tells new) → x ≡ Shelf)
-        → (IsTrue (tells new) → (g : Tables) → IsGiven making (world old) g
-        → (world new).clock + 229 * left g ≤ (world old).clock + (229 * work_for making g + some))
-        → (IsTrue (tells new) → (world new).clock ≤ (world old).clock + stop)
-        → Told tells old new (Ran (OnlyChanged (λ q. q ≡ node_file making.number) (now (world old))) (world old) (world new))
-        → OnlySortShelf (counts old) (counts new) r
-        → MakesAnew tells world counts making budget first left some stop old new r
-    failed first left some stop old new (Ok x) is few short content faults = absurd is
-    failed first left some stop old new (Err x) is few short content faults = record {
-      made = tt;
-      undamaged = λ told g given. subst IsNoDamage (sym (is told)) tt;
-      spent = λ was told. absurd
-          (let same : x ≡ RunsSpent = cc in let never : Shelf ≡ RunsSpent = sym (is told) ∙ same in cc);
-      few_calls = λ told g given. few told g given.given;
-      images = λ told g given. safe_anew making budget g (world old) (world new) given.none (content.did told);
-      damaged = λ told none. subst (IsArcsFault making.n making.operands (world old)) (sym (is told)) tt;
-      content = node_changes tells world making.number old new content;
-      counted = tt;
-      few_anew = tt;
-      calls = tt;
-      stops = λ told g given work. stops_anew making.number ((world old).clock + stop) (world old) (world new) given.none
-          (content.did told) (short told);
-      faults = faults;
-    }
+  -- the folder failed while the node file was made
+  pub failed : (first : ℕ) (left : Tables → ℕ) (some stop : ℕ) (old new : S) (r : Result MadeDiagram SortFault)
+      → IsErrAnd r (λ x. IsTrue (tells new) → x ≡ Shelf)
+      → (IsTrue (tells new) → (g : Tables) → IsGiven making (world old) g
+      → (world new).clock + 229 * left g ≤ (world old).clock + (229 * work_for making g + some))
+      → (IsTrue (tells new) → (world new).clock ≤ (world old).clock + stop)
+      → Told tells old new (Ran (OnlyChanged (λ q. q ≡ node_file making.number) (now (world old))) (world old) (world new))
+      → OnlySortShelf (counts old) (counts new) r
+      → MakesAnew tells world counts making first left some stop old new r
+  failed first left some stop old new (Ok x) is few short content faults = absurd is
+  failed first left some stop old new (Err x) is few short content faults = record {
+    made = tt;
+    undamaged = λ told g given. subst IsNoDamage (sym (is told)) tt;
+    spent = λ was told. absurd
+        (let same : x ≡ RunsSpent = cc in let never : Shelf ≡ RunsSpent = sym (is told) ∙ same in cc);
+    few_calls = λ told g given. few told g given.given;
+    images = λ told g given. safe_anew making g (world old) (world new) given.none (content.did told);
+    damaged = λ told none. subst (IsArcsFault making.n making.operands (world old)) (sym (is told)) tt;
+    content = node_changes tells world making.number old new content;
+    counted = tt;
+    few_anew = tt;
+    calls = tt;
+    stops = λ told g given work. stops_anew making.number ((world old).clock + stop) (world old) (world new) given.none
+        (content.did told) (short told);
+    faults = faults;
+  }
 
-    -- what is made after a look, which counts as turns that were made before
-    pub after_look : (looked first counted : ℕ) (left later : Tables → ℕ) (some more stop within : ℕ) (old mid new : S)
-        (r : Result MadeDiagram SortFault) → first ≤ counted
-        → (IsTrue (tells mid) → (world mid).clock + within ≤ (world old).clock + stop)
-        → (IsTrue (tells old) → Pays making (world old) looked first counted left later some more)
-        → Told tells old mid (Looked looked (world old) (world mid))
-        → OnlySortShelf {T = Unit} (counts old) (counts mid) (Ok tt)
-        → MakesAnew tells world counts making budget counted later more within mid new r
-        → MakesAnew tells world counts making budget first left some stop old new r
-    after_look looked first counted left later some more stop within old mid new r counts_on soon pays look calm makes =
-        let looked_at : IsTrue (tells new) → Looked looked (world old) (world mid) =
-        λ told. look.did (makes.content.before told) in
-        let paid : IsTrue (tells new) → Pays making (world old) looked first counted left later some more =
-        λ told. pays (look.before (makes.content.before told)) in
-        record {
-          made = ok_more r _ _ (λ m made told g given.
-              let diagram = made told g (still_given making looked (world old) (world mid) g (looked_at told) given) in
-              let few = diagram.few in
-              let pay = (paid told).turns g given.given in
-              record { made = diagram.made; few = omega (arith, few, pay) }) makes.made;
-          undamaged = err_more r _ _ (λ e none told g given.
-              none told g (still_given making looked (world old) (world mid) g (looked_at told) given)) makes.undamaged;
-          spent = λ was told g given.
-              makes.spent was told g (still_given making looked (world old) (world mid) g (looked_at told) given);
-          few_calls = λ told g given.
-              let first_calls = (looked_at told).few in
-              let calls = makes.few_calls told g
-              (still_given making looked (world old) (world mid) g (looked_at told) given) in
-              let pay = (paid told).few_calls g given.given in
-              omega (arith, first_calls, calls, pay);
-          images = λ told g given.
-              joins (world old) (world mid) (world new) _
-              (safe_anew making budget g (world old) (world mid) given.none
-              (looked_changed making.number looked (world old) (world mid) (looked_at told)))
-              (makes.images told g (still_given making looked (world old) (world mid) g (looked_at told) given));
-          damaged = err_more r _ _ (λ e damaged told none.
-              fault_before making.n looked making.operands (world old) (world mid) e (looked_at told)
-              (damaged told (still_none making.number looked (world old) (world mid) (looked_at told) none)))
-              makes.damaged;
-          content = told_changed_then tells world _ _ old mid new (λ f is. is)
-              (looked_step tells world making.number looked old mid look) makes.content;
-          counted = ok_more r _ _ (λ m is.
-              let within = is.0 in (omega (arith, counts_on, within), is.1)) makes.counted;
-          few_anew = makes.few_anew;
-          calls = ok_both r _ _ _ (λ m is calls told below.
-              let first_calls = (looked_at told).few in
-              let within = is.0 in
-              let then_calls = calls told below in
-              let pay = (paid told).calls (omega (arith, within, below)) in
-              omega (arith, first_calls, then_calls, pay)) makes.counted makes.calls;
-          stops = λ told g given work.
-              let most : ℕ = (world old).clock + stop in
-              let told_mid = makes.content.before told in
-              let less = soon told_mid in
-              stops_join making.number 0 most (world old) (world mid) (world new) (makes.content.did told).moments.past
-              (stops_anew making.number most (world old) (world mid) given.none
-              (looked_changed making.number looked (world old) (world mid) (looked_at told)) (omega (arith, less)))
-              (stops_more making.number 0 ((world mid).clock + within) most (world mid) (world new) less
-              (makes.stops told g (still_given making looked (world old) (world mid) g (looked_at told) given) work));
-          faults = sort_shelf_then _ _ _ (Ok tt) r calm makes.faults;
-        }
+  -- what is made after a look, which counts as turns that were made before
+  pub after_look : (looked first counted : ℕ) (left later : Tables → ℕ) (some more stop within : ℕ) (old mid new : S)
+      (r : Result MadeDiagram SortFault) → first ≤ counted
+      → (IsTrue (tells mid) → (world mid).clock + within ≤ (world old).clock + stop)
+      → (IsTrue (tells old) → Pays making (world old) looked first counted left later some more)
+      → Told tells old mid (Looked looked (world old) (world mid))
+      → OnlySortShelf {T = Unit} (counts old) (counts mid) (Ok tt)
+      → MakesAnew tells world counts making counted later more within mid new r
+      → MakesAnew tells world counts making first left some stop old new r
+  after_look looked first counted left later some more stop within old mid new r counts_on soon pays look calm makes =
+      let looked_at : IsTrue (tells new) → Looked looked (world old) (world mid) =
+      λ told. look.did (makes.content.before told) in
+      let paid : IsTrue (tells new) → Pays making (world old) looked first counted left later some more =
+      λ told. pays (look.before (makes.content.before told)) in
+      record {
+        made = ok_more r _ _ (λ m made told g given.
+            let diagram = made told g (still_given making looked (world old) (world mid) g (looked_at told) given) in
+            let few = diagram.few in
+            let pay = (paid told).turns g given.given in
+            record { made = diagram.made; few = omega (arith, few, pay) }) makes.made;
+        undamaged = err_more r _ _ (λ e none told g given.
+            none told g (still_given making looked (world old) (world mid) g (looked_at told) given)) makes.undamaged;
+        spent = λ was told g given.
+            makes.spent was told g (still_given making looked (world old) (world mid) g (looked_at told) given);
+        few_calls = λ told g given.
+            let first_calls = (looked_at told).few in
+            let calls = makes.few_calls told g
+            (still_given making looked (world old) (world mid) g (looked_at told) given) in
+            let pay = (paid told).few_calls g given.given in
+            omega (arith, first_calls, calls, pay);
+        images = λ told g given.
+            joins (world old) (world mid) (world new) _
+            (safe_anew making g (world old) (world mid) given.none
+            (looked_changed making.number looked (world old) (world mid) (looked_at told)))
+            (makes.images told g (still_given making looked (world old) (world mid) g (looked_at told) given));
+        damaged = err_more r _ _ (λ e damaged told none.
+            fault_before making.n looked making.operands (world old) (world mid) e (looked_at told)
+            (damaged told (still_none making.number looked (world old) (world mid) (looked_at told) none)))
+            makes.damaged;
+        content = told_changed_then tells world _ _ old mid new (λ f is. is)
+            (looked_step tells world making.number looked old mid look) makes.content;
+        counted = ok_more r _ _ (λ m is.
+            let within = is.0 in (omega (arith, counts_on, within), is.1)) makes.counted;
+        few_anew = makes.few_anew;
+        calls = ok_both r _ _ _ (λ m is calls told below.
+            let first_calls = (looked_at told).few in
+            let within = is.0 in
+            let then_calls = calls told below in
+            let pay = (paid told).calls (omega (arith, within, below)) in
+            omega (arith, first_calls, then_calls, pay)) makes.counted makes.calls;
+        stops = λ told g given work.
+            let most : ℕ = (world old).clock + stop in
+            let told_mid = makes.content.before told in
+            let less = soon told_mid in
+            stops_join making.number 0 most (world old) (world mid) (world new) (makes.content.did told).moments.past
+            (stops_anew making.number most (world old) (world mid) given.none
+            (looked_changed making.number looked (world old) (world mid) (looked_at told)) (omega (arith, less)))
+            (stops_more making.number 0 ((world mid).clock + within) most (world mid) (world new) less
+            (makes.stops told g (still_given making looked (world old) (world mid) g (looked_at told) given) work));
+        faults = sort_shelf_then _ _ _ (Ok tt) r calm makes.faults;
+      }
 
-    -- what leaves more of the work, and makes no more calls
-    pub with_less : (first : ℕ) (left later : Tables → ℕ) (some more stop within : ℕ) (old new : S)
-        (r : Result MadeDiagram SortFault) → ((g : Tables) → left g ≤ later g) → more ≤ some → within ≤ stop
-        → MakesAnew tells world counts making budget first later more within old new r
-        → MakesAnew tells world counts making budget first left some stop old new r
-    with_less first left later some more stop within old new r less few soon makes =
-        after_look 0 first first left later some more stop within old old new r
-        (omega arith) (λ told. omega (arith, soon))
-        (λ told. record {
-          turns = λ g _. let fewer = less g in omega (arith, fewer);
-          few_calls = λ g _. let fewer = less g in omega (arith, fewer, few);
-          calls = λ _. omega (arith, few);
-        })
-        (told_here tells old _ (λ _. record {
-          run = ran_stands (world old) (Stays (now (world old))) refl;
-          few = omega arith;
-        }))
-        (record { later = omega arith; cause = λ is. absurd (cc); say_is = refl; text_is = λ path. refl })
-        makes
+  -- what leaves more of the work, and makes no more calls
+  pub with_less : (first : ℕ) (left later : Tables → ℕ) (some more stop within : ℕ) (old new : S)
+      (r : Result MadeDiagram SortFault) → ((g : Tables) → left g ≤ later g) → more ≤ some → within ≤ stop
+      → MakesAnew tells world counts making first later more within old new r
+      → MakesAnew tells world counts making first left some stop old new r
+  with_less first left later some more stop within old new r less few soon makes =
+      after_look 0 first first left later some more stop within old old new r
+      (omega arith) (λ told. omega (arith, soon))
+      (λ told. record {
+        turns = λ g _. let fewer = less g in omega (arith, fewer);
+        few_calls = λ g _. let fewer = less g in omega (arith, fewer, few);
+        calls = λ _. omega (arith, few);
+      })
+      (told_here tells old _ (λ _. record {
+        run = ran_stands (world old) (Stays (now (world old))) refl;
+        few = omega arith;
+      }))
+      (record { later = omega arith; cause = λ is. absurd (cc); say_is = refl; text_is = λ path. refl })
+      makes
 
-    -- the operands' trailers weren't read
-    pub look_refused : (stop : ℕ) (old new : S) (e : StreamFault) (r : Result MadeDiagram SortFault) → 4 ≤ stop
-        → IsErrAnd r (λ x. x ≡ handed_on e)
-        → (IsTrue (tells new) → (t u : List Bool)
-        → ArePair making.n making.operands.first making.operands.second t u (world old) → e ≡ stream.Shelf)
-        → (IsTrue (tells new) → IsPairDamage making.n making.operands.first making.operands.second (world old) e)
-        → Told tells old new (Looked 4 (world old) (world new))
-        → OnlySortShelf (counts old) (counts new) r
-        → MakesAnew tells world counts making budget 0 (λ g. 0) 11 stop old new r
-    look_refused stop old new e (Ok x) some is sound damaged look faults = absurd is
-    look_refused stop old new e (Err x) some is sound damaged look faults = record {
-      made = tt;
-      undamaged = λ told g given. subst IsNoDamage (sym is) (none_damaged e
-          (sound told g.first g.second (record { first = given.given.first; second = given.given.second })));
-      spent = λ was. absurd (never_spent e (let same : x ≡ RunsSpent = cc in sym is ∙ same));
-      few_calls = λ told g given. let few = (look.did told).few in omega (arith, few);
-      images = λ told g given. safe_anew making budget g (world old) (world new) given.none
-          (looked_changed making.number 4 (world old) (world new) (look.did told));
-      damaged = λ told none. subst (IsArcsFault making.n making.operands (world old)) (sym is)
-          (pair_fault making.n making.operands (world old) e (damaged told));
-      content = looked_step tells world making.number 4 old new look;
-      counted = tt;
-      few_anew = tt;
-      calls = tt;
-      stops = λ told g given work. stops_anew making.number ((world old).clock + stop) (world old) (world new) given.none
-          (looked_changed making.number 4 (world old) (world new) (look.did told))
-          (let few = (look.did told).few in omega (arith, few, some));
-      faults = faults;
-    }
-      where
-        none_damaged : (e : StreamFault) → e ≡ stream.Shelf → IsNoDamage (handed_on e)
-        none_damaged e is = subst (λ x. IsNoDamage (handed_on x)) (sym is) tt
+  -- the operands' trailers weren't read
+  pub look_refused : (stop : ℕ) (old new : S) (e : StreamFault) (r : Result MadeDiagram SortFault) → 4 ≤ stop
+      → IsErrAnd r (λ x. x ≡ handed_on e)
+      → (IsTrue (tells new) → (t u : List Bool)
+      → ArePair making.n making.operands.first making.operands.second t u (world old) → e ≡ stream.Shelf)
+      → (IsTrue (tells new) → IsPairDamage making.n making.operands.first making.operands.second (world old) e)
+      → Told tells old new (Looked 4 (world old) (world new))
+      → OnlySortShelf (counts old) (counts new) r
+      → MakesAnew tells world counts making 0 (λ g. 0) 11 stop old new r
+  look_refused stop old new e (Ok x) some is sound damaged look faults = absurd is
+  look_refused stop old new e (Err x) some is sound damaged look faults = record {
+    made = tt;
+    undamaged = λ told g given. subst IsNoDamage (sym is) (none_damaged e
+        (sound told g.first g.second (record { first = given.given.first; second = given.given.second })));
+    spent = λ was. absurd (never_spent e (let same : x ≡ RunsSpent = cc in sym is ∙ same));
+    few_calls = λ told g given. let few = (look.did told).few in omega (arith, few);
+    images = λ told g given. safe_anew making g (world old) (world new) given.none
+        (looked_changed making.number 4 (world old) (world new) (look.did told));
+    damaged = λ told none. subst (IsArcsFault making.n making.operands (world old)) (sym is)
+        (pair_fault making.n making.operands (world old) e (damaged told));
+    content = looked_step tells world making.number 4 old new look;
+    counted = tt;
+    few_anew = tt;
+    calls = tt;
+    stops = λ told g given work. stops_anew making.number ((world old).clock + stop) (world old) (world new) given.none
+        (looked_changed making.number 4 (world old) (world new) (look.did told))
+        (let few = (look.did told).few in omega (arith, few, some));
+    faults = faults;
+  }
+    where
+      none_damaged : (e : StreamFault) → e ≡ stream.Shelf → IsNoDamage (handed_on e)
+      none_damaged e is = subst (λ x. IsNoDamage (handed_on x)) (sym is) tt
 
-        never_spent : (e : StreamFault) → handed_on e ≡ RunsSpent → ⊥
-        never_spent stream.Shelf is = cc
-        never_spent (stream.Damaged f at) is = cc
+      never_spent : (e : StreamFault) → handed_on e ≡ RunsSpent → ⊥
+      never_spent stream.Shelf is = cc
+      never_spent (stream.Damaged f at) is = cc

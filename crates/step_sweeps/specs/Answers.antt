@@ -33,13 +33,13 @@ use Rattle.step_sweeps.specs.Made.{IsAnswer, IsCounted, FewAnew}
 use Rattle.step_sweeps.specs.Damage.{IsReadFault, IsImplicationFault, MissesNone, MissesNamed}
 
 -- a question on diagrams: when files are those of the tables that it is asked of, its answer and its work, when a step
--- of that number and budget goes on with it, and what its checkpoints rest on; how many nodes the files have; where one
+-- of that number goes on with it, and what its checkpoints rest on; how many nodes the files have; where one
 -- of them is damaged; and how many calls a beginning makes
 pub record Question (Given : Type 0) : Type 1 where
   pub are_given : World → Given → Type 0
   pub answer : Given → Bool
   pub work : Given → ℕ
-  pub goes_on : ℕ → ℕ → Given → (FileNo → List ℕ) → Type 0
+  pub goes_on : ℕ → Given → (FileNo → List ℕ) → Type 0
   pub rests : Checkpoint → FileNo → ℕ → Type 0
   pub nodes : (FileNo → List ℕ) → ℕ
   pub is_fault : World → SortFault → Type 0
@@ -65,7 +65,7 @@ comparing n left right = record {
   are_given = AreTwo n left right;
   answer = λ g. same_bits g.left g.right;
   work = λ g. work_for n (Same 0 1) (g.left ∷ g.right ∷ []);
-  goes_on = λ number budget g. ComparisonGoesOn n left right number budget g.left g.right;
+  goes_on = λ number g. ComparisonGoesOn n left right number g.left g.right;
   rests = comparison_rests;
   nodes = λ r. count_of (r left) + count_of (r right);
   is_fault = IsReadFault MissesNone n left right;
@@ -82,7 +82,7 @@ implying n left right = record {
   are_given = AreTwo n left right;
   answer = λ g. is_leq g.left g.right;
   work = λ g. work_for n (Leq 0 1) (g.left ∷ g.right ∷ []);
-  goes_on = λ number budget g. ImplicationGoesOn n left right number budget g.left g.right;
+  goes_on = λ number g. ImplicationGoesOn n left right number g.left g.right;
   rests = implication_rests;
   nodes = λ r. count_of (r left) + count_of (r right) + count_of (r right);
   is_fault = IsImplicationFault n left right;
@@ -95,7 +95,7 @@ evaluating n f text at = record {
   are_given = λ world t. IsFirmFile n t f world;
   answer = λ t. eval_at n text t at;
   work = λ t. work_for n (Eval 0 at) (t ∷ []);
-  goes_on = λ number budget t. EvaluationGoesOn n f text at number budget t;
+  goes_on = λ number t. EvaluationGoesOn n f text at number t;
   rests = evaluation_rests;
   nodes = λ r. count_of (r f);
   is_fault = IsReadFault MissesNamed n f f;
@@ -105,7 +105,7 @@ evaluating n f text at = record {
 -- it is asked of these tables, by a step that begins or goes on from its last checkpoint, whatever a stop leaves
 pub record IsAsked {Given : Type 0} (q : Question Given) (going : Going) (world : World) (g : Given) : Type 0 where
   pub given : q.are_given world g
-  pub standing : IsStanding (q.goes_on going.step going.budget g) q.rests going.step going.budget (next_of going.last)
+  pub standing : IsStanding (q.goes_on going.step g) q.rests going.step (next_of going.last)
       (now world).folder going.last
 
 -- the step's files behind its node file
@@ -127,7 +127,7 @@ pub record Answers {S Given : Type 0} (tells : S → Bool) (world : S → World)
       ≤ (world before).clock + (229 * q.work g + q.some + rest_calls going.last (q.nodes (reads_of (world before))))
   pub images : IsTrue (tells after) → (g : Given) → IsAsked q going (world before) g
       → Throughout (world before) (world after)
-      (λ (m : Moment). AreSafe (q.goes_on going.step going.budget g) going.step m.folder)
+      (λ (m : Moment). AreSafe (q.goes_on going.step g) going.step m.folder)
   -- whatever the files hold: where the step began anew, and none of its checkpoints was gated, a place is named only
   -- where a file is damaged
   pub damaged : IfErr result (λ e. IsTrue (tells after) → going.last ≡ None

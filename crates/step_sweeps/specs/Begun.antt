@@ -26,7 +26,7 @@ pub record IsOnTheWay {Given P : Type 0} (kind : sweep.Ghosts P) (q : Question G
   pub remains : kind.remains s world job
   pub few : going.turns + kind.left s world job < q.work g
   pub operands : (f : FileNo) → kind.saving.operands (kind.task s) f → IsFirm (file world f)
-  pub standing : IsStanding (q.goes_on going.step going.budget g) q.rests going.step going.budget (kind.accounts.next s)
+  pub standing : IsStanding (q.goes_on going.step g) q.rests going.step (kind.accounts.next s)
       (now world).folder going.last
   pub sure : (c : Checkpoint) → going.last ≡ Some c → (f : FileNo) (n : ℕ) → q.rests c f n → kind.accounts.makes s f
       → n ≤ (file world f).firm
@@ -48,7 +48,7 @@ pub record Begun {S Given P : Type 0} (tells : S → Bool) (world : S → World)
       → IsOnTheWay kind q (job_of g) going s (world after) g
   pub images : IsTrue (tells after) → (g : Given) → IsAsked q going (world before) g
       → Throughout (world before) (world after)
-      (λ (m : Moment). AreSafe (q.goes_on going.step going.budget g) going.step m.folder)
+      (λ (m : Moment). AreSafe (q.goes_on going.step g) going.step m.folder)
   -- whatever the files hold
   pub trusts : IsTrue (tells after) → going.last ≡ None → kind.trusts s (world after)
   pub content : Told tells before after

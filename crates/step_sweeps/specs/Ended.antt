@@ -39,7 +39,7 @@ pub record IsReduced (making : Making) (going : Going) (nodes next : ℕ) (g : T
   pub made : IsMade making.n (table_by making g) (node_file making.number) nodes world
   pub few : going.turns < work_for making g
   pub last : Option Checkpoint
-  pub standing : IsStanding (goes_on_by making going.budget g) diagram_rests making.number going.budget next
+  pub standing : IsStanding (goes_on_by making g) diagram_rests making.number next
       (now world).folder last
 
 -- such a diagram is saved, or that isn't due, or it is refused
@@ -47,7 +47,7 @@ pub record KeepsMade {S : Type 0} (tells : S → Bool) (world : S → World) (co
     (nodes next : ℕ) (going : Going) (before after : S) (result : Result Unit StreamFault) : Type 0 where
   pub images : IsTrue (tells after) → (g : Tables) → IsReduced making going nodes next g (world before)
       → Throughout (world before) (world after)
-      (λ (m : Moment). AreSafe (goes_on_by making going.budget g) making.number m.folder)
+      (λ (m : Moment). AreSafe (goes_on_by making g) making.number m.folder)
   -- where all checkpoints that are gated are there, only the folder refuses
   pub cause : IfErr result (λ e. IsTrue (tells after) → IsCovered making.number (world before) → e ≡ Shelf)
   pub content : Told tells before after

@@ -41,9 +41,9 @@ nodes_for making g = nodes_by making.operation making.n g
 abbrev pub work_for : Making → Tables → ℕ
 work_for making g = work_by making.operation making.n g
 
--- in a reading the step goes on with them from its last gated checkpoint, of that budget
-abbrev pub goes_on_by : Making → ℕ → Tables → (FileNo → List ℕ) → Type 0
-goes_on_by making budget g = DiagramGoesOn making.operation making.n making.operands making.number budget g
+-- in a reading the step goes on with them from its last gated checkpoint
+abbrev pub goes_on_by : Making → Tables → (FileNo → List ℕ) → Type 0
+goes_on_by making g = DiagramGoesOn making.operation making.n making.operands making.number g
 
 -- the files of the operands are their own only images
 pub record AreFirm (making : Making) (world : World) : Type 0 where
@@ -56,7 +56,7 @@ pub record AreFirm (making : Making) (world : World) : Type 0 where
 pub record IsGivenFor (making : Making) (going : Going) (world : World) (g : Tables) : Type 0 where
   pub given : IsGiven making world g
   pub firm : AreFirm making world
-  pub standing : IsStanding (goes_on_by making going.budget g) diagram_rests making.number going.budget
+  pub standing : IsStanding (goes_on_by making g) diagram_rests making.number
       (next_of going.last) (now world).folder going.last
 
 -- how many nodes the files of the operands have
@@ -89,7 +89,7 @@ pub record Makes {S : Type 0} (tells : S → Bool) (world : S → World) (counts
       + (229 * work_for making g + 11 + rest_calls going.last (operand_nodes making (reads_of (world before))))
   pub images : IsTrue (tells after) → (g : Tables) → IsGivenFor making going (world before) g
       → Throughout (world before) (world after)
-      (λ (m : Moment). AreSafe (goes_on_by making going.budget g) making.number m.folder)
+      (λ (m : Moment). AreSafe (goes_on_by making g) making.number m.folder)
   -- whatever the files hold: where the step began anew a place is named only where an operand is damaged, and only files
   -- of the step are changed
   pub damaged : IfErr result (λ e. IsTrue (tells after) → going.last ≡ None → HasNoGate making.number (world before)

@@ -24,11 +24,11 @@ use Rattle.step_sweeps.specs.Sweeping.{owed_parts}
 
 -- of this job something remains, what the sweep reads is sure, and the step stands with its last checkpoint, and all is
 -- sure on which that rests of the files that the sweep makes
-pub record IsUnderWay {P : Type 0} (kind : sweep.Ghosts P) (making : Making) (budget : ℕ) (g : Tables)
+pub record IsUnderWay {P : Type 0} (kind : sweep.Ghosts P) (making : Making) (g : Tables)
     (last : Option Checkpoint) (job : kind.Job) (s : P) (world : World) : Type 0 where
   pub remains : kind.remains s world job
   pub operands : (f : FileNo) → kind.saving.operands (kind.task s) f → IsFirm (file world f)
-  pub standing : IsStanding (goes_on_by making budget g) diagram_rests making.number budget (kind.accounts.next s)
+  pub standing : IsStanding (goes_on_by making g) diagram_rests making.number (kind.accounts.next s)
       (now world).folder last
   pub sure : (c : Checkpoint) → last ≡ Some c → (f : FileNo) (n : ℕ) → diagram_rests c f n → kind.accounts.makes s f
       → n ≤ (file world f).firm
@@ -49,11 +49,11 @@ pub record Starts {S P : Type 0} (tells : S → Bool) (world : S → World) (cou
   pub in_step : IsTrue (tells after) → kind.in_step s (world after)
   -- of the tables that the step is given a job remains, and with the turns that were made no more than so many are needed
   pub under_way : IsTrue (tells after) → (g : Tables) → IsGivenFor making going (world before) g
-      → (job : kind.Job) × does g job s × IsUnderWay kind making going.budget g going.last job s (world after)
+      → (job : kind.Job) × does g job s × IsUnderWay kind making g going.last job s (world after)
       × (going.turns + kind.left s (world after) job ≤ most g)
   pub images : IsTrue (tells after) → (g : Tables) → IsGivenFor making going (world before) g
       → Throughout (world before) (world after)
-      (λ (m : Moment). AreSafe (goes_on_by making going.budget g) making.number m.folder)
+      (λ (m : Moment). AreSafe (goes_on_by making g) making.number m.folder)
   -- whatever the files hold
   pub content : Told tells before after
       (Ran (OnlyStep making.number (now (world before))) (world before) (world after))

@@ -45,7 +45,7 @@ use Rattle.step_sweeps.specs.Makes.{operand_nodes}
 -- are those that it shows
 pub record IsAtPoint (going : Going) (c : Checkpoint) : Type 0 where
   pub last_is : going.last ≡ Some c
-  pub rules : KeepsRules going.step going.budget c
+  pub rules : KeepsRules going.step c
   pub turns_are : going.turns ≡ c.turns
   pub sweep_is : going.sweep ≡ c.sweep
   pub paid : IsPaid c
@@ -127,7 +127,7 @@ pub record Sweeps {S : Type 0} (tells : S → Bool) (world : S → World) (count
       + rest_calls going.last (operand_nodes making (reads_of (world before))))
   pub images : IsTrue (tells after) → (g : Tables) → IsGivenFor making going (world before) g
       → Throughout (world before) (world after)
-      (λ (m : Moment). AreSafe (goes_on_by making going.budget g) making.number m.folder)
+      (λ (m : Moment). AreSafe (goes_on_by making g) making.number m.folder)
   pub damaged : IfErr result (λ e. IsTrue (tells after) → going.last ≡ None → HasNoGate making.number (world before)
       → IsArcsFault making.n making.operands (world before) e)
   pub content : Told tells before after
@@ -186,20 +186,20 @@ owed_parts (Some c) = 198
 
 -- the arcs are those of a diagram of the table, with no more sources than the tuples that are joined, and sure; and the
 -- step stands with its last checkpoint, which doesn't rest on its node file
-pub record HasArcsOf (making : Making) (budget : ℕ) (g : Tables) (m : MadeArcs) (world : World) : Type 0 where
+pub record HasArcsOf (making : Making) (g : Tables) (m : MadeArcs) (world : World) : Type 0 where
   pub arcs : AreArcFiles making.n (table_by making g) m.arcs world
   pub sources : ℕ
   pub has_sources : HasSources m.arcs sources
   pub inner_firm : IsFirm (file world m.arcs.inner)
   pub ends_firm : IsFirm (file world m.arcs.ends)
   pub last : Option Checkpoint
-  pub standing : IsStanding (goes_on_by making budget g) diagram_rests making.number budget m.parts.next
+  pub standing : IsStanding (goes_on_by making g) diagram_rests making.number m.parts.next
       (now world).folder last
   pub apart : (c : Checkpoint) → last ≡ Some c → (f : FileNo) (n : ℕ) → diagram_rests c f n → f ≢ node_file making.number
 
 -- so they were made: the most turns of the step leave ten for each source, and nine
 pub record AreArcsOf (making : Making) (old new : Going) (g : Tables) (m : MadeArcs) (world : World) : Type 0 where
-  pub has : HasArcsOf making old.budget g m world
+  pub has : HasArcsOf making g m world
   pub few_sources : has.sources ≤ tuples_by making.operation making.n g
   pub few : new.turns + (10 * tuples_by making.operation making.n g + 9) ≤ most_turns old.last making old g
   pub said : IsSaidOf old new has.last
@@ -225,7 +225,7 @@ pub record MakesArcs {S : Type 0} (tells : S → Bool) (world : S → World) (co
       → IsGivenFor making old (world before) g → 2 ^ 35 ≤ work_for making g
   pub images : IsTrue (tells after) → (g : Tables) → IsGivenFor making old (world before) g
       → Throughout (world before) (world after)
-      (λ (m : Moment). AreSafe (goes_on_by making old.budget g) making.number m.folder)
+      (λ (m : Moment). AreSafe (goes_on_by making g) making.number m.folder)
   pub damaged : IfErr result (λ e. IsTrue (tells after) → old.last ≡ None → HasNoGate making.number (world before)
       → IsArcsFault making.n making.operands (world before) e)
   pub ordered : IfOk result (λ m. IsTrue (tells after) → old.last ≡ None → HasNoGate making.number (world before)
@@ -258,7 +258,7 @@ pub record MakesArcs {S : Type 0} (tells : S → Bool) (world : S → World) (co
 -- the arcs are such, and with so many turns for each source and nine the turns are within the step's work
 pub record AreReducible (making : Making) (going : Going) (g : Tables) (each : ℕ) (m : MadeArcs) (world : World)
     : Type 0 where
-  pub has : HasArcsOf making going.budget g m world
+  pub has : HasArcsOf making g m world
   pub few : going.turns + (each * has.sources + 9) ≤ work_for making g
 
 -- a step's arcs are reduced to its node file, behind the turns that made them, with so many more for each source; a stop
@@ -273,7 +273,7 @@ pub record Reduces {S : Type 0} (tells : S → Bool) (world : S → World) (coun
         → AreReducible making going g each arcs (world before) → 2 ^ 35 ≤ work_for making g
     pub images : IsTrue (tells after) → (g : Tables) → AreReducible making going g each arcs (world before)
         → Throughout (world before) (world after)
-        (λ (m : Moment). AreSafe (goes_on_by making going.budget g) making.number m.folder)
+        (λ (m : Moment). AreSafe (goes_on_by making g) making.number m.folder)
     -- of arcs in the order of their files
     pub undamaged : IfErr result (λ e. IsTrue (tells after) → AreOrdered arcs.arcs (world before)
         → IsCovered making.number (world before) → IsNoDamage e)

@@ -61,7 +61,7 @@ pub record MakesAtOnce {S : Type 0} (tells : S → Bool) (world : S → World) (
 -- a step that begins anew makes its diagram, or is refused, where so many turns were made before; a stop costs so many
 -- calls at most beyond those for turns that it leaves shown
 pub record MakesAnew {S : Type 0} (tells : S → Bool) (world : S → World) (counts : S → Faults) (making : Making)
-    (budget earlier : ℕ) (left_over : Tables → ℕ) (some stop : ℕ) (before after : S)
+    (earlier : ℕ) (left_over : Tables → ℕ) (some stop : ℕ) (before after : S)
     (result : Result MadeDiagram SortFault) : Type 0 where
   pub made : IfOk result (λ m. IsTrue (tells after) → (g : Tables) → IsGivenAnew making (world before) g
       → IsMadeWithin making g earlier (left_over g) m (world after))
@@ -73,7 +73,7 @@ pub record MakesAnew {S : Type 0} (tells : S → Bool) (world : S → World) (co
       → (world after).clock + 229 * left_over g ≤ (world before).clock + (229 * work_for making g + some)
   pub images : IsTrue (tells after) → (g : Tables) → IsGivenAnew making (world before) g
       → Throughout (world before) (world after)
-      (λ (m : Moment). AreSafe (goes_on_by making budget g) making.number m.folder)
+      (λ (m : Moment). AreSafe (goes_on_by making g) making.number m.folder)
   pub damaged : IfErr result (λ e. IsTrue (tells after) → HasNoGate making.number (world before)
       → IsArcsFault making.n making.operands (world before) e)
   pub content : Told tells before after

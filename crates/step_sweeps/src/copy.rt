@@ -39,7 +39,7 @@ pub(crate) fn copy_in_turns<S: Shelf>(
     requires few { source.trailer.count < 2 ^ 40 }
     requires leads { Leads S.tells S.world making (ways.CopyInTurns source) shelf.old }
     requires anew { IsAnew making.number going.old }
-    ensures makes { MakesAnew S.tells S.world S.faults making going.old.budget 0 (λ g. 0) 7
+    ensures makes { MakesAnew S.tells S.world S.faults making 0 (λ g. 0) 7
         (sweeps_stop + 2 ^ 19 + 32) shelf.old shelf.new result }
 {
     let task = CopyTask {

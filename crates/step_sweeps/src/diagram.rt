@@ -120,7 +120,7 @@ fn make_anew<S: Shelf>(
     requires within { IsWithin making.n making.operation }
     requires earlier { AreEarlier making.number making.operands }
     requires anew { IsAnew making.number going.old }
-    ensures makes { MakesAnew S.tells S.world S.faults making going.old.budget 0 (λ g. 0) 11
+    ensures makes { MakesAnew S.tells S.world S.faults making 0 (λ g. 0) 11
         (sweeps_stop + 2 ^ 19 + 36) shelf.old shelf.new result }
 {
     let StepOperation::Operator(op) = making.operation else {
@@ -155,7 +155,7 @@ fn make_by<S: Shelf>(
     requires leads { Leads S.tells S.world making way shelf.old }
     requires of { IsOfPair pair way }
     requires fits { FitsIn (length room.old) way }
-    ensures makes { MakesAnew S.tells S.world S.faults making going.old.budget 0 (λ g. 0) 7
+    ensures makes { MakesAnew S.tells S.world S.faults making 0 (λ g. 0) 7
         (sweeps_stop + 2 ^ 19 + 32) shelf.old shelf.new result }
 {
     match way {

@@ -84,7 +84,7 @@ fn keep_made<S: Shelf>(
         sweep: 1,
         turns: shown(going),
         next_part: 0,
-        budget: going.budget,
+        budget: going.records(),
         tables: 0,
         carry: [0; 250],
         runs: [[NO_RUN; 64]; 9],

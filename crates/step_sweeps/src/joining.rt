@@ -37,7 +37,7 @@ pub(crate) fn join<S: Shelf>(
     requires anew { IsAnew making.number going.old }
     requires few { IsTrue (S.tells shelf.old) → (g : Tables) → IsGiven making (S.world shelf.old) g →
         before ≤ nodes_for making g }
-    ensures makes { MakesAnew S.tells S.world S.faults making going.old.budget before
+    ensures makes { MakesAnew S.tells S.world S.faults making before
         (nodes_by making.operation making.n) 7 (sweeps_stop + 2 ^ 18 + 6) shelf.old shelf.new result }
 {
     let out = FileNo {

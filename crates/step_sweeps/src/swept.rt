@@ -32,7 +32,7 @@ pub(crate) fn sweep_diagram<S: Shelf>(
     requires anew { IsAnew making.number going.old }
     requires few { IsTrue (S.tells shelf.old) → (g : Tables) → IsGiven making (S.world shelf.old) g →
         before ≤ left_by_sweeps making g }
-    ensures makes { MakesAnew S.tells S.world S.faults making going.old.budget before (left_by_sweeps making) 11
+    ensures makes { MakesAnew S.tells S.world S.faults making before (left_by_sweeps making) 11
         sweeps_stop shelf.old shelf.new result }
 {
     going.turns = before;

@@ -80,7 +80,7 @@ pub(crate) fn complement<S: Shelf>(
     requires fits { 2 * source.trailer.count + 8 ≤ length room.old }
     requires leads { Leads S.tells S.world making (ways.Complement source) shelf.old }
     requires anew { IsAnew making.number going.old }
-    ensures makes { MakesAnew S.tells S.world S.faults making going.old.budget 0 (λ g. 0) 7
+    ensures makes { MakesAnew S.tells S.world S.faults making 0 (λ g. 0) 7
         (sweeps_stop + 2 ^ 19 + 32) shelf.old shelf.new result }
 {
     let out = FileNo {

@@ -62,28 +62,28 @@ pub counted_stays : (step count : ℕ) (old new : Folder) → new ≡ old → Is
 counted_stays step count old new same is = subst (IsCounted step count) (sym same) is
 
 -- nothing is gated
-pub loaded_none : (step budget count : ℕ) (folder : Folder) → count ≡ 0 → IsCounted step count folder → IsLoaded step budget folder None
-loaded_none step budget count folder none is = record {
+pub loaded_none : (step count : ℕ) (folder : Folder) → count ≡ 0 → IsCounted step count folder → IsLoaded step folder None
+loaded_none step count folder none is = record {
   sure = is.sure;
-  last = subst (λ k. Tells step budget (last_of k (present folder (checkpoint_file step))) None) (sym none ∙ is.count_is) tt;
+  last = subst (λ k. Tells step (last_of k (present folder (checkpoint_file step))) None) (sym none ∙ is.count_is) tt;
 }
 
 -- the last one was read
-pub loaded_some : (step budget count at : ℕ) (folder : Folder) (c : Checkpoint) → count ≢ 0 → at ≡ 16384 * (count - 1) → IsCounted step count folder
-    → IsPointAt step budget at (present folder (checkpoint_file step)) c → IsLoaded step budget folder (Some c)
-loaded_some step budget count at folder c some place is found = record {
+pub loaded_some : (step count at : ℕ) (folder : Folder) (c : Checkpoint) → count ≢ 0 → at ≡ 16384 * (count - 1) → IsCounted step count folder
+    → IsPointAt step at (present folder (checkpoint_file step)) c → IsLoaded step folder (Some c)
+loaded_some step count at folder c some place is found = record {
   sure = is.sure;
   last =
       let next : suc (count - 1) ≡ count = omega (arith, some) in
-      subst (λ k. Tells step budget (last_of k (present folder (checkpoint_file step))) (Some c)) (next ∙ is.count_is)
-      (subst (λ p. IsPointOf step budget (take 16384 (drop p (present folder (checkpoint_file step)))) c) place found);
+      subst (λ k. Tells step (last_of k (present folder (checkpoint_file step))) (Some c)) (next ∙ is.count_is)
+      (subst (λ p. IsPointOf step (take 16384 (drop p (present folder (checkpoint_file step)))) c) place found);
 }
 
 -- it breaks a rule
-pub load_fault : (step budget count at : ℕ) (old mid : FileNo → List ℕ) (fault : StreamFault) → count ≢ 0 → at ≡ 16384 * (count - 1) → ((q : FileNo) → mid q ≡ old q) → count ≡ gated_count step mid
-    → IsPointFault step budget at (mid (checkpoint_file step)) fault → IsLoadFault step budget old fault
-load_fault step budget count at old mid Shelf some place same is found = tt
-load_fault step budget count at old mid (Damaged f p) some place same is found =
+pub load_fault : (step count at : ℕ) (old mid : FileNo → List ℕ) (fault : StreamFault) → count ≢ 0 → at ≡ 16384 * (count - 1) → ((q : FileNo) → mid q ≡ old q) → count ≡ gated_count step mid
+    → IsPointFault step at (mid (checkpoint_file step)) fault → IsLoadFault step old fault
+load_fault step count at old mid Shelf some place same is found = tt
+load_fault step count at old mid (Damaged f p) some place same is found =
     let gate : count ≡ gated_count step old = is ∙ ap length (same (checkpoint_gate step)) in
     let next : gated_count step old ≡ suc (count - 1) = sym gate ∙ (let e : count ≡ suc (count - 1) = omega (arith, some) in e) in
     let bytes : List ℕ = bytes_at at (mid (checkpoint_file step)) in (
@@ -97,16 +97,16 @@ load_fault step budget count at old mid (Damaged f p) some place same is found =
     )
 
 -- a file that ends before has no checkpoint there
-pub none_short : (step budget at : ℕ) (bytes : List ℕ) → length bytes < at + 16384 → (c : Checkpoint) → ¬ (IsPointOf step budget (bytes_at at bytes) c)
-none_short step budget at bytes short c is =
+pub none_short : (step at : ℕ) (bytes : List ℕ) → length bytes < at + 16384 → (c : Checkpoint) → ¬ (IsPointOf step (bytes_at at bytes) c)
+none_short step at bytes short c is =
     let whole : length (bytes_at at bytes) ≡ 16384 = is.whole in
     let cut : length (bytes_at at bytes) ≡ min 16384 (length (drop at bytes)) = length-take 16384 (drop at bytes) in
     let behind : length (drop at bytes) ≡ length bytes - at = length-drop at bytes in
     omega arith
 
 -- bytes that are none
-pub none_there : (step budget : ℕ) (bytes read : List ℕ) → read ≡ bytes → ((c : Checkpoint) → IsPointOf step budget read c → None ≡ Some c) → (c : Checkpoint) → ¬ (IsPointOf step budget bytes c)
-none_there step budget bytes read same only c is = let differ : None ≡ Some c = only c (subst (λ b. IsPointOf step budget b c) (sym same) is) in cc
+pub none_there : (step : ℕ) (bytes read : List ℕ) → read ≡ bytes → ((c : Checkpoint) → IsPointOf step read c → None ≡ Some c) → (c : Checkpoint) → ¬ (IsPointOf step bytes c)
+none_there step bytes read same only c is = let differ : None ≡ Some c = only c (subst (λ b. IsPointOf step b c) (sym same) is) in cc
 
 -- a piece more was read
 pub read_piece : (source bytes before after : List ℕ) (at done next got : ℕ) → done ≤ next → next ≤ length bytes → length before ≡ next - done → next - done ≤ got
@@ -157,49 +157,49 @@ module _ {S : Type 0} (tells : S → Bool) (world : S → World) (step : ℕ) wh
       counted step count (world old) (world s) (world t) (subst (λ q. Synced q (Ok tt) (world old) (world s)) gate (synced.did (measured.before tells_new)))
       (subst (λ q. Measured q (Ok count) (world s) (world t)) gate (measured.did tells_new))
 
-  pub load_none : (budget : ℕ) (f : FileNo) (count : ℕ) (old s t : S) → f ≡ checkpoint_gate step → count ≡ 0 → Told tells old s (Synced f (Ok tt) (world old) (world s))
-      → Told tells s t (Measured f (Ok count) (world s) (world t)) → IsTrue (tells t) → IsLoaded step budget (now (world t)).folder None
-  load_none budget f count old s t gate none synced measured tells_new = loaded_none step budget count (now (world t)).folder none (counted_so_far f count old s t gate synced measured tells_new)
+  pub load_none : (f : FileNo) (count : ℕ) (old s t : S) → f ≡ checkpoint_gate step → count ≡ 0 → Told tells old s (Synced f (Ok tt) (world old) (world s))
+      → Told tells s t (Measured f (Ok count) (world s) (world t)) → IsTrue (tells t) → IsLoaded step (now (world t)).folder None
+  load_none f count old s t gate none synced measured tells_new = loaded_none step count (now (world t)).folder none (counted_so_far f count old s t gate synced measured tells_new)
 
-  pub load_some : (budget : ℕ) (f : FileNo) (count at : ℕ) (c : Checkpoint) (old s t u : S) → f ≡ checkpoint_gate step → count ≢ 0 → at ≡ 16384 * (count - 1) → Told tells old s (Synced f (Ok tt) (world old) (world s))
+  pub load_some : (f : FileNo) (count at : ℕ) (c : Checkpoint) (old s t u : S) → f ≡ checkpoint_gate step → count ≢ 0 → at ≡ 16384 * (count - 1) → Told tells old s (Synced f (Ok tt) (world old) (world s))
       → Told tells s t (Measured f (Ok count) (world s) (world t)) → Told tells t u (Ran (Stays (now (world t))) (world t) (world u))
-      → (IsTrue (tells u) → IsPointAt step budget at (file (world t) (checkpoint_file step)).bytes c) → IsTrue (tells u) → IsLoaded step budget (now (world u)).folder (Some c)
-  load_some budget f count at c old s t u gate some place synced measured reads found tells_new =
+      → (IsTrue (tells u) → IsPointAt step at (file (world t) (checkpoint_file step)).bytes c) → IsTrue (tells u) → IsLoaded step (now (world u)).folder (Some c)
+  load_some f count at c old s t u gate some place synced measured reads found tells_new =
       let stays : (now (world u)).folder ≡ (now (world t)).folder = ran_end (world t) (world u) (Stays (now (world t))) (reads.did tells_new) in
       let is : IsCounted step count (now (world t)).folder = counted_so_far f count old s t gate synced measured (reads.before tells_new) in
-      loaded_some step budget count at (now (world u)).folder c some place (counted_stays step count (now (world t)).folder (now (world u)).folder stays is)
-      (subst (λ d. IsPointAt step budget at (file_in d (checkpoint_file step)).bytes c) (sym stays) (found tells_new))
+      loaded_some step count at (now (world u)).folder c some place (counted_stays step count (now (world t)).folder (now (world u)).folder stays is)
+      (subst (λ d. IsPointAt step at (file_in d (checkpoint_file step)).bytes c) (sym stays) (found tells_new))
 
-  pub load_fails : (budget : ℕ) (f : FileNo) (count at : ℕ) (fault : StreamFault) (old s t u : S) → f ≡ checkpoint_gate step → count ≢ 0 → at ≡ 16384 * (count - 1) → ((x : S) → IsTrue (tells x) → AreFiles (now (world x)).folder)
+  pub load_fails : (f : FileNo) (count at : ℕ) (fault : StreamFault) (old s t u : S) → f ≡ checkpoint_gate step → count ≢ 0 → at ≡ 16384 * (count - 1) → ((x : S) → IsTrue (tells x) → AreFiles (now (world x)).folder)
       → Told tells old s (Synced f (Ok tt) (world old) (world s))
       → Told tells s t (Measured f (Ok count) (world s) (world t)) → Told tells t u (Ran (Stays (now (world t))) (world t) (world u))
-      → (IsTrue (tells u) → IsPointFault step budget at (file (world t) (checkpoint_file step)).bytes fault) → IsTrue (tells u) → IsLoadFault step budget (present (now (world old)).folder) fault
-  load_fails budget f count at fault old s t u gate some place files synced measured reads found tells_new =
+      → (IsTrue (tells u) → IsPointFault step at (file (world t) (checkpoint_file step)).bytes fault) → IsTrue (tells u) → IsLoadFault step (present (now (world old)).folder) fault
+  load_fails f count at fault old s t u gate some place files synced measured reads found tells_new =
       let tells_mid : IsTrue (tells t) = reads.before tells_new in
       let run = (asked_on f (Ok count) old s t (synced_first f (Ok tt) old s gate files synced) measured).did tells_mid in
       let during : DuringLoad step (now (world old)) (now (world t)) = ran_end (world old) (world t) (DuringLoad step (now (world old))) run in
       let is : IsCounted step count (now (world t)).folder = counted_so_far f count old s t gate synced measured tells_mid in
-      load_fault step budget count at (present (now (world old)).folder) (present (now (world t)).folder) fault some place during.reads is.count_is (found tells_new)
+      load_fault step count at (present (now (world old)).folder) (present (now (world t)).folder) fault some place during.reads is.count_is (found tells_new)
 
 -- what was read is what stands there
 read_all : (source read : List ℕ) (at : ℕ) (whole : Bool) → length read ≡ 16384 → whole ≡ true → ReadWhole source at read whole → read ≡ bytes_at at source
 read_all source read at whole long is did = subst (ReadWhole source at read) is did ∙ ap (λ n. take n (drop at source)) long
 
 -- the file ends before
-pub short_fault : (step budget at : ℕ) (source read : List ℕ) (f : FileNo) (whole : Bool) → f ≡ checkpoint_file step → length read ≡ 16384 → whole ≡ false → ReadWhole source at read whole → IsPointFault step budget at source (Damaged f at)
-short_fault step budget at source read f whole points long is did =
+pub short_fault : (step at : ℕ) (source read : List ℕ) (f : FileNo) (whole : Bool) → f ≡ checkpoint_file step → length read ≡ 16384 → whole ≡ false → ReadWhole source at read whole → IsPointFault step at source (Damaged f at)
+short_fault step at source read f whole points long is did =
     let short : length source < at + length read = subst (ReadWhole source at read) is did in
-    (points, refl, none_short step budget at source (omega (arith, short, long)))
+    (points, refl, none_short step at source (omega (arith, short, long)))
 
 -- the bytes are no checkpoint
-pub rule_fault : (step budget at : ℕ) (source read : List ℕ) (f : FileNo) (whole : Bool) → f ≡ checkpoint_file step → length read ≡ 16384 → whole ≡ true → ReadWhole source at read whole
-    → ((c : Checkpoint) → IsPointOf step budget read c → None ≡ Some c) → IsPointFault step budget at source (Damaged f at)
-rule_fault step budget at source read f whole points long is did only =
-    (points, refl, none_there step budget (bytes_at at source) read (read_all source read at whole long is did) only)
+pub rule_fault : (step at : ℕ) (source read : List ℕ) (f : FileNo) (whole : Bool) → f ≡ checkpoint_file step → length read ≡ 16384 → whole ≡ true → ReadWhole source at read whole
+    → ((c : Checkpoint) → IsPointOf step read c → None ≡ Some c) → IsPointFault step at source (Damaged f at)
+rule_fault step at source read f whole points long is did only =
+    (points, refl, none_there step (bytes_at at source) read (read_all source read at whole long is did) only)
 
 -- they are one
-pub point_there : (step budget at : ℕ) (source read : List ℕ) (whole : Bool) (c : Checkpoint) → length read ≡ 16384 → whole ≡ true → ReadWhole source at read whole → IsPointOf step budget read c → IsPointAt step budget at source c
-point_there step budget at source read whole c long is did found = subst (λ b. IsPointOf step budget b c) (read_all source read at whole long is did) found
+pub point_there : (step at : ℕ) (source read : List ℕ) (whole : Bool) (c : Checkpoint) → length read ≡ 16384 → whole ≡ true → ReadWhole source at read whole → IsPointOf step read c → IsPointAt step at source c
+point_there step at source read whole c long is did found = subst (λ b. IsPointOf step b c) (read_all source read at whole long is did) found
 
 -- a read leaves the files
 pub stays_on : {S : Type 0} (tells : S → Bool) (world : S → World) (f : FileNo) (at : ℕ) (before after : List ℕ) (result : Result ℕ Failed) (old s t : S)

@@ -107,55 +107,55 @@ pub moments : (old new : World) (P Q : Moment → Type 0) → ((m : Moment) → 
 moments old new P Q follows run = weakens old new (Quiet (now old).said P) Q (λ m quiet. follows m quiet.holds) run.moments
 
 -- an image agrees with one of before, or the step can go on in it
-abbrev pub AreLeft : {Task Job : Type 0} → Saving Task Job → (FileNo → Type 0) → ℕ → ℕ → ℕ → ℕ → Task → Job → ℕ → Folder → Moment → Type 0
-AreLeft saving makes step next budget sweep task job turns old m = (image : Image) → IsImage m.folder image
-    → IsAsBefore makes step next old (bytes_in image) ⊎ GoesOn saving step budget sweep task job turns (bytes_in image)
+abbrev pub AreLeft : {Task Job : Type 0} → Saving Task Job → (FileNo → Type 0) → ℕ → ℕ → ℕ → Task → Job → ℕ → Folder → Moment → Type 0
+AreLeft saving makes step next sweep task job turns old m = (image : Image) → IsImage m.folder image
+    → IsAsBefore makes step next old (bytes_in image) ⊎ GoesOn saving step sweep task job turns (bytes_in image)
 
 module _ {Task Job : Type 0} (saving : Saving Task Job)
     (stays : (c : Checkpoint) (text : List ℕ) (old new : FileNo → List ℕ) (job : Job) (turns : ℕ) → saving.fits c text
     → ((f : FileNo) (n : ℕ) → saving.rests c f n → take n (new f) ≡ take n (old f))
     → saving.stands c text old job turns → saving.stands c text new job turns)
     (apart : (c : Checkpoint) (text : List ℕ) (f : FileNo) (n : ℕ) → saving.fits c text → saving.rests c f n → IsRestingPlace c f)
-    (makes operands : FileNo → Type 0) (step next budget sweep : ℕ) (task : Task) (job : Job) (turns : ℕ) where
+    (makes operands : FileNo → Type 0) (step next sweep : ℕ) (task : Task) (job : Job) (turns : ℕ) where
   -- while the sweep is made ready
   pub ready_left : (old new : World) → AreFiles (now old).folder → IsOfStep makes operands step next
-      → Ran (OnlySaved makes step next (now old)) old new → Throughout old new (AreLeft saving makes step next budget sweep task job turns (now old).folder)
+      → Ran (OnlySaved makes step next (now old)) old new → Throughout old new (AreLeft saving makes step next sweep task job turns (now old).folder)
   ready_left old new are_files files run =
-      moments old new (OnlySaved makes step next (now old)) (AreLeft saving makes step next budget sweep task job turns (now old).folder)
+      moments old new (OnlySaved makes step next (now old)) (AreLeft saving makes step next sweep task job turns (now old).folder)
       (λ m saved image is_image. inl (as_before makes operands step next (now old) m image are_files files saved is_image)) run
 
   -- while it is saved
   pub save_left : (old mid new : World) (c : Checkpoint) (later left : ℕ) → AreFiles (now old).folder → AreFiles (now mid).folder → IsOfStep makes operands step next
       → next ≤ later → OnlySaved makes step next (now old) (now mid) → AreSure operands step (now old).folder
-      → Ready saving makes operands step later budget sweep task job turns c left (now mid).folder
-      → Ran (DuringSave c (now mid)) mid new → Throughout mid new (AreLeft saving makes step next budget sweep task job turns (now old).folder)
+      → Ready saving makes operands step later sweep task job turns c left (now mid).folder
+      → Ran (DuringSave c (now mid)) mid new → Throughout mid new (AreLeft saving makes step next sweep task job turns (now old).folder)
   save_left old mid new c later left are_files mid_files files more saved sure ready run =
       let mid_of : IsOfStep makes operands step later = of_step_later makes operands step next later more files in
       let c_of : IsOfStep makes operands c.step later = subst (λ s. IsOfStep makes operands s later) (sym ready.step_is) mid_of in
       let gate : IsGateSure c.step (now mid).folder = subst (λ s. IsGateSure s (now mid).folder) (sym ready.step_is)
       (subst IsFirm (sym (gate_stays makes operands step next (now old) (now mid) files saved)) sure.gate) in
-      moments mid new (DuringSave c (now mid)) (AreLeft saving makes step next budget sweep task job turns (now old).folder)
+      moments mid new (DuringSave c (now mid)) (AreLeft saving makes step next sweep task job turns (now old).folder)
       (λ m saves image is_image. elim (saves.images gate image is_image) [
         | inl was ↦ inl (as_before_then makes operands step next later (now old) (now mid) (bytes_in image) are_files files more saved
             (subst (λ s. IsAsBefore makes s later (now mid).folder (bytes_in image)) ready.step_is
             (before_saved makes operands c later (now mid) m image mid_files c_of saves is_image was)))
-        | inr last ↦ inr (ready_goes_on saving stays apart makes operands step later budget sweep task job turns c left (now mid) m image mid_files ready saves is_image last)
+        | inr last ↦ inr (ready_goes_on saving stays apart makes operands step later sweep task job turns c left (now mid) m image mid_files ready saves is_image last)
       ]) run
 
   -- while older runs are given up
   pub retire_left : (old mid new : World) (c : Checkpoint) (later : ℕ) (older : Option Checkpoint)
-      → (s : Stands saving makes operands step later budget sweep task job turns (now mid).folder) → s.goes_on.point ≡ c
-      → Ran (OnlyChanged (IsGivenUp older c) (now mid)) mid new → Throughout mid new (AreLeft saving makes step next budget sweep task job turns (now old).folder)
+      → (s : Stands saving makes operands step later sweep task job turns (now mid).folder) → s.goes_on.point ≡ c
+      → Ran (OnlyChanged (IsGivenUp older c) (now mid)) mid new → Throughout mid new (AreLeft saving makes step next sweep task job turns (now old).folder)
   retire_left old mid new c later older s is run =
-      moments mid new (OnlyChanged (IsGivenUp older c) (now mid)) (AreLeft saving makes step next budget sweep task job turns (now old).folder)
-      (λ m only image is_image. inr (stands_image saving stays apart makes operands step later budget sweep task job turns m.folder image
-      (stands_retired saving stays apart makes operands step later budget sweep task job turns older (now mid).folder m.folder s
+      moments mid new (OnlyChanged (IsGivenUp older c) (now mid)) (AreLeft saving makes step next sweep task job turns (now old).folder)
+      (λ m only image is_image. inr (stands_image saving stays apart makes operands step later sweep task job turns m.folder image
+      (stands_retired saving stays apart makes operands step later sweep task job turns older (now mid).folder m.folder s
       (subst (λ d. OnlyChanges (IsGivenUp older d) (now mid).folder m.folder) (sym is) only)) is_image)) run
 
 -- the same under the number of the step
-pub left_at : {Task Job : Type 0} (saving : Saving Task Job) (makes : FileNo → Type 0) (s step next budget sweep : ℕ) (task : Task) (job : Job) (turns : ℕ) (old new : World) (folder : Folder)
-    → s ≡ step → Throughout old new (AreLeft saving makes s next budget sweep task job turns folder) → Throughout old new (AreLeft saving makes step next budget sweep task job turns folder)
-left_at saving makes s step next budget sweep task job turns old new folder at left = subst (λ k. Throughout old new (AreLeft saving makes k next budget sweep task job turns folder)) at left
+pub left_at : {Task Job : Type 0} (saving : Saving Task Job) (makes : FileNo → Type 0) (s step next sweep : ℕ) (task : Task) (job : Job) (turns : ℕ) (old new : World) (folder : Folder)
+    → s ≡ step → Throughout old new (AreLeft saving makes s next sweep task job turns folder) → Throughout old new (AreLeft saving makes step next sweep task job turns folder)
+left_at saving makes s step next sweep task job turns old new folder at left = subst (λ k. Throughout old new (AreLeft saving makes k next sweep task job turns folder)) at left
 
 -- a sweep was made ready, and filled the checkpoint; then that was saved
 module _ {S : Type 0} (tells : S → Bool) (world : S → World) (makes operands : FileNo → Type 0) (next later : ℕ) (d : Checkpoint) where
@@ -230,15 +230,15 @@ module _ {S Task Job : Type 0} (tells : S → Bool) (world : S → World)
     → ((f : FileNo) (n : ℕ) → saving.rests c f n → take n (new f) ≡ take n (old f))
     → saving.stands c text old job turns → saving.stands c text new job turns)
     (apart : (c : Checkpoint) (text : List ℕ) (f : FileNo) (n : ℕ) → saving.fits c text → saving.rests c f n → IsRestingPlace c f)
-    (makes operands : FileNo → Type 0) (next later budget sweep : ℕ) (task : Task) (d : Checkpoint) (job : Job) (turns left : ℕ) where
+    (makes operands : FileNo → Type 0) (next later sweep : ℕ) (task : Task) (d : Checkpoint) (job : Job) (turns left : ℕ) where
   -- the checkpoint is ready: its head was written, and the sweep filled it
   pub ready_by : (old mid : S) → IsCarried tells world makes operands next later d old mid → IsTrue (tells mid) → (turns_made left_before : ℕ) → d.sweep ≡ sweep → d.turns ≡ turns_made
-      → d.budget ≡ budget → sweep ≤ 1 → turns_made < 2 ^ 62 → IsFilled later d → d.next_part ≤ 2 ^ 32 → IsPaid d → Fits d → saving.names d task → saving.fits d (saving.text task)
+      → d.budget < 2 ^ 32 → sweep ≤ 1 → turns_made < 2 ^ 62 → IsFilled later d → d.next_part ≤ 2 ^ 32 → IsPaid d → Fits d → saving.names d task → saving.fits d (saving.text task)
       → saving.stands d (saving.text task) (reads_of (world mid)) job left → left ≤ left_before → turns ≡ turns_made + left_before
       → AreSure operands d.step (now (world old)).folder
       → ((f : FileNo) (n : ℕ) → saving.rests d f n → IsSure makes operands (world mid) f n)
-      → Ready saving makes operands d.step later budget sweep task job turns d left (now (world mid)).folder
-  ready_by old mid carried told_mid turns_made left_before sweep_is turns_are budget_is one few filled most paid words names fits stands fewer all sure rests =
+      → Ready saving makes operands d.step later sweep task job turns d left (now (world mid)).folder
+  ready_by old mid carried told_mid turns_made left_before sweep_is turns_are records one few filled most paid words names fits stands fewer all sure rests =
       let least : 3 ≤ next = carried.files.parts in
       let more : next ≤ later = carried.more in
       let next_is : d.next_part ≡ later = filled.next_is in
@@ -248,7 +248,7 @@ module _ {S Task Job : Type 0} (tells : S → Bool) (world : S → World)
         paid = paid;
         rules = record {
           step_is = refl;
-          budget_is = budget_is;
+          budget = records;
           sweep = omega (arith, sweep_is, one);
           parts = (omega (arith, least, more, next_is), most);
           tables = filled.tables.tables;
@@ -277,32 +277,32 @@ module _ {S Task Job : Type 0} (tells : S → Bool) (world : S → World)
       }
 
   abbrev pub Left : Folder → Moment → Type 0
-  Left = AreLeft saving makes d.step next budget sweep task job turns
+  Left = AreLeft saving makes d.step next sweep task job turns
 
   pub images_carry : (old mid : S) → IsCarried tells world makes operands next later d old mid → IsTrue (tells mid) → Throughout (world old) (world mid) (Left (now (world old)).folder)
-  images_carry old mid carried told_mid = ready_left saving stays apart makes operands d.step next budget sweep task job turns (world old) (world mid)
+  images_carry old mid carried told_mid = ready_left saving stays apart makes operands d.step next sweep task job turns (world old) (world mid)
       (files_are old (carried.content.before told_mid)) carried.files (carried.content.did told_mid)
 
   pub images_save : (old mid new : S) → IsCarried tells world makes operands next later d old mid → AreSure operands d.step (now (world old)).folder
-      → Ready saving makes operands d.step later budget sweep task job turns d left (now (world mid)).folder
+      → Ready saving makes operands d.step later sweep task job turns d left (now (world mid)).folder
       → Told tells mid new (Ran (DuringSave d (now (world mid))) (world mid) (world new)) → IsTrue (tells new)
       → Throughout (world old) (world new) (Left (now (world old)).folder)
   images_save old mid new carried sure ready saves told_new =
       let told_mid : IsTrue (tells mid) = saves.before told_new in
       joins (world old) (world mid) (world new) (Left (now (world old)).folder) (images_carry old mid carried told_mid)
-      (save_left saving stays apart makes operands d.step next budget sweep task job turns (world old) (world mid) (world new) d later left
+      (save_left saving stays apart makes operands d.step next sweep task job turns (world old) (world mid) (world new) d later left
       (files_are old (carried.content.before told_mid)) (files_are mid told_mid) carried.files carried.more (saved_by tells world makes operands next later d old mid carried told_mid) sure ready (saves.did told_new))
 
-  stands_by : (mid new : S) → Ready saving makes operands d.step later budget sweep task job turns d left (now (world mid)).folder
+  stands_by : (mid new : S) → Ready saving makes operands d.step later sweep task job turns d left (now (world mid)).folder
       → Told tells mid new (Ran (DuringSave d (now (world mid))) (world mid) (world new))
       → IsTrue (tells new) → IsSaved d (now (world mid)).folder (now (world new)).folder
-      → Stands saving makes operands d.step later budget sweep task job turns (now (world new)).folder
+      → Stands saving makes operands d.step later sweep task job turns (now (world new)).folder
   stands_by mid new ready saves told_new saved =
-      ready_saved saving stays apart makes operands d.step later budget sweep task job turns d left (now (world mid)) (now (world new)) ready
+      ready_saved saving stays apart makes operands d.step later sweep task job turns d left (now (world mid)) (now (world new)) ready
       (ran_end (world mid) (world new) (DuringSave d (now (world mid))) (saves.did told_new)) saved
 
   pub images_retire : (older : Option Checkpoint) (old mid new end : S) → IsCarried tells world makes operands next later d old mid → AreSure operands d.step (now (world old)).folder
-      → Ready saving makes operands d.step later budget sweep task job turns d left (now (world mid)).folder
+      → Ready saving makes operands d.step later sweep task job turns d left (now (world mid)).folder
       → Told tells mid new (Ran (DuringSave d (now (world mid))) (world mid) (world new))
       → (IsTrue (tells new) → IsSaved d (now (world mid)).folder (now (world new)).folder)
       → Told tells new end (Ran (OnlyChanged (IsGivenUp older d) (now (world new))) (world new) (world end)) → IsTrue (tells end)
@@ -311,18 +311,18 @@ module _ {S Task Job : Type 0} (tells : S → Bool) (world : S → World)
   images_retire older old mid new end carried sure ready saves saved retires told_end =
       let told_new : IsTrue (tells new) = retires.before told_end in
       joins (world old) (world new) (world end) (Left (now (world old)).folder) (images_save old mid new carried sure ready saves told_new)
-      (retire_left saving stays apart makes operands d.step next budget sweep task job turns (world old) (world new) (world end) d later older
+      (retire_left saving stays apart makes operands d.step next sweep task job turns (world old) (world new) (world end) d later older
       (stands_by mid new ready saves told_new (saved told_new)) refl (retires.did told_end))
 
   pub stands_retire : (older : Option Checkpoint) (mid new end : S)
-      → Ready saving makes operands d.step later budget sweep task job turns d left (now (world mid)).folder
+      → Ready saving makes operands d.step later sweep task job turns d left (now (world mid)).folder
       → Told tells mid new (Ran (DuringSave d (now (world mid))) (world mid) (world new))
       → (IsTrue (tells new) → IsSaved d (now (world mid)).folder (now (world new)).folder)
       → Told tells new end (Ran (OnlyChanged (IsGivenUp older d) (now (world new))) (world new) (world end)) → IsTrue (tells end)
-      → Stands saving makes operands d.step later budget sweep task job turns (now (world end)).folder
+      → Stands saving makes operands d.step later sweep task job turns (now (world end)).folder
   unfolding stands_by ready_saved
   stands_retire older mid new end ready saves saved retires told_end =
       let told_new : IsTrue (tells new) = retires.before told_end in
-      stands_retired saving stays apart makes operands d.step later budget sweep task job turns older (now (world new)).folder (now (world end)).folder
+      stands_retired saving stays apart makes operands d.step later sweep task job turns older (now (world new)).folder (now (world end)).folder
       (stands_by mid new ready saves told_new (saved told_new))
       (ran_end (world new) (world end) (OnlyChanged (IsGivenUp older d) (now (world new))) (retires.did told_end))

@@ -72,10 +72,10 @@ rests_made operands old m f n is_file other kept few =
     }
 
 -- a checkpoint that a sweep filled, before it is saved: where it is the last one that is gated the step goes on
-pub record Ready {Task Job : Type 0} (saving : Saving Task Job) (makes operands : FileNo → Type 0) (step next budget sweep : ℕ)
+pub record Ready {Task Job : Type 0} (saving : Saving Task Job) (makes operands : FileNo → Type 0) (step next sweep : ℕ)
     (task : Task) (job : Job) (turns : ℕ) (c : Checkpoint) (left : ℕ) (folder : Folder) : Type 0 where
   pub step_is : c.step ≡ step
-  pub rules : KeepsRules step budget c
+  pub rules : KeepsRules step c
   pub paid : IsPaid c
   pub sweep_is : c.sweep ≡ sweep
   pub words : Fits c
@@ -104,10 +104,10 @@ module _ {Task Job : Type 0} (saving : Saving Task Job)
     → saving.stands c text old job turns → saving.stands c text new job turns)
     (apart : (c : Checkpoint) (text : List ℕ) (f : FileNo) (n : ℕ) → saving.fits c text → saving.rests c f n → IsRestingPlace c f) where
   -- readings with the same last checkpoint, and the same fronts that it rests on
-  pub goes_on_same : (step budget sweep : ℕ) (task : Task) (job : Job) (turns : ℕ) (r q : FileNo → List ℕ) → (g : GoesOn saving step budget sweep task job turns r)
+  pub goes_on_same : (step sweep : ℕ) (task : Task) (job : Job) (turns : ℕ) (r q : FileNo → List ℕ) → (g : GoesOn saving step sweep task job turns r)
       → last_gated step q ≡ last_gated step r → ((f : FileNo) (n : ℕ) → saving.rests g.point f n → take n (q f) ≡ take n (r f))
-      → GoesOn saving step budget sweep task job turns q
-  goes_on_same step budget sweep task job turns r q g last same = record {
+      → GoesOn saving step sweep task job turns q
+  goes_on_same step sweep task job turns r q g last same = record {
     point = g.point;
     last = last ∙ g.last;
     rules = g.rules;
@@ -121,16 +121,16 @@ module _ {Task Job : Type 0} (saving : Saving Task Job)
     few = g.few;
   }
 
-  module _ (makes operands : FileNo → Type 0) (step next budget sweep : ℕ) (task : Task) (job : Job) (turns : ℕ) where
+  module _ (makes operands : FileNo → Type 0) (step next sweep : ℕ) (task : Task) (job : Job) (turns : ℕ) where
     -- in each image of the folder the step can go on
-    pub stands_image : (folder : Folder) (image : Image) → Stands saving makes operands step next budget sweep task job turns folder
-        → IsImage folder image → GoesOn saving step budget sweep task job turns (bytes_in image)
+    pub stands_image : (folder : Folder) (image : Image) → Stands saving makes operands step next sweep task job turns folder
+        → IsImage folder image → GoesOn saving step sweep task job turns (bytes_in image)
     stands_image folder image s is_image =
         let gate : bytes_in image (checkpoint_gate step) ≡ (file_in folder (checkpoint_gate step)).bytes =
         sure_bytes (checkpoint_gate step) (file_in folder (checkpoint_gate step)).bytes folder image s.gate is_image in
         let points : take (gated_size step folder) (bytes_in image (checkpoint_file step)) ≡ take (gated_size step folder) (file_in folder (checkpoint_file step)).bytes =
         sure_front folder image (checkpoint_file step) (gated_size step folder) is_image s.points in
-        goes_on_same step budget sweep task job turns (present folder) (bytes_in image) s.goes_on
+        goes_on_same step sweep task job turns (present folder) (bytes_in image) s.goes_on
         ((λ i. last_of (length (gate i)) (bytes_in image (checkpoint_file step)))
         ∙ last_of-take (length (file_in folder (checkpoint_gate step)).bytes) (bytes_in image (checkpoint_file step)) (file_in folder (checkpoint_file step)).bytes points)
         (λ f n is. elim (s.sure f n is) [
@@ -139,14 +139,14 @@ module _ {Task Job : Type 0} (saving : Saving Task Job)
         ])
 
     -- where the checkpoints, their gate, and all that it rests on stay, it stays so
-    pub stands_rests : (old m : Folder) → (s : Stands saving makes operands step next budget sweep task job turns old)
+    pub stands_rests : (old m : Folder) → (s : Stands saving makes operands step next sweep task job turns old)
         → file_in m (checkpoint_gate step) ≡ file_in old (checkpoint_gate step) → file_in m (checkpoint_file step) ≡ file_in old (checkpoint_file step)
         → ((f : FileNo) (n : ℕ) → saving.rests s.goes_on.point f n → Rests operands old m f n)
         → ((f : FileNo) → operands f → IsFirm (file_in old f) → IsFirm (file_in m f))
-        → Stands saving makes operands step next budget sweep task job turns m
+        → Stands saving makes operands step next sweep task job turns m
     unfolding goes_on_same
     stands_rests old m s gate points rests firm = record {
-      goes_on = goes_on_same step budget sweep task job turns (present old) (present m) s.goes_on
+      goes_on = goes_on_same step sweep task job turns (present old) (present m) s.goes_on
           (same_last step (present m) (present old) (ap (λ (x : File). x.bytes) points) (ap (λ (x : File). x.bytes) gate))
           (λ f n is. (rests f n is).same);
       gate = subst IsFirm (sym gate) s.gate;
@@ -162,8 +162,8 @@ module _ {Task Job : Type 0} (saving : Saving Task Job)
 
     -- while a sweep of the step goes on or is made ready to be saved, it stays so
     pub stands_saved : (old m : Moment) → AreFiles old.folder → IsOfStep makes operands step next
-        → Stands saving makes operands step next budget sweep task job turns old.folder → OnlySaved makes step next old m
-        → Stands saving makes operands step next budget sweep task job turns m.folder
+        → Stands saving makes operands step next sweep task job turns old.folder → OnlySaved makes step next old m
+        → Stands saving makes operands step next sweep task job turns m.folder
     stands_saved old m are_files files s saved =
         let c : Checkpoint = s.goes_on.point in
         let free_before : (f : FileNo) → CanBeTaken step next f → CanBeTaken c.step c.next_part f =
@@ -183,8 +183,8 @@ module _ {Task Job : Type 0} (saving : Saving Task Job)
         ]) (λ f operand. operand_firm makes operands step next old m f files saved operand)
 
     -- while the runs are cut that a newer checkpoint gives up, that one stays so
-    pub stands_retired : (older : Option Checkpoint) (old m : Folder) → (s : Stands saving makes operands step next budget sweep task job turns old)
-        → OnlyChanges (IsGivenUp older s.goes_on.point) old m → Stands saving makes operands step next budget sweep task job turns m
+    pub stands_retired : (older : Option Checkpoint) (old m : Folder) → (s : Stands saving makes operands step next sweep task job turns old)
+        → OnlyChanges (IsGivenUp older s.goes_on.point) old m → Stands saving makes operands step next sweep task job turns m
     stands_retired older old m s only =
         stands_rests old m s
         (only (checkpoint_gate step) (λ is. let from = is.from in absurd (omega (arith, from))))
@@ -193,8 +193,8 @@ module _ {Task Job : Type 0} (saving : Saving Task Job)
         (λ f is. subst IsFirm (sym (only f (λ gone. gone.unnamed ((s.operands_are f is).1.named gone.step_is gone.from)))))
 
     -- a later part number
-    pub stands_later : (later : ℕ) (folder : Folder) → next ≤ later → Stands saving makes operands step next budget sweep task job turns folder
-        → Stands saving makes operands step later budget sweep task job turns folder
+    pub stands_later : (later : ℕ) (folder : Folder) → next ≤ later → Stands saving makes operands step next sweep task job turns folder
+        → Stands saving makes operands step later sweep task job turns folder
     stands_later later folder more s = record {
       goes_on = s.goes_on;
       gate = s.gate;
@@ -206,8 +206,8 @@ module _ {Task Job : Type 0} (saving : Saving Task Job)
 
     -- what agrees with an image of such a folder goes on
     pub as_before_stands : (old : Folder) (r : FileNo → List ℕ) → IsOfStep makes operands step next
-        → (s : Stands saving makes operands step next budget sweep task job turns old) → IsAsBefore makes step next old r
-        → GoesOn saving step budget sweep task job turns r
+        → (s : Stands saving makes operands step next sweep task job turns old) → IsAsBefore makes step next old r
+        → GoesOn saving step sweep task job turns r
     unfolding stands_image goes_on_same
     as_before_stands old r files s agrees =
         let c : Checkpoint = s.goes_on.point in
@@ -217,7 +217,7 @@ module _ {Task Job : Type 0} (saving : Saving Task Job)
         ap (take n) (agrees.others f not_made
         (λ free. let from = free.from in let taken = s.taken in place.taken (record { step_is = free.step_is ∙ sym s.goes_on.rules.step_is; from = omega (arith, from, taken) }))
         (λ e. place.no_points (e ∙ ap checkpoint_file (sym s.goes_on.rules.step_is))) (λ e. place.no_gate (e ∙ ap checkpoint_gate (sym s.goes_on.rules.step_is)))) in
-        goes_on_same step budget sweep task job turns (bytes_in agrees.before) r (stands_image old agrees.before s agrees.is_image) agrees.last
+        goes_on_same step sweep task job turns (bytes_in agrees.before) r (stands_image old agrees.before s agrees.is_image) agrees.last
         (λ f n is. elim (s.sure f n is) [
           | inl operand ↦ other f n is (files.apart f operand.0)
           | inr sure ↦ elim sure.0 [
@@ -227,13 +227,13 @@ module _ {Task Job : Type 0} (saving : Saving Task Job)
         ])
 
     -- it rests on no file that a save changes
-    pub ready_same : (c : Checkpoint) (left : ℕ) (folder : Folder) (f : FileNo) (n : ℕ) → Ready saving makes operands step next budget sweep task job turns c left folder → saving.rests c f n
+    pub ready_same : (c : Checkpoint) (left : ℕ) (folder : Folder) (f : FileNo) (n : ℕ) → Ready saving makes operands step next sweep task job turns c left folder → saving.rests c f n
         → (f ≢ checkpoint_file c.step) × (f ≢ checkpoint_gate c.step)
     ready_same c left folder f n o is = let place = apart c (saving.text task) f n o.fits is in (place.no_points, place.no_gate)
 
     -- an image in which it is the last one that is gated
-    pub ready_goes_on : (c : Checkpoint) (left : ℕ) (old m : Moment) (image : Image) → AreFiles old.folder → Ready saving makes operands step next budget sweep task job turns c left old.folder
-        → DuringSave c old m → IsImage m.folder image → IsLast c (bytes_in image) → GoesOn saving step budget sweep task job turns (bytes_in image)
+    pub ready_goes_on : (c : Checkpoint) (left : ℕ) (old m : Moment) (image : Image) → AreFiles old.folder → Ready saving makes operands step next sweep task job turns c left old.folder
+        → DuringSave c old m → IsImage m.folder image → IsLast c (bytes_in image) → GoesOn saving step sweep task job turns (bytes_in image)
     ready_goes_on c left old m image are_files o saves is_image last = record {
       point = c;
       last = subst (λ k. last_gated k (bytes_in image) ≡ Some (point_bytes c)) o.step_is last;
@@ -258,8 +258,8 @@ module _ {Task Job : Type 0} (saving : Saving Task Job)
     }
 
     -- behind the save the step can go on from it, in each image
-    unfoldable pub ready_saved : (c : Checkpoint) (left : ℕ) (old m : Moment) → Ready saving makes operands step next budget sweep task job turns c left old.folder → DuringSave c old m → IsSaved c old.folder m.folder
-        → Stands saving makes operands step next budget sweep task job turns m.folder
+    unfoldable pub ready_saved : (c : Checkpoint) (left : ℕ) (old m : Moment) → Ready saving makes operands step next sweep task job turns c left old.folder → DuringSave c old m → IsSaved c old.folder m.folder
+        → Stands saving makes operands step next sweep task job turns m.folder
     ready_saved c left old m o saves saved =
         let whole : length (point_bytes c) ≡ 16384 = length_point c o.words in
         let gate_bytes : List ℕ = (file_in old.folder (checkpoint_gate c.step)).bytes in

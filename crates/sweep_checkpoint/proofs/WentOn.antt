@@ -67,24 +67,24 @@ as_before_as makes makes_now step next old r made making agrees = record {
 }
 
 -- where the sweep has come to: nothing was saved yet, or the last checkpoint is one of it
-abbrev pub HasCome : {Task Job : Type 0} → Saving Task Job → (FileNo → Type 0) → (FileNo → Type 0) → ℕ → ℕ → ℕ → ℕ → Task → Job → ℕ → ℕ → Moment → Moment → Type 0
-HasCome saving makes operands step next budget sweep task job turns later old m = OnlySaved makes step next old m
-    ⊎ Stands saving makes operands step later budget sweep task job turns m.folder
+abbrev pub HasCome : {Task Job : Type 0} → Saving Task Job → (FileNo → Type 0) → (FileNo → Type 0) → ℕ → ℕ → ℕ → Task → Job → ℕ → ℕ → Moment → Moment → Type 0
+HasCome saving makes operands step next sweep task job turns later old m = OnlySaved makes step next old m
+    ⊎ Stands saving makes operands step later sweep task job turns m.folder
 
 -- from the first moment on: what a stop may leave, and where the sweep has come to
-pub record Stage {Task Job : Type 0} (saving : Saving Task Job) (makes operands : FileNo → Type 0) (step next budget sweep : ℕ) (task : Task) (job : Job) (turns later : ℕ)
+pub record Stage {Task Job : Type 0} (saving : Saving Task Job) (makes operands : FileNo → Type 0) (step next sweep : ℕ) (task : Task) (job : Job) (turns later : ℕ)
     (old at : World) : Type 0 where
   pub more : next ≤ later
-  pub images : Throughout old at (AreLeft saving makes step next budget sweep task job turns (now old).folder)
-  pub come : HasCome saving makes operands step next budget sweep task job turns later (now old) (now at)
+  pub images : Throughout old at (AreLeft saving makes step next sweep task job turns (now old).folder)
+  pub come : HasCome saving makes operands step next sweep task job turns later (now old) (now at)
 
 module _ {Task Job : Type 0} (saving : Saving Task Job)
     (stays : (c : Checkpoint) (text : List ℕ) (old new : FileNo → List ℕ) (job : Job) (turns : ℕ) → saving.fits c text
     → ((f : FileNo) (n : ℕ) → saving.rests c f n → take n (new f) ≡ take n (old f))
     → saving.stands c text old job turns → saving.stands c text new job turns)
     (apart : (c : Checkpoint) (text : List ℕ) (f : FileNo) (n : ℕ) → saving.fits c text → saving.rests c f n → IsRestingPlace c f)
-    (makes operands : FileNo → Type 0) (step next budget sweep : ℕ) (task : Task) (job : Job) (turns : ℕ) where
-  goes_on_more : (fewer : ℕ) (r : FileNo → List ℕ) → fewer ≤ turns → GoesOn saving step budget sweep task job fewer r → GoesOn saving step budget sweep task job turns r
+    (makes operands : FileNo → Type 0) (step next sweep : ℕ) (task : Task) (job : Job) (turns : ℕ) where
+  goes_on_more : (fewer : ℕ) (r : FileNo → List ℕ) → fewer ≤ turns → GoesOn saving step sweep task job fewer r → GoesOn saving step sweep task job turns r
   goes_on_more fewer r less g = record {
     point = g.point;
     last = g.last;
@@ -100,7 +100,7 @@ module _ {Task Job : Type 0} (saving : Saving Task Job)
   }
 
   stands_as : (makes_now : FileNo → Type 0) (later fewer : ℕ) (folder : Folder) → ((f : FileNo) → makes_now f → makes f) → ((f : FileNo) → makes f → makes_now f)
-      → fewer ≤ turns → Stands saving makes_now operands step later budget sweep task job fewer folder → Stands saving makes operands step later budget sweep task job turns folder
+      → fewer ≤ turns → Stands saving makes_now operands step later sweep task job fewer folder → Stands saving makes operands step later sweep task job turns folder
   unfolding goes_on_more
   stands_as makes_now later fewer folder made making less s = record {
     goes_on = goes_on_more fewer _ less s.goes_on;
@@ -119,14 +119,14 @@ module _ {Task Job : Type 0} (saving : Saving Task Job)
 
   -- what a stop may leave behind that moment, it may leave from the first one on
   pub left_on : (makes_now : FileNo → Type 0) (later fewer : ℕ) (old mid m : Moment) → ((f : FileNo) → makes_now f → makes f) → ((f : FileNo) → makes f → makes_now f)
-      → AreFiles old.folder → IsOfStep makes operands step next → next ≤ later → fewer ≤ turns → HasCome saving makes operands step next budget sweep task job turns later old mid
-      → AreLeft saving makes_now step later budget sweep task job fewer mid.folder m → AreLeft saving makes step next budget sweep task job turns old.folder m
+      → AreFiles old.folder → IsOfStep makes operands step next → next ≤ later → fewer ≤ turns → HasCome saving makes operands step next sweep task job turns later old mid
+      → AreLeft saving makes_now step later sweep task job fewer mid.folder m → AreLeft saving makes step next sweep task job turns old.folder m
   left_on makes_now later fewer old mid m made making are_files files more less come left = λ image is_image. elim (left image is_image) [
     | inl agrees ↦
         let now_agrees : IsAsBefore makes step later mid.folder (bytes_in image) = as_before_as makes makes_now step later mid.folder (bytes_in image) made making agrees in
         elim come [
           | inl saved ↦ inl (as_before_then makes operands step next later old mid (bytes_in image) are_files files more saved now_agrees)
-          | inr stood ↦ inr (as_before_stands saving stays apart makes operands step later budget sweep task job turns mid.folder (bytes_in image)
+          | inr stood ↦ inr (as_before_stands saving stays apart makes operands step later sweep task job turns mid.folder (bytes_in image)
               (of_step_later makes operands step next later more files) stood now_agrees)
         ]
     | inr goes ↦ inr (goes_on_more fewer (bytes_in image) less goes)
@@ -134,48 +134,48 @@ module _ {Task Job : Type 0} (saving : Saving Task Job)
 
   -- and so where it has come to
   pub come_on : (makes_now : FileNo → Type 0) (later last fewer : ℕ) (old mid m : Moment) → ((f : FileNo) → makes_now f → makes f) → ((f : FileNo) → makes f → makes_now f)
-      → AreFiles mid.folder → IsOfStep makes operands step next → next ≤ later → later ≤ last → fewer ≤ turns → HasCome saving makes operands step next budget sweep task job turns later old mid
-      → (OnlySaved makes_now step later mid m ⊎ Stands saving makes_now operands step last budget sweep task job fewer m.folder)
-      → HasCome saving makes operands step next budget sweep task job turns last old m
+      → AreFiles mid.folder → IsOfStep makes operands step next → next ≤ later → later ≤ last → fewer ≤ turns → HasCome saving makes operands step next sweep task job turns later old mid
+      → (OnlySaved makes_now step later mid m ⊎ Stands saving makes_now operands step last sweep task job fewer m.folder)
+      → HasCome saving makes operands step next sweep task job turns last old m
   come_on makes_now later last fewer old mid m made making mid_files files more again less come (inr stood) = inr (stands_as makes_now last fewer m.folder made making less stood)
   come_on makes_now later last fewer old mid m made making mid_files files more again less come (inl saved) =
       let now_saved : OnlySaved makes step later mid m = saved_as makes makes_now step later mid m made making saved in
       elim come [
         | inl first ↦ inl (saved_then makes step next later old mid m more first now_saved)
-        | inr stood ↦ inr (stands_later saving stays apart makes operands step later budget sweep task job turns last m.folder again
-            (stands_saved saving stays apart makes operands step later budget sweep task job turns mid m mid_files
+        | inr stood ↦ inr (stands_later saving stays apart makes operands step later sweep task job turns last m.folder again
+            (stands_saved saving stays apart makes operands step later sweep task job turns mid m mid_files
             (of_step_later makes operands step next later more files) stood now_saved))
       ]
 
   -- over runs of calls, the second of which began where the sweep has come to
   pub images_on : (makes_now : FileNo → Type 0) (later fewer : ℕ) (old mid new : World) → ((f : FileNo) → makes_now f → makes f) → ((f : FileNo) → makes f → makes_now f)
-      → AreFiles (now old).folder → IsOfStep makes operands step next → next ≤ later → fewer ≤ turns → HasCome saving makes operands step next budget sweep task job turns later (now old) (now mid)
-      → Throughout old mid (AreLeft saving makes step next budget sweep task job turns (now old).folder)
-      → Throughout mid new (AreLeft saving makes_now step later budget sweep task job fewer (now mid).folder)
-      → Throughout old new (AreLeft saving makes step next budget sweep task job turns (now old).folder)
+      → AreFiles (now old).folder → IsOfStep makes operands step next → next ≤ later → fewer ≤ turns → HasCome saving makes operands step next sweep task job turns later (now old) (now mid)
+      → Throughout old mid (AreLeft saving makes step next sweep task job turns (now old).folder)
+      → Throughout mid new (AreLeft saving makes_now step later sweep task job fewer (now mid).folder)
+      → Throughout old new (AreLeft saving makes step next sweep task job turns (now old).folder)
   images_on makes_now later fewer old mid new made making are_files files more less come first second =
-      joins old mid new (AreLeft saving makes step next budget sweep task job turns (now old).folder) first
-      (weakens mid new (AreLeft saving makes_now step later budget sweep task job fewer (now mid).folder) (AreLeft saving makes step next budget sweep task job turns (now old).folder)
+      joins old mid new (AreLeft saving makes step next sweep task job turns (now old).folder) first
+      (weakens mid new (AreLeft saving makes_now step later sweep task job fewer (now mid).folder) (AreLeft saving makes step next sweep task job turns (now old).folder)
       (λ m left. left_on makes_now later fewer (now old) (now mid) m made making are_files files more less come left) second)
 
   -- turns leave images of before
   pub turns_left : (old new : World) → AreFiles (now old).folder → IsOfStep makes operands step next → Ran (OnlyOwn makes step next (now old)) old new
-      → Throughout old new (AreLeft saving makes step next budget sweep task job turns (now old).folder)
-  turns_left old new are_files files run = moments old new (OnlyOwn makes step next (now old)) (AreLeft saving makes step next budget sweep task job turns (now old).folder)
+      → Throughout old new (AreLeft saving makes step next sweep task job turns (now old).folder)
+  turns_left old new are_files files run = moments old new (OnlyOwn makes step next (now old)) (AreLeft saving makes step next sweep task job turns (now old).folder)
       (λ m own image is_image. inl (as_before makes operands step next (now old) m image are_files files (own_saved makes step next (now old) m own) is_image)) run
 
   -- before the first call
   pub images_none : (w : World) → AreFiles (now w).folder → IsOfStep makes operands step next
-      → Throughout w w (AreLeft saving makes step next budget sweep task job turns (now w).folder)
-  images_none w are_files files = stands w (AreLeft saving makes step next budget sweep task job turns (now w).folder)
+      → Throughout w w (AreLeft saving makes step next sweep task job turns (now w).folder)
+  images_none w are_files files = stands w (AreLeft saving makes step next sweep task job turns (now w).folder)
       (λ image is_image. inl (as_before makes operands step next (now w) (now w) image are_files files (saved_none makes step next (now w)) is_image))
 
   -- once the sweep was saved, if that was due
   pub stage_save : (makes_now : FileNo → Type 0) (later last fewer : ℕ) (old at new : World) → ((f : FileNo) → makes_now f → makes f) → ((f : FileNo) → makes f → makes_now f)
-      → AreFiles (now old).folder → AreFiles (now at).folder → IsOfStep makes operands step next → later ≤ last → fewer ≤ turns → Stage saving makes operands step next budget sweep task job turns later old at
-      → Throughout at new (AreLeft saving makes_now step later budget sweep task job fewer (now at).folder)
-      → (OnlySaved makes_now step later (now at) (now new) ⊎ Stands saving makes_now operands step last budget sweep task job fewer (now new).folder)
-      → Stage saving makes operands step next budget sweep task job turns last old new
+      → AreFiles (now old).folder → AreFiles (now at).folder → IsOfStep makes operands step next → later ≤ last → fewer ≤ turns → Stage saving makes operands step next sweep task job turns later old at
+      → Throughout at new (AreLeft saving makes_now step later sweep task job fewer (now at).folder)
+      → (OnlySaved makes_now step later (now at) (now new) ⊎ Stands saving makes_now operands step last sweep task job fewer (now new).folder)
+      → Stage saving makes operands step next sweep task job turns last old new
   stage_save makes_now later last fewer old at new made making are_files at_files files again less stage left come = record {
     more = let more = stage.more in omega (arith, more, again);
     images = images_on makes_now later fewer old at new made making are_files files stage.more less stage.come stage.images left;
@@ -184,41 +184,39 @@ module _ {Task Job : Type 0} (saving : Saving Task Job)
 
   -- once turns were made
   pub stage_turns : (makes_now : FileNo → Type 0) (later last : ℕ) (old at new : World) → ((f : FileNo) → makes_now f → makes f) → ((f : FileNo) → makes f → makes_now f)
-      → AreFiles (now old).folder → AreFiles (now at).folder → IsOfStep makes operands step next → later ≤ last → Stage saving makes operands step next budget sweep task job turns later old at
-      → Ran (OnlyOwn makes_now step later (now at)) at new → Stage saving makes operands step next budget sweep task job turns last old new
+      → AreFiles (now old).folder → AreFiles (now at).folder → IsOfStep makes operands step next → later ≤ last → Stage saving makes operands step next sweep task job turns later old at
+      → Ran (OnlyOwn makes_now step later (now at)) at new → Stage saving makes operands step next sweep task job turns last old new
   stage_turns makes_now later last old at new made making are_files at_files files again stage run =
       let then : IsOfStep makes operands step later = of_step_later makes operands step next later stage.more files in
       let own : Ran (OnlyOwn makes step later (now at)) at new = ran_weakens at new (OnlyOwn makes_now step later (now at)) (OnlyOwn makes step later (now at))
       (λ m only. record { others = λ f other apart. only.others f (λ mine. other (made f mine)) apart; kept = λ f mine. only.kept f (making f mine) }) run in
-      let left : Throughout at new (AreLeft saving makes step later budget sweep task job turns (now at).folder) =
-      moments at new (OnlyOwn makes step later (now at)) (AreLeft saving makes step later budget sweep task job turns (now at).folder)
+      let left : Throughout at new (AreLeft saving makes step later sweep task job turns (now at).folder) =
+      moments at new (OnlyOwn makes step later (now at)) (AreLeft saving makes step later sweep task job turns (now at).folder)
       (λ m only image is_image. inl (as_before makes operands step later (now at) m image at_files then (own_saved makes step later (now at) m only) is_image)) own in
       stage_save makes later last turns old at new (λ f mine. mine) (λ f mine. mine) are_files at_files files again (omega arith) stage left
       (inl (own_saved makes step later (now at) (now new) (ran_end at new (OnlyOwn makes step later (now at)) own)))
 
 -- the same under other numbers and another task that are the same
-module _ {Task Job : Type 0} (saving : Saving Task Job) (t t0 : Task) (s s0 b b0 v v0 : ℕ) (task_is : t ≡ t0) (step_is : s ≡ s0) (budget_is : b ≡ b0) (sweep_is : v ≡ v0) where
+module _ {Task Job : Type 0} (saving : Saving Task Job) (t t0 : Task) (s s0 v v0 : ℕ) (task_is : t ≡ t0) (step_is : s ≡ s0) (sweep_is : v ≡ v0) where
   pub left_of : (makes : FileNo → Type 0) (next : ℕ) (job : Job) (turns : ℕ) (old new : World) (folder : Folder)
-      → Throughout old new (AreLeft saving makes s next b v t job turns folder) → Throughout old new (AreLeft saving makes s0 next b0 v0 t0 job turns folder)
+      → Throughout old new (AreLeft saving makes s next v t job turns folder) → Throughout old new (AreLeft saving makes s0 next v0 t0 job turns folder)
   left_of makes next job turns old new folder left =
-      subst (λ k. Throughout old new (AreLeft saving makes s0 next b0 v0 k job turns folder)) task_is
-      (subst (λ k. Throughout old new (AreLeft saving makes s0 next b0 k t job turns folder)) sweep_is
-      (subst (λ k. Throughout old new (AreLeft saving makes s0 next k v t job turns folder)) budget_is
-      (subst (λ k. Throughout old new (AreLeft saving makes k next b v t job turns folder)) step_is left)))
+      subst (λ k. Throughout old new (AreLeft saving makes s0 next v0 k job turns folder)) task_is
+      (subst (λ k. Throughout old new (AreLeft saving makes s0 next k t job turns folder)) sweep_is
+      (subst (λ k. Throughout old new (AreLeft saving makes k next v t job turns folder)) step_is left))
 
   pub come_of : (makes : FileNo → Type 0) (next later : ℕ) (job : Job) (turns : ℕ) (old new : Moment)
-      → (OnlySaved makes s next old new ⊎ Stands saving makes (saving.operands t) s later b v t job turns new.folder)
-      → OnlySaved makes s0 next old new ⊎ Stands saving makes (saving.operands t0) s0 later b0 v0 t0 job turns new.folder
+      → (OnlySaved makes s next old new ⊎ Stands saving makes (saving.operands t) s later v t job turns new.folder)
+      → OnlySaved makes s0 next old new ⊎ Stands saving makes (saving.operands t0) s0 later v0 t0 job turns new.folder
   come_of makes next later job turns old new (inl saved) = inl (subst (λ k. OnlySaved makes k next old new) step_is saved)
   come_of makes next later job turns old new (inr stood) = inr
-      (subst (λ k. Stands saving makes (saving.operands k) s0 later b0 v0 k job turns new.folder) task_is
-      (subst (λ k. Stands saving makes (saving.operands t) s0 later b0 k t job turns new.folder) sweep_is
-      (subst (λ k. Stands saving makes (saving.operands t) s0 later k v t job turns new.folder) budget_is
-      (subst (λ k. Stands saving makes (saving.operands t) k later b v t job turns new.folder) step_is stood))))
+      (subst (λ k. Stands saving makes (saving.operands k) s0 later v0 k job turns new.folder) task_is
+      (subst (λ k. Stands saving makes (saving.operands t) s0 later k t job turns new.folder) sweep_is
+      (subst (λ k. Stands saving makes (saving.operands t) k later v t job turns new.folder) step_is stood)))
 
   -- what was sure is sure
   pub sure_of : {turns : ℕ} (makes : FileNo → Type 0) (next later : ℕ) (job : Job) (old m : Moment) → IsOfStep makes (saving.operands t0) s0 next
-      → HasCome saving makes (saving.operands t0) s0 next b0 v0 t0 job turns later old m
+      → HasCome saving makes (saving.operands t0) s0 next v0 t0 job turns later old m
       → AreSure (saving.operands t0) s0 old.folder → AreSure (saving.operands t) s m.folder
   sure_of makes next later job old m files come sure =
       let here : AreSure (saving.operands t0) s0 m.folder = record {

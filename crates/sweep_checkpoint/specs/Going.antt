@@ -49,10 +49,10 @@ module _ {Task Job : Type 0} (saving : Saving Task Job) where
   -- the last checkpoint that is gated is one of the kind, of the first or the second sweep of its step, and few parts
   -- were taken for its turns; with what the files hold it does the job, and with the turns that were made before it no
   -- more than so many are needed
-  pub record GoesOn (step budget sweep : ℕ) (task : Task) (job : Job) (turns : ℕ) (r : FileNo → List ℕ) : Type 0 where
+  pub record GoesOn (step sweep : ℕ) (task : Task) (job : Job) (turns : ℕ) (r : FileNo → List ℕ) : Type 0 where
     pub point : Checkpoint
     pub last : last_gated step r ≡ Some (point_bytes point)
-    pub rules : KeepsRules step budget point
+    pub rules : KeepsRules step point
     pub paid : IsPaid point
     pub sweep_is : point.sweep ≡ sweep
     pub words : Fits point
@@ -64,9 +64,9 @@ module _ {Task Job : Type 0} (saving : Saving Task Job) where
 
   -- so it is in each image of the folder: the gate is sure, and so are the operands, which no sweep of the step writes
   -- from there on, and all that the checkpoint rests on
-  pub record Stands (makes operands : FileNo → Type 0) (step next budget sweep : ℕ) (task : Task) (job : Job)
+  pub record Stands (makes operands : FileNo → Type 0) (step next sweep : ℕ) (task : Task) (job : Job)
       (turns : ℕ) (folder : Folder) : Type 0 where
-    pub goes_on : GoesOn step budget sweep task job turns (present folder)
+    pub goes_on : GoesOn step sweep task job turns (present folder)
     pub gate : IsGateSure step folder
     pub points : gated_size step folder ≤ (file_in folder (checkpoint_file step)).firm
     pub sure : (f : FileNo) (n : ℕ) → saving.rests goes_on.point f n

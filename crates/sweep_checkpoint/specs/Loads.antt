@@ -20,36 +20,36 @@ pub record DuringLoad (step : ℕ) (old m : Moment) : Type 0 where
   pub images : OnlyOldImages old m
 
 -- none where nothing is gated, and else the checkpoint that the last gated bytes are
-abbrev pub Tells : ℕ → ℕ → Option (List ℕ) → Option Checkpoint → Type 0
-Tells step budget None None = Unit
-Tells step budget None (Some c) = ⊥
-Tells step budget (Some bytes) None = ⊥
-Tells step budget (Some bytes) (Some c) = IsPointOf step budget bytes c
+abbrev pub Tells : ℕ → Option (List ℕ) → Option Checkpoint → Type 0
+Tells step None None = Unit
+Tells step None (Some c) = ⊥
+Tells step (Some bytes) None = ⊥
+Tells step (Some bytes) (Some c) = IsPointOf step bytes c
 
 -- after a load: the gate is sure, and what was found is what it counts last
-pub record IsLoaded (step budget : ℕ) (folder : Folder) (found : Option Checkpoint) : Type 0 where
+pub record IsLoaded (step : ℕ) (folder : Folder) (found : Option Checkpoint) : Type 0 where
   pub sure : IsGateSure step folder
-  pub last : Tells step budget (last_gated step (present folder)) found
+  pub last : Tells step (last_gated step (present folder)) found
 
 -- damage is at the place of the last gated checkpoint, where its bytes are none that keeps the rules
-abbrev pub IsLoadFault : ℕ → ℕ → (FileNo → List ℕ) → StreamFault → Type 0
-IsLoadFault step budget r Shelf = Unit
-IsLoadFault step budget r (Damaged f at) = (f ≡ checkpoint_file step) × (at ≡ gated_place step r)
-    × ((bytes : List ℕ) × (last_gated step r ≡ Some bytes) × ((c : Checkpoint) → ¬ (IsPointOf step budget bytes c)))
+abbrev pub IsLoadFault : ℕ → (FileNo → List ℕ) → StreamFault → Type 0
+IsLoadFault step r Shelf = Unit
+IsLoadFault step r (Damaged f at) = (f ≡ checkpoint_file step) × (at ≡ gated_place step r)
+    × ((bytes : List ℕ) × (last_gated step r ≡ Some bytes) × ((c : Checkpoint) → ¬ (IsPointOf step bytes c)))
 
 -- the bytes of a checkpoint at a place, or fewer where the file ends
 abbrev pub bytes_at : ℕ → List ℕ → List ℕ
 bytes_at at bytes = take point_size (drop at bytes)
 
 -- the checkpoint stands at the place
-abbrev pub IsPointAt : ℕ → ℕ → ℕ → List ℕ → Checkpoint → Type 0
-IsPointAt step budget at bytes c = IsPointOf step budget (bytes_at at bytes) c
+abbrev pub IsPointAt : ℕ → ℕ → List ℕ → Checkpoint → Type 0
+IsPointAt step at bytes c = IsPointOf step (bytes_at at bytes) c
 
 -- none does
-abbrev pub IsPointFault : ℕ → ℕ → ℕ → List ℕ → StreamFault → Type 0
-IsPointFault step budget at bytes Shelf = Unit
-IsPointFault step budget at bytes (Damaged f place) = (f ≡ checkpoint_file step) × (place ≡ at)
-    × ((c : Checkpoint) → ¬ (IsPointOf step budget (bytes_at at bytes) c))
+abbrev pub IsPointFault : ℕ → ℕ → List ℕ → StreamFault → Type 0
+IsPointFault step at bytes Shelf = Unit
+IsPointFault step at bytes (Damaged f place) = (f ≡ checkpoint_file step) × (place ≡ at)
+    × ((c : Checkpoint) → ¬ (IsPointOf step (bytes_at at bytes) c))
 
 -- so many bytes from a place on were read, where the file has them
 abbrev pub ReadWhole : List ℕ → ℕ → List ℕ → Bool → Type 0

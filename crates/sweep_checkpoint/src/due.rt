@@ -102,7 +102,7 @@ pub(crate) fn save_if_due<'r, P: Resume<'r>, S: Shelf>(
         Throughout (S.world shelf.old) (S.world shelf.new) (λ (m : Moment). (image : Image) → IsImage m.folder image →
         IsAsBefore (P.accounts.makes sweep.old) going.old.step (P.accounts.next sweep.old)
         (now (S.world shelf.old)).folder (bytes_in image)
-        ⊎ GoesOn P.saving going.old.step going.old.budget going.old.sweep (P.task sweep.old) job
+        ⊎ GoesOn P.saving going.old.step going.old.sweep (P.task sweep.old) job
         (going.old.turns + P.left sweep.old (S.world shelf.old) job) (bytes_in image)) }
     ensures stands { OnOk result (IsTrue (S.tells shelf.new) → (job : P.Job) →
         P.remains sweep.old (S.world shelf.old) job →
@@ -111,7 +111,7 @@ pub(crate) fn save_if_due<'r, P: Resume<'r>, S: Shelf>(
         OnlySaved (P.accounts.makes sweep.old) going.old.step (P.accounts.next sweep.old)
         (now (S.world shelf.old)) (now (S.world shelf.new))
         ⊎ Stands P.saving (P.accounts.makes sweep.old) (P.saving.operands (P.task sweep.old)) going.old.step
-        (P.accounts.next sweep.new) going.old.budget going.old.sweep (P.task sweep.old) job
+        (P.accounts.next sweep.new) going.old.sweep (P.task sweep.old) job
         (going.old.turns + P.left sweep.old (S.world shelf.old) job) (now (S.world shelf.new)).folder) }
     // what a stop leaves shown of the step, where the gate is sure: what it did, or the turns at which it is saved
     ensures shows { IsTrue (S.tells shelf.new) → IsGateSure going.old.step (now (S.world shelf.old)).folder →
@@ -141,7 +141,7 @@ pub(crate) fn save_if_due<'r, P: Resume<'r>, S: Shelf>(
         sweep: going.sweep,
         turns: going.turns,
         next_part: 0,
-        budget: going.budget,
+        budget: going.records(),
         tables: 0,
         carry: [0; 250],
         runs: [[NO_RUN; 64]; 9],

@@ -1,5 +1,5 @@
 //! How far a step has come.
-ghost use Rattle.std.specs.Prelude.{◌≡◌};
+ghost use Rattle.std.specs.Prelude.{◌≡◌, ◌^◌, ◌<◌};
 
 use sweep_core::Checkpoint;
 
@@ -24,8 +24,16 @@ pub struct Going {
 }
 
 impl Going {
-    ghost use Rattle.std.specs.Prelude.{◌-◌};
+    ghost use Rattle.std.specs.Prelude.{◌-◌, ◌^◌, ◌<◌};
     ghost use Rattle.sweep_checkpoint.specs.Going.{interval_of};
+
+    /// The budget, a number of 32 bits.
+    pub fn records(&self) -> u32
+        ensures is { result ≡ self.now.budget }
+        ensures fits { result < 2 ^ 32 }
+    {
+        within_word(self.budget)
+    }
 
     /// How many turns are made between two checkpoints.
     pub fn interval(&self) -> u64
@@ -40,4 +48,12 @@ impl Going {
     {
         self.turns.saturating_sub(self.shown)
     }
+}
+
+// The number, of which its type says that it has 32 bits.
+fn within_word(number: u32) -> u32
+    ensures is { result ≡ number }
+    ensures fits { result < 2 ^ 32 }
+{
+    number
 }

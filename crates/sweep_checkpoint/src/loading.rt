@@ -21,21 +21,18 @@ use sweep_core::Checkpoint;
 // The bytes of a checkpoint in a file.
 const SIZE: u64 = POINT_SIZE as u64;
 
-/// Loads the last checkpoint of a step that is gated, for a run with that budget. None is there where nothing is gated.
+/// Loads the last checkpoint of a step that is gated, whichever budget the run had that wrote it. None is there where
+/// nothing is gated.
 ///
 /// The gate is made sure before its length is read.
-pub fn load<S: Shelf>(
-    step: u32,
-    budget: u32,
-    shelf: &mut S,
-) -> Result<Option<Checkpoint>, StreamFault>
+pub fn load<S: Shelf>(step: u32, shelf: &mut S) -> Result<Option<Checkpoint>, StreamFault>
     ensures content { Told S.tells shelf.old shelf.new
         (Ran (DuringLoad step (now (S.world shelf.old))) (S.world shelf.old) (S.world shelf.new)) }
-    ensures rules { IfOk result (λ found. IfSome found (KeepsRules step budget)) }
+    ensures rules { IfOk result (λ found. IfSome found (KeepsRules step)) }
     ensures ok { IfOk result (λ found. IsTrue (S.tells shelf.new)
-        → IsLoaded step budget (now (S.world shelf.new)).folder found) }
+        → IsLoaded step (now (S.world shelf.new)).folder found) }
     ensures err { IfErr result (λ fault. IsTrue (S.tells shelf.new)
-        → IsLoadFault step budget (present (now (S.world shelf.old)).folder) fault) }
+        → IsLoadFault step (present (now (S.world shelf.old)).folder) fault) }
     ensures calls { IsTrue (S.tells shelf.new)
         → (S.world shelf.new).clock ≤ (S.world shelf.old).clock + 10 }
     ensures few_calls { IfOk result (λ found. IsTrue (S.tells shelf.new) → found ≡ None
@@ -49,27 +46,22 @@ pub fn load<S: Shelf>(
     if count == 0 {
         return Ok(None);
     }
-    match read_point(step, budget, SIZE * (count - 1), shelf) {
+    match read_point(step, SIZE * (count - 1), shelf) {
         Ok(point) => Ok(Some(point)),
         Err(fault) => Err(fault),
     }
 }
 
 // The checkpoint at a place.
-fn read_point<S: Shelf>(
-    step: u32,
-    budget: u32,
-    at: u64,
-    shelf: &mut S,
-) -> Result<Checkpoint, StreamFault>
+fn read_point<S: Shelf>(step: u32, at: u64, shelf: &mut S) -> Result<Checkpoint, StreamFault>
     requires small { at + point_size ≤ 2 ^ 64 }
     ensures content { Told S.tells shelf.old shelf.new
         (Ran (Stays (now (S.world shelf.old))) (S.world shelf.old) (S.world shelf.new)) }
-    ensures rules { IfOk result (KeepsRules step budget) }
+    ensures rules { IfOk result (KeepsRules step) }
     ensures ok { IfOk result (λ point. IsTrue (S.tells shelf.new)
-        → IsPointAt step budget at (file (S.world shelf.old) (checkpoint_file step)).bytes point) }
+        → IsPointAt step at (file (S.world shelf.old) (checkpoint_file step)).bytes point) }
     ensures err { IfErr result (λ fault. IsTrue (S.tells shelf.new)
-        → IsPointFault step budget at (file (S.world shelf.old) (checkpoint_file step)).bytes fault) }
+        → IsPointFault step at (file (S.world shelf.old) (checkpoint_file step)).bytes fault) }
     ensures calls { IsTrue (S.tells shelf.new)
         → (S.world shelf.new).clock ≤ (S.world shelf.old).clock + 8 }
     ensures faults { OnlyShelf (S.faults shelf.old) (S.faults shelf.new) result }
@@ -81,7 +73,7 @@ fn read_point<S: Shelf>(
     if !whole {
         return Err(damaged);
     }
-    let Some(point) = point_of(&bytes, step, budget) else {
+    let Some(point) = point_of(&bytes, step) else {
         return Err(damaged);
     };
     Ok(point)

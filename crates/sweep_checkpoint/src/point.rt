@@ -14,6 +14,9 @@ use sweep_core::Checkpoint;
 /// The most parts of a step.
 const MOST_PARTS: u64 = 1 << 32;
 
+/// A number of records has 32 bits.
+const MOST_RECORDS: u64 = (1 << 32) - 1;
+
 /// The turns of a step are fewer.
 const TURNS_END: u64 = 1 << 62;
 
@@ -94,17 +97,17 @@ fn read_tables(bytes: &[u8], tables: &mut [[Run; 64]])
     }
 }
 
-/// The checkpoint that the bytes are, where they keep the rules for a step and a budget. It takes no memory.
+/// The checkpoint that the bytes are, where they keep the rules for a step. It takes no memory.
 ///
 /// What stands behind the tables, and in words and tables that aren't in use, is not looked at.
-pub fn point_of(bytes: &[u8; POINT_SIZE], step: u32, budget: u32) -> Option<Checkpoint>
-    ensures found { IfSome result (IsPointOf step budget bytes.now) }
-    ensures only { (c : Checkpoint) → IsPointOf step budget bytes.now c → result ≡ Some c }
+pub fn point_of(bytes: &[u8; POINT_SIZE], step: u32) -> Option<Checkpoint>
+    ensures found { IfSome result (IsPointOf step bytes.now) }
+    ensures only { (c : Checkpoint) → IsPointOf step bytes.now c → result ≡ Some c }
 {
     let mut head = [0u64; 6];
     read_words(&bytes[..HEAD_END], &mut head);
     let [number, sweep, turns, next_part, records, tables] = head;
-    if number != u64::from(step) || records != u64::from(budget) {
+    if number != u64::from(step) || records > MOST_RECORDS {
         return None;
     }
     if sweep > 1 || next_part < 3 || next_part > MOST_PARTS || tables > 9 || turns >= TURNS_END {
@@ -115,7 +118,7 @@ pub fn point_of(bytes: &[u8; POINT_SIZE], step: u32, budget: u32) -> Option<Chec
         sweep: sweep as u32,
         turns,
         next_part,
-        budget,
+        budget: records as u32,
         tables: tables as u32,
         carry: [0; 250],
         runs: [[NO_RUN; 64]; 9],

@@ -3,6 +3,7 @@ use Rattle.std.proofs.lemmas.List.{length-take-le, length-drop}
 use Rattle.std.specs.Prelude.{IsTrue, Ok, Err}
 use Rattle.std.specs.List.{list_all}
 use Rattle.shelf_model.specs.Calls.{Told}
+use Rattle.catalogue.proofs.Budget.{length-without_budget}
 use Rattle.sound_image.specs.Jobs.{Job}
 use Rattle.script_reader.specs.declared.plan.LineEnd.{LineEnd}
 use Rattle.script_reader.specs.Lines.{rise_from, shows_past}
@@ -15,50 +16,50 @@ use Rattle.script_runner.proofs.Shown.{below_next}
 use Rattle.script_runner.proofs.RunSteps.{done_at, plan_in}
 use Rattle.script_runner.proofs.Paying.{unpaid, unpaid_few, none_unpaid}
 use Rattle.script_runner.proofs.Saying.{told_second}
-use Rattle.script_runner.proofs.Turns.{Turn, not_attached, refuses_job, refuses_damage, says_banner, stopped_saying, stops_step, takes_step, is_ready, made_stands, stops_lines, said_lines, says_done, is_done, taken_in, is_counted, counted_in, calls_of_one_more, calls_before_all}
-use Rattle.script_runner.proofs.RunPaying.{PaysSoFar, spent_at, rest_few, attach_stops, banner_so_far, stopped_step, taken_step, lines_said, ends_so, paid_in_room, pays_in_room}
+use Rattle.script_runner.proofs.Turns.{Turn, not_attached, refuses_job, refuses_damage, says_banner, stopped_saying, stops_step, takes_step, is_ready, made_stands, stops_lines, said_lines, says_done, is_done, is_counted, calls_of_one_more, calls_before_all}
+use Rattle.script_runner.proofs.RunPaying.{PaysSoFar, spent_at, rest_few, attach_stops, banner_so_far, stopped_step, taken_step, lines_said, ends_so}
 use Rattle.script_runner.proofs.run.run_job.Goals as goal
 
 pub returns-in-Err-Shelf-clause-content : goal.returns-in-Err-Shelf-clause-content
 returns-in-Err-Shelf-clause-content g c =
-    let job : Job = job_in (length c.args.room.now) c.args.job.now in
-    let plan = plan_in (length c.args.room.now) c.args.job.now in
-    not_attached g.W.Shelf.tells g.W.Shelf.world (λ s told f. g.met.W.Shelf.files_are s told f) job c.args.job.now.lines.now plan _ _ c.in-Err-Shelf.ensures.content
+    let job : Job = job_in c.args.job.now in
+    let plan = plan_in c.args.job.now in
+    not_attached g.W.Shelf.tells g.W.Shelf.world (λ s told f. g.met.W.Shelf.files_are s told f) job c.args.job.now.lines.now plan c.args.job.now.bytes.now _ _ refl c.in-Err-Shelf.ensures.content
 
 pub returns-in-Err-Damaged-clause-content : goal.returns-in-Err-Damaged-clause-content
 returns-in-Err-Damaged-clause-content g c =
-    let job : Job = job_in (length c.args.room.now) c.args.job.now in
-    let plan = plan_in (length c.args.room.now) c.args.job.now in
-    refuses_damage g.W.Shelf.tells g.W.Shelf.world (λ s told f. g.met.W.Shelf.files_are s told f) job c.args.job.now.lines.now plan c.in-Err-Damaged.field-0 _ c.in-Err-Damaged.file c.in-Err-Damaged.at _ _ c.in-Err-Damaged.field-0-is refl
+    let job : Job = job_in c.args.job.now in
+    let plan = plan_in c.args.job.now in
+    refuses_damage g.W.Shelf.tells g.W.Shelf.world (λ s told f. g.met.W.Shelf.files_are s told f) job c.args.job.now.lines.now plan c.args.job.now.bytes.now c.in-Err-Damaged.field-0 _ c.in-Err-Damaged.file c.in-Err-Damaged.at _ _ refl c.in-Err-Damaged.field-0-is refl
     c.in-Err-Damaged.ensures.content (λ t. c.in-Err-Damaged.ensures.answer t (λ e. let fault = c.in-Err-Damaged.field-0-is in cc))
 
 pub returns-in-Err-OtherJob-clause-content : goal.returns-in-Err-OtherJob-clause-content
 returns-in-Err-OtherJob-clause-content g c =
-    let job : Job = job_in (length c.args.room.now) c.args.job.now in
-    let plan = plan_in (length c.args.room.now) c.args.job.now in
-    refuses_job g.W.Shelf.tells g.W.Shelf.world (λ s told f. g.met.W.Shelf.files_are s told f) job c.args.job.now.lines.now plan c.in-Err-OtherJob.field-0 _ c.in-Err-OtherJob.at _ _ c.in-Err-OtherJob.field-0-is refl
+    let job : Job = job_in c.args.job.now in
+    let plan = plan_in c.args.job.now in
+    refuses_job g.W.Shelf.tells g.W.Shelf.world (λ s told f. g.met.W.Shelf.files_are s told f) job c.args.job.now.lines.now plan c.args.job.now.bytes.now c.in-Err-OtherJob.field-0 _ c.in-Err-OtherJob.at _ _ refl c.in-Err-OtherJob.field-0-is refl
     c.in-Err-OtherJob.ensures.content (λ t. c.in-Err-OtherJob.ensures.answer t (λ e. let fault = c.in-Err-OtherJob.field-0-is in cc))
 
 pub returns-in_default-clause-content : goal.returns-in_default-clause-content
 returns-in_default-clause-content g c =
-    let job : Job = job_in (length c.args.room.now) c.args.job.now in
-    let plan = plan_in (length c.args.room.now) c.args.job.now in
+    let job : Job = job_in c.args.job.now in
+    let plan = plan_in c.args.job.now in
     stopped_saying g.W.Shelf.tells g.W.Shelf.world (λ s told f. g.met.W.Shelf.files_are s told f) job c.args.job.now.lines.now plan _ _
-    (says_banner g.W.Shelf.tells g.W.Shelf.world (λ s told f. g.met.W.Shelf.files_are s told f) job c.args.job.now.lines.now plan c.in-Ok.standing c.count_before-before.result c.as_bytes.result.now _ _ _ _
+    (says_banner g.W.Shelf.tells g.W.Shelf.world (λ s told f. g.met.W.Shelf.files_are s told f) job c.args.job.now.lines.now plan c.args.job.now.bytes.now c.in-Ok.standing c.count_before-before.result c.as_bytes.result.now _ _ _ _ refl
     c.in-Ok.ensures.content (λ t. c.in-Ok.ensures.answer t (λ e. cc)) c.in-Ok.ensures.ok
     c.count_before-before.ensures.within c.count_before-before.ensures.front c.count_before-before.ensures.rest
     (c.as_bytes.ensures.value ∙ c.as_str.ensures.value ∙ c.banner_line-banner.ensures.text) c.in_default.ensures.content)
 
 pub loop-step-init : goal.loop-step-init
 loop-step-init g c =
-    let job : Job = job_in (length c.args.room.now) c.args.job.now in
-    let plan = plan_in (length c.args.room.now) c.args.job.now in
+    let job : Job = job_in c.args.job.now in
+    let plan = plan_in c.args.job.now in
     let attach_faults = c.in-Ok.ensures.faults in
     let say_faults = c.in-Ok-say.ensures.faults in
     let rest : c.split_at.result.1.now ≡ drop c.count_before-before.result c.args.job.now.lines.now = c.split_at.ensures.back in
     record {
       so_far = subst (λ (ls : List LineEnd). Told g.W.Shelf.tells c.args.station.now c.say.new.self (Turn job c.args.job.now.lines.now c.in-Ok.standing.done ls (g.W.Shelf.world c.args.station.now) (g.W.Shelf.world c.say.new.self))) (sym rest)
-          (told_second g.W.Shelf.tells g.W.Shelf.world _ _ _ _ (says_banner g.W.Shelf.tells g.W.Shelf.world (λ s told f. g.met.W.Shelf.files_are s told f) job c.args.job.now.lines.now plan c.in-Ok.standing c.count_before-before.result c.as_bytes.result.now _ _ _ _
+          (told_second g.W.Shelf.tells g.W.Shelf.world _ _ _ _ (says_banner g.W.Shelf.tells g.W.Shelf.world (λ s told f. g.met.W.Shelf.files_are s told f) job c.args.job.now.lines.now plan c.args.job.now.bytes.now c.in-Ok.standing c.count_before-before.result c.as_bytes.result.now _ _ _ _ refl
           c.in-Ok.ensures.content (λ t. c.in-Ok.ensures.answer t (λ e. cc)) c.in-Ok.ensures.ok
           c.count_before-before.ensures.within c.count_before-before.ensures.front c.count_before-before.ensures.rest
           (c.as_bytes.ensures.value ∙ c.as_str.ensures.value ∙ c.banner_line-banner.ensures.text) c.in-Ok-say.ensures.content));
@@ -68,12 +69,13 @@ loop-step-init g c =
           let attached = c.in-Ok.ensures.calls (c.in-Ok-say.ensures.content.before t) in
           let left : length c.split_at.result.1.now ≡ length c.args.job.now.lines.now - c.count_before-before.result =
           ap length rest ∙ length-drop c.count_before-before.result c.args.job.now.lines.now in
-          omega (arith, clock, attached, left, few);
+          let size = length-without_budget c.args.job.now.bytes.now in
+          omega (arith, clock, attached, left, few, size);
       paid = λ t paid rest_calls is.
           let said = (c.in-Ok-say.ensures.content.did t).elsewhere in
           let told_mid = c.in-Ok-say.ensures.content.before t in
-          banner_so_far g.W.Shelf.tells g.W.Shelf.world (λ s told f. g.met.W.Shelf.files_are s told f) job (length c.args.job.now.lines.now) _ _ _ c.in-Ok.ensures.content told_mid
-          (c.in-Ok.ensures.calls told_mid) said.ticks said.folder_is (length c.split_at.result.1.now) c.in-Ok.standing.done paid rest_calls is;
+          banner_so_far g.W.Shelf.tells g.W.Shelf.world (λ s told f. g.met.W.Shelf.files_are s told f) job (length c.args.job.now.lines.now) c.args.job.now.bytes.now _ _ _
+          (sym (length-without_budget c.args.job.now.bytes.now)) c.in-Ok.ensures.content told_mid (c.in-Ok.ensures.calls told_mid) said.ticks said.folder_is (length c.split_at.result.1.now) c.in-Ok.standing.done paid rest_calls is;
       rise = subst (λ (ls : List LineEnd). IsTrue (rise_from c.in-Ok.standing.done ls)) (sym rest) c.count_before-before.ensures.rest;
       shown = subst (λ (ls : List LineEnd). IsTrue (list_all (shows_past (length c.args.job.now.steps.now)) ls)) (sym rest)
           (rest_passes (shows_past (length c.args.job.now.steps.now)) c.args.job.now.lines.now c.count_before-before.result c.args.job.now.are_lines.show_past);
@@ -84,16 +86,16 @@ loop-step-init g c =
 
 pub take_step-requires-clause-ready : goal.take_step-requires-clause-ready
 take_step-requires-clause-ready g c =
-    let job : Job = job_in (length c.args.room.now) c.args.job.now in
-    let plan = plan_in (length c.args.room.now) c.args.job.now in
+    let job : Job = job_in c.args.job.now in
+    let plan = plan_in c.args.job.now in
     is_ready g.W.Shelf.tells g.W.Shelf.world (λ s told f. g.met.W.Shelf.files_are s told f) job c.args.job.now.lines.now plan c.loop-step.step c.loop-step.rest.now _ _ c.loop-step.invariant.so_far
 
 pub returns-in-Err-clause-content : goal.returns-in-Err-clause-content
 returns-in-Err-clause-content g c =
-    let job : Job = job_in (length c.args.room.now) c.args.job.now in
-    let plan = plan_in (length c.args.room.now) c.args.job.now in
+    let job : Job = job_in c.args.job.now in
+    let plan = plan_in c.args.job.now in
     stops_step g.W.Shelf.tells g.W.Shelf.world (λ s told f. g.met.W.Shelf.files_are s told f) job c.args.job.now.lines.now plan c.loop-step.step c.loop-step.rest.now c.in-Err.finish _ _ _ c.loop-step-test.true c.loop-step.invariant.rise c.loop-step.invariant.so_far
-    (taken_in g.W.Shelf.tells g.W.Shelf.world c.args.job.now _ _ c.loop-step.step _ _ _ c.loop-step.auto.room c.in-Err.ensures.content)
+    c.in-Err.ensures.content
 
 pub count_before-requires : goal.count_before-requires
 count_before-requires g c = rises_earlier 0 c.loop-step.step c.loop-step.rest.now (omega arith) c.loop-step.invariant.rise
@@ -105,9 +107,9 @@ say_lines-requires-clause-within g c =
 
 pub say_lines-requires-clause-stands : goal.say_lines-requires-clause-stands
 say_lines-requires-clause-stands g c =
-    made_stands g.W.Shelf.tells g.W.Shelf.world (job_in (length c.args.room.now) c.args.job.now) c.loop-step.step c.in-Ok-take_step.entry _ _
+    made_stands g.W.Shelf.tells g.W.Shelf.world (job_in c.args.job.now) c.loop-step.step c.in-Ok-take_step.entry _ _
     c.in-Ok-take_step.ensures.number
-    (taken_in g.W.Shelf.tells g.W.Shelf.world c.args.job.now _ _ c.loop-step.step _ _ _ c.loop-step.auto.room c.in-Ok-take_step.ensures.content)
+    c.in-Ok-take_step.ensures.content
 
 pub say_lines-requires-clause-shown : goal.say_lines-requires-clause-shown
 say_lines-requires-clause-shown g c =
@@ -120,12 +122,12 @@ say_lines-requires-clause-shown g c =
 
 pub returns-in-Err-say_lines-clause-content : goal.returns-in-Err-say_lines-clause-content
 returns-in-Err-say_lines-clause-content g c =
-    let job : Job = job_in (length c.args.room.now) c.args.job.now in
-    let plan = plan_in (length c.args.room.now) c.args.job.now in
+    let job : Job = job_in c.args.job.now in
+    let plan = plan_in c.args.job.now in
     let e = c.in-Ok-take_step.entry in
     let number : e.number ≡ c.loop-step.step = c.in-Ok-take_step.ensures.number in
     let taken = takes_step g.W.Shelf.tells g.W.Shelf.world (λ s told f. g.met.W.Shelf.files_are s told f) job c.args.job.now.lines.now plan c.loop-step.step c.loop-step.rest.now e _ _ _ c.loop-step-test.true c.loop-step.invariant.rise c.loop-step.invariant.so_far
-    (taken_in g.W.Shelf.tells g.W.Shelf.world c.args.job.now _ _ c.loop-step.step _ _ _ c.loop-step.auto.room c.in-Ok-take_step.ensures.content) in
+    c.in-Ok-take_step.ensures.content in
     let ending : c.split_at-in-loop-step.result.0.now ≡ take c.count_before.result c.loop-step.rest.now = c.split_at-in-loop-step.ensures.front in
     let shows = below_next c.loop-step.step (take c.count_before.result c.loop-step.rest.now)
     (shown_in_front (length c.args.job.now.steps.now) c.loop-step.step (take c.count_before.result c.loop-step.rest.now)
@@ -136,12 +138,12 @@ returns-in-Err-say_lines-clause-content g c =
 
 pub loop-step-preserved : goal.loop-step-preserved
 loop-step-preserved g c =
-    let job : Job = job_in (length c.args.room.now) c.args.job.now in
-    let plan = plan_in (length c.args.room.now) c.args.job.now in
+    let job : Job = job_in c.args.job.now in
+    let plan = plan_in c.args.job.now in
     let e = c.in-Ok-take_step.entry in
     let number : e.number ≡ c.loop-step.step = c.in-Ok-take_step.ensures.number in
     let taken = takes_step g.W.Shelf.tells g.W.Shelf.world (λ s told f. g.met.W.Shelf.files_are s told f) job c.args.job.now.lines.now plan c.loop-step.step c.loop-step.rest.now e _ _ _ c.loop-step-test.true c.loop-step.invariant.rise c.loop-step.invariant.so_far
-    (taken_in g.W.Shelf.tells g.W.Shelf.world c.args.job.now _ _ c.loop-step.step _ _ _ c.loop-step.auto.room c.in-Ok-take_step.ensures.content) in
+    c.in-Ok-take_step.ensures.content in
     let ending : c.split_at-in-loop-step.result.0.now ≡ take c.count_before.result c.loop-step.rest.now = c.split_at-in-loop-step.ensures.front in
     let shows = below_next c.loop-step.step (take c.count_before.result c.loop-step.rest.now)
     (shown_in_front (length c.args.job.now.steps.now) c.loop-step.step (take c.count_before.result c.loop-step.rest.now)
@@ -160,8 +162,8 @@ loop-step-preserved g c =
           let told_before = c.in-Ok-take_step.ensures.content.before told_take in
           let before = invariant.calls told_before paid counted in
           let took = c.in-Ok-take_step.ensures.calls told_take (unpaid (done_at (g.W.Shelf.world c.args.station.now)) c.loop-step.step paid)
-          (counted_in c.args.job.now _ _ c.loop-step.step _ _ c.loop-step.auto.room (is_counted g.W.Shelf.tells g.W.Shelf.world (λ s told f. g.met.W.Shelf.files_are s told f) job c.args.job.now.lines.now plan c.loop-step.step c.loop-step.rest.now _ _ paid
-          c.loop-step-test.true invariant.so_far told_before counted)) in
+          (is_counted g.W.Shelf.tells g.W.Shelf.world (λ s told f. g.met.W.Shelf.files_are s told f) job c.args.job.now.lines.now plan c.loop-step.step c.loop-step.rest.now _ _ paid
+          c.loop-step-test.true invariant.so_far told_before counted) in
           let paid_all = none_unpaid (done_at (g.W.Shelf.world c.args.station.now)) c.loop-step.step paid (invariant.so_far.did told_before).0.reached in
           let one_more = calls_of_one_more job c.loop-step.step c.loop-step-test.true in
           let said_them = c.in-Ok-say_lines.ensures.calls t in
@@ -175,7 +177,6 @@ loop-step-preserved g c =
           let told_take = c.in-Ok-say_lines.ensures.content.before t in
           let told_before = c.in-Ok-take_step.ensures.content.before told_take in
           let at = (invariant.so_far.did told_before).0 in
-          let same = c.loop-step.auto.room in
           let left_few : length c.loop-step.rest.now ≤ length c.args.job.now.lines.now = rest_few at.place c.args.job.now.lines.now c.loop-step.rest.now at.rest_is in
           let spoken : length c.split_at-in-loop-step.result.0.now ≡ c.count_before.result =
           ap length ending ∙ length-take-le c.count_before.result c.loop-step.rest.now c.count_before.ensures.within in
@@ -184,9 +185,8 @@ loop-step-preserved g c =
           let taken_so = taken_step g.W.Shelf.tells g.W.Shelf.world (λ s told f. g.met.W.Shelf.files_are s told f) job (length c.args.job.now.lines.now) plan.well_formed c.loop-step.step
           (length c.loop-step.rest.now) c.loop-step-test.true _ _ _ (invariant.so_far.before told_before) at.reached at.made.keeps at.made.later
           (λ sound. (at.sound sound).holds) (c.in-Ok-take_step.ensures.content.did told_take).run.moments.past paid rest_calls is (invariant.paid told_before paid rest_calls is)
-          (Ok e) (λ p r so. pays_in_room c.args.job.now _ _ p r _ _ _ same
-          (c.in-Ok-take_step.ensures.stops told_take p r (paid_in_room c.args.job.now _ _ c.loop-step.step p r _ same so))) e refl in
-          subst (λ n. PaysSoFar job paid (spent_at (length c.args.job.now.bytes.now) (length c.args.job.now.lines.now) n (done_at (g.W.Shelf.world c.args.station.now)) (c.loop-step.step + 1) rest_calls)
+          (Ok e) (c.in-Ok-take_step.ensures.stops told_take) e refl in
+          subst (λ n. PaysSoFar job paid (spent_at (length job.bytes) (length c.args.job.now.lines.now) n (done_at (g.W.Shelf.world c.args.station.now)) (c.loop-step.step + 1) rest_calls)
           rest_calls (g.W.Shelf.world c.args.station.now) (g.W.Shelf.world c.say_lines.new.station)) (sym left)
           (lines_said g.W.Shelf.tells g.W.Shelf.world (λ s told f. g.met.W.Shelf.files_are s told f) job (length c.args.job.now.lines.now) (c.loop-step.step + 1) (length c.loop-step.rest.now) c.count_before.result
           (done_at (g.W.Shelf.world c.args.station.now)) _ _ _ (invariant.so_far.before told_before) (c.in-Ok-say_lines.ensures.content.did t).files
@@ -201,8 +201,8 @@ loop-step-preserved g c =
 
 pub returns-in_default-say-clause-content : goal.returns-in_default-say-clause-content
 returns-in_default-say-clause-content g c =
-    let job : Job = job_in (length c.args.room.now) c.args.job.now in
-    let plan = plan_in (length c.args.room.now) c.args.job.now in
+    let job : Job = job_in c.args.job.now in
+    let plan = plan_in c.args.job.now in
     let all_made : length c.args.job.now.steps.now ≤ c.loop-step.step = c.loop-step-test.false in
     let none : c.loop-step.rest.now ≡ [] =
     none_left (length c.args.job.now.steps.now) c.loop-step.rest.now (rises_earlier (length c.args.job.now.steps.now) c.loop-step.step c.loop-step.rest.now all_made c.loop-step.invariant.rise) c.loop-step.invariant.shown in
@@ -210,43 +210,62 @@ returns-in_default-say-clause-content g c =
 
 pub returns-clause-content : goal.returns-clause-content
 returns-clause-content g c =
-    let job : Job = job_in (length c.args.room.now) c.args.job.now in
-    let plan = plan_in (length c.args.room.now) c.args.job.now in
+    let job : Job = job_in c.args.job.now in
+    let plan = plan_in c.args.job.now in
     let all_made : length c.args.job.now.steps.now ≤ c.loop-step.step = c.loop-step-test.false in
     let none : c.loop-step.rest.now ≡ [] =
     none_left (length c.args.job.now.steps.now) c.loop-step.rest.now (rises_earlier (length c.args.job.now.steps.now) c.loop-step.step c.loop-step.rest.now all_made c.loop-step.invariant.rise) c.loop-step.invariant.shown in
     is_done g.W.Shelf.tells g.W.Shelf.world (λ s told f. g.met.W.Shelf.files_are s told f) job c.args.job.now.lines.now plan _ _ (says_done g.W.Shelf.tells g.W.Shelf.world (λ s told f. g.met.W.Shelf.files_are s told f) job c.args.job.now.lines.now plan c.loop-step.step c.loop-step.rest.now done_line _ _ _ _ all_made none refl c.loop-step.invariant.so_far c.in-Ok-say-2.ensures.content)
 
 -- the calls of a run that stops before its end, and of one that comes to it
+pub returns-in-Err-Shelf-clause-calls : goal.returns-in-Err-Shelf-clause-calls
+returns-in-Err-Shelf-clause-calls g c t paid counted =
+    let attached = c.in-Err-Shelf.ensures.calls t in
+    let size = length-without_budget c.args.job.now.bytes.now in
+    omega (arith, attached, size)
+
+pub returns-in-Err-Damaged-clause-calls : goal.returns-in-Err-Damaged-clause-calls
+returns-in-Err-Damaged-clause-calls g c t paid counted =
+    let attached = c.in-Err-Damaged.ensures.calls t in
+    let size = length-without_budget c.args.job.now.bytes.now in
+    omega (arith, attached, size)
+
+pub returns-in-Err-OtherJob-clause-calls : goal.returns-in-Err-OtherJob-clause-calls
+returns-in-Err-OtherJob-clause-calls g c t paid counted =
+    let attached = c.in-Err-OtherJob.ensures.calls t in
+    let size = length-without_budget c.args.job.now.bytes.now in
+    omega (arith, attached, size)
+
 pub returns-in_default-clause-calls : goal.returns-in_default-clause-calls
 returns-in_default-clause-calls g c t paid counted =
     let clock = (c.in_default.ensures.content.did t).elsewhere.ticks.clock_is in
     let attached = c.in-Ok.ensures.calls (c.in_default.ensures.content.before t) in
-    omega (arith, clock, attached)
+    let size = length-without_budget c.args.job.now.bytes.now in
+    omega (arith, clock, attached, size)
 
 pub returns-in-Err-clause-calls : goal.returns-in-Err-clause-calls
 returns-in-Err-clause-calls g c t paid counted =
-    let job : Job = job_in (length c.args.room.now) c.args.job.now in
-    let plan = plan_in (length c.args.room.now) c.args.job.now in
+    let job : Job = job_in c.args.job.now in
+    let plan = plan_in c.args.job.now in
     let told_before = c.in-Err.ensures.content.before t in
     let before = c.loop-step.invariant.calls told_before paid counted in
     let took = c.in-Err.ensures.calls t (unpaid (done_at (g.W.Shelf.world c.args.station.now)) c.loop-step.step paid)
-    (counted_in c.args.job.now _ _ c.loop-step.step _ _ c.loop-step.auto.room (is_counted g.W.Shelf.tells g.W.Shelf.world (λ s told f. g.met.W.Shelf.files_are s told f) job c.args.job.now.lines.now plan c.loop-step.step c.loop-step.rest.now _ _ paid
-    c.loop-step-test.true c.loop-step.invariant.so_far told_before counted)) in
+    (is_counted g.W.Shelf.tells g.W.Shelf.world (λ s told f. g.met.W.Shelf.files_are s told f) job c.args.job.now.lines.now plan c.loop-step.step c.loop-step.rest.now _ _ paid
+    c.loop-step-test.true c.loop-step.invariant.so_far told_before counted) in
     let one_more = calls_of_one_more job c.loop-step.step c.loop-step-test.true in
     let no_more = calls_before_all job (c.loop-step.step + 1) in
     omega (arith, before, took, one_more, no_more)
 
 pub returns-in-Err-say_lines-clause-calls : goal.returns-in-Err-say_lines-clause-calls
 returns-in-Err-say_lines-clause-calls g c t paid counted =
-    let job : Job = job_in (length c.args.room.now) c.args.job.now in
-    let plan = plan_in (length c.args.room.now) c.args.job.now in
+    let job : Job = job_in c.args.job.now in
+    let plan = plan_in c.args.job.now in
     let told_take = c.in-Err-say_lines.ensures.content.before t in
     let told_before = c.in-Ok-take_step.ensures.content.before told_take in
     let before = c.loop-step.invariant.calls told_before paid counted in
     let took = c.in-Ok-take_step.ensures.calls told_take (unpaid (done_at (g.W.Shelf.world c.args.station.now)) c.loop-step.step paid)
-    (counted_in c.args.job.now _ _ c.loop-step.step _ _ c.loop-step.auto.room (is_counted g.W.Shelf.tells g.W.Shelf.world (λ s told f. g.met.W.Shelf.files_are s told f) job c.args.job.now.lines.now plan c.loop-step.step c.loop-step.rest.now _ _ paid
-    c.loop-step-test.true c.loop-step.invariant.so_far told_before counted)) in
+    (is_counted g.W.Shelf.tells g.W.Shelf.world (λ s told f. g.met.W.Shelf.files_are s told f) job c.args.job.now.lines.now plan c.loop-step.step c.loop-step.rest.now _ _ paid
+    c.loop-step-test.true c.loop-step.invariant.so_far told_before counted) in
     let one_more = calls_of_one_more job c.loop-step.step c.loop-step-test.true in
     let no_more = calls_before_all job (c.loop-step.step + 1) in
     let said_them = c.in-Err-say_lines.ensures.calls t in
@@ -257,7 +276,7 @@ returns-in-Err-say_lines-clause-calls g c t paid counted =
 
 pub returns-in_default-say-clause-calls : goal.returns-in_default-say-clause-calls
 returns-in_default-say-clause-calls g c t paid counted =
-    let job : Job = job_in (length c.args.room.now) c.args.job.now in
+    let job : Job = job_in c.args.job.now in
     let before = c.loop-step.invariant.calls (c.in_default-say.ensures.content.before t) paid counted in
     let no_more = calls_before_all job c.loop-step.step in
     let clock = (c.in_default-say.ensures.content.did t).elsewhere.ticks.clock_is in
@@ -265,7 +284,7 @@ returns-in_default-say-clause-calls g c t paid counted =
 
 pub returns-clause-calls : goal.returns-clause-calls
 returns-clause-calls g c t paid counted =
-    let job : Job = job_in (length c.args.room.now) c.args.job.now in
+    let job : Job = job_in c.args.job.now in
     let before = c.loop-step.invariant.calls (c.in-Ok-say-2.ensures.content.before t) paid counted in
     let no_more = calls_before_all job c.loop-step.step in
     let clock = (c.in-Ok-say-2.ensures.content.did t).elsewhere.ticks.clock_is in
@@ -274,57 +293,53 @@ returns-clause-calls g c t paid counted =
 -- what a stop costs, wherever the run ends
 pub returns-in-Err-Shelf-clause-stops : goal.returns-in-Err-Shelf-clause-stops
 returns-in-Err-Shelf-clause-stops g c t =
-    attach_stops g.W.Shelf.tells g.W.Shelf.world (λ s told f. g.met.W.Shelf.files_are s told f) (job_in (length c.args.room.now) c.args.job.now) (length c.args.job.now.lines.now) _ _
-    c.in-Err-Shelf.ensures.content t (c.in-Err-Shelf.ensures.calls t)
+    attach_stops g.W.Shelf.tells g.W.Shelf.world (λ s told f. g.met.W.Shelf.files_are s told f) (job_in c.args.job.now) (length c.args.job.now.lines.now)
+    c.args.job.now.bytes.now _ _ (sym (length-without_budget c.args.job.now.bytes.now)) c.in-Err-Shelf.ensures.content t (c.in-Err-Shelf.ensures.calls t)
 
 pub returns-in-Err-Damaged-clause-stops : goal.returns-in-Err-Damaged-clause-stops
 returns-in-Err-Damaged-clause-stops g c t =
-    attach_stops g.W.Shelf.tells g.W.Shelf.world (λ s told f. g.met.W.Shelf.files_are s told f) (job_in (length c.args.room.now) c.args.job.now) (length c.args.job.now.lines.now) _ _
-    c.in-Err-Damaged.ensures.content t (c.in-Err-Damaged.ensures.calls t)
+    attach_stops g.W.Shelf.tells g.W.Shelf.world (λ s told f. g.met.W.Shelf.files_are s told f) (job_in c.args.job.now) (length c.args.job.now.lines.now)
+    c.args.job.now.bytes.now _ _ (sym (length-without_budget c.args.job.now.bytes.now)) c.in-Err-Damaged.ensures.content t (c.in-Err-Damaged.ensures.calls t)
 
 pub returns-in-Err-OtherJob-clause-stops : goal.returns-in-Err-OtherJob-clause-stops
 returns-in-Err-OtherJob-clause-stops g c t =
-    attach_stops g.W.Shelf.tells g.W.Shelf.world (λ s told f. g.met.W.Shelf.files_are s told f) (job_in (length c.args.room.now) c.args.job.now) (length c.args.job.now.lines.now) _ _
-    c.in-Err-OtherJob.ensures.content t (c.in-Err-OtherJob.ensures.calls t)
+    attach_stops g.W.Shelf.tells g.W.Shelf.world (λ s told f. g.met.W.Shelf.files_are s told f) (job_in c.args.job.now) (length c.args.job.now.lines.now)
+    c.args.job.now.bytes.now _ _ (sym (length-without_budget c.args.job.now.bytes.now)) c.in-Err-OtherJob.ensures.content t (c.in-Err-OtherJob.ensures.calls t)
 
 pub returns-in_default-clause-stops : goal.returns-in_default-clause-stops
 returns-in_default-clause-stops g c t paid rest_calls is =
     let said = (c.in_default.ensures.content.did t).elsewhere in
     let told_mid = c.in_default.ensures.content.before t in
-    (banner_so_far g.W.Shelf.tells g.W.Shelf.world (λ s told f. g.met.W.Shelf.files_are s told f) (job_in (length c.args.room.now) c.args.job.now) (length c.args.job.now.lines.now) _ _ _
-    c.in-Ok.ensures.content told_mid (c.in-Ok.ensures.calls told_mid) said.ticks said.folder_is 0 0 paid rest_calls is).stops
+    (banner_so_far g.W.Shelf.tells g.W.Shelf.world (λ s told f. g.met.W.Shelf.files_are s told f) (job_in c.args.job.now) (length c.args.job.now.lines.now)
+    c.args.job.now.bytes.now _ _ _ (sym (length-without_budget c.args.job.now.bytes.now)) c.in-Ok.ensures.content told_mid (c.in-Ok.ensures.calls told_mid) said.ticks said.folder_is 0 0 paid rest_calls is).stops
 
 pub returns-in-Err-clause-stops : goal.returns-in-Err-clause-stops
 returns-in-Err-clause-stops g c t paid rest_calls is =
-    let job : Job = job_in (length c.args.room.now) c.args.job.now in
-    let plan = plan_in (length c.args.room.now) c.args.job.now in
+    let job : Job = job_in c.args.job.now in
+    let plan = plan_in c.args.job.now in
     let told_before = c.in-Err.ensures.content.before t in
     let at = (c.loop-step.invariant.so_far.did told_before).0 in
-    let same = c.loop-step.auto.room in
     stopped_step g.W.Shelf.tells g.W.Shelf.world (λ s told f. g.met.W.Shelf.files_are s told f) job (length c.args.job.now.lines.now) plan.well_formed c.loop-step.step
     (length c.loop-step.rest.now) c.loop-step-test.true _ _ _ (c.loop-step.invariant.so_far.before told_before) at.reached at.made.keeps at.made.later
     (λ sound. (at.sound sound).holds) (c.in-Err.ensures.content.did t).run.moments.past paid rest_calls is (c.loop-step.invariant.paid told_before paid rest_calls is)
-    (Err c.in-Err.finish) (λ p r so. pays_in_room c.args.job.now _ _ p r _ _ _ same
-    (c.in-Err.ensures.stops t p r (paid_in_room c.args.job.now _ _ c.loop-step.step p r _ same so)))
+    (Err c.in-Err.finish) (c.in-Err.ensures.stops t)
 
 pub returns-in-Err-say_lines-clause-stops : goal.returns-in-Err-say_lines-clause-stops
 returns-in-Err-say_lines-clause-stops g c t paid rest_calls is =
-    let job : Job = job_in (length c.args.room.now) c.args.job.now in
-    let plan = plan_in (length c.args.room.now) c.args.job.now in
+    let job : Job = job_in c.args.job.now in
+    let plan = plan_in c.args.job.now in
     let e = c.in-Ok-take_step.entry in
     let invariant = c.loop-step.invariant in
     let told_take = c.in-Err-say_lines.ensures.content.before t in
     let told_before = c.in-Ok-take_step.ensures.content.before told_take in
     let at = (invariant.so_far.did told_before).0 in
-    let same = c.loop-step.auto.room in
     let left_few : length c.loop-step.rest.now ≤ length c.args.job.now.lines.now = rest_few at.place c.args.job.now.lines.now c.loop-step.rest.now at.rest_is in
     let spoken : length c.split_at-in-loop-step.result.0.now ≡ c.count_before.result =
     ap length c.split_at-in-loop-step.ensures.front ∙ length-take-le c.count_before.result c.loop-step.rest.now c.count_before.ensures.within in
     let taken_so = taken_step g.W.Shelf.tells g.W.Shelf.world (λ s told f. g.met.W.Shelf.files_are s told f) job (length c.args.job.now.lines.now) plan.well_formed c.loop-step.step
     (length c.loop-step.rest.now) c.loop-step-test.true _ _ _ (invariant.so_far.before told_before) at.reached at.made.keeps at.made.later
     (λ sound. (at.sound sound).holds) (c.in-Ok-take_step.ensures.content.did told_take).run.moments.past paid rest_calls is (invariant.paid told_before paid rest_calls is)
-    (Ok e) (λ p r so. pays_in_room c.args.job.now _ _ p r _ _ _ same
-    (c.in-Ok-take_step.ensures.stops told_take p r (paid_in_room c.args.job.now _ _ c.loop-step.step p r _ same so))) e refl in
+    (Ok e) (c.in-Ok-take_step.ensures.stops told_take) e refl in
     (lines_said g.W.Shelf.tells g.W.Shelf.world (λ s told f. g.met.W.Shelf.files_are s told f) job (length c.args.job.now.lines.now) (c.loop-step.step + 1) (length c.loop-step.rest.now) c.count_before.result
     (done_at (g.W.Shelf.world c.args.station.now)) _ _ _ (invariant.so_far.before told_before) (c.in-Err-say_lines.ensures.content.did t).files
     (let few = c.in-Err-say_lines.ensures.calls t in omega (arith, few, spoken)) c.count_before.ensures.within left_few paid rest_calls is taken_so).stops
@@ -333,7 +348,7 @@ pub returns-in_default-say-clause-stops : goal.returns-in_default-say-clause-sto
 returns-in_default-say-clause-stops g c t paid rest_calls is =
     let said = (c.in_default-say.ensures.content.did t).elsewhere in
     let told_before = c.in_default-say.ensures.content.before t in
-    ends_so g.W.Shelf.tells g.W.Shelf.world (λ s told f. g.met.W.Shelf.files_are s told f) (job_in (length c.args.room.now) c.args.job.now) (length c.args.job.now.lines.now) c.loop-step.step
+    ends_so g.W.Shelf.tells g.W.Shelf.world (λ s told f. g.met.W.Shelf.files_are s told f) (job_in c.args.job.now) (length c.args.job.now.lines.now) c.loop-step.step
     (length c.loop-step.rest.now) (done_at (g.W.Shelf.world c.args.station.now)) _ _ _ (c.loop-step.invariant.so_far.before told_before) said.ticks said.folder_is
     paid rest_calls is (c.loop-step.invariant.paid told_before paid rest_calls is)
 
@@ -341,6 +356,6 @@ pub returns-clause-stops : goal.returns-clause-stops
 returns-clause-stops g c t paid rest_calls is =
     let said = (c.in-Ok-say-2.ensures.content.did t).elsewhere in
     let told_before = c.in-Ok-say-2.ensures.content.before t in
-    ends_so g.W.Shelf.tells g.W.Shelf.world (λ s told f. g.met.W.Shelf.files_are s told f) (job_in (length c.args.room.now) c.args.job.now) (length c.args.job.now.lines.now) c.loop-step.step
+    ends_so g.W.Shelf.tells g.W.Shelf.world (λ s told f. g.met.W.Shelf.files_are s told f) (job_in c.args.job.now) (length c.args.job.now.lines.now) c.loop-step.step
     (length c.loop-step.rest.now) (done_at (g.W.Shelf.world c.args.station.now)) _ _ _ (c.loop-step.invariant.so_far.before told_before) said.ticks said.folder_is
     paid rest_calls is (c.loop-step.invariant.paid told_before paid rest_calls is)

@@ -18,16 +18,16 @@ use Rattle.script_runner.proofs.run.run_job.Given as goal
 abbrev pub invariant-loop-step : goal.invariant-loop-step
 invariant-loop-step g l = record {
   so_far : Told g.W.Shelf.tells l.fn.station l.station
-      (Turn (job_in (length l.fn.room) l.fn.job) l.fn.job.lines.now l.step l.rest (g.W.Shelf.world l.fn.station) (g.W.Shelf.world l.station));
+      (Turn (job_in l.fn.job) l.fn.job.lines.now l.step l.rest (g.W.Shelf.world l.fn.station) (g.W.Shelf.world l.station));
   calls : IsTrue (g.W.Shelf.tells l.station) → (paid : ℕ)
-      → AreCounted (job_in (length l.fn.room) l.fn.job) (now (g.W.Shelf.world l.fn.station)).folder paid
+      → AreCounted (job_in l.fn.job) (now (g.W.Shelf.world l.fn.station)).folder paid
       → (g.W.Shelf.world l.station).clock + 2 * length l.rest + unpaid (done_at (g.W.Shelf.world l.fn.station)) l.step paid
-      ≤ (g.W.Shelf.world l.fn.station).clock + 10 + pieces (length l.fn.job.bytes.now)
-      + calls_before (job_in (length l.fn.room) l.fn.job) l.step + 2 * length l.fn.job.lines.now + paid;
+      ≤ (g.W.Shelf.world l.fn.station).clock + 10 + pieces (length (job_in l.fn.job).bytes)
+      + calls_before (job_in l.fn.job) l.step + 2 * length l.fn.job.lines.now + paid;
   paid : IsTrue (g.W.Shelf.tells l.station) → (paid rest : ℕ)
-      → IsPaidRun (job_in (length l.fn.room) l.fn.job) (length l.fn.job.lines.now) paid rest (now (g.W.Shelf.world l.fn.station)).folder
-      → PaysSoFar (job_in (length l.fn.room) l.fn.job) paid
-      (spent_at (length l.fn.job.bytes.now) (length l.fn.job.lines.now) (length l.rest) (done_at (g.W.Shelf.world l.fn.station)) l.step rest) rest
+      → IsPaidRun (job_in l.fn.job) (length l.fn.job.lines.now) paid rest (now (g.W.Shelf.world l.fn.station)).folder
+      → PaysSoFar (job_in l.fn.job) paid
+      (spent_at (length (job_in l.fn.job).bytes) (length l.fn.job.lines.now) (length l.rest) (done_at (g.W.Shelf.world l.fn.station)) l.step rest) rest
       (g.W.Shelf.world l.fn.station) (g.W.Shelf.world l.station);
   rise : IsTrue (rise_from l.step l.rest);
   shown : IsTrue (list_all (shows_past (length l.fn.job.steps.now)) l.rest);

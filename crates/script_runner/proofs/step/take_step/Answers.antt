@@ -17,21 +17,21 @@ pub returns-in-Err-clause-content : goal.returns-in-Err-clause-content
 returns-in-Err-clause-content g c =
     let may : MayRun c.args.job.now.n c.args.job.now.text.now c.args.number (get_or c.args.job.now.steps.now c.args.number no_step) =
     may_run c.args.job.now.n c.args.job.now.text.now c.args.job.now.steps.now c.args.number no_step c.requires.within c.args.job.now.well_formed in
-    was_stopped g.S.Shelf.tells g.S.Shelf.world g.S.Shelf.faults (λ s told f. g.met.S.Shelf.files_are s told f) (job_in (length c.args.room.now) c.args.job.now) c.args.number
+    was_stopped g.S.Shelf.tells g.S.Shelf.world g.S.Shelf.faults (λ s told f. g.met.S.Shelf.files_are s told f) (job_in c.args.job.now) c.args.number
     c.args.job.now.well_formed c.requires.within (get_or c.args.job.now.steps.now c.args.number no_step) refl may.operands_are c.in-Err.fault _ _ c.in-Err.ensures.runs _ c.stopped_by.ensures c.requires.ready
 
 pub returns-in_default-clause-content : goal.returns-in_default-clause-content
 returns-in_default-clause-content g c =
     let may : MayRun c.args.job.now.n c.args.job.now.text.now c.args.number (get_or c.args.job.now.steps.now c.args.number no_step) =
     may_run c.args.job.now.n c.args.job.now.text.now c.args.job.now.steps.now c.args.number no_step c.requires.within c.args.job.now.well_formed in
-    commit_failed g.S.Shelf.tells g.S.Shelf.world g.S.Shelf.faults (λ s told f. g.met.S.Shelf.files_are s told f) (job_in (length c.args.room.now) c.args.job.now) c.args.number
+    commit_failed g.S.Shelf.tells g.S.Shelf.world g.S.Shelf.faults (λ s told f. g.met.S.Shelf.files_are s told f) (job_in c.args.job.now) c.args.number
     c.args.job.now.well_formed c.requires.within (get_or c.args.job.now.steps.now c.args.number no_step) refl may.operands_are c.in-Ok.entry _ _ c.in-Ok.ensures.runs c.requires.ready _ c.in_default.ensures.content
 
 pub returns-in_default-tidy-clause-content : goal.returns-in_default-tidy-clause-content
 returns-in_default-tidy-clause-content g c =
     let may : MayRun c.args.job.now.n c.args.job.now.text.now c.args.number (get_or c.args.job.now.steps.now c.args.number no_step) =
     may_run c.args.job.now.n c.args.job.now.text.now c.args.job.now.steps.now c.args.number no_step c.requires.within c.args.job.now.well_formed in
-    tidy_failed g.S.Shelf.tells g.S.Shelf.world g.S.Shelf.faults (λ s told f. g.met.S.Shelf.files_are s told f) (job_in (length c.args.room.now) c.args.job.now) c.args.number
+    tidy_failed g.S.Shelf.tells g.S.Shelf.world g.S.Shelf.faults (λ s told f. g.met.S.Shelf.files_are s told f) (job_in c.args.job.now) c.args.number
     c.args.job.now.well_formed c.requires.within (get_or c.args.job.now.steps.now c.args.number no_step) refl may.operands_are c.in-Ok.entry _ _ c.in-Ok.ensures.runs c.requires.ready _ _
     c.in-Ok-commit.ensures.content c.in-Ok-commit.ensures.ok c.in_default-tidy.ensures.content
 
@@ -39,7 +39,7 @@ pub returns-clause-content : goal.returns-clause-content
 returns-clause-content g c =
     let may : MayRun c.args.job.now.n c.args.job.now.text.now c.args.number (get_or c.args.job.now.steps.now c.args.number no_step) =
     may_run c.args.job.now.n c.args.job.now.text.now c.args.job.now.steps.now c.args.number no_step c.requires.within c.args.job.now.well_formed in
-    took g.S.Shelf.tells g.S.Shelf.world g.S.Shelf.faults (λ s told f. g.met.S.Shelf.files_are s told f) (job_in (length c.args.room.now) c.args.job.now) c.args.number
+    took g.S.Shelf.tells g.S.Shelf.world g.S.Shelf.faults (λ s told f. g.met.S.Shelf.files_are s told f) (job_in c.args.job.now) c.args.number
     c.args.job.now.well_formed c.requires.within (get_or c.args.job.now.steps.now c.args.number no_step) refl may.operands_are c.in-Ok.entry _ _ c.in-Ok.ensures.runs c.requires.ready _ _
     c.in-Ok-commit.ensures.content c.in-Ok-commit.ensures.ok c.in-Ok-tidy.ensures.content c.in-Ok-tidy.ensures.empty
 
@@ -48,7 +48,7 @@ pub returns-in-Err-clause-calls : goal.returns-in-Err-clause-calls
 returns-in-Err-clause-calls g c tells_s rest counted =
     let may : MayRun c.args.job.now.n c.args.job.now.text.now c.args.number (get_or c.args.job.now.steps.now c.args.number no_step) =
     may_run c.args.job.now.n c.args.job.now.text.now c.args.job.now.steps.now c.args.number no_step c.requires.within c.args.job.now.well_formed in
-    few_calls g.S.Shelf.tells g.S.Shelf.world g.S.Shelf.faults (λ s told f. g.met.S.Shelf.files_are s told f) (job_in (length c.args.room.now) c.args.job.now) c.args.number
+    few_calls g.S.Shelf.tells g.S.Shelf.world g.S.Shelf.faults (λ s told f. g.met.S.Shelf.files_are s told f) (job_in c.args.job.now) c.args.number
     c.args.job.now.well_formed c.requires.within (get_or c.args.job.now.steps.now c.args.number no_step) refl may.operands_are _ _ (Err c.in-Err.fault) c.in-Err.ensures.runs tells_s rest counted
     (g.S.Shelf.world c.run_step.new.shelf).clock (g.S.Shelf.world c.run_step.new.shelf).clock (omega arith) (omega arith)
 
@@ -57,7 +57,7 @@ returns-in_default-clause-calls g c tells_t rest counted =
     let may : MayRun c.args.job.now.n c.args.job.now.text.now c.args.number (get_or c.args.job.now.steps.now c.args.number no_step) =
     may_run c.args.job.now.n c.args.job.now.text.now c.args.job.now.steps.now c.args.number no_step c.requires.within c.args.job.now.well_formed in
     let committed = c.in_default.ensures.calls tells_t in
-    few_calls g.S.Shelf.tells g.S.Shelf.world g.S.Shelf.faults (λ s told f. g.met.S.Shelf.files_are s told f) (job_in (length c.args.room.now) c.args.job.now) c.args.number
+    few_calls g.S.Shelf.tells g.S.Shelf.world g.S.Shelf.faults (λ s told f. g.met.S.Shelf.files_are s told f) (job_in c.args.job.now) c.args.number
     c.args.job.now.well_formed c.requires.within (get_or c.args.job.now.steps.now c.args.number no_step) refl may.operands_are _ _ (Ok c.in-Ok.entry) c.in-Ok.ensures.runs (c.in_default.ensures.content.before tells_t) rest counted _ _ committed (omega arith)
 
 pub returns-in_default-tidy-clause-calls : goal.returns-in_default-tidy-clause-calls
@@ -65,7 +65,7 @@ returns-in_default-tidy-clause-calls g c tells_u rest counted =
     let may : MayRun c.args.job.now.n c.args.job.now.text.now c.args.number (get_or c.args.job.now.steps.now c.args.number no_step) =
     may_run c.args.job.now.n c.args.job.now.text.now c.args.job.now.steps.now c.args.number no_step c.requires.within c.args.job.now.well_formed in
     let tells_t = c.in_default-tidy.ensures.content.before tells_u in
-    taken_calls g.S.Shelf.tells g.S.Shelf.world g.S.Shelf.faults (λ s told f. g.met.S.Shelf.files_are s told f) (job_in (length c.args.room.now) c.args.job.now) c.args.number
+    taken_calls g.S.Shelf.tells g.S.Shelf.world g.S.Shelf.faults (λ s told f. g.met.S.Shelf.files_are s told f) (job_in c.args.job.now) c.args.number
     c.args.job.now.well_formed c.requires.within (get_or c.args.job.now.steps.now c.args.number no_step) refl may.operands_are c.in-Ok.entry _ _ c.in-Ok.ensures.runs (c.in-Ok-commit.ensures.content.before tells_t) rest counted _ _
     (c.in-Ok-commit.ensures.calls tells_t) (c.in_default-tidy.ensures.calls tells_u)
 
@@ -74,7 +74,7 @@ returns-clause-calls g c tells_u rest counted =
     let may : MayRun c.args.job.now.n c.args.job.now.text.now c.args.number (get_or c.args.job.now.steps.now c.args.number no_step) =
     may_run c.args.job.now.n c.args.job.now.text.now c.args.job.now.steps.now c.args.number no_step c.requires.within c.args.job.now.well_formed in
     let tells_t = c.in-Ok-tidy.ensures.content.before tells_u in
-    taken_calls g.S.Shelf.tells g.S.Shelf.world g.S.Shelf.faults (λ s told f. g.met.S.Shelf.files_are s told f) (job_in (length c.args.room.now) c.args.job.now) c.args.number
+    taken_calls g.S.Shelf.tells g.S.Shelf.world g.S.Shelf.faults (λ s told f. g.met.S.Shelf.files_are s told f) (job_in c.args.job.now) c.args.number
     c.args.job.now.well_formed c.requires.within (get_or c.args.job.now.steps.now c.args.number no_step) refl may.operands_are c.in-Ok.entry _ _ c.in-Ok.ensures.runs (c.in-Ok-commit.ensures.content.before tells_t) rest counted _ _
     (c.in-Ok-commit.ensures.calls tells_t) (c.in-Ok-tidy.ensures.calls tells_u)
 
@@ -83,14 +83,14 @@ pub returns-in-Err-clause-stops : goal.returns-in-Err-clause-stops
 returns-in-Err-clause-stops g c tells_s paid rest is =
     let may : MayRun c.args.job.now.n c.args.job.now.text.now c.args.number (get_or c.args.job.now.steps.now c.args.number no_step) =
     may_run c.args.job.now.n c.args.job.now.text.now c.args.job.now.steps.now c.args.number no_step c.requires.within c.args.job.now.well_formed in
-    stopped_pays g.S.Shelf.tells g.S.Shelf.world g.S.Shelf.faults (λ s told f. g.met.S.Shelf.files_are s told f) (job_in (length c.args.room.now) c.args.job.now) c.args.number
+    stopped_pays g.S.Shelf.tells g.S.Shelf.world g.S.Shelf.faults (λ s told f. g.met.S.Shelf.files_are s told f) (job_in c.args.job.now) c.args.number
     c.args.job.now.well_formed c.requires.within (get_or c.args.job.now.steps.now c.args.number no_step) refl may.operands_are _ _ (Err c.in-Err.fault) c.in-Err.ensures.runs tells_s paid rest is c.stopped_by.result
 
 pub returns-in_default-clause-stops : goal.returns-in_default-clause-stops
 returns-in_default-clause-stops g c tells_t paid rest is =
     let may : MayRun c.args.job.now.n c.args.job.now.text.now c.args.number (get_or c.args.job.now.steps.now c.args.number no_step) =
     may_run c.args.job.now.n c.args.job.now.text.now c.args.job.now.steps.now c.args.number no_step c.requires.within c.args.job.now.well_formed in
-    commit_stopped g.S.Shelf.tells g.S.Shelf.world g.S.Shelf.faults (λ s told f. g.met.S.Shelf.files_are s told f) (job_in (length c.args.room.now) c.args.job.now) c.args.number
+    commit_stopped g.S.Shelf.tells g.S.Shelf.world g.S.Shelf.faults (λ s told f. g.met.S.Shelf.files_are s told f) (job_in c.args.job.now) c.args.number
     c.args.job.now.well_formed c.requires.within (get_or c.args.job.now.steps.now c.args.number no_step) refl may.operands_are _ _ (Ok c.in-Ok.entry) c.in-Ok.ensures.runs (c.in_default.ensures.content.before tells_t) paid rest is
     c.in-Ok.entry refl FolderFault _ (c.in_default.ensures.content.did tells_t) (c.in_default.ensures.calls tells_t)
 
@@ -99,7 +99,7 @@ returns-in_default-tidy-clause-stops g c tells_u paid rest is =
     let may : MayRun c.args.job.now.n c.args.job.now.text.now c.args.number (get_or c.args.job.now.steps.now c.args.number no_step) =
     may_run c.args.job.now.n c.args.job.now.text.now c.args.job.now.steps.now c.args.number no_step c.requires.within c.args.job.now.well_formed in
     let tells_t = c.in_default-tidy.ensures.content.before tells_u in
-    tidy_stopped g.S.Shelf.tells g.S.Shelf.world g.S.Shelf.faults (λ s told f. g.met.S.Shelf.files_are s told f) (job_in (length c.args.room.now) c.args.job.now) c.args.number
+    tidy_stopped g.S.Shelf.tells g.S.Shelf.world g.S.Shelf.faults (λ s told f. g.met.S.Shelf.files_are s told f) (job_in c.args.job.now) c.args.number
     c.args.job.now.well_formed c.requires.within (get_or c.args.job.now.steps.now c.args.number no_step) refl may.operands_are _ _ (Ok c.in-Ok.entry) c.in-Ok.ensures.runs (c.in-Ok-commit.ensures.content.before tells_t) paid rest is
     c.in-Ok.entry refl _ _ (c.in-Ok-commit.ensures.content.did tells_t) (c.in-Ok-commit.ensures.calls tells_t) (c.in-Ok-commit.ensures.ok tells_t)
     (c.in_default-tidy.ensures.content.did tells_u) (c.in_default-tidy.ensures.calls tells_u) FolderFault
@@ -109,7 +109,7 @@ returns-clause-stops g c tells_u paid rest is =
     let may : MayRun c.args.job.now.n c.args.job.now.text.now c.args.number (get_or c.args.job.now.steps.now c.args.number no_step) =
     may_run c.args.job.now.n c.args.job.now.text.now c.args.job.now.steps.now c.args.number no_step c.requires.within c.args.job.now.well_formed in
     let tells_t = c.in-Ok-tidy.ensures.content.before tells_u in
-    took_pays g.S.Shelf.tells g.S.Shelf.world g.S.Shelf.faults (λ s told f. g.met.S.Shelf.files_are s told f) (job_in (length c.args.room.now) c.args.job.now) c.args.number
+    took_pays g.S.Shelf.tells g.S.Shelf.world g.S.Shelf.faults (λ s told f. g.met.S.Shelf.files_are s told f) (job_in c.args.job.now) c.args.number
     c.args.job.now.well_formed c.requires.within (get_or c.args.job.now.steps.now c.args.number no_step) refl may.operands_are _ _ (Ok c.in-Ok.entry) c.in-Ok.ensures.runs (c.in-Ok-commit.ensures.content.before tells_t) paid rest is
     c.in-Ok.entry refl _ _ (c.in-Ok-commit.ensures.content.did tells_t) (c.in-Ok-commit.ensures.calls tells_t) (c.in-Ok-commit.ensures.ok tells_t)
     (c.in-Ok-tidy.ensures.content.did tells_u) (c.in-Ok-tidy.ensures.calls tells_u)

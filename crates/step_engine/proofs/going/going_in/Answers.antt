@@ -20,11 +20,11 @@ returns-in_err-going g c =
             content = said.content;
             going = tt;
             last = tt;
-            holds = λ told job of_job holds. holds_throughout job c.args.number _ of_job old new holds (said.content.did told);
+            holds = λ told job of_job holds. holds_throughout job c.args.number of_job old new holds (said.content.did told);
             stands = tt;
-            sound = λ told job of_job holds. find_is_sound job c.args.number _ of_job (now old).folder fault
+            sound = λ told job of_job holds. find_is_sound job c.args.number of_job (now old).folder fault
                 (g.met.S.Shelf.files_are c.args.shelf.now (said.content.before told)) holds (said.err told);
-            damaged = λ told. find_damage c.args.number _ (present (now old).folder) fault (said.err told);
+            damaged = λ told. find_damage c.args.number (present (now old).folder) fault (said.err told);
             kind = never_spent fault;
             calls = said.calls;
             few_calls = tt;
@@ -41,13 +41,13 @@ returns g c =
       finds = record {
         content = said.content;
         going = may_go_on c.args.number _ c.in_ok-going.going c.requires.room.0 said.going;
-        last = λ told. told_before c.args.number _ (now old) (now new) c.in_ok-going.going.last
+        last = λ told. told_before c.args.number (now old) (now new) c.in_ok-going.going.last
             (ran_end old new (DuringFind c.args.number (now old)) (said.content.did told)) (said.ok told).last;
-        holds = λ told job of_job holds. holds_throughout job c.args.number _ of_job old new holds (said.content.did told);
-        stands = λ told job of_job holds. stands_found job c.args.number _ of_job old new c.in_ok-going.going.last
+        holds = λ told job of_job holds. holds_throughout job c.args.number of_job old new holds (said.content.did told);
+        stands = λ told job of_job holds. stands_found job c.args.number of_job old new c.in_ok-going.going.last
             (g.met.S.Shelf.files_are c.args.shelf.now (said.content.before told)) (g.met.S.Shelf.files_are c.find_going.new.shelf told)
             holds (said.content.did told)
-            (told_before c.args.number _ (now old) (now new) c.in_ok-going.going.last
+            (told_before c.args.number (now old) (now new) c.in_ok-going.going.last
             (ran_end old new (DuringFind c.args.number (now old)) (said.content.did told)) (said.ok told).last)
             (said.ok told);
         sound = tt;

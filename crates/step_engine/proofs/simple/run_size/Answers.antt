@@ -24,15 +24,15 @@ returns-in_err-nodes g c =
     only_below c.args.number c.args.of (subst (λ s. IsTrue (list_all (λ k. nat_lt k c.args.number) (operands s))) c.requires.kind c.requires.step.operands_are) in
     let content = changes_none g.S.Shelf.tells g.S.Shelf.world p.step c.args.number _ _ said.content in
     record {
-      runs = λ budget. handed_runs g.S.Shelf.tells g.S.Shelf.world g.S.Shelf.faults c.args.n c.args.text.now budget c.args.number p _ _ _ c.from_residual.result
+      runs = handed_runs g.S.Shelf.tells g.S.Shelf.world g.S.Shelf.faults c.args.n c.args.text.now c.args.number p _ _ _ c.from_residual.result
           c.from_residual.ensures.1 (record {
             content = content;
             fits = tt;
             entry = tt;
             made = tt;
-            resumes = one_resumes g.S.Shelf.tells g.S.Shelf.world c.args.n c.args.text.now budget c.args.number p g.met.S.Shelf.files_are _ _
+            resumes = one_resumes g.S.Shelf.tells g.S.Shelf.world c.args.n c.args.text.now c.args.number p g.met.S.Shelf.files_are _ _
                 (ap sweeps c.requires.kind) content;
-            sound = λ told job is holds. size_sound job c.args.n budget c.args.number c.args.of c.args.text.now p e (g.S.Shelf.world c.args.shelf.now) c.requires.kind is below
+            sound = λ told job is holds. size_sound job c.args.n c.args.number c.args.of c.args.text.now p e (g.S.Shelf.world c.args.shelf.now) c.requires.kind is below
                 holds (said.err told);
             damaged = λ told. inl (size_fault c.args.n c.args.of p.step c.requires.kind (g.S.Shelf.world c.args.shelf.now) e (said.err told));
             kind = size_kind p.step e;
@@ -40,7 +40,7 @@ returns-in_err-nodes g c =
             few_parts = tt;
             one_turn = λ told not. let few = said.calls told in omega (arith, few);
             few_calls = λ told job is holds rest pays. size_calls c.args.of p.step c.requires.kind _ rest _ _ (said.calls told);
-            stops = λ told job is holds small. one_stops g.S.Shelf.tells g.S.Shelf.world c.args.n c.args.text.now budget c.args.number p g.met.S.Shelf.files_are _ _
+            stops = λ told job is holds small. one_stops g.S.Shelf.tells g.S.Shelf.world c.args.n c.args.text.now c.args.number p g.met.S.Shelf.files_are _ _
                 (ap sweeps c.requires.kind) content (λ sure. let few = said.calls sure in omega (arith, few)) (Err (handed_on e)) told job is holds;
             faults = shelf_faults _ _ e said.faults;
           });
@@ -55,15 +55,15 @@ returns g c =
     only_below c.args.number c.args.of (subst (λ s. IsTrue (list_all (λ k. nat_lt k c.args.number) (operands s))) c.requires.kind c.requires.step.operands_are) in
     let content = changes_none g.S.Shelf.tells g.S.Shelf.world p.step c.args.number _ _ said.content in
     record {
-      runs = λ budget. record {
+      runs = record {
         content = content;
         fits = for_nameless c.args.number 3 0 found.count _ p _ c.nameless_entry.ensures c.requires.step.few_steps (omega arith, omega arith) (inl refl) (search arith)
             one_turn_spent (ap kind_of c.requires.kind);
         entry = λ told job ready. subst (IsEntryOfStep job c.args.number) (sym c.nameless_entry.ensures)
             (size_entry_is job c.args.number c.args.of p found (now (g.S.Shelf.world c.args.shelf.now)).folder c.requires.step.few_steps ready.step.step_is c.requires.kind below
             (ready.holds (size_reads c.args.of p.step c.requires.kind)) (said.ok told) said.kind);
-        made = λ told job ready diagram. absurd (size_makes job c.args.n budget c.args.number c.args.of c.args.text.now p c.requires.kind ready.step diagram);
-        resumes = one_resumes g.S.Shelf.tells g.S.Shelf.world c.args.n c.args.text.now budget c.args.number p g.met.S.Shelf.files_are _ _
+        made = λ told job ready diagram. absurd (size_makes job c.args.n c.args.number c.args.of c.args.text.now p c.requires.kind ready.step diagram);
+        resumes = one_resumes g.S.Shelf.tells g.S.Shelf.world c.args.n c.args.text.now c.args.number p g.met.S.Shelf.files_are _ _
             (ap sweeps c.requires.kind) content;
         sound = tt;
         damaged = tt;
@@ -72,7 +72,7 @@ returns g c =
         few_parts = λ told spare spares. first_parts _ _ spare (ap (λ (x : Entry). x.parts) c.nameless_entry.ensures);
         one_turn = λ told not. let few = said.calls told in omega (arith, few);
         few_calls = λ told job is holds rest pays. size_calls c.args.of p.step c.requires.kind _ rest _ _ (said.calls told);
-        stops = λ told job is holds small. one_stops g.S.Shelf.tells g.S.Shelf.world c.args.n c.args.text.now budget c.args.number p g.met.S.Shelf.files_are _ _
+        stops = λ told job is holds small. one_stops g.S.Shelf.tells g.S.Shelf.world c.args.n c.args.text.now c.args.number p g.met.S.Shelf.files_are _ _
             (ap sweeps c.requires.kind) content (λ sure. let few = said.calls sure in omega (arith, few)) (Ok c.nameless_entry.result) told job is holds;
         faults = shelf_fine _ _ _ _ said.faults;
       };

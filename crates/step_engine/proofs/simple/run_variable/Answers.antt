@@ -17,9 +17,9 @@ returns-in_err-nodes g c =
     let below : c.args.level < c.args.n =
     only_below c.args.n c.args.level (subst (λ s. IsTrue (list_all (λ level. nat_lt level c.args.n) (levels_of s))) c.requires.kind c.requires.step.levels_are) in
     record {
-      runs = handed_runs g.S.Shelf.tells g.S.Shelf.world g.S.Shelf.faults c.args.n c.args.text.now (length c.args.room.now) c.args.number p _ _
+      runs = handed_runs g.S.Shelf.tells g.S.Shelf.world g.S.Shelf.faults c.args.n c.args.text.now c.args.number p _ _
           (handed_on fault) c.from_residual.result c.from_residual.ensures.1
-          (simple_refused g.S.Shelf.tells g.S.Shelf.world g.S.Shelf.faults c.args.n c.args.text.now (length c.args.room.now) c.args.number p
+          (simple_refused g.S.Shelf.tells g.S.Shelf.world g.S.Shelf.faults c.args.n c.args.text.now c.args.number p
           g.met.S.Shelf.files_are _ c.node_file.ensures 1 _ (variable_simple c.args.n c.args.number c.args.level c.args.planned.now.step c.requires.step.few_variables below c.requires.kind) c.requires.step _ _
           said.content said.calls (handed_on fault) (ap handed_on said.cause) (shelf_faults _ _ fault said.faults));
     }
@@ -29,7 +29,7 @@ returns g c =
     let below : c.args.level < c.args.n =
     only_below c.args.n c.args.level (subst (λ s. IsTrue (list_all (λ level. nat_lt level c.args.n) (levels_of s))) c.requires.kind c.requires.step.levels_are) in
     record {
-      runs = simple_made g.S.Shelf.tells g.S.Shelf.world g.S.Shelf.faults c.args.n c.args.text.now (length c.args.room.now) c.args.number c.args.planned.now g.met.S.Shelf.files_are _ c.node_file.ensures 1 _
+      runs = simple_made g.S.Shelf.tells g.S.Shelf.world g.S.Shelf.faults c.args.n c.args.text.now c.args.number c.args.planned.now g.met.S.Shelf.files_are _ c.node_file.ensures 1 _
           (variable_simple c.args.n c.args.number c.args.level c.args.planned.now.step c.requires.step.few_variables below c.requires.kind) c.requires.step _ _
           c.in_ok-nodes.ensures.content c.in_ok-nodes.ensures.calls c.in_ok-nodes.nodes c.diagram_entry.result c.in_ok-nodes.ensures.count
           (omega arith) c.diagram_entry.ensures c.in_ok-nodes.ensures.made (shelf_fine _ _ _ _ c.in_ok-nodes.ensures.faults);

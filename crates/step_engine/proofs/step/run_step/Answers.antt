@@ -9,7 +9,7 @@ use Rattle.step_engine.proofs.step.run_step.Goals as goal
 
 pub returns-in-Drop : goal.returns-in-Drop
 returns-in-Drop g c = record {
-  runs = drop_runs g.S.Shelf.tells g.S.Shelf.world g.S.Shelf.faults c.args.n c.args.text.now (length c.args.room.now) c.args.number c.in-Drop.gone
+  runs = drop_runs g.S.Shelf.tells g.S.Shelf.world g.S.Shelf.faults c.args.n c.args.text.now c.args.number c.in-Drop.gone
       c.args.planned.now g.met.S.Shelf.files_are _ _ c.in-Drop.is
       (only_below c.args.number c.in-Drop.gone (subst (λ s. IsTrue (list_all (λ k. nat_lt k c.args.number) (operands s))) c.in-Drop.is c.requires.step.operands_are))
       c.requires.step (c.nameless_entry.ensures ∙ ap (λ k. nameless_entry c.args.number 2 0 k one_turn) c.from.ensures);

@@ -6,7 +6,7 @@ use Rattle.step_engine.proofs.Runs.{handed_runs, first_refused}
 use Rattle.step_engine.proofs.sweeping.run_comparison.Goals as goal
 
 pub compare-requires-clause-going : goal.compare-requires-clause-going
-compare-requires-clause-going g c = c.in_ok-going.ensures.finds.going.2
+compare-requires-clause-going g c = c.in_ok-going.ensures.finds.going.1
 
 pub compare-requires-clause-earlier : goal.compare-requires-clause-earlier
 compare-requires-clause-earlier g c =
@@ -17,9 +17,9 @@ pub returns-in_err-going : goal.returns-in_err-going
 returns-in_err-going g c =
     let p = c.args.planned.now in
     record {
-      runs = handed_runs g.S.Shelf.tells g.S.Shelf.world g.S.Shelf.faults c.args.n c.args.text.now (length c.args.room.now) c.args.number p _ _
+      runs = handed_runs g.S.Shelf.tells g.S.Shelf.world g.S.Shelf.faults c.args.n c.args.text.now c.args.number p _ _
           c.in_err-going.field-0.0 c.from_residual.result c.from_residual.ensures.1
-          (first_refused g.S.Shelf.tells g.S.Shelf.world g.S.Shelf.faults c.args.n c.args.text.now (length c.args.room.now) c.args.number p
+          (first_refused g.S.Shelf.tells g.S.Shelf.world g.S.Shelf.faults c.args.n c.args.text.now c.args.number p
           (same_asks c.args.n c.args.number c.args.left c.args.right _ _ c.node_file-left.ensures c.node_file-right.ensures p.step c.requires.kind).sweeps_is _ _ c.in_err-going.field-0.0 c.in_err-going.ensures.finds);
     }
 
@@ -27,11 +27,11 @@ pub returns-in_err-answered : goal.returns-in_err-answered
 returns-in_err-answered g c =
     let p = c.args.planned.now in
     record {
-      runs = handed_runs g.S.Shelf.tells g.S.Shelf.world g.S.Shelf.faults c.args.n c.args.text.now (length c.args.room.now) c.args.number p _ _
+      runs = handed_runs g.S.Shelf.tells g.S.Shelf.world g.S.Shelf.faults c.args.n c.args.text.now c.args.number p _ _
           c.in_err-answered.field-0.0 c.from_residual-in_err-answered.result c.from_residual-in_err-answered.ensures.1
-          (question_refused g.S.Shelf.tells g.S.Shelf.world g.S.Shelf.faults c.args.n c.args.text.now (length c.args.room.now) c.args.number p _
+          (question_refused g.S.Shelf.tells g.S.Shelf.world g.S.Shelf.faults c.args.n c.args.text.now c.args.number p _
           (same_asks c.args.n c.args.number c.args.left c.args.right _ _ c.node_file-left.ensures c.node_file-right.ensures p.step c.requires.kind) c.requires.step g.met.S.Shelf.files_are _ _ _ c.in_ok-going.going c.in_ok-going.ensures.finds
-          (same_asked c.args.n c.args.number c.args.left c.args.right _ _ c.node_file-left.ensures c.node_file-right.ensures c.args.text.now (length c.args.room.now) p (g.S.Shelf.world c.going_in.new.shelf) c.requires.kind)
+          (same_asked c.args.n c.args.number c.args.left c.args.right _ _ c.node_file-left.ensures c.node_file-right.ensures c.args.text.now p (g.S.Shelf.world c.going_in.new.shelf) c.requires.kind)
           c.in_err-answered.field-0.0 c.in_err-answered.ensures.answers (not_spent_kind p.step c.in_err-answered.field-0.0 c.in_err-answered.ensures.kind));
     }
 
@@ -39,8 +39,8 @@ pub returns : goal.returns
 returns g c =
     let p = c.args.planned.now in
     record {
-      runs = question_answered g.S.Shelf.tells g.S.Shelf.world g.S.Shelf.faults c.args.n c.args.text.now (length c.args.room.now) c.args.number p _
+      runs = question_answered g.S.Shelf.tells g.S.Shelf.world g.S.Shelf.faults c.args.n c.args.text.now c.args.number p _
           (same_asks c.args.n c.args.number c.args.left c.args.right _ _ c.node_file-left.ensures c.node_file-right.ensures p.step c.requires.kind) c.requires.step g.met.S.Shelf.files_are _ _ _ c.in_ok-going.going c.in_ok-going.ensures.finds
-          (same_asked c.args.n c.args.number c.args.left c.args.right _ _ c.node_file-left.ensures c.node_file-right.ensures c.args.text.now (length c.args.room.now) p (g.S.Shelf.world c.going_in.new.shelf) c.requires.kind)
+          (same_asked c.args.n c.args.number c.args.left c.args.right _ _ c.node_file-left.ensures c.node_file-right.ensures c.args.text.now p (g.S.Shelf.world c.going_in.new.shelf) c.requires.kind)
           c.in_ok-answered.answered c.answer_entry.result c.answer_entry.ensures (search arith) c.in_ok-answered.ensures.answers;
     }

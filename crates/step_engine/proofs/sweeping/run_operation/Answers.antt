@@ -8,7 +8,7 @@ make_diagram-requires-clause-within g c =
     (is_operation c.args.n c.args.number c.args.planned.now.step c.args.sweeping c.requires.sweeping).within c.requires.step.levels_are
 
 pub make_diagram-requires-clause-going : goal.make_diagram-requires-clause-going
-make_diagram-requires-clause-going g c = c.in_ok-going.ensures.finds.going.2
+make_diagram-requires-clause-going g c = c.in_ok-going.ensures.finds.going.1
 
 pub make_diagram-requires-clause-earlier : goal.make_diagram-requires-clause-earlier
 make_diagram-requires-clause-earlier g c =
@@ -19,9 +19,9 @@ pub returns-in_err-going : goal.returns-in_err-going
 returns-in_err-going g c =
     let p = c.args.planned.now in
     record {
-      runs = handed_runs g.S.Shelf.tells g.S.Shelf.world g.S.Shelf.faults c.args.n c.args.text.now (length c.args.room.now) c.args.number p _ _
+      runs = handed_runs g.S.Shelf.tells g.S.Shelf.world g.S.Shelf.faults c.args.n c.args.text.now c.args.number p _ _
           c.in_err-going.field-0.0 c.from_residual.result c.from_residual.ensures.1
-          (first_refused g.S.Shelf.tells g.S.Shelf.world g.S.Shelf.faults c.args.n c.args.text.now (length c.args.room.now) c.args.number p
+          (first_refused g.S.Shelf.tells g.S.Shelf.world g.S.Shelf.faults c.args.n c.args.text.now c.args.number p
           (is_operation c.args.n c.args.number p.step c.args.sweeping c.requires.sweeping).sweeps_is _ _ c.in_err-going.field-0.0
           c.in_err-going.ensures.finds);
     }
@@ -30,9 +30,9 @@ pub returns-in_err-made : goal.returns-in_err-made
 returns-in_err-made g c =
     let p = c.args.planned.now in
     record {
-      runs = handed_runs g.S.Shelf.tells g.S.Shelf.world g.S.Shelf.faults c.args.n c.args.text.now (length c.args.room.now) c.args.number p _ _
+      runs = handed_runs g.S.Shelf.tells g.S.Shelf.world g.S.Shelf.faults c.args.n c.args.text.now c.args.number p _ _
           c.in_err-made.field-0.0 c.from_residual-in_err-made.result c.from_residual-in_err-made.ensures.1
-          (operation_refused g.S.Shelf.tells g.S.Shelf.world g.S.Shelf.faults c.args.n c.args.text.now (length c.args.room.now) c.args.number p
+          (operation_refused g.S.Shelf.tells g.S.Shelf.world g.S.Shelf.faults c.args.n c.args.text.now c.args.number p
           c.args.sweeping c.requires.sweeping c.requires.step g.met.S.Shelf.files_are _ _ _ c.in_ok-going.going c.in_ok-going.ensures.finds
           c.in_err-made.field-0.0 c.in_err-made.ensures.makes);
     }
@@ -41,7 +41,7 @@ pub returns : goal.returns
 returns g c =
     let p = c.args.planned.now in
     record {
-      runs = operation_made g.S.Shelf.tells g.S.Shelf.world g.S.Shelf.faults c.args.n c.args.text.now (length c.args.room.now) c.args.number p
+      runs = operation_made g.S.Shelf.tells g.S.Shelf.world g.S.Shelf.faults c.args.n c.args.text.now c.args.number p
           c.args.sweeping c.requires.sweeping c.requires.step g.met.S.Shelf.files_are _ _ _ c.in_ok-going.going c.in_ok-going.ensures.finds
           c.in_ok-made.made c.diagram_entry.result c.diagram_entry.ensures (search arith) (search arith) c.in_ok-made.ensures.makes;
     }

@@ -31,7 +31,7 @@ returns-in_err-run_saved-clause-answers g c =
     let going = c.args.going.now in
     let q = comparing c.args.n c.args.left c.args.right in
     let task = comparison_of c.args.n c.args.left c.args.right going.step in
-    let by = compared_by c.args.n c.args.left c.args.right going.step going.budget in
+    let by = compared_by c.args.n c.args.left c.args.right going.step in
     let begun = c.in_ok-sweep.ensures.begun in
     let went_here = went g (goal.at.returns-in_err-run_saved-clause-answers g c).After-run_saved in
     let task_is = ended.same ∙ begun.task_is in
@@ -64,7 +64,7 @@ returns-clause-answers g c =
     let made = ended.made in
     answered g.S.Shelf.tells g.S.Shelf.world g.S.Shelf.faults sweeps.ghosts q (λ g. two_tables c.args.n g.left g.right)
     (comparison_of c.args.n c.args.left c.args.right going.step) going c.requires.going
-    (compared_by c.args.n c.args.left c.args.right going.step going.budget) c.args.shelf.now
+    (compared_by c.args.n c.args.left c.args.right going.step) c.args.shelf.now
     c.begin_comparison.new.shelf c.run_saved.new.shelf c.in_ok-sweep.sweep c.run_saved.new.sweep
     c.in_ok-sweep.ensures.begun (went g (goal.at.returns-clause-answers g c).After-run_saved)
     (record { answer = c.in-Some.answer; turns = c.run_saved.new.going.turns; next = 3 }) (record {

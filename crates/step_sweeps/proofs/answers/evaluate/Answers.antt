@@ -31,7 +31,7 @@ returns-in_err-run_saved-clause-answers g c =
     let going = c.args.going.now in
     let q = evaluating c.args.n c.args.file c.args.text.now c.args.at in
     let task = evaluation_of c.args.n c.args.file c.args.text.now c.args.at going.step in
-    let by = evaluated_by c.args.n c.args.file c.args.text.now c.args.at going.step going.budget in
+    let by = evaluated_by c.args.n c.args.file c.args.text.now c.args.at going.step in
     let begun = c.in_ok-sweep.ensures.begun in
     let went_here = went g (goal.at.returns-in_err-run_saved-clause-answers g c).After-run_saved in
     let task_is = ended.same ∙ begun.task_is in
@@ -64,7 +64,7 @@ returns-clause-answers g c =
     let made = ended.made in
     answered g.S.Shelf.tells g.S.Shelf.world g.S.Shelf.faults sweeps.ghosts q (one_table c.args.n)
     (evaluation_of c.args.n c.args.file c.args.text.now c.args.at going.step) going c.requires.going
-    (evaluated_by c.args.n c.args.file c.args.text.now c.args.at going.step going.budget) c.args.shelf.now
+    (evaluated_by c.args.n c.args.file c.args.text.now c.args.at going.step) c.args.shelf.now
     c.begin_evaluation.new.shelf c.run_saved.new.shelf c.in_ok-sweep.sweep c.run_saved.new.sweep
     c.in_ok-sweep.ensures.begun (went g (goal.at.returns-clause-answers g c).After-run_saved)
     (record { answer = c.in-Some.answer; turns = c.run_saved.new.going.turns; next = 3 }) (record {

@@ -13,7 +13,7 @@ returns-in_err-run_saved g c =
     let said = c.in_err-run_saved.ensures in
     let began = c.in_ok-sweep.ensures in
     let e = c.in_err-run_saved.field-0.0 in record {
-      makes = handed_anew g.S.Shelf.tells g.S.Shelf.world g.S.Shelf.faults c.args.making c.args.going.now.budget 0
+      makes = handed_anew g.S.Shelf.tells g.S.Shelf.world g.S.Shelf.faults c.args.making 0
           (λ g. 0) 7 _ _ _ e c.from_residual-in_err-run_saved.result c.from_residual-in_err-run_saved.ensures.1
           (copy_refused g.S.Shelf.tells g.S.Shelf.world g.S.Shelf.faults c.args.making c.args.going.now c.requires.anew
           c.requires.earlier c.args.source c.requires.operand c.node_pieces.result c.in_ok-sweep.sweep

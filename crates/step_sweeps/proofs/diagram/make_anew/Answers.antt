@@ -8,7 +8,7 @@ use Rattle.step_sweeps.proofs.diagram.make_anew.Goals as goal
 -- no operator
 pub returns-in_default : goal.returns-in_default
 returns-in_default g c = record {
-  makes = with_less g.S.Shelf.tells g.S.Shelf.world g.S.Shelf.faults c.args.making c.args.going.now.budget 0 (λ g. 0)
+  makes = with_less g.S.Shelf.tells g.S.Shelf.world g.S.Shelf.faults c.args.making 0 (λ g. 0)
       (left_by_sweeps c.args.making) 11 11 _ _ _ _ c.sweep_diagram.result (λ g. omega arith) (omega arith) (omega arith)
       c.sweep_diagram.ensures.makes;
 }
@@ -16,7 +16,7 @@ returns-in_default g c = record {
 -- an operand's trailer wasn't read
 pub returns-in_err-pair : goal.returns-in_err-pair
 returns-in_err-pair g c = record {
-  makes = look_refused g.S.Shelf.tells g.S.Shelf.world g.S.Shelf.faults c.args.making c.args.going.now.budget _ _ _
+  makes = look_refused g.S.Shelf.tells g.S.Shelf.world g.S.Shelf.faults c.args.making _ _ _
       c.in_err-pair.field-0.0 c.from_residual.result (omega arith) c.from_residual.ensures.1 c.in_err-pair.ensures.sound
       c.in_err-pair.ensures.damaged c.in_err-pair.ensures.content (search rules);
 }
@@ -37,7 +37,7 @@ make_by-requires-clause-leads g c =
 -- the look at the trailers comes first
 pub returns : goal.returns
 returns g c = record {
-  makes = after_look g.S.Shelf.tells g.S.Shelf.world g.S.Shelf.faults c.args.making c.args.going.now.budget 4 0 0
+  makes = after_look g.S.Shelf.tells g.S.Shelf.world g.S.Shelf.faults c.args.making 4 0 0
       (λ g. 0) (λ g. 0) 11 7 _ _ _ _ _ c.make_by.result (omega arith)
       (λ told. let few = (c.read_pair.ensures.content.did told).few in omega (arith, few))
       (λ told. record { turns = λ g given. omega arith; few_calls = λ g given. omega arith; calls = λ below. omega arith })

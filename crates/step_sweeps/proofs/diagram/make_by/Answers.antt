@@ -8,20 +8,20 @@ use Rattle.step_sweeps.proofs.diagram.make_by.Goals as goal
 -- at once
 pub returns-in-Constant : goal.returns-in-Constant
 returns-in-Constant g c = record {
-  makes = at_once_anew g.S.Shelf.tells g.S.Shelf.world g.S.Shelf.faults c.args.making c.args.going.now.budget _ _ _
+  makes = at_once_anew g.S.Shelf.tells g.S.Shelf.world g.S.Shelf.faults c.args.making _ _ _
       c.constant.result (omega arith) c.constant.ensures.makes;
 }
 
 pub returns-in-Copy : goal.returns-in-Copy
 returns-in-Copy g c = record {
-  makes = at_once_anew g.S.Shelf.tells g.S.Shelf.world g.S.Shelf.faults c.args.making c.args.going.now.budget _ _ _
+  makes = at_once_anew g.S.Shelf.tells g.S.Shelf.world g.S.Shelf.faults c.args.making _ _ _
       c.copy.result (omega arith) c.copy.ensures.makes;
 }
 
 -- joined, with no more turns than that takes
 pub returns-in-Join : goal.returns-in-Join
 returns-in-Join g c = record {
-  makes = with_less g.S.Shelf.tells g.S.Shelf.world g.S.Shelf.faults c.args.making c.args.going.now.budget 0 (λ g. 0)
+  makes = with_less g.S.Shelf.tells g.S.Shelf.world g.S.Shelf.faults c.args.making 0 (λ g. 0)
       (nodes_for c.args.making) 7 7 _ _ _ _ c.join.result (λ g. omega arith) (omega arith)
       (omega arith) c.join.ensures.makes;
 }

@@ -33,7 +33,7 @@ returns-in_err-run_saved g c =
     let going = c.args.going.now in
     let q = implying c.args.n c.args.left c.args.right in
     let task = arcs_of c.args.n (two_files c.args.left c.args.right) going.step in
-    let by = implied_by c.args.n c.args.left c.args.right going.step going.budget in
+    let by = implied_by c.args.n c.args.left c.args.right going.step in
     let begun = c.in_ok-sweep.ensures.begun in
     let went_here = went g (goal.at.returns-in_err-run_saved g c).After-run_saved in
     let task_is = ended.same ∙ begun.task_is in
@@ -72,7 +72,7 @@ returns g c =
     record {
       answers = answered g.S.Shelf.tells g.S.Shelf.world g.S.Shelf.faults sweeps.ghosts q (refutation_of c.args.n)
           (arcs_of c.args.n (two_files c.args.left c.args.right) going.step) going c.requires.going
-          (implied_by c.args.n c.args.left c.args.right going.step going.budget) c.args.shelf.now
+          (implied_by c.args.n c.args.left c.args.right going.step) c.args.shelf.now
           c.begin_implication.new.shelf c.run_saved.new.shelf c.in_ok-sweep.sweep c.run_saved.new.sweep
           c.in_ok-sweep.ensures.begun (went g (goal.at.returns g c).After-run_saved)
           (record { answer = c.in-Some.answer; turns = c.run_saved.new.going.turns; next = c.min.result }) (record {

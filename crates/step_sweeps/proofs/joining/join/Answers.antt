@@ -14,7 +14,7 @@ sweep_diagram-requires-clause-within g c = within g.S.Shelf.tells g.S.Shelf.worl
 -- the folder failed
 pub returns-in_err-tried : goal.returns-in_err-tried
 returns-in_err-tried g c = record {
-  makes = failed g.S.Shelf.tells g.S.Shelf.world g.S.Shelf.faults c.args.making c.args.going.now.budget c.args.before
+  makes = failed g.S.Shelf.tells g.S.Shelf.world g.S.Shelf.faults c.args.making c.args.before
       (nodes_for c.args.making) 7 _ _ _ _ (search rules)
       (λ told. failed_calls g.S.Shelf.tells g.S.Shelf.world g.S.Shelf.faults c.args.op c.args.making c.args.pair _
       c.requires.pair _ (c.join_in_room.ensures.content.before told) (c.join_in_room.ensures.content.did told).few)
@@ -54,7 +54,7 @@ returns-in-Some g c =
 -- and else the sweeps
 pub returns : goal.returns
 returns g c = record {
-  makes = after_look g.S.Shelf.tells g.S.Shelf.world g.S.Shelf.faults c.args.making c.args.going.now.budget _ c.args.before _
+  makes = after_look g.S.Shelf.tells g.S.Shelf.world g.S.Shelf.faults c.args.making _ c.args.before _
       (nodes_for c.args.making) (left_by_sweeps c.args.making) 7 11 _ _ _ _ _ c.sweep_diagram.result
       (search arith) (λ told. let few = c.join_in_room.ensures.few_calls told in omega (arith, few))
       (look_pays g.S.Shelf.tells g.S.Shelf.world g.S.Shelf.faults c.args.op c.args.making c.args.pair _ c.requires.pair

@@ -8,7 +8,7 @@ use Rattle.step_sweeps.proofs.unswept.complement.Goals as goal
 -- the folder failed
 pub returns-in_err-complement_file : goal.returns-in_err-complement_file
 returns-in_err-complement_file g c = record {
-  makes = at_once_anew g.S.Shelf.tells g.S.Shelf.world g.S.Shelf.faults c.args.making c.args.going.now.budget _ _ _ _
+  makes = at_once_anew g.S.Shelf.tells g.S.Shelf.world g.S.Shelf.faults c.args.making _ _ _ _
       (omega arith) (failed_at_once g.S.Shelf.tells g.S.Shelf.world g.S.Shelf.faults c.args.making c.args.source.trailer.count _ _ _
       (search rules) c.requires.few c.complement_file.ensures.content
       (λ told tables given. (c.requires.leads told tables given).2.few) (search rules));
@@ -17,7 +17,7 @@ returns-in_err-complement_file g c = record {
 -- the complement was made
 pub returns-then-branch : goal.returns-then-branch
 returns-then-branch g c = record {
-  makes = at_once_anew g.S.Shelf.tells g.S.Shelf.world g.S.Shelf.faults c.args.making c.args.going.now.budget _ _ _ _
+  makes = at_once_anew g.S.Shelf.tells g.S.Shelf.world g.S.Shelf.faults c.args.making _ _ _ _
       (omega arith) (made_at_once g.S.Shelf.tells g.S.Shelf.world g.S.Shelf.faults c.args.making c.args.source.trailer.count _ _ _
       c.made_at_once.ensures
       (λ told tables given.
@@ -32,7 +32,7 @@ returns-then-branch g c = record {
 -- the nodes weren't in order
 pub returns-else-branch : goal.returns-else-branch
 returns-else-branch g c = record {
-  makes = after_look g.S.Shelf.tells g.S.Shelf.world g.S.Shelf.faults c.args.making c.args.going.now.budget c.args.source.trailer.count 0
+  makes = after_look g.S.Shelf.tells g.S.Shelf.world g.S.Shelf.faults c.args.making c.args.source.trailer.count 0
       c.args.source.trailer.count (λ g. 0) (nodes_for c.args.making) 7 7 _ _ _ _ _ c.join.result (omega arith)
       (λ told.
       let few = ((c.in_ok-complement_file.ensures.left (search rules)).did told).few in

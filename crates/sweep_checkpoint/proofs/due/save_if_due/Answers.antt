@@ -42,7 +42,7 @@ module _ (g : given.Over) where
 
   -- what a stop may leave
   abbrev Left : g.row.P.Denot → Going → g.row.S.Denot → g.P.Sweep.Job → Moment → Type 0
-  Left sweep going old job = AreLeft g.P.Sweep.saving (g.P.Sweep.accounts.makes sweep) going.step (g.P.Sweep.accounts.next sweep) going.budget going.sweep (g.P.Sweep.task sweep) job
+  Left sweep going old job = AreLeft g.P.Sweep.saving (g.P.Sweep.accounts.makes sweep) going.step (g.P.Sweep.accounts.next sweep) going.sweep (g.P.Sweep.task sweep) job
       (turns_needed sweep going old job) (now (g.S.Shelf.world old)).folder
 
   -- it filled the checkpoint
@@ -68,7 +68,7 @@ module _ (g : given.Over) where
       let sweep = c.args.sweep.now in
       let going = c.args.going.now in
       images_none g.P.Sweep.saving laws.stays laws.apart (g.P.Sweep.accounts.makes sweep) (g.P.Sweep.saving.operands (g.P.Sweep.task sweep)) going.step (g.P.Sweep.accounts.next sweep)
-      going.budget going.sweep (g.P.Sweep.task sweep) job (turns_needed sweep going c.args.shelf.now job) (g.S.Shelf.world c.args.shelf.now) (g.met.S.Shelf.files_are c.args.shelf.now told)
+      going.sweep (g.P.Sweep.task sweep) job (turns_needed sweep going c.args.shelf.now job) (g.S.Shelf.world c.args.shelf.now) (g.met.S.Shelf.files_are c.args.shelf.now told)
       (subst (λ s. IsOfStep (g.P.Sweep.accounts.makes sweep) (g.P.Sweep.saving.operands (g.P.Sweep.task sweep)) s (g.P.Sweep.accounts.next sweep)) (sym c.requires.step) c.requires.files)
 
   -- the checkpoint was filled
@@ -82,17 +82,17 @@ module _ (g : given.Over) where
       let claim : g.claim c.lifetimes = search rules in
       let laws = g.met.P.Resume c.lifetimes claim in
       let turns = turns_needed c.args.sweep.now c.args.going.now c.args.shelf.now job in
-      left_at g.P.Sweep.saving (g.P.Sweep.accounts.makes c.args.sweep.now) c.carry.new.into.step c.args.going.now.step (g.P.Sweep.accounts.next c.args.sweep.now) c.args.going.now.budget c.args.going.now.sweep
+      left_at g.P.Sweep.saving (g.P.Sweep.accounts.makes c.args.sweep.now) c.carry.new.into.step c.args.going.now.step (g.P.Sweep.accounts.next c.args.sweep.now) c.args.going.now.sweep
       (g.P.Sweep.task c.args.sweep.now) job turns
       (g.S.Shelf.world c.args.shelf.now) (g.S.Shelf.world c.carry.new.shelf) (now (g.S.Shelf.world c.args.shelf.now)).folder c.carry.ensures.head.step_is
-      (images_carry g.S.Shelf.tells g.S.Shelf.world g.met.S.Shelf.files_are g.P.Sweep.saving laws.stays laws.apart _ _ _ _ c.args.going.now.budget c.args.going.now.sweep (g.P.Sweep.task c.args.sweep.now)
+      (images_carry g.S.Shelf.tells g.S.Shelf.world g.met.S.Shelf.files_are g.P.Sweep.saving laws.stays laws.apart _ _ _ _ c.args.going.now.sweep (g.P.Sweep.task c.args.sweep.now)
       c.carry.new.into job turns 0 c.args.shelf.now c.carry.new.shelf (carried c) told)
 
   -- while it is saved: it is ready where something of a job remains, and the sweep before it is such that the next checkpoint is paid for
   ready : (c : After-save g) → IsTrue (g.S.Shelf.tells c.carry.new.shelf) → (job : g.P.Sweep.Job) → g.P.Sweep.remains c.args.sweep.now (g.S.Shelf.world c.args.shelf.now) job
       → Sure c.args.sweep.now c.args.going.now c.args.shelf.now → PaidTo c.args.sweep.now c.args.going.now
       → Ready g.P.Sweep.saving (g.P.Sweep.accounts.makes c.args.sweep.now) (g.P.Sweep.saving.operands (g.P.Sweep.task c.args.sweep.now)) c.carry.new.into.step (g.P.Sweep.accounts.next c.carry.new.self)
-      c.args.going.now.budget c.args.going.now.sweep (g.P.Sweep.task c.args.sweep.now) job (turns_needed c.args.sweep.now c.args.going.now c.args.shelf.now job) c.carry.new.into
+      c.args.going.now.sweep (g.P.Sweep.task c.args.sweep.now) job (turns_needed c.args.sweep.now c.args.going.now c.args.shelf.now job) c.carry.new.into
       (g.P.Sweep.left c.carry.new.self (g.S.Shelf.world c.carry.new.shelf) job) (now (g.S.Shelf.world c.carry.new.shelf)).folder
   ready c told job remains sure paid =
       let claim : g.claim c.lifetimes = search rules in
@@ -102,10 +102,10 @@ module _ (g : given.Over) where
       let few : c.args.going.now.turns < 2 ^ 61 = omega (arith, c.if-going-ge-TURNS_END.false) in
       let due : c.args.going.now.shown + interval_of c.args.going.now.budget ≤ c.args.going.now.turns =
       let interval = c.interval.ensures in let since = c.since.ensures in let no = c.if-since-interval.false in omega (arith, interval, since, no) in
-      ready_by g.S.Shelf.tells g.S.Shelf.world g.met.S.Shelf.files_are g.P.Sweep.saving laws.stays laws.apart _ _ _ (g.P.Sweep.accounts.next c.carry.new.self) c.args.going.now.budget c.args.going.now.sweep
+      ready_by g.S.Shelf.tells g.S.Shelf.world g.met.S.Shelf.files_are g.P.Sweep.saving laws.stays laws.apart _ _ _ (g.P.Sweep.accounts.next c.carry.new.self) c.args.going.now.sweep
       (g.P.Sweep.task c.args.sweep.now) c.carry.new.into job (turns_needed c.args.sweep.now c.args.going.now c.args.shelf.now job) (g.P.Sweep.left c.carry.new.self (g.S.Shelf.world c.carry.new.shelf) job)
       c.args.shelf.now c.carry.new.shelf (carried (goal.at.After-save g c).After-carry) told c.args.going.now.turns (g.P.Sweep.left c.args.sweep.now (g.S.Shelf.world c.args.shelf.now) job)
-      head.sweep_is head.turns_are head.budget_is c.requires.sweep (omega (arith, few)) fill.filled (omega (arith, c.if-point-gt-MOST_PARTS.false))
+      head.sweep_is head.turns_are (omega (arith, head.budget_is, c.records.ensures.is, c.records.ensures.fits)) c.requires.sweep (omega (arith, few)) fill.filled (omega (arith, c.if-point-gt-MOST_PARTS.false))
       (paid_point g.P.Sweep.accounts c.args.going.now c.carry.new.into c.args.sweep.now c.carry.new.self (paid (omega (arith, few))) due fill.leaves.spent fill.filled.next_is head.turns_are)
       c.save.ensures.fits fill.names fill.fits (fill.stands told job remains) (fill.left told job remains) refl
       (subst (λ s. AreSure (g.P.Sweep.saving.operands (g.P.Sweep.task c.args.sweep.now)) s (now (g.S.Shelf.world c.args.shelf.now)).folder) (sym head.step_is) sure) (fill.sure told job remains)
@@ -124,10 +124,10 @@ module _ (g : given.Over) where
       let turns = turns_needed c.args.sweep.now c.args.going.now c.args.shelf.now job in
       let left = g.P.Sweep.left c.carry.new.self (g.S.Shelf.world c.carry.new.shelf) job in
       let step_is = c.carry.ensures.head.step_is in
-      left_at g.P.Sweep.saving (g.P.Sweep.accounts.makes c.args.sweep.now) c.carry.new.into.step c.args.going.now.step (g.P.Sweep.accounts.next c.args.sweep.now) c.args.going.now.budget c.args.going.now.sweep
+      left_at g.P.Sweep.saving (g.P.Sweep.accounts.makes c.args.sweep.now) c.carry.new.into.step c.args.going.now.step (g.P.Sweep.accounts.next c.args.sweep.now) c.args.going.now.sweep
       (g.P.Sweep.task c.args.sweep.now) job turns
       (g.S.Shelf.world c.args.shelf.now) (g.S.Shelf.world c.save.new.shelf) (now (g.S.Shelf.world c.args.shelf.now)).folder step_is
-      (images_save g.S.Shelf.tells g.S.Shelf.world g.met.S.Shelf.files_are g.P.Sweep.saving laws.stays laws.apart _ _ _ _ c.args.going.now.budget c.args.going.now.sweep (g.P.Sweep.task c.args.sweep.now)
+      (images_save g.S.Shelf.tells g.S.Shelf.world g.met.S.Shelf.files_are g.P.Sweep.saving laws.stays laws.apart _ _ _ _ c.args.going.now.sweep (g.P.Sweep.task c.args.sweep.now)
       c.carry.new.into job turns left c.args.shelf.now c.carry.new.shelf c.save.new.shelf (carried (goal.at.After-save g c).After-carry)
       (subst (λ s. AreSure (g.P.Sweep.saving.operands (g.P.Sweep.task c.args.sweep.now)) s (now (g.S.Shelf.world c.args.shelf.now)).folder) (sym step_is) sure)
       (ready c (c.save.ensures.content.before told) job remains sure paid) c.save.ensures.content told)
@@ -148,10 +148,10 @@ module _ (g : given.Over) where
       let turns = turns_needed c.args.sweep.now c.args.going.now c.args.shelf.now job in
       let left = g.P.Sweep.left c.carry.new.self (g.S.Shelf.world c.carry.new.shelf) job in
       let step_is = c.carry.ensures.head.step_is in
-      left_at g.P.Sweep.saving (g.P.Sweep.accounts.makes c.args.sweep.now) c.carry.new.into.step c.args.going.now.step (g.P.Sweep.accounts.next c.args.sweep.now) c.args.going.now.budget c.args.going.now.sweep
+      left_at g.P.Sweep.saving (g.P.Sweep.accounts.makes c.args.sweep.now) c.carry.new.into.step c.args.going.now.step (g.P.Sweep.accounts.next c.args.sweep.now) c.args.going.now.sweep
       (g.P.Sweep.task c.args.sweep.now) job turns
       (g.S.Shelf.world c.args.shelf.now) (g.S.Shelf.world c.retire.new.shelf) (now (g.S.Shelf.world c.args.shelf.now)).folder step_is
-      (images_retire g.S.Shelf.tells g.S.Shelf.world g.met.S.Shelf.files_are g.P.Sweep.saving laws.stays laws.apart _ _ _ _ c.args.going.now.budget c.args.going.now.sweep (g.P.Sweep.task c.args.sweep.now)
+      (images_retire g.S.Shelf.tells g.S.Shelf.world g.met.S.Shelf.files_are g.P.Sweep.saving laws.stays laws.apart _ _ _ _ c.args.going.now.sweep (g.P.Sweep.task c.args.sweep.now)
       c.carry.new.into job turns left _ c.args.shelf.now c.carry.new.shelf c.save.new.shelf c.retire.new.shelf (carried (goal.at.After-retire g c).After-carry)
       (subst (λ s. AreSure (g.P.Sweep.saving.operands (g.P.Sweep.task c.args.sweep.now)) s (now (g.S.Shelf.world c.args.shelf.now)).folder) (sym step_is) sure)
       (ready (goal.at.After-retire g c).After-save (c.save.ensures.content.before (c.retire.ensures.content.before told)) job remains sure paid) c.save.ensures.content c.in_ok-save.ensures.ok
@@ -160,14 +160,14 @@ module _ (g : given.Over) where
   retire_stands : (c : After-retire g) → IsTrue (g.S.Shelf.tells c.retire.new.shelf) → (job : g.P.Sweep.Job) → g.P.Sweep.remains c.args.sweep.now (g.S.Shelf.world c.args.shelf.now) job
       → Sure c.args.sweep.now c.args.going.now c.args.shelf.now → PaidTo c.args.sweep.now c.args.going.now
       → Stands g.P.Sweep.saving (g.P.Sweep.accounts.makes c.args.sweep.now) (g.P.Sweep.saving.operands (g.P.Sweep.task c.args.sweep.now)) c.args.going.now.step (g.P.Sweep.accounts.next c.carry.new.self)
-      c.args.going.now.budget c.args.going.now.sweep (g.P.Sweep.task c.args.sweep.now) job (turns_needed c.args.sweep.now c.args.going.now c.args.shelf.now job) (now (g.S.Shelf.world c.retire.new.shelf)).folder
+      c.args.going.now.sweep (g.P.Sweep.task c.args.sweep.now) job (turns_needed c.args.sweep.now c.args.going.now c.args.shelf.now job) (now (g.S.Shelf.world c.retire.new.shelf)).folder
   retire_stands c told job remains sure paid =
       let claim : g.claim c.lifetimes = search rules in
       let laws = g.met.P.Resume c.lifetimes claim in
       let turns = turns_needed c.args.sweep.now c.args.going.now c.args.shelf.now job in
       subst (λ s. Stands g.P.Sweep.saving (g.P.Sweep.accounts.makes c.args.sweep.now) (g.P.Sweep.saving.operands (g.P.Sweep.task c.args.sweep.now)) s (g.P.Sweep.accounts.next c.carry.new.self)
-      c.args.going.now.budget c.args.going.now.sweep (g.P.Sweep.task c.args.sweep.now) job turns (now (g.S.Shelf.world c.retire.new.shelf)).folder) c.carry.ensures.head.step_is
-      (stands_retire g.S.Shelf.tells g.S.Shelf.world g.met.S.Shelf.files_are g.P.Sweep.saving laws.stays laws.apart _ _ (g.P.Sweep.accounts.next c.args.sweep.now) _ _ _ _ c.carry.new.into job turns _ _
+      c.args.going.now.sweep (g.P.Sweep.task c.args.sweep.now) job turns (now (g.S.Shelf.world c.retire.new.shelf)).folder) c.carry.ensures.head.step_is
+      (stands_retire g.S.Shelf.tells g.S.Shelf.world g.met.S.Shelf.files_are g.P.Sweep.saving laws.stays laws.apart _ _ (g.P.Sweep.accounts.next c.args.sweep.now) _ _ _ c.carry.new.into job turns _ _
       c.carry.new.shelf c.save.new.shelf c.retire.new.shelf
       (ready (goal.at.After-retire g c).After-save (c.save.ensures.content.before (c.retire.ensures.content.before told)) job remains sure paid) c.save.ensures.content c.in_ok-save.ensures.ok
       c.retire.ensures.content told)

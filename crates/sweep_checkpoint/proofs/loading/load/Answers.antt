@@ -15,7 +15,7 @@ returns-in-Err-clause-content g c =
 
 pub returns-in-Err-clause-err : goal.returns-in-Err-clause-err
 returns-in-Err-clause-err g c =
-    load_fails g.S.Shelf.tells g.S.Shelf.world c.args.step c.args.budget c.checkpoint_gate-gate.result c.in_ok-count.count _ _ _ _ _ _ c.checkpoint_gate-gate.ensures c.if-count-eq0.false refl g.met.S.Shelf.files_are
+    load_fails g.S.Shelf.tells g.S.Shelf.world c.args.step c.checkpoint_gate-gate.result c.in_ok-count.count _ _ _ _ _ _ c.checkpoint_gate-gate.ensures c.if-count-eq0.false refl g.met.S.Shelf.files_are
     c.in_ok-sync.ensures.content c.in_ok-count.ensures.content c.in-Err.ensures.content c.in-Err.ensures.err
 
 pub returns-in-Ok-clause-content : goal.returns-in-Ok-clause-content
@@ -26,5 +26,5 @@ returns-in-Ok-clause-content g c =
 
 pub returns-in-Ok-clause-ok : goal.returns-in-Ok-clause-ok
 returns-in-Ok-clause-ok g c =
-    load_some g.S.Shelf.tells g.S.Shelf.world c.args.step c.args.budget c.checkpoint_gate-gate.result c.in_ok-count.count _ _ _ _ _ _ c.checkpoint_gate-gate.ensures c.if-count-eq0.false refl
+    load_some g.S.Shelf.tells g.S.Shelf.world c.args.step c.checkpoint_gate-gate.result c.in_ok-count.count _ _ _ _ _ _ c.checkpoint_gate-gate.ensures c.if-count-eq0.false refl
     c.in_ok-sync.ensures.content c.in_ok-count.ensures.content c.in-Ok.ensures.content c.in-Ok.ensures.ok

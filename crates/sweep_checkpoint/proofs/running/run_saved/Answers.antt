@@ -52,13 +52,13 @@ module _ (g : given.Over) where
 
   -- what a stop may leave
   abbrev Left : g.row.P.Denot → Going → g.row.S.Denot → g.P.Sweep.Job → Moment → Type 0
-  Left sweep going old job = AreLeft g.P.Sweep.saving (g.P.Sweep.accounts.makes sweep) going.step (g.P.Sweep.accounts.next sweep) going.budget going.sweep (g.P.Sweep.task sweep) job
+  Left sweep going old job = AreLeft g.P.Sweep.saving (g.P.Sweep.accounts.makes sweep) going.step (g.P.Sweep.accounts.next sweep) going.sweep (g.P.Sweep.task sweep) job
       (going.turns + g.P.Sweep.left sweep (g.S.Shelf.world old) job) (now (g.S.Shelf.world old)).folder
 
   -- where it has come to
   abbrev Come : g.row.P.Denot → Going → g.row.S.Denot → g.P.Sweep.Job → ℕ → g.row.S.Denot → Type 0
   Come sweep going old job later new = Stage g.P.Sweep.saving (g.P.Sweep.accounts.makes sweep) (g.P.Sweep.saving.operands (g.P.Sweep.task sweep)) going.step (g.P.Sweep.accounts.next sweep)
-      going.budget going.sweep (g.P.Sweep.task sweep) job (going.turns + g.P.Sweep.left sweep (g.S.Shelf.world old) job) later (g.S.Shelf.world old) (g.S.Shelf.world new)
+      going.sweep (g.P.Sweep.task sweep) job (going.turns + g.P.Sweep.left sweep (g.S.Shelf.world old) job) later (g.S.Shelf.world old) (g.S.Shelf.world new)
 
   -- what it took so far
   abbrev Spent : g.row.P.Denot → Going → g.row.S.Denot → ℕ → Going → g.row.P.Denot → g.row.S.Denot → Type 0
@@ -98,7 +98,7 @@ module _ (g : given.Over) where
       → Sure c.args.sweep.now c.args.going.now c.args.shelf.now → IsPaidTo g.P.Sweep.accounts c.args.going.now c.args.sweep.now → Sure c.turns.sweep c.turns.going c.turns.shelf
   sure_at c told job remains sure paid =
       let inv = c.turns.invariant in
-      sure_of g.P.Sweep.saving _ _ _ _ _ _ _ _ inv.same inv.going.step_is inv.going.budget_is inv.going.sweep_is
+      sure_of g.P.Sweep.saving _ _ _ _ _ _ inv.same inv.going.step_is inv.going.sweep_is
       {turns = c.args.going.now.turns + g.P.Sweep.left c.args.sweep.now (g.S.Shelf.world c.args.shelf.now) job}
       (g.P.Sweep.accounts.makes c.args.sweep.now) (g.P.Sweep.accounts.next c.args.sweep.now) (g.P.Sweep.accounts.next c.turns.sweep) job (now (g.S.Shelf.world c.args.shelf.now))
       (now (g.S.Shelf.world c.turns.shelf)) (of_step c) (inv.come told job remains sure paid) sure
@@ -107,12 +107,12 @@ module _ (g : given.Over) where
   left_here : (c : After-save_if_due g) → IsTrue (g.S.Shelf.tells c.save_if_due.new.shelf) → (job : g.P.Sweep.Job) → g.P.Sweep.remains c.args.sweep.now (g.S.Shelf.world c.args.shelf.now) job
       → Sure c.args.sweep.now c.args.going.now c.args.shelf.now → IsPaidTo g.P.Sweep.accounts c.args.going.now c.args.sweep.now
       → Throughout (g.S.Shelf.world c.turns.shelf) (g.S.Shelf.world c.save_if_due.new.shelf)
-      (AreLeft g.P.Sweep.saving (g.P.Sweep.accounts.makes c.turns.sweep) c.args.going.now.step (g.P.Sweep.accounts.next c.turns.sweep) c.args.going.now.budget c.args.going.now.sweep
+      (AreLeft g.P.Sweep.saving (g.P.Sweep.accounts.makes c.turns.sweep) c.args.going.now.step (g.P.Sweep.accounts.next c.turns.sweep) c.args.going.now.sweep
       (g.P.Sweep.task c.args.sweep.now) job (c.turns.going.turns + g.P.Sweep.left c.turns.sweep (g.S.Shelf.world c.turns.shelf) job) (now (g.S.Shelf.world c.turns.shelf)).folder)
   left_here c told job remains sure paid =
       let inv = c.turns.invariant in
       let told_at = c.save_if_due.ensures.changes.before told in
-      left_of g.P.Sweep.saving _ _ _ _ _ _ _ _ inv.same inv.going.step_is inv.going.budget_is inv.going.sweep_is
+      left_of g.P.Sweep.saving _ _ _ _ _ _ inv.same inv.going.step_is inv.going.sweep_is
       (g.P.Sweep.accounts.makes c.turns.sweep) (g.P.Sweep.accounts.next c.turns.sweep) job (c.turns.going.turns + g.P.Sweep.left c.turns.sweep (g.S.Shelf.world c.turns.shelf) job)
       (g.S.Shelf.world c.turns.shelf) (g.S.Shelf.world c.save_if_due.new.shelf)
       (now (g.S.Shelf.world c.turns.shelf)).folder (c.save_if_due.ensures.images told job (inv.keeps told_at job remains) (sure_at c told_at job remains sure paid) (λ few. inv.paid few paid))
@@ -126,7 +126,7 @@ module _ (g : given.Over) where
       let inv = c.turns.invariant in
       let told_at = c.save_if_due.ensures.changes.before told in
       images_on g.P.Sweep.saving laws.stays laws.apart (g.P.Sweep.accounts.makes c.args.sweep.now) (g.P.Sweep.saving.operands (g.P.Sweep.task c.args.sweep.now)) c.args.going.now.step
-      (g.P.Sweep.accounts.next c.args.sweep.now) c.args.going.now.budget c.args.going.now.sweep (g.P.Sweep.task c.args.sweep.now) job
+      (g.P.Sweep.accounts.next c.args.sweep.now) c.args.going.now.sweep (g.P.Sweep.task c.args.sweep.now) job
       (c.args.going.now.turns + g.P.Sweep.left c.args.sweep.now (g.S.Shelf.world c.args.shelf.now) job) (g.P.Sweep.accounts.makes c.turns.sweep) (g.P.Sweep.accounts.next c.turns.sweep)
       (c.turns.going.turns + g.P.Sweep.left c.turns.sweep (g.S.Shelf.world c.turns.shelf) job) (g.S.Shelf.world c.args.shelf.now) (g.S.Shelf.world c.turns.shelf) (g.S.Shelf.world c.save_if_due.new.shelf)
       inv.made inv.making (g.met.S.Shelf.files_are c.args.shelf.now (inv.changes.before told_at)) (of_step c) inv.later (inv.few told_at job remains) (inv.come told_at job remains sure paid)
@@ -144,13 +144,13 @@ module _ (g : given.Over) where
       let first = c.in_ok-save_if_due.ensures in
       let told_at = first.changes.before told in
       stage_save g.P.Sweep.saving laws.stays laws.apart (g.P.Sweep.accounts.makes c.args.sweep.now) (g.P.Sweep.saving.operands (g.P.Sweep.task c.args.sweep.now)) c.args.going.now.step
-      (g.P.Sweep.accounts.next c.args.sweep.now) c.args.going.now.budget c.args.going.now.sweep (g.P.Sweep.task c.args.sweep.now) job
+      (g.P.Sweep.accounts.next c.args.sweep.now) c.args.going.now.sweep (g.P.Sweep.task c.args.sweep.now) job
       (c.args.going.now.turns + g.P.Sweep.left c.args.sweep.now (g.S.Shelf.world c.args.shelf.now) job) (g.P.Sweep.accounts.makes c.turns.sweep) (g.P.Sweep.accounts.next c.turns.sweep)
       (g.P.Sweep.accounts.next c.save_if_due.new.sweep) (c.turns.going.turns + g.P.Sweep.left c.turns.sweep (g.S.Shelf.world c.turns.shelf) job) (g.S.Shelf.world c.args.shelf.now)
       (g.S.Shelf.world c.turns.shelf) (g.S.Shelf.world c.save_if_due.new.shelf)
       inv.made inv.making (g.met.S.Shelf.files_are c.args.shelf.now (inv.changes.before told_at)) (g.met.S.Shelf.files_are c.turns.shelf told_at) (of_step at) first.later (inv.few told_at job remains)
       (record { more = inv.later; images = inv.images told_at job remains sure paid; come = inv.come told_at job remains sure paid }) (left_here at told job remains sure paid)
-      (come_of g.P.Sweep.saving _ _ _ _ _ _ _ _ inv.same inv.going.step_is inv.going.budget_is inv.going.sweep_is
+      (come_of g.P.Sweep.saving _ _ _ _ _ _ inv.same inv.going.step_is inv.going.sweep_is
       (g.P.Sweep.accounts.makes c.turns.sweep) (g.P.Sweep.accounts.next c.turns.sweep) (g.P.Sweep.accounts.next c.save_if_due.new.sweep) job
       (c.turns.going.turns + g.P.Sweep.left c.turns.sweep (g.S.Shelf.world c.turns.shelf) job) (now (g.S.Shelf.world c.turns.shelf))
       (now (g.S.Shelf.world c.save_if_due.new.shelf)) (first.stands told job (inv.keeps told_at job remains) (sure_at at told_at job remains sure paid) (λ few. inv.paid few paid)))
@@ -239,7 +239,7 @@ module _ (g : given.Over) where
       let told_s = ran.content.before told in
       let told_at = first.changes.before told_s in
       stage_turns g.P.Sweep.saving laws.stays laws.apart (g.P.Sweep.accounts.makes c.args.sweep.now) (g.P.Sweep.saving.operands (g.P.Sweep.task c.args.sweep.now)) c.args.going.now.step
-      (g.P.Sweep.accounts.next c.args.sweep.now) c.args.going.now.budget c.args.going.now.sweep (g.P.Sweep.task c.args.sweep.now) job
+      (g.P.Sweep.accounts.next c.args.sweep.now) c.args.going.now.sweep (g.P.Sweep.task c.args.sweep.now) job
       (c.args.going.now.turns + g.P.Sweep.left c.args.sweep.now (g.S.Shelf.world c.args.shelf.now) job) (g.P.Sweep.accounts.makes c.save_if_due.new.sweep) (g.P.Sweep.accounts.next c.save_if_due.new.sweep)
       (g.P.Sweep.accounts.next c.run_some.new.sweep) (g.S.Shelf.world c.args.shelf.now) (g.S.Shelf.world c.save_if_due.new.shelf) (g.S.Shelf.world c.run_some.new.shelf)
       (λ f mine. inv.made f (first.made f mine)) (λ f mine. first.making f (inv.making f mine)) (g.met.S.Shelf.files_are c.args.shelf.now (inv.changes.before told_at))
@@ -567,7 +567,7 @@ turns-init g c =
       says = λ told. inl (record { shown_is = refl; last_is = refl; gated_is = refl });
       changes = told_changed_none g.S.Shelf.tells g.S.Shelf.world (IsOfGoing made c.args.going.now.step) c.args.shelf.now;
       alone = λ told f alone. refl;
-      images = λ told job remains sure paid. images_none g.P.Sweep.saving laws.stays laws.apart made read c.args.going.now.step next c.args.going.now.budget c.args.going.now.sweep (g.P.Sweep.task c.args.sweep.now) job
+      images = λ told job remains sure paid. images_none g.P.Sweep.saving laws.stays laws.apart made read c.args.going.now.step next c.args.going.now.sweep (g.P.Sweep.task c.args.sweep.now) job
           (c.args.going.now.turns + g.P.Sweep.left c.args.sweep.now (g.S.Shelf.world c.args.shelf.now) job) (g.S.Shelf.world c.args.shelf.now) (g.met.S.Shelf.files_are c.args.shelf.now told)
           (subst (λ s. IsOfStep made read s next) (sym c.requires.step) c.requires.files);
       come = λ told job remains sure paid. inl (saved_none made c.args.going.now.step next (now (g.S.Shelf.world c.args.shelf.now)));

@@ -64,13 +64,13 @@ invariant-turns g l = record {
       → AreSure (g.P.Sweep.saving.operands (g.P.Sweep.task l.fn.sweep)) l.fn.going.step (now (g.S.Shelf.world l.fn.shelf)).folder
       → IsPaidTo g.P.Sweep.accounts l.fn.going l.fn.sweep
       → Throughout (g.S.Shelf.world l.fn.shelf) (g.S.Shelf.world l.shelf) (AreLeft g.P.Sweep.saving (g.P.Sweep.accounts.makes l.fn.sweep)
-      l.fn.going.step (g.P.Sweep.accounts.next l.fn.sweep) l.fn.going.budget l.fn.going.sweep (g.P.Sweep.task l.fn.sweep) job
+      l.fn.going.step (g.P.Sweep.accounts.next l.fn.sweep) l.fn.going.sweep (g.P.Sweep.task l.fn.sweep) job
       (l.fn.going.turns + g.P.Sweep.left l.fn.sweep (g.S.Shelf.world l.fn.shelf) job) (now (g.S.Shelf.world l.fn.shelf)).folder);
   come : IsTrue (g.S.Shelf.tells l.shelf) → (job : g.P.Sweep.Job) → g.P.Sweep.remains l.fn.sweep (g.S.Shelf.world l.fn.shelf) job
       → AreSure (g.P.Sweep.saving.operands (g.P.Sweep.task l.fn.sweep)) l.fn.going.step (now (g.S.Shelf.world l.fn.shelf)).folder
       → IsPaidTo g.P.Sweep.accounts l.fn.going l.fn.sweep
       → HasCome g.P.Sweep.saving (g.P.Sweep.accounts.makes l.fn.sweep) (g.P.Sweep.saving.operands (g.P.Sweep.task l.fn.sweep))
-      l.fn.going.step (g.P.Sweep.accounts.next l.fn.sweep) l.fn.going.budget l.fn.going.sweep (g.P.Sweep.task l.fn.sweep) job
+      l.fn.going.step (g.P.Sweep.accounts.next l.fn.sweep) l.fn.going.sweep (g.P.Sweep.task l.fn.sweep) job
       (l.fn.going.turns + g.P.Sweep.left l.fn.sweep (g.S.Shelf.world l.fn.shelf) job)
       (g.P.Sweep.accounts.next l.sweep) (now (g.S.Shelf.world l.fn.shelf)) (now (g.S.Shelf.world l.shelf));
   shows : IsTrue (g.S.Shelf.tells l.shelf) → IsGateSure l.fn.going.step (now (g.S.Shelf.world l.fn.shelf)).folder
