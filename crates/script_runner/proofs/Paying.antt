@@ -73,7 +73,7 @@ pays_still : (step : Step) (number rest : ℕ) (old new : FileNo → List ℕ) �
 pays_still step number rest old new below gate points nodes pays c tells =
     let same : last_gated number new ≡ last_gated number old = λ i. last_of (length (gate i)) (points i) in
     let read : nodes_read step new ≡ nodes_read step old = ap (λ n. 3 * n) (nodes_same (operands step) number old new below nodes) in
-    subst (λ n. rest_calls (Some c) n + 590 ≤ rest) (sym read)
+    subst (λ n. rest_calls (Some c) n + 3890 ≤ rest) (sym read)
     (pays c (subst (λ found. Tells number found (Some c)) same tells))
 
 -- so it is at each step of a run in a folder that was sound at first

@@ -6,7 +6,7 @@ use Rattle.std.proofs.lemmas.List.{append-nil, length-take, length-drop, take_mo
 use Rattle.std.proofs.lemmas.List.Sums.{sum_by-take-le, sum_by_push}
 use Rattle.shelf_model.specs.declared.fault.Failed.{Failed}
 use Rattle.shelf_model.specs.declared.file_no.FileNo.{FileNo}
-use Rattle.shelf_model.specs.Folder.{Folder, Image, AreFiles, bytes_in}
+use Rattle.shelf_model.specs.Folder.{Image, AreFiles, bytes_in}
 use Rattle.shelf_model.specs.World.{Moment, World, now, said}
 use Rattle.shelf_model.specs.Calls.{Told, Said}
 use Rattle.shelf_model.specs.Moments.{Quiet, Ran, OnlyOldImages}

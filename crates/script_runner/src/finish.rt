@@ -5,8 +5,8 @@ use shelf_model::FileNo;
 pub enum Finish {
     /// Every step is committed, and its lines are said.
     Done,
-    /// Another job is stored. The byte is the first at which the two differ, the budget at 8 to 11 aside, or the shorter
-    /// length.
+    /// Another job is stored. The byte is the first at which the two differ, the budget at 8 to 11 aside, or the
+    /// shorter length.
     OtherJob { at: u64 },
     /// A call of the folder failed.
     FolderFault,

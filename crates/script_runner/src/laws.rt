@@ -34,10 +34,10 @@ use script_reader::laws::net_lines_make_their_signals;
 
 /// Over any list of calls in one folder, each of which finds what the one before left: a call is ended by its
 /// status, by a kill, between two calls of the folder or within one, or by a power cut, and leaves any folder of which
-/// a stop may leave only what it could leave at that moment. The words are those of one job, with another budget in each
-/// call, or any others once every image stores that job, or run no job. Every image that is left is sound for the job,
-/// and has each step that all images had and each whose line was said. Words with another budget ask for the same source,
-/// and so for the same job.
+/// a stop may leave only what it could leave at that moment. The words are those of one job, each call's with any
+/// budget, or any others once every image stores that job, or run no job. Every image that is left is sound for the
+/// job, and has each step that all images had and each whose line was said. Words with another budget ask for the same
+/// source, and so for the same job.
 pub fn lives_keep()
     ensures keeps { (source : Source) (plan : Plan) (folder : Folder) (lives : List Life)
         → Plans source plan → AreSound (job_of source plan) folder → AreLives source plan folder lives

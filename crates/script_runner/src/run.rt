@@ -25,9 +25,9 @@ use shelf_model::Station;
 /// and then that all was done.
 ///
 /// It takes no memory. The room, 16,384 to 4,194,304 records of 64 bytes, is for the steps that sweep over diagrams. A
-/// step that was interrupted goes on from its last checkpoint, whatever the room of the run that saved it. Of the
-/// bytes of the job those at 8 to 11 are the budget of its run, which tells no job from another. The answer says how the
-/// run ended. What was committed before stays, whichever it is.
+/// step that was interrupted goes on from its last checkpoint, whatever the room of the run that saved it. The bytes of
+/// the job have the budget of its run at 8 to 11, and those alone tell no job from another. The answer says how the run
+/// ended. What was committed before stays, whichever it is.
 pub fn run_steps<W: Station>(
     n: u32,
     text: &[u8],

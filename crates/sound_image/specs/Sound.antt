@@ -14,8 +14,8 @@ use Rattle.canon_file.specs.Laws.{HasForm}
 use Rattle.sound_image.specs.Jobs.{Job, table_at, file_of}
 use Rattle.sound_image.specs.Entries.{IsEntryOfStep}
 
--- the job is stored, by a run with any budget, each committed step has its entry, and each diagram that is live then has its canonical file,
--- which is defined for its table
+-- the job is stored, by a run with any budget, each committed step has its entry, and each diagram that is live then
+-- has its canonical file, which is defined for its table
 pub record ShowsSteps (job : Job) (r : FileNo → List ℕ) : Type 0 where
   pub stored : IsTrue (is_stored r)
   pub job_is : without_budget (r job_file) ≡ job.bytes

@@ -6,6 +6,7 @@ mod Stops
 mod Went
 mod RunFaults
 mod Found
+mod GivenUp
 pub mod PlanLaws
 mod TableLaws
 pub mod EntryLaws

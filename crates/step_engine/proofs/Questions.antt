@@ -13,7 +13,7 @@ use Rattle.shelf_model.specs.declared.sort_fault.SortFault.{SortFault}
 use Rattle.shelf_model.specs.declared.sort_fault.SortFault.TheVariants as sort
 use Rattle.shelf_model.specs.Faults.{Faults}
 use Rattle.shelf_model.specs.Folder.{AreFiles}
-use Rattle.shelf_model.specs.World.{World, now, file}
+use Rattle.shelf_model.specs.World.{World, now}
 use Rattle.shelf_model.proofs.Changing.{told_changed_more}
 use Rattle.catalogue.specs.declared.layout.Entry.{Entry}
 use Rattle.run_tiers.proofs.FaultLaws.{sort_shelf_on, sort_shelf_then}
@@ -23,7 +23,7 @@ use Rattle.sweep_checkpoint.specs.Stops.{shown_by, StopsCost}
 use Rattle.sweep_checkpoint.specs.declared.going.Going.{Going}
 use Rattle.resumable.specs.Answers.{ComparisonGoesOn, EvaluationGoesOn, ImplicationGoesOn}
 use Rattle.resumable.specs.Kinds.{StepGoesOn, RestsOn}
-use Rattle.sound_image.specs.Files.{node_file, checkpoint_gate}
+use Rattle.sound_image.specs.Files.{node_file}
 use Rattle.sound_image.specs.Jobs.{Job, step_at, table_at}
 use Rattle.sound_image.specs.Entries as entries
 use Rattle.sound_image.specs.Entries.{IsEntryOfStep, kind_of, answer_of, bit_of, work_of}
@@ -44,7 +44,7 @@ use Rattle.step_engine.proofs.EntryLaws.{IsSpent, for_nameless, nameless_entry_i
 use Rattle.step_engine.proofs.Operands.{two_given, one_given, work_given}
 use Rattle.step_engine.proofs.RunFaults.{faults_ok, fault_before, refused_then, gate_as}
 use Rattle.step_engine.proofs.Runs.{first_below, more_below, sound_fault, refused_runs, ended_runs}
-use Rattle.step_engine.proofs.Went.{stands_as, safe_as, IsSet, Went, Swept, set_found, same_reads, pays_for, parts_for, ends_for, went_then}
+use Rattle.step_engine.proofs.Went.{stands_as, safe_as, IsSet, Went, Swept, set_found, same_diagrams, same_gate, pays_for, parts_for, ends_for, went_then}
 
 -- what is known of a step that asks such a question
 pub record AsksFor {Given : Type 0} (q : Question Given) (n number : ℕ) (step : Step) : Type 0 where
@@ -138,10 +138,10 @@ module _ {S Given : Type 0} (tells : S → Bool) (world : S → World) (counts :
       let told_mid = said.content.before told in
       refused_then n number p.step asks.sweeps_is (world before) going.last e (found.last told_mid)
       (λ none empty.
-      let same : (f : FileNo) → (file (world mid) f).bytes ≡ (file (world before) f).bytes = λ f. ap (λ r. r f)
-      (same_reads tells world counts n text number p files_are asks.sweeps_is before mid after going found q.some q.nodes asks.few asks.nodes told_mid) in
-      fault_before n (world before) (world mid) same p.step e asks.sweeps_is (asks.fault (world mid) e
-      (said.damaged told none (gate_as step_is (world mid) (same (checkpoint_gate number) ∙ empty))))))
+      fault_before n (world before) (world mid) (same_diagrams tells world counts n text number p files_are asks.sweeps_is before mid after going found
+      q.some q.nodes asks.few asks.nodes told_mid) p.step e asks.sweeps_is (asks.fault (world mid) e
+      (said.damaged told none (gate_as step_is (world mid) (same_gate tells world counts n text number p files_are asks.sweeps_is before mid after going found
+      q.some q.nodes asks.few asks.nodes told_mid ∙ empty))))))
       kind
       (sort_shelf_then (counts before) (counts mid) (counts after) (Ok going) (Err e) found.faults
       (sort_shelf_on (counts mid) (counts after) e (Err e) refl said.faults))

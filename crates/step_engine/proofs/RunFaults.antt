@@ -41,23 +41,24 @@ shelf_faults {A} {B} old new (stream.Damaged f at) only = record { later = only.
 pub shelf_fine : {A B : Type 0} (old new : Faults) (x : A) (y : B) → OnlyShelf old new (Ok x) → OnlySortShelf old new (Ok y)
 shelf_fine old new x y only = record { later = only.later; cause = λ is. cc; say_is = only.say_is; text_is = only.text_is }
 
--- where reads give what they gave, a step that is refused for damage would have been before
-module _ (n : ℕ) (old new : World) (reads : (f : FileNo) → (file new f).bytes ≡ (file old f).bytes) where
-  damaged_before : (Misses : List ℕ → ℕ → Type 0) (read f : FileNo) (at : ℕ) → IsDamagedBy Misses n read new f at → IsDamagedBy Misses n read old f at
-  damaged_before Misses read f at (is, inl trailer) = (
+-- where reads of node files give what they gave, a step that is refused for damage would have been before
+module _ (n : ℕ) (old new : World) (reads : (k : ℕ) → (file new (node_file k)).bytes ≡ (file old (node_file k)).bytes) where
+  damaged_before : (Misses : List ℕ → ℕ → Type 0) (k : ℕ) (f : FileNo) (at : ℕ) → IsDamagedBy Misses n (node_file k) new f at
+      → IsDamagedBy Misses n (node_file k) old f at
+  damaged_before Misses k f at (is, inl trailer) = (
     is,
     inl (
       trailer.0,
-      trailer.1 ∙ ap (λ (bytes : List ℕ). length bytes - node_size) (reads read),
-      λ root has. trailer.2 root (subst (HasTrailer n root) (sym (reads read)) has),
+      trailer.1 ∙ ap (λ (bytes : List ℕ). length bytes - node_size) (reads k),
+      λ root has. trailer.2 root (subst (HasTrailer n root) (sym (reads k)) has),
     ),
   )
-  damaged_before Misses read f at (is, inr (inl node)) = (is, inr (inl (subst (λ bytes. IsDamagedNode n bytes at) (reads read) node)))
-  damaged_before Misses read f at (is, inr (inr missed)) = (is, inr (inr (subst (λ bytes. Misses bytes at) (reads read) missed)))
+  damaged_before Misses k f at (is, inr (inl node)) = (is, inr (inl (subst (λ bytes. IsDamagedNode n bytes at) (reads k) node)))
+  damaged_before Misses k f at (is, inr (inr missed)) = (is, inr (inr (subst (λ bytes. Misses bytes at) (reads k) missed)))
 
   among_before : (Misses : List ℕ → ℕ → Type 0) (ks : List ℕ) (f : FileNo) (at : ℕ) → IsDamagedAmong Misses n ks new f at → IsDamagedAmong Misses n ks old f at
   among_before Misses [] f at is = is
-  among_before Misses (k ∷ ks) f at (inl here) = inl (damaged_before Misses (node_file k) f at here)
+  among_before Misses (k ∷ ks) f at (inl here) = inl (damaged_before Misses k f at here)
   among_before Misses (k ∷ ks) f at (inr more) = inr (among_before Misses ks f at more)
 
   reading_before : (Misses : List ℕ → ℕ → Type 0) (ks : List ℕ) (e : SortFault) → IsReadingFault Misses n ks new e → IsReadingFault Misses n ks old e

@@ -16,7 +16,7 @@ use Rattle.shelf_model.specs.Faults.{Faults}
 use Rattle.shelf_model.specs.File.{firm_file}
 use Rattle.shelf_model.specs.Folder.{AreFiles}
 use Rattle.shelf_model.specs.Moments.{Ran, OnlyChanged}
-use Rattle.shelf_model.specs.World.{World, now, file}
+use Rattle.shelf_model.specs.World.{World, now}
 use Rattle.catalogue.specs.declared.layout.Entry.{Entry}
 use Rattle.run_tiers.specs.Faults.{OnlySortShelf}
 use Rattle.run_tiers.proofs.FaultLaws.{sort_shelf_on, sort_shelf_then}
@@ -28,7 +28,7 @@ use Rattle.sweep_core.specs.Sweeps.{IsNoDamage}
 use Rattle.sweep_checkpoint.specs.Stops.{shown_by, StopsCost}
 use Rattle.sweep_checkpoint.specs.declared.going.Going.{Going}
 use Rattle.resumable.specs.Diagrams.{DiagramGoesOn, diagram_rests}
-use Rattle.sound_image.specs.Files.{node_file, checkpoint_gate}
+use Rattle.sound_image.specs.Files.{node_file}
 use Rattle.sound_image.specs.Jobs.{Job, nodes_at}
 use Rattle.sound_image.specs.Entries as entries
 use Rattle.sound_image.specs.Entries.{IsEntryOfStep, kind_of, answer_of, work_of}
@@ -54,7 +54,7 @@ use Rattle.step_engine.specs.Running.{run_calls, nodes_read, PaysRest, SparesPar
 use Rattle.step_engine.proofs.EntryLaws.{IsSpent, for_diagram, diagram_entry_is}
 use Rattle.step_engine.proofs.Operands.{IsGivenTo, step_given}
 use Rattle.step_engine.proofs.RunFaults.{faults_ok, fault_before, refused_first, refused_then, gate_as, shelf_sound, not_spent_kind}
-use Rattle.step_engine.proofs.Went.{stands_as, safe_as, IsSet, Went, Swept, went_first, set_found, same_reads, pays_for, parts_for, ends_for, went_then}
+use Rattle.step_engine.proofs.Went.{stands_as, safe_as, IsSet, Went, Swept, went_first, set_found, same_diagrams, same_gate, pays_for, parts_for, ends_for, went_then}
 
 -- a run that is refused, for a fault that is handed on
 pub handed_runs : {S : Type 0} (tells : S → Bool) (world : S → World) (counts : S → Faults) (n : ℕ) (text : List ℕ) (number : ℕ) (p : Planned)
@@ -382,11 +382,10 @@ module _ {S : Type 0} (tells : S → Bool) (world : S → World) (counts : S →
       let told_mid = said.content.before told in
       refused_then n number p.step is_one.sweeps_is (world before) going.last e (found.last told_mid)
       (λ none empty.
-      let same : (f : FileNo) → (file (world mid) f).bytes ≡ (file (world before) f).bytes = λ f. ap (λ r. r f)
-      (same_reads tells world counts n text number p files_are is_one.sweeps_is before mid after going found 11
-      (operand_nodes (making_of n sweeping going.step)) (omega arith) is_one.nodes told_mid) in
-      fault_before n (world before) (world mid) same p.step e is_one.sweeps_is (is_one.fault (world mid) e
-      (said.damaged told none (gate_as found.going.0 (world mid) (same (checkpoint_gate number) ∙ empty))))))
+      fault_before n (world before) (world mid) (same_diagrams tells world counts n text number p files_are is_one.sweeps_is before mid after going found 11
+      (operand_nodes (making_of n sweeping going.step)) (omega arith) is_one.nodes told_mid) p.step e is_one.sweeps_is (is_one.fault (world mid) e
+      (said.damaged told none (gate_as found.going.0 (world mid) (same_gate tells world counts n text number p files_are is_one.sweeps_is before mid after going
+      found 11 (operand_nodes (making_of n sweeping going.step)) (omega arith) is_one.nodes told_mid ∙ empty))))))
       (of_kind p.step e is_one.joins_is)
       (sort_shelf_then (counts before) (counts mid) (counts after) (Ok going) (Err e) found.faults
       (sort_shelf_on (counts mid) (counts after) e (Err e) refl said.faults))

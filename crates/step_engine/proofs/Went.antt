@@ -1,34 +1,36 @@
 -- A step of a job of which it was found how far it has come, and what a sweep of it leaves and costs then.
-use Rattle.std.proofs.Common.{◌≡◌, ℕ, ◌+◌, ◌-◌, ◌*◌, ◌/◌, ◌^◌, ◌<◌, ◌≤◌, Bool, true, List, refl, sym, subst, inr, arith}
-use Rattle.std.specs.Prelude.{IsTrue, Option, Some, None, Result, Ok}
+use Rattle.std.proofs.Common.{◌≡◌, ℕ, ◌+◌, ◌-◌, ◌*◌, ◌/◌, ◌^◌, ◌<◌, ◌≤◌, ◌⊎◌, Bool, true, List, refl, sym, subst, inl, inr, arith}
+use Rattle.std.specs.Prelude.{IsTrue, Option, Some, None, Result, Ok, sum_by}
 use Rattle.bool_tables.specs.declared.steps.Step.{Step}
 use Rattle.bool_tables.specs.declared.steps.Planned.{Planned}
+use Rattle.bool_tables.specs.Plans.{operands}
 use Rattle.shelf_model.specs.declared.file_no.FileNo.{FileNo}
 use Rattle.shelf_model.specs.declared.sort_fault.SortFault.{SortFault}
 use Rattle.shelf_model.specs.Calls.{Told}
 use Rattle.shelf_model.specs.Faults.{Faults}
 use Rattle.shelf_model.specs.Folder.{Folder, AreFiles, OnlyChanges}
 use Rattle.shelf_model.specs.Moments.{Throughout, Ran, OnlyChanged}
-use Rattle.shelf_model.specs.World.{Moment, World, now}
+use Rattle.shelf_model.specs.World.{Moment, World, now, file}
 use Rattle.shelf_model.proofs.Changing.{changes_then}
 use Rattle.shelf_model.proofs.Runs.{told, told_then, joins, weakens, at_end, ran_joins, ran_weakens, ran_end}
 use Rattle.step_work.specs.Tuples.{sweeps}
+use Rattle.node_reading.specs.Reading.{count_of}
 use Rattle.sweep_core.specs.declared.checkpoint.Checkpoint.{Checkpoint}
 use Rattle.sweep_core.specs.Saving.{reads_of}
 use Rattle.sweep_checkpoint.specs.Gated.{last_gated}
 use Rattle.sweep_checkpoint.specs.Loads.{Tells}
 use Rattle.sweep_checkpoint.specs.Stops.{shown_by, StopsCost}
 use Rattle.sweep_checkpoint.specs.declared.going.Going.{Going}
-use Rattle.step_going.specs.Found.{DuringFind}
 use Rattle.step_going.specs.Standing.{AreSafe, IsStanding}
 use Rattle.step_going.proofs.Shown.{standing_shows, stops_more, stops_fewer, stops_join}
 use Rattle.step_sweeps.specs.Going.{next_of, rest_calls}
 use Rattle.step_sweeps.specs.Made.{FewAnew}
 use Rattle.step_sweeps.specs.Stops.{step_stop}
+use Rattle.sound_image.specs.Files.{node_file, checkpoint_gate}
 use Rattle.sound_image.specs.Jobs.{Job}
 use Rattle.sound_image.specs.Entries.{work_of}
 use Rattle.sound_image.specs.Holds.{Holds, AreResumable}
-use Rattle.step_engine.specs.Finding.{IsOfJob, JobGoesOn, JobRests, JobStands, FindsGoing}
+use Rattle.step_engine.specs.Finding.{IsOfJob, JobGoesOn, JobRests, JobStands, IsSweepPart, DuringGoing, FindsGoing}
 use Rattle.step_engine.specs.OneFile.{ChangesFile, OnlyMade}
 use Rattle.step_engine.specs.Running.{run_stop, nodes_read, PaysRest, SparesParts, IsGoneOn}
 use Rattle.step_engine.specs.Simple.{IsStepOf}
@@ -63,12 +65,23 @@ work_enough job step = omega arith
 -- so many calls are paid for
 run_cost : (step : Step) (number : ℕ) (r : FileNo → List ℕ) (last : Option Checkpoint) (rest before mid after turns some nodes : ℕ) → some ≤ 11
     → nodes ≤ nodes_read step r → Tells number (last_gated number r) last → PaysRest step number r rest
-    → mid ≤ before + 590 → (last ≡ None → mid ≤ before + 2) → after ≤ mid + (229 * turns + some + rest_calls last nodes)
+    → mid ≤ before + 3890 → (last ≡ None → mid ≤ before + 2) → after ≤ mid + (229 * turns + some + rest_calls last nodes)
     → after ≤ before + (229 * turns + 13 + rest)
 run_cost step number r None rest before mid after turns some nodes few fewer told pays most least then =
     let begun : mid ≤ before + 2 = least refl in omega (arith, few, begun, then)
 run_cost step number r (Some c) rest before mid after turns some nodes few fewer told pays most least then =
     let paid = pays c told in omega (arith, few, fewer, most, then, paid)
+
+-- and where it was refused before a sweep
+refused_cost : (step : Step) (number : ℕ) (r : FileNo → List ℕ) (work rest before after : ℕ) → 16 ≤ work → PaysRest step number r rest
+    → after ≤ before + 3890 → (after ≤ before + 590) ⊎ ((c : Checkpoint) × Tells number (last_gated number r) (Some c))
+    → after ≤ before + (229 * work + 13 + rest)
+refused_cost step number r work rest before after enough pays most (inl few) = omega (arith, enough, few)
+refused_cost step number r work rest before after enough pays most (inr told) = let paid = pays told.0 told.1 in omega (arith, most, paid)
+
+-- where node files are the same, so many nodes are read
+same_nodes : (step : Step) (r s : FileNo → List ℕ) → ((k : ℕ) → r (node_file k) ≡ s (node_file k)) → nodes_read step r ≡ nodes_read step s
+same_nodes step r s same = λ i. 3 * sum_by (λ k. count_of (same k i)) (operands step)
 
 -- few part numbers were taken, and turns before the last checkpoint may have taken more
 pub parts_for : (number : ℕ) (r : FileNo → List ℕ) (last : Option Checkpoint) (turns next spare : ℕ)
@@ -105,10 +118,10 @@ module _ {S : Type 0} (tells : S → Bool) (world : S → World) (counts : S →
   own_only : sweeps p.step ≡ true → (old m : Folder) → OnlyChanges (λ f. f.step ≡ number) old m → OnlyChanges (ChangesFile p.step number) old m
   own_only swept old m only f apart = only f (λ own. apart (inr (swept, own)))
 
-  found_only : (before mid : S) → Told tells before mid (Ran (DuringFind number (now (world before))) (world before) (world mid))
+  found_only : (before mid : S) → Told tells before mid (Ran (DuringGoing number (now (world before))) (world before) (world mid))
       → Told tells before mid (Ran (OnlyChanged (λ f. f.step ≡ number) (now (world before))) (world before) (world mid))
   found_only before mid found = told tells before mid _ _ found (λ _ run.
-      ran_weakens (world before) (world mid) (DuringFind number (now (world before))) (OnlyChanged (λ f. f.step ≡ number) (now (world before))) (λ m during. during.others) run)
+      ran_weakens (world before) (world mid) (DuringGoing number (now (world before))) (OnlyChanged (λ f. f.step ≡ number) (now (world before))) (λ m during. during.others) run)
 
   -- where it was looked for how far the step has come, and that was refused
   pub went_first : (swept : sweeps p.step ≡ true) (before mid : S) (result : Result Going SortFault) → FindsGoing tells world counts number before mid result
@@ -121,7 +134,8 @@ module _ {S : Type 0} (tells : S → Bool) (world : S → World) (counts : S →
         weakens (world before) (world mid) (λ m. Holds job number m.folder) (λ m. AreResumable job number m.folder) (λ m held. held.resumable)
         (found.holds tells_mid job (of_job job n text number p is) holds);
     few_calls = λ tells_mid job is holds rest pays.
-        let few = found.calls tells_mid in let enough = work_enough job p.step in omega (arith, few, enough);
+        refused_cost p.step number (reads_of (world before)) (work_of job p.step) rest _ _ (work_enough job p.step) pays
+        (found.calls tells_mid) (found.gated_calls tells_mid);
     stops = λ tells_mid job is holds small shown rest gone.
         found_stops number shown ((world before).clock + (run_stop + rest)) (world before) (world mid) gone.shows (found.content.did tells_mid)
         (let few = found.calls tells_mid in omega (arith, few));
@@ -139,17 +153,27 @@ module _ {S : Type 0} (tells : S → Bool) (world : S → World) (counts : S →
       stands = found.stands tells_mid job (of_job job n text number p is) holds;
     }
 
-    -- reads give what they gave
-    pub same_reads : IsTrue (tells mid) → reads_of (world mid) ≡ reads_of (world before)
-    same_reads tells_mid = λ i f. (ran_end (world before) (world mid) (DuringFind number (now (world before))) (found.content.did tells_mid)).reads f i
+    -- reads of node files, and of the gate, give what they gave
+    same_reads : IsTrue (tells mid) → (f : FileNo) → ¬ (IsSweepPart number f) → (file (world mid) f).bytes ≡ (file (world before) f).bytes
+    same_reads tells_mid = (ran_end (world before) (world mid) (DuringGoing number (now (world before))) (found.content.did tells_mid)).reads
+
+    pub same_diagrams : IsTrue (tells mid) → (k : ℕ) → (file (world mid) (node_file k)).bytes ≡ (file (world before) (node_file k)).bytes
+    same_diagrams tells_mid k = same_reads tells_mid (node_file k) (λ taken. let from = taken.from in absurd (omega (arith, from)))
+
+    pub same_gate : IsTrue (tells mid) → (file (world mid) (checkpoint_gate number)).bytes ≡ (file (world before) (checkpoint_gate number)).bytes
+    same_gate tells_mid = same_reads tells_mid (checkpoint_gate number) (λ taken. let from = taken.from in absurd (omega (arith, from)))
+
+    few_nodes : IsTrue (tells mid) → nodes (reads_of (world mid)) ≤ nodes_read p.step (reads_of (world before))
+    few_nodes tells_mid =
+        subst (λ most. nodes (reads_of (world mid)) ≤ most) (same_nodes p.step (reads_of (world mid)) (reads_of (world before)) (same_diagrams tells_mid))
+        (fewer (reads_of (world mid)))
 
     pub pays_for : (tells_mid : IsTrue (tells mid)) (turns rest : ℕ) → PaysRest p.step number (reads_of (world before)) rest
         → (world after).clock ≤ (world mid).clock + (229 * turns + some + rest_calls going.last (nodes (reads_of (world mid))))
         → (world after).clock ≤ (world before).clock + (229 * turns + 13 + rest)
     pays_for tells_mid turns rest pays then =
-        run_cost p.step number (reads_of (world before)) going.last rest _ _ _ turns some (nodes (reads_of (world before))) few
-        (fewer (reads_of (world before))) (found.last tells_mid) pays (found.calls tells_mid) (found.few_calls tells_mid)
-        (subst (λ r. (world after).clock ≤ (world mid).clock + (229 * turns + some + rest_calls going.last (nodes r))) (same_reads tells_mid) then)
+        run_cost p.step number (reads_of (world before)) going.last rest _ _ _ turns some (nodes (reads_of (world mid))) few
+        (few_nodes tells_mid) (found.last tells_mid) pays (found.calls tells_mid) (found.few_calls tells_mid) then
 
     -- the last checkpoint shows no less than was shown before
     shown_found : IsTrue (tells mid) → (job : Job) → IsStepOf job n text number p → Holds job number (now (world before)).folder
@@ -178,8 +202,7 @@ module _ {S : Type 0} (tells : S → Bool) (world : S → World) (counts : S →
         let tells_mid : IsTrue (tells mid) = sweep.content.before tells_after in
         let most : ℕ = (world mid).clock + (step_stop + rest_calls going.last (nodes (reads_of (world mid)))) in
         stops_more number shown most ((world before).clock + (run_stop + rest)) (world mid) (world after)
-        (stop_paid p.step number (reads_of (world before)) going.last rest _ _ (nodes (reads_of (world mid)))
-        (subst (λ r. nodes r ≤ nodes_read p.step (reads_of (world before))) (sym (same_reads tells_mid)) (fewer (reads_of (world before))))
+        (stop_paid p.step number (reads_of (world before)) going.last rest _ _ (nodes (reads_of (world mid))) (few_nodes tells_mid)
         (found.last tells_mid) gone.pays (found.calls tells_mid) (found.few_calls tells_mid))
         (stops_fewer number shown (shown_by going.last) most (world mid) (world after) (shown_found tells_mid job is holds shown rest gone)
         (sweep.stops tells_after job (set_found tells_mid job is holds) small))

@@ -44,10 +44,11 @@ nodes_read step r = 3 * sum_by (λ k. count_of (r (node_file k))) (operands step
 abbrev pub run_stop : ℕ
 run_stop = step_stop + 2
 
--- so many calls pay for going on from the checkpoint that the step's last gated bytes are, where there is one
+-- so many calls pay for going on from the checkpoint that the step's last gated bytes are, where there is one: with it
+-- 590 find it, and 3,300 give up what was lost behind it
 abbrev pub PaysRest : Step → ℕ → (FileNo → List ℕ) → ℕ → Type 0
 PaysRest step number r rest = (c : Checkpoint) → Tells number (last_gated number r) (Some c)
-    → rest_calls (Some c) (nodes_read step r) + 590 ≤ rest
+    → rest_calls (Some c) (nodes_read step r) + 3890 ≤ rest
 
 -- so many part numbers may have been taken by what the step goes on from: 1,019, where there is such a checkpoint
 abbrev pub SparesParts : ℕ → (FileNo → List ℕ) → ℕ → Type 0

@@ -1,5 +1,6 @@
 mod Parts
 mod Secured
+mod Emptied
 pub mod Deciding
 pub mod Gated
 pub mod Safe
@@ -7,4 +8,5 @@ pub mod Kept
 pub mod GoneOn
 pub mod Telling
 pub mod LastFound
+pub mod GivenUp
 pub mod Shown

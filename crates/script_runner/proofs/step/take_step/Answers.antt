@@ -1,4 +1,4 @@
-use Rattle.std.proofs.Common.{length, get_or, refl, arith}
+use Rattle.std.proofs.Common.{get_or, refl, arith}
 use Rattle.std.specs.Prelude.{Ok, Err}
 use Rattle.step_work.specs.Plans.{no_step}
 use Rattle.step_engine.specs.Simple.{MayRun}

@@ -1,4 +1,4 @@
-use Rattle.std.proofs.Common.{◌∙◌, length, nat_lt, ap, subst}
+use Rattle.std.proofs.Common.{◌∙◌, nat_lt, ap, subst}
 use Rattle.std.specs.Prelude.{IsTrue}
 use Rattle.std.specs.List.{list_all}
 use Rattle.bool_tables.specs.Plans.{operands}
@@ -14,6 +14,3 @@ returns-in-Drop g c = record {
       (only_below c.args.number c.in-Drop.gone (subst (λ s. IsTrue (list_all (λ k. nat_lt k c.args.number) (operands s))) c.in-Drop.is c.requires.step.operands_are))
       c.requires.step (c.nameless_entry.ensures ∙ ap (λ k. nameless_entry c.args.number 2 0 k one_turn) c.from.ensures);
 }
-
-pub returns-in-Size : goal.returns-in-Size
-returns-in-Size g c = record { runs = c.run_size.ensures.runs (length c.args.room.now) }
