@@ -43,6 +43,8 @@ pub fn attach<S: Shelf>(job: &[u8], steps: u32, shelf: &mut S) -> Result<Standin
         → (file (S.world shelf.new) job_file).bytes ≡ job.now) }
     ensures calls { IsTrue (S.tells shelf.new)
         → (S.world shelf.new).clock ≤ (S.world shelf.old).clock + 9 + pieces (length job.now) }
+    ensures few_calls { IfOk result (λ s. IsTrue (S.tells shelf.new) → s.fresh ≡ false
+        → (S.world shelf.new).clock ≤ (S.world shelf.old).clock + 7 + pieces (length job.now)) }
     ensures faults { OnlyAttach (S.faults shelf.old) (S.faults shelf.new) result }
 {
     if make_gates_sure(shelf)? == 0 {

@@ -15,6 +15,7 @@ pub mod StopLaws
 pub mod StepPaying
 pub mod RunPaying
 pub mod Paying
+pub mod Beginning
 pub mod Turns
 pub mod EnteredRuns
 pub mod Endings

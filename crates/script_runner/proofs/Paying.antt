@@ -9,21 +9,23 @@ use Rattle.bool_tables.specs.declared.steps.Step.{Step}
 use Rattle.bool_tables.specs.Plans.{IsWellFormed, operands}
 use Rattle.shelf_model.specs.declared.file_no.FileNo.{FileNo}
 use Rattle.shelf_model.specs.File.{File}
-use Rattle.shelf_model.specs.Folder.{Folder, file_in, AreFiles}
-use Rattle.catalogue.specs.Counts.{present, count_in}
+use Rattle.shelf_model.specs.Folder.{Folder, Image, file_in, bytes_in, AreFiles}
+use Rattle.shelf_model.proofs.Images.{chosen, standing_image}
+use Rattle.catalogue.specs.Counts.{present, is_stored, count_in}
 use Rattle.file_numbers.specs.Files.{checkpoint_file}
 use Rattle.step_work.specs.Plans.{no_step}
 use Rattle.node_reading.specs.Reading.{count_of}
+use Rattle.sweep_core.specs.declared.checkpoint.Checkpoint.{Checkpoint}
 use Rattle.sweep_checkpoint.specs.Gated.{last_gated, last_of}
 use Rattle.sweep_checkpoint.specs.Loads.{Tells}
 use Rattle.step_sweeps.specs.Going.{rest_calls}
 use Rattle.sound_image.specs.Files.{node_file, checkpoint_gate}
 use Rattle.sound_image.specs.Jobs.{Job, step_at}
 use Rattle.sound_image.specs.Holds.{AreSound}
-use Rattle.sound_image.proofs.AttachLaws.{none_behind_first}
+use Rattle.sound_image.proofs.AttachLaws.{standing, none_behind_first}
 use Rattle.step_engine.specs.Running.{nodes_read, PaysRest}
 use Rattle.step_engine.proofs.PlanLaws.{may_run}
-use Rattle.script_runner.specs.Calls.{PaysStep, PaysFirst}
+use Rattle.script_runner.specs.Calls.{IsGated, PaysStep, PaysFirst}
 use Rattle.script_runner.specs.StepRuns.{KeepsDiagrams, KeepsLater}
 
 -- what remains of what pays for going on, with so many steps committed where so many were at first
@@ -43,19 +45,23 @@ pub none_unpaid : (done step rest : ℕ) → done ≤ step → unpaid done (step
 unfolding unpaid
 none_unpaid done step rest reached = ap (λ b. cond b 0 rest) (lt-ltb done (step + 1) (omega (arith, reached)))
 
--- what remains for going on where some is put aside for part numbers
-pub unpaid_less : (done step rest : ℕ) → unpaid done step (rest - 81) - 1019 ≡ unpaid done step rest - 1100
+-- what remains for going on where some is put aside for what is cut
+pub unpaid_less : (done step rest : ℕ) → unpaid done step (rest - 64539) - 1606 ≡ unpaid done step rest - 66145
 unfolding unpaid
 unpaid_less done step rest = by_test (nat_lt done step)
   where
-    by_test : (b : Bool) → cond b 0 (rest - 81) - 1019 ≡ cond b 0 rest - 1100
+    by_test : (b : Bool) → cond b 0 (rest - 64539) - 1606 ≡ cond b 0 rest - 66145
     by_test true = refl
     by_test false = omega arith
 
--- where the gate is empty nothing is paid
+-- where the gate is empty no checkpoint is told, and nothing is paid
+pub none_told : (number : ℕ) (r : FileNo → List ℕ) → r (checkpoint_gate number) ≡ [] → (c : Checkpoint)
+    → Tells number (last_gated number r) (Some c) → ⊥
+none_told number r empty c tells =
+    subst (λ found. Tells number found (Some c)) (ap (λ gate. last_of (length gate) (r (checkpoint_file number))) empty) tells
+
 no_checkpoint : (step : Step) (number : ℕ) (r : FileNo → List ℕ) (rest : ℕ) → r (checkpoint_gate number) ≡ [] → PaysRest step number r rest
-no_checkpoint step number r rest empty c tells =
-    absurd (subst (λ found. Tells number found (Some c)) (ap (λ gate. last_of (length gate) (r (checkpoint_file number))) empty) tells)
+no_checkpoint step number r rest empty c tells = absurd (none_told number r empty c tells)
 
 -- the same is paid where the same is read of the checkpoints and of the operands
 nodes_same : (xs : List ℕ) (bound : ℕ) (old new : FileNo → List ℕ) → IsTrue (list_all (λ x. nat_lt x bound) xs)
@@ -83,12 +89,12 @@ pub pays_now : (job : Job) (step rest : ℕ) (old new : Folder) → IsWellFormed
 unfolding unpaid
 pays_now job step rest old new plan files sound reached within keeps later pays = elim (cases_lt (count_in (present old)) step) [
   | inl behind ↦ no_checkpoint (step_at job step).step step (present new)
-      (unpaid (count_in (present old)) step rest - 1019)
+      (unpaid (count_in (present old)) step rest - 1606)
       (ap (λ (x : File). x.bytes) (of_step (checkpoint_gate step) refl) ∙ none_behind_first job old files sound step behind within)
   | inr first ↦
       let here : step ≡ count_in (present old) = omega (arith, reached, first) in
       let still : PaysStep job step new rest =
-      pays_still (step_at job step).step step (rest - 1019) (present old) (present new)
+      pays_still (step_at job step).step step (rest - 1606) (present old) (present new)
       (may_run job.n job.text job.steps step no_step within plan).operands_are
       (ap (λ (x : File). x.bytes) (of_step (checkpoint_gate step) refl)) (ap (λ (x : File). x.bytes) (of_step (checkpoint_file step) refl))
       (λ k below. ap (λ (x : File). x.bytes) (keeps k (omega (arith, below, here)) (λ j from until. absurd (omega (arith, from, until, here)))))
@@ -98,3 +104,24 @@ pays_now job step rest old new plan files sound reached within keeps later pays 
   where
     of_step : (f : FileNo) → f.step ≡ step → file_in new f ≡ file_in old f
     of_step f is = let few = plan.few_steps in later f (omega (arith, is)) (omega (arith, is, within, few))
+
+-- whether something is gated of a step stays so while its gate does
+pub gated_same : (gated : Bool) (step : ℕ) (old new : Folder) → file_in new (checkpoint_gate step) ≡ file_in old (checkpoint_gate step)
+    → IsGated gated step old → IsGated gated step new
+gated_same false step old new same none = ap (λ (x : File). x.bytes) same ∙ none
+gated_same true step old new same some = λ none. some (ap (λ (x : File). x.bytes) (sym same) ∙ none)
+
+-- and so while files of the steps from it on do
+pub gated_now : (job : Job) (gated : Bool) (step : ℕ) (old new : Folder) → IsWellFormed job.n job.text job.steps → step < length job.steps
+    → KeepsLater step old new → IsGated gated step old → IsGated gated step new
+gated_now job gated step old new plan within later =
+    gated_same gated step old new (later (checkpoint_gate step) (omega arith) (let few = plan.few_steps in omega (arith, within, few)))
+
+-- of no step anything is gated, where no job was stored
+pub none_unstored : (job : Job) (step : ℕ) (old : Folder) → AreFiles old → AreSound job old → is_stored (present old) ≡ false → step < length job.steps
+    → IsGated false step old
+none_unstored job step old files sound unstored within =
+    let image : Image = chosen (λ _ x. x.bytes) old in
+    let read : bytes_in image ≡ present old = λ i f. standing old files f i in
+    sym (standing old files (checkpoint_gate step))
+    ∙ (sound image (standing_image old files)).resumable.unstored (ap is_stored read ∙ unstored) step (omega arith) within

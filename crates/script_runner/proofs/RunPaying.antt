@@ -26,13 +26,13 @@ use Rattle.sound_image.specs.Holds.{Holds, AreSound}
 use Rattle.sound_image.proofs.AttachLaws.{standing}
 use Rattle.step_engine.specs.Running.{run_stop, PaysRest}
 use Rattle.script_runner.specs.declared.finish.Finish.{Finish}
-use Rattle.script_runner.specs.Calls.{PaysFirst}
-use Rattle.script_runner.specs.Stops.{committed_turns, paid_in, IsRestOf, PayAtLeast, PaysAt, PaysThrough, IsPaidRun, RunPays, StopsIn, IsPaidStep, StepPays}
+use Rattle.script_runner.specs.Calls.{PaysFirst, IsGated}
+use Rattle.script_runner.specs.Stops.{run_rest, committed_turns, paid_in, IsRestOf, PayAtLeast, PaysAt, PaysThrough, IsPaidRun, RunPays, StopsIn, IsPaidStep, StepPays}
 use Rattle.diagram_list.specs.Saying.{IsSaying}
 use Rattle.script_runner.specs.Fetching.{OnlyFetched}
 use Rattle.script_runner.specs.Running.{SaysOnly}
 use Rattle.script_runner.specs.StepRuns.{KeepsDiagrams, KeepsLater}
-use Rattle.script_runner.proofs.Paying.{unpaid, unpaid_few, none_unpaid, unpaid_less, pays_now}
+use Rattle.script_runner.proofs.Paying.{unpaid, unpaid_few, none_unpaid, unpaid_less, pays_now, gated_now}
 use Rattle.script_runner.proofs.StopLaws.{pays_more, pays_join, pays_still, fetched_old}
 
 -- what is left for going on with the first step that isn't committed, of what pays for going on with the run
@@ -110,8 +110,8 @@ pub none_shown : (job : Job) (r : FileNo → List ℕ) → is_stored r ≡ false
 unfolding committed_turns
 none_shown job r unstored none =
     let count : count_in r ≡ 0 = ap (λ b. if b then length (r step_gate) else 0) unstored in
-    (λ i. 256 * committed_turns (count i) r + 229 * cond (nat_lt (count i) (length job.steps)) (shown_turns (count i) r) 0)
-    ∙ ap (λ n. 256 * committed_turns 0 r + 229 * n) nothing
+    (λ i. 256 * (committed_turns (count i) r + cond (nat_lt (count i) (length job.steps)) (shown_turns (count i) r) 0))
+    ∙ ap (λ n. 256 * (committed_turns 0 r + n)) nothing
   where
     none_either : (b : Bool) (n : ℕ) → n ≡ 0 → cond b n 0 ≡ 0
     none_either true n zero = zero
@@ -155,22 +155,24 @@ attached_so_far job given paid spent rest old new files sound shows run few with
     }
 
 -- what pays for going on with the run pays for going on with the first step that isn't committed
-first_paid : (job : Job) (rest : ℕ) (folder : Folder) → IsRestOf job (present folder) rest → PaysFirst job folder (rest_of rest - 81)
+first_paid : (job : Job) (rest : ℕ) (folder : Folder) → IsRestOf job (present folder) rest → PaysFirst job folder (rest_of rest - 64539)
 first_paid job rest folder is within c told = let enough = is.goes_on c told in omega (arith, enough)
 
 -- so is each step of it
-pub step_paid : (job : Job) (lines paid spent rest step : ℕ) (old new : World) → IsWellFormed job.n job.text job.steps → AreFiles (now old).folder
+pub step_paid : (job : Job) (lines paid spent rest step : ℕ) (gated : Bool) (old new : World) → IsWellFormed job.n job.text job.steps → AreFiles (now old).folder
     → IsPaidRun job lines paid rest (now old).folder → count_in (present (now old).folder) ≤ step → step < length job.steps
     → KeepsDiagrams job.steps (count_in (present (now old).folder)) step (now old).folder (now new).folder
-    → KeepsLater step (now old).folder (now new).folder → Holds job step (now new).folder → PaysSoFar job paid spent rest old new
-    → IsPaidStep job step (paid_now paid spent old new) (unpaid (count_in (present (now old).folder)) step (rest_of rest)) (now new).folder
-step_paid job lines paid spent rest step old new plan files is reached within keeps later holds so_far = record {
+    → KeepsLater step (now old).folder (now new).folder → Holds job step (now new).folder → IsGated gated step (now old).folder
+    → PaysSoFar job paid spent rest old new
+    → IsPaidStep job step gated (paid_now paid spent old new) (unpaid (count_in (present (now old).folder)) step (rest_of rest)) (now new).folder
+step_paid job lines paid spent rest step gated old new plan files is reached within keeps later holds gates so_far = record {
   holds = holds;
+  gated = gated_now job gated step (now old).folder (now new).folder plan within later gates;
   work = is.work step within;
   shows = pay_now job paid spent rest old new so_far;
   pays = subst (λ n. PaysRest (step_at job step).step step (present (now new).folder) n)
       (unpaid_less (count_in (present (now old).folder)) step (rest_of rest))
-      (pays_now job step (rest_of rest - 81) (now old).folder (now new).folder plan files is.sound reached within keeps later
+      (pays_now job step (rest_of rest - 64539) (now old).folder (now new).folder plan files is.sound reached within keeps later
       (first_paid job rest (now old).folder (subst (λ r. IsRestOf job r rest) (λ i f. standing (now old).folder files f i)
       (is.pays (chosen (λ _ x. x.bytes) (now old).folder) (standing_image (now old).folder files)))));
 }
@@ -187,12 +189,12 @@ pub rest_few : (place : ℕ) (lines rest : List LineEnd) → rest ≡ drop place
 rest_few place lines rest is = let left : length rest ≡ length lines - place = ap length is ∙ length-drop place lines in omega (arith, left)
 
 -- so many calls pay for a run at least
-rest_is_great : (job : Job) (lines paid rest : ℕ) (folder : Folder) → AreFiles folder → IsPaidRun job lines paid rest folder → 2 ^ 25 ≤ rest
+rest_is_great : (job : Job) (lines paid rest : ℕ) (folder : Folder) → AreFiles folder → IsPaidRun job lines paid rest folder → run_rest ≤ rest
 rest_is_great job lines paid rest folder files is =
     let begins = (is.pays (chosen (λ _ x. x.bytes) folder) (standing_image folder files)).begins in omega (arith, begins)
 
 -- what is spent before a step, and what a stop in it costs besides
-spent_within : (bytes lines left done step rest : ℕ) → bytes ≤ 5242900 → lines ≤ 1048576 → 2 ^ 25 ≤ rest
+spent_within : (bytes lines left done step rest : ℕ) → bytes ≤ 5242900 → lines ≤ 1048576 → run_rest ≤ rest
     → spent_at bytes lines left done step rest + (run_stop + 5 + unpaid done step (rest_of rest)) ≤ rest
 spent_within bytes lines left done step rest short few great =
     let less = unpaid_few done step (rest_of rest) in omega (arith, short, few, great, less)
@@ -244,6 +246,7 @@ module _ {S : Type 0} (tells : S → Bool) (world : S → World) (law : (s : S) 
       (keeps : KeepsDiagrams job.steps (count_in (present (now (world old)).folder)) step (now (world old)).folder (now (world mid)).folder)
       (later : KeepsLater step (now (world old)).folder (now (world mid)).folder)
       (holds : AreSound job (now (world old)).folder → Holds job step (now (world mid)).folder)
+      (gated : Bool) (gates : AreSound job (now (world old)).folder → IsGated gated step (now (world old)).folder)
       (past : (k : ℕ) → k ≤ (world mid).clock → (world new).moment k ≡ (world mid).moment k)
       (paid rest : ℕ) (is : IsPaidRun job lines paid rest (now (world old)).folder) where
     abbrev done : ℕ
@@ -257,10 +260,11 @@ module _ {S : Type 0} (tells : S → Bool) (world : S → World) (law : (s : S) 
         (rest_is_great job lines paid rest (now (world old)).folder (law old tells_old) is)
 
     module _ (so_far : PaysSoFar job paid spent rest (world old) (world mid)) (result : Result Entry Finish)
-        (steps : (paid rest : ℕ) → IsPaidStep job step paid rest (now (world mid)).folder → StepPays job paid rest result (world mid) (world new)) where
+        (steps : (paid rest : ℕ) → IsPaidStep job step gated paid rest (now (world mid)).folder → StepPays job paid rest result (world mid) (world new)) where
       step_so : StepPays job (paid_now paid spent (world old) (world mid)) (unpaid done step (rest_of rest)) result (world mid) (world new)
       step_so = steps (paid_now paid spent (world old) (world mid)) (unpaid done step (rest_of rest))
-          (step_paid job lines paid spent rest step (world old) (world mid) plan (law old tells_old) is reached within keeps later (holds is.sound) so_far)
+          (step_paid job lines paid spent rest step gated (world old) (world mid) plan (law old tells_old) is reached within keeps later (holds is.sound)
+          (gates is.sound) so_far)
 
       -- a step stopped the run
       pub stopped_step : PaysThrough job paid ((world old).clock + rest) (world old) (world new)

@@ -67,10 +67,10 @@ one_more_turns n r = let next : n + 1 ≡ suc n = omega arith in ap (λ k. commi
 
 -- what an image pays for that has so many steps
 pub paid_here : (job : Job) (k : ℕ) (r : FileNo → List ℕ) → count_in r ≡ k → k < length job.steps
-    → paid_in job r ≡ 256 * committed_turns k r + 229 * shown_turns k r
+    → paid_in job r ≡ 256 * (committed_turns k r + shown_turns k r)
 paid_here job k r count within =
-    (λ i. 256 * committed_turns (count i) r + 229 * cond (nat_lt (count i) (length job.steps)) (shown_turns (count i) r) 0)
-    ∙ ap (λ b. 256 * committed_turns k r + 229 * cond b (shown_turns k r) 0) (lt-ltb k (length job.steps) within)
+    (λ i. 256 * (committed_turns (count i) r + cond (nat_lt (count i) (length job.steps)) (shown_turns (count i) r) 0))
+    ∙ ap (λ b. 256 * (committed_turns k r + cond b (shown_turns k r) 0)) (lt-ltb k (length job.steps) within)
 
 pub paid_least : (job : Job) (k : ℕ) (r : FileNo → List ℕ) → count_in r ≡ k → 256 * committed_turns k r ≤ paid_in job r
 paid_least job k r count =

@@ -41,15 +41,18 @@ use Rattle.step_engine.specs.OneFile.{ChangesFile, OnlyMade, OnlyTidied}
 use Rattle.step_engine.specs.StepEntries.{IsEntryFor}
 use Rattle.step_engine.specs.StepFaults.{IsKindFault, IsStepFault, IsRunFault, IsSoundFault, IsOfKind}
 use Rattle.step_engine.specs.Running.{RunsStep, IsReadyFor, PaysRest}
+use Rattle.step_engine.specs.LeftBehind.{most_since}
 use Rattle.step_engine.proofs.EntryLaws.{only_below, operand_kind}
+use Rattle.step_engine.proofs.Gated.{gated_point}
 use Rattle.script_runner.specs.declared.finish.Finish.{Finish}
 use Rattle.script_runner.specs.declared.finish.Finish.TheVariants.{FolderFault, RunsSpent}
-use Rattle.script_runner.specs.Calls.{step_calls, IsCounted}
+use Rattle.script_runner.specs.Calls.{step_calls, cut_calls, IsGated, IsCounted, PaysStep}
 use Rattle.script_runner.specs.Running.{OthersAre, AreEmptied, IsMetDamage, RefusesFolder, IsStop}
 use Rattle.script_runner.specs.StepRuns.{CountsAbout, IsTaking, HasEntry, HasSteps, HoldsStep, NamesMet, NamesSpent, StaysEmpty, KeepsDiagrams, KeepsLater, TakesStep, stopped_by}
 use Rattle.script_runner.proofs.RunSteps.{held_steps, present_count}
 use Rattle.script_runner.proofs.Resting.{rests_on_steps}
 use Rattle.script_runner.proofs.SweepDamage.{run_there}
+use Rattle.script_runner.proofs.Paying.{none_told}
 
 -- each image has so many steps
 abbrev AllHave : Job → ℕ → Moment → Type 0
@@ -458,31 +461,47 @@ module _ (job : Job) (k : ℕ) (few : AreFew job) (rests : RestsOnSteps job) (wi
         spent = tt;
       }
 
--- of what pays for going on with a step so much is for part numbers that it may have taken before
+-- of what pays for going on with a step so much is for what it leaves behind then
 abbrev pub spare_of : ℕ → ℕ
-spare_of rest = min rest 1019
+spare_of rest = min rest 1606
 
--- the cuts of a step: one, or where it sweeps one for each part below its next one, of which its turns took few, and
--- those before its last checkpoint so many more
+-- the cuts of a step: one, or where it sweeps one for each part below its next one, of which its turns took few, and so
+-- many more where it went on
 abbrev pub most_cuts : Bool → ℕ → ℕ → ℕ
 most_cuts swept work spare = cond swept (4 + work / 16 + spare) 1
 
 -- the calls of making a step, of a commit and of cutting what is left behind are those of the step
 step_sum : (swept : Bool) (work rest old mid last new : ℕ)
-    → mid ≤ old + (cond swept (229 * work + 13) 5 + (rest - 1019)) → last ≤ mid + 5
+    → mid ≤ old + (cond swept (229 * work + 13) 5 + (rest - 1606)) → last ≤ mid + 5
     → new ≤ last + most_cuts swept work (spare_of rest)
     → new ≤ old + (cond swept (229 * work + work / 16 + 22) 11 + rest)
 step_sum true work rest old mid last new made committed tidied = omega (arith, made, committed, tidied)
 step_sum false work rest old mid last new made committed tidied = omega (arith, made, committed, tidied)
 
+-- few part numbers were taken, and where something was gated of the step 1,019 more may have been
+abbrev pub FewTaken : Bool → ℕ → ℕ → ℕ → Type 0
+FewTaken false next turns rest = next ≤ 5 + turns / 16
+FewTaken true next turns rest = (next ≤ 5 + turns / 16 + 1019) × (1606 ≤ rest)
+
 -- the cuts of a step with that next part, which few turns of its work took, are as few
-cuts_few : (swept : Bool) (next turns work spare : ℕ)
-    → (swept ≡ false) ⊎ ((next ≤ 5 + turns / 16 + spare) × (turns ≤ work))
-    → cond swept (parts_end next - 1) 1 ≤ most_cuts swept work spare
-cuts_few true next turns work spare (inl not) = absurd cc
-cuts_few false next turns work spare (inl not) = omega arith
-cuts_few true next turns work spare (inr (few, within)) = omega (arith, few, within)
-cuts_few false next turns work spare (inr (few, within)) = omega arith
+cuts_few : (gated : Bool) (step : Step) (next turns work rest : ℕ) → (sweeps step ≡ false) ⊎ (FewTaken gated next turns rest × (turns ≤ work))
+    → cut_calls gated step next ≤ most_cuts (sweeps step) work (spare_of rest)
+cuts_few false step next turns work rest is = by_test (sweeps step) is
+  where
+    by_test : (swept : Bool) → (swept ≡ false) ⊎ ((next ≤ 5 + turns / 16) × (turns ≤ work))
+        → cond swept (parts_end next - 1) 1 ≤ most_cuts swept work (spare_of rest)
+    by_test true (inl not) = absurd cc
+    by_test false (inl not) = omega arith
+    by_test true (inr (few, within)) = omega (arith, few, within)
+    by_test false (inr (few, within)) = omega arith
+cuts_few true step next turns work rest is = by_test (sweeps step) is
+  where
+    by_test : (swept : Bool) → (swept ≡ false) ⊎ (((next ≤ 5 + turns / 16 + 1019) × (1606 ≤ rest)) × (turns ≤ work))
+        → cond swept (591 + min (parts_end next - 5) most_since) 1 ≤ most_cuts swept work (spare_of rest)
+    by_test true (inl not) = absurd cc
+    by_test false (inl not) = omega arith
+    by_test true (inr ((few, great), within)) = omega (arith, few, great, within)
+    by_test false (inr ((few, great), within)) = omega arith
 
 module _ {S : Type 0} (tells : S → Bool) (world : S → World) (counts : S → Faults) (law : (s : S) → IsTrue (tells s) → AreFiles (now (world s)).folder)
     (job : Job) (k : ℕ) (plan : IsWellFormed job.n job.text job.steps) (within : k < length job.steps) (p : Planned) (p_is : p ≡ step_at job k)
@@ -498,17 +517,17 @@ module _ {S : Type 0} (tells : S → Bool) (world : S → World) (counts : S →
 
   -- the calls of making it, of a commit and of cutting what it leaves behind
   module _ (old s : S) (result : Result Entry SortFault) (runs : RunsStep tells world counts job.n job.text k p old s result) (tells_s : IsTrue (tells s))
-      (rest : ℕ) (counted : IsCounted job k (now (world old)).folder rest) where
+      (gated : Bool) (rest : ℕ) (counted : IsCounted job k gated (now (world old)).folder rest) where
     few_made : (world s).clock
-        ≤ (world old).clock + (cond (sweeps p.step) (229 * work_of job p.step + 13) 5 + (rest - 1019))
+        ≤ (world old).clock + (cond (sweeps p.step) (229 * work_of job p.step + 13) 5 + (rest - 1606))
     few_made = elim counted [
       | inl one ↦
           let unswept : sweeps p.step ≡ false = ap sweeps (sym place_is) ∙ one in
           let few = runs.one_turn tells_s unswept in
-          subst (λ b. (world s).clock ≤ (world old).clock + (cond b (229 * work_of job p.step + 13) 5 + (rest - 1019)))
+          subst (λ b. (world s).clock ≤ (world old).clock + (cond b (229 * work_of job p.step + 13) 5 + (rest - 1606)))
           (sym unswept) (omega (arith, few))
-      | inr (holds, pays) ↦ runs.few_calls tells_s job the_step holds (rest - 1019)
-          (subst (λ x. PaysRest x k (present (now (world old)).folder) (rest - 1019)) place_is pays)
+      | inr (holds, known, pays) ↦ runs.few_calls tells_s job the_step holds (rest - 1606)
+          (subst (λ x. PaysRest x k (present (now (world old)).folder) (rest - 1606)) place_is pays)
     ]
 
     pub few_calls : (last new : ℕ) → last ≤ (world s).clock + 5
@@ -516,29 +535,36 @@ module _ {S : Type 0} (tells : S → Bool) (world : S → World) (counts : S →
         → new ≤ (world old).clock + (step_calls job p + rest)
     few_calls last new = step_sum (sweeps p.step) (work_of job p.step) rest (world old).clock (world s).clock last new few_made
 
-  -- and where it was made those of cutting all parts below its next one
+  -- few part numbers were taken of a step that was made
+  few_taken : (e : Entry) (old s : S) → RunsStep tells world counts job.n job.text k p old s (Ok e) → IsTrue (tells s)
+      → Holds job k (now (world old)).folder → (gated : Bool) → IsGated gated k (now (world old)).folder → (rest : ℕ)
+      → PaysStep job k (now (world old)).folder rest → FewTaken gated e.parts e.turns rest
+  few_taken e old s runs tells_s holds false none rest pays =
+      let few = runs.few_parts tells_s 0 (λ c told. absurd (none_told k (present (now (world old)).folder) none c told)) in omega (arith, few)
+  few_taken e old s runs tells_s holds true some rest pays =
+      let point = gated_point job k (record { well_formed = plan; within = within }) (now (world old)).folder
+      (law old (runs.content.before tells_s)) holds some in
+      let paid = pays point.0 point.1 in
+      (runs.few_parts tells_s 1019 (λ c told. omega arith), omega (arith, paid))
+
+  -- and where it was made those of cutting what it leaves behind
   pub taken_calls : (e : Entry) (old s : S) → RunsStep tells world counts job.n job.text k p old s (Ok e) → IsTrue (tells s)
-      → (rest : ℕ) → IsCounted job k (now (world old)).folder rest → (last new : ℕ) → last ≤ (world s).clock + 5
-      → new ≤ last + cond (sweeps p.step) (parts_end e.parts - 1) 1 → new ≤ (world old).clock + (step_calls job p + rest)
-  taken_calls e old s runs tells_s rest counted last new committed tidied =
-      few_calls old s (Ok e) runs tells_s rest counted last new committed
-      (fewer new last (cond (sweeps p.step) (parts_end e.parts - 1) 1)
-      (most_cuts (sweeps p.step) (work_of job p.step) (spare_of rest)) tidied
-      (cuts_few (sweeps p.step) e.parts e.turns (work_of job p.step) (spare_of rest) of_entry))
+      → (gated : Bool) (rest : ℕ) → IsCounted job k gated (now (world old)).folder rest → (last new : ℕ) → last ≤ (world s).clock + 5
+      → new ≤ last + cut_calls gated p.step e.parts → new ≤ (world old).clock + (step_calls job p + rest)
+  taken_calls e old s runs tells_s gated rest counted last new committed tidied =
+      few_calls old s (Ok e) runs tells_s gated rest counted last new committed
+      (fewer new last (cut_calls gated p.step e.parts) (most_cuts (sweeps p.step) (work_of job p.step) (spare_of rest)) tidied
+      (cuts_few gated p.step e.parts e.turns (work_of job p.step) rest of_entry))
     where
       fewer : (new last cuts most : ℕ) → new ≤ last + cuts → cuts ≤ most → new ≤ last + most
       fewer new last cuts most tidied few = omega (arith, tidied, few)
 
-      of_entry : (sweeps p.step ≡ false)
-          ⊎ ((e.parts ≤ 5 + e.turns / 16 + spare_of rest) × (e.turns ≤ work_of job p.step))
+      of_entry : (sweeps p.step ≡ false) ⊎ (FewTaken gated e.parts e.turns rest × (e.turns ≤ work_of job p.step))
       of_entry = elim counted [
         | inl one ↦ inl (ap sweeps (sym place_is) ∙ one)
-        | inr (holds, pays) ↦
+        | inr (holds, known, pays) ↦
             let entry : IsEntryOfStep job k e = runs.entry tells_s job (record { step = the_step; holds = λ reads. holds }) in
-            inr (
-              runs.few_parts tells_s (spare_of rest) (λ c told. let paid = pays c told in omega (arith, paid)),
-              subst (λ x. e.turns ≤ work_of job x) place_is entry.turns_are.1,
-            )
+            inr (few_taken e old s runs tells_s holds gated known rest pays, subst (λ x. e.turns ≤ work_of job x) place_is entry.turns_are.1)
       ]
 
   -- at most the step's own files were changed

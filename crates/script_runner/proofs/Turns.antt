@@ -36,11 +36,11 @@ use Rattle.script_runner.specs.Text.{done_line, banner_line, ended_before, start
 use Rattle.script_runner.specs.Shapes.{IsShape, IsWholeShape}
 use Rattle.script_runner.specs.Running.{HasSaid, HasOtherJob, IsOther, IsDamage, RefusesFolder, IsStop, IsSpentStep, IsStill, StoodStill, MeetsDamage, MeetsSpent, AreEmptied, RunsSteps}
 use Rattle.script_runner.specs.StepRuns.{IsTaking, HoldsStep, TakesStep, IsSayStop, SaysLines}
-use Rattle.script_runner.specs.Calls.{step_calls, IsCounted, AreCounted}
+use Rattle.script_runner.specs.Calls.{step_calls, IsGated, IsCounted, AreCounted}
 use Rattle.script_runner.proofs.LineOrder.{ended_is, ended_most}
 use Rattle.script_runner.proofs.Standing.{IsStanding, IsDamaged, standing_says}
 use Rattle.script_runner.proofs.RunSteps.{done_at, text_at, present_count, IsPlan, Ongoing, AtStep, attaching, since, shape_of, damaged_at_first, met_at_first, same_at, taking, has_taken}
-use Rattle.script_runner.proofs.Paying.{unpaid, pays_now}
+use Rattle.script_runner.proofs.Paying.{unpaid, pays_now, gated_now}
 use Rattle.script_runner.proofs.StepByStep.{begun, says_lines, whole_behind, has_said_lines, ends}
 
 -- the calls of the steps before that one
@@ -445,13 +445,15 @@ module _ {S : Type 0} (tells : S → Bool) (world : S → World) where
 
   -- where the turns of all steps are bounded, those of the next step are
   pub is_counted : (law : (s : S) → IsTrue (tells s) → AreFiles (now (world s)).folder) (job : Job) (lines : List LineEnd) (plan : IsPlan job lines) (step : ℕ)
-      (rest : List LineEnd) (old s : S) (paid : ℕ) → step < length job.steps → Told tells old s (Turn job lines step rest (world old) (world s)) → IsTrue (tells s)
-      → AreCounted job (now (world old)).folder paid → IsCounted job step (now (world s)).folder (unpaid (done_at (world old)) step paid)
-  is_counted law job lines plan step rest old s paid within so_far tells_s (inl each) = inl (each step within)
-  is_counted law job lines plan step rest old s paid within so_far tells_s (inr (sound, pays)) =
+      (rest : List LineEnd) (gated : Bool) (old s : S) (paid : ℕ) → step < length job.steps → Told tells old s (Turn job lines step rest (world old) (world s))
+      → IsTrue (tells s) → (AreSound job (now (world old)).folder → IsGated gated step (now (world old)).folder)
+      → AreCounted job (now (world old)).folder paid → IsCounted job step gated (now (world s)).folder (unpaid (done_at (world old)) step paid)
+  is_counted law job lines plan step rest gated old s paid within so_far tells_s gates (inl each) = inl (each step within)
+  is_counted law job lines plan step rest gated old s paid within so_far tells_s gates (inr (sound, pays)) =
       let at : AtStep job lines step rest (world old) (world s) = (so_far.did tells_s).0 in
       inr (
         (at.sound sound).holds,
+        gated_now job gated step (now (world old)).folder (now (world s)).folder plan.well_formed within at.made.later (gates sound),
         pays_now job step paid (now (world old)).folder (now (world s)).folder plan.well_formed (law old (so_far.before tells_s)) sound
             at.reached within at.made.keeps at.made.later pays,
       )

@@ -133,7 +133,7 @@ module _ (job : Job) (r : FileNo → List ℕ) where
   shows_within : ShowsSteps job r → IsSound job r → paid_in job r ≤ 256 * job_work job
   shows_within shows sound = elim (cases_lt (count_in r) (length job.steps)) [
     | inl within ↦
-        let paid : paid_in job r ≡ 256 * committed_turns (count_in r) r + 229 * shown_turns (count_in r) r =
+        let paid : paid_in job r ≡ 256 * (committed_turns (count_in r) r + shown_turns (count_in r) r) =
         paid_here job (count_in r) r refl within in
         let shown : shown_turns (count_in r) r ≤ work_of job (jobs.step_at job (count_in r)).step =
         starts_few job.n job.text job.steps (count_in r) r (sound.resumable.goes_on.this_step within) in
@@ -141,8 +141,8 @@ module _ (job : Job) (r : FileNo → List ℕ) where
         let most = work_all (count_in r + 1) in
         omega (arith, paid, shown, next, most, committed)
     | inr all ↦
-        let paid : paid_in job r ≡ 256 * committed_turns (count_in r) r + 229 * 0 =
-        ap (λ b. 256 * committed_turns (count_in r) r + 229 * cond b (shown_turns (count_in r) r) 0)
+        let paid : paid_in job r ≡ 256 * (committed_turns (count_in r) r + 0) =
+        ap (λ b. 256 * (committed_turns (count_in r) r + cond b (shown_turns (count_in r) r) 0))
         (le-ltb (count_in r) (length job.steps) all) in
         let most = work_all (count_in r) in
         omega (arith, paid, most, committed)

@@ -1,13 +1,17 @@
 -- How many calls of the station a run makes at most.
-use Rattle.std.specs.Prelude.{◌≡◌, ◌⊎◌, ℕ, ◌+◌, ◌-◌, ◌*◌, ◌/◌, ◌<◌, false, cond, length, sum_by}
+use Rattle.std.specs.Prelude.{◌≡◌, ◌≢◌, ◌⊎◌, ℕ, ◌+◌, ◌-◌, ◌*◌, ◌/◌, ◌<◌, Bool, true, false, cond, min, [], length, sum_by}
+use Rattle.bool_tables.specs.declared.steps.Step.{Step}
 use Rattle.bool_tables.specs.declared.steps.Planned.{Planned}
 use Rattle.shelf_model.specs.Folder.{Folder}
 use Rattle.file_writes.specs.Writes.{pieces}
 use Rattle.step_work.specs.Tuples.{sweeps}
+use Rattle.sound_image.specs.Files.{checkpoint_gate}
 use Rattle.sound_image.specs.Jobs.{Job, step_at}
 use Rattle.sound_image.specs.Entries.{work_of}
 use Rattle.sound_image.specs.Holds.{Holds, AreSound}
+use Rattle.sound_image.specs.Steps.{parts_end}
 use Rattle.catalogue.specs.Counts.{present, count_in}
+use Rattle.step_engine.specs.LeftBehind.{most_since}
 use Rattle.step_engine.specs.Running.{PaysRest}
 
 -- the calls of a step of the job: 11 at most where it takes one turn, which make, commit and tidy it up, and else 229
@@ -20,20 +24,33 @@ step_calls job p = cond (sweeps p.step) (229 * work_of job p.step + work_of job 
 abbrev pub most_calls : Job → ℕ → ℕ
 most_calls job lines = 11 + pieces (length job.bytes) + sum_by (step_calls job) job.steps + 2 * lines
 
--- so many calls pay for going on from the last checkpoint of step k, where it has one, and for 1,019 part numbers that
--- it may have taken before
+-- whether something is gated of step k, as its gate is read
+abbrev pub IsGated : Bool → ℕ → Folder → Type 0
+IsGated false k folder = present folder (checkpoint_gate k) ≡ []
+IsGated true k folder = present folder (checkpoint_gate k) ≢ []
+
+-- the calls that cut what a step with that next part leaves behind: one for each part that it took; or, where something
+-- was gated of it before it was taken, 591 and one for each part that was taken since its last checkpoint, of which so
+-- many are cut at most; and one at most where it doesn't sweep
+abbrev pub cut_calls : Bool → Step → ℕ → ℕ
+cut_calls false step next = cond (sweeps step) (parts_end next - 1) 1
+cut_calls true step next = cond (sweeps step) (591 + min (parts_end next - 5) most_since) 1
+
+-- so many calls pay for going on from the last checkpoint of step k, where it has one, for 1,019 part numbers that it may
+-- have taken before, and for 587 that find and cut what it leaves behind then
 abbrev pub PaysStep : Job → ℕ → Folder → ℕ → Type 0
-PaysStep job k folder rest = PaysRest (step_at job k).step k (present folder) (rest - 1019)
+PaysStep job k folder rest = PaysRest (step_at job k).step k (present folder) (rest - 1606)
 
 -- so many pay for that of the first step that isn't committed, where there is one
 abbrev pub PaysFirst : Job → Folder → ℕ → Type 0
 PaysFirst job folder rest = count_in (present folder) < length job.steps
     → PaysStep job (count_in (present folder)) folder rest
 
--- the turns of the step are bounded: it takes one, or the folder holds the steps before it, and so many calls pay for
--- going on with it
-abbrev pub IsCounted : Job → ℕ → Folder → ℕ → Type 0
-IsCounted job k folder rest = (sweeps (step_at job k).step ≡ false) ⊎ (Holds job k folder × PaysStep job k folder rest)
+-- the turns of the step are bounded: it takes one, or the folder holds the steps before it, it is known whether something
+-- is gated of it, and so many calls pay for going on with it
+abbrev pub IsCounted : Job → ℕ → Bool → Folder → ℕ → Type 0
+IsCounted job k gated folder rest = (sweeps (step_at job k).step ≡ false)
+    ⊎ (Holds job k folder × IsGated gated k folder × PaysStep job k folder rest)
 
 -- those of all steps are: each takes one, or the folder is sound for the job, and so many calls pay for going on in it
 abbrev pub AreCounted : Job → Folder → ℕ → Type 0

@@ -6,6 +6,7 @@ pub mod Causes
 pub mod Running
 pub mod StepRuns
 pub mod Calls
+pub mod Begun
 pub mod Stops
 pub mod Fetching
 pub mod Netlists

@@ -1,7 +1,7 @@
 -- How many calls the turns pay for that an image shows done, what going on from it costs, and how many calls a run has
 -- made at most when a stop leaves it. An image is taken by the bytes of each file.
 use Rattle.std.specs.Prelude.{◌≡◌, ℕ, zero, suc, ◌+◌, ◌-◌, ◌*◌, ◌^◌, ◌<◌, ◌≤◌, List, length, take, drop, nat_lt}
-use Rattle.std.specs.Prelude.{cond, sum_by, Some, Result, OnOk}
+use Rattle.std.specs.Prelude.{Bool, cond, sum_by, Some, Result, OnOk}
 use Rattle.byteorder.specs.Endian.{big_number}
 use Rattle.bool_tables.specs.Plans.{operands}
 use Rattle.shelf_model.specs.declared.file_no.FileNo.{FileNo}
@@ -20,6 +20,7 @@ use Rattle.sound_image.specs.Jobs.{Job, step_at}
 use Rattle.sound_image.specs.Entries.{work_of}
 use Rattle.sound_image.specs.Holds.{Holds, AreSound}
 use Rattle.step_engine.specs.Running.{run_stop, PaysRest}
+use Rattle.script_runner.specs.Calls.{IsGated}
 use Rattle.script_runner.specs.declared.finish.Finish.{Finish}
 
 -- the turns of a committed step: the number in the eight bytes of its entry behind the first sixteen
@@ -35,21 +36,24 @@ committed_turns (suc k) r = committed_turns k r + turns_at k r
 abbrev pub shown_in : Job → (FileNo → List ℕ) → ℕ
 shown_in job r = cond (nat_lt (count_in r) (length job.steps)) (shown_turns (count_in r) r) 0
 
--- the calls that turns which are shown done pay for: 256 for each of a committed step, and 229 for each that a
--- checkpoint shows
+-- the calls that turns which are shown done pay for: 256 for each, of a committed step or shown by a checkpoint
 abbrev pub paid_in : Job → (FileNo → List ℕ) → ℕ
-paid_in job r = 256 * committed_turns (count_in r) r + 229 * shown_in job r
+paid_in job r = 256 * (committed_turns (count_in r) r + shown_in job r)
 
 -- the nodes of the operands of the first step that isn't committed, each counted by itself; none where all are
 abbrev pub nodes_next : Job → (FileNo → List ℕ) → ℕ
 nodes_next job r = sum_by (λ k. count_of (r (node_file k))) (operands (step_at job (count_in r)).step)
 
--- so many calls pay for going on from what a stop left: 2^25, one for each of these nodes, and 65 for each record of
+-- so many calls are left of 2^25 for a run, where fetching the texts and entering the folder take the others
+abbrev pub run_rest : ℕ
+run_rest = 2 ^ 25 - 2 ^ 12
+
+-- so many calls pay for going on from what a stop left: those, one for each of these nodes, and 65 for each record of
 -- the runs that the last gated checkpoint of the first step that isn't committed names, where it has one
 pub record IsRestOf (job : Job) (r : FileNo → List ℕ) (rest : ℕ) : Type 0 where
-  pub begins : 2 ^ 25 + nodes_next job r ≤ rest
+  pub begins : run_rest + nodes_next job r ≤ rest
   pub goes_on : (c : Checkpoint) → Tells (count_in r) (last_gated (count_in r) r) (Some c)
-      → 2 ^ 25 + 65 * records_named c + nodes_next job r ≤ rest
+      → run_rest + 65 * records_named c + nodes_next job r ≤ rest
 
 -- each image of the folder pays for so many calls or more
 abbrev pub PayAtLeast : Job → ℕ → Folder → Type 0
@@ -87,14 +91,15 @@ pub record StopsIn (job : Job) (lines besides : ℕ) (old new : World) : Type 0 
   pub pays : (paid rest : ℕ) → IsPaidRun job lines paid rest (now old).folder
       → PaysThrough job paid (old.clock + (besides + rest)) old new
 
--- what is known of a step that is taken: the folder holds those before it, its work is bounded, each image pays for so
--- many calls, and so many more pay for going on from its last checkpoint, where it has one, and for part numbers that
--- it took before
-pub record IsPaidStep (job : Job) (k paid rest : ℕ) (folder : Folder) : Type 0 where
+-- what is known of a step that is taken: the folder holds those before it, and whether something is gated of it; its work
+-- is bounded, each image pays for so many calls, and so many more pay for going on from its last checkpoint, where it has
+-- one, and for cutting what it leaves behind then
+pub record IsPaidStep (job : Job) (k : ℕ) (is_gated : Bool) (paid rest : ℕ) (folder : Folder) : Type 0 where
   pub holds : Holds job k folder
+  pub gated : IsGated is_gated k folder
   pub work : work_of job (step_at job k).step < 2 ^ 61
   pub shows : PayAtLeast job paid folder
-  pub pays : PaysRest (step_at job k).step k (present folder) (rest - 1100)
+  pub pays : PaysRest (step_at job k).step k (present folder) (rest - 66145)
 
 -- at each moment of it a stop costs what an interval and its saving do besides; and once it was taken nothing more than
 -- what paid for going on

@@ -48,7 +48,7 @@ pub fn lives_keep()
 
 /// Over any list of calls in one folder, each of which finds what the one before left, however they are ended: the
 /// calls of the station that they make together are at most those that the turns pay for which are shown done at the
-/// end beyond the ones at first, 256 for each turn of a committed step and 229 for each that a checkpoint shows, and
+/// end beyond the ones at first, 256 for each turn of a committed step or that a checkpoint shows, and
 /// for each call of the program what it costs to go on from what it found. Each call whose words ask for the job costs
 /// so, with those of fetching two texts and two besides. What an image that is sound for the job pays for is at most 256
 /// calls for each turn of its work; and each image that such calls leave is sound, by `lives_keep`.

@@ -3,6 +3,7 @@
 #![tactic(auto)]
 
 mod banner;
+mod begin;
 mod ending;
 mod fetch;
 mod finish;

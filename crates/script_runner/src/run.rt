@@ -11,11 +11,12 @@ ghost use Rattle.script_runner.specs.Stops.{RunPays};
 
 use crate::Finish;
 use crate::banner::banner_line;
+use crate::begin::begin;
 use crate::given_job::Job;
 use crate::say::{count_before, say_lines};
 use crate::step::take_step;
 use bool_tables::Planned;
-use catalogue::{AttachFault, attach};
+use catalogue::AttachFault;
 use rec_words::Rec;
 use script_reader::LineEnd;
 use shelf_model::Station;
@@ -78,20 +79,22 @@ pub(crate) fn run_job<W: Station>(job: &Job, room: &mut [Rec], station: &mut W) 
         (W.world station.old) (W.world station.new) }
     ensures causes { FinishHasCause (W.faults station.old) (W.faults station.new) result }
 {
-    let standing = match attach(job.bytes, job.steps.len() as u32, station) {
-        Ok(standing) => standing,
+    let begun = match begin(job, station) {
+        Ok(begun) => begun,
         Err(AttachFault::Shelf) => return Finish::FolderFault,
         Err(AttachFault::Damaged { file, at }) => return Finish::Damaged { file, at },
         Err(AttachFault::OtherJob { at }) => return Finish::OtherJob { at },
     };
+    let standing = begun.standing;
     let before = count_before(standing.done, job.lines);
     let banner = banner_line(standing.fresh, before as u64, job.lines.len() as u64);
     let Ok(()) = station.say(banner.as_str().as_bytes()) else {
         return Finish::SayFault;
     };
     let mut rest = job.lines.split_at(before).1;
+    let mut gone_on = begun.gone_on;
     for step in standing.done..job.steps.len() as u32 {
-        let entry = match take_step(job, step, room, station) {
+        let entry = match take_step(job, step, gone_on, room, station) {
             Ok(entry) => entry,
             Err(finish) => return finish,
         };
@@ -101,6 +104,8 @@ pub(crate) fn run_job<W: Station>(job: &Job, room: &mut [Rec], station: &mut W) 
             Err(finish) => return finish,
         }
         rest = later;
+        // Of the steps behind the first one nothing is gated.
+        gone_on = false;
     }
     let Ok(()) = station.say(b"done\n") else {
         return Finish::SayFault;

@@ -52,7 +52,7 @@ node_of p (k ∷ ks) f all (suc place, x, within, at, is) =
     node_of p ks f (and_parts (p k) (list_all p ks) all).1 (place, x, omega (arith, within), at, is)
 
 -- a checkpoint has so many bytes: of them those before the unused ones are its own
-point_whole : (c : Checkpoint) → Fits c → length (point_bytes c) ≡ 16384
+pub point_whole : (c : Checkpoint) → Fits c → length (point_bytes c) ≡ 16384
 unfolding point_bytes
 point_whole c fits =
     let cut : length (take 15872 (point_bytes c)) ≡ min 15872 (length (point_bytes c)) = length-take 15872 (point_bytes c) in

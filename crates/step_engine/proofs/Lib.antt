@@ -7,6 +7,7 @@ mod Went
 mod RunFaults
 mod Found
 mod GivenUp
+pub mod Gated
 pub mod PlanLaws
 mod TableLaws
 pub mod EntryLaws
@@ -15,3 +16,4 @@ mod Runs
 mod Questions
 mod OneTurn
 mod Cutting
+mod Emptying

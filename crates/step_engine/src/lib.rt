@@ -7,10 +7,11 @@ mod drops;
 mod entries;
 mod going;
 mod kinds;
+mod last_runs;
 mod simple;
 mod step;
 mod sweeping;
 
-pub use drops::tidy;
+pub use drops::{tidy, tidy_gone_on};
 pub use kinds::{entry_of_kind, kind_of};
 pub use step::run_step;

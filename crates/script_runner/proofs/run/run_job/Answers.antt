@@ -2,9 +2,11 @@ use Rattle.std.proofs.Common.{◌≡◌, ◌≤◌, ◌<◌, ◌+◌, ◌-◌, �
 use Rattle.std.proofs.lemmas.List.{length-take-le, length-drop}
 use Rattle.std.specs.Prelude.{IsTrue, Ok, Err}
 use Rattle.std.specs.List.{list_all}
+use Rattle.shelf_model.specs.World.{now}
 use Rattle.shelf_model.specs.Calls.{Told}
 use Rattle.catalogue.proofs.Budget.{length-without_budget}
 use Rattle.sound_image.specs.Jobs.{Job}
+use Rattle.sound_image.proofs.AttachLaws.{none_behind_first}
 use Rattle.script_reader.specs.declared.plan.LineEnd.{LineEnd}
 use Rattle.script_reader.specs.Lines.{rise_from, shows_past}
 use Rattle.script_runner.specs.JobOf.{job_in}
@@ -15,6 +17,7 @@ use Rattle.script_runner.proofs.LineOrder.{rises_earlier, none_left, shown_in_fr
 use Rattle.script_runner.proofs.Shown.{below_next}
 use Rattle.script_runner.proofs.RunSteps.{done_at, plan_in}
 use Rattle.script_runner.proofs.Paying.{unpaid, unpaid_few, none_unpaid}
+use Rattle.script_runner.proofs.Beginning.{begun_gated}
 use Rattle.script_runner.proofs.Saying.{told_second}
 use Rattle.script_runner.proofs.Turns.{Turn, not_attached, refuses_job, refuses_damage, says_banner, stopped_saying, stops_step, takes_step, is_ready, made_stands, stops_lines, said_lines, says_done, is_done, is_counted, calls_of_one_more, calls_before_all}
 use Rattle.script_runner.proofs.RunPaying.{PaysSoFar, spent_at, rest_few, attach_stops, banner_so_far, stopped_step, taken_step, lines_said, ends_so}
@@ -31,22 +34,22 @@ returns-in-Err-Damaged-clause-content g c =
     let job : Job = job_in c.args.job.now in
     let plan = plan_in c.args.job.now in
     refuses_damage g.W.Shelf.tells g.W.Shelf.world (λ s told f. g.met.W.Shelf.files_are s told f) job c.args.job.now.lines.now plan c.args.job.now.bytes.now c.in-Err-Damaged.field-0 _ c.in-Err-Damaged.file c.in-Err-Damaged.at _ _ refl c.in-Err-Damaged.field-0-is refl
-    c.in-Err-Damaged.ensures.content (λ t. c.in-Err-Damaged.ensures.answer t (λ e. let fault = c.in-Err-Damaged.field-0-is in cc))
+    c.in-Err-Damaged.ensures.content (λ t. c.in-Err-Damaged.ensures.refused t (λ e. let fault = c.in-Err-Damaged.field-0-is in cc))
 
 pub returns-in-Err-OtherJob-clause-content : goal.returns-in-Err-OtherJob-clause-content
 returns-in-Err-OtherJob-clause-content g c =
     let job : Job = job_in c.args.job.now in
     let plan = plan_in c.args.job.now in
     refuses_job g.W.Shelf.tells g.W.Shelf.world (λ s told f. g.met.W.Shelf.files_are s told f) job c.args.job.now.lines.now plan c.args.job.now.bytes.now c.in-Err-OtherJob.field-0 _ c.in-Err-OtherJob.at _ _ refl c.in-Err-OtherJob.field-0-is refl
-    c.in-Err-OtherJob.ensures.content (λ t. c.in-Err-OtherJob.ensures.answer t (λ e. let fault = c.in-Err-OtherJob.field-0-is in cc))
+    c.in-Err-OtherJob.ensures.content (λ t. c.in-Err-OtherJob.ensures.refused t (λ e. let fault = c.in-Err-OtherJob.field-0-is in cc))
 
 pub returns-in_default-clause-content : goal.returns-in_default-clause-content
 returns-in_default-clause-content g c =
     let job : Job = job_in c.args.job.now in
     let plan = plan_in c.args.job.now in
     stopped_saying g.W.Shelf.tells g.W.Shelf.world (λ s told f. g.met.W.Shelf.files_are s told f) job c.args.job.now.lines.now plan _ _
-    (says_banner g.W.Shelf.tells g.W.Shelf.world (λ s told f. g.met.W.Shelf.files_are s told f) job c.args.job.now.lines.now plan c.args.job.now.bytes.now c.in-Ok.standing c.count_before-before.result c.as_bytes.result.now _ _ _ _ refl
-    c.in-Ok.ensures.content (λ t. c.in-Ok.ensures.answer t (λ e. cc)) c.in-Ok.ensures.ok
+    (says_banner g.W.Shelf.tells g.W.Shelf.world (λ s told f. g.met.W.Shelf.files_are s told f) job c.args.job.now.lines.now plan c.args.job.now.bytes.now c.in-Ok.begun.standing c.count_before-before.result c.as_bytes.result.now _ _ _ _ refl
+    c.in-Ok.ensures.content c.in-Ok.ensures.answer c.in-Ok.ensures.ok
     c.count_before-before.ensures.within c.count_before-before.ensures.front c.count_before-before.ensures.rest
     (c.as_bytes.ensures.value ∙ c.as_str.ensures.value ∙ c.banner_line-banner.ensures.text) c.in_default.ensures.content)
 
@@ -58,13 +61,13 @@ loop-step-init g c =
     let say_faults = c.in-Ok-say.ensures.faults in
     let rest : c.split_at.result.1.now ≡ drop c.count_before-before.result c.args.job.now.lines.now = c.split_at.ensures.back in
     record {
-      so_far = subst (λ (ls : List LineEnd). Told g.W.Shelf.tells c.args.station.now c.say.new.self (Turn job c.args.job.now.lines.now c.in-Ok.standing.done ls (g.W.Shelf.world c.args.station.now) (g.W.Shelf.world c.say.new.self))) (sym rest)
-          (told_second g.W.Shelf.tells g.W.Shelf.world _ _ _ _ (says_banner g.W.Shelf.tells g.W.Shelf.world (λ s told f. g.met.W.Shelf.files_are s told f) job c.args.job.now.lines.now plan c.args.job.now.bytes.now c.in-Ok.standing c.count_before-before.result c.as_bytes.result.now _ _ _ _ refl
-          c.in-Ok.ensures.content (λ t. c.in-Ok.ensures.answer t (λ e. cc)) c.in-Ok.ensures.ok
+      so_far = subst (λ (ls : List LineEnd). Told g.W.Shelf.tells c.args.station.now c.say.new.self (Turn job c.args.job.now.lines.now c.in-Ok.begun.standing.done ls (g.W.Shelf.world c.args.station.now) (g.W.Shelf.world c.say.new.self))) (sym rest)
+          (told_second g.W.Shelf.tells g.W.Shelf.world _ _ _ _ (says_banner g.W.Shelf.tells g.W.Shelf.world (λ s told f. g.met.W.Shelf.files_are s told f) job c.args.job.now.lines.now plan c.args.job.now.bytes.now c.in-Ok.begun.standing c.count_before-before.result c.as_bytes.result.now _ _ _ _ refl
+          c.in-Ok.ensures.content c.in-Ok.ensures.answer c.in-Ok.ensures.ok
           c.count_before-before.ensures.within c.count_before-before.ensures.front c.count_before-before.ensures.rest
           (c.as_bytes.ensures.value ∙ c.as_str.ensures.value ∙ c.banner_line-banner.ensures.text) c.in-Ok-say.ensures.content));
       calls = λ t paid counted.
-          let few = unpaid_few (done_at (g.W.Shelf.world c.args.station.now)) c.in-Ok.standing.done paid in
+          let few = unpaid_few (done_at (g.W.Shelf.world c.args.station.now)) c.in-Ok.begun.standing.done paid in
           let clock = (c.in-Ok-say.ensures.content.did t).elsewhere.ticks.clock_is in
           let attached = c.in-Ok.ensures.calls (c.in-Ok-say.ensures.content.before t) in
           let left : length c.split_at.result.1.now ≡ length c.args.job.now.lines.now - c.count_before-before.result =
@@ -75,8 +78,11 @@ loop-step-init g c =
           let said = (c.in-Ok-say.ensures.content.did t).elsewhere in
           let told_mid = c.in-Ok-say.ensures.content.before t in
           banner_so_far g.W.Shelf.tells g.W.Shelf.world (λ s told f. g.met.W.Shelf.files_are s told f) job (length c.args.job.now.lines.now) c.args.job.now.bytes.now _ _ _
-          (sym (length-without_budget c.args.job.now.bytes.now)) c.in-Ok.ensures.content told_mid (c.in-Ok.ensures.calls told_mid) said.ticks said.folder_is (length c.split_at.result.1.now) c.in-Ok.standing.done paid rest_calls is;
-      rise = subst (λ (ls : List LineEnd). IsTrue (rise_from c.in-Ok.standing.done ls)) (sym rest) c.count_before-before.ensures.rest;
+          (sym (length-without_budget c.args.job.now.bytes.now)) c.in-Ok.ensures.content told_mid (c.in-Ok.ensures.calls told_mid) said.ticks said.folder_is (length c.split_at.result.1.now) c.in-Ok.begun.standing.done paid rest_calls is;
+      gated = λ t sound within.
+          begun_gated g.W.Shelf.tells g.W.Shelf.world (λ s told f. g.met.W.Shelf.files_are s told f) job plan.well_formed c.args.job.now.bytes.now c.in-Ok.begun _ _ refl
+          c.in-Ok.ensures.content c.in-Ok.ensures.answer c.in-Ok.ensures.asked (c.in-Ok-say.ensures.content.before t) sound within;
+      rise = subst (λ (ls : List LineEnd). IsTrue (rise_from c.in-Ok.begun.standing.done ls)) (sym rest) c.count_before-before.ensures.rest;
       shown = subst (λ (ls : List LineEnd). IsTrue (list_all (shows_past (length c.args.job.now.steps.now)) ls)) (sym rest)
           (rest_passes (shows_past (length c.args.job.now.steps.now)) c.args.job.now.lines.now c.count_before-before.result c.args.job.now.are_lines.show_past);
       folder_later = let a = attach_faults.later in let b = say_faults.folder_is in omega (arith, a, b);
@@ -162,8 +168,8 @@ loop-step-preserved g c =
           let told_before = c.in-Ok-take_step.ensures.content.before told_take in
           let before = invariant.calls told_before paid counted in
           let took = c.in-Ok-take_step.ensures.calls told_take (unpaid (done_at (g.W.Shelf.world c.args.station.now)) c.loop-step.step paid)
-          (is_counted g.W.Shelf.tells g.W.Shelf.world (λ s told f. g.met.W.Shelf.files_are s told f) job c.args.job.now.lines.now plan c.loop-step.step c.loop-step.rest.now _ _ paid
-          c.loop-step-test.true invariant.so_far told_before counted) in
+          (is_counted g.W.Shelf.tells g.W.Shelf.world (λ s told f. g.met.W.Shelf.files_are s told f) job c.args.job.now.lines.now plan c.loop-step.step c.loop-step.rest.now c.loop-step.gone_on _ _ paid
+          c.loop-step-test.true invariant.so_far told_before (λ sound. invariant.gated told_before sound c.loop-step-test.true) counted) in
           let paid_all = none_unpaid (done_at (g.W.Shelf.world c.args.station.now)) c.loop-step.step paid (invariant.so_far.did told_before).0.reached in
           let one_more = calls_of_one_more job c.loop-step.step c.loop-step-test.true in
           let said_them = c.in-Ok-say_lines.ensures.calls t in
@@ -184,13 +190,18 @@ loop-step-preserved g c =
           ap length rest ∙ length-drop c.count_before.result c.loop-step.rest.now in
           let taken_so = taken_step g.W.Shelf.tells g.W.Shelf.world (λ s told f. g.met.W.Shelf.files_are s told f) job (length c.args.job.now.lines.now) plan.well_formed c.loop-step.step
           (length c.loop-step.rest.now) c.loop-step-test.true _ _ _ (invariant.so_far.before told_before) at.reached at.made.keeps at.made.later
-          (λ sound. (at.sound sound).holds) (c.in-Ok-take_step.ensures.content.did told_take).run.moments.past paid rest_calls is (invariant.paid told_before paid rest_calls is)
+          (λ sound. (at.sound sound).holds) c.loop-step.gone_on (λ sound. invariant.gated told_before sound c.loop-step-test.true) (c.in-Ok-take_step.ensures.content.did told_take).run.moments.past paid rest_calls is (invariant.paid told_before paid rest_calls is)
           (Ok e) (c.in-Ok-take_step.ensures.stops told_take) e refl in
           subst (λ n. PaysSoFar job paid (spent_at (length job.bytes) (length c.args.job.now.lines.now) n (done_at (g.W.Shelf.world c.args.station.now)) (c.loop-step.step + 1) rest_calls)
           rest_calls (g.W.Shelf.world c.args.station.now) (g.W.Shelf.world c.say_lines.new.station)) (sym left)
           (lines_said g.W.Shelf.tells g.W.Shelf.world (λ s told f. g.met.W.Shelf.files_are s told f) job (length c.args.job.now.lines.now) (c.loop-step.step + 1) (length c.loop-step.rest.now) c.count_before.result
           (done_at (g.W.Shelf.world c.args.station.now)) _ _ _ (invariant.so_far.before told_before) (c.in-Ok-say_lines.ensures.content.did t).files
           (let few = c.in-Ok-say_lines.ensures.calls t in omega (arith, few, spoken)) c.count_before.ensures.within left_few paid rest_calls is taken_so);
+      gated = λ t sound within.
+          let told_before = c.in-Ok-take_step.ensures.content.before (c.in-Ok-say_lines.ensures.content.before t) in
+          let reached = (invariant.so_far.did told_before).0.reached in
+          none_behind_first job (now (g.W.Shelf.world c.args.station.now)).folder (λ f. g.met.W.Shelf.files_are c.args.station.now (invariant.so_far.before told_before) f) sound
+          (c.loop-step.step + 1) (omega (arith, reached)) within;
       rise = subst (λ (ls : List LineEnd). IsTrue (rise_from (c.loop-step.step + 1) ls)) (sym rest) c.count_before.ensures.rest;
       shown = subst (λ (ls : List LineEnd). IsTrue (list_all (shows_past (length c.args.job.now.steps.now)) ls)) (sym rest)
           (rest_passes (shows_past (length c.args.job.now.steps.now)) c.loop-step.rest.now c.count_before.result invariant.shown);
@@ -250,8 +261,8 @@ returns-in-Err-clause-calls g c t paid counted =
     let told_before = c.in-Err.ensures.content.before t in
     let before = c.loop-step.invariant.calls told_before paid counted in
     let took = c.in-Err.ensures.calls t (unpaid (done_at (g.W.Shelf.world c.args.station.now)) c.loop-step.step paid)
-    (is_counted g.W.Shelf.tells g.W.Shelf.world (λ s told f. g.met.W.Shelf.files_are s told f) job c.args.job.now.lines.now plan c.loop-step.step c.loop-step.rest.now _ _ paid
-    c.loop-step-test.true c.loop-step.invariant.so_far told_before counted) in
+    (is_counted g.W.Shelf.tells g.W.Shelf.world (λ s told f. g.met.W.Shelf.files_are s told f) job c.args.job.now.lines.now plan c.loop-step.step c.loop-step.rest.now c.loop-step.gone_on _ _ paid
+    c.loop-step-test.true c.loop-step.invariant.so_far told_before (λ sound. c.loop-step.invariant.gated told_before sound c.loop-step-test.true) counted) in
     let one_more = calls_of_one_more job c.loop-step.step c.loop-step-test.true in
     let no_more = calls_before_all job (c.loop-step.step + 1) in
     omega (arith, before, took, one_more, no_more)
@@ -264,8 +275,8 @@ returns-in-Err-say_lines-clause-calls g c t paid counted =
     let told_before = c.in-Ok-take_step.ensures.content.before told_take in
     let before = c.loop-step.invariant.calls told_before paid counted in
     let took = c.in-Ok-take_step.ensures.calls told_take (unpaid (done_at (g.W.Shelf.world c.args.station.now)) c.loop-step.step paid)
-    (is_counted g.W.Shelf.tells g.W.Shelf.world (λ s told f. g.met.W.Shelf.files_are s told f) job c.args.job.now.lines.now plan c.loop-step.step c.loop-step.rest.now _ _ paid
-    c.loop-step-test.true c.loop-step.invariant.so_far told_before counted) in
+    (is_counted g.W.Shelf.tells g.W.Shelf.world (λ s told f. g.met.W.Shelf.files_are s told f) job c.args.job.now.lines.now plan c.loop-step.step c.loop-step.rest.now c.loop-step.gone_on _ _ paid
+    c.loop-step-test.true c.loop-step.invariant.so_far told_before (λ sound. c.loop-step.invariant.gated told_before sound c.loop-step-test.true) counted) in
     let one_more = calls_of_one_more job c.loop-step.step c.loop-step-test.true in
     let no_more = calls_before_all job (c.loop-step.step + 1) in
     let said_them = c.in-Err-say_lines.ensures.calls t in
@@ -321,7 +332,7 @@ returns-in-Err-clause-stops g c t paid rest_calls is =
     let at = (c.loop-step.invariant.so_far.did told_before).0 in
     stopped_step g.W.Shelf.tells g.W.Shelf.world (λ s told f. g.met.W.Shelf.files_are s told f) job (length c.args.job.now.lines.now) plan.well_formed c.loop-step.step
     (length c.loop-step.rest.now) c.loop-step-test.true _ _ _ (c.loop-step.invariant.so_far.before told_before) at.reached at.made.keeps at.made.later
-    (λ sound. (at.sound sound).holds) (c.in-Err.ensures.content.did t).run.moments.past paid rest_calls is (c.loop-step.invariant.paid told_before paid rest_calls is)
+    (λ sound. (at.sound sound).holds) c.loop-step.gone_on (λ sound. c.loop-step.invariant.gated told_before sound c.loop-step-test.true) (c.in-Err.ensures.content.did t).run.moments.past paid rest_calls is (c.loop-step.invariant.paid told_before paid rest_calls is)
     (Err c.in-Err.finish) (c.in-Err.ensures.stops t)
 
 pub returns-in-Err-say_lines-clause-stops : goal.returns-in-Err-say_lines-clause-stops
@@ -338,7 +349,7 @@ returns-in-Err-say_lines-clause-stops g c t paid rest_calls is =
     ap length c.split_at-in-loop-step.ensures.front ∙ length-take-le c.count_before.result c.loop-step.rest.now c.count_before.ensures.within in
     let taken_so = taken_step g.W.Shelf.tells g.W.Shelf.world (λ s told f. g.met.W.Shelf.files_are s told f) job (length c.args.job.now.lines.now) plan.well_formed c.loop-step.step
     (length c.loop-step.rest.now) c.loop-step-test.true _ _ _ (invariant.so_far.before told_before) at.reached at.made.keeps at.made.later
-    (λ sound. (at.sound sound).holds) (c.in-Ok-take_step.ensures.content.did told_take).run.moments.past paid rest_calls is (invariant.paid told_before paid rest_calls is)
+    (λ sound. (at.sound sound).holds) c.loop-step.gone_on (λ sound. invariant.gated told_before sound c.loop-step-test.true) (c.in-Ok-take_step.ensures.content.did told_take).run.moments.past paid rest_calls is (invariant.paid told_before paid rest_calls is)
     (Ok e) (c.in-Ok-take_step.ensures.stops told_take) e refl in
     (lines_said g.W.Shelf.tells g.W.Shelf.world (λ s told f. g.met.W.Shelf.files_are s told f) job (length c.args.job.now.lines.now) (c.loop-step.step + 1) (length c.loop-step.rest.now) c.count_before.result
     (done_at (g.W.Shelf.world c.args.station.now)) _ _ _ (invariant.so_far.before told_before) (c.in-Err-say_lines.ensures.content.did t).files

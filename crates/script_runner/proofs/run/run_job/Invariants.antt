@@ -1,11 +1,12 @@
-use Rattle.std.proofs.Common.{◌≡◌, ◌≤◌, ◌+◌, ◌*◌, ℕ, List, length}
+use Rattle.std.proofs.Common.{◌≡◌, ◌<◌, ◌≤◌, ◌+◌, ◌*◌, ℕ, List, length}
 use Rattle.std.specs.Prelude.{IsTrue}
 use Rattle.std.specs.List.{list_all}
 use Rattle.shelf_model.specs.World.{now}
 use Rattle.shelf_model.specs.Calls.{Told}
 use Rattle.script_reader.specs.Lines.{rise_from, shows_past}
 use Rattle.file_writes.specs.Writes.{pieces}
-use Rattle.script_runner.specs.Calls.{AreCounted}
+use Rattle.sound_image.specs.Holds.{AreSound}
+use Rattle.script_runner.specs.Calls.{IsGated, AreCounted}
 use Rattle.script_runner.specs.JobOf.{job_in}
 use Rattle.script_runner.specs.Stops.{IsPaidRun}
 use Rattle.script_runner.proofs.RunSteps.{done_at}
@@ -29,6 +30,8 @@ invariant-loop-step g l = record {
       → PaysSoFar (job_in l.fn.job) paid
       (spent_at (length (job_in l.fn.job).bytes) (length l.fn.job.lines.now) (length l.rest) (done_at (g.W.Shelf.world l.fn.station)) l.step rest) rest
       (g.W.Shelf.world l.fn.station) (g.W.Shelf.world l.station);
+  gated : IsTrue (g.W.Shelf.tells l.station) → AreSound (job_in l.fn.job) (now (g.W.Shelf.world l.fn.station)).folder
+      → l.step < length l.fn.job.steps.now → IsGated l.gone_on l.step (now (g.W.Shelf.world l.fn.station)).folder;
   rise : IsTrue (rise_from l.step l.rest);
   shown : IsTrue (list_all (shows_past (length l.fn.job.steps.now)) l.rest);
   folder_later : (g.W.Shelf.faults l.fn.station).folder ≤ (g.W.Shelf.faults l.station).folder;
