@@ -155,9 +155,9 @@ fn says_the_usage_to_words_without_a_reading(rt: HostRuntime) -> Result<(), Fail
     Ok(())
 }
 
-/// Runs behind that of the one variable in the usual room. The script begins at byte 20 of a job, and the budget is at
-/// bytes 8 to 11.
-const OTHERS: [Case; 3] = [
+/// Runs behind that of the one variable in the usual room. The script begins at byte 20 of a job, and the budget of the
+/// run that stored it is at bytes 8 to 11, where a run with another one leaves it.
+const OTHERS: [Case; 4] = [
     (
         "the same words",
         &[
@@ -187,13 +187,26 @@ const OTHERS: [Case; 3] = [
             Act::Run(&RUN, 0, ONE_TEXT),
             Act::Stop(Choice::Firm),
             Act::Put("script", ONE_VARIABLE),
-            Act::Run(&LEAST, 5, b"other job at 9\n"),
+            Act::Run(&LEAST, 0, b"resume 1 of 1\ndone\n"),
+            Act::Bytes(JOB, USUAL_JOB),
+        ],
+    ),
+    (
+        "another script and another budget",
+        &[
+            Act::Put("script", ONE_VARIABLE),
+            Act::Run(&RUN, 0, ONE_TEXT),
+            Act::Stop(Choice::Firm),
+            Act::Put("script", b"vars a b c\nvar f c\n"),
+            Act::Run(&LEAST, 5, b"other job at 37\n"),
             Act::Bytes(JOB, USUAL_JOB),
         ],
     ),
 ];
 
 #[test]
-fn says_where_the_job_of_other_words_differs(rt: HostRuntime) -> Result<(), Fail> {
+fn goes_on_with_any_budget_and_says_where_another_script_differs(
+    rt: HostRuntime,
+) -> Result<(), Fail> {
     all_go(&rt, rt.alloc(), &OTHERS)
 }

@@ -74,13 +74,14 @@ fn answers_behind(
 
 #[test]
 fn a_size_is_refused_where_another_job_is_stored(rt: HostRuntime) -> Result<(), Fail> {
-    // The budget is at bytes 8 to 11 of a job, and the script's length at bytes 12 to 15: 19 bytes, or 112.
-    let cases: [(&[&str], &[&str], u8, &[u8]); 5] = [
+    // The script's length is at bytes 12 to 15 of a job: 19 bytes, or 112. The room is no part of it.
+    let cases: [(&[&str], &[&str], u8, &[u8]); 6] = [
         (&LEAST_SIZE, &LEAST_SIZE, 0, b"resume 9 of 9\ndone\n"),
         (&RUN, &LEAST_SIZE, 5, b"other job at 15\n"),
         (&LEAST_SIZE, &RUN, 5, b"other job at 15\n"),
-        (&LEAST_SIZE, &LEAST_ROOM, 5, b"other job at 9\n"),
-        (&LEAST_ROOM, &LEAST_SIZE, 5, b"other job at 9\n"),
+        (&RUN, &LEAST_ROOM, 5, b"other job at 15\n"),
+        (&LEAST_SIZE, &LEAST_ROOM, 0, b"resume 9 of 9\ndone\n"),
+        (&LEAST_ROOM, &LEAST_SIZE, 0, b"resume 9 of 9\ndone\n"),
     ];
     for (first, words, status, said) in cases {
         assert!(rt;

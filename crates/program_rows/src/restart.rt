@@ -2,7 +2,7 @@
 use crate::case::{Case, all_go};
 use crate::scripts::{AND_SCRIPT, AND_TEXT, DROPPING, DROPPING_TEXT, THREE_TEXT, THREE_VARIABLES};
 use case_runs::{Act, DIFFERENT, FIRST, LIST, ONE_TEXT, ONE_VARIABLE, RUN, SMALL, THIRD, USAGE};
-use file_numbers::{CATALOGUE, CHECKPOINT_GATE_PART, STEP_GATE};
+use file_numbers::{CATALOGUE, CHECKPOINT_GATE_PART, JOB, STEP_GATE};
 use shelf_memory::Choice;
 use shelf_model::FileNo;
 use std::test::Fail;
@@ -35,8 +35,8 @@ const XOR_FAILED: &[Act] = &[
     Act::Run(&SMALL, 7, b"start 3\n2: nodes 1\n"),
 ];
 
-/// The stopped run goes on from what the stop leaves.
-const STOPPED: [Case; 4] = [
+/// The stopped run goes on from what the stop leaves, in whichever room.
+const STOPPED: [Case; 6] = [
     (
         "a second step that isn't committed",
         THREE_FAILED,
@@ -52,6 +52,15 @@ const STOPPED: [Case; 4] = [
         &[
             Act::Stop(Choice::Present),
             Act::Run(&RUN, 0, b"resume 2 of 3\n4: nodes 1\ndone\n"),
+        ],
+        Some(THREE_ENDED),
+    ),
+    (
+        "a second step that is committed, in another room",
+        THREE_FAILED,
+        &[
+            Act::Stop(Choice::Present),
+            Act::Run(&SMALL, 0, b"resume 2 of 3\n4: nodes 1\ndone\n"),
         ],
         Some(THREE_ENDED),
     ),
@@ -75,11 +84,20 @@ const STOPPED: [Case; 4] = [
         ],
         None,
     ),
+    (
+        "an operand that is committed, in another room",
+        XOR_FAILED,
+        &[
+            Act::Stop(Choice::Present),
+            Act::Run(&RUN, 0, b"resume 2 of 3\n4: nodes 3\ndone\n"),
+            Act::Words(THIRD, DIFFERENT),
+        ],
+        None,
+    ),
 ];
 
 /// A run of three steps that was stopped behind its second one, and other calls between it and the next run of it: they
-/// change nothing. The scripts' lengths differ, and byte 15 of a job is the last of its script's length. Bytes 8 to 11
-/// are the records of its room, 00040000 where none are given and 00004000 for 16,384.
+/// change nothing. The scripts' lengths differ, and byte 15 of a job is the last of its script's length.
 const BETWEEN: [Case; 4] = [
     (
         "words without a reading",
@@ -117,20 +135,24 @@ const BETWEEN: [Case; 4] = [
         Some(THREE_ENDED),
     ),
     (
-        "another room",
+        "another script in another room",
         THREE_FAILED,
         &[
             Act::Stop(Choice::Present),
-            Act::Run(&SMALL, 5, b"other job at 9\n"),
+            Act::Put("script", ONE_VARIABLE),
+            Act::Run(&SMALL, 5, b"other job at 15\n"),
             Act::Stop(Choice::Firm),
+            Act::Put("script", THREE_VARIABLES),
             Act::Run(&RUN, 0, b"resume 2 of 3\n4: nodes 1\ndone\n"),
         ],
         Some(THREE_ENDED),
     ),
 ];
 
-/// Runs where another ended that had the usual words. The script begins at byte 20 of a job.
-const OTHER_JOBS: [Case; 6] = [
+/// Runs where another ended that had the usual words. The script begins at byte 20 of a job. Bytes 8 to 11 are the
+/// records of the room in which the job was stored, 00040000 where none are given and 00004000 for 16,384: they don't
+/// tell one job from another, and stay.
+const OTHER_JOBS: [Case; 7] = [
     (
         "the same job",
         ONE_ENDED,
@@ -140,7 +162,7 @@ const OTHER_JOBS: [Case; 6] = [
     (
         "the same script in another room",
         ONE_ENDED,
-        &[Act::Run(&SMALL, 5, b"other job at 9\n")],
+        &[Act::Run(&SMALL, 0, b"resume 1 of 1\ndone\n")],
         Some(ONE_ENDED),
     ),
     (
@@ -149,6 +171,15 @@ const OTHER_JOBS: [Case; 6] = [
         &[
             Act::Put("script", b"vars a b c\nvar f c\n"),
             Act::Run(&RUN, 5, b"other job at 37\n"),
+        ],
+        Some(ONE_ENDED),
+    ),
+    (
+        "another variable in another room",
+        ONE_ENDED,
+        &[
+            Act::Put("script", b"vars a b c\nvar f c\n"),
+            Act::Run(&SMALL, 5, b"other job at 37\n"),
         ],
         Some(ONE_ENDED),
     ),
@@ -178,6 +209,57 @@ const OTHER_JOBS: [Case; 6] = [
             Act::Run(&RUN, 5, b"other job at 15\n"),
         ],
         Some(THREE_ENDED),
+    ),
+];
+
+/// Runs where the job's file, of 39 bytes, was changed: any four bytes at 8 to 11 are right.
+const CHANGED_JOBS: [Case; 5] = [
+    (
+        "the records of no room",
+        ONE_ENDED,
+        &[
+            Act::Replace(JOB, 8, 12, &[0xff; 4]),
+            Act::Run(&RUN, 0, b"resume 1 of 1\ndone\n"),
+            Act::Part(JOB, 8, &[0xff; 4]),
+            Act::Length(JOB, 39),
+        ],
+        None,
+    ),
+    (
+        "the byte before them",
+        ONE_ENDED,
+        &[
+            Act::Replace(JOB, 7, 12, b"2\xff\xff\xff\xff"),
+            Act::Run(&RUN, 5, b"other job at 7\n"),
+        ],
+        None,
+    ),
+    (
+        "the byte behind them",
+        ONE_ENDED,
+        &[
+            Act::Replace(JOB, 8, 13, &[0xff; 5]),
+            Act::Run(&RUN, 5, b"other job at 12\n"),
+        ],
+        None,
+    ),
+    (
+        "a job that ends within them",
+        ONE_ENDED,
+        &[
+            Act::Replace(JOB, 9, 39, b"\xff"),
+            Act::Run(&RUN, 5, b"other job at 10\n"),
+        ],
+        None,
+    ),
+    (
+        "a longer job",
+        ONE_ENDED,
+        &[
+            Act::Replace(JOB, 39, 39, b"\n"),
+            Act::Run(&SMALL, 5, b"other job at 39\n"),
+        ],
+        None,
     ),
 ];
 
@@ -417,7 +499,15 @@ const CHANGED: [Case; 6] = [
     ),
 ];
 
-const FAMILIES: [&[Case]; 6] = [&STOPPED, &BETWEEN, &OTHER_JOBS, &DAMAGED, &CHANGED, &SIZES];
+const FAMILIES: [&[Case]; 7] = [
+    &STOPPED,
+    &BETWEEN,
+    &OTHER_JOBS,
+    &CHANGED_JOBS,
+    &DAMAGED,
+    &CHANGED,
+    &SIZES,
+];
 
 #[test]
 fn goes_on_or_says_what_the_folder_holds(rt: HostRuntime) -> Result<(), Fail> {

@@ -8,7 +8,7 @@ use std::alloc::Global;
 use std::test::Fail;
 
 /// The words of the run.
-const WORDS: [&str; 7] = [
+pub(crate) const WORDS: [&str; 7] = [
     "adiar", "gen", "FOLDER", "--size", "15", "--budget", "16384",
 ];
 
@@ -32,16 +32,16 @@ const MOST_READS: u64 = 12_288;
 const LAST_LINE: &[u8] = b"\n62: nodes 98301\n";
 
 /// What the text ends with: both ways give the same diagram.
-const END: &[u8] = b"\n79: yes\n80: nodes 98301\ndone\n";
+pub(crate) const END: &[u8] = b"\n79: yes\n80: nodes 98301\ndone\n";
 
 /// The node file of step 60.
-const LAST: FileNo = FileNo {
+pub(crate) const LAST: FileNo = FileNo {
     step: 60,
     part: NODES_PART,
 };
 
 /// Its bytes: 24 for each node, and as many more.
-const LAST_BYTES: usize = 2_359_248;
+pub(crate) const LAST_BYTES: usize = 2_359_248;
 
 /// The first run of sorted records that step 60 writes. On the first level of the second word 2^15 nodes are pending,
 /// which are more than the room has records.

@@ -14,6 +14,8 @@ mod runs;
 #[cfg(test)]
 mod script;
 #[cfg(test)]
+mod stopped;
+#[cfg(test)]
 mod wanted;
 #[cfg(test)]
 mod words;

@@ -76,7 +76,7 @@ fn saved_in(
 {
     let mut bench = case.bench(alloc)?;
     live_on(case, Way::Saved(turns), BUDGET, room, &mut bench)?;
-    match load(STEP, BUDGET, &mut bench)? {
+    match load(STEP, &mut bench)? {
         Some(point) => Ok(Some((bench, point))),
         None if turns > 1 => Ok(None),
         None => Err(Fail::from("nothing is saved")),

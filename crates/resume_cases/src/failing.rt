@@ -14,6 +14,9 @@ use sweep_core::Turn;
 /// Each sweep here makes fewer calls.
 const MOST_CALLS: u64 = 2000;
 
+/// Behind how many turns a checkpoint is due, and behind how many in the life that goes on behind a stop.
+const INTERVALS: [(u32, u32); 3] = [(1, 3), (3, 5), (5, 1)];
+
 // How a sweep ends that nothing stops any more.
 fn ended(case: &Case, turns: u64) -> Lived {
     Lived {
@@ -59,11 +62,12 @@ enum Outcome {
     Wrong,
 }
 
-// What comes of it where the call of that number fails. What a stop leaves goes on in the other room.
+// What comes of it where the call of that number fails. What a stop leaves goes on in the other room, with the other
+// interval.
 fn run_with(
     alloc: Global,
     case: &Case,
-    interval: u32,
+    intervals: (u32, u32),
     wanted: Lived,
     failing: (u64, Choice),
     room: &mut [Rec],
@@ -75,13 +79,13 @@ fn run_with(
     let (call, choice) = failing;
     let mut bench = case.bench(alloc)?;
     bench.fail_at(call)?;
-    match live_on(case, Way::ToEnd, interval, room, &mut bench) {
+    match live_on(case, Way::ToEnd, intervals.0, room, &mut bench) {
         Ok(lived) if lived == Some(wanted) && bench.clock() <= call => return Ok(Outcome::Through),
         Err(SortFault::Shelf) => {}
         _ => return Ok(Outcome::Wrong),
     }
     let mut next = bench.stop(choice)?;
-    let lived = live_on(case, Way::ToEnd, interval, other, &mut next)?;
+    let lived = live_on(case, Way::ToEnd, intervals.1, other, &mut next)?;
     if lived == Some(wanted) {
         Ok(Outcome::CutShort)
     } else {
@@ -93,7 +97,7 @@ fn run_with(
 fn wrong_call(
     alloc: Global,
     case: &Case,
-    interval: u32,
+    intervals: (u32, u32),
     room: &mut [Rec],
     other: &mut [Rec],
 ) -> Result<Option<(u64, Choice)>, Fail>
@@ -103,7 +107,7 @@ fn wrong_call(
     let wanted = ended(case, turns_of(alloc, case, room)?);
     for call in 0..MOST_CALLS {
         for choice in [Choice::Firm, Choice::Present, Choice::Mixed(call)] {
-            match run_with(alloc, case, interval, wanted, (call, choice), room, other)? {
+            match run_with(alloc, case, intervals, wanted, (call, choice), room, other)? {
                 Outcome::CutShort => {}
                 Outcome::Through if call > 2 => return Ok(None),
                 _ => return Ok(Some((call, choice))),
@@ -113,15 +117,15 @@ fn wrong_call(
     Ok(Some((MOST_CALLS, Choice::Firm)))
 }
 
-// The same with each interval.
+// The same with each pair of intervals.
 fn wrong_interval(alloc: Global, plan: Plan) -> Result<Option<(u64, Choice)>, Fail> {
     let case = plan.case(alloc)?;
     let mut records = vec![in alloc; EMPTY; room_len(0)]?;
     let room = records.as_mut_slice();
     let mut more = vec![in alloc; EMPTY; room_len(116)]?;
     let other = more.as_mut_slice();
-    for interval in [1, 3, 5] {
-        let wrong = wrong_call(alloc, &case, interval, room, other)?;
+    for intervals in INTERVALS {
+        let wrong = wrong_call(alloc, &case, intervals, room, other)?;
         if wrong.is_some() {
             return Ok(wrong);
         }

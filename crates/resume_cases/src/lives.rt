@@ -57,7 +57,7 @@ pub(crate) struct Lived {
     pub(crate) turns: u64,
 }
 
-/// How far a step has come whose last checkpoint is that one.
+/// How far a step has come whose last checkpoint is that one, in a run with that budget.
 pub(crate) fn going_from(budget: u32, last: Option<Checkpoint>) -> Going
     ensures step { result.step ≡ 7 }
     ensures sweep { result.sweep ≡ 0 }
@@ -281,7 +281,7 @@ pub(crate) fn live_from(
     }
 }
 
-/// The same from what the folder holds.
+/// The same from what the folder holds, whichever budget the life had that saved it.
 pub(crate) fn live_on(
     case: &Case,
     way: Way,
@@ -291,6 +291,6 @@ pub(crate) fn live_on(
 ) -> Result<Option<Lived>, SortFault>
     requires room { 16384 ≤ length room.old }
 {
-    let last = load(STEP, budget, bench)?;
+    let last = load(STEP, bench)?;
     live_from(case, way, &mut going_from(budget, last), room, bench)
 }

@@ -91,7 +91,7 @@ fn one_life<O: Operation>(
 ) -> Result<Option<(Turn, u64)>, SortFault>
     requires { 16384 ≤ length room.old }
 {
-    let Some(point) = load(STEP, BUDGET, bench)? else {
+    let Some(point) = load(STEP, bench)? else {
         let mut sweep = TopDownSweep::start(operation, VARIABLES, FILES, PARTS, room, bench)?;
         return Ok(Some(live(&mut sweep, 0, most, bench)?));
     };

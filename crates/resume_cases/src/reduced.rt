@@ -144,7 +144,7 @@ fn live_on(
     requires files { (made.now.inner ≡ INNER) × (made.now.ends ≡ ENDS) }
     requires few { (made.now.inner_count ≤ 2 ^ 46) × (made.now.ends_count ≤ 2 ^ 46) }
 {
-    let Some(point) = load(STEP, BUDGET, bench)? else {
+    let Some(point) = load(STEP, bench)? else {
         let parts = Parts {
             step: STEP,
             next: 5,

@@ -11,6 +11,9 @@ use sweep_core::Turn;
 
 const BUDGET: u32 = 0x4000;
 
+/// The budget of every second life.
+const OTHER_BUDGET: u32 = 0x40_0000;
+
 /// Each sweep here ends within fewer turns.
 const MOST_TURNS: u64 = 200;
 
@@ -66,7 +69,7 @@ fn come_of(case: &Case, lived: Option<Lived>, made: u64, wanted: u64) -> Outcome
 }
 
 // Whether a sweep that is saved and rebuilt behind every few turns ends with the same answer after as many turns, and
-// once more where it is rebuilt from its last checkpoint again. Lives are in two rooms in turn.
+// once more where it is rebuilt from its last checkpoint again. Lives are in two rooms and of two budgets in turn.
 fn comes_back(
     alloc: Global,
     case: &Case,
@@ -85,7 +88,7 @@ fn comes_back(
         let lived = if life % 2 == 0 {
             live_on(case, way, BUDGET, room, &mut bench)?
         } else {
-            live_on(case, way, BUDGET, other, &mut bench)?
+            live_on(case, way, OTHER_BUDGET, other, &mut bench)?
         };
         bench = bench.stop(choice)?;
         let made = every.wrapping_mul(life + 1);

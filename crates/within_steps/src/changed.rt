@@ -1,11 +1,12 @@
-//! Checkpoints that the step can't have saved: they are refused at their place, and without them it begins anew.
+//! Checkpoints that the step can't have saved: they are refused at their place, and without them it begins anew. Those
+//! that a run with another budget saved are as good as its own.
 ghost use Rattle.std.specs.Prelude.{◌≤◌, length};
 
 use crate::folders::{copied, folder_of};
-use crate::lives::{EMPTY, LEAST_ROOM, ends_like, live, whole_in};
+use crate::lives::{EMPTY, LEAST_ROOM, Whole, ends_like, live, saved_in, whole_in};
 use crate::steps::{NUMBER, Request, Tried};
 use case_tables::put_bytes;
-use file_numbers::{checkpoint_file, checkpoint_gate};
+use file_numbers::{checkpoint_file, checkpoint_gate, node_file};
 use rec_words::Rec;
 use shelf_memory::{Bench, Choice};
 use shelf_model::SortFault;
@@ -42,6 +43,8 @@ enum Change {
     TooGreat,
     /// More tables than there may be.
     TooMany,
+    /// More records than 32 bits can say.
+    TooWide,
 }
 
 /// What is changed in each case.
@@ -50,9 +53,14 @@ const CHANGES: [(usize, Change); 6] = [
     (SWEEP, Change::Other),
     (SWEEP, Change::NoSweep),
     (NEXT_PART, Change::TooGreat),
-    (BUDGET, Change::Next),
+    (BUDGET, Change::TooWide),
     (TABLES, Change::TooMany),
 ];
+
+/// The budget of the step's own run, and others that a run may have had which saved it, or that none may have.
+const OWN_BUDGET: u64 = 16_384;
+
+const OTHER_BUDGETS: [u64; 3] = [0, 4_194_304, (1 << 32) - 1];
 
 /// The words that name files in a checkpoint, with what they are: where two operands and the arcs are named, one operand
 /// and the arcs, the steps of the arcs and the nodes, two operands that are compared, and one that is evaluated.
@@ -119,28 +127,8 @@ fn changed_word(points: &[u8], place: usize, word: usize, change: Change) -> u64
         Change::NoSweep => 2,
         Change::TooGreat => 513 + word_at(points, place.saturating_add(8 * TURNS)) / 16,
         Change::TooMany => 10,
+        Change::TooWide => 1 << 32,
     }
-}
-
-// A folder in which a step was stopped once its gate counted so many checkpoints, as it is read.
-fn saved_in(
-    request: &Request,
-    saves: u64,
-    room: &mut [Rec],
-    bench: Bench,
-) -> Result<Option<Bench>, Fail>
-    requires room { (16384 ≤ length room.old) × (length room.old ≤ 4194304) }
-{
-    let mut bench = bench;
-    bench.fail_when(checkpoint_gate(NUMBER), saves);
-    let stopped = live(request, None, room, &mut bench).err() == Some(SortFault::Shelf);
-    let next = bench.stop(Choice::Present)?;
-    let gated = next.file(checkpoint_gate(NUMBER)).len() as u64;
-    Ok(if stopped && gated == saves {
-        Some(next)
-    } else {
-        None
-    })
 }
 
 // Whether a step is refused at the place of its last checkpoint, of which a word is changed.
@@ -195,6 +183,45 @@ fn wrong_word(
     Ok(None)
 }
 
+// What a step comes to that goes on from its last checkpoint, of which the budget is changed.
+fn behind_budget(
+    alloc: Global,
+    request: &Request,
+    saved: &Bench,
+    place: usize,
+    budget: u64,
+    room: &mut [Rec],
+) -> Result<Whole, Fail>
+    requires room { (16384 ≤ length room.old) × (length room.old ≤ 4194304) }
+{
+    let mut bench = copied(alloc, NUMBER, saved)?;
+    let points = saved.file(checkpoint_file(NUMBER));
+    let changed = with_word(alloc, points, place.saturating_add(8 * BUDGET), budget)?;
+    put_bytes(&mut bench, checkpoint_file(NUMBER), changed.as_slice())?;
+    whole_in(request, room, bench)
+}
+
+// The first budget with which it comes to another entry, another file or other calls than with that of its own run.
+fn minded_budget(
+    alloc: Global,
+    request: &Request,
+    saved: &Bench,
+    place: usize,
+    room: &mut [Rec],
+) -> Result<Option<u64>, Fail>
+    requires room { (16384 ≤ length room.old) × (length room.old ≤ 4194304) }
+{
+    let own = behind_budget(alloc, request, saved, place, OWN_BUDGET, room)?;
+    for budget in OTHER_BUDGETS {
+        let other = behind_budget(alloc, request, saved, place, budget, room)?;
+        let f = node_file(NUMBER);
+        if other.lived != own.lived || other.bench.file(f) != own.bench.file(f) {
+            return Ok(Some(budget));
+        }
+    }
+    Ok(None)
+}
+
 // Whether a step whose gate of checkpoints is cut begins anew.
 fn begins_anew(
     alloc: Global,
@@ -213,28 +240,29 @@ fn begins_anew(
 }
 
 // Of the step's checkpoint of that number, counted from 1, the first word is told whose change isn't refused, or none,
-// and whether the step begins anew without its gate.
+// the first budget that changes anything, or none, and whether the step begins anew without its gate.
 fn wrong_change(
     alloc: Global,
     tried: Tried,
     saves: u64,
     files: &[(usize, u64)],
-) -> Result<(Option<usize>, bool), Fail> {
+) -> Result<(Option<usize>, Option<u64>, bool), Fail> {
     let request = tried.request();
     let folder = folder_of(alloc, tried)?;
     let mut records = vec![in alloc; EMPTY; LEAST_ROOM]?;
     let room = records.as_mut_slice();
     let bench = copied(alloc, NUMBER, &folder)?;
-    let Some(saved) = saved_in(&request, saves, room, bench)? else {
+    let Some(saved) = saved_in(&request, saves, Choice::Present, room, bench)? else {
         return Err(Fail::from("so many checkpoints aren't gated"));
     };
     let place = POINT_SIZE.wrapping_mul(saves.saturating_sub(1) as usize);
     let wrong = wrong_word(alloc, &request, &saved, place, files, room)?;
+    let minded = minded_budget(alloc, &request, &saved, place, room)?;
     let anew = begins_anew(alloc, &request, &folder, &saved, room)?;
-    Ok((wrong, anew))
+    Ok((wrong, minded, anew))
 }
 
-// Each such checkpoint is refused, and without them the step begins anew.
+// Each such checkpoint is refused, another budget changes nothing, and without checkpoints the step begins anew.
 fn is_guarded(
     rt: &impl Abort,
     alloc: Global,
@@ -242,8 +270,9 @@ fn is_guarded(
     saves: u64,
     files: &[(usize, u64)],
 ) -> Result<(), Fail> {
-    let (wrong, anew) = wrong_change(alloc, tried, saves, files)?;
-    assert!(rt; wrong.is_none() && anew, "word {wrong:?}, {anew}");
+    let (wrong, minded, anew) = wrong_change(alloc, tried, saves, files)?;
+    let is_so = wrong.is_none() && minded.is_none() && anew;
+    assert!(rt; is_so, "word {wrong:?}, budget {minded:?}, {anew}");
     Ok(())
 }
 

@@ -10,6 +10,8 @@ mod folders;
 #[cfg(test)]
 mod lives;
 #[cfg(test)]
+mod rooms;
+#[cfg(test)]
 mod steps;
 #[cfg(test)]
 mod stops;

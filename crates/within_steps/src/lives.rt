@@ -3,9 +3,9 @@ ghost use Rattle.std.specs.Prelude.{◌≤◌, length};
 
 use crate::steps::Request;
 use catalogue::{Entry, look};
-use file_numbers::{STEP_GATE, node_file};
+use file_numbers::{STEP_GATE, checkpoint_gate, node_file};
 use rec_words::Rec;
-use shelf_memory::Bench;
+use shelf_memory::{Bench, Choice};
 use shelf_model::SortFault;
 use std::test::Fail;
 use step_engine::run_step;
@@ -16,7 +16,7 @@ pub(crate) const LEAST_ROOM: usize = 16_384;
 pub(crate) const EMPTY: Rec = Rec { w: [0; 8] };
 
 /// What a life came to: the step's entry, and how many calls it made.
-#[derive(Clone, Copy, Debug)]
+#[derive(Clone, Copy, Debug, PartialEq, Eq)]
 pub(crate) struct Lived {
     pub(crate) entry: Entry,
     pub(crate) calls: u64,
@@ -82,6 +82,30 @@ pub(crate) fn is_stopped(request: &Request, calls: u64, room: &mut [Rec], bench:
         live(request, Some(calls), room, bench),
         Err(SortFault::Shelf)
     )
+}
+
+/// What a stop leaves of a folder in which the step was stopped once its gate counted so many checkpoints; none where it
+/// wasn't, or where the stop leaves fewer of them.
+pub(crate) fn saved_in(
+    request: &Request,
+    saves: u64,
+    choice: Choice,
+    room: &mut [Rec],
+    bench: Bench,
+) -> Result<Option<Bench>, Fail>
+    requires room { (16384 ≤ length room.old) × (length room.old ≤ 4194304) }
+{
+    let gate = checkpoint_gate(request.number);
+    let mut bench = bench;
+    bench.fail_when(gate, saves);
+    let stopped = live(request, None, room, &mut bench).err() == Some(SortFault::Shelf);
+    let next = bench.stop(choice)?;
+    let gated = next.file(gate).len() as u64;
+    Ok(if stopped && gated == saves {
+        Some(next)
+    } else {
+        None
+    })
 }
 
 /// What a life of the step in that folder came to, where it ends with the entry and the file of one that nothing

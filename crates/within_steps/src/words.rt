@@ -15,13 +15,13 @@ use std::process::Abort;
 use std::test::Fail;
 
 /// The step that tells whether two words of fifteen bits are equal.
-const EQUAL: u32 = 60;
+pub(crate) const EQUAL: u32 = 60;
 
 /// How many nodes its diagram has.
-const NODES: u64 = 98_301;
+pub(crate) const NODES: u64 = 98_301;
 
-// Step 60 of the script of size 15, a conjunction of steps 56 and 59.
-fn equality() -> Request {
+/// Step 60 of the script of size 15, a conjunction of steps 56 and 59.
+pub(crate) fn equality() -> Request {
     Request {
         n: 30,
         text: b"p15",
@@ -45,8 +45,8 @@ fn has_step(alloc: Global, script: &[u8], request: &Request) -> Result<bool, Fai
     Ok(plan.n == request.n && planned.is_some_and(|p| p.step == request.planned.step))
 }
 
-// A folder in which a run of the script has committed all steps before that one, as it is read.
-fn committed_to(alloc: Global, script: &[u8], step: u32) -> Result<Bench, Fail> {
+/// A folder in which a run of the script has committed all steps before that one, as it is read.
+pub(crate) fn committed_to(alloc: Global, script: &[u8], step: u32) -> Result<Bench, Fail> {
     let mut bench = bench_with(alloc, script, None)?;
     bench.fail_when(STEP_GATE, u64::from(step));
     if run(alloc, &SMALL, &mut bench) != 7 {
