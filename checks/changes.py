@@ -154,7 +154,7 @@ class Change:
         return True
 
     def put_point(self):
-        """A checkpoint of another step or folder in the place of the last one, mostly with this one's step and budget."""
+        """A checkpoint of another step or folder in the place of the last one, mostly with this one's step."""
         donor = self.chance.choice(self.donors)
         data = held(donor.files, donor.counted, POINTS)
         if not data or self.is_done():
@@ -162,8 +162,7 @@ class Change:
         at = self.chance.randrange(len(data) // POINT) * POINT
         point = data[at : at + POINT]
         if self.chance.randrange(4):
-            step, budget = self.counted.to_bytes(8, "big"), self.stop.job.budget.to_bytes(8, "big")
-            point = step + point[8:32] + budget + point[40:]
+            point = self.counted.to_bytes(8, "big") + point[8:]
         at = POINT * max(len(held(self.files, self.counted, POINT_GATE)) - 1, 0)
         self.files[name_of(self.counted, POINTS)] = held(self.files, self.counted, POINTS)[:at].ljust(at, b"\0") + point
         self.files[name_of(self.counted, POINT_GATE)] = bytes(at // POINT + 1)

@@ -127,6 +127,11 @@ def job_of(budget, script, netlist):
     return b"ADIARJ01" + lengths + script + (netlist or b"")
 
 
+def without_budget(data):
+    """The bytes of a job without the budget of the run that stored it, which is compared with nothing."""
+    return data[:8] + bytes(len(data[8:12])) + data[12:]
+
+
 def stored_job(files):
     """The bytes of the job that a folder stores, or nothing."""
     return files.get(JOB, b"") if files.get(JOB_GATE) else None
@@ -506,10 +511,10 @@ class Reduction:
         return False
 
 
-def general_fault(point, step, budget):
+def general_fault(point, step):
     """Why whoever goes on with a step refuses a checkpoint, whatever its sweep is."""
-    if point.step != step or point.budget != budget or point.sweep > 1:
-        return "it is of another step, budget or sweep"
+    if point.step != step or point.sweep > 1 or point.budget >= 1 << 32:
+        return "it is of another step or sweep, or of no budget"
     if point.turns >= 1 << 62 or not 3 <= point.next_part <= min(1 << 32, 512 + point.turns // 16):
         return "its turns or its next part can't be so"
     if point.tables > 9:
@@ -536,10 +541,10 @@ def last_point(files, step):
     return Point(data) if len(data) == POINT else None
 
 
-def point_fault(files, number, budget, step, n):
+def point_fault(files, number, step, n):
     """Why the last gated checkpoint of a step with that number is refused, or nothing."""
     point = last_point(files, number)
-    fault = general_fault(point, number, budget) if point else "it isn't whole"
+    fault = general_fault(point, number) if point else "it isn't whole"
     if fault:
         return fault
     try:

@@ -5,7 +5,7 @@ from formats import (
     CATALOGUE, ENDS, ENTRY, FIRST_RUN, INNER, JOB, JOB_GATE, NODE, NODES, POINT, POINT_GATE, POINTS, PROGRAM_FILES,
     STEP_GATE, damage_of_counts, entry_at, has_gap_at, held, is_ask, is_damaged_in_arcs, is_damaged_in_nodes,
     is_damaged_in_run, is_final_arc, is_name, is_row, last_point, listing, name_of, number_of, point_fault, rests_on,
-    steps_counted, stored_job, sweep_of,
+    steps_counted, stored_job, sweep_of, without_budget,
 )
 
 # The items of the tables of a reduction.
@@ -34,8 +34,9 @@ class Judge:
 
     def judge_run(self):
         stored, most = stored_job(self.found), len(self.plan.steps)
-        if self.is_stored and stored != self.job.bytes:
-            self.expect(b"other job at %d\n" % len(os.path.commonprefix([stored, self.job.bytes])), 5)
+        jobs = [without_budget(stored or b""), without_budget(self.job.bytes)]
+        if self.is_stored and jobs[0] != jobs[1]:
+            self.expect(b"other job at %d\n" % len(os.path.commonprefix(jobs)), 5)
         elif self.is_stored and damage_of_counts(self.found, most):
             self.expect(b"damaged %d %d %d\n" % damage_of_counts(self.found, most), 10)
         else:
@@ -137,7 +138,7 @@ class Judge:
         step, data = self.plan.steps[number], held(self.found, number, part)
         if part == POINTS:
             last = POINT * (len(held(self.left, number, POINT_GATE)) - 1)
-            return at == last and bool(point_fault(self.found, number, self.job.budget, step, self.plan.n))
+            return at == last and bool(point_fault(self.found, number, step, self.plan.n))
         point = last_point(self.found, number)
         if not point:
             return False
@@ -159,7 +160,8 @@ class Judge:
             number = number_of(name)
             if name not in self.left or not (number and self.may_change(*number, old or b"", new or b"")):
                 self.fault(f"{name} was {'changed' if name in self.found else 'made'}")
-        if self.left.get(JOB) != self.job.bytes or not self.left.get(JOB_GATE) or self.after < self.counted:
+        job = self.found.get(JOB) if self.is_stored else self.job.bytes
+        if self.left.get(JOB) != job or not self.left.get(JOB_GATE) or self.after < self.counted:
             self.fault("the job isn't stored, or fewer steps are counted")
         for step in range(self.counted, self.after):
             self.judge_step(step)
@@ -211,10 +213,11 @@ class Judge:
         has_point = counted < steps and held(self.found, counted, POINT_GATE)
         return not has_point or self.is_genuine(counted)
 
-    def entry_of(self, files, step):
-        """The bytes of an entry without the next part number."""
+    def entry_of(self, files, step, front=24):
+        """The bytes of an entry without the next part number, and without the turns, which another budget may change,
+        where its front ends before them."""
         data = files.get(CATALOGUE, b"")[ENTRY * step : ENTRY * (step + 1)]
-        return data[:24] + data[32:]
+        return data[:front] + data[32:]
 
     def is_genuine(self, number):
         """Whether the last gated checkpoint of a step is one that the program wrote, and all that it rests on is so too."""
@@ -237,7 +240,7 @@ class Judge:
         if self.outcome.status != 0 or self.outcome.said.split(b"\n")[1:-2] != lines:
             self.fault("the undisturbed run says something else")
             return
-        if any(self.entry_of(self.left, step) != self.entry_of(whole, step) for step in range(steps)):
+        if any(self.entry_of(self.left, step, 16) != self.entry_of(whole, step, 16) for step in range(steps)):
             self.fault("an entry isn't that of the undisturbed run")
         for step in self.plan.live(steps):
             if held(self.left, step, NODES) != held(whole, step, NODES):
