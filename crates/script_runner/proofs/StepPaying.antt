@@ -38,7 +38,7 @@ use Rattle.step_engine.specs.Simple.{IsStepOf}
 use Rattle.step_engine.specs.OneFile.{OnlyMade, OnlyTidied}
 use Rattle.step_engine.specs.Running.{run_stop, run_calls, RunsStep, IsGoneOn, PaysRest}
 use Rattle.step_engine.specs.Finding.{IsOfJob}
-use Rattle.step_engine.specs.LeftBehind.{most_since}
+use Rattle.step_engine.specs.LeftBehind.{most_cut}
 use Rattle.step_engine.proofs.Gated.{gated_sweeps, gated_point}
 use Rattle.script_runner.specs.declared.finish.Finish.{Finish}
 use Rattle.script_runner.specs.Calls.{IsGated, cut_calls}
@@ -105,7 +105,7 @@ all_calls false step turns shown rest parts old mid last new fewer some (none, f
 all_calls true step turns shown rest parts old mid last new fewer some (sweeping, great) = by_test (sweeps step) sweeping
   where
     by_test : (swept : Bool) → swept ≡ true → mid ≤ old + (cond swept (229 * (turns - shown) + 13) 5 + (rest - 66145)) → last ≤ mid + 5
-        → new ≤ last + cond swept (591 + min (parts_end parts - 5) most_since) 1 → new ≤ old + rest + 256 * (turns - shown)
+        → new ≤ last + cond swept (591 + min (parts_end parts - 5) most_cut) 1 → new ≤ old + rest + 256 * (turns - shown)
     by_test true is made committed tidied = omega (arith, fewer, great, made, committed, tidied)
     by_test false is made committed tidied = absurd cc
 

@@ -41,7 +41,7 @@ use Rattle.step_engine.specs.OneFile.{ChangesFile, OnlyMade, OnlyTidied}
 use Rattle.step_engine.specs.StepEntries.{IsEntryFor}
 use Rattle.step_engine.specs.StepFaults.{IsKindFault, IsStepFault, IsRunFault, IsSoundFault, IsOfKind}
 use Rattle.step_engine.specs.Running.{RunsStep, IsReadyFor, PaysRest}
-use Rattle.step_engine.specs.LeftBehind.{most_since}
+use Rattle.step_engine.specs.LeftBehind.{most_cut}
 use Rattle.step_engine.proofs.EntryLaws.{only_below, operand_kind}
 use Rattle.step_engine.proofs.Gated.{gated_point}
 use Rattle.script_runner.specs.declared.finish.Finish.{Finish}
@@ -497,7 +497,7 @@ cuts_few false step next turns work rest is = by_test (sweeps step) is
 cuts_few true step next turns work rest is = by_test (sweeps step) is
   where
     by_test : (swept : Bool) → (swept ≡ false) ⊎ (((next ≤ 5 + turns / 16 + 1019) × (1606 ≤ rest)) × (turns ≤ work))
-        → cond swept (591 + min (parts_end next - 5) most_since) 1 ≤ most_cuts swept work (spare_of rest)
+        → cond swept (591 + min (parts_end next - 5) most_cut) 1 ≤ most_cuts swept work (spare_of rest)
     by_test true (inl not) = absurd cc
     by_test false (inl not) = omega arith
     by_test true (inr ((few, great), within)) = omega (arith, few, great, within)

@@ -11,7 +11,7 @@ use Rattle.sound_image.specs.Entries.{work_of}
 use Rattle.sound_image.specs.Holds.{Holds, AreSound}
 use Rattle.sound_image.specs.Steps.{parts_end}
 use Rattle.catalogue.specs.Counts.{present, count_in}
-use Rattle.step_engine.specs.LeftBehind.{most_since}
+use Rattle.step_engine.specs.LeftBehind.{most_cut}
 use Rattle.step_engine.specs.Running.{PaysRest}
 
 -- the calls of a step of the job: 11 at most where it takes one turn, which make, commit and tidy it up, and else 229
@@ -34,7 +34,7 @@ IsGated true k folder = present folder (checkpoint_gate k) ≢ []
 -- many are cut at most; and one at most where it doesn't sweep
 abbrev pub cut_calls : Bool → Step → ℕ → ℕ
 cut_calls false step next = cond (sweeps step) (parts_end next - 1) 1
-cut_calls true step next = cond (sweeps step) (591 + min (parts_end next - 5) most_since) 1
+cut_calls true step next = cond (sweeps step) (591 + min (parts_end next - 5) most_cut) 1
 
 -- so many calls pay for going on from the last checkpoint of step k, where it has one, for 1,019 part numbers that it may
 -- have taken before, and for 587 that find and cut what it leaves behind then

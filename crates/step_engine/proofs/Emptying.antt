@@ -1,5 +1,5 @@
 -- What is emptied of a step that went on from a checkpoint: how its last one is found, and the runs that this names.
-use Rattle.std.proofs.Common.{◌≡◌, ◌≢◌, ◌∙◌, ◌⊎◌, ℕ, ◌+◌, ◌<◌, min, max, Bool, true, List, [], length, take, get_or, refl, sym, ap, subst, inl, inr, arith}
+use Rattle.std.proofs.Common.{◌≡◌, ◌≢◌, ◌∙◌, ◌⊎◌, ℕ, ◌+◌, ◌-◌, ◌<◌, ◌≤◌, min, max, Bool, true, List, [], length, take, get_or, refl, sym, ap, subst, inl, inr, arith}
 use Rattle.std.specs.Prelude.{IsTrue, Result, Ok, Err, OnOk, Option, Some, None}
 use Rattle.std.specs.List.{Any}
 use Rattle.std.proofs.lemmas.Bool.{cases_lt}
@@ -21,11 +21,11 @@ use Rattle.step_work.specs.Tuples.{sweeps}
 use Rattle.sweep_core.specs.declared.checkpoint.Checkpoint.{Checkpoint}
 use Rattle.sweep_checkpoint.specs.Gated.{last_gated}
 use Rattle.sweep_checkpoint.specs.Loads.{DuringLoad, Tells}
-use Rattle.sweep_checkpoint.specs.Retires.{NamedAmong, NamedIn, IsBetween, Emptied, first_taken}
+use Rattle.sweep_checkpoint.specs.Retires.{NamedAmong, NamedIn, IsBetween, Emptied}
 use Rattle.step_going.proofs.Telling.{one_point}
 use Rattle.sound_image.specs.Steps.{IsBehind, IsCutBy, IsTidied}
 use Rattle.step_engine.specs.OneFile.{OnlyTidied}
-use Rattle.step_engine.specs.LeftBehind.{IsLastPoint, NamedBy, IsLeftBehind, IsRunOf, most_since}
+use Rattle.step_engine.specs.LeftBehind.{IsLastPoint, NamedBy, IsLeftBehind, IsRunOf, most_cut}
 use Rattle.step_engine.proofs.Cutting.{stays_tidy}
 
 -- the gate of the checkpoints is one of the files that a step leaves behind
@@ -164,29 +164,28 @@ in_more number until tables k table within is f of = elim (any_more (NamedAmong 
   | inr last ↦ inr (record { step_is = of.step_is; from = of.from; below = of.below; one_of = last })
 ]
 
--- what a step leaves behind that went on is empty, where the runs that its last checkpoint names were emptied, then the
--- parts from the next one on, and then those before the first run
-pub all_empty : (step : Step) (number next until first end : ℕ) (last : Option Checkpoint) (a b c d : World) → until ≡ max first_run_part next
-    → first ≡ first_taken last → end ≡ min until (first + most_since) → Emptied (IsRunOf number until (NamedBy last)) a b
-    → IsTidied step number end (now b).folder (now c).folder
-    → ((f : FileNo) → f.step ≡ number → IsBetween first end f.part → (file c f).bytes ≡ [])
+-- what a step leaves behind that went on is empty, where the runs that its last checkpoint names were emptied, then its
+-- last parts, and then those before the first run
+pub all_empty : (step : Step) (number next until first : ℕ) (last : Option Checkpoint) (a b c d : World) → until ≡ max first_run_part next
+    → first ≤ max first_run_part (until - most_cut) → Emptied (IsRunOf number until (NamedBy last)) a b
+    → IsTidied step number until (now b).folder (now c).folder
+    → ((f : FileNo) → f.step ≡ number → IsBetween first until f.part → (file c f).bytes ≡ [])
     → IsTidied step number first_run_part (now c).folder (now d).folder → ((f : FileNo) → IsBehind number first_run_part f → (file d f).bytes ≡ [])
     → (f : FileNo) → IsLeftBehind number next last f → (file d f).bytes ≡ []
-all_empty step number next until first end last a b c d until_is first_is end_is named tidied_since since tidied_early early f left =
+all_empty step number next until first last a b c d until_is first_is named tidied_late late tidied_early early f left =
     elim (cases_lt f.part first_run_part) [
       | inl before ↦ no_run before
       | inr behind ↦ elim left.which [
         | inl before ↦ no_run before
-        | inr (inl is) ↦ tidied_early.stays f (tidied_since.stays f (named.empty f (record {
+        | inr (inl is) ↦ tidied_early.stays f (tidied_late.stays f (named.empty f (record {
           step_is = left.behind.step_is;
           from = behind;
           below = let below = left.behind.until in omega (arith, below, until_is, behind);
           one_of = is;
         })))
-        | inr (inr taken) ↦ tidied_early.stays f (since f left.behind.step_is (record {
-          from = let from = taken.from in omega (arith, from, first_is);
-          below = let below = left.behind.until in let within = taken.below in
-              omega (arith, below, until_is, behind, within, first_is, end_is);
+        | inr (inr is_late) ↦ tidied_early.stays f (late f left.behind.step_is (record {
+          from = let below = left.behind.until in omega (arith, is_late, first_is, until_is, behind, below);
+          below = let below = left.behind.until in omega (arith, below, until_is, behind);
         }))
       ]
     ]

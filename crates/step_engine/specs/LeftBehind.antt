@@ -5,7 +5,7 @@ use Rattle.file_numbers.specs.Files.{first_run_part}
 use Rattle.sweep_core.specs.declared.checkpoint.Checkpoint.{Checkpoint}
 use Rattle.sweep_checkpoint.specs.Gated.{last_gated}
 use Rattle.sweep_checkpoint.specs.Loads.{Tells}
-use Rattle.sweep_checkpoint.specs.Retires.{Names, IsBetween, first_taken}
+use Rattle.sweep_checkpoint.specs.Retires.{Names}
 use Rattle.sound_image.specs.Steps.{IsBehind}
 
 -- the checkpoint that the last gated bytes of the step are, or none where they are none or nothing is gated
@@ -18,19 +18,15 @@ abbrev pub NamedBy : Option Checkpoint → ℕ → Type 0
 NamedBy None part = ⊥
 NamedBy (Some c) part = Names c part
 
--- of the parts that were taken since no more than so many are cut
-abbrev pub most_since : ℕ
-most_since = 65536
-
--- the part is one of these
-abbrev pub IsSince : Option Checkpoint → ℕ → Type 0
-IsSince last = IsBetween (first_taken last) (first_taken last + most_since)
+-- of the parts that the step took no more than so many are cut, the last ones
+abbrev pub most_cut : ℕ
+most_cut = 65536
 
 -- a file that a step with that next part leaves behind: its checkpoints, their gate and its arcs, the runs that its last
--- checkpoint names, and the parts that were taken since
+-- checkpoint names, and the last parts that it took
 pub record IsLeftBehind (number next : ℕ) (last : Option Checkpoint) (f : FileNo) : Type 0 where
   pub behind : IsBehind number next f
-  pub which : (f.part < first_run_part) ⊎ NamedBy last f.part ⊎ IsSince last f.part
+  pub which : (f.part < first_run_part) ⊎ NamedBy last f.part ⊎ (next ≤ f.part + most_cut)
 
 -- a run of the step whose part is one of these, below that one
 pub record IsRunOf (number until : ℕ) (these : ℕ → Type 0) (f : FileNo) : Type 0 where

@@ -1,5 +1,5 @@
 //! What a committed step leaves behind.
-ghost use Rattle.std.specs.Prelude.{◌≡◌, ℕ, ◌+◌, ◌-◌, ◌^◌, ◌≤◌, min, Option, IsTrue, cond, OnOk, IfOk, IfSome, []};
+ghost use Rattle.std.specs.Prelude.{◌≡◌, ℕ, ◌+◌, ◌-◌, ◌≤◌, min, Option, IsTrue, cond, OnOk, IfSome, []};
 ghost use Rattle.bool_tables.specs.declared.steps.Step.TheVariants as variants;
 ghost use Rattle.shelf_model.specs.declared.file_no.FileNo.{FileNo};
 ghost use Rattle.shelf_model.specs.World.{now, file};
@@ -7,15 +7,15 @@ ghost use Rattle.shelf_model.specs.Calls.{Told};
 ghost use Rattle.shelf_model.specs.Moments.{Ran};
 ghost use Rattle.shelf_model.specs.Faults.{OnlyFolder};
 ghost use Rattle.step_work.specs.Tuples.{sweeps};
-ghost use Rattle.file_numbers.specs.Files.{checkpoint_part, first_run_part};
+ghost use Rattle.file_numbers.specs.Files.{checkpoint_part};
 ghost use Rattle.sweep_core.specs.declared.checkpoint.Checkpoint.{Checkpoint};
 ghost use Rattle.sweep_checkpoint.specs.Gated.{present};
 ghost use Rattle.sweep_checkpoint.specs.Rules.{KeepsRules};
-ghost use Rattle.sweep_checkpoint.specs.Retires.{IsBetween, Emptied, first_taken};
+ghost use Rattle.sweep_checkpoint.specs.Retires.{IsBetween, Emptied};
 ghost use Rattle.sound_image.specs.Files.{node_file};
 ghost use Rattle.sound_image.specs.Steps.{IsBehind, parts_end};
 ghost use Rattle.step_engine.specs.OneFile.{OnlyTidied};
-ghost use Rattle.step_engine.specs.LeftBehind.{IsLastPoint, NamedBy, IsLeftBehind, IsRunOf, most_since};
+ghost use Rattle.step_engine.specs.LeftBehind.{IsLastPoint, NamedBy, IsLeftBehind, IsRunOf, most_cut};
 
 use crate::last_runs::{empty_tables, last_point};
 use bool_tables::{Planned, Step};
@@ -24,8 +24,8 @@ use file_numbers::{CHECKPOINT_PART, FIRST_RUN_PART, node_file};
 use shelf_model::{Failed, FileNo, Shelf};
 use sweep_core::Checkpoint;
 
-/// The most parts that are cut of those which were taken since a checkpoint. Fewer than 3,300 are taken between two.
-const MOST_SINCE: u64 = 65_536;
+/// The most parts that are cut of a step that went on, but for those that its last checkpoint names.
+const MOST_CUT: u64 = 65_536;
 
 /// Empties what a step leaves behind, once it is committed: the file of the diagram that it drops, or, where it swept,
 /// all its parts behind its node file up to its entry's next part: its checkpoints, their gate, its arcs and its runs.
@@ -51,11 +51,11 @@ pub fn tidy<S: Shelf>(planned: &Planned, entry: &Entry, shelf: &mut S) -> Result
     }
 }
 
-/// The same of a step that went on from a checkpoint. Of its runs those alone are emptied that its last gated checkpoint
-/// names, and the parts that were taken since, 65,536 at most: what older checkpoints name was given up when newer ones
-/// were saved. So the calls don't grow with the turns of earlier runs.
+/// The same of a step that went on from a checkpoint. Of its runs those are emptied that its last gated checkpoint names,
+/// and its last 65,536 parts, which are all that it took but where it made some hundred million turns. So calls don't grow
+/// with the turns of earlier runs.
 ///
-/// Where the last gated bytes are no checkpoint, all parts count as taken since.
+/// Where the last gated bytes are no checkpoint, none is named.
 pub fn tidy_gone_on<S: Shelf>(planned: &Planned, entry: &Entry, shelf: &mut S) -> Result<(), Failed>
     ensures content { Told S.tells shelf.old shelf.new
         (Ran (OnlyTidied planned.now.step entry.now.number entry.now.parts (now (S.world shelf.old)))
@@ -63,7 +63,7 @@ pub fn tidy_gone_on<S: Shelf>(planned: &Planned, entry: &Entry, shelf: &mut S) -
     ensures calls { IsTrue (S.tells shelf.new)
         → (S.world shelf.new).clock
         ≤ (S.world shelf.old).clock
-        + cond (sweeps planned.now.step) (591 + min (parts_end entry.now.parts - 5) most_since) 1 }
+        + cond (sweeps planned.now.step) (591 + min (parts_end entry.now.parts - 5) most_cut) 1 }
     ensures empty { OnOk result (IsTrue (S.tells shelf.new) → (gone : ℕ) → planned.now.step ≡ variants.Drop gone →
         (file (S.world shelf.new) (node_file gone)).bytes ≡ []) }
     ensures behind { OnOk result (IsTrue (S.tells shelf.new) → IsTrue (sweeps planned.now.step)
@@ -87,7 +87,7 @@ fn empty_gone_on<S: Shelf>(step: Step, number: u32, next: u64, shelf: &mut S) ->
     ensures content { Told S.tells shelf.old shelf.new
         (Ran (OnlyTidied step number next (now (S.world shelf.old))) (S.world shelf.old) (S.world shelf.new)) }
     ensures calls { IsTrue (S.tells shelf.new)
-        → (S.world shelf.new).clock ≤ (S.world shelf.old).clock + (591 + min (parts_end next - 5) most_since) }
+        → (S.world shelf.new).clock ≤ (S.world shelf.old).clock + (591 + min (parts_end next - 5) most_cut) }
     ensures behind { OnOk result (IsTrue (S.tells shelf.new) → (last : Option Checkpoint)
         → IsLastPoint number (present (now (S.world shelf.old)).folder) last
         → (f : FileNo) → IsLeftBehind number next last f → (file (S.world shelf.new) f).bytes ≡ []) }
@@ -95,38 +95,35 @@ fn empty_gone_on<S: Shelf>(step: Step, number: u32, next: u64, shelf: &mut S) ->
 {
     let until = FIRST_RUN_PART.max(next);
     let last = last_point(number, shelf)?;
-    let first = empty_named(step, number, until, &last, shelf)?;
-    empty_between(step, number, first, until.min(first + MOST_SINCE), shelf)?;
+    empty_named(step, number, until, &last, shelf)?;
+    let most = MOST_CUT.min(until - FIRST_RUN_PART);
+    empty_between(step, number, until - most, until, shelf)?;
     empty_parts(step, number, FIRST_RUN_PART, shelf)
 }
 
-/// Empties the files of the runs that the last checkpoint names, below that part. The answer is the first part that was
-/// taken since.
+/// Empties the files of the runs that the last checkpoint names, below that part.
 fn empty_named<S: Shelf>(
     step: Step,
     number: u32,
     until: u64,
     last: &Option<Checkpoint>,
     shelf: &mut S,
-) -> Result<u64, Failed>
+) -> Result<(), Failed>
     requires swept { IsTrue (sweeps step) }
     requires rules { IfSome last.now (KeepsRules number) }
     ensures content { Told S.tells shelf.old shelf.new
         (Ran (OnlyTidied step number until (now (S.world shelf.old))) (S.world shelf.old) (S.world shelf.new)) }
-    ensures ok { IfOk result (λ first. IsTrue (S.tells shelf.new)
+    ensures ok { OnOk result (IsTrue (S.tells shelf.new)
         → Emptied (IsRunOf number until (NamedBy last.now)) (S.world shelf.old) (S.world shelf.new)) }
-    ensures first { IfOk result (λ first. (first ≡ first_taken last.now) × (first_run_part ≤ first)
-        × (first ≤ 2 ^ 32)) }
     ensures calls { IsTrue (S.tells shelf.new)
         → (S.world shelf.new).clock ≤ (S.world shelf.old).clock + 576 }
     ensures faults { OnlyFolder (S.faults shelf.old) (S.faults shelf.new) result }
 {
     let Some(point) = last else {
-        return Ok(FIRST_RUN_PART);
+        return Ok(());
     };
     let tables = &point.runs[..point.tables as usize];
-    empty_tables(step, number, until, tables, shelf)?;
-    Ok(FIRST_RUN_PART.max(point.next_part))
+    empty_tables(step, number, until, tables, shelf)
 }
 
 /// Empties the parts of a step that swept from 1 up to its next part, parts 1 to 4 at least.
