@@ -4,6 +4,7 @@ use crate::large::{END, LAST, LAST_BYTES, WORDS};
 use case_runs::run;
 use file_numbers::{checkpoint_file, checkpoint_gate};
 use shelf_memory::{Bench, Choice};
+use shelf_model::FileNo;
 use std::alloc::Global;
 use std::test::Fail;
 
@@ -42,6 +43,14 @@ const IN_THREE_ROOMS: Runs = Runs {
     second: &MOST,
     third: &MORE,
     rooms: [16_384, 16_384, 4_194_304, 4_194_304],
+};
+
+/// The last of these rooms makes and merges runs between two checkpoints, so that no checkpoint names them.
+const IN_A_LARGER_ROOM_AT_LAST: Runs = Runs {
+    first: &WORDS,
+    second: &WORDS,
+    third: &MOST,
+    rooms: [16_384; 4],
 };
 
 /// The most turns from one checkpoint to the next.
@@ -121,6 +130,23 @@ fn stopped(alloc: Global, words: Words, bench: Bench, checkpoints: u64) -> Resul
     Ok(bench)
 }
 
+/// More parts than the largest step takes.
+const MANY_PARTS: u64 = 512;
+
+/// Whether nothing is left of the largest step but its node file.
+fn is_tidied(bench: &Bench) -> bool {
+    for part in 1..MANY_PARTS {
+        let file = FileNo {
+            step: LAST.step,
+            part,
+        };
+        if !bench.file(file).is_empty() {
+            return false;
+        }
+    }
+    true
+}
+
 /// What of three runs isn't as it should be, where that is the node file of a run that nothing stops.
 fn fault_of_runs(alloc: Global, runs: &Runs, whole: &[u8]) -> Result<Option<&'static str>, Fail> {
     let first = stopped(alloc, runs.first, Bench::empty(alloc), 2)?;
@@ -142,6 +168,8 @@ fn fault_of_runs(alloc: Global, runs: &Runs, whole: &[u8]) -> Result<Option<&'st
         Some("the last run")
     } else if third.file(LAST).len() != LAST_BYTES || third.file(LAST) != whole {
         Some("the file of the step")
+    } else if !is_tidied(&third) {
+        Some("what is left of the step")
     } else if calls.saturating_add(third.clock()) > MOST_CALLS {
         Some("the calls")
     } else {
@@ -156,7 +184,7 @@ fn a_large_run_that_is_stopped_twice_ends_alike_in_any_rooms_within_the_bound_of
     let alloc = rt.alloc();
     let mut whole = Bench::empty(alloc);
     run(alloc, &WORDS, &mut whole);
-    for runs in [IN_ONE_ROOM, IN_THREE_ROOMS] {
+    for runs in [IN_ONE_ROOM, IN_THREE_ROOMS, IN_A_LARGER_ROOM_AT_LAST] {
         let fault = fault_of_runs(alloc, &runs, whole.file(LAST))?;
         assert!(rt; fault.is_none(), "{runs:?}: {fault:?}");
     }
