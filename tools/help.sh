@@ -13,7 +13,7 @@ adiar makes binary decision diagrams by a script and keeps each in a file of a f
   ./adiar --try ACTION FOLDER ..
       does the same by the same sources without their proof, checked as they run
 
-FOLDER is made where it isn't there. It belongs to one script, one netlist or none, and one budget.
+FOLDER is made where it isn't there. It belongs to one script, and one netlist or none; each run may have another budget.
 
   --script FILE      the path of the script
   --netlist FILE     the path of the netlist
@@ -65,7 +65,7 @@ explain() {
         2) say "status 2: the words aren't accepted; ./adiar help says which are" ;;
         3) say "status 3: the script isn't accepted; docs/SCRIPTS.md, \"What is refused\", has the kind of fault" ;;
         4) say "status 4: the netlist isn't accepted; docs/NETLISTS.md, \"Refusals\", has the kind of fault" ;;
-        5) say "status 5: $place stores another job, that is another script, netlist or budget:" \
+        5) say "status 5: $place stores another job, that is another script or netlist:" \
             "name another folder, or empty this one" ;;
         6) say "status 6: $(unread)" ;;
         7) say "status 7: a call of the folder $place failed: $(unusable)" ;;
