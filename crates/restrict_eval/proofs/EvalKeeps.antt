@@ -32,7 +32,7 @@ use Rattle.std.proofs.lemmas.List.{length-map, append-nil}
 use Rattle.restrict_eval.specs.declared.following.Following.TheVariants.{To, Past, Answered}
 use Rattle.restrict_eval.specs.declared.eval.EvalSweep.{EvalSweep}
 use Rattle.node_reading.specs.Reading.{bytes_of, count_of, GivesNode, IsNodeFault}
-use Rattle.restrict_eval.specs.Missing.{IsMissedAt}
+use Rattle.node_reading.specs.Missing.{IsMissedAt}
 use Rattle.restrict_eval.specs.Turns.{AnswersAtEnd, Turns}
 use Rattle.top_down_laws.specs.Readings.{IsIn}
 use Rattle.restrict_eval.specs.Eval.{bits_of, fuel_at, answer_at, answer_of, parts_of, task_of, side_by, IsReady, IsInStep, HasCome, IsPlaceAt, IsOn, IsOnWay, IsFollowed, IsPath, IsPassed, OneTable, RemainsOf, IsDamage, evaluations}

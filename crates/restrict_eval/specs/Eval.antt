@@ -21,7 +21,7 @@ use Rattle.restrict_eval.specs.declared.following.Following.{Following}
 use Rattle.restrict_eval.specs.declared.following.Following.TheVariants.{To, Past, Answered}
 use Rattle.restrict_eval.specs.declared.eval.EvalSweep.{EvalSweep}
 use Rattle.node_reading.specs.Reading.{bytes_of, count_of, IsBegun, IsReading, IsNodeFault, IsFaultOf}
-use Rattle.restrict_eval.specs.Missing.{IsNamed, IsMissedAt}
+use Rattle.node_reading.specs.Missing.{IsNamed, IsMissedAt}
 use Rattle.restrict_eval.specs.Accounts.{reading_accounts}
 use Rattle.restrict_eval.specs.Turns.{Kind}
 use Rattle.restrict_eval.specs.Canonical.{IsCanonical, AreLeftBut}

@@ -4,7 +4,6 @@ pub mod Turns
 pub mod Same
 pub mod SavedSame
 pub mod SameResumes
-pub mod Missing
 pub mod Eval
 pub mod SavedEval
 pub mod EvalResumes

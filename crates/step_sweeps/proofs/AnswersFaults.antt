@@ -10,7 +10,7 @@ use Rattle.node_file.specs.Readers.{file_of, trailer_of}
 use Rattle.node_reading.specs.Reading.{bytes_of, IsDamagedNode, IsNodeFault}
 use Rattle.restrict_eval.specs.declared.eval.EvalSweep.{EvalSweep}
 use Rattle.restrict_eval.specs.declared.same.SameSweep.{SameSweep}
-use Rattle.restrict_eval.specs.Missing.{IsMissedAt}
+use Rattle.node_reading.specs.Missing.{IsMissedAt}
 use Rattle.restrict_eval.specs.Eval as eval
 use Rattle.restrict_eval.specs.Same as same
 use Rattle.step_sweeps.specs.Damage.{IsDamagedBy, MissesNone, MissesNamed, IsReadFault}

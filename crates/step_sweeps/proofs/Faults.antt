@@ -12,7 +12,8 @@ use Rattle.node_reading.specs.Reading.{IsDamagedNode, IsTrailerFault}
 use Rattle.top_down_sweep.specs.declared.beginning.OperandFiles.{OperandFiles}
 use Rattle.top_down_sweep.specs.declared.machine.Machine.{Machine}
 use Rattle.top_down_sweep.specs.declared.start.Files.{Files}
-use Rattle.top_down_sweep.specs.Damage.{IsAbsent, IsReadDamage, IsStartFault, IsMachineDamage}
+use Rattle.node_reading.specs.Missing.{IsAbsent}
+use Rattle.top_down_sweep.specs.Damage.{IsReadDamage, IsStartFault, IsMachineDamage}
 use Rattle.top_down_sweep.specs.Resumes.{Blames, IsOperandFault, OfFirst, OfSecond, OfThird, OfArcs}
 use Rattle.top_down_sweep.specs.Sweeps.{files_in}
 use Rattle.top_down_sweep.specs.Waiting.{AreApart}

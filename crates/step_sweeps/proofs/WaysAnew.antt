@@ -31,7 +31,7 @@ use Rattle.node_file.specs.Changes.{Changed}
 use Rattle.copied_diagrams.specs.Pairs.{ArePair, IsPairDamage}
 use Rattle.copied_diagrams.proofs.PairRuns.{looked_same, file_before}
 use Rattle.top_down_sweep.specs.declared.beginning.OperandFiles.{OperandFiles}
-use Rattle.top_down_sweep.specs.Damage.{IsAbsent}
+use Rattle.node_reading.specs.Missing.{IsAbsent}
 use Rattle.resumable.specs.Diagrams.{diagram_rests}
 use Rattle.resumable.proofs.DiagramPoints.{diagram_local}
 use Rattle.step_sweeps.specs.declared.diagram.MadeDiagram.{MadeDiagram}

@@ -6,8 +6,8 @@ use Rattle.shelf_model.specs.declared.sort_fault.SortFault.TheVariants.{Shelf, D
 use Rattle.shelf_model.specs.World.{World, file}
 use Rattle.node_reading.specs.Reading.{IsDamagedNode, IsTrailerFault}
 use Rattle.top_down_sweep.specs.declared.beginning.OperandFiles.{OperandFiles}
-use Rattle.restrict_eval.specs.Missing.{IsMissedAt}
-use Rattle.top_down_sweep.specs.Damage.{IsAbsent}
+use Rattle.node_reading.specs.Missing.{IsMissedAt}
+use Rattle.node_reading.specs.Missing.{IsAbsent}
 
 -- the file has no trailer for n variables where one has to stand, a record is that of no node that may stand there or
 -- isn't in order, or its bytes miss a node at that place

@@ -15,7 +15,8 @@ use Rattle.top_down_sweep.specs.declared.ask.Member.{Member}
 use Rattle.top_down_sweep.specs.Members.{is_node, wants}
 use Rattle.top_down_sweep.specs.Sweeps.{IsOperand, IsGivenAt}
 use Rattle.top_down_sweep.specs.Waiting.{IsReadTo}
-use Rattle.top_down_sweep.specs.Damage.{IsAbsent, IsReadDamage}
+use Rattle.node_reading.specs.Missing.{IsAbsent}
+use Rattle.top_down_sweep.specs.Damage.{IsReadDamage}
 
 -- a node is wanted that comes behind the one at hand
 pub behind_hand : (o : Operand) (key : ℕ) (m : Member) → wants key o.hand m ≡ true → IsReadTo key o

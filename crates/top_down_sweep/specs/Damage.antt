@@ -1,13 +1,12 @@
 -- Where an operand's file is damaged.
 use Rattle.std.specs.Prelude.{◌≡◌, ◌⊎◌, ℕ, ◌+◌, ◌*◌, ◌<◌, true, List, Some}
-use Rattle.rec_words.specs.Words.{node_size}
 use Rattle.file_numbers.specs.Files.{checkpoint_file}
 use Rattle.shelf_model.specs.declared.file_no.FileNo.{FileNo}
 use Rattle.shelf_model.specs.declared.sort_fault.SortFault.{SortFault}
 use Rattle.shelf_model.specs.declared.sort_fault.SortFault.TheVariants.{Shelf, Damaged, RunsSpent}
 use Rattle.shelf_model.specs.World.{World, file}
-use Rattle.node_file.specs.Nodes.{identifier_at}
-use Rattle.node_reading.specs.Reading.{count_of, IsDamagedNode, IsTrailerFault}
+use Rattle.node_reading.specs.Missing.{IsAbsent}
+use Rattle.node_reading.specs.Reading.{IsDamagedNode, IsTrailerFault}
 use Rattle.level_queue.specs.Queues as queues
 use Rattle.sweep_core.specs.Resting.{checkpoint_place}
 use Rattle.sweep_core.specs.Saving.{reads_of}
@@ -20,24 +19,6 @@ use Rattle.top_down_sweep.specs.declared.sweep.TopDownSweep.{TopDownSweep}
 use Rattle.top_down_sweep.specs.Members.{is_node}
 use Rattle.top_down_sweep.specs.Sweeps.{files_in}
 use Rattle.top_down_sweep.specs.Waiting.{AreApart}
-
--- that node isn't there: the record at the place comes behind it, and the one that is read before
--- that comes before it
-pub record IsPassed (bytes : List ℕ) (key at : ℕ) : Type 0 where
-  pub place : ℕ
-  pub among : place < count_of bytes
-  pub at_is : at ≡ place * node_size
-  pub behind : key < identifier_at place bytes
-  pub before : place + 1 < count_of bytes → identifier_at (place + 1) bytes < key
-
--- nor is it there where each node of the file comes before it
-pub record IsBehindAll (bytes : List ℕ) (key at : ℕ) : Type 0 where
-  pub at_is : at ≡ 0
-  pub before : 0 < count_of bytes → identifier_at 0 bytes < key
-
--- a node is asked for that isn't there
-abbrev pub IsAbsent : List ℕ → ℕ → ℕ → Type 0
-IsAbsent bytes key at = IsPassed bytes key at ⊎ IsBehindAll bytes key at
 
 -- the file is damaged where a record isn't that of a node that may stand there, or isn't in order,
 -- or where the node of the key isn't there
