@@ -10,6 +10,7 @@ pub mod RunSteps
 pub mod StepByStep
 pub mod SayingLines
 pub mod Resting
+pub mod RunAgain
 pub mod Taking
 pub mod StopLaws
 pub mod StepPaying

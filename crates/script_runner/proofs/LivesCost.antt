@@ -8,7 +8,7 @@ use Rattle.command_words.specs.Readings.{Reading}
 use Rattle.script_reader.specs.declared.plan.Plan.{Plan}
 use Rattle.script_runner.specs.JobOf.{job_of}
 use Rattle.script_runner.specs.Outcome.{Accepts, MakesFewCalls, texts_calls}
-use Rattle.script_runner.specs.Lives.{Life, SameFiles}
+use Rattle.script_runner.specs.Lives.{Life}
 use Rattle.script_runner.specs.LivesCost.{CostsLife, CostLives, left_by, calls_by, all_rests}
 use Rattle.script_runner.specs.Stops.{paid_in, PayAtLeast, IsPaidRun, StopsIn}
 use Rattle.script_runner.proofs.Lives.{no_list, alike}

@@ -8,7 +8,6 @@ use Rattle.bool_tables.specs.declared.steps.Step.TheVariants as step
 use Rattle.bool_tables.specs.declared.steps.Planned.{Planned}
 use Rattle.bool_tables.specs.Plans.{IsWellFormed, is_live, operands}
 use Rattle.shelf_model.specs.declared.file_no.FileNo.{FileNo}
-use Rattle.shelf_model.specs.declared.sort_fault.SortFault.TheVariants as sort
 use Rattle.shelf_model.specs.File.{IsKept}
 use Rattle.shelf_model.specs.Folder.{Folder, Image, file_in, bytes_in, IsImage, AreFiles}
 use Rattle.shelf_model.specs.World.{Moment, World, now, said}
@@ -22,7 +21,7 @@ use Rattle.catalogue.specs.Counts.{present, is_stored, count_in, entry_at}
 use Rattle.catalogue.specs.Commits.{IsReady}
 use Rattle.catalogue.specs.Standings.{without_budget, IsBeginning, DuringAttach}
 use Rattle.catalogue.proofs.Counted.{ready_counts}
-use Rattle.sound_image.specs.Files.{node_file, checkpoint_gate}
+use Rattle.sound_image.specs.Files.{node_file}
 use Rattle.step_work.specs.Plans.{no_step}
 use Rattle.sound_image.specs.Jobs.{Job}
 use Rattle.sound_image.specs.Entries.{IsEntryOfStep}
@@ -30,7 +29,6 @@ use Rattle.sound_image.specs.Holds.{Holds, AreSound, HaveAtLeast}
 use Rattle.sound_image.proofs.HoldsLaws.{holds_sound, holds_count}
 use Rattle.sound_image.proofs.AttachLaws.{standing, sound_while_attached, count_while_attached}
 use Rattle.sound_image.proofs.Live.{live_below}
-use Rattle.step_engine.specs.StepFaults.{IsStepFault}
 use Rattle.step_engine.proofs.PlanLaws.{operands_live, follows_at}
 use Rattle.script_reader.specs.declared.plan.LineEnd.{LineEnd}
 use Rattle.script_reader.specs.Lines.{AreLines}
@@ -375,7 +373,7 @@ module _ (job : Job) (lines : List LineEnd) (plan : IsPlan job lines) (old : Wor
         → IsMetDamage job.n job.steps f place (now mid).folder mid new
         → IsMetDamage job.n job.steps f place (now old).folder old new
     met_at_first f place new count (inl damage) = inl (damaged_at_first f place count damage)
-    met_at_first f place new count (inr swept) = inr (record {
+    met_at_first f place new count (inr (inl swept)) = inr (inl (record {
       step = swept.step;
       within = swept.within;
       swept = swept.swept;
@@ -383,34 +381,39 @@ module _ (job : Job) (lines : List LineEnd) (plan : IsPlan job lines) (old : Wor
       since = let since = swept.since in let later = at.run.moments.later in omega (arith, since, later);
       until = swept.until;
       committed = swept.committed;
+      none_gated = swept.none_gated;
       fault = swept.fault;
       uncommitted = let low = swept.uncommitted in let reached = at.reached in omega (arith, low, reached, count);
-      gate_is =
-          let low = swept.uncommitted in
-          let within = swept.within in
-          let few_steps = plan.well_formed.few_steps in
-          swept.gate_is
-          ∙ at.made.later (checkpoint_gate swept.step) (omega (arith, low, count)) (omega (arith, within, few_steps));
-      at_first = λ anew k below is.
+      at_first = λ k below is.
           let reached = at.reached in
-          swept.at_first anew k (omega (arith, below, reached, count)) is
+          swept.at_first k (omega (arith, below, reached, count)) is
           ∙ subst (λ (q : FileNo). file_in (now mid).folder q ≡ file_in (now old).folder q) (sym is)
-          (at.made.keeps k below (undropped anew k is));
-    })
+          (at.made.keeps k below (undropped k is));
+    }))
       where
         -- the diagram is live as the step begins, so none of the steps before it drops it
-        undropped : IsStepFault job.n (get_or job.steps swept.step no_step).step (stood_after swept.began new) (sort.Damaged f place)
-            → (k : ℕ) → f ≡ node_file k → NoneDrops job.steps (done_at old) step k
-        undropped anew k is j from until =
+        undropped : (k : ℕ) → f ≡ node_file k → NoneDrops job.steps (done_at old) step k
+        undropped k is j from until =
             let live = fault_passes (is_live (take swept.step job.steps)) job.n _ (stood_after swept.began new) f place
             swept.swept
             (operands_live job.n job.text (take swept.step job.steps) (get_or job.steps swept.step no_step)
-            (follows_at job.n job.text job.steps swept.step no_step swept.within plan.well_formed)) anew in
+            (follows_at job.n job.text job.steps swept.step no_step swept.within plan.well_formed)) swept.fault in
             let same : live.0 ≡ k = ap (λ (q : FileNo). q.step) (sym live.1 ∙ is) in
             let low = swept.uncommitted in
             let within = swept.within in
             live_not_dropped job.steps swept.step k j (omega (arith, until, low, count)) (omega (arith, within))
             (subst (λ i. IsTrue (is_live (take swept.step job.steps) i)) same live.2)
+    met_at_first f place new count (inr (inr point)) = inr (inr (record {
+      step = point.step;
+      within = point.within;
+      swept = point.swept;
+      looked = point.looked;
+      since = let since = point.since in let later = at.run.moments.later in omega (arith, since, later);
+      until = point.until;
+      committed = point.committed;
+      fault = point.fault;
+      uncommitted = let low = point.uncommitted in let reached = at.reached in omega (arith, low, reached, count);
+    }))
 
     -- a step is taken
     module _ (new : World) (result : Result Entry Finish) (all_said : ended_before step lines ≤ at.place) (takes : TakesStep job step result mid new) where

@@ -36,12 +36,13 @@ use Rattle.sound_image.proofs.Resuming.{AreFew, early}
 use Rattle.sound_image.proofs.AttachLaws.{standing}
 use Rattle.step_engine.specs.Simple.{IsStepOf}
 use Rattle.step_engine.specs.OneFile.{OnlyMade, OnlyTidied}
-use Rattle.step_engine.specs.Running.{run_stop, run_calls, RunsStep, IsGoneOn, PaysRest}
+use Rattle.step_engine.specs.Running.{run_stop, run_calls, IsGoneOn, PaysRest}
 use Rattle.step_engine.specs.Finding.{IsOfJob}
 use Rattle.step_engine.specs.LeftBehind.{most_cut}
 use Rattle.step_engine.proofs.Gated.{gated_sweeps, gated_point}
 use Rattle.script_runner.specs.declared.finish.Finish.{Finish}
 use Rattle.script_runner.specs.Calls.{IsGated, cut_calls}
+use Rattle.script_runner.specs.Anew.{MakesStep}
 use Rattle.script_runner.specs.Stops.{turns_at, committed_turns, PaysAt, PaysThrough, IsPaidStep, StepPays}
 use Rattle.script_runner.proofs.StopLaws.{entry_turns, turns_of, kept_turns, one_more_turns, paid_here, paid_least, pays_more, pays_join, shows_as_then}
 use Rattle.script_runner.proofs.Paying.{none_told}
@@ -181,7 +182,7 @@ module _ (job : Job) (k : ℕ) (few : AreFew job) (within : k < length job.steps
 module _ {S : Type 0} (tells : S → Bool) (world : S → World) (counts : S → Faults) (law : (s : S) → IsTrue (tells s) → AreFiles (now (world s)).folder)
     (job : Job) (k : ℕ) (plan : IsWellFormed job.n job.text job.steps) (within : k < length job.steps) (p : Planned) (p_is : p ≡ step_at job k)
     (earlier : IsTrue (list_all (λ j. nat_lt j k) (operands p.step))) (old s : S) (result : Result Entry SortFault)
-    (runs : RunsStep tells world counts job.n job.text k p old s result) (tells_s : IsTrue (tells s))
+    (runs : MakesStep tells world counts job.n job.text k p old s result) (tells_s : IsTrue (tells s))
     (gated : Bool) (paid rest : ℕ) (is : IsPaidStep job k gated paid rest (now (world old)).folder) where
   the_step : IsStepOf job job.n job.text k p
   the_step = record { well_formed = plan; n_is = refl; text_is = refl; within = within; step_is = sym p_is }
@@ -256,8 +257,8 @@ module _ {S : Type 0} (tells : S → Bool) (world : S → World) (counts : S →
 
   -- it was made
   module _ (e : Entry) (ok : result ≡ Ok e) where
-    runs_ok : RunsStep tells world counts job.n job.text k p old s (Ok e)
-    runs_ok = subst (RunsStep tells world counts job.n job.text k p old s) ok runs
+    runs_ok : MakesStep tells world counts job.n job.text k p old s (Ok e)
+    runs_ok = subst (MakesStep tells world counts job.n job.text k p old s) ok runs
 
     number : e.number ≡ k
     number = runs_ok.fits.number_is

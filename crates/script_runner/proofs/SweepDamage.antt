@@ -9,6 +9,7 @@ use Rattle.bool_tables.specs.declared.steps.Step.TheVariants.{Const, Var, Pair, 
 use Rattle.bool_tables.specs.declared.steps.Planned.{Planned}
 use Rattle.bool_tables.specs.Plans.{operands, drops, is_live, is_diagram}
 use Rattle.shelf_model.specs.declared.file_no.FileNo.{FileNo}
+use Rattle.shelf_model.specs.declared.fault.StreamFault.TheVariants as stream
 use Rattle.shelf_model.specs.declared.sort_fault.SortFault.{SortFault}
 use Rattle.shelf_model.specs.declared.sort_fault.SortFault.TheVariants as sort
 use Rattle.shelf_model.specs.Folder.{Folder, file_in}
@@ -18,7 +19,8 @@ use Rattle.catalogue.specs.Counts.{present, count_in}
 use Rattle.step_work.specs.Tuples.{sweeps}
 use Rattle.sound_image.specs.Files.{node_file, checkpoint_gate}
 use Rattle.step_work.specs.Plans.{no_step}
-use Rattle.step_engine.specs.StepFaults.{MissesNone, MissesNamed, MissesAsked, IsKindFault, IsDamagedAmong, IsReadingFault, IsMakingFault, IsStepFault, IsRunFault}
+use Rattle.sweep_checkpoint.specs.Loads.{IsLoadFault}
+use Rattle.step_engine.specs.StepFaults.{MissesNone, MissesNamed, MissesAsked, IsKindFault, IsDamagedAmong, IsReadingFault, IsMakingFault, IsStepFault}
 use Rattle.script_runner.specs.Running.{IsMetDamage}
 
 -- a station with that folder
@@ -66,15 +68,6 @@ fault_there n (Size operand) a b fault same is = (
   is.0,
   is.1,
   subst (λ (folder : Folder). IsKindFault operand 1 (present folder) is.0) (sym same) is.2,
-)
-
--- so it is where a step may have gone on from a checkpoint
-pub run_there : (n number : ℕ) (s : Step) (a b : World) (fault : SortFault) → (now b).folder ≡ (now a).folder
-    → IsRunFault n number s a fault → IsRunFault n number s b fault
-run_there n number s a b fault same (inl anew) = inl (fault_there n s a b fault same anew)
-run_there n number s a b fault same (inr again) = inr (
-  again.0,
-  λ empty. again.1 (ap (λ (folder : Folder). (file_in folder (checkpoint_gate number)).bytes) (sym same) ∙ empty),
 )
 
 -- a damaged file among those of some steps is that of a step that passes what all of them pass
@@ -142,7 +135,7 @@ live_not_dropped steps count k j below within live drops_it =
 pub met_since : (n : ℕ) (steps : List Planned) (f : FileNo) (at : ℕ) (first : Folder) (old mid new : World)
     → old.clock ≤ mid.clock → IsMetDamage n steps f at first mid new → IsMetDamage n steps f at first old new
 met_since n steps f at first old mid new later (inl entry) = inl entry
-met_since n steps f at first old mid new later (inr swept) = inr (record {
+met_since n steps f at first old mid new later (inr (inl swept)) = inr (inl (record {
   step = swept.step;
   within = swept.within;
   swept = swept.swept;
@@ -150,20 +143,31 @@ met_since n steps f at first old mid new later (inr swept) = inr (record {
   since = let since = swept.since in omega (arith, later, since);
   until = swept.until;
   committed = swept.committed;
+  none_gated = swept.none_gated;
   fault = swept.fault;
   uncommitted = swept.uncommitted;
-  gate_is = swept.gate_is;
   at_first = swept.at_first;
-})
+}))
+met_since n steps f at first old mid new later (inr (inr point)) = inr (inr (record {
+  step = point.step;
+  within = point.within;
+  swept = point.swept;
+  looked = point.looked;
+  since = let since = point.since in omega (arith, later, since);
+  until = point.until;
+  committed = point.committed;
+  fault = point.fault;
+  uncommitted = point.uncommitted;
+}))
 
 pub met_until : (n : ℕ) (steps : List Planned) (f : FileNo) (at : ℕ) (first : Folder) (old mid new : World)
     (P : Moment → Type 0) → Throughout mid new P → IsMetDamage n steps f at first old mid
     → IsMetDamage n steps f at first old new
 met_until n steps f at first old mid new P run (inl entry) = inl entry
-met_until n steps f at first old mid new P run (inr swept) =
+met_until n steps f at first old mid new P run (inr (inl swept)) =
     let same : (new.moment swept.began).folder ≡ (mid.moment swept.began).folder =
     ap (λ (m : Moment). m.folder) (run.past swept.began swept.until) in
-    inr (record {
+    inr (inl (record {
       step = swept.step;
       within = swept.within;
       swept = swept.swept;
@@ -171,9 +175,23 @@ met_until n steps f at first old mid new P run (inr swept) =
       since = swept.since;
       until = let until = swept.until in let later = run.later in omega (arith, until, later);
       committed = ap (λ (folder : Folder). count_in (present folder)) same ∙ swept.committed;
-      fault = run_there n swept.step _ _ _ (sort.Damaged f at) same swept.fault;
+      none_gated = ap (λ (folder : Folder). (file_in folder (checkpoint_gate swept.step)).bytes) same ∙ swept.none_gated;
+      fault = fault_there n _ _ _ (sort.Damaged f at) same swept.fault;
       uncommitted = swept.uncommitted;
-      gate_is = ap (λ (folder : Folder). file_in folder (checkpoint_gate swept.step)) same ∙ swept.gate_is;
-      at_first = λ anew k below is. ap (λ (folder : Folder). file_in folder f) same
-          ∙ swept.at_first (fault_there n _ _ _ (sort.Damaged f at) (sym same) anew) k below is;
-    })
+      at_first = λ k below is. ap (λ (folder : Folder). file_in folder f) same ∙ swept.at_first k below is;
+    }))
+met_until n steps f at first old mid new P run (inr (inr point)) =
+    let same : (new.moment point.looked).folder ≡ (mid.moment point.looked).folder =
+    ap (λ (m : Moment). m.folder) (run.past point.looked point.until) in
+    inr (inr (record {
+      step = point.step;
+      within = point.within;
+      swept = point.swept;
+      looked = point.looked;
+      since = point.since;
+      until = let until = point.until in let later = run.later in omega (arith, until, later);
+      committed = ap (λ (folder : Folder). count_in (present folder)) same ∙ point.committed;
+      fault = subst (λ (folder : Folder). IsLoadFault point.step (present folder) (stream.Damaged f at)) (sym same)
+          point.fault;
+      uncommitted = point.uncommitted;
+    }))

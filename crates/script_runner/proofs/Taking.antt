@@ -1,5 +1,5 @@
 -- One step of a run, from its files to its commit and what it leaves behind.
-use Rattle.std.proofs.Common.{◌≡◌, ◌∙◌, ℕ, ◌+◌, ◌-◌, ◌*◌, ◌/◌, ◌^◌, ◌<◌, ◌≤◌, ◌⊎◌, Bool, true, false, cond, nat_lt, min, [], length, take, get_or, refl, sym, ap, subst, inl, inr, arith}
+use Rattle.std.proofs.Common.{◌≡◌, ◌∙◌, ℕ, ◌+◌, ◌-◌, ◌*◌, ◌/◌, ◌^◌, ◌<◌, ◌≤◌, ◌⊎◌, Bool, true, false, cond, if◌then◌else◌, nat_lt, min, [], length, take, get_or, refl, sym, ap, subst, inl, inr, arith}
 use Rattle.std.specs.Prelude.{IsTrue, Result, Ok, Err}
 use Rattle.std.specs.List.{list_all}
 use Rattle.bool_tables.specs.declared.steps.Step.{Step}
@@ -27,7 +27,7 @@ use Rattle.catalogue.specs.Commits.{IsReady, DuringCommit, IsCommitted}
 use Rattle.catalogue.proofs.Counted.{ready_counts, entry_placed}
 use Rattle.catalogue.proofs.Places.{length_entry}
 use Rattle.step_work.specs.Tuples.{joins as joins_pieces, sweeps}
-use Rattle.sound_image.specs.Files.{node_file, checkpoint_gate}
+use Rattle.sound_image.specs.Files.{node_file}
 use Rattle.step_work.specs.Plans.{no_step}
 use Rattle.sound_image.specs.Jobs.{Job, step_at}
 use Rattle.sound_image.specs.Entries.{IsEntryOfStep, kind_of, work_of}
@@ -39,19 +39,19 @@ use Rattle.sound_image.proofs.StepLaws.{holds_while_made, holds_while_tidied, so
 use Rattle.step_engine.specs.Simple.{IsStepOf}
 use Rattle.step_engine.specs.OneFile.{ChangesFile, OnlyMade, OnlyTidied}
 use Rattle.step_engine.specs.StepEntries.{IsEntryFor}
-use Rattle.step_engine.specs.StepFaults.{IsKindFault, IsStepFault, IsRunFault, IsSoundFault, IsOfKind}
-use Rattle.step_engine.specs.Running.{RunsStep, IsReadyFor, PaysRest}
+use Rattle.step_engine.specs.StepFaults.{IsKindFault, IsStepFault, IsSoundFault, IsOfKind}
+use Rattle.step_engine.specs.Running.{IsReadyFor, PaysRest}
 use Rattle.step_engine.specs.LeftBehind.{most_cut}
 use Rattle.step_engine.proofs.EntryLaws.{only_below, operand_kind}
 use Rattle.step_engine.proofs.Gated.{gated_point}
 use Rattle.script_runner.specs.declared.finish.Finish.{Finish}
 use Rattle.script_runner.specs.declared.finish.Finish.TheVariants.{FolderFault, RunsSpent}
 use Rattle.script_runner.specs.Calls.{step_calls, cut_calls, IsGated, IsCounted, PaysStep}
-use Rattle.script_runner.specs.Running.{OthersAre, AreEmptied, IsMetDamage, RefusesFolder, IsStop}
+use Rattle.script_runner.specs.Running.{OthersAre, AreEmptied, IsEntryDamage, IsSweepDamage, IsPointDamage, IsMetDamage, RefusesFolder, IsStop, stood_after}
 use Rattle.script_runner.specs.StepRuns.{CountsAbout, IsTaking, HasEntry, HasSteps, HoldsStep, NamesMet, NamesSpent, StaysEmpty, KeepsDiagrams, KeepsLater, TakesStep, stopped_by}
 use Rattle.script_runner.proofs.RunSteps.{held_steps, present_count}
 use Rattle.script_runner.proofs.Resting.{rests_on_steps}
-use Rattle.script_runner.proofs.SweepDamage.{run_there}
+use Rattle.script_runner.specs.Anew.{BeganAnew, LackedPoint, IsFound, MakesStep}
 use Rattle.script_runner.proofs.Paying.{none_told}
 
 -- each image has so many steps
@@ -269,84 +269,107 @@ module _ (job : Job) (k : ℕ) (few : AreFew job) (within : k < length job.steps
       ∙ (ran_end mid last (DuringCommit e (now mid)) commits).others f (not_catalogue f of_step) (not_step_gate f of_step)
       ∙ ran_end old mid (OnlyItsFiles k (now old)) made f (λ own. let same : f.step ≡ k = own in omega (arith, same, from))
 
-  -- a place that a step that sweeps found damaged
-  swept_damage : (s : Step) (f : FileNo) (at : ℕ) (P : Moment → Type 0) (old new : World) → (get_or job.steps k no_step).step ≡ s
-      → IsTrue (sweeps s) → count_in (present (now old).folder) ≡ k → Throughout old new P
-      → IsRunFault job.n k s old (sort.Damaged f at) → IsMetDamage job.n job.steps f at (now old).folder old new
-  swept_damage s f at P old new step swept count run fault =
-      let same : (new.moment old.clock).folder ≡ (now old).folder =
-      ap (λ (m : Moment). m.folder) (run.past old.clock (omega arith)) in
-      inr (record {
-        step = k;
-        within = within;
-        swept = subst (λ x. IsTrue (sweeps x)) (sym step) swept;
-        began = old.clock;
-        since = omega arith;
-        until = run.later;
-        committed = ap (λ (folder : Folder). count_in (present folder)) same ∙ count;
-        fault = run_there job.n k _ old _ (sort.Damaged f at) same
-            (subst (λ x. IsRunFault job.n k x old (sort.Damaged f at)) (sym step) fault);
-        uncommitted = omega (arith, count);
-        gate_is = ap (λ (folder : Folder). file_in folder (checkpoint_gate k)) same;
-        at_first = λ anew j below is. ap (λ (folder : Folder). file_in folder f) same;
-      })
+  -- files of other steps are as they were at each moment of it
+  at_moment : (old new : World) → Ran (OnlyItsFiles k (now old)) old new → (j : ℕ) → old.clock ≤ j → j ≤ new.clock
+      → OnlyOwnFiles k (now old).folder (new.moment j).folder
+  at_moment old new ran j since until = (ran.moments.each j since until).holds
 
-  -- the entry that a size couldn't use, or the file that a step that sweeps couldn't
-  pub step_damage : (plan : IsWellFormed job.n job.text job.steps) (s : Step) (f : FileNo) (at : ℕ) (P : Moment → Type 0) (old new : World)
+  counted_then : (old new : World) → Ran (OnlyItsFiles k (now old)) old new → IsReady k (now old).folder → (j : ℕ) → old.clock ≤ j → j ≤ new.clock
+      → count_in (present (now old).folder) ≡ k → count_in (present (new.moment j).folder) ≡ k
+  counted_then old new ran ready j since until count =
+      let only = at_moment old new ran j since until in
+      let same : JobStays (now old).folder (new.moment j).folder = λ f job_step. only f (job_apart k f early job_step) in
+      ap (λ (x : File). if nat_lt 0 (length x.bytes) then length (file_in (new.moment j).folder step_gate).bytes else 0) (same job_gate refl)
+      ∙ ap (λ (x : File). if nat_lt 0 (length (file_in (now old).folder job_gate).bytes) then length x.bytes else 0) (same step_gate refl)
+      ∙ count
+
+  -- a place that a step that sweeps found damaged as it began anew
+  swept_damage : (s : Step) (f : FileNo) (at : ℕ) (old new : World) → (get_or job.steps k no_step).step ≡ s
+      → IsTrue (sweeps s) → count_in (present (now old).folder) ≡ k → IsReady k (now old).folder → Ran (OnlyItsFiles k (now old)) old new
+      → BeganAnew job.n k s f at old new → IsSweepDamage job.n job.steps f at (now old).folder old new
+  swept_damage s f at old new step swept count ready ran anew = record {
+    step = k;
+    within = within;
+    swept = subst (λ x. IsTrue (sweeps x)) (sym step) swept;
+    began = anew.began;
+    since = anew.since;
+    until = anew.until;
+    committed = counted_then old new ran ready anew.began anew.since anew.until count;
+    none_gated = anew.none_gated;
+    fault = subst (λ x. IsStepFault job.n x (stood_after anew.began new) (sort.Damaged f at)) (sym step) anew.fault;
+    uncommitted = omega (arith, count);
+    at_first = λ j below is. at_moment old new ran anew.began anew.since anew.until f
+        (λ own. let same : f.step ≡ k = own in
+        let steps : f.step ≡ j = ap (λ (q : FileNo). q.step) is in
+        omega (arith, below, count, same, steps));
+  }
+
+  -- or its last gated checkpoint
+  point_damage : (s : Step) (f : FileNo) (at : ℕ) (old new : World) → (get_or job.steps k no_step).step ≡ s
+      → IsTrue (sweeps s) → count_in (present (now old).folder) ≡ k → IsReady k (now old).folder → Ran (OnlyItsFiles k (now old)) old new
+      → LackedPoint k f at old new → IsPointDamage job.steps f at (now old).folder old new
+  point_damage s f at old new step swept count ready ran lacked = record {
+    step = k;
+    within = within;
+    swept = subst (λ x. IsTrue (sweeps x)) (sym step) swept;
+    looked = lacked.looked;
+    since = lacked.since;
+    until = lacked.until;
+    committed = counted_then old new ran ready lacked.looked lacked.since lacked.until count;
+    fault = lacked.fault;
+    uncommitted = omega (arith, count);
+  }
+
+  -- the entry that a size couldn't use: no other step that doesn't sweep finds damage
+  entry_damage : (plan : IsWellFormed job.n job.text job.steps) (s : Step) (f : FileNo) (at : ℕ) (old : World)
       → (get_or job.steps k no_step).step ≡ s → IsTrue (list_all (λ j. nat_lt j k) (operands s))
-      → count_in (present (now old).folder) ≡ k → Throughout old new P → IsStepFault job.n s old (sort.Damaged f at)
-      → IsMetDamage job.n job.steps f at (now old).folder old new
-  step_damage plan (Const value) f at P old new step earlier count run fault = absurd cc
-  step_damage plan (Var level) f at P old new step earlier count run fault = absurd cc
-  step_damage plan (Pair op left right) f at P old new step earlier count run fault =
-      swept_damage (Pair op left right) f at P old new step refl count run (inl fault)
-  step_damage plan (Ite test if_one if_zero) f at P old new step earlier count run fault =
-      swept_damage (Ite test if_one if_zero) f at P old new step refl count run (inl fault)
-  step_damage plan (Quantify kind operand level) f at P old new step earlier count run fault =
-      swept_damage (Quantify kind operand level) f at P old new step refl count run (inl fault)
-  step_damage plan (Restrict operand level value) f at P old new step earlier count run fault =
-      swept_damage (Restrict operand level value) f at P old new step refl count run (inl fault)
-  step_damage plan (Drop gone) f at P old new step earlier count run fault = absurd cc
-  step_damage plan (Same left right) f at P old new step earlier count run fault =
-      swept_damage (Same left right) f at P old new step refl count run (inl fault)
-  step_damage plan (Leq left right) f at P old new step earlier count run fault =
-      swept_damage (Leq left right) f at P old new step refl count run (inl fault)
-  step_damage plan (Eval operand bits) f at P old new step earlier count run fault =
-      swept_damage (Eval operand bits) f at P old new step refl count run (inl fault)
-  step_damage plan (Size operand) f at P old new step earlier count run fault = by_fault fault.0 fault.1 fault.2
+      → count_in (present (now old).folder) ≡ k → sweeps s ≡ false → IsStepFault job.n s old (sort.Damaged f at)
+      → IsEntryDamage job.steps f at (present (now old).folder)
+  entry_damage plan (Const value) f at old step earlier count unswept fault = absurd cc
+  entry_damage plan (Var level) f at old step earlier count unswept fault = absurd cc
+  entry_damage plan (Pair op left right) f at old step earlier count unswept fault = absurd cc
+  entry_damage plan (Ite test if_one if_zero) f at old step earlier count unswept fault = absurd cc
+  entry_damage plan (Quantify kind operand level) f at old step earlier count unswept fault = absurd cc
+  entry_damage plan (Restrict operand level value) f at old step earlier count unswept fault = absurd cc
+  entry_damage plan (Drop gone) f at old step earlier count unswept fault = absurd cc
+  entry_damage plan (Same left right) f at old step earlier count unswept fault = absurd cc
+  entry_damage plan (Leq left right) f at old step earlier count unswept fault = absurd cc
+  entry_damage plan (Eval operand bits) f at old step earlier count unswept fault = absurd cc
+  entry_damage plan (Size operand) f at old step earlier count unswept fault = by_fault fault.0 fault.1 fault.2
     where
       below : operand < k
       below = only_below k operand earlier
 
       by_fault : (found : StreamFault) → sort.Damaged f at ≡ handed_on found → IsKindFault operand 1 (present (now old).folder) found
-          → IsMetDamage job.n job.steps f at (now old).folder old new
+          → IsEntryDamage job.steps f at (present (now old).folder)
       by_fault stream.Shelf same kind = absurd cc
       by_fault (stream.Damaged g b) same kind =
           let files_are : f ≡ g = cc in
           let places : at ≡ b = cc in
-          inl (record {
+          record {
             step = operand;
             counted = omega (arith, below, count);
             file_is = files_are ∙ kind.0;
             at_is = places ∙ kind.1;
             none_there = λ e is same_kind. kind.2 e is (same_kind ∙ operand_kind job.n job.text job.steps k operand within plan step below);
-          })
+          }
 
   -- what the run says of a fault of the step
-  pub names_met : (plan : IsWellFormed job.n job.text job.steps) (s : Step) (fault : SortFault) (P : Moment → Type 0) (old new : World)
+  pub names_met : (plan : IsWellFormed job.n job.text job.steps) (s : Step) (fault : SortFault) (old new : World)
       → (get_or job.steps k no_step).step ≡ s → IsTrue (list_all (λ j. nat_lt j k) (operands s))
-      → count_in (present (now old).folder) ≡ k → Throughout old new P → IsRunFault job.n k s old fault
-      → NamesMet job.n job.steps old new (stopped_by k fault)
-  names_met plan s sort.Shelf P old new step earlier count run fault = λ f at e. absurd cc
-  names_met plan s (sort.Damaged g b) P old new step earlier count run fault = λ f at e.
+      → count_in (present (now old).folder) ≡ k → IsReady k (now old).folder → Ran (OnlyItsFiles k (now old)) old new
+      → IsFound job.n k s old new fault → NamesMet job.n job.steps old new (stopped_by k fault)
+  names_met plan s sort.Shelf old new step earlier count ready ran fault = λ f at e. absurd cc
+  names_met plan s (sort.Damaged g b) old new step earlier count ready ran fault = λ f at e.
       let files_are : g ≡ f = cc in
       let places : b ≡ at = cc in
       subst (λ h. IsMetDamage job.n job.steps h at (now old).folder old new) files_are
       (subst (λ c. IsMetDamage job.n job.steps g c (now old).folder old new) places (elim fault [
-        | inl anew ↦ step_damage plan s g b P old new step earlier count run anew
-        | inr again ↦ swept_damage s g b P old new step again.0 count run (inr again)
+        | inl once ↦ inl (entry_damage plan s g b old step earlier count once.0 once.1)
+        | inr (swept, inl anew) ↦ inr (inl (swept_damage s g b old new step swept count ready ran anew))
+        | inr (swept, inr lacked) ↦ inr (inr (point_damage s g b old new step swept count ready ran lacked))
       ]))
-  names_met plan s sort.RunsSpent P old new step earlier count run fault = λ f at e. absurd cc
+  names_met plan s sort.RunsSpent old new step earlier count ready ran fault = λ f at e. absurd cc
 
   pub names_spent : (s : Step) (fault : SortFault) → (get_or job.steps k no_step).step ≡ s → IsOfKind s fault → NamesSpent job.steps k (stopped_by k fault)
   names_spent s sort.Shelf step kind = λ j e. absurd cc
@@ -516,7 +539,7 @@ module _ {S : Type 0} (tells : S → Bool) (world : S → World) (counts : S →
   place_is = ap (λ (q : Planned). q.step) (sym p_is)
 
   -- the calls of making it, of a commit and of cutting what it leaves behind
-  module _ (old s : S) (result : Result Entry SortFault) (runs : RunsStep tells world counts job.n job.text k p old s result) (tells_s : IsTrue (tells s))
+  module _ (old s : S) (result : Result Entry SortFault) (runs : MakesStep tells world counts job.n job.text k p old s result) (tells_s : IsTrue (tells s))
       (gated : Bool) (rest : ℕ) (counted : IsCounted job k gated (now (world old)).folder rest) where
     few_made : (world s).clock
         ≤ (world old).clock + (cond (sweeps p.step) (229 * work_of job p.step + 13) 5 + (rest - 1606))
@@ -536,7 +559,7 @@ module _ {S : Type 0} (tells : S → Bool) (world : S → World) (counts : S →
     few_calls last new = step_sum (sweeps p.step) (work_of job p.step) rest (world old).clock (world s).clock last new few_made
 
   -- few part numbers were taken of a step that was made
-  few_taken : (e : Entry) (old s : S) → RunsStep tells world counts job.n job.text k p old s (Ok e) → IsTrue (tells s)
+  few_taken : (e : Entry) (old s : S) → MakesStep tells world counts job.n job.text k p old s (Ok e) → IsTrue (tells s)
       → Holds job k (now (world old)).folder → (gated : Bool) → IsGated gated k (now (world old)).folder → (rest : ℕ)
       → PaysStep job k (now (world old)).folder rest → FewTaken gated e.parts e.turns rest
   few_taken e old s runs tells_s holds false none rest pays =
@@ -548,7 +571,7 @@ module _ {S : Type 0} (tells : S → Bool) (world : S → World) (counts : S →
       (runs.few_parts tells_s 1019 (λ c told. omega arith), omega (arith, paid))
 
   -- and where it was made those of cutting what it leaves behind
-  pub taken_calls : (e : Entry) (old s : S) → RunsStep tells world counts job.n job.text k p old s (Ok e) → IsTrue (tells s)
+  pub taken_calls : (e : Entry) (old s : S) → MakesStep tells world counts job.n job.text k p old s (Ok e) → IsTrue (tells s)
       → (gated : Bool) (rest : ℕ) → IsCounted job k gated (now (world old)).folder rest → (last new : ℕ) → last ≤ (world s).clock + 5
       → new ≤ last + cut_calls gated p.step e.parts → new ≤ (world old).clock + (step_calls job p + rest)
   taken_calls e old s runs tells_s gated rest counted last new committed tidied =
@@ -574,7 +597,7 @@ module _ {S : Type 0} (tells : S → Bool) (world : S → World) (counts : S →
       (λ m only f apart. only f (λ changed. apart (own_file p.step k f changed))) (made.did tells_s)
 
   -- the step couldn't be run
-  module _ (fault : SortFault) (old s : S) (runs : RunsStep tells world counts job.n job.text k p old s (Err fault)) where
+  module _ (fault : SortFault) (old s : S) (runs : MakesStep tells world counts job.n job.text k p old s (Err fault)) where
     stopped_so : (IsTrue (tells old) → IsReady k (now (world old)).folder)
         → Told tells old s (TakesStep job k (Err (stopped_by k fault)) (world old) (world s))
     stopped_so ready = record {
@@ -591,8 +614,8 @@ module _ {S : Type 0} (tells : S → Bool) (world : S → World) (counts : S →
             keeps = tt;
             later = tt;
             stops = is_stop k fault;
-            damaged = names_met job k plan.few_steps within plan p.step fault _ (world old) (world s) place_is earlier
-                (present_count (now (world old)).folder k (law old tells_old) (ready tells_old)) ran.moments (runs.damaged tells_s);
+            damaged = names_met job k plan.few_steps within plan p.step fault (world old) (world s) place_is earlier
+                (present_count (now (world old)).folder k (law old tells_old) (ready tells_old)) (ready tells_old) ran (runs.damaged tells_s);
             spent = names_spent job k plan.few_steps within p.step fault place_is runs.kind;
             holds = λ holds. stopped_making job k plan.few_steps rests within fault (world old) (world s) holds ran
                 (runs.resumes tells_s job the_step holds)
@@ -605,7 +628,7 @@ module _ {S : Type 0} (tells : S → Bool) (world : S → World) (counts : S →
     was_stopped finish finish_is ready = subst (λ x. Told tells old s (TakesStep job k (Err x) (world old) (world s))) (sym finish_is) (stopped_so ready)
 
   -- what a step that was made leaves for its commit
-  module _ (e : Entry) (old s : S) (runs : RunsStep tells world counts job.n job.text k p old s (Ok e)) (ready : IsTrue (tells old) → IsReady k (now (world old)).folder) where
+  module _ (e : Entry) (old s : S) (runs : MakesStep tells world counts job.n job.text k p old s (Ok e)) (ready : IsTrue (tells old) → IsReady k (now (world old)).folder) where
     ready_for : Holds job k (now (world old)).folder → IsReadyFor job job.n job.text k p (world old)
     ready_for holds = record { step = the_step; holds = λ reads. holds }
 

@@ -37,7 +37,7 @@ pub record RefusesOther (job : List ℕ) (status : ℕ) (start : Moment) (old ne
   pub whole : status ≡ 5 → said new ≡ start.said ++ other_job_line at
 
 -- a place is damaged: that was met before anything was done or said, or where an entry was read, or where a step swept
--- over a folder in which it was damaged when that step began
+-- over a folder in which it was damaged as that step began anew, or that of the step's last checkpoint
 abbrev pub IsFound : Job → List ℕ → FileNo → ℕ → Moment → World → World → Type 0
 IsFound job before file at start old new =
     (IsDamage (length job.steps) file at (present start.folder) × (before ≡ [])

@@ -4,6 +4,7 @@ pub mod Shapes
 pub mod Said
 pub mod Causes
 pub mod Running
+pub mod Anew
 pub mod StepRuns
 pub mod Calls
 pub mod Begun

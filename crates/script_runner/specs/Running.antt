@@ -15,8 +15,10 @@ use Rattle.catalogue.specs.Standings.{without_budget}
 use Rattle.catalogue.specs.Counts.{present, is_stored, count_in}
 use Rattle.diagram_list.specs.Saying.{IsSaying, StaysThere}
 use Rattle.sound_image.specs.Files.{node_file, checkpoint_gate}
+use Rattle.shelf_model.specs.declared.fault.StreamFault.TheVariants as stream
+use Rattle.sweep_checkpoint.specs.Loads.{IsLoadFault}
 use Rattle.shelf_model.specs.declared.sort_fault.SortFault.TheVariants as sort
-use Rattle.step_engine.specs.StepFaults.{IsStepFault, IsRunFault}
+use Rattle.step_engine.specs.StepFaults.{IsStepFault}
 use Rattle.step_work.specs.Tuples.{joins, sweeps}
 use Rattle.step_work.specs.Plans.{no_step}
 use Rattle.sound_image.specs.Jobs.{Job, step_at}
@@ -135,8 +137,8 @@ pub record IsEntryDamage (steps : List Planned) (f : FileNo) (at : ℕ) (r : Fil
 abbrev pub stood_after : ℕ → World → World
 stood_after calls world = record world { clock = calls }
 
--- a step that sweeps found that place damaged: it began at a moment of the run at which the steps before it were
--- committed, and that is its fault as the folder stood then, or it went on from a checkpoint
+-- a step that sweeps found that place damaged: it began anew at a moment of the run at which exactly the steps before it
+-- were committed and none of its checkpoints was gated, and that is its fault as the folder stood then
 pub record IsSweepDamage (n : ℕ) (steps : List Planned) (f : FileNo) (at : ℕ) (first : Folder)
     (old new : World) : Type 0 where
   pub step : ℕ
@@ -146,18 +148,33 @@ pub record IsSweepDamage (n : ℕ) (steps : List Planned) (f : FileNo) (at : ℕ
   pub since : old.clock ≤ began
   pub until : began ≤ new.clock
   pub committed : count_in (present (new.moment began).folder) ≡ step
-  pub fault : IsRunFault n step (get_or steps step no_step).step (stood_after began new) (sort.Damaged f at)
-  -- in the first folder it wasn't committed, and the gate of its checkpoints was the same. Where the fault is that of a
-  -- step that begins anew, the file is as it was there if it is that of a step that was committed
+  pub none_gated : (file (stood_after began new) (checkpoint_gate step)).bytes ≡ []
+  pub fault : IsStepFault n (get_or steps step no_step).step (stood_after began new) (sort.Damaged f at)
+  -- in the first folder it wasn't committed, and the file is as it was there if it is that of a step that was
   pub uncommitted : count_in (present first) ≤ step
-  pub gate_is : file (stood_after began new) (checkpoint_gate step) ≡ file_in first (checkpoint_gate step)
-  pub at_first : IsStepFault n (get_or steps step no_step).step (stood_after began new) (sort.Damaged f at)
-      → (k : ℕ) → k < count_in (present first) → f ≡ node_file k → file (stood_after began new) f ≡ file_in first f
+  pub at_first : (k : ℕ) → k < count_in (present first) → f ≡ node_file k
+      → file (stood_after began new) f ≡ file_in first f
 
--- the place was damaged: an entry in the first folder, or what a step that sweeps met
+-- the last gated checkpoint of a step that sweeps was damaged, at a moment of the run at which exactly the steps before
+-- it were committed: its file ended before the gate says, or the bytes at its place were none that keeps the rules
+pub record IsPointDamage (steps : List Planned) (f : FileNo) (at : ℕ) (first : Folder) (old new : World)
+    : Type 0 where
+  pub step : ℕ
+  pub within : step < length steps
+  pub swept : IsTrue (sweeps (get_or steps step no_step).step)
+  pub looked : ℕ
+  pub since : old.clock ≤ looked
+  pub until : looked ≤ new.clock
+  pub committed : count_in (present (new.moment looked).folder) ≡ step
+  pub fault : IsLoadFault step (present (new.moment looked).folder) (stream.Damaged f at)
+  -- in the first folder it wasn't committed
+  pub uncommitted : count_in (present first) ≤ step
+
+-- the place was damaged: an entry in the first folder, or what a step that sweeps met, or its last gated checkpoint
 abbrev pub IsMetDamage : ℕ → List Planned → FileNo → ℕ → Folder → World → World → Type 0
 IsMetDamage n steps f at first old new =
     IsEntryDamage steps f at (present first) ⊎ IsSweepDamage n steps f at first old new
+    ⊎ IsPointDamage steps f at first old new
 
 -- a step that joins pieces has no part number left, and its work is great where each image was sound at first
 pub record IsSpentStep (job : Job) (first : Folder) (step : ℕ) : Type 0 where
@@ -236,7 +253,7 @@ pub record RunsSteps (job : Job) (lines : List LineEnd) (finish : Finish) (old n
       → HasOtherJob job.bytes at (present (now old).folder)
   pub refuses_other : IsOther job.bytes (present (now old).folder) → StoodStill old new
       × (((at : ℕ) × (finish ≡ OtherJob at)) ⊎ (finish ≡ FolderFault))
-  -- damage is named where the old folder has it, or the folder as it stood when a step began
+  -- damage is named where the old folder has it, or the folder as it stood at a moment at which a step was at work
   pub damaged : (f : FileNo) (at : ℕ) → finish ≡ Damaged f at
       → MeetsDamage job lines f at old new
   -- and the step that has no part number left

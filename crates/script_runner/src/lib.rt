@@ -2,6 +2,7 @@
 //! their lines. Lists what a folder holds.
 #![tactic(auto)]
 
+mod anew;
 mod banner;
 mod begin;
 mod ending;

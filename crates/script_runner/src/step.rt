@@ -16,12 +16,13 @@ ghost use Rattle.script_runner.specs.StepRuns.{TakesStep, stopped_by};
 ghost use Rattle.script_runner.specs.Causes.{StopHasCause};
 
 use crate::Finish;
+use crate::anew::run_or_begin_anew;
 use crate::given_job::Job;
 use bool_tables::Planned;
 use catalogue::{Entry, commit};
 use rec_words::Rec;
 use shelf_model::{Failed, Shelf, SortFault};
-use step_engine::{run_step, tidy, tidy_gone_on};
+use step_engine::{tidy, tidy_gone_on};
 
 /// Runs the step of that number, behind those that are committed, and commits it. The answer is its entry. What it
 /// leaves behind is emptied, for fewer calls where something is gated of it, so that it may have gone on.
@@ -49,7 +50,7 @@ pub(crate) fn take_step<S: Shelf>(
     ensures causes { StopHasCause (S.faults shelf.old) (S.faults shelf.new) result }
 {
     let planned = &job.steps[number as usize];
-    let entry = match run_step(job.n, job.text, planned, number, room, shelf) {
+    let entry = match run_or_begin_anew(job, number, room, shelf) {
         Ok(entry) => entry,
         Err(fault) => return Err(stopped_by(fault, number)),
     };

@@ -219,8 +219,8 @@ fn same_entries(a: &[u8], b: &[u8]) -> bool {
     true
 }
 
-// Whether two folders have the same job, as many committed steps with the same entries, and the same diagrams.
-fn are_alike(a: &Bench, b: &Bench) -> bool {
+/// Whether two folders have the same job, as many committed steps with the same entries, and the same diagrams.
+pub(crate) fn are_alike(a: &Bench, b: &Bench) -> bool {
     let stored = a.file(JOB) == b.file(JOB) && a.file(JOB_GATE).len() == b.file(JOB_GATE).len();
     if !stored || a.file(STEP_GATE).len() != b.file(STEP_GATE).len() {
         return false;

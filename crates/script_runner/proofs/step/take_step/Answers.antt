@@ -9,30 +9,26 @@ use Rattle.script_runner.proofs.StepPaying.{stopped_pays, commit_stopped, tidy_s
 use Rattle.script_runner.proofs.Taking.{few_calls, taken_calls, was_stopped, commit_failed, tidy_failed, took}
 use Rattle.script_runner.proofs.step.take_step.Goals as goal
 
-pub run_step-requires-clause-step : goal.run_step-requires-clause-step
-run_step-requires-clause-step g c =
-    may_run c.args.job.now.n c.args.job.now.text.now c.args.job.now.steps.now c.args.number no_step c.requires.within c.args.job.now.well_formed
-
 pub returns-in-Err-clause-content : goal.returns-in-Err-clause-content
 returns-in-Err-clause-content g c =
     let may : MayRun c.args.job.now.n c.args.job.now.text.now c.args.number (get_or c.args.job.now.steps.now c.args.number no_step) =
     may_run c.args.job.now.n c.args.job.now.text.now c.args.job.now.steps.now c.args.number no_step c.requires.within c.args.job.now.well_formed in
     was_stopped g.S.Shelf.tells g.S.Shelf.world g.S.Shelf.faults (λ s told f. g.met.S.Shelf.files_are s told f) (job_in c.args.job.now) c.args.number
-    c.args.job.now.well_formed c.requires.within (get_or c.args.job.now.steps.now c.args.number no_step) refl may.operands_are c.in-Err.fault _ _ c.in-Err.ensures.runs _ c.stopped_by.ensures c.requires.ready
+    c.args.job.now.well_formed c.requires.within (get_or c.args.job.now.steps.now c.args.number no_step) refl may.operands_are c.in-Err.fault _ _ c.in-Err.ensures.makes _ c.stopped_by.ensures c.requires.ready
 
 pub returns-in_default-clause-content : goal.returns-in_default-clause-content
 returns-in_default-clause-content g c =
     let may : MayRun c.args.job.now.n c.args.job.now.text.now c.args.number (get_or c.args.job.now.steps.now c.args.number no_step) =
     may_run c.args.job.now.n c.args.job.now.text.now c.args.job.now.steps.now c.args.number no_step c.requires.within c.args.job.now.well_formed in
     commit_failed g.S.Shelf.tells g.S.Shelf.world g.S.Shelf.faults (λ s told f. g.met.S.Shelf.files_are s told f) (job_in c.args.job.now) c.args.number
-    c.args.job.now.well_formed c.requires.within (get_or c.args.job.now.steps.now c.args.number no_step) refl may.operands_are c.in-Ok.entry _ _ c.in-Ok.ensures.runs c.requires.ready _ c.in_default.ensures.content
+    c.args.job.now.well_formed c.requires.within (get_or c.args.job.now.steps.now c.args.number no_step) refl may.operands_are c.in-Ok.entry _ _ c.in-Ok.ensures.makes c.requires.ready _ c.in_default.ensures.content
 
 pub returns-in_default-tidy_up-clause-content : goal.returns-in_default-tidy_up-clause-content
 returns-in_default-tidy_up-clause-content g c =
     let may : MayRun c.args.job.now.n c.args.job.now.text.now c.args.number (get_or c.args.job.now.steps.now c.args.number no_step) =
     may_run c.args.job.now.n c.args.job.now.text.now c.args.job.now.steps.now c.args.number no_step c.requires.within c.args.job.now.well_formed in
     tidy_failed g.S.Shelf.tells g.S.Shelf.world g.S.Shelf.faults (λ s told f. g.met.S.Shelf.files_are s told f) (job_in c.args.job.now) c.args.number
-    c.args.job.now.well_formed c.requires.within (get_or c.args.job.now.steps.now c.args.number no_step) refl may.operands_are c.in-Ok.entry _ _ c.in-Ok.ensures.runs c.requires.ready _ _
+    c.args.job.now.well_formed c.requires.within (get_or c.args.job.now.steps.now c.args.number no_step) refl may.operands_are c.in-Ok.entry _ _ c.in-Ok.ensures.makes c.requires.ready _ _
     c.in-Ok-commit.ensures.content c.in-Ok-commit.ensures.ok c.in_default-tidy_up.ensures.content
 
 pub returns-clause-content : goal.returns-clause-content
@@ -40,7 +36,7 @@ returns-clause-content g c =
     let may : MayRun c.args.job.now.n c.args.job.now.text.now c.args.number (get_or c.args.job.now.steps.now c.args.number no_step) =
     may_run c.args.job.now.n c.args.job.now.text.now c.args.job.now.steps.now c.args.number no_step c.requires.within c.args.job.now.well_formed in
     took g.S.Shelf.tells g.S.Shelf.world g.S.Shelf.faults (λ s told f. g.met.S.Shelf.files_are s told f) (job_in c.args.job.now) c.args.number
-    c.args.job.now.well_formed c.requires.within (get_or c.args.job.now.steps.now c.args.number no_step) refl may.operands_are c.in-Ok.entry _ _ c.in-Ok.ensures.runs c.requires.ready _ _
+    c.args.job.now.well_formed c.requires.within (get_or c.args.job.now.steps.now c.args.number no_step) refl may.operands_are c.in-Ok.entry _ _ c.in-Ok.ensures.makes c.requires.ready _ _
     c.in-Ok-commit.ensures.content c.in-Ok-commit.ensures.ok c.in-Ok-tidy_up.ensures.content c.in-Ok-tidy_up.ensures.empty
 
 -- the calls, wherever it stops
@@ -49,8 +45,8 @@ returns-in-Err-clause-calls g c tells_s rest counted =
     let may : MayRun c.args.job.now.n c.args.job.now.text.now c.args.number (get_or c.args.job.now.steps.now c.args.number no_step) =
     may_run c.args.job.now.n c.args.job.now.text.now c.args.job.now.steps.now c.args.number no_step c.requires.within c.args.job.now.well_formed in
     few_calls g.S.Shelf.tells g.S.Shelf.world g.S.Shelf.faults (λ s told f. g.met.S.Shelf.files_are s told f) (job_in c.args.job.now) c.args.number
-    c.args.job.now.well_formed c.requires.within (get_or c.args.job.now.steps.now c.args.number no_step) refl may.operands_are _ _ (Err c.in-Err.fault) c.in-Err.ensures.runs tells_s c.args.gone_on rest counted
-    (g.S.Shelf.world c.run_step.new.shelf).clock (g.S.Shelf.world c.run_step.new.shelf).clock (omega arith) (omega arith)
+    c.args.job.now.well_formed c.requires.within (get_or c.args.job.now.steps.now c.args.number no_step) refl may.operands_are _ _ (Err c.in-Err.fault) c.in-Err.ensures.makes tells_s c.args.gone_on rest counted
+    (g.S.Shelf.world c.run_or_begin_anew.new.shelf).clock (g.S.Shelf.world c.run_or_begin_anew.new.shelf).clock (omega arith) (omega arith)
 
 pub returns-in_default-clause-calls : goal.returns-in_default-clause-calls
 returns-in_default-clause-calls g c tells_t rest counted =
@@ -58,7 +54,7 @@ returns-in_default-clause-calls g c tells_t rest counted =
     may_run c.args.job.now.n c.args.job.now.text.now c.args.job.now.steps.now c.args.number no_step c.requires.within c.args.job.now.well_formed in
     let committed = c.in_default.ensures.calls tells_t in
     few_calls g.S.Shelf.tells g.S.Shelf.world g.S.Shelf.faults (λ s told f. g.met.S.Shelf.files_are s told f) (job_in c.args.job.now) c.args.number
-    c.args.job.now.well_formed c.requires.within (get_or c.args.job.now.steps.now c.args.number no_step) refl may.operands_are _ _ (Ok c.in-Ok.entry) c.in-Ok.ensures.runs (c.in_default.ensures.content.before tells_t) c.args.gone_on rest counted _ _ committed (omega arith)
+    c.args.job.now.well_formed c.requires.within (get_or c.args.job.now.steps.now c.args.number no_step) refl may.operands_are _ _ (Ok c.in-Ok.entry) c.in-Ok.ensures.makes (c.in_default.ensures.content.before tells_t) c.args.gone_on rest counted _ _ committed (omega arith)
 
 pub returns-in_default-tidy_up-clause-calls : goal.returns-in_default-tidy_up-clause-calls
 returns-in_default-tidy_up-clause-calls g c tells_u rest counted =
@@ -66,7 +62,7 @@ returns-in_default-tidy_up-clause-calls g c tells_u rest counted =
     may_run c.args.job.now.n c.args.job.now.text.now c.args.job.now.steps.now c.args.number no_step c.requires.within c.args.job.now.well_formed in
     let tells_t = c.in_default-tidy_up.ensures.content.before tells_u in
     taken_calls g.S.Shelf.tells g.S.Shelf.world g.S.Shelf.faults (λ s told f. g.met.S.Shelf.files_are s told f) (job_in c.args.job.now) c.args.number
-    c.args.job.now.well_formed c.requires.within (get_or c.args.job.now.steps.now c.args.number no_step) refl may.operands_are c.in-Ok.entry _ _ c.in-Ok.ensures.runs (c.in-Ok-commit.ensures.content.before tells_t) c.args.gone_on rest counted _ _
+    c.args.job.now.well_formed c.requires.within (get_or c.args.job.now.steps.now c.args.number no_step) refl may.operands_are c.in-Ok.entry _ _ c.in-Ok.ensures.makes (c.in-Ok-commit.ensures.content.before tells_t) c.args.gone_on rest counted _ _
     (c.in-Ok-commit.ensures.calls tells_t) (c.in_default-tidy_up.ensures.calls tells_u)
 
 pub returns-clause-calls : goal.returns-clause-calls
@@ -75,7 +71,7 @@ returns-clause-calls g c tells_u rest counted =
     may_run c.args.job.now.n c.args.job.now.text.now c.args.job.now.steps.now c.args.number no_step c.requires.within c.args.job.now.well_formed in
     let tells_t = c.in-Ok-tidy_up.ensures.content.before tells_u in
     taken_calls g.S.Shelf.tells g.S.Shelf.world g.S.Shelf.faults (λ s told f. g.met.S.Shelf.files_are s told f) (job_in c.args.job.now) c.args.number
-    c.args.job.now.well_formed c.requires.within (get_or c.args.job.now.steps.now c.args.number no_step) refl may.operands_are c.in-Ok.entry _ _ c.in-Ok.ensures.runs (c.in-Ok-commit.ensures.content.before tells_t) c.args.gone_on rest counted _ _
+    c.args.job.now.well_formed c.requires.within (get_or c.args.job.now.steps.now c.args.number no_step) refl may.operands_are c.in-Ok.entry _ _ c.in-Ok.ensures.makes (c.in-Ok-commit.ensures.content.before tells_t) c.args.gone_on rest counted _ _
     (c.in-Ok-commit.ensures.calls tells_t) (c.in-Ok-tidy_up.ensures.calls tells_u)
 
 -- what a stop costs, wherever it stops
@@ -84,14 +80,14 @@ returns-in-Err-clause-stops g c tells_s paid rest is =
     let may : MayRun c.args.job.now.n c.args.job.now.text.now c.args.number (get_or c.args.job.now.steps.now c.args.number no_step) =
     may_run c.args.job.now.n c.args.job.now.text.now c.args.job.now.steps.now c.args.number no_step c.requires.within c.args.job.now.well_formed in
     stopped_pays g.S.Shelf.tells g.S.Shelf.world g.S.Shelf.faults (λ s told f. g.met.S.Shelf.files_are s told f) (job_in c.args.job.now) c.args.number
-    c.args.job.now.well_formed c.requires.within (get_or c.args.job.now.steps.now c.args.number no_step) refl may.operands_are _ _ (Err c.in-Err.fault) c.in-Err.ensures.runs tells_s c.args.gone_on paid rest is c.stopped_by.result
+    c.args.job.now.well_formed c.requires.within (get_or c.args.job.now.steps.now c.args.number no_step) refl may.operands_are _ _ (Err c.in-Err.fault) c.in-Err.ensures.makes tells_s c.args.gone_on paid rest is c.stopped_by.result
 
 pub returns-in_default-clause-stops : goal.returns-in_default-clause-stops
 returns-in_default-clause-stops g c tells_t paid rest is =
     let may : MayRun c.args.job.now.n c.args.job.now.text.now c.args.number (get_or c.args.job.now.steps.now c.args.number no_step) =
     may_run c.args.job.now.n c.args.job.now.text.now c.args.job.now.steps.now c.args.number no_step c.requires.within c.args.job.now.well_formed in
     commit_stopped g.S.Shelf.tells g.S.Shelf.world g.S.Shelf.faults (λ s told f. g.met.S.Shelf.files_are s told f) (job_in c.args.job.now) c.args.number
-    c.args.job.now.well_formed c.requires.within (get_or c.args.job.now.steps.now c.args.number no_step) refl may.operands_are _ _ (Ok c.in-Ok.entry) c.in-Ok.ensures.runs (c.in_default.ensures.content.before tells_t) c.args.gone_on paid rest is
+    c.args.job.now.well_formed c.requires.within (get_or c.args.job.now.steps.now c.args.number no_step) refl may.operands_are _ _ (Ok c.in-Ok.entry) c.in-Ok.ensures.makes (c.in_default.ensures.content.before tells_t) c.args.gone_on paid rest is
     c.in-Ok.entry refl FolderFault _ (c.in_default.ensures.content.did tells_t) (c.in_default.ensures.calls tells_t)
 
 pub returns-in_default-tidy_up-clause-stops : goal.returns-in_default-tidy_up-clause-stops
@@ -100,7 +96,7 @@ returns-in_default-tidy_up-clause-stops g c tells_u paid rest is =
     may_run c.args.job.now.n c.args.job.now.text.now c.args.job.now.steps.now c.args.number no_step c.requires.within c.args.job.now.well_formed in
     let tells_t = c.in_default-tidy_up.ensures.content.before tells_u in
     tidy_stopped g.S.Shelf.tells g.S.Shelf.world g.S.Shelf.faults (λ s told f. g.met.S.Shelf.files_are s told f) (job_in c.args.job.now) c.args.number
-    c.args.job.now.well_formed c.requires.within (get_or c.args.job.now.steps.now c.args.number no_step) refl may.operands_are _ _ (Ok c.in-Ok.entry) c.in-Ok.ensures.runs (c.in-Ok-commit.ensures.content.before tells_t) c.args.gone_on paid rest is
+    c.args.job.now.well_formed c.requires.within (get_or c.args.job.now.steps.now c.args.number no_step) refl may.operands_are _ _ (Ok c.in-Ok.entry) c.in-Ok.ensures.makes (c.in-Ok-commit.ensures.content.before tells_t) c.args.gone_on paid rest is
     c.in-Ok.entry refl _ _ (c.in-Ok-commit.ensures.content.did tells_t) (c.in-Ok-commit.ensures.calls tells_t) (c.in-Ok-commit.ensures.ok tells_t)
     (c.in_default-tidy_up.ensures.content.did tells_u) (c.in_default-tidy_up.ensures.calls tells_u) FolderFault
 
@@ -110,6 +106,6 @@ returns-clause-stops g c tells_u paid rest is =
     may_run c.args.job.now.n c.args.job.now.text.now c.args.job.now.steps.now c.args.number no_step c.requires.within c.args.job.now.well_formed in
     let tells_t = c.in-Ok-tidy_up.ensures.content.before tells_u in
     took_pays g.S.Shelf.tells g.S.Shelf.world g.S.Shelf.faults (λ s told f. g.met.S.Shelf.files_are s told f) (job_in c.args.job.now) c.args.number
-    c.args.job.now.well_formed c.requires.within (get_or c.args.job.now.steps.now c.args.number no_step) refl may.operands_are _ _ (Ok c.in-Ok.entry) c.in-Ok.ensures.runs (c.in-Ok-commit.ensures.content.before tells_t) c.args.gone_on paid rest is
+    c.args.job.now.well_formed c.requires.within (get_or c.args.job.now.steps.now c.args.number no_step) refl may.operands_are _ _ (Ok c.in-Ok.entry) c.in-Ok.ensures.makes (c.in-Ok-commit.ensures.content.before tells_t) c.args.gone_on paid rest is
     c.in-Ok.entry refl _ _ (c.in-Ok-commit.ensures.content.did tells_t) (c.in-Ok-commit.ensures.calls tells_t) (c.in-Ok-commit.ensures.ok tells_t)
     (c.in-Ok-tidy_up.ensures.content.did tells_u) (c.in-Ok-tidy_up.ensures.calls tells_u)
