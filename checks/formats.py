@@ -8,10 +8,8 @@ import struct
 
 PROGRAM_FILES = 4294967295
 MOST_STEPS = 1048576
-LONGEST = 1 << 50
 # The bytes of a node, an arc, an item of a run, an entry and a checkpoint.
 NODE, ARC, ITEM, ENTRY, POINT = 24, 16, 64, 128, 16384
-PIECE = 2048
 VALUES = (1 << 63, (1 << 63) + 1)
 NO_NODE = 65535
 # The parts of a step.
@@ -109,15 +107,6 @@ def is_damaged_in_nodes(data, n, at):
     return is_missing_at(words, count, place)
 
 
-def has_gap_at(data, at):
-    """Whether some node isn't there that would have to stand at a byte of a node file, or behind it."""
-    place, count = at // NODE, len(data) // NODE - 1
-    if at % NODE or place >= count:
-        return False
-    words = words_of(data)
-    return place == 0 or place + 1 < count and words[3 * place] - words[3 * place + 3] > 1
-
-
 # The job and the entries
 
 
@@ -185,31 +174,7 @@ def listing(files):
     return b"".join(b"%s %d\n" % (entry.name, entry.count) for entry in live), 0
 
 
-# Arcs and runs
-
-
-def is_arc(words, part):
-    """Whether two words are those of an arc of the file of arcs with that part."""
-    source, target = words[0] & ~(1 << 63), words[1]
-    if not is_node(source):
-        return False
-    return target in VALUES if part == ENDS else is_node(target) and level_of(target) > level_of(source)
-
-
-def arc_order(words, part):
-    source, side = words[0] & ~(1 << 63), words[0] >> 63
-    return (source, side) if part == ENDS else (words[1], source, side)
-
-
-def is_damaged_in_arcs(data, part, at):
-    """Whether a file of arcs is damaged at a byte: the record there isn't whole, is no arc or isn't in order."""
-    if at % ARC:
-        return False
-    if at + ARC > len(data):
-        return at == len(data) // ARC * ARC
-    around = [words_of(data[place : place + ARC]) for place in (at - ARC, at, at + ARC) if 0 <= place <= len(data) - ARC]
-    orders = [arc_order(words, part) for words in around]
-    return not is_arc(words_of(data[at : at + ARC]), part) or orders != sorted(orders)
+# Items of runs
 
 
 def is_source(word):
@@ -233,25 +198,6 @@ def is_ask(words):
 
 def is_final_arc(words):
     return is_source(words[0]) and words[1] in (0, 1) and is_pointer(words[2]) and not any(words[3:])
-
-
-def is_row(words):
-    return is_pointer(words[0]) and is_pointer(words[1]) and is_node(words[2]) and not any(words[3:])
-
-
-def is_name(words):
-    return is_source(words[0]) and is_pointer(words[1]) and not any(words[2:])
-
-
-def is_damaged_in_run(data, at, is_items):
-    """Whether a run is damaged at a byte: the item there isn't whole, is of none of these kinds, or isn't in order."""
-    if at % ITEM:
-        return False
-    words = words_of(data[at : at + ITEM])
-    if len(words) < 8:
-        return True
-    before = words_of(data[at - ITEM : at]) if at else words
-    return before > words or not any(is_item(words) for is_item in is_items)
 
 
 # Checkpoints
@@ -370,26 +316,6 @@ class TopDown:
         fronts = [(file, count * ARC) for file, count in self.arcs]
         return [(file, None) for file, _ in self.operands] + fronts
 
-    def fault(self, point, step, n):
-        three = (step.operands + step.operands[-1:] * 2)[:3]
-        if self.variables != n or [file for file, _ in self.operands] != [(of, NODES) for of in three]:
-            return "it names other operands"
-        if [file for file, _ in self.arcs] != [(point.step, INNER), (point.step, ENDS)] or point.next_part <= ENDS:
-            return "it names other files of arcs"
-        if any(count > 1 << 46 for _, count in self.arcs) or any(part in (INNER, ENDS) for _, part, _ in point.runs()):
-            return "its files of arcs can't be so"
-        if any(read is not None and read * NODE > LONGEST for _, read in self.operands):
-            return "no operand has so many nodes"
-        if point.tables != 3 or any(table > 0 for table, _, _ in point.runs()):
-            return "it hasn't the tables of a queue"
-        if self.root is None and self.taken is not None:
-            return "an ask was taken before the root was asked for"
-        return "a level has no such number" if self.number is not None and self.number > self.arcs[0][1] else None
-
-    def beyond(self, counts):
-        """Whether it is read on from a place that an operand hasn't."""
-        return any(read is not None and read + 1 > count for (_, read), count in zip(self.operands, counts))
-
 
 class Comparison:
     """What a comparison keeps."""
@@ -404,14 +330,6 @@ class Comparison:
 
     def rests(self):
         return [(self.first, None), (self.second, None)]
-
-    def fault(self, point, step, n):
-        if self.variables != n or [self.first, self.second] != [(of, NODES) for of in step.operands]:
-            return "it names other operands"
-        return "no operand has so many nodes" if max(self.first_left, self.second_left) * NODE > LONGEST else None
-
-    def beyond(self, counts):
-        return self.first_left + self.ahead > counts[0] or self.second_left > counts[1]
 
 
 class Evaluation:
@@ -428,16 +346,6 @@ class Evaluation:
     def rests(self):
         return [(self.file, None)]
 
-    def fault(self, point, step, n):
-        if self.variables != n or self.bits != step.bits or self.file != (step.operands[0], NODES):
-            return "it names another operand or other bits"
-        if self.pointer is None and self.passed is None and self.answer is None:
-            return "it doesn't say how far the path was followed"
-        return "no operand has so many nodes" if self.left * NODE > LONGEST else None
-
-    def beyond(self, counts):
-        return self.left > counts[0] or self.answer is None and self.passed is not None and self.passed >= counts[0]
-
 
 class Copy:
     """What a copy keeps."""
@@ -450,16 +358,6 @@ class Copy:
 
     def rests(self):
         return [(self.source, None), (self.made, self.bytes)]
-
-    def fault(self, point, step, n):
-        if self.source not in [(of, NODES) for of in step.operands] or self.made != (point.step, NODES):
-            return "it names other files"
-        if self.pieces * PIECE > LONGEST or self.stand > self.pieces or self.bytes > self.stand * PIECE:
-            return "its pieces can't be so"
-        return None
-
-    def beyond(self, counts):
-        return False
 
 
 class Reduction:
@@ -482,47 +380,15 @@ class Reduction:
     def rests(self):
         return [(file, None) for file, count in self.arcs if count] + [(self.made, self.nodes * NODE)]
 
-    def phase_fault(self):
-        phases = [self.collected is not None, self.rows is not None, self.forwards == 1, self.count is not None]
-        if sum(phases) > 1:
-            return "it says several phases"
-        if (self.collected or self.rows) and self.level >= NO_NODE:
-            return "it is at no level"
-        if self.rows and (self.rows[0] > self.nodes or self.rows[1] and self.rows[0] < 1):
-            return "so many rows can't have a number"
-        return None
 
-    def has_wrong_tables(self, point):
-        if self.count is None:
-            runs = point.runs()
-            return point.tables != 5 or any(table in (1, 2) or part == self.made[1] for table, part, _ in runs)
-        return point.tables != 0 or self.nodes != self.count + 1 or any(count for _, count in self.arcs)
-
-    def fault(self, point, step, n):
-        if self.variables != n or self.made != (point.step, NODES):
-            return "it makes another file"
-        for (step, part), count in self.arcs:
-            is_own = step == point.step and not INNER <= part <= ENDS
-            if step == point.step and (part == NODES or part >= point.next_part) or count and is_own or count > 1 << 46:
-                return "its files of arcs can't be so"
-        return self.phase_fault() or ("its tables aren't those of a reduction" if self.has_wrong_tables(point) else None)
-
-    def beyond(self, counts):
-        return False
-
-
-def general_fault(point, step):
-    """Why whoever goes on with a step refuses a checkpoint, whatever its sweep is."""
+def keeps_rules(point, step):
+    """Whether a checkpoint is one of that step, and its words in front and its slots can be so."""
     if point.step != step or point.sweep > 1 or point.budget >= 1 << 32:
-        return "it is of another step or sweep, or of no budget"
-    if point.turns >= 1 << 62 or not 3 <= point.next_part <= min(1 << 32, 512 + point.turns // 16):
-        return "its turns or its next part can't be so"
-    if point.tables > 9:
-        return "it has too many tables"
-    for part, read, end in point.slots_in_use():
-        if (part, read, end) != (0, 0, 0) and not (3 <= part < point.next_part and read <= end <= 1 << 44):
-            return "a slot can't be so"
-    return None
+        return False
+    if point.turns >= 1 << 62 or not 3 <= point.next_part <= 1 << 32 or point.tables > 9:
+        return False
+    slots = [slot for slot in point.slots_in_use() if any(slot)]
+    return all(3 <= part < point.next_part and read <= end <= 1 << 44 for part, read, end in slots)
 
 
 def sweep_of(point, kind):
@@ -539,30 +405,6 @@ def last_point(files, step):
     at = POINT * (len(held(files, step, POINT_GATE)) - 1)
     data = held(files, step, POINTS)[at : at + POINT] if at >= 0 else b""
     return Point(data) if len(data) == POINT else None
-
-
-def point_fault(files, number, step, n):
-    """Why the last gated checkpoint of a step with that number is refused, or nothing."""
-    point = last_point(files, number)
-    fault = general_fault(point, number) if point else "it isn't whole"
-    if fault:
-        return fault
-    try:
-        sweep = sweep_of(point, step.kind)
-    except NoValue:
-        return "its words are none of its sweep"
-    if isinstance(sweep, (Comparison, Evaluation)) and (point.sweep or point.tables or point.next_part != INNER):
-        return "a comparison and an evaluation take no part and have one sweep"
-    if step.kind == "leq" and point.sweep:
-        return "an implication has one sweep"
-    fault = sweep.fault(point, step, n)
-    if fault:
-        return fault
-    if isinstance(sweep, Copy):
-        whole = len(held(files, *sweep.source))
-        return None if sweep.bytes == min(sweep.stand * PIECE, whole) else "so many bytes can't stand"
-    counts = [len(held(files, of, NODES)) // NODE - 1 for of in (step.operands + step.operands[-1:] * 2)[:3]]
-    return "an operand hasn't its place" if sweep.beyond(counts) else None
 
 
 def rests_on(point, kind):

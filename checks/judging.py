@@ -2,14 +2,10 @@
 import os
 
 from formats import (
-    CATALOGUE, ENDS, ENTRY, FIRST_RUN, INNER, JOB, JOB_GATE, NODE, NODES, POINT, POINT_GATE, POINTS, PROGRAM_FILES,
-    STEP_GATE, damage_of_counts, entry_at, has_gap_at, held, is_ask, is_damaged_in_arcs, is_damaged_in_nodes,
-    is_damaged_in_run, is_final_arc, is_name, is_row, last_point, listing, name_of, number_of, point_fault, rests_on,
+    CATALOGUE, ENTRY, FIRST_RUN, JOB, JOB_GATE, NODE, NODES, POINT, POINT_GATE, POINTS, PROGRAM_FILES, STEP_GATE,
+    damage_of_counts, entry_at, held, is_damaged_in_nodes, keeps_rules, last_point, listing, number_of, rests_on,
     steps_counted, stored_job, sweep_of, without_budget,
 )
-
-# The items of the tables of a reduction.
-ITEMS = {0: is_final_arc, 3: is_row, 4: is_name}
 
 
 class Judge:
@@ -101,10 +97,11 @@ class Judge:
         elif missing or not at_work or not at_work.sweeps():
             self.fault("a line is missing, or no step was at work that sweeps")
         elif part == NODES and step in at_work.operands:
-            self.judge_operand(step, at)
-        elif step == self.after and held(self.found, step, POINT_GATE):
-            if not self.is_damaged_in_step(step, part, at):
-                self.judge_behind()
+            if not is_damaged_in_nodes(held(self.left, step, NODES), self.plan.n, at):
+                self.fault("the node file isn't damaged there")
+        elif (step, part) == (self.after, POINTS):
+            if not self.has_damaged_point(at):
+                self.fault("the last checkpoint isn't damaged, or doesn't stand there")
         else:
             self.fault("this file may not be named")
 
@@ -118,37 +115,11 @@ class Judge:
         elif entry and entry.kind == self.plan.steps[step].entry_kind():
             self.fault("this entry stands whole")
 
-    def judge_operand(self, step, at):
-        data = held(self.left, step, NODES)
-        if is_damaged_in_nodes(data, self.plan.n, at):
-            return
-        if held(self.found, self.after, POINT_GATE) and has_gap_at(data, at):
-            self.judge_behind()
-        else:
-            self.fault("the node file isn't damaged there")
-
-    def judge_behind(self):
-        """A place that isn't damaged: it may be named behind a checkpoint that isn't as it was written, or its files."""
-        self.how = "10 behind"
-        if self.is_genuine(self.after):
-            self.fault("the place isn't damaged, and the checkpoint and its files are as they were written")
-
-    def is_damaged_in_step(self, number, part, at):
-        """Whether a file of the step at work, which had a gated checkpoint, was damaged there."""
-        step, data = self.plan.steps[number], held(self.found, number, part)
-        if part == POINTS:
-            last = POINT * (len(held(self.left, number, POINT_GATE)) - 1)
-            return at == last and bool(point_fault(self.found, number, step, self.plan.n))
-        point = last_point(self.found, number)
-        if not point:
-            return False
-        if part == NODES:
-            least = dict(rests_on(point, step.kind)).get((number, NODES)) or 0
-            return at == len(data) // NODE * NODE and len(data) < least
-        if part in (INNER, ENDS):
-            return is_damaged_in_arcs(data, part, at)
-        named = [is_ask if point.sweep == 0 else ITEMS.get(k) for k, of, _ in point.runs() if of == part]
-        return bool(named) and all(named) and is_damaged_in_run(data, at, named)
+    def has_damaged_point(self, at):
+        """Whether the last gated checkpoint of the step at work stands at a byte, and isn't whole or breaks the rules."""
+        last = POINT * (len(held(self.found, self.after, POINT_GATE)) - 1)
+        point = last_point(self.found, self.after)
+        return last >= 0 and at == last and not (point and keeps_rules(point, self.after))
 
     # What was changed
 
