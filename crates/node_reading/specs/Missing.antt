@@ -2,9 +2,13 @@
 use Rattle.std.specs.Prelude.{◌≡◌, ◌≢◌, ◌⊎◌, ℕ, ◌+◌, ◌*◌, ◌<◌, ◌≤◌, List, slice_index}
 use Rattle.rec_words.specs.Words.{node_size, IsTerminal, IsNodeWord}
 use Rattle.rec_words.specs.declared.node.Node.{Node}
+use Rattle.shelf_model.specs.declared.file_no.FileNo.{FileNo}
+use Rattle.shelf_model.specs.declared.sort_fault.SortFault.{SortFault}
+use Rattle.shelf_model.specs.declared.sort_fault.SortFault.TheVariants.{Shelf, Damaged, RunsSpent}
+use Rattle.shelf_model.specs.World.{World, file}
 use Rattle.block_stream.specs.Records.{record_at}
 use Rattle.node_file.specs.Nodes.{identifier_at, IsNodeAt, HasTrailer}
-use Rattle.node_reading.specs.Reading.{count_of}
+use Rattle.node_reading.specs.Reading.{count_of, IsTrailerFault, IsDamagedNode}
 
 -- a node at that place, or nearer the file's end, names the pointer on one of its sides
 pub record IsNamed (bytes : List ℕ) (from pointer : ℕ) : Type 0 where
@@ -66,3 +70,10 @@ pub record IsWhole (n : ℕ) (bytes : List ℕ) : Type 0 where
   pub trailer : HasTrailer n root bytes
   pub nodes : (k : ℕ) → k < count_of bytes → (x : Node) × IsNodeAt n k bytes x
   pub ordered : (k : ℕ) → k + 1 < count_of bytes → identifier_at (k + 1) bytes < identifier_at k bytes
+
+-- a call of the folder failed, the file has no trailer for n variables where one had to stand, or a node of it is damaged
+abbrev pub IsWholeFault : ℕ → FileNo → World → SortFault → Type 0
+IsWholeFault n f world Shelf = Unit
+IsWholeFault n f world (Damaged g at) = IsTrailerFault f n world (Damaged g at)
+    ⊎ ((g ≡ f) × IsDamagedNode n (file world f).bytes at)
+IsWholeFault n f world RunsSpent = ⊥

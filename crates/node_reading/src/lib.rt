@@ -3,6 +3,8 @@
 
 mod reading;
 mod resuming;
+mod whole;
 
 pub use reading::next_node;
 pub use resuming::{Unread, resume_at};
+pub use whole::read_whole;
